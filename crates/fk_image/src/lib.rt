@@ -1,0 +1,16 @@
+//! Images: what a machine runs.
+#![tactic(auto)]
+
+/// A program for the machine.
+#[derive(Drop)]
+pub struct Image {
+    /// The words of the code, from address 0 on.
+    pub code: Vec<u32>,
+    /// The first words of shared data: the initial values of the globals.
+    pub globals: Vec<u32>,
+    /// For each site the kind of its operation, and its line and column, 0 and 0 where it has no place.
+    pub sites: Vec<(u32, u32, u32)>,
+    /// The instructions that do an operation: the address, and the count plus 256 times the event.
+    /// Addresses rise.
+    pub commits: Vec<(u32, u32)>,
+}

@@ -1,0 +1,4 @@
+pub mod Row
+pub mod Hart
+pub mod Cycle
+pub mod Run

@@ -1,0 +1,39 @@
+-- Whole runs of a machine, and the schedule that is read off a run.
+use Rattle.std.specs.Prelude.{ℕ, zero, suc, ◌==◌, List, [], ◌∷◌, ◌++◌, Option, Some, None, cond, if◌then◌else◌, map}
+use Rattle.fk_image.specs.declared.Image.{Image}
+use Rattle.fk_image.specs.Limits.{count_of_word}
+use Rattle.fk_machine.specs.Cycle.{Machine, turns_of, is_running, cycle, opening}
+
+-- the machine after at most n cycles
+abbrev pub machine : Image → List ℕ → ℕ → ℕ → Machine
+machine image input p zero = opening image input p
+machine image input p (suc n) = cycle (machine image input p n)
+
+-- what n cycles printed: the bytes of each cycle that was begun, in order
+abbrev pub output_of : Image → List ℕ → ℕ → ℕ → List ℕ
+output_of image input p zero = []
+output_of image input p (suc n) =
+    cond (is_running (machine image input p n).stand)
+    (output_of image input p n ++ (machine image input p (suc n)).shared.output)
+    (output_of image input p n)
+
+-- the count of an address in the commit table, 0 where it has none
+abbrev pub count_in : List (ℕ × ℕ) → ℕ → ℕ
+count_in [] a = 0
+count_in (commit ∷ commits) a = if commit.0 == a then count_of_word commit.1 else count_in commits a
+
+abbrev pub count_of : Image → Option ℕ → ℕ
+count_of image None = 0
+count_of image (Some pc) = count_in image.commits.items pc
+
+-- the round of a cycle: the count of the address that each hart ran, 0 for one that was not served
+abbrev pub round_of : Image → Machine → List ℕ
+round_of image m = map (count_of image) (turns_of m).ran
+
+-- the schedule that is read off: one round for each cycle that was begun
+abbrev pub rounds : Image → List ℕ → ℕ → ℕ → List (List ℕ)
+rounds image input p zero = []
+rounds image input p (suc n) =
+    cond (is_running (machine image input p n).stand)
+    (rounds image input p n ++ round_of image (machine image input p n) ∷ [])
+    (rounds image input p n)

@@ -1,0 +1,23 @@
+//! How a machine stands, and why it traps.
+
+/// How a machine stands.
+#[derive(Clone, Copy, PartialEq, Eq, Debug)]
+pub enum Stand {
+    /// Some hart has not ended.
+    Running,
+    /// All harts have ended.
+    Finished,
+    /// A hart stored a site to the fault device: the site and the hart.
+    Faulted(u32, u32),
+    /// A hart trapped: the hart, its pc and the number of the trap.
+    Trapped(u32, u32, u8),
+}
+
+/// The pc is outside the code.
+pub const FETCH: u8 = 1;
+/// The word is no instruction of the table.
+pub const UNKNOWN: u8 = 2;
+/// An access not on its size, or a jump to an address that is no multiple of 4.
+pub const MISALIGNED: u8 = 3;
+/// An address outside the map, code as data, or a use of a device that it doesn't take.
+pub const ACCESS: u8 = 4;

@@ -1,0 +1,6 @@
+pub mod Operation
+pub mod Next
+pub mod Sites
+pub mod Serve
+pub mod Round
+pub mod Schedule
