@@ -1,0 +1,4 @@
+//! Texts of straight-line programs.
+#![tactic(auto)]
+
+pub mod token;
