@@ -1,12 +1,8 @@
-//! Words of 32 bits and their decimal texts.
+//! Words of 32 bits: the operators on them and their decimal texts.
 #![tactic(auto)]
 
-ghost use Rattle.std.specs.Prelude.{◌≡◌};
-ghost use Rattle.fk_num.specs.Word.{word_sum};
+mod decimal;
+mod operator;
 
-/// The sum of two words.
-pub fn add(a: u32, b: u32) -> u32
-    ensures { result ≡ word_sum a b }
-{
-    a.wrapping_add(b)
-}
+pub use decimal::{read_unsigned, signed_text, unsigned_text};
+pub use operator::{Op, apply};
