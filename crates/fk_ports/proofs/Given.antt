@@ -1,0 +1,54 @@
+-- What a sink took of a piece so far.
+use Rattle.std.proofs.Common.{◌≡◌, ℕ, ◌+◌, ◌-◌, ◌<◌, List, [], ◌∷◌, ◌++◌, Option, Some, None, length, take, drop, arith, refl, sym, ap, ◌∙◌, append_assoc, append-nil, take-append-drop, length-append, length-drop}
+use Rattle.std.proofs.Math.Seq.{take-append_seam}
+use Rattle.std.proofs.lemmas.List.{take_all}
+use Rattle.std.specs.Io.KnownBytes.{append_known}
+
+pub append_known-nil : (known : Option (List ℕ)) → append_known known [] ≡ known
+append_known-nil None = refl
+append_known-nil (Some bytes) = ap Some (append-nil bytes)
+
+pub append_known-append : (known : Option (List ℕ)) (xs ys : List ℕ) → append_known (append_known known xs) ys ≡ append_known known (xs ++ ys)
+append_known-append None xs ys = refl
+append_known-append (Some bytes) xs ys = ap Some (append_assoc bytes xs ys)
+
+-- of the piece, the front was taken and the rest is still to be given
+pub record IsGiven (piece rest : List ℕ) (before now : Option (List ℕ)) : Type 0 where
+  pub front : List ℕ
+  pub whole : piece ≡ front ++ rest
+  pub taken : now ≡ append_known before front
+
+pub none_given : (piece : List ℕ) (before : Option (List ℕ)) → IsGiven piece piece before before
+none_given piece before = record { front = []; whole = refl; taken = sym (append_known-nil before) }
+
+-- `&rest[n..]`
+tail-is : (rest : List ℕ) (n : ℕ) → take (length rest - n) (drop n rest) ≡ drop n rest
+tail-is rest n = take_all (length rest - n) (drop n rest) (omega (arith, length-drop n rest))
+
+pub more_given : (piece rest : List ℕ) (before now later : Option (List ℕ)) (n : ℕ) → IsGiven piece rest before now → later ≡ append_known now (take n rest)
+    → IsGiven piece (take (length rest - n) (drop n rest)) before later
+more_given piece rest before now later n given step = record {
+  front = given.front ++ take n rest;
+  whole = given.whole ∙ ap (λ l. given.front ++ l) (sym (take-append-drop n rest) ∙ ap (λ l. take n rest ++ l) (sym (tail-is rest n)))
+      ∙ sym (append_assoc given.front (take n rest) (take (length rest - n) (drop n rest)));
+  taken = step ∙ ap (λ k. append_known k (take n rest)) given.taken ∙ append_known-append before given.front (take n rest);
+}
+
+no_rest : (xs : List ℕ) → length xs ≡ 0 → xs ≡ []
+no_rest [] e = refl
+no_rest (x ∷ xs) e = absurd (omega arith)
+
+pub all_given : (piece rest : List ℕ) (before now : Option (List ℕ)) → length rest ≡ 0 → IsGiven piece rest before now → now ≡ append_known before piece
+all_given piece rest before now e given =
+    given.taken ∙ ap (append_known before) (sym (given.whole ∙ ap (λ l. given.front ++ l) (no_rest rest e) ∙ append-nil given.front))
+
+pub part_given : (piece rest : List ℕ) (before now : Option (List ℕ)) → 0 < length rest → IsGiven piece rest before now
+    → (n : ℕ) × (n < length piece) × (now ≡ append_known before (take n piece))
+part_given piece rest before now h given =
+    let long : length piece ≡ length given.front + length rest = ap length given.whole ∙ length-append given.front rest in
+    let shorter : length given.front < length piece = omega arith in
+    let front : take (length given.front) piece ≡ given.front = ap (take (length given.front)) given.whole ∙ take-append_seam given.front rest in
+    (length given.front, shorter, given.taken ∙ ap (append_known before) (sym front))
+
+pub no_piece : (piece rest : List ℕ) (before now : Option (List ℕ)) {P : Type 0} → 0 < length rest → IsGiven piece rest before now → piece ≡ [] → P
+no_piece piece rest before now h given e = let part = part_given piece rest before now h given in absurd (omega (arith, part.1, ap length e))

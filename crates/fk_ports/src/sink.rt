@@ -1,0 +1,50 @@
+//! Sinks of bytes.
+ghost use Rattle.std.specs.Prelude.{◌≡◌, ◌<◌, ◌≤◌, ℕ, List, [], Option, IfOk, IsOk, OnErr, OnOk, length, take};
+ghost use Rattle.std.specs.Io.KnownBytes.{append_known};
+ghost use Rattle.fk_ports.specs.Faults.{HasRisen};
+
+use crate::faults::Failed;
+
+/// A sink of bytes, as standard output.
+///
+/// It counts its faults. The count never falls, and stands still at 2^64 - 1.
+pub trait Sink {
+    /// The faults so far.
+    ghost faults: { Self → ℕ };
+
+    /// The bytes that were taken, if the sink tells them.
+    ghost taken: { Self → Option (List ℕ) };
+
+    /// Takes one or more bytes from the front of a piece, and answers how many. It fails only by a
+    /// fault, which is counted, and then takes none.
+    fn give(&mut self, bytes: &[u8]) -> Result<usize, Failed>
+        requires { 0 < length bytes.now }
+        ensures some { IfOk result (λ n. 0 < n) }
+        ensures within { IfOk result (λ n. n ≤ length bytes.now) }
+        ensures taken { IfOk result (λ n. taken self.new ≡ append_known (taken self.old) (take n bytes.now)) }
+        ensures refused { OnErr result (taken self.new ≡ taken self.old) }
+
+        ensures fault { OnErr result (HasRisen (faults self.old) (faults self.new)) }
+        ensures steady { OnOk result (faults self.new ≡ faults self.old) }
+        ensures never_falls { faults self.old ≤ faults self.new };
+}
+
+/// Gives all of a piece. After `Failed` a part of it was taken from its front, and never all of it.
+///
+/// It takes no memory. A piece without bytes makes no call.
+pub fn give_all<K: Sink>(sink: &mut K, bytes: &[u8]) -> Result<(), Failed>
+    ensures all { OnOk result (K.taken sink.new ≡ append_known (K.taken sink.old) bytes.now) }
+    ensures prefix { OnErr result ((n : ℕ) × (n < length bytes.now) × (K.taken sink.new ≡ append_known (K.taken sink.old) (take n bytes.now))) }
+    ensures no_call { bytes.now ≡ [] → sink.new ≡ sink.old }
+
+    ensures fault { OnErr result (HasRisen (K.faults sink.old) (K.faults sink.new)) }
+    ensures steady { OnOk result (K.faults sink.new ≡ K.faults sink.old) }
+    ensures never_falls { K.faults sink.old ≤ K.faults sink.new }
+{
+    let mut rest = bytes;
+    while !rest.is_empty() {
+        let count = sink.give(rest)?;
+        rest = &rest[count..];
+    }
+    Ok(())
+}
