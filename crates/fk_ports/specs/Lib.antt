@@ -1,2 +1,4 @@
 pub mod Faults
 pub mod Files
+pub mod InMemory
+pub mod Known

@@ -2,11 +2,21 @@
 #![tactic(auto)]
 
 mod faults;
+mod host;
+mod mem_sink;
+mod mem_store;
+mod schedule;
 mod sink;
 mod source;
 mod store;
+mod sure;
+mod unread;
 
 pub use faults::{Failed, StoreFault};
+pub use host::{HostSink, HostSource, HostStore};
+pub use mem_sink::MemSink;
+pub use mem_store::MemStore;
 pub use sink::{Sink, give_all};
 pub use source::Source;
 pub use store::Store;
+pub use sure::SureSource;
