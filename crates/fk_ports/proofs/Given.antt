@@ -3,6 +3,7 @@ use Rattle.std.proofs.Common.{◌≡◌, ℕ, ◌+◌, ◌-◌, ◌<◌, List, [
 use Rattle.std.proofs.Math.Seq.{take-append_seam}
 use Rattle.std.proofs.lemmas.List.{take_all}
 use Rattle.std.specs.Io.KnownBytes.{append_known}
+use Rattle.fk_ports.specs.Known.{TakesPrefix}
 
 pub append_known-nil : (known : Option (List ℕ)) → append_known known [] ≡ known
 append_known-nil None = refl
@@ -42,13 +43,33 @@ pub all_given : (piece rest : List ℕ) (before now : Option (List ℕ)) → len
 all_given piece rest before now e given =
     given.taken ∙ ap (append_known before) (sym (given.whole ∙ ap (λ l. given.front ++ l) (no_rest rest e) ∙ append-nil given.front))
 
-pub part_given : (piece rest : List ℕ) (before now : Option (List ℕ)) → 0 < length rest → IsGiven piece rest before now
-    → (n : ℕ) × (n < length piece) × (now ≡ append_known before (take n piece))
-part_given piece rest before now h given =
-    let long : length piece ≡ length given.front + length rest = ap length given.whole ∙ length-append given.front rest in
-    let shorter : length given.front < length piece = omega arith in
-    let front : take (length given.front) piece ≡ given.front = ap (take (length given.front)) given.whole ∙ take-append_seam given.front rest in
-    (length given.front, shorter, given.taken ∙ ap (append_known before) (sym front))
+pub part_given : (piece rest : List ℕ) (before now : Option (List ℕ)) → IsGiven piece rest before now → TakesPrefix before now piece
+part_given piece rest before now given = record { front = given.front; rest = rest; parts = given.whole; taken = given.taken }
 
 pub no_piece : (piece rest : List ℕ) (before now : Option (List ℕ)) {P : Type 0} → 0 < length rest → IsGiven piece rest before now → piece ≡ [] → P
-no_piece piece rest before now h given e = let part = part_given piece rest before now h given in absurd (omega (arith, part.1, ap length e))
+no_piece piece rest before now h given e = absurd (omega (arith, ap length (sym given.whole ∙ e), length-append given.front rest))
+
+-- What a caller that gives one piece after another makes of its calls.
+pub TakesPrefix-none : (known : Option (List ℕ)) (bytes : List ℕ) → TakesPrefix known known bytes
+TakesPrefix-none known bytes = record { front = []; rest = bytes; parts = refl; taken = sym (append_known-nil known) }
+
+pub TakesPrefix-all : (before now : Option (List ℕ)) (bytes : List ℕ) → now ≡ append_known before bytes → TakesPrefix before now bytes
+TakesPrefix-all before now bytes e = record { front = bytes; rest = []; parts = sym (append-nil bytes); taken = e }
+
+-- what is a prefix of some bytes is one of them with more behind
+pub TakesPrefix-longer : (before now : Option (List ℕ)) (bytes more : List ℕ) → TakesPrefix before now bytes → TakesPrefix before now (bytes ++ more)
+TakesPrefix-longer before now bytes more took = record {
+  front = took.front;
+  rest = took.rest ++ more;
+  parts = ap (λ l. l ++ more) took.parts ∙ append_assoc took.front took.rest more;
+  taken = took.taken;
+}
+
+-- after all of the first bytes, a prefix of those behind them
+pub TakesPrefix-after : (before between now : Option (List ℕ)) (bytes more : List ℕ) → between ≡ append_known before bytes → TakesPrefix between now more → TakesPrefix before now (bytes ++ more)
+TakesPrefix-after before between now bytes more all took = record {
+  front = bytes ++ took.front;
+  rest = took.rest;
+  parts = ap (λ l. bytes ++ l) took.parts ∙ sym (append_assoc bytes took.front took.rest);
+  taken = took.taken ∙ ap (λ k. append_known k took.front) all ∙ append_known-append before bytes took.front;
+}

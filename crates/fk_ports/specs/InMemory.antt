@@ -44,6 +44,12 @@ is_full sink = nat_le sink.capacity (length sink.taken)
 abbrev pub room : SinkState → ℕ
 room sink = sink.capacity - length sink.taken
 
+-- a source in memory: the bytes that are left, its calls and its faults
+pub record SourceState : Type 0 where
+  pub left : List ℕ
+  pub calls : Calls
+  pub faults : ℕ
+
 -- a store in memory: its files, its calls of both kinds, and its faults of each
 pub record StoreState : Type 0 where
   pub files : Files

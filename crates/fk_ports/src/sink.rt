@@ -2,6 +2,7 @@
 ghost use Rattle.std.specs.Prelude.{◌≡◌, ◌<◌, ◌≤◌, ℕ, List, [], Option, IfOk, IsOk, OnErr, OnOk, length, take};
 ghost use Rattle.std.specs.Io.KnownBytes.{append_known};
 ghost use Rattle.fk_ports.specs.Faults.{HasRisen};
+ghost use Rattle.fk_ports.specs.Known.{TakesPrefix};
 
 use crate::faults::Failed;
 
@@ -29,13 +30,13 @@ pub trait Sink {
         ensures never_falls { faults self.old ≤ faults self.new };
 }
 
-/// Gives all of a piece. After `Failed` a part of it was taken from its front, and never all of it.
+/// Gives all of a piece. After `Failed` the sink took some bytes of its front.
 ///
 /// It takes no memory. A piece without bytes makes no call.
 pub fn give_all<K: Sink>(sink: &mut K, bytes: &[u8]) -> Result<(), Failed>
     ensures all { OnOk result (K.taken sink.new ≡ append_known (K.taken sink.old) bytes.now) }
-    ensures prefix { OnErr result ((n : ℕ) × (n < length bytes.now) × (K.taken sink.new ≡ append_known (K.taken sink.old) (take n bytes.now))) }
-    ensures no_call { bytes.now ≡ [] → sink.new ≡ sink.old }
+    ensures prefix { OnErr result (TakesPrefix (K.taken sink.old) (K.taken sink.new) bytes.now) }
+    ensures empty { bytes.now ≡ [] → IsOk result × (sink.new ≡ sink.old) }
 
     ensures fault { OnErr result (HasRisen (K.faults sink.old) (K.faults sink.new)) }
     ensures steady { OnOk result (K.faults sink.new ≡ K.faults sink.old) }

@@ -1,9 +1,11 @@
 //! Sources of bytes.
-ghost use Rattle.std.specs.Prelude.{◌≡◌, ◌<◌, ◌≤◌, ◌↔◌, ℕ, List, [], Option, IfOk, IfSome, OnErr, OnOk, length, take};
+ghost use Rattle.std.specs.Prelude.{◌≡◌, ◌<◌, ◌≤◌, ◌↔◌, ℕ, List, [], Option, IfOk, IfSome, IsErrOf, OnErr, OnOk, length, take};
 ghost use Rattle.std.specs.Io.KnownBytes.{prepend_known};
 ghost use Rattle.fk_ports.specs.Faults.{HasRisen};
+ghost use Rattle.fk_ports.specs.Known.{GivesAtMost};
 
-use crate::faults::Failed;
+use crate::faults::{Failed, StoreFault};
+use std::alloc::Global;
 
 /// A source of bytes, as standard input.
 ///
@@ -29,4 +31,36 @@ pub trait Source {
         ensures fault { OnErr result (HasRisen (faults self.old) (faults self.new)) }
         ensures steady { OnOk result (faults self.new ≡ faults self.old) }
         ensures never_falls { faults self.old ≤ faults self.new };
+}
+
+/// Reads to the end of a source or until `most` bytes were taken, whichever is first.
+///
+/// It answers `Fault` only where the source fails. After a refusal some bytes of the front of the
+/// source may be lost.
+pub fn take_all<S: Source>(
+    alloc: Global,
+    source: &mut S,
+    most: usize,
+) -> Result<Vec<u8>, StoreFault>
+    ensures bytes { IfOk result (λ bytes. IfSome (S.left source.old) (λ left. bytes.items ≡ take most left)) }
+    ensures left { IfOk result (λ bytes. S.left source.old ≡ prepend_known bytes.items (S.left source.new)) }
+    ensures at_most { IfOk result (λ bytes. length bytes.items ≤ most) }
+    ensures refused { OnErr result (GivesAtMost most (S.left source.old) (S.left source.new)) }
+
+    ensures fault { IsErrOf result StoreFault.Fault → HasRisen (S.faults source.old) (S.faults source.new) }
+    ensures memory { IsErrOf result StoreFault.Memory → S.faults source.new ≡ S.faults source.old }
+    ensures steady { OnOk result (S.faults source.new ≡ S.faults source.old) }
+    ensures never_falls { S.faults source.old ≤ S.faults source.new }
+{
+    let mut bytes = Vec::new(alloc);
+    let mut piece = [0; 4096];
+    while bytes.len() < most {
+        let room = piece.len().min(most - bytes.len());
+        let count = source.take(&mut piece[..room])?;
+        if count == 0 {
+            return Ok(bytes);
+        }
+        bytes.extend_from_slice(&piece[..count])?;
+    }
+    Ok(bytes)
 }

@@ -1,8 +1,10 @@
 //! A store, a source and a sink that never fail.
-ghost use Rattle.std.specs.Prelude.{◌≡◌, ◌++◌, None, Ok, OnErr, OnOk, Some, drop, length, min, take};
+ghost use Rattle.std.specs.Prelude.{◌≡◌, ◌+◌, ◌-◌, ◌^◌, ◌++◌, IsOk, IsOkUnless, None, Ok, OnErr, OnOk, Some, drop, length, min, take};
 
-use crate::faults::Failed;
+use crate::faults::{Failed, StoreFault};
+use crate::sink::Sink;
 use crate::source::Source;
+use crate::store::Store;
 use crate::unread::Unread;
 use std::marker::Model;
 
@@ -44,5 +46,101 @@ impl Source for SureSource {
         ensures beyond { drop (min (length self.old) (length into.old)) into.new ≡ drop (min (length self.old) (length into.old)) into.old }
     {
         Ok(self.unread.move_to(into))
+    }
+}
+
+/// A store that has the same bytes under every name, and forgets what is put. It never fails.
+#[derive(Drop)]
+pub struct SureStore {
+    bytes: Vec<u8>,
+}
+
+impl Model for SureStore {
+    ghost use Rattle.std.specs.Prelude.{ℕ, List};
+
+    ghost Value = { List ℕ };
+
+    ghost view = { λ s. s.bytes.items };
+}
+
+impl SureStore {
+    /// A store with these bytes under every name.
+    pub fn make(bytes: Vec<u8>) -> SureStore
+        ensures { result ≡ bytes.items }
+    {
+        SureStore { bytes }
+    }
+}
+
+impl Store for SureStore {
+    ghost fetch_faults = { λ _. 0 };
+
+    ghost put_faults = { λ _. 0 };
+
+    ghost files = { λ _. None };
+
+    /// Appends the first `most` of its bytes, whatever the name. It fails only for want of memory.
+    fn fetch(&mut self, _name: &str, most: usize, into: &mut Vec<u8>) -> Result<(), StoreFault>
+        ensures sure { IsOkUnless result StoreFault.Memory }
+        ensures appended { OnOk result (into.new.items ≡ into.old.items ++ take most self.old) }
+        ensures refused { OnErr result (into.new.items ≡ into.old.items) }
+        ensures same { self.new ≡ self.old }
+    {
+        let count = most.min(self.bytes.len());
+        into.extend_from_slice(&self.bytes[..count])?;
+        Ok(())
+    }
+
+    /// Forgets the bytes.
+    fn put(&mut self, _name: &str, _bytes: &[u8]) -> Result<(), StoreFault>
+        ensures sure { IsOk result }
+        ensures same { self.new ≡ self.old }
+    {
+        Ok(())
+    }
+}
+
+/// A sink that keeps the number of bytes only. It never fails.
+#[derive(Drop)]
+pub struct SureSink {
+    count: u64,
+}
+
+impl Model for SureSink {
+    ghost use Rattle.std.specs.Prelude.{ℕ};
+
+    ghost Value = { ℕ };
+
+    ghost view = { λ s. s.count };
+}
+
+impl SureSink {
+    /// A sink that took nothing yet.
+    pub fn make() -> SureSink
+        ensures { result ≡ 0 }
+    {
+        SureSink { count: 0 }
+    }
+
+    /// How many bytes were taken. It stands still at 2^64 - 1.
+    pub fn count(&self) -> u64
+        ensures { result ≡ self.now }
+    {
+        self.count
+    }
+}
+
+impl Sink for SureSink {
+    ghost faults = { λ _. 0 };
+
+    ghost taken = { λ _. None };
+
+    /// Takes all of a piece.
+    fn give(&mut self, bytes: &[u8]) -> Result<usize, Failed>
+        ensures all { result ≡ Ok (length bytes.now) }
+        ensures counted { self.new ≡ min (self.old + length bytes.now) (2 ^ 64 - 1) }
+    {
+        self.count = self.count.saturating_add(bytes.len() as u64);
+        Ok(bytes.len())
     }
 }

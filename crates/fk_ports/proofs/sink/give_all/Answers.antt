@@ -6,9 +6,12 @@ use Rattle.fk_ports.proofs.sink.give_all.Goals as goal
 pub returns-in_err-count-clause-prefix : goal.returns-in_err-count-clause-prefix
 returns-in_err-count-clause-prefix g c =
     let p = err_from_is_err_and c.from_residual.result c.from_residual.ensures.1 in
-    let some : 0 < length c.loop-rest.rest.now = grind (arith, c.loop-rest-test.ensures) in
-    let part = part_given c.args.bytes.now c.loop-rest.rest.now (g.K.Sink.taken c.args.sink.now) (g.K.Sink.taken c.loop-rest.sink) some c.loop-rest.invariant.0 in
+    let part = part_given c.args.bytes.now c.loop-rest.rest.now (g.K.Sink.taken c.args.sink.now) (g.K.Sink.taken c.loop-rest.sink) c.loop-rest.invariant.0 in
     rw (p.1, c.in_err-count.ensures.refused) part
+
+pub returns-in_err-count-clause-empty : goal.returns-in_err-count-clause-empty
+returns-in_err-count-clause-empty g c = λ e.
+    no_piece c.args.bytes.now c.loop-rest.rest.now (g.K.Sink.taken c.args.sink.now) (g.K.Sink.taken c.loop-rest.sink) (grind (arith, c.loop-rest-test.ensures)) c.loop-rest.invariant.0 e
 
 pub loop-rest-preserved : goal.loop-rest-preserved
 loop-rest-preserved g c = (
