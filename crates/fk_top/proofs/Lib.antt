@@ -1,0 +1,3 @@
+pub mod Causes
+pub mod Stays
+pub mod Stands

@@ -1,0 +1,17 @@
+-- The codes of statuses.
+use Rattle.std.specs.Prelude.{ℕ}
+use Rattle.fk_top.specs.declared.status.Status.{Status}
+use Rattle.fk_top.specs.declared.status.Status.TheVariants.{Done, Refused, Usage, ReadFault, WriteFault, Memory, SourceFault, CycleBound, Trap, ImageRefused, InputRefused}
+
+abbrev pub code_of : Status → ℕ
+code_of Done = 0
+code_of Refused = 1
+code_of Usage = 2
+code_of ReadFault = 3
+code_of WriteFault = 4
+code_of Memory = 5
+code_of SourceFault = 6
+code_of CycleBound = 7
+code_of Trap = 8
+code_of ImageRefused = 9
+code_of InputRefused = 10

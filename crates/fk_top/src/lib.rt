@@ -1,0 +1,12 @@
+//! The commands: from the words of a command line to a status.
+#![tactic(auto)]
+
+pub mod call;
+pub mod ending;
+pub mod report;
+pub mod run;
+pub mod status;
+pub mod words;
+
+pub use call::fork95;
+pub use status::Status;
