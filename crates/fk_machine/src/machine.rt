@@ -1,0 +1,119 @@
+//! The machine.
+
+use crate::hart::{HartState, first_harts};
+use crate::setting::Setting;
+use crate::shared::SharedState;
+use crate::stand::Stand;
+use crate::turns::{LOCAL_WORDS, have_all_ended, take_turns};
+use crate::zeros::zeros;
+use fk_image::Image;
+use std::alloc::{AllocError, Global};
+
+ghost use Rattle.std.specs.Prelude.{◌≡◌, ◌+◌, ◌*◌, ◌≤◌, vec_len, vec_capacity};
+
+/// A machine that runs an image.
+#[derive(Drop)]
+pub struct Machine {
+    setting: Setting,
+    harts: Vec<HartState>,
+    /// The local memories of all harts, in the order of their numbers.
+    locals: Vec<u32>,
+    shared: SharedState,
+    stand: Stand,
+    ghost few: { vec_len harts ≤ 1024 },
+    ghost counted: { setting.harts ≡ vec_len harts },
+    ghost own: { vec_len locals ≡ 32768 * vec_len harts },
+    ghost room: { 12 * vec_len harts ≤ vec_capacity shared.output },
+    ghost printed: { vec_len shared.output ≤ 12 * vec_len harts },
+}
+
+#[tactic(auto, unfolding(crate::specs::View::machine_of))]
+impl Machine {
+    ghost use Rattle.std.specs.Prelude.{◌-◌, ◌<◌, ◌^◌, length, IfOk};
+    ghost use Rattle.fk_image.specs.Limits.{IsWithinLimits};
+    ghost use Rattle.fk_machine.specs.Cycle.{opening, cycle};
+    ghost use Rattle.fk_machine.specs.View.{machine_of};
+
+    /// A machine before its first cycle, with so many harts. It takes all the memory that a run needs.
+    pub fn make(
+        alloc: Global,
+        image: &Image,
+        input: &[u32],
+        harts: u32,
+    ) -> Result<Machine, AllocError>
+        requires limits { IsWithinLimits image.now }
+        requires some_harts { 1 ≤ harts }
+        requires few_harts { harts ≤ 1024 }
+        requires few_inputs { length input.now ≤ 65536 }
+        requires room { vec_len image.now.globals + length input.now ≤ 524288 }
+        ensures { IfOk result (λ m. machine_of m ≡ opening image.now input.now harts) }
+    {
+        let setting = Setting::make(alloc, &image.code, harts, input.len() as u32)?;
+        let shared = SharedState::make(alloc, &image.globals, input, harts)?;
+        let locals = zeros(alloc, LOCAL_WORDS * harts as usize)?;
+        Ok(Machine {
+            setting,
+            harts: first_harts(alloc, harts)?,
+            locals,
+            shared,
+            stand: Stand::Running,
+        })
+    }
+
+    /// One cycle: every hart that has not ended runs one instruction, in ascending number. A fault or
+    /// a trap ends the machine, and the harts above are not served. A machine that doesn't run stays
+    /// as it is. It takes no memory.
+    pub fn cycle(&mut self) -> Stand
+        requires { (machine_of self.old).begun < 2 ^ 32 - 1 }
+        ensures cycle { machine_of self.new ≡ cycle (machine_of self.old) }
+        ensures stand { result ≡ (machine_of self.new).stand }
+    {
+        if self.stand != Stand::Running {
+            return self.stand;
+        }
+        self.shared.output.clear();
+        let stop = take_turns(
+            &self.setting,
+            self.harts.as_mut_slice(),
+            self.locals.as_mut_slice(),
+            &mut self.shared,
+        );
+        self.setting.finished += 1;
+        self.stand = match stop {
+            Some(stand) => stand,
+            None if have_all_ended(&self.harts) => Stand::Finished,
+            None => Stand::Running,
+        };
+        self.stand
+    }
+
+    /// The bytes printed in the last cycle, at most 12 for each hart.
+    pub fn output(&self) -> &[u8]
+        ensures output { result.now ≡ (machine_of self.now).shared.output }
+        ensures few { length result.now ≤ 12288 }
+    {
+        &self.shared.output
+    }
+
+    /// How many cycles were begun.
+    pub fn cycles(&self) -> u32
+        ensures { result ≡ (machine_of self.now).begun }
+    {
+        self.setting.finished
+    }
+
+    /// How the machine stands.
+    pub fn stand(&self) -> Stand
+        ensures { result ≡ (machine_of self.now).stand }
+    {
+        self.stand
+    }
+
+    /// The word of shared data with an index.
+    pub fn word(&self, index: u32) -> u32
+        requires { index < 2 ^ 20 }
+        ensures { result ≡ (machine_of self.now).shared.words index }
+    {
+        self.shared.words[index as usize]
+    }
+}

@@ -1,0 +1,49 @@
+//! What stays the same in a cycle.
+
+ghost use Rattle.std.specs.Prelude.{◌≤◌, IsTrue, vec_len};
+ghost use Rattle.std.specs.List.{list_all};
+ghost use Rattle.fk_machine.specs.Fits.{row_fits};
+
+use crate::decode::decode;
+use crate::instruction::Instruction;
+use std::alloc::{AllocError, Global};
+
+/// The code, and the numbers that devices give.
+#[derive(Drop)]
+pub struct Setting {
+    /// Each word of the code by its row of the table, `None` where it has none.
+    pub code: Vec<Option<Instruction>>,
+    pub harts: u32,
+    pub inputs: u32,
+    /// The cycles finished before this one.
+    pub finished: u32,
+    ghost short: { vec_len code ≤ 262144 },
+    ghost fitting: { IsTrue (list_all row_fits code.items) },
+}
+
+impl Setting {
+    ghost use Rattle.std.specs.Prelude.{◌≡◌, length, map, IfOk};
+    ghost use Rattle.fk_machine.specs.Row.{row};
+
+    /// The setting of a first cycle.
+    pub fn make(
+        alloc: Global,
+        code: &[u32],
+        harts: u32,
+        inputs: u32,
+    ) -> Result<Setting, AllocError>
+        requires { length code.now ≤ 262144 }
+        ensures code { IfOk result (λ t. t.code.items ≡ map row code.now) }
+        ensures harts { IfOk result (λ t. t.harts ≡ harts) }
+        ensures inputs { IfOk result (λ t. t.inputs ≡ inputs) }
+        ensures finished { IfOk result (λ t. t.finished ≡ 0) }
+    {
+        let code = code.iter().map(|word| decode(*word)).collect::<Vec<_>>(alloc)?;
+        Ok(Setting {
+            code,
+            harts,
+            inputs,
+            finished: 0,
+        })
+    }
+}

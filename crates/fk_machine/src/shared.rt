@@ -1,0 +1,88 @@
+//! What all harts share.
+
+ghost use Rattle.std.specs.Prelude.{◌≡◌, ◌+◌, ◌^◌, vec_len};
+
+use crate::zeros::zeros;
+use fk_num::signed_text;
+use std::alloc::{AllocError, Global};
+
+/// How many words of data all harts share.
+const SHARED_WORDS: usize = 1 << 20;
+
+/// How many words of control all harts share.
+const CONTROL_WORDS: usize = (1 << 20) + 64;
+
+/// Shared data, shared control, and the bytes printed in this cycle.
+#[derive(Drop)]
+pub struct SharedState {
+    pub words: Vec<u32>,
+    pub control: Vec<u32>,
+    pub output: Vec<u8>,
+    ghost sized: { vec_len words ≡ 2 ^ 20 },
+    ghost control_sized: { vec_len control ≡ 2 ^ 20 + 64 },
+}
+
+impl SharedState {
+    ghost use Rattle.std.specs.Prelude.{◌≤◌, ◌*◌, ◌%◌, [], ◌∷◌, ◌++◌, length, slice_index, IfOk};
+    ghost use Rattle.fk_num.specs.Word.{signed_line};
+    ghost use Rattle.fk_machine.specs.Hart.{prints};
+    ghost use Rattle.fk_machine.specs.View.{shared_of, room_of, PrintsUpTo};
+
+    /// Shared data with the words of globals and then those of input, and zeros for the rest,
+    /// with room for what so many harts print in a cycle.
+    pub fn make(
+        alloc: Global,
+        globals: &[u32],
+        input: &[u32],
+        harts: u32,
+    ) -> Result<SharedState, AllocError>
+        requires { length globals.now + length input.now ≤ 524288 }
+        ensures words { IfOk result (λ s. slice_index s.words.items ≡ slice_index (globals.now ++ input.now)) }
+        ensures control { IfOk result (λ s. slice_index s.control.items ≡ λ i. 0) }
+        ensures output { IfOk result (λ s. s.output.items ≡ []) }
+        ensures room { IfOk result (λ s. 12 * harts ≤ room_of s) }
+    {
+        let mut words = zeros(alloc, SHARED_WORDS)?;
+        words[..globals.len()].copy_from_slice(globals);
+        let end = globals.len() + input.len();
+        words[globals.len()..end].copy_from_slice(input);
+        let control = zeros(alloc, CONTROL_WORDS)?;
+        let output = Vec::with_capacity(alloc, 12 * harts as usize)?;
+        Ok(SharedState {
+            words,
+            control,
+            output,
+        })
+    }
+
+    fn print(&mut self, bytes: &[u8])
+        requires { length bytes.now ≤ room_of self.old }
+        ensures bytes { shared_of self.new ≡ prints (shared_of self.old) bytes.now }
+        ensures room { PrintsUpTo (length bytes.now) self.old self.new }
+    {
+        match self.output.extend_from_slice(bytes) {
+            Ok(()) => {}
+            Err(_) => unreachable!(),
+        }
+    }
+
+    /// Prints the decimal of a word's signed value, and a newline.
+    #[tactic(auto, unfolding(fk_num::specs::Word::signed_line))]
+    pub fn print_number(&mut self, word: u32)
+        requires { 12 ≤ room_of self.old }
+        ensures line { shared_of self.new ≡ prints (shared_of self.old) (signed_line word) }
+        ensures room { PrintsUpTo 12 self.old self.new }
+    {
+        self.print(signed_text(word).as_slice());
+        self.print(b"\n");
+    }
+
+    /// Prints the low byte of a word.
+    pub fn print_byte(&mut self, word: u32)
+        requires { 12 ≤ room_of self.old }
+        ensures byte { shared_of self.new ≡ prints (shared_of self.old) (word % 256 ∷ []) }
+        ensures room { PrintsUpTo 12 self.old self.new }
+    {
+        self.print(&[(word % 256) as u8]);
+    }
+}

@@ -1,0 +1,51 @@
+//! The turns of a cycle.
+
+ghost use Rattle.std.specs.Prelude.{◌≡◌, ℕ, ◌*◌, ◌≤◌, length};
+ghost use Rattle.fk_num.specs.Word.{Memory};
+ghost use Rattle.fk_machine.specs.Cycle.{turns, all_ended};
+ghost use Rattle.fk_machine.specs.View.{harts_of, local_of, shared_of, setting_of, room_of, PrintsUpTo, TurnsGive};
+
+use crate::hart::HartState;
+use crate::setting::Setting;
+use crate::shared::SharedState;
+use crate::stand::Stand;
+use crate::step::step;
+
+/// How many words of local memory a hart has.
+pub const LOCAL_WORDS: usize = 32768;
+
+/// Whether all harts have ended.
+pub fn have_all_ended(harts: &[HartState]) -> bool
+    ensures { (local : ℕ → Memory) → result ≡ all_ended (harts_of 0 harts.now local) }
+{
+    harts.iter().all(|hart| hart.ended)
+}
+
+/// The harts that have not ended take their turns in ascending number, up to one that ends the machine.
+pub fn take_turns(
+    setting: &Setting,
+    harts: &mut [HartState],
+    locals: &mut [u32],
+    shared: &mut SharedState,
+) -> Option<Stand>
+    requires few { length harts.old ≤ 1024 }
+    requires own { length locals.old ≡ 32768 * length harts.old }
+    requires output { 12 * length harts.old ≤ room_of shared.old }
+    ensures turns { TurnsGive result
+        (turns (setting_of setting.now) 0 (harts_of 0 harts.old (local_of locals.old)) (shared_of shared.old))
+        (harts_of 0 harts.new (local_of locals.new)) (shared_of shared.new) }
+    ensures output { PrintsUpTo (12 * length harts.old) shared.old shared.new }
+{
+    for number in 0..harts.len() {
+        let hart = &mut harts[number];
+        if !hart.ended {
+            let start = number * LOCAL_WORDS;
+            let local = &mut locals[start..start + LOCAL_WORDS];
+            match step(setting, number as u32, hart, local, shared) {
+                Some(stand) => return Some(stand),
+                None => {}
+            }
+        }
+    }
+    None
+}
