@@ -33,10 +33,10 @@ setting_of t = record { code = t.code.items; harts = t.harts; inputs = t.inputs;
 abbrev pub room_of : SharedState → ℕ
 room_of s = vec_capacity s.output - vec_len s.output
 
--- at most so many bytes are printed, and take no more room than that
+-- at most so many bytes are printed, and the memory for output stays
 pub record PrintsUpTo (bytes : ℕ) (old new : SharedState) : Type 0 where
   pub printed : vec_len new.output ≤ vec_len old.output + bytes
-  pub room : room_of old ≤ room_of new + bytes
+  pub capacity : vec_capacity old.output ≤ vec_capacity new.output
 
 -- a load after a word was found, or the number of a trap
 abbrev pub after_read : ℕ → Hart → Shared → ℕ → Result ℕ ℕ → Effect

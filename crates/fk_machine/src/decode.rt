@@ -1,17 +1,24 @@
 //! The instruction of a word.
 
-ghost use Rattle.std.specs.Prelude.{◌≡◌, ◌<◌, ◌≤◌, ◌^◌, IsTrue};
+ghost use Rattle.std.specs.Prelude.{◌≡◌, ◌<◌, ◌≤◌, ◌^◌, IsTrue, IfOk, length, map, vec_len};
 ghost use Rattle.fk_machine.specs.Row.{row, bits, extended, i_immediate, s_immediate, b_immediate, j_immediate};
 ghost use Rattle.fk_machine.specs.Fits.{row_fits};
 
 use crate::instruction::Instruction;
+use std::alloc::{AllocError, Global};
 
 const LOAD: u32 = 0x03;
+
 const OP_IMM: u32 = 0x13;
+
 const STORE: u32 = 0x23;
+
 const OP: u32 = 0x33;
+
 const LUI: u32 = 0x37;
+
 const BRANCH: u32 = 0x63;
+
 const JAL: u32 = 0x6f;
 
 // The bits of a word from `low` on, so many.
@@ -95,4 +102,12 @@ pub fn decode(word: u32) -> Option<Instruction>
         (OP, 0) if bits(word, 25, 7) == 0 => Some(Instruction::Add(rd, rs1, rs2)),
         _ => None,
     }
+}
+
+/// The rows of the table for words of code.
+pub fn decode_all(alloc: Global, code: &[u32]) -> Result<Vec<Option<Instruction>>, AllocError>
+    ensures rows { IfOk result (λ rows. rows.items ≡ map row code.now) }
+    ensures len { IfOk result (λ rows. vec_len rows ≡ length code.now) }
+{
+    code.iter().map(|word| decode(*word)).collect(alloc)
 }

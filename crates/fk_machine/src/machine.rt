@@ -1,15 +1,15 @@
 //! The machine.
 
+ghost use Rattle.std.specs.Prelude.{◌≡◌, ◌+◌, ◌*◌, ◌≤◌, vec_len, vec_capacity};
+
 use crate::hart::{HartState, first_harts};
 use crate::setting::Setting;
 use crate::shared::SharedState;
 use crate::stand::Stand;
-use crate::turns::{LOCAL_WORDS, have_all_ended, take_turns};
+use crate::turns::{LOCAL_WORDS, stand_after, take_turns};
 use crate::zeros::zeros;
 use fk_image::Image;
 use std::alloc::{AllocError, Global};
-
-ghost use Rattle.std.specs.Prelude.{◌≡◌, ◌+◌, ◌*◌, ◌≤◌, vec_len, vec_capacity};
 
 /// A machine that runs an image.
 #[derive(Drop)]
@@ -79,11 +79,7 @@ impl Machine {
             &mut self.shared,
         );
         self.setting.finished += 1;
-        self.stand = match stop {
-            Some(stand) => stand,
-            None if have_all_ended(&self.harts) => Stand::Finished,
-            None => Stand::Running,
-        };
+        self.stand = stand_after(stop, &self.harts);
         self.stand
     }
 

@@ -4,7 +4,7 @@ ghost use Rattle.std.specs.Prelude.{◌≤◌, IsTrue, vec_len};
 ghost use Rattle.std.specs.List.{list_all};
 ghost use Rattle.fk_machine.specs.Fits.{row_fits};
 
-use crate::decode::decode;
+use crate::decode::decode_all;
 use crate::instruction::Instruction;
 use std::alloc::{AllocError, Global};
 
@@ -26,21 +26,16 @@ impl Setting {
     ghost use Rattle.fk_machine.specs.Row.{row};
 
     /// The setting of a first cycle.
-    pub fn make(
-        alloc: Global,
-        code: &[u32],
-        harts: u32,
-        inputs: u32,
-    ) -> Result<Setting, AllocError>
+    #[tactic(auto, using(crate::proofs::RowFits::list_all_rows))]
+    pub fn make(alloc: Global, code: &[u32], harts: u32, inputs: u32) -> Result<Setting, AllocError>
         requires { length code.now ≤ 262144 }
         ensures code { IfOk result (λ t. t.code.items ≡ map row code.now) }
         ensures harts { IfOk result (λ t. t.harts ≡ harts) }
         ensures inputs { IfOk result (λ t. t.inputs ≡ inputs) }
         ensures finished { IfOk result (λ t. t.finished ≡ 0) }
     {
-        let code = code.iter().map(|word| decode(*word)).collect::<Vec<_>>(alloc)?;
         Ok(Setting {
-            code,
+            code: decode_all(alloc, code)?,
             harts,
             inputs,
             finished: 0,

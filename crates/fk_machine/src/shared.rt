@@ -1,6 +1,6 @@
 //! What all harts share.
 
-ghost use Rattle.std.specs.Prelude.{◌≡◌, ◌+◌, ◌^◌, vec_len};
+ghost use Rattle.std.specs.Prelude.{◌≡◌, ◌+◌, ◌≤◌, ◌^◌, ◌++◌, length, slice_index, vec_len, IfOk};
 
 use crate::zeros::zeros;
 use fk_num::signed_text;
@@ -23,7 +23,7 @@ pub struct SharedState {
 }
 
 impl SharedState {
-    ghost use Rattle.std.specs.Prelude.{◌≤◌, ◌*◌, ◌%◌, [], ◌∷◌, ◌++◌, length, slice_index, IfOk};
+    ghost use Rattle.std.specs.Prelude.{◌*◌, ◌%◌, [], ◌∷◌};
     ghost use Rattle.fk_num.specs.Word.{signed_line};
     ghost use Rattle.fk_machine.specs.Hart.{prints};
     ghost use Rattle.fk_machine.specs.View.{shared_of, room_of, PrintsUpTo};
@@ -42,10 +42,7 @@ impl SharedState {
         ensures output { IfOk result (λ s. s.output.items ≡ []) }
         ensures room { IfOk result (λ s. 12 * harts ≤ room_of s) }
     {
-        let mut words = zeros(alloc, SHARED_WORDS)?;
-        words[..globals.len()].copy_from_slice(globals);
-        let end = globals.len() + input.len();
-        words[globals.len()..end].copy_from_slice(input);
+        let words = first_words(alloc, globals, input)?;
         let control = zeros(alloc, CONTROL_WORDS)?;
         let output = Vec::with_capacity(alloc, 12 * harts as usize)?;
         Ok(SharedState {
@@ -85,4 +82,18 @@ impl SharedState {
     {
         self.print(&[(word % 256) as u8]);
     }
+}
+
+// Shared data with the words of globals and then those of input, and zeros for the rest.
+#[tactic(auto, using(crate::proofs::IndexZeros::index_append_zeros))]
+fn first_words(alloc: Global, globals: &[u32], input: &[u32]) -> Result<Vec<u32>, AllocError>
+    requires { length globals.now + length input.now ≤ 524288 }
+    ensures len { IfOk result (λ words. vec_len words ≡ 2 ^ 20) }
+    ensures words { IfOk result (λ words. slice_index words.items ≡ slice_index (globals.now ++ input.now)) }
+{
+    let mut words = Vec::with_capacity(alloc, SHARED_WORDS)?;
+    words.extend_from_slice(globals)?;
+    words.extend_from_slice(input)?;
+    words.resize(SHARED_WORDS, 0)?;
+    Ok(words)
 }

@@ -2,7 +2,7 @@
 
 ghost use Rattle.std.specs.Prelude.{◌≡◌, ℕ, ◌*◌, ◌≤◌, length};
 ghost use Rattle.fk_num.specs.Word.{Memory};
-ghost use Rattle.fk_machine.specs.Cycle.{turns, all_ended};
+ghost use Rattle.fk_machine.specs.Cycle.{turns, all_ended, stand_after};
 ghost use Rattle.fk_machine.specs.View.{harts_of, local_of, shared_of, setting_of, room_of, PrintsUpTo, TurnsGive};
 
 use crate::hart::HartState;
@@ -14,8 +14,18 @@ use crate::step::step;
 /// How many words of local memory a hart has.
 pub const LOCAL_WORDS: usize = 32768;
 
-/// Whether all harts have ended.
-pub fn have_all_ended(harts: &[HartState]) -> bool
+/// How the machine stands after the turns, where one of them may have ended it.
+pub fn stand_after(stop: Option<Stand>, harts: &[HartState]) -> Stand
+    ensures { (local : ℕ → Memory) → result ≡ stand_after stop (harts_of 0 harts.now local) }
+{
+    match stop {
+        Some(stand) => stand,
+        None if have_all_ended(harts) => Stand::Finished,
+        None => Stand::Running,
+    }
+}
+
+fn have_all_ended(harts: &[HartState]) -> bool
     ensures { (local : ℕ → Memory) → result ≡ all_ended (harts_of 0 harts.now local) }
 {
     harts.iter().all(|hart| hart.ended)
@@ -39,7 +49,7 @@ pub fn take_turns(
     for number in 0..harts.len() {
         let hart = &mut harts[number];
         if !hart.ended {
-            let start = number * LOCAL_WORDS;
+            let start = LOCAL_WORDS * number;
             let local = &mut locals[start..start + LOCAL_WORDS];
             match step(setting, number as u32, hart, local, shared) {
                 Some(stand) => return Some(stand),
