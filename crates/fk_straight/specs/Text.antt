@@ -68,3 +68,13 @@ Spells [] text = AreBlank text
 Spells (token ∷ tokens) text =
     (gap rest : List ℕ) × AreBlank gap × IsToken token × (text ≡ gap ++ (spelling token ++ rest))
     × EndsBefore token rest × Spells tokens rest
+
+-- a text begins with a token, and this stands after it
+pub record Begins (text : List ℕ) (token : Token) (rest : List ℕ) : Type 0 where
+  pub is_token : IsToken token
+  pub spelled : text ≡ spelling token ++ rest
+  pub ends : EndsBefore token rest
+
+-- a text spells at most one list of tokens
+abbrev pub SpellsOnce : Type 0
+SpellsOnce = (tokens others : List Token) (text : List ℕ) → Spells tokens text → Spells others text → tokens ≡ others

@@ -1,0 +1,9 @@
+//! Laws of the definitions.
+
+ghost use Rattle.fk_straight.specs.Text.{SpellsOnce};
+
+/// A text spells at most one list of tokens.
+pub fn one_spelling()
+    ensures { SpellsOnce }
+{
+}
