@@ -1,5 +1,5 @@
 -- The longest front of a list whose elements pass a test.
-use Rattle.std.proofs.Common.{◌≡◌, ℕ, ◌+◌, ◌<◌, ◌≤◌, ◌∙◌, Bool, true, false, List, [], ◌∷◌, ◌++◌, length, get_or, take, drop, refl, sym, ap, ⊎_elim, arith, drop-cons, get_or-take, length-take-le, take-append-drop}
+use Rattle.std.proofs.Common.{◌≡◌, ℕ, ◌+◌, ◌<◌, ◌≤◌, ◌∙◌, Bool, true, false, List, [], ◌∷◌, ◌++◌, length, get_or, take, drop, refl, sym, ap, subst₂, ⊎_elim, arith, drop-cons, get_or-take, length-take-le, take-append-drop}
 use Rattle.std.specs.List.{AllPass, prefix_len}
 use Rattle.std.proofs.lemmas.Bool.{both_ways, cases_lt}
 use Rattle.std.proofs.lemmas.List.{drop_all, drop_at}
@@ -36,7 +36,7 @@ front_unique p (c ∷ a) (d ∷ b) x y all_a all_b end_x end_y same =
 pub all_after : (p : ℕ → Bool) (xs ys : List ℕ) → AllPass p (xs ++ ys) → AllPass p ys
 all_after p xs ys all = All-same (Passes p) ys (drop (length xs) (xs ++ ys)) (sym (drop_at xs ys _ refl)) (All-drop (Passes p) (length xs) (xs ++ ys) all)
 
--- xs is a front that passes, and ends stands after it, and doesn't begin with an element that passes
+-- xs is a front that passes, and a rest that doesn't begin with what passes
 pub record IsCut (p : ℕ → Bool) (xs front rest : List ℕ) : Type 0 where
   pub passes : AllPass p front
   pub stops : begins_by p rest ≡ false
@@ -57,3 +57,7 @@ cut_at_prefix p xs = record {
   stops = stops_at p xs;
   whole = sym (take-append-drop (prefix_len p xs) xs);
 }
+
+pub cut_at : (p : ℕ → Bool) (xs : List ℕ) (n : ℕ) (front rest : List ℕ) → n ≡ prefix_len p xs → front ≡ take n xs → rest ≡ drop n xs → IsCut p xs front rest
+cut_at p xs n front rest at front_is rest_is =
+    subst₂ (IsCut p xs) (sym (front_is ∙ ap (λ k. take k xs) at)) (sym (rest_is ∙ ap (λ k. drop k xs) at)) (cut_at_prefix p xs)

@@ -1,2 +1,5 @@
 pub mod Fronts
 pub mod Spelled
+pub mod Reached
+pub mod Numbers
+pub mod FirstToken

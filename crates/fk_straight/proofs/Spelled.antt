@@ -57,7 +57,7 @@ byte_of_injective s t same = sym (sign_with_byte_of s) ∙ ap sign_with same ∙
 
 -- words and numbers are runs of letters and digits
 
-word_run : (w : List ℕ) → IsWord w → AllPass is_letter_or_digit w
+pub word_run : (w : List ℕ) → IsWord w → AllPass is_letter_or_digit w
 word_run [] word = absurd word
 word_run (c ∷ cs) word = All-cons (Passes is_letter_or_digit) c cs (or_left (is_letter c) (is_digit c) word.0) word.1
 
@@ -69,7 +69,7 @@ word_of_no_digits : (w : List ℕ) → IsWord w → AllPass is_digit w → ⊥
 word_of_no_digits [] word digits = word
 word_of_no_digits (c ∷ cs) word digits = letter_is_no_digit c word.0 (All-head (Passes is_digit) c cs digits)
 
-decimal_digits : (n : ℕ) → n < 2 ^ 32 → AllPass is_digit (decimal n)
+pub decimal_digits : (n : ℕ) → n < 2 ^ 32 → AllPass is_digit (decimal n)
 decimal_digits n small =
     let numeral = decimal_is_IsNumeral n (omega arith) in
     All-from_get_or (Passes is_digit) (decimal n) 0 (λ i within.
@@ -79,7 +79,7 @@ decimal_digits n small =
 decimal_nonempty : (n : ℕ) → n < 2 ^ 32 → 0 < length (decimal n)
 decimal_nonempty n small = (decimal_is_IsNumeral n (omega arith)).0.0
 
-digits_run : (ds : List ℕ) → AllPass is_digit ds → AllPass is_letter_or_digit ds
+pub digits_run : (ds : List ℕ) → AllPass is_digit ds → AllPass is_letter_or_digit ds
 digits_run ds digits k d within = or_right (is_letter (get_or ds k d)) (is_digit (get_or ds k d)) (digits k d within)
 
 run_begins_with_no_sign : (s : Sign) (run x y : List ℕ) → AllPass is_letter_or_digit run → 0 < length run → byte_of s ∷ x ≡ run ++ y → ⊥
@@ -106,7 +106,7 @@ spelling_nonempty (Signed s) sign = omega arith
 -- a text begins with one token
 
 -- a run of letters and digits that is a token's spelling is the text's longest front of them
-same_run : (text a b x y : List ℕ) → AllPass is_letter_or_digit a → AllPass is_letter_or_digit b → begins_by is_letter_or_digit x ≡ false → begins_by is_letter_or_digit y ≡ false → text ≡ a ++ x → text ≡ b ++ y → (a ≡ b) × (x ≡ y)
+pub same_run : (text a b x y : List ℕ) → AllPass is_letter_or_digit a → AllPass is_letter_or_digit b → begins_by is_letter_or_digit x ≡ false → begins_by is_letter_or_digit y ≡ false → text ≡ a ++ x → text ≡ b ++ y → (a ≡ b) × (x ≡ y)
 same_run text a b x y all_a all_b end_x end_y at_a at_b = front_unique is_letter_or_digit a b x y all_a all_b end_x end_y (sym at_a ∙ at_b)
 
 pub begins_once : (text : List ℕ) (t u : Token) (x y : List ℕ) → Begins text t x → Begins text u y → (t ≡ u) × (x ≡ y)
@@ -155,18 +155,28 @@ spells_after_blanks gap text (t ∷ ts) blank end s =
     let same = front_unique is_blank gap s.0 text (spelling t ++ s.1) blank s.2 end (spelling_begins_with_no_blank t s.1 s.3) s.4 in
     ([], s.1, All-nil (Passes is_blank), s.3, same.1, s.5, s.6)
 
--- what a text spells begins with the token that the text begins with
+-- what a text spells that begins with no blank
+pub spells_begins : (text : List ℕ) (t : Token) (ts : List Token) → begins_by is_blank text ≡ false → Spells (t ∷ ts) text → (rest : List ℕ) × Begins text t rest × Spells ts rest
+spells_begins text t ts end s =
+    let same = front_unique is_blank [] s.0 text (spelling t ++ s.1) (All-nil (Passes is_blank)) s.2 end (spelling_begins_with_no_blank t s.1 s.3) s.4 in
+    (s.1, record { is_token = s.3; spelled = same.1; ends = s.5 }, s.6)
 
-pub spells_first : (text : List ℕ) (t : Token) (rest : List ℕ) (us : List Token) → Begins text t rest → Spells us text → (ts : List Token) × (us ≡ t ∷ ts) × Spells ts rest
-spells_first text t rest [] b s =
+pub not_all_blank : (text : List ℕ) → begins_by is_blank text ≡ false → 0 < length text → Spells [] text → ⊥
+not_all_blank [] end some s = absurd (omega arith)
+not_all_blank (c ∷ cs) end some s = both_ways (is_blank c) end (All-head (Passes is_blank) c cs s)
+
+pub begins_nonempty : (text : List ℕ) (t : Token) (rest : List ℕ) → Begins text t rest → 0 < length text
+begins_nonempty text t rest b =
     let some = spelling_nonempty t b.is_token in
-    let long : 0 < length text = omega (arith, ap length b.spelled, length-append (spelling t) rest) in
-    absurd (both_ways (begins_by is_blank text) (begins_with_no_blank text t rest b) (sym (ap (begins_by is_blank) (append-nil text)) ∙ begins_by_all is_blank text [] s long))
+    omega (arith, ap length b.spelled, length-append (spelling t) rest)
+
+-- what a text spells begins with the token that the text begins with
+pub spells_first : (text : List ℕ) (t : Token) (rest : List ℕ) (us : List Token) → Begins text t rest → Spells us text → (ts : List Token) × (us ≡ t ∷ ts) × Spells ts rest
+spells_first text t rest [] b s = absurd (not_all_blank text (begins_with_no_blank text t rest b) (begins_nonempty text t rest b) s)
 spells_first text t rest (u ∷ us) b s =
-    let same = front_unique is_blank [] s.0 text (spelling u ++ s.1) (All-nil (Passes is_blank)) s.2 (begins_with_no_blank text t rest b) (spelling_begins_with_no_blank u s.1 s.3) s.4 in
-    let first : Begins text u s.1 = record { is_token = s.3; spelled = same.1; ends = s.5 } in
-    let once = begins_once text t u rest s.1 b first in
-    (us, ap (λ x. x ∷ us) (sym once.0), subst (Spells us) (sym once.1) s.6)
+    let first = spells_begins text u us (begins_with_no_blank text t rest b) s in
+    let once = begins_once text t u rest first.0 b first.1 in
+    (us, ap (λ x. x ∷ us) (sym once.0), subst (Spells us) (sym once.1) first.2)
 
 both_after_first : (t : Token) (ts us : List Token) (text : List ℕ) → Spells (t ∷ ts) text → Spells us text → (rest : List ℕ) × (vs : List Token) × Spells ts rest × (us ≡ t ∷ vs) × Spells vs rest
 both_after_first t ts us text s r =

@@ -33,8 +33,15 @@ pub fn lex(alloc: Global, source: &[u8]) -> Result<Vec<Token>, ReadFault>
 fn skip_blanks(text: &[u8]) -> &[u8]
     ensures { result.now ≡ drop (prefix_len is_blank text.now) text.now }
 {
-    let blanks = text.iter().take_while(|byte| is_blank(**byte)).count();
-    &text[blanks..]
+    text.split_at(blank_length(text)).1
+}
+
+/// How many blanks a text begins with.
+fn blank_length(text: &[u8]) -> usize
+    ensures within { result ≤ length text.now }
+    ensures value { result ≡ prefix_len is_blank text.now }
+{
+    text.iter().take_while(|byte| is_blank(**byte)).count()
 }
 
 /// The token that a text begins with, and what stands after it.
@@ -56,7 +63,8 @@ fn next_token(text: &[u8]) -> Option<(Token, &[u8])>
 
 /// How many letters, digits and `_` a text begins with.
 fn run_length(text: &[u8]) -> usize
-    ensures { result ≡ prefix_len is_letter_or_digit text.now }
+    ensures within { result ≤ length text.now }
+    ensures value { result ≡ prefix_len is_letter_or_digit text.now }
 {
     text.iter().take_while(|byte| is_letter_or_digit(**byte)).count()
 }
@@ -66,10 +74,11 @@ fn number_of(bytes: &[u8]) -> Option<u32>
     ensures some { IfSome result (λ n. bytes.now ≡ decimal n) }
     ensures none { IfNone result ((n : ℕ) → n < 2 ^ 32 → bytes.now ≡ decimal n → ⊥) }
 {
-    match bytes {
-        [] | [b'0', _, ..] => None,
-        _ => value_of(bytes),
+    let first = bytes.first()?;
+    if *first == b'0' && bytes.len() > 1 {
+        return None;
     }
+    value_of(bytes)
 }
 
 /// The value of decimal digits, where it is below 2^32.
