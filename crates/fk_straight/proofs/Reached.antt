@@ -1,5 +1,5 @@
 -- How far a text has been read: the tokens so far, and the text that is left.
-use Rattle.std.proofs.Common.{◌≡◌, ℕ, ◌+◌, ◌<◌, ◌≤◌, ◌^◌, ◌∙◌, Bool, true, false, List, [], ◌∷◌, ◌++◌, length, take, drop, refl, sym, ap, subst, arith, append_assoc, append-nil, length-append}
+use Rattle.std.proofs.Common.{◌≡◌, ℕ, ◌+◌, ◌<◌, ◌≤◌, ◌^◌, ◌∙◌, Bool, true, false, List, [], ◌∷◌, ◌++◌, length, take, drop, refl, sym, ap, subst, arith, append_assoc, append-nil, length-append, length-drop}
 use Rattle.std.specs.List.{prefix_len}
 use Rattle.std.specs.Fmt.{decimal}
 use Rattle.std.proofs.lemmas.List.Elements.{All-nil}
@@ -65,9 +65,16 @@ pub reached_next : (source : List ℕ) (tokens : List Token) (text : List ℕ) (
 reached_next source tokens text token rest reached first =
     reached_blanks source (tokens ++ token ∷ []) rest (read_token source tokens text token rest reached.so_far first)
 
+pub next_is_shorter : (text : List ℕ) (token : Token) (rest : List ℕ) → Begins text token rest → length (after_blanks rest) < length text
+next_is_shorter text token rest first =
+    let some = spelling_nonempty token first.is_token in
+    omega (arith, ap length first.spelled, length-append (spelling token) rest, length-drop (prefix_len is_blank rest) rest)
+
 -- at the end of the text its tokens are read
-pub reached_end : (source : List ℕ) (tokens : List Token) → Reached source tokens [] → Spells tokens source
-reached_end source tokens reached = subst (λ l. Spells l source) (append-nil tokens) (reached.so_far.onward [] no_blanks)
+pub reached_end : (source : List ℕ) (tokens : List Token) (rest : List ℕ) → Reached source tokens rest → length rest ≡ 0 → Spells tokens source
+reached_end source tokens rest reached empty =
+    let all : AreBlank rest = λ k d within. absurd (omega arith) in
+    subst (λ l. Spells l source) (append-nil tokens) (reached.so_far.onward [] all)
 
 -- where what is left begins with no token, the text spells none
 pub reached_none : (source : List ℕ) (tokens : List Token) (text : List ℕ) → Reached source tokens text → 0 < length text → ((token : Token) (rest : List ℕ) → Begins text token rest → ⊥) → (all : List Token) → Spells all source → ⊥
