@@ -1,13 +1,12 @@
 -- The token that a text begins with, by the letters, digits and `_` at its front.
-use Rattle.std.proofs.Common.{◌≡◌, ℕ, ◌<◌, ◌^◌, ◌∙◌, Bool, true, false, List, [], ◌∷◌, ◌++◌, refl, sym, ap}
-use Rattle.std.specs.List.{AllPass}
+use Rattle.std.proofs.Common.{◌≡◌, ℕ, ◌<◌, ◌^◌, ◌∙◌, true, false, List, [], ◌∷◌, ◌++◌, length, sym, ap, arith}
 use Rattle.std.specs.Fmt.{decimal}
 use Rattle.std.proofs.lemmas.Bool.{both_ways, or_left}
 use Rattle.std.proofs.lemmas.List.Elements.{All-tail}
 use Rattle.fk_straight.specs.declared.token.Sign.{Sign}
 use Rattle.fk_straight.specs.Text.{Token, Word, Number, Signed, is_digit, is_letter, is_letter_or_digit, byte_of, Begins}
 use Rattle.fk_straight.proofs.Fronts.{Passes, begins_by, IsCut}
-use Rattle.fk_straight.proofs.Spelled.{word_run, decimal_digits, digits_run, same_run}
+use Rattle.fk_straight.proofs.Spelled.{begins_nonempty, decimal_digits, digits_run, same_run}
 
 -- where its first byte is a letter, it begins with a word
 pub word_begins : (text front rest others : List ℕ) (first : ℕ) → IsCut is_letter_or_digit text front rest → text ≡ first ∷ others → is_letter first ≡ true → Begins text (Word front) rest
@@ -42,3 +41,7 @@ none_begins text front rest others first cut split no_sign no_letter no_number (
 none_begins text front rest others first cut split no_sign no_letter no_number (Signed s) after b =
     let both : byte_of s ∷ after ≡ first ∷ others = sym b.spelled ∙ split in
     no_sign s (cc)
+
+-- no token stands in an empty text
+pub empty_begins : (text : List ℕ) → length text ≡ 0 → (token : Token) (after : List ℕ) → Begins text token after → ⊥
+empty_begins text empty token after b = let some = begins_nonempty text token after b in omega arith

@@ -1,10 +1,9 @@
 -- Decimal digits, their value, and the one spelling of a number.
-use Rattle.std.proofs.Common.{◌≡◌, ℕ, ◌+◌, ◌-◌, ◌*◌, ◌<◌, ◌≤◌, ◌^◌, ◌∙◌, List, length, get_or, take, refl, sym, ap, subst, ⊎_elim, arith, take_all}
+use Rattle.std.proofs.Common.{◌≡◌, ℕ, zero, suc, ◌+◌, ◌-◌, ◌*◌, ◌<◌, ◌≤◌, ◌^◌, ◌∙◌, List, length, get_or, take, sym, ap, subst, arith}
 use Rattle.std.specs.Char.{digit_value}
 use Rattle.std.specs.Fmt.{decimal}
 use Rattle.std.specs.Int.{IsInRange}
 use Rattle.std.specs.Str.Parse.{AllDigits, digits_value}
-use Rattle.std.proofs.lemmas.Bool.{cases_order}
 use Rattle.std.proofs.lemmas.Fmt.{decimal_is_IsNumeral, decimal_digit, decimal-digits_value, first_decimal}
 use Rattle.std.proofs.lemmas.Int.Digits.{digits_value_more}
 use Rattle.std.proofs.lemmas.Str.{digit_value_digit}
@@ -44,11 +43,8 @@ decimal_is_some ds n small spelled =
 
 -- no decimal has a 0 before it
 pub decimal_is_plain : (ds : List ℕ) (n : ℕ) → n < 2 ^ 32 → ds ≡ decimal n → get_or ds 0 0 ≡ 48 → length ds ≡ 1
-decimal_is_plain ds n small spelled zero_first =
-    ⊎_elim
-    (λ is_zero. ap length (spelled ∙ ap decimal is_zero ∙ decimal_digit 0 (omega arith)))
-    (⊎_elim (λ below. absurd (omega arith)) (λ positive.
-        let first = first_decimal n positive (omega arith) in
-        let same = ap (λ l. get_or l 0 0) spelled in
-        absurd (omega arith)))
-    (cases_order n 0)
+decimal_is_plain ds zero small spelled zero_first = ap length (spelled ∙ decimal_digit 0 (omega arith))
+decimal_is_plain ds (suc n) small spelled zero_first =
+    let first = first_decimal (suc n) (omega arith) (omega arith) in
+    let same = ap (λ l. get_or l 0 0) spelled in
+    absurd (omega arith)

@@ -1,10 +1,8 @@
 -- How far a text has been read: the tokens so far, and the text that is left.
-use Rattle.std.proofs.Common.{◌≡◌, ℕ, ◌+◌, ◌<◌, ◌≤◌, ◌^◌, ◌∙◌, Bool, true, false, List, [], ◌∷◌, ◌++◌, length, take, drop, refl, sym, ap, subst, arith, append_assoc, append-nil, length-append, length-drop}
+use Rattle.std.proofs.Common.{◌≡◌, ℕ, ◌+◌, ◌<◌, ◌≤◌, ◌∙◌, false, List, [], ◌∷◌, ◌++◌, length, take, drop, refl, sym, ap, subst, arith, append_assoc, append-nil, length-append, length-drop}
 use Rattle.std.specs.List.{prefix_len}
-use Rattle.std.specs.Fmt.{decimal}
 use Rattle.std.proofs.lemmas.List.Elements.{All-nil}
-use Rattle.fk_straight.specs.declared.token.Sign.{Sign}
-use Rattle.fk_straight.specs.Text.{Token, Word, Number, Signed, is_blank, is_letter, is_letter_or_digit, byte_of, spelling, AreBlank, Spells, Begins}
+use Rattle.fk_straight.specs.Text.{Token, is_blank, spelling, AreBlank, Spells, Begins}
 use Rattle.fk_straight.proofs.Fronts.{Passes, begins_by, cut_at_prefix}
 use Rattle.fk_straight.proofs.Spelled.{spelling_nonempty, spells_with_blanks, spells_after_blanks, spells_first, spells_begins, not_all_blank}
 

@@ -1,5 +1,5 @@
 -- What a text spells: its first token is one, and so are its tokens.
-use Rattle.std.proofs.Common.{◌≡◌, ℕ, ◌+◌, ◌<◌, ◌≤◌, ◌^◌, ◌∙◌, Bool, true, false, List, [], ◌∷◌, ◌++◌, length, get_or, refl, sym, ap, subst, arith, append_assoc, append-nil, length-append, if◌then◌else◌, ◌==◌}
+use Rattle.std.proofs.Common.{◌≡◌, ℕ, ◌<◌, ◌≤◌, ◌^◌, ◌∙◌, true, false, List, [], ◌∷◌, ◌++◌, length, get_or, refl, sym, ap, subst, arith, append_assoc, length-append, if◌then◌else◌, ◌==◌}
 use Rattle.std.specs.List.{AllPass}
 use Rattle.std.specs.Fmt.{decimal}
 use Rattle.std.proofs.lemmas.Bool.{both_ways, or_left, or_right}
@@ -9,7 +9,7 @@ use Rattle.std.proofs.lemmas.List.Elements.{All-nil, All-cons, All-head, All-app
 use Rattle.std.proofs.lemmas.Str.Parse.{digit_at}
 use Rattle.fk_straight.specs.declared.token.Sign.{Sign}
 use Rattle.fk_straight.specs.declared.token.Sign.TheVariants.{Semicolon, Equals, Plus, OpenParenthesis, CloseParenthesis, OpenBrace, CloseBrace}
-use Rattle.fk_straight.specs.Text.{Token, Word, Number, Signed, is_blank, is_digit, is_letter, is_letter_or_digit, IsWord, byte_of, IsToken, spelling, EndsBefore, AreBlank, Spells, Begins, SpellsOnce}
+use Rattle.fk_straight.specs.Text.{Token, Word, Number, Signed, is_blank, is_digit, is_letter, is_letter_or_digit, IsWord, byte_of, IsToken, spelling, AreBlank, Spells, Begins, SpellsOnce}
 use Rattle.fk_straight.proofs.Fronts.{Passes, begins_by, begins_by_all, front_unique, all_after}
 
 -- classes of bytes
@@ -69,12 +69,14 @@ word_of_no_digits : (w : List ℕ) → IsWord w → AllPass is_digit w → ⊥
 word_of_no_digits [] word digits = word
 word_of_no_digits (c ∷ cs) word digits = letter_is_no_digit c word.0 (All-head (Passes is_digit) c cs digits)
 
-pub decimal_digits : (n : ℕ) → n < 2 ^ 32 → AllPass is_digit (decimal n)
-decimal_digits n small =
+decimal_digit_at : (n : ℕ) → n < 2 ^ 32 → (i : ℕ) → i < length (decimal n) → is_digit (get_or (decimal n) i 0) ≡ true
+decimal_digit_at n small i within =
     let numeral = decimal_is_IsNumeral n (omega arith) in
-    All-from_get_or (Passes is_digit) (decimal n) 0 (λ i within.
-        let digit = digit_at (decimal n) i numeral.0.1 within in
-        grind (arith, nat_tests))
+    let digit = digit_at (decimal n) i numeral.0.1 within in
+    grind (arith, nat_tests)
+
+pub decimal_digits : (n : ℕ) → n < 2 ^ 32 → AllPass is_digit (decimal n)
+decimal_digits n small = All-from_get_or (Passes is_digit) (decimal n) 0 (decimal_digit_at n small)
 
 decimal_nonempty : (n : ℕ) → n < 2 ^ 32 → 0 < length (decimal n)
 decimal_nonempty n small = (decimal_is_IsNumeral n (omega arith)).0.0

@@ -5,5 +5,4 @@ ghost use Rattle.fk_straight.specs.Text.{SpellsOnce};
 /// A text spells at most one list of tokens.
 pub fn one_spelling()
     ensures { SpellsOnce }
-{
-}
+{}

@@ -12,8 +12,11 @@ ghost use Rattle.fk_straight.specs.View.{token_of};
 use crate::token::{ReadFault, Sign, Token};
 use std::alloc::{AllocError, Global};
 
-/// The tokens of a text. A word borrows the text.
-pub fn lex(alloc: Global, source: &[u8]) -> Result<Vec<Token>, ReadFault>
+/// The tokens of a text, whose words borrow it.
+///
+/// It is `NotStraight` where the text spells no tokens, and `Memory` where there is no memory
+/// for them.
+pub fn lex(alloc: Global, source: &[u8]) -> Result<Vec<Token<'_>>, ReadFault>
     ensures tokens { IfOk result (λ tokens. Spells (map token_of tokens.items) source.now) }
     // A token takes a byte at least.
     ensures few { IfOk result (λ tokens. vec_len tokens ≤ length source.now) }
@@ -23,7 +26,9 @@ pub fn lex(alloc: Global, source: &[u8]) -> Result<Vec<Token>, ReadFault>
     let mut rest = skip_blanks(source);
     while !rest.is_empty() {
         let (token, after) = next_token(rest).ok_or(ReadFault::NotStraight)?;
-        tokens.push(token).map_err(|_| ReadFault::Memory(AllocError))?;
+        tokens
+            .push(token)
+            .map_err(|_| ReadFault::Memory(AllocError))?;
         rest = skip_blanks(after);
     }
     Ok(tokens)
@@ -45,7 +50,7 @@ fn blank_length(text: &[u8]) -> usize
 }
 
 /// The token that a text begins with, and what stands after it.
-fn next_token(text: &[u8]) -> Option<(Token, &[u8])>
+fn next_token(text: &[u8]) -> Option<(Token<'_>, &[u8])>
     ensures some { IfSome result (λ found. Begins text.now (token_of found.0) found.1.now) }
     ensures none { IfNone result ((token : Text.Token) (rest : List ℕ) → Begins text.now token rest → ⊥) }
 {
@@ -66,10 +71,12 @@ fn run_length(text: &[u8]) -> usize
     ensures within { result ≤ length text.now }
     ensures value { result ≡ prefix_len is_letter_or_digit text.now }
 {
-    text.iter().take_while(|byte| is_letter_or_digit(**byte)).count()
+    text.iter()
+        .take_while(|byte| is_letter_or_digit(**byte))
+        .count()
 }
 
-/// The number below 2^32 whose decimal, with no 0 before it, these bytes are.
+/// The number below 2^32 that these bytes spell in decimal, with no 0 before it.
 fn number_of(bytes: &[u8]) -> Option<u32>
     ensures some { IfSome result (λ n. bytes.now ≡ decimal n) }
     ensures none { IfNone result ((n : ℕ) → n < 2 ^ 32 → bytes.now ≡ decimal n → ⊥) }
@@ -83,7 +90,8 @@ fn number_of(bytes: &[u8]) -> Option<u32>
 
 /// The value of decimal digits, where it is below 2^32.
 fn value_of(digits: &[u8]) -> Option<u32>
-    ensures { SomeIff result (AllDigits 10 digits.now × (digits_value 10 digits.now < 2 ^ 32)) (digits_value 10 digits.now) }
+    ensures { let value = digits_value 10 digits.now in
+        SomeIff result (AllDigits 10 digits.now × (value < 2 ^ 32)) value }
 {
     let mut value: u32 = 0;
     for digit in digits {
@@ -131,4 +139,47 @@ fn is_letter_or_digit(byte: u8) -> bool
     ensures { result ≡ is_letter_or_digit byte }
 {
     is_letter(byte) || byte.is_ascii_digit()
+}
+
+#[cfg(test)]
+mod tests {
+    use super::*;
+    use std::test::Fail;
+
+    #[test]
+    fn tokens_stand_side_by_side(rt: HostRuntime) -> Result<(), Fail> {
+        let tokens = lex(rt.alloc(), b"x=2;")?;
+        assert_eq!(rt; tokens.len(), 4);
+        assert!(rt; matches!(tokens[0], Token::Word(b"x")));
+        assert!(rt; matches!(tokens[1], Token::Signed(Sign::Equals)));
+        assert!(rt; matches!(tokens[2], Token::Number(2)));
+        assert!(rt; matches!(tokens[3], Token::Signed(Sign::Semicolon)));
+        Ok(())
+    }
+
+    #[test]
+    fn the_longest_token_is_taken(rt: HostRuntime) -> Result<(), Fail> {
+        let texts: [(&[u8], usize); 6] = [
+            (b"", 0),
+            (b" \t\r\n", 0),
+            (b"shint", 1),
+            (b"sh int", 2),
+            (b"_a1(b", 3),
+            (b"4294967295", 1),
+        ];
+        for (text, count) in texts {
+            let tokens = lex(rt.alloc(), text)?;
+            assert_eq!(rt; tokens.len(), count, "in {text:?}");
+        }
+        Ok(())
+    }
+
+    #[test]
+    fn other_texts_spell_no_tokens(rt: HostRuntime) {
+        let texts: [&[u8]; 6] = [b"08", b"4294967296", b"2x", b"x-1", b"x // one", b"x\x0c"];
+        for text in texts {
+            let found = lex(rt.alloc(), text);
+            assert!(rt; matches!(found, Err(ReadFault::NotStraight)), "at {text:?}");
+        }
+    }
 }

@@ -1,7 +1,7 @@
-use Rattle.std.proofs.Common.{◌≡◌, ℕ, ◌<◌, Option, Some, None, IfSome, IfNone, List, [], ◌∷◌, ◌++◌, length, map, is_ok, sym, ap, subst, subst₂, ◌∙◌, refl, arith, false-eqb, true-eqb}
+use Rattle.std.proofs.Common.{◌≡◌, ◌<◌, Option, Some, None, IfSome, IfNone, [], ◌∷◌, length, map, is_ok, sym, ap, subst, subst₂, ◌∙◌, arith, false-eqb, true-eqb}
 use Rattle.std.specs.Result.{result_ok}
 use Rattle.std.proofs.lemmas.List.{map-append}
-use Rattle.fk_straight.specs.Text.{Token, Begins, Spells}
+use Rattle.fk_straight.specs.Text.{Begins}
 use Rattle.fk_straight.specs.View.{token_of}
 use Rattle.std.proofs.ResultArms.{chosen}
 use Rattle.fk_straight.proofs.Reached.{Reached, reached_start, reached_next, reached_end, reached_none, next_is_shorter}

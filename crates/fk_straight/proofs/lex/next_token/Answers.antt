@@ -1,8 +1,7 @@
-use Rattle.std.proofs.Common.{◌≡◌, ℕ, Option, Some, None, IfSome, IfNone, List, [], length, sym, ap, subst, ◌∙◌, arith, drop_of_length-le}
-use Rattle.fk_straight.specs.Text.{Token, is_letter_or_digit, Begins}
-use Rattle.fk_straight.proofs.Fronts.{IsCut, cut_at}
-use Rattle.fk_straight.proofs.Spelled.{begins_nonempty}
-use Rattle.fk_straight.proofs.FirstToken.{word_begins, number_begins, none_begins}
+use Rattle.std.proofs.Common.{Option, Some, None, IfNone, sym, arith}
+use Rattle.fk_straight.specs.Text.{is_letter_or_digit}
+use Rattle.fk_straight.proofs.Fronts.{cut_at}
+use Rattle.fk_straight.proofs.FirstToken.{empty_begins, word_begins, number_begins, none_begins}
 use Rattle.fk_straight.proofs.lex.next_token.Goals as goal
 
 no_answer : {X P : Type 0} (r : Option X) → P → IfNone r P
@@ -10,12 +9,7 @@ no_answer None p = p
 no_answer (Some x) p = tt
 
 pub returns-in_err-first-clause-none : goal.returns-in_err-first-clause-none
-returns-in_err-first-clause-none c = 
-    let none : (token : Token) (rest : List ℕ) → Begins c.args.text.now token rest → ⊥ = λ token rest b.
-        let some = begins_nonempty c.args.text.now token rest b in
-        let empty = c.in_err-first.ensures.cases in
-        omega arith in
-    no_answer _ none
+returns-in_err-first-clause-none c = no_answer _ (empty_begins c.args.text.now c.in_err-first.ensures.cases)
 
 pub returns-in_err-number_of-clause-none : goal.returns-in_err-number_of-clause-none
 returns-in_err-number_of-clause-none c =

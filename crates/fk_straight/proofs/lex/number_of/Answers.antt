@@ -19,13 +19,11 @@ value_is_none : (r : Option ℕ) (bytes : List ℕ) → SomeIff r (AllDigits 10 
 value_is_none None bytes h = λ n small spelled. h (decimal_has_value bytes n small spelled)
 value_is_none (Some n) bytes h = tt
 
+none_in_empty : (bytes : List ℕ) → length bytes ≤ 0 → NoNumber bytes
+none_in_empty bytes empty n small spelled = let some = decimal_is_some bytes n small spelled in omega arith
+
 pub returns-in_err-first-clause-none : goal.returns-in_err-first-clause-none
-returns-in_err-first-clause-none c =
-    let none : NoNumber c.args.bytes.now = λ n small spelled.
-        let some = decimal_is_some c.args.bytes.now n small spelled in
-        let empty = c.in_err-first.ensures.item.3 in
-        omega arith in
-    no_number _ c.args.bytes.now none
+returns-in_err-first-clause-none c = no_number _ c.args.bytes.now (none_in_empty c.args.bytes.now c.in_err-first.ensures.item.3)
 
 pub returns-then-bytes-gt1-clause-none : goal.returns-then-bytes-gt1-clause-none
 returns-then-bytes-gt1-clause-none c n small spelled =
