@@ -3,3 +3,4 @@ pub mod Spelled
 pub mod Reached
 pub mod Numbers
 pub mod FirstToken
+pub mod Derived

@@ -3,4 +3,6 @@
 
 pub mod laws;
 pub mod lex;
+pub mod parse;
+pub mod read;
 pub mod token;
