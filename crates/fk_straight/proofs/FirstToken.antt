@@ -21,6 +21,7 @@ word_begins text (c ∷ cs) rest others first cut split letter =
       ends = cut.stops;
     }
 
+-- where its letters and digits are the decimal of a number, it begins with that number
 pub number_begins : (text front rest : List ℕ) (n : ℕ) → IsCut is_letter_or_digit text front rest → n < 2 ^ 32 → front ≡ decimal n → Begins text (Number n) rest
 number_begins text front rest n cut small spelled = record {
   is_token = small;

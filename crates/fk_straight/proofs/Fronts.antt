@@ -14,6 +14,7 @@ abbrev pub begins_by : {X : Type 0} → (X → Bool) → List X → Bool
 begins_by p [] = false
 begins_by p (x ∷ xs) = p x
 
+-- where all elements of a front pass, the first does
 pub begins_by_all : (p : ℕ → Bool) (xs ys : List ℕ) → AllPass p xs → 0 < length xs → begins_by p (xs ++ ys) ≡ true
 begins_by_all p [] ys all some = absurd (omega arith)
 begins_by_all p (x ∷ xs) ys all some = All-head (Passes p) x xs all
@@ -32,16 +33,17 @@ front_unique p (c ∷ a) (d ∷ b) x y all_a all_b end_x end_y same =
     let front : c ∷ a ≡ d ∷ b = cc (rest.0) in
     (front, rest.1)
 
--- what stands after a front
+-- where all elements pass, those after a front do
 pub all_after : (p : ℕ → Bool) (xs ys : List ℕ) → AllPass p (xs ++ ys) → AllPass p ys
 all_after p xs ys all = All-same (Passes p) ys (drop (length xs) (xs ++ ys)) (sym (drop_at xs ys _ refl)) (All-drop (Passes p) (length xs) (xs ++ ys) all)
 
--- xs is a front that passes, and a rest that doesn't begin with what passes
+-- xs is its longest front that passes, and the rest
 pub record IsCut (p : ℕ → Bool) (xs front rest : List ℕ) : Type 0 where
   pub passes : AllPass p front
   pub stops : begins_by p rest ≡ false
   pub whole : xs ≡ front ++ rest
 
+-- the element at `prefix_len` does not pass
 stops_at : (p : ℕ → Bool) (xs : List ℕ) → begins_by p (drop (prefix_len p xs) xs) ≡ false
 stops_at p xs =
     ⊎_elim
@@ -49,6 +51,7 @@ stops_at p xs =
     (λ past. ap (begins_by p) (drop_all (prefix_len p xs) xs past))
     (cases_lt (prefix_len p xs) (length xs))
 
+-- `prefix_len` cuts a list
 pub cut_at_prefix : (p : ℕ → Bool) (xs : List ℕ) → IsCut p xs (take (prefix_len p xs) xs) (drop (prefix_len p xs) xs)
 cut_at_prefix p xs = record {
   passes = All-from_get_or (Passes p) (take (prefix_len p xs) xs) 0 (λ i within.
@@ -58,6 +61,7 @@ cut_at_prefix p xs = record {
   whole = sym (take-append-drop (prefix_len p xs) xs);
 }
 
+-- the same of parts that are known by equations
 pub cut_at : (p : ℕ → Bool) (xs : List ℕ) (n : ℕ) (front rest : List ℕ) → n ≡ prefix_len p xs → front ≡ take n xs → rest ≡ drop n xs → IsCut p xs front rest
 cut_at p xs n front rest at front_is rest_is =
     subst₂ (IsCut p xs) (sym (front_is ∙ ap (λ k. take k xs) at)) (sym (rest_is ∙ ap (λ k. drop k xs) at)) (cut_at_prefix p xs)

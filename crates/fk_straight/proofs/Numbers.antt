@@ -9,6 +9,7 @@ use Rattle.std.proofs.lemmas.Int.Digits.{digits_value_more}
 use Rattle.std.proofs.lemmas.Str.{digit_value_digit}
 use Rattle.std.proofs.lemmas.Str.Parse.{IsNumeralModel, numerals_by_value, tells_digits, digits_value-take-le}
 
+-- std's own words for texts of decimal digits and their value
 own : IsNumeralModel (AllDigits 10) (digits_value 10)
 own = numerals_by_value (AllDigits 10) tells_digits
 
@@ -24,7 +25,7 @@ pub value_before : (ds : List ℕ) (i : ℕ) → i < length ds → IsInRange 48 
 value_before ds i within digit =
     subst (λ n. n ≤ digits_value 10 ds) (value_step ds i within digit) (digits_value-take-le 10 ds (i + 1) (omega arith))
 
--- a number's decimal are digits of that value
+-- the decimal of a number is digits of that value
 pub decimal_has_value : (ds : List ℕ) (n : ℕ) → n < 2 ^ 32 → ds ≡ decimal n → AllDigits 10 ds × (digits_value 10 ds < 2 ^ 32)
 decimal_has_value ds n small spelled =
     let numeral = decimal_is_IsNumeral n (omega arith) in
@@ -35,6 +36,7 @@ decimal_has_value ds n small spelled =
 pub value_has_decimal : (ds : List ℕ) → AllDigits 10 ds → digits_value 10 ds < 2 ^ 32 → 0 < length ds → (get_or ds 0 0 ≡ 48 → length ds ≡ 1) → ds ≡ decimal (digits_value 10 ds)
 value_has_decimal ds digits small some plain = sym (decimal-digits_value own ds digits some plain (omega arith))
 
+-- a decimal is never empty
 pub decimal_is_some : (ds : List ℕ) (n : ℕ) → n < 2 ^ 32 → ds ≡ decimal n → 0 < length ds
 decimal_is_some ds n small spelled =
     let numeral = decimal_is_IsNumeral n (omega arith) in

@@ -6,7 +6,7 @@ use Rattle.fk_straight.specs.Text.{Token, is_blank, spelling, AreBlank, Spells, 
 use Rattle.fk_straight.proofs.Fronts.{Passes, begins_by, cut_at_prefix}
 use Rattle.fk_straight.proofs.Spelled.{spelling_nonempty, spells_with_blanks, spells_after_blanks, spells_first, spells_begins, not_all_blank}
 
--- what is left of a text, read up to a token or its end
+-- what is left of a text after the blanks that it begins with
 abbrev pub after_blanks : List ℕ → List ℕ
 after_blanks text = drop (prefix_len is_blank text) text
 
@@ -19,14 +19,16 @@ pub record IsRead (source : List ℕ) (tokens : List Token) (rest : List ℕ) : 
   pub back : (all : List Token) → Spells all source → (more : List Token) × (all ≡ tokens ++ more) × Spells more rest
   pub few : length tokens + length rest ≤ length source
 
--- and what is left begins with no blank
+-- the same, and what is left begins with no blank
 pub record Reached (source : List ℕ) (tokens : List Token) (rest : List ℕ) : Type 0 where
   pub so_far : IsRead source tokens rest
   pub stops : begins_by is_blank rest ≡ false
 
+-- nothing is read
 read_nothing : (source : List ℕ) → IsRead source [] source
 read_nothing source = record { onward = λ more s. s; back = λ all s. (all, refl, s); few = omega arith }
 
+-- a token is read
 read_token : (source : List ℕ) (tokens : List Token) (text : List ℕ) (token : Token) (rest : List ℕ) → IsRead source tokens text → Begins text token rest → IsRead source (tokens ++ token ∷ []) rest
 read_token source tokens text token rest so_far first = record {
   onward = λ more s.
@@ -41,6 +43,7 @@ read_token source tokens text token rest so_far first = record {
       omega (arith, ap length first.spelled, length-append (spelling token) rest, length-append tokens (token ∷ []));
 }
 
+-- blanks are skipped
 reached_blanks : (source : List ℕ) (tokens : List Token) (text : List ℕ) → IsRead source tokens text → Reached source tokens (after_blanks text)
 reached_blanks source tokens text so_far =
     let cut = cut_at_prefix is_blank text in
@@ -56,13 +59,16 @@ reached_blanks source tokens text so_far =
       stops = cut.stops;
     }
 
+-- before the first token
 pub reached_start : (source : List ℕ) → Reached source [] (after_blanks source)
 reached_start source = reached_blanks source [] source (read_nothing source)
 
+-- a token and the blanks after it
 pub reached_next : (source : List ℕ) (tokens : List Token) (text : List ℕ) (token : Token) (rest : List ℕ) → Reached source tokens text → Begins text token rest → Reached source (tokens ++ token ∷ []) (after_blanks rest)
 reached_next source tokens text token rest reached first =
     reached_blanks source (tokens ++ token ∷ []) rest (read_token source tokens text token rest reached.so_far first)
 
+-- a token takes a byte at least
 pub next_is_shorter : (text : List ℕ) (token : Token) (rest : List ℕ) → Begins text token rest → length (after_blanks rest) < length text
 next_is_shorter text token rest first =
     let some = spelling_nonempty token first.is_token in

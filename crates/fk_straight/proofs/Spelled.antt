@@ -38,6 +38,7 @@ sign_is_no_blank CloseParenthesis = refl
 sign_is_no_blank OpenBrace = refl
 sign_is_no_blank CloseBrace = refl
 
+-- the sign of a byte that is one
 abbrev sign_with : ℕ → Sign
 sign_with c =
     if c == 59 then Semicolon else (if c == 61 then Equals else (if c == 43 then Plus else (if c == 40 then OpenParenthesis
@@ -111,6 +112,7 @@ spelling_nonempty (Signed s) sign = omega arith
 pub same_run : (text a b x y : List ℕ) → AllPass is_letter_or_digit a → AllPass is_letter_or_digit b → begins_by is_letter_or_digit x ≡ false → begins_by is_letter_or_digit y ≡ false → text ≡ a ++ x → text ≡ b ++ y → (a ≡ b) × (x ≡ y)
 same_run text a b x y all_a all_b end_x end_y at_a at_b = front_unique is_letter_or_digit a b x y all_a all_b end_x end_y (sym at_a ∙ at_b)
 
+-- two tokens that a text begins with are one
 pub begins_once : (text : List ℕ) (t u : Token) (x y : List ℕ) → Begins text t x → Begins text u y → (t ≡ u) × (x ≡ y)
 begins_once text (Word v) (Word w) x y a b =
     let same = same_run text v w x y (word_run v a.is_token) (word_run w b.is_token) a.ends b.ends a.spelled b.spelled in
@@ -157,12 +159,13 @@ spells_after_blanks gap text (t ∷ ts) blank end s =
     let same = front_unique is_blank gap s.0 text (spelling t ++ s.1) blank s.2 end (spelling_begins_with_no_blank t s.1 s.3) s.4 in
     ([], s.1, All-nil (Passes is_blank), s.3, same.1, s.5, s.6)
 
--- what a text spells that begins with no blank
+-- a text that begins with no blank begins with the first token that it spells
 pub spells_begins : (text : List ℕ) (t : Token) (ts : List Token) → begins_by is_blank text ≡ false → Spells (t ∷ ts) text → (rest : List ℕ) × Begins text t rest × Spells ts rest
 spells_begins text t ts end s =
     let same = front_unique is_blank [] s.0 text (spelling t ++ s.1) (All-nil (Passes is_blank)) s.2 end (spelling_begins_with_no_blank t s.1 s.3) s.4 in
     (s.1, record { is_token = s.3; spelled = same.1; ends = s.5 }, s.6)
 
+-- such a text, if it isn't empty, spells a token at least
 pub not_all_blank : (text : List ℕ) → begins_by is_blank text ≡ false → 0 < length text → Spells [] text → ⊥
 not_all_blank [] end some s = absurd (omega arith)
 not_all_blank (c ∷ cs) end some s = both_ways (is_blank c) end (All-head (Passes is_blank) c cs s)
@@ -180,6 +183,7 @@ spells_first text t rest (u ∷ us) b s =
     let once = begins_once text t u rest first.0 b first.1 in
     (us, ap (λ x. x ∷ us) (sym once.0), subst (Spells us) (sym once.1) first.2)
 
+-- two lists that a text spells go on alike after the first token
 both_after_first : (t : Token) (ts us : List Token) (text : List ℕ) → Spells (t ∷ ts) text → Spells us text → (rest : List ℕ) × (vs : List Token) × Spells ts rest × (us ≡ t ∷ vs) × Spells vs rest
 both_after_first t ts us text s r =
     let more = spelling t ++ s.1 in
