@@ -1,3 +1,4 @@
 pub mod Text
 pub mod Straight
 pub mod View
+pub mod Reading

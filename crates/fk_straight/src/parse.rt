@@ -1,0 +1,4 @@
+//! The parser of straight-line programs.
+
+mod cursor;
+mod names;
