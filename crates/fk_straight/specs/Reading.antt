@@ -3,7 +3,7 @@ use Rattle.std.specs.Prelude.{◌≡◌, ℕ, List, [], ◌∷◌, ◌++◌, All
 use Rattle.fk_meaning.specs.declared.syntax.Part.{Part}
 use Rattle.fk_meaning.specs.declared.syntax.Sum.{Sum}
 use Rattle.fk_meaning.specs.declared.syntax.Statement.{Statement}
-use Rattle.fk_straight.specs.declared.token.Sign.TheVariants.{Plus, CloseBrace}
+use Rattle.fk_straight.specs.declared.token.Sign.TheVariants.{Plus, OpenParenthesis, CloseParenthesis, OpenBrace, CloseBrace}
 use Rattle.fk_straight.specs.Text.{Token, Word, Signed}
 use Rattle.fk_straight.specs.Straight.{Names, AreDistinct, IsDeclared, IsDeclaredSum, AreDeclared, reserved, part_token, sum_tokens, statement_tokens, body_tokens, declaration_tokens}
 
@@ -38,3 +38,8 @@ pub record BeginsDeclarations (tokens rest : List Token) (names : Names) : Type 
   pub free : All (λ name. ¬ Contains reserved name) names
   pub spelled : tokens ≡ declaration_tokens names ++ rest
   pub ends : ¬ Begins (Word (codes "sh")) rest
+
+-- what stands between the declarations and the body, and then this rest
+abbrev pub header_tokens : List Token → List Token
+header_tokens rest =
+    Word (codes "void") ∷ Word (codes "main") ∷ Signed OpenParenthesis ∷ Word (codes "void") ∷ Signed CloseParenthesis ∷ Signed OpenBrace ∷ rest
