@@ -1,11 +1,11 @@
 -- The statements of a body are read in one way only.
-use Rattle.std.proofs.Common.{◌≡◌, ℕ, ◌+◌, ◌*◌, ◌≤◌, List, [], ◌∷◌, ◌++◌, length, drop, refl, sym, ap, ◌∙◌, arith, append_assoc, length-append}
+use Rattle.std.proofs.Common.{◌≡◌, ◌+◌, List, [], ◌∷◌, ◌++◌, length, drop, sym, ap, ◌∙◌, arith, append_assoc}
 use Rattle.std.specs.List.{All}
 use Rattle.std.proofs.lemmas.List.Elements.{All-head, All-drop}
 use Rattle.fk_meaning.specs.declared.syntax.Statement.{Statement}
-use Rattle.fk_meaning.specs.Sites.{operations_of_statement, operations_of_body}
+use Rattle.fk_meaning.specs.Sites.{operations_of_body}
 use Rattle.fk_straight.specs.declared.token.Sign.TheVariants.{CloseBrace}
-use Rattle.fk_straight.specs.Text.{Token, Word, Signed}
+use Rattle.fk_straight.specs.Text.{Token, Signed}
 use Rattle.fk_straight.specs.Straight.{Names, AreDeclared, statement_tokens, body_tokens}
 use Rattle.fk_straight.specs.Reading.{Begins, BeginsStatement, BeginsBody}
 use Rattle.fk_straight.proofs.CountLemmas.{length-operations_of_body-cons}
@@ -33,7 +33,7 @@ body_goes_on names [] body left rest e = record { tokens = e; count = omega arit
 body_goes_on names (d ∷ done) [] left rest e = absurd (no_brace names d (body_tokens names done ++ left) rest (sym (append_assoc (statement_tokens names d) (body_tokens names done) left) ∙ e))
 body_goes_on names (d ∷ done) (s ∷ body) left rest e =
     let same = same_statement names d s (body_tokens names done ++ left) (body_tokens names body ++ Signed CloseBrace ∷ rest)
-          (sym (append_assoc (statement_tokens names d) (body_tokens names done) left) ∙ e ∙ append_assoc (statement_tokens names s) (body_tokens names body) (Signed CloseBrace ∷ rest)) in
+    (sym (append_assoc (statement_tokens names d) (body_tokens names done) left) ∙ e ∙ append_assoc (statement_tokens names s) (body_tokens names body) (Signed CloseBrace ∷ rest)) in
     let m = body_goes_on names done body left rest same.0 in
     record { tokens = m.tokens; count = omega (arith, same.1, m.count, length-operations_of_body-cons d done, length-operations_of_body-cons s body) }
 

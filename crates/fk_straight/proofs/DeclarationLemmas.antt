@@ -1,6 +1,5 @@
 -- The declarations at the front of a text are read in one way only.
-use Rattle.std.proofs.Common.{◌≡◌, ℕ, ◌+◌, ◌*◌, ◌⊎◌, inl, inr, List, [], ◌∷◌, ◌++◌, Contains, codes, length, refl, sym, ap, subst, ◌∙◌, arith, append_assoc}
-use Rattle.std.specs.List.{All}
+use Rattle.std.proofs.Common.{◌≡◌, ℕ, ◌+◌, ◌*◌, ◌⊎◌, inl, inr, List, [], ◌∷◌, ◌++◌, Contains, codes, length, refl, sym, ap, subst, ◌∙◌, arith}
 use Rattle.std.proofs.lemmas.List.{append-nil}
 use Rattle.std.proofs.lemmas.List.Elements.{All-contains, Contains-append_right}
 use Rattle.fk_straight.specs.declared.token.Sign.TheVariants.{Semicolon}
@@ -68,8 +67,9 @@ no_new_name tokens rest names done name after so_far old begins =
     let same : name ≡ m.0 = cc (m.3) in
     let all : names ≡ done ++ name ∷ m.1 = m.2 ∙ ap (λ n. done ++ n ∷ m.1) (sym same) in
     elim old [
-      inl r ↦ All-contains (λ n. ¬ Contains reserved n) names name begins.free (subst (λ ns. Contains ns name) (sym all) (Contains-append_right done (name ∷ m.1) name (Contains-head name m.1))) r
-    | inr d ↦ AreDistinct-apart done name m.1 (subst AreDistinct all begins.distinct) d ]
+      | inl r ↦ All-contains (λ n. ¬ Contains reserved n) names name begins.free (subst (λ ns. Contains ns name) (sym all) (Contains-append_right done (name ∷ m.1) name (Contains-head name m.1))) r
+      | inr d ↦ AreDistinct-apart done name m.1 (subst AreDistinct all begins.distinct) d
+    ]
 
 -- two ways to read the declarations are one
 pub same_declarations : (tokens rest left : List Token) (names done : Names) → BeginsDeclarations tokens rest names → BeginsDeclarations tokens left done → (names ≡ done) × (rest ≡ left)

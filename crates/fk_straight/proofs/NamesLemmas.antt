@@ -1,6 +1,6 @@
 -- What a search by equal bytes says of a list of borrowed names, and when names stay distinct.
 use Rattle.std.proofs.Common.{◌≡◌, ℕ, zero, suc, ◌<◌, ◌⊎◌, inl, inr, Bool, true, false, not, ◌||◌, List, [], ◌∷◌, ◌++◌, Bor, Decides, length, get_or, map, position, Option, None, Some, is_some, Contains, refl, sym, ap, subst, ◌∙◌, arith, nat_eq}
-use Rattle.std.specs.List.{list_any, All}
+use Rattle.std.specs.List.{list_any}
 use Rattle.std.proofs.lemmas.Bool.{false≢true}
 use Rattle.std.proofs.lemmas.List.{get_or-map, length-map}
 use Rattle.std.proofs.lemmas.List.Elements.{Contains-append_right, Contains-push_cases}

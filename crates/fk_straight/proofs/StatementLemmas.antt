@@ -47,9 +47,9 @@ pub same_statement : (names : Names) (a b : Statement) (left rest : List Token) 
 same_statement names (Assign x e) b left rest h =
     let word = get_or names x [] in
     let m = assignment_goes_on names e (Signed Semicolon ∷ left) rest (λ p. absurd (cc (p.1))) word b
-          (ap (λ t. Word word ∷ Signed Equals ∷ t) (sym (append_assoc (sum_tokens names e) (Signed Semicolon ∷ []) left)) ∙ h) in
+    (ap (λ t. Word word ∷ Signed Equals ∷ t) (sym (append_assoc (sum_tokens names e) (Signed Semicolon ∷ []) left)) ∙ h) in
     (cc (m.0), omega (arith, m.1, length-assignment x e))
 same_statement names (Print e) b left rest h =
     let m = print_goes_on names e (Signed CloseParenthesis ∷ Signed Semicolon ∷ left) rest (λ p. absurd (cc (p.1))) b
-          (ap (λ t. Word (codes "putint") ∷ Signed OpenParenthesis ∷ t) (sym (append_assoc (sum_tokens names e) (Signed CloseParenthesis ∷ Signed Semicolon ∷ []) left)) ∙ h) in
+    (ap (λ t. Word (codes "putint") ∷ Signed OpenParenthesis ∷ t) (sym (append_assoc (sum_tokens names e) (Signed CloseParenthesis ∷ Signed Semicolon ∷ []) left)) ∙ h) in
     (cc (m.0), omega (arith, m.1, length-print e))

@@ -1,8 +1,7 @@
 -- A sum is read in one way only, up to where no `+` follows.
-use Rattle.std.proofs.Common.{◌≡◌, ℕ, ◌+◌, ◌*◌, ◌≤◌, List, [], ◌∷◌, ◌++◌, length, drop, refl, sym, ap, ◌∙◌, arith, append_assoc, length-append}
+use Rattle.std.proofs.Common.{◌≡◌, ◌+◌, List, [], ◌∷◌, ◌++◌, length, drop, refl, sym, ap, ◌∙◌, arith, length-append}
 use Rattle.std.specs.List.{All}
-use Rattle.std.proofs.lemmas.List.{append-nil}
-use Rattle.std.proofs.lemmas.List.Elements.{All-head, All-drop, All-same}
+use Rattle.std.proofs.lemmas.List.Elements.{All-head, All-drop}
 use Rattle.fk_meaning.specs.declared.syntax.Part.{Part}
 use Rattle.fk_meaning.specs.declared.syntax.Part.TheVariants.{Number, Name}
 use Rattle.fk_meaning.specs.declared.syntax.Sum.{Sum}

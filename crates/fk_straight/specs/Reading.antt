@@ -1,5 +1,5 @@
 -- What stands at the front of a list of tokens, and what is left after it.
-use Rattle.std.specs.Prelude.{◌≡◌, ℕ, List, [], ◌∷◌, ◌++◌, All, Contains, codes, length}
+use Rattle.std.specs.Prelude.{◌≡◌, List, ◌∷◌, ◌++◌, All, Contains, codes, length}
 use Rattle.fk_meaning.specs.declared.syntax.Part.{Part}
 use Rattle.fk_meaning.specs.declared.syntax.Sum.{Sum}
 use Rattle.fk_meaning.specs.declared.syntax.Statement.{Statement}

@@ -155,7 +155,8 @@ pub fn parse(alloc: Global, tokens: &[Token]) -> Result<Program, ReadFault>
     let names = parse_declarations(alloc, &mut cursor)?;
     parse_header(&mut cursor)?;
     let body = parse_body(alloc, &names, &mut cursor)?;
-    if !cursor.is_at_end() || count_operations(&body) > MAX_OPERATIONS {
+    cursor.expect_end()?;
+    if count_operations(&body) > MAX_OPERATIONS {
         return Err(ReadFault::NotStraight);
     }
     Ok(Program {

@@ -32,14 +32,6 @@ impl<'t, 'a> Cursor<'t, 'a> {
         Cursor { rest: tokens }
     }
 
-    /// Whether all tokens have been read.
-    pub(super) fn is_at_end(&self) -> bool
-        ensures yes { IsTrue result → self.now ≡ [] }
-        ensures not_yet { result ≡ false → ¬ (self.now ≡ []) }
-    {
-        self.rest.is_empty()
-    }
-
     /// Reads the next token, whatever it is.
     pub(super) fn next(&mut self) -> Result<Token<'a>, ReadFault>
         ensures read { IfOk result (λ token. self.old ≡ token_of token ∷ self.new) }
@@ -114,6 +106,18 @@ impl<'t, 'a> Cursor<'t, 'a> {
         match self.next()? {
             Token::Word(word) => Ok(word),
             _ => Err(ReadFault::NotStraight),
+        }
+    }
+
+    /// No token may be left.
+    pub(super) fn expect_end(&self) -> Result<(), ReadFault>
+        ensures end { IfOk result (λ _. self.now ≡ []) }
+        ensures refused { result ≡ Err ReadFault.NotStraight → ¬ (self.now ≡ []) }
+    {
+        if self.rest.is_empty() {
+            Ok(())
+        } else {
+            Err(ReadFault::NotStraight)
         }
     }
 }

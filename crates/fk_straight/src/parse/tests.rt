@@ -1,8 +1,7 @@
 use super::*;
-use std::test::Fail;
-
 use Sign::*;
 use Token::{Number, Signed, Word};
+use std::test::Fail;
 
 // sh int x; void main(void) { x = 2 + 3; putint(x); }
 const SUM: [Token; 25] = [

@@ -2,7 +2,7 @@ use Rattle.std.proofs.Common.{◌≡◌, ◌++◌, ◌∙◌, length, ap, sym, s
 use Rattle.std.proofs.lemmas.List.Elements.{All-push, All-same}
 use Rattle.fk_straight.specs.declared.token.Sign.TheVariants.{CloseBrace}
 use Rattle.fk_straight.specs.Text.{Signed}
-use Rattle.fk_straight.specs.Straight.{AreDeclared, statement_tokens, body_tokens}
+use Rattle.fk_straight.specs.Straight.{AreDeclared, body_tokens}
 use Rattle.fk_straight.specs.Reading.{Begins}
 use Rattle.fk_straight.proofs.FaultLemmas.{passed_on, pushed}
 use Rattle.fk_straight.proofs.BodyLemmas.{no_statement, body_tokens-push}

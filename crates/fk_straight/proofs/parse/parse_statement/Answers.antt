@@ -1,5 +1,5 @@
-use Rattle.std.proofs.Common.{◌≡◌, ◌∷◌, ◌++◌, ◌∙◌, codes, ap, sym}
-use Rattle.fk_straight.specs.declared.token.Sign.TheVariants.{Semicolon, Equals, OpenParenthesis}
+use Rattle.std.proofs.Common.{◌≡◌, ◌∷◌, ◌∙◌, codes}
+use Rattle.fk_straight.specs.declared.token.Sign.TheVariants.{Semicolon}
 use Rattle.fk_straight.specs.Text.{Word, Signed}
 use Rattle.fk_straight.proofs.FaultLemmas.{passed_on}
 use Rattle.fk_straight.proofs.StatementLemmas.{print_goes_on, assignment_goes_on, first_word}
@@ -10,7 +10,7 @@ returns-in_err-expect_sign-2-clause-refused c = λ e rest s begins.
     let refused = passed_on _ _ _ c.from_residual-in_err-expect_sign-2.ensures.1 c.in_err-expect_sign-2.was e in
     let word : c.args.cursor.now ≡ Word (codes "putint") ∷ c.skip_word.new.self = c.skip_word.ensures.read c.if-skip_word.true in
     let m = print_goes_on c.args.names.now c.in_ok-sum.sum c.parse_sum.new.cursor rest c.in_ok-sum.ensures.read.ends s
-          (cc (word, c.in_ok-expect_sign.ensures.read, c.in_ok-sum.ensures.read.spelled, begins.spelled)) in
+    (cc (word, c.in_ok-expect_sign.ensures.read, c.in_ok-sum.ensures.read.spelled, begins.spelled)) in
     c.expect_sign-then-skip_word.ensures.refused refused (Signed Semicolon ∷ rest, m.0)
 
 pub returns-in_err-expect_sign-3-clause-refused : goal.returns-in_err-expect_sign-3-clause-refused
@@ -18,7 +18,7 @@ returns-in_err-expect_sign-3-clause-refused c = λ e rest s begins.
     let refused = passed_on _ _ _ c.from_residual-in_err-expect_sign-3.ensures.1 c.in_err-expect_sign-3.was e in
     let word : c.args.cursor.now ≡ Word (codes "putint") ∷ c.skip_word.new.self = c.skip_word.ensures.read c.if-skip_word.true in
     let m = print_goes_on c.args.names.now c.in_ok-sum.sum c.parse_sum.new.cursor rest c.in_ok-sum.ensures.read.ends s
-          (cc (word, c.in_ok-expect_sign.ensures.read, c.in_ok-sum.ensures.read.spelled, begins.spelled)) in
+    (cc (word, c.in_ok-expect_sign.ensures.read, c.in_ok-sum.ensures.read.spelled, begins.spelled)) in
     c.expect_sign-then-skip_word-2.ensures.refused refused (rest, cc (m.0, c.in_ok-expect_sign-2.ensures.read))
 
 pub returns-in_err-name-clause-refused : goal.returns-in_err-name-clause-refused
@@ -32,5 +32,5 @@ returns-in_err-expect_sign-5-clause-refused c = λ e rest s begins.
     let refused = passed_on _ _ _ c.from_residual-in_err-expect_sign-5.ensures.1 c.in_err-expect_sign-5.was e in
     let unchanged : c.skip_word.new.self ≡ c.args.cursor.now = c.skip_word.ensures.unchanged c.if-skip_word.false in
     let m = assignment_goes_on c.args.names.now c.in_ok-sum-2.sum c.parse_sum-2.new.cursor rest c.in_ok-sum-2.ensures.read.ends c.in_ok-name.name.now s
-          (cc (unchanged, c.in_ok-name.ensures.read, c.in_ok-expect_sign-4.ensures.read, c.in_ok-sum-2.ensures.read.spelled, begins.spelled)) in
+    (cc (unchanged, c.in_ok-name.ensures.read, c.in_ok-expect_sign-4.ensures.read, c.in_ok-sum-2.ensures.read.spelled, begins.spelled)) in
     c.expect_sign-3.ensures.refused refused (rest, m.0)

@@ -1,8 +1,7 @@
-use Rattle.std.proofs.Common.{◌≡◌, ◌∷◌, ◌++◌, ◌∙◌, List, length, ap, sym}
+use Rattle.std.proofs.Common.{◌≡◌, ◌∷◌, ◌++◌, ◌∙◌, length, ap, sym}
 use Rattle.std.proofs.lemmas.List.Elements.{All-push, All-same}
-use Rattle.fk_meaning.specs.declared.syntax.Part.{Part}
 use Rattle.fk_straight.specs.declared.token.Sign.TheVariants.{Plus}
-use Rattle.fk_straight.specs.Text.{Token, Signed}
+use Rattle.fk_straight.specs.Text.{Signed}
 use Rattle.fk_straight.specs.Straight.{IsDeclared, part_token, more_tokens}
 use Rattle.fk_straight.proofs.FaultLemmas.{passed_on, pushed}
 use Rattle.fk_straight.proofs.SumLemmas.{no_part, more_tokens-push}
@@ -26,7 +25,7 @@ loop-cursor-preserved c =
       first = c.loop-cursor.invariant.first;
       others = All-same (IsDeclared (length names)) _ _ items (All-push (IsDeclared (length names)) c.loop-cursor.others.items c.in_ok-part.part c.loop-cursor.invariant.others c.in_ok-part.ensures.read.declared);
       so_far = c.loop-cursor.invariant.so_far ∙ ap (λ t. part_token names c.in_ok-first.first ∷ t) (
-            ap (λ t. more_tokens names c.loop-cursor.others.items ++ t) (plus ∙ ap (λ t. Signed Plus ∷ t) part)
+          ap (λ t. more_tokens names c.loop-cursor.others.items ++ t) (plus ∙ ap (λ t. Signed Plus ∷ t) part)
           ∙ sym (more_tokens-push names c.loop-cursor.others.items c.in_ok-part.part c.parse_part-in-loop-cursor.new.cursor)
           ∙ ap (λ ps. more_tokens names ps ++ c.parse_part-in-loop-cursor.new.cursor) (sym items));
     }
