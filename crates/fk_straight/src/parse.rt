@@ -1,13 +1,9 @@
 //! The parser of straight-line programs.
-ghost use Rattle.std.specs.Prelude.{◌≡◌, ℕ, ◌≤◌, List, ◌∷◌, Contains, IfOk, alloc_error, codes, length, map};
-ghost use Rattle.fk_meaning.specs.declared.syntax.Part.{Part as PartValue};
-ghost use Rattle.fk_meaning.specs.declared.syntax.Sum.{Sum as SumValue};
-ghost use Rattle.fk_meaning.specs.declared.syntax.Statement.{Statement as StatementValue};
-ghost use Rattle.fk_meaning.specs.declared.syntax.Program.{Program as ProgramValue};
-ghost use Rattle.fk_straight.specs.Text.{Token as Spelled, Word, Signed};
+ghost use Rattle.std.specs.Prelude.{◌≡◌, ◌≤◌, Contains, IfOk, alloc_error, codes, length, map};
+ghost use Rattle.fk_meaning.specs.declared.syntax.Program.{Program};
 ghost use Rattle.fk_straight.specs.View.{token_of};
-ghost use Rattle.fk_straight.specs.Straight.{Names as NameList, Derives};
-ghost use Rattle.fk_straight.specs.Reading.{BeginsPart, BeginsSum, BeginsStatement, BeginsBody, BeginsDeclarations, header_tokens};
+ghost use Rattle.fk_straight.specs.Straight.{Derives};
+ghost use Rattle.fk_straight.specs.Reading.{BeginsPart, BeginsSum, BeginsStatement, BeginsBody, BeginsDeclarations, NoPart, NoSum, NoStatement, NoBody, NoName, NoDeclarations, NoHeader, name_tokens, header_tokens};
 
 mod count;
 mod cursor;
@@ -33,7 +29,7 @@ fn out_of_memory<T: Drop>(_refused: AllocFailed<T>) -> ReadFault
 /// part = Name | Number
 fn parse_part(names: &Names, cursor: &mut Cursor) -> Result<Part, ReadFault>
     ensures read { IfOk result (BeginsPart names.now cursor.old cursor.new) }
-    ensures refused { result ≡ Err ReadFault.NotStraight → (rest : List Spelled) (part : PartValue) → ¬ BeginsPart names.now cursor.old rest part }
+    ensures refused { result ≡ Err ReadFault.NotStraight → NoPart names.now cursor.old }
 {
     match cursor.next()? {
         Token::Number(number) => Ok(Part::Number(number)),
@@ -48,7 +44,7 @@ fn parse_part(names: &Names, cursor: &mut Cursor) -> Result<Part, ReadFault>
 /// sum = part { "+" part }
 fn parse_sum(alloc: Global, names: &Names, cursor: &mut Cursor) -> Result<Sum, ReadFault>
     ensures read { IfOk result (BeginsSum names.now cursor.old cursor.new) }
-    ensures refused { result ≡ Err ReadFault.NotStraight → (rest : List Spelled) (sum : SumValue) → ¬ BeginsSum names.now cursor.old rest sum }
+    ensures refused { result ≡ Err ReadFault.NotStraight → NoSum names.now cursor.old }
 {
     let first = parse_part(names, cursor)?;
     let mut others = Vec::new(alloc);
@@ -67,7 +63,7 @@ fn parse_statement(
 ) -> Result<Statement, ReadFault>
     requires { ¬ Contains names.now (codes "putint") }
     ensures read { IfOk result (BeginsStatement names.now cursor.old cursor.new) }
-    ensures refused { result ≡ Err ReadFault.NotStraight → (rest : List Spelled) (statement : StatementValue) → ¬ BeginsStatement names.now cursor.old rest statement }
+    ensures refused { result ≡ Err ReadFault.NotStraight → NoStatement names.now cursor.old }
 {
     if cursor.skip_word(b"putint") {
         cursor.expect_sign(Sign::OpenParenthesis)?;
@@ -94,7 +90,7 @@ fn parse_body(
 ) -> Result<Vec<Statement>, ReadFault>
     requires { ¬ Contains names.now (codes "putint") }
     ensures read { IfOk result (λ body. BeginsBody names.now cursor.old cursor.new body.items) }
-    ensures refused { result ≡ Err ReadFault.NotStraight → (rest : List Spelled) (body : List StatementValue) → ¬ BeginsBody names.now cursor.old rest body }
+    ensures refused { result ≡ Err ReadFault.NotStraight → NoBody names.now cursor.old }
 {
     let mut body = Vec::new(alloc);
     while !cursor.skip_sign(Sign::CloseBrace) {
@@ -106,8 +102,8 @@ fn parse_body(
 
 /// "int" Name ";"
 fn parse_name<'a>(cursor: &mut Cursor<'_, 'a>) -> Result<&'a [u8], ReadFault>
-    ensures read { IfOk result (λ name. cursor.old ≡ Word (codes "int") ∷ Word name.now ∷ Signed Sign.Semicolon ∷ cursor.new) }
-    ensures refused { result ≡ Err ReadFault.NotStraight → (rest : List Spelled) (name : List ℕ) → ¬ (cursor.old ≡ Word (codes "int") ∷ Word name ∷ Signed Sign.Semicolon ∷ rest) }
+    ensures read { IfOk result (λ name. cursor.old ≡ name_tokens name.now cursor.new) }
+    ensures refused { result ≡ Err ReadFault.NotStraight → NoName cursor.old }
 {
     cursor.expect_word(b"int")?;
     let name = cursor.expect_any_word()?;
@@ -122,7 +118,7 @@ fn parse_declarations<'a>(
 ) -> Result<Names<'a>, ReadFault>
     requires { length cursor.old ≤ 1048576 }
     ensures read { IfOk result (BeginsDeclarations cursor.old cursor.new) }
-    ensures refused { result ≡ Err ReadFault.NotStraight → (rest : List Spelled) (names : NameList) → ¬ BeginsDeclarations cursor.old rest names }
+    ensures refused { result ≡ Err ReadFault.NotStraight → NoDeclarations cursor.old }
 {
     let mut names = Names::new(alloc);
     while cursor.skip_word(b"sh") {
@@ -135,7 +131,7 @@ fn parse_declarations<'a>(
 /// "void" "main" "(" "void" ")" "{"
 fn parse_header(cursor: &mut Cursor) -> Result<(), ReadFault>
     ensures read { IfOk result (λ _. cursor.old ≡ header_tokens cursor.new) }
-    ensures refused { result ≡ Err ReadFault.NotStraight → (rest : List Spelled) → ¬ (cursor.old ≡ header_tokens rest) }
+    ensures refused { result ≡ Err ReadFault.NotStraight → NoHeader cursor.old }
 {
     cursor.expect_word(b"void")?;
     cursor.expect_word(b"main")?;
@@ -149,7 +145,7 @@ fn parse_header(cursor: &mut Cursor) -> Result<(), ReadFault>
 pub fn parse(alloc: Global, tokens: &[Token]) -> Result<Program, ReadFault>
     requires { length tokens.now ≤ 1048576 }
     ensures program { IfOk result (λ p. Derives (map token_of tokens.now) p) }
-    ensures none { result ≡ Err ReadFault.NotStraight → (p : ProgramValue) → Derives (map token_of tokens.now) p → ⊥ }
+    ensures none { result ≡ Err ReadFault.NotStraight → (p : Program) → Derives (map token_of tokens.now) p → ⊥ }
 {
     let mut cursor = Cursor::new(tokens);
     let names = parse_declarations(alloc, &mut cursor)?;
