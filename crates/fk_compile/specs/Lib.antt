@@ -1,2 +1,4 @@
+pub mod Encoding
+pub mod Code
 pub mod Faithful
 pub mod Refusal

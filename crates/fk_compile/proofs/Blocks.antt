@@ -1,0 +1,383 @@
+-- Each block does its operation.
+use Rattle.std.proofs.Common.{◌≡◌, ℕ, suc, ◌+◌, ◌-◌, ◌*◌, ◌/◌, ◌%◌, ◌^◌, ◌<◌, ◌≤◌, List, [], ◌∷◌, ◌++◌, length, Bool, true, false, sym, ap, ◌∙◌, arith, refl, eq-eqb, ◌⊎◌, inl, inr}
+use Rattle.std.proofs.lemmas.Bool.{cases_lt}
+use Rattle.std.proofs.lemmas.Bool.Decides.{nat_tests}
+use Rattle.std.specs.Prelude.{◌==◌, nat_lt, nat_le, ◌&&◌, if◌then◌else◌}
+use Rattle.fk_num.specs.Word.{Memory, put, word, word_sum, signed_line}
+use Rattle.fk_meaning.specs.declared.operations.Operation.{Operation}
+use Rattle.fk_meaning.specs.declared.operations.Operation.TheVariants.{PushNumber, PushAddress, Add, DropLast, ReadWord, WriteWord, PrintNumber, Halt}
+use Rattle.fk_meaning.specs.Operation.{Class, Local, Request, Tree, class_of, local, address_of}
+use Rattle.fk_meaning.specs.Serve.{Store, Answer, Served, FaultAt, serve, index_at}
+use Rattle.fk_machine.specs.declared.instruction.Instruction.TheVariants as instruction
+use Rattle.fk_machine.specs.declared.place.Device.TheVariants as device
+use Rattle.fk_machine.specs.declared.place.Place.TheVariants.{SharedWord, LocalWord, DeviceWord}
+use Rattle.fk_machine.specs.Hart.{Hart, Shared, Setting, Goes, place_of, device_at, writes, moves, load, store, perform}
+use Rattle.fk_compile.specs.Code.{Block, block, push_block, upper, lower}
+use Rattle.fk_compile.proofs.Walk.{local_index, IsLocalAddress, after, walk, AreQuiet, quiet_performs}
+
+-- ---- what a block has to do
+
+-- the machine's shared state of a store; the blocks leave its control words as they are
+abbrev pub shared_of : Memory → Store → Shared
+shared_of control s = record { words = s.words; control = control; output = s.output }
+
+-- what an operation does to the store and to the value list
+abbrev pub effect_by : Class → Operation → Store → List ℕ → Answer
+effect_by Local op s vs = Served s (local op vs)
+effect_by Request op s vs = serve op s vs
+effect_by Tree op s vs = Served s vs
+
+abbrev pub effect : Operation → Store → List ℕ → Answer
+effect op s vs = effect_by (class_of op) op s vs
+
+-- the value list stands in the local memory, its last value highest
+abbrev pub HasValues : Memory → List ℕ → Type 0
+HasValues memory [] = Unit {0}
+HasValues memory (v ∷ vs) = (memory (length vs) ≡ v) × HasValues memory vs
+
+-- an address of shared data
+abbrev pub IsAddress : ℕ → Type 0
+IsAddress a = (x : ℕ) × (x < 1048576) × (a ≡ 0x10000000 + 4 * x)
+
+-- for each value whether it is known to be an address of shared data
+abbrev pub Shape : Type 0
+Shape = List Bool
+
+abbrev pub IsLike : Bool → ℕ → Type 0
+IsLike true v = IsAddress v
+IsLike false v = Unit {0}
+
+abbrev pub HasShape : Shape → List ℕ → Type 0
+HasShape [] [] = Unit {0}
+HasShape (b ∷ shape) (v ∷ vs) = IsLike b v × HasShape shape vs
+HasShape [] (v ∷ vs) = ⊥
+HasShape (b ∷ shape) [] = ⊥
+
+abbrev pub shape_after : Operation → Shape → Shape
+shape_after (PushNumber n) shape = false ∷ shape
+shape_after (PushAddress x) shape = true ∷ shape
+shape_after Add (b ∷ a ∷ shape) = false ∷ shape
+shape_after DropLast (v ∷ shape) = shape
+shape_after ReadWord (a ∷ shape) = false ∷ shape
+shape_after WriteWord (v ∷ a ∷ shape) = false ∷ shape
+shape_after PrintNumber (v ∷ shape) = shape
+shape_after op shape = shape
+
+-- an operation finds the values that it takes, and room for those that it pushes
+abbrev pub IsReady : Operation → Shape → Type 0
+IsReady (PushNumber n) shape = length shape < 500
+IsReady (PushAddress x) shape = (length shape < 500) × (x < 1048576)
+IsReady Add (b ∷ a ∷ shape) = length shape < 500
+IsReady DropLast (v ∷ shape) = Unit {0}
+IsReady ReadWord (true ∷ shape) = length shape < 500
+IsReady WriteWord (v ∷ true ∷ shape) = length shape < 500
+IsReady PrintNumber (v ∷ shape) = length shape < 500
+IsReady Halt shape = Unit {0}
+IsReady op shape = ⊥
+
+-- `halt` is the one operation that ends a hart
+abbrev pub is_halt : Operation → Bool
+is_halt (PushNumber n) = false
+is_halt (PushAddress x) = false
+is_halt Add = false
+is_halt DropLast = false
+is_halt ReadWord = false
+is_halt WriteWord = false
+is_halt PrintNumber = false
+is_halt Halt = true
+
+-- the commit does the whole effect on the shared state, and after the rest of the block the local memory holds the new values
+pub record Commits (b : Block) (op : Operation) (committing : Hart) (s : Store) (vs : List ℕ) : Type 0 where
+  pub next_hart : Hart
+  pub s' : Store
+  pub vs' : List ℕ
+  pub serves : effect op s vs ≡ Served s' vs'
+  pub performs : (t : Setting) (control : Memory) (number : ℕ) → perform t number b.commit committing (shared_of control s) ≡ Goes next_hart (shared_of control s')
+  pub pc : next_hart.pc ≡ committing.pc + 4
+  pub ended : next_hart.ended ≡ is_halt op
+  pub quiet : AreQuiet b.after next_hart
+  pub holds : HasValues (walk b.after next_hart).local vs'
+
+pub record Does (b : Block) (op : Operation) (h : Hart) (vs : List ℕ) : Type 0 where
+  pub quiet : AreQuiet b.before h
+  pub commits : (s : Store) → Commits b op (walk b.before h) s vs
+
+-- ---- addresses
+
+local_at : (a : ℕ) → (a % 4 == 0) ≡ true → (nat_le 0x10000000 a && nat_lt a (0x10000000 + 4 * 2 ^ 20)) ≡ false → (nat_le 0x18000000 a && nat_lt a (0x18000000 + 4 * (2 ^ 20 + 64))) ≡ false → (nat_le 0x20000000 a && nat_lt a (0x20000000 + 4 * 32768)) ≡ true → place_of a ≡ LocalWord ((a - 0x20000000) / 4)
+unfolding place_of
+local_at a e0 e1 e2 e3 = rw (e0, e1, e2, e3)
+
+shared_at : (a : ℕ) → (a % 4 == 0) ≡ true → (nat_le 0x10000000 a && nat_lt a (0x10000000 + 4 * 2 ^ 20)) ≡ true → place_of a ≡ SharedWord ((a - 0x10000000) / 4)
+unfolding place_of
+shared_at a e0 e1 = rw (e0, e1)
+
+within : (a lo hi : ℕ) → lo ≤ a → a < hi → (nat_le lo a && nat_lt a hi) ≡ true
+within a lo hi p q = grind (arith, nat_tests)
+
+above : (a lo hi : ℕ) → hi ≤ a → (nat_le lo a && nat_lt a hi) ≡ false
+above a lo hi p = grind (arith, nat_tests)
+
+local_from : (a d : ℕ) → d < 512 → a ≡ 536870912 + 4 * d → IsLocalAddress a
+local_from a d lt e =
+    local_at a (eq-eqb (a % 4) 0 (omega arith)) (above a 268435456 272629760 (omega arith)) (above a 402653184 406847744 (omega arith))
+      (within a 536870912 537001984 (omega arith) (omega arith))
+
+pub local_place : (d : ℕ) → d < 512 → IsLocalAddress (word_sum 536870912 (4 * d))
+local_place d lt = local_from _ d lt (omega arith)
+
+pub local_word : (d k : ℕ) → d < 512 → d ≡ k → local_index (word_sum 536870912 (4 * d)) ≡ k
+local_word d k lt e = omega arith
+
+shared_place : (a x : ℕ) → x < 1048576 → a ≡ 0x10000000 + 4 * x → place_of a ≡ SharedWord (index_at a)
+shared_place a x lt e = shared_at a (eq-eqb (a % 4) 0 (omega arith)) (within a 268435456 272629760 (omega arith) (omega arith))
+
+output_place : place_of 805306368 ≡ DeviceWord device.OutInt
+unfolding place_of device_at
+output_place = refl
+
+halt_place : place_of 805306380 ≡ DeviceWord device.Halt
+unfolding place_of device_at
+halt_place = refl
+
+-- ---- values
+
+put_same : (m : Memory) (i v j : ℕ) → j ≡ i → put m i v j ≡ v
+put_same m i v j e = rw (eq-eqb j i e)
+
+apart : (i j : ℕ) → j < i → (j == i) ≡ false
+apart i j lt = grind (arith, nat_tests)
+
+put_other : (m : Memory) (i v j : ℕ) → j < i → put m i v j ≡ m j
+put_other m i v j lt = rw (apart i j lt)
+
+values_put : (m : Memory) (i v : ℕ) (vs : List ℕ) → length vs ≤ i → HasValues m vs → HasValues (put m i v) vs
+values_put m i v [] le held = tt
+values_put m i v (w ∷ vs) le held =
+    (put_other m i v (length vs) (omega arith) ∙ held.0, values_put m i v vs (omega arith) held.1)
+
+values_push : (m : Memory) (i v w : ℕ) (vs : List ℕ) → i ≡ length vs → v ≡ w → HasValues m vs → HasValues (put m i v) (w ∷ vs)
+values_push m i v w vs e f held =
+    (put_same m i v (length vs) (sym e) ∙ f, values_put m i v vs (omega arith) held)
+
+-- ---- the blocks
+
+push_does : (op : Operation) (n v d : ℕ) (vs : List ℕ) (h : Hart) → d ≡ length vs → d < 500 → h.ended ≡ false → HasValues h.local vs → word_sum (upper n * 4096) (lower n) ≡ v → ((s : Store) → effect op s vs ≡ Served s (v ∷ vs)) → is_halt op ≡ false → Does (push_block d n) op h vs
+push_does op n v d vs h e lt live held value does goes_on = record {
+  quiet = (tt, (tt, (tt, tt)));
+  commits = λ s. record {
+    next_hart = after (push_block d n).commit (walk (push_block d n).before h);
+    s' = s;
+    vs' = v ∷ vs;
+    serves = does s;
+    performs = λ t control number. quiet_performs (push_block d n).commit (walk (push_block d n).before h) (local_place d (omega arith)) t number (shared_of control s);
+    pc = refl;
+    ended = live ∙ sym goes_on;
+    quiet = tt;
+    holds = values_push h.local _ _ v vs (local_word d (length vs) (omega arith) e) value held;
+  };
+}
+
+lt-yes : (a b : ℕ) → a < b → nat_lt a b ≡ true
+lt-yes a b lt = grind (arith, nat_tests)
+
+lt-not : (a b : ℕ) → b ≤ a → nat_lt a b ≡ false
+lt-not a b le = grind (arith, nat_tests)
+
+-- the two parts of a number make its word
+parts_of : (n : ℕ) → word_sum (upper n * 4096) (lower n) ≡ word n
+parts_of n = split n (cases_lt (n % 4096) 2048)
+  where
+    split : (n : ℕ) → ((n % 4096 < 2048) ⊎ (2048 ≤ n % 4096)) → word_sum (upper n * 4096) (lower n) ≡ word n
+    split n (inl lt) = rw (lt-yes (n % 4096) 2048 lt) (omega arith)
+    split n (inr le) = rw (lt-not (n % 4096) 2048 le) (omega arith)
+
+number_does : (n d : ℕ) (vs : List ℕ) (h : Hart) → d ≡ length vs → d < 500 → h.ended ≡ false → HasValues h.local vs → Does (block d (PushNumber n)) (PushNumber n) h vs
+number_does n d vs h e lt live held = push_does (PushNumber n) n (word n) d vs h e lt live held (parts_of n) (λ s. refl) refl
+
+address_does : (x d : ℕ) (vs : List ℕ) (h : Hart) → d ≡ length vs → d < 500 → x < 1048576 → h.ended ≡ false → HasValues h.local vs → Does (block d (PushAddress x)) (PushAddress x) h vs
+address_does x d vs h e lt small live held =
+    let w : word (word (address_of x)) ≡ address_of x = omega arith in
+    push_does (PushAddress x) (word (address_of x)) (address_of x) d vs h e lt live held (parts_of (word (address_of x)) ∙ w) (λ s. refl) refl
+
+sums : {a b c d : ℕ} → a ≡ c → b ≡ d → word_sum a b ≡ word_sum c d
+sums {b = b} {c = c} e f = ap (λ x. word_sum x b) e ∙ ap (word_sum c) f
+
+add_does : (d a b : ℕ) (vs : List ℕ) (h : Hart) → d ≡ length vs + 2 → length vs < 500 → h.ended ≡ false → HasValues h.local (b ∷ a ∷ vs) → Does (block d Add) Add h (b ∷ a ∷ vs)
+add_does d a b vs h e lt live held =
+    let low = local_place (d - 2) (omega arith) in
+    let high = local_place (d - 1) (omega arith) in
+    let va = ap h.local (local_word (d - 2) (length vs) (omega arith) (omega arith)) ∙ held.1.0 in
+    let vb = ap h.local (local_word (d - 1) (suc (length vs)) (omega arith) (omega arith)) ∙ held.0 in
+    record {
+      quiet = (tt, (low, (high, (tt, tt))));
+      commits = λ s. record {
+        next_hart = after (block d Add).commit (walk (block d Add).before h);
+        s' = s;
+        vs' = word_sum a b ∷ vs;
+        serves = refl;
+        performs = λ t control number. quiet_performs (block d Add).commit (walk (block d Add).before h) low t number (shared_of control s);
+        pc = refl;
+        ended = live;
+        quiet = tt;
+        holds = values_push h.local _ _ _ vs (local_word (d - 2) (length vs) (omega arith) (omega arith)) (sums va vb) held.1.1;
+      };
+    }
+
+drop_does : (d v : ℕ) (vs : List ℕ) (h : Hart) → h.ended ≡ false → HasValues h.local (v ∷ vs) → Does (block d DropLast) DropLast h (v ∷ vs)
+drop_does d v vs h live held = record {
+  quiet = tt;
+  commits = λ s. record {
+    next_hart = after (block d DropLast).commit h;
+    s' = s;
+    vs' = vs;
+    serves = refl;
+    performs = λ t control number. refl;
+    pc = refl;
+    ended = live;
+    quiet = tt;
+    holds = held.1;
+  };
+}
+
+read_does : (d a x : ℕ) (vs : List ℕ) (h : Hart) → d ≡ length vs + 1 → length vs < 500 → x < 1048576 → a ≡ 0x10000000 + 4 * x → h.ended ≡ false → HasValues h.local (a ∷ vs) → Does (block d ReadWord) ReadWord h (a ∷ vs)
+read_does d a x vs h e lt small address live held =
+    let top = local_place (d - 1) (omega arith) in
+    let va = ap h.local (local_word (d - 1) (length vs) (omega arith) (omega arith)) ∙ held.0 in
+    record {
+      quiet = (tt, (top, tt));
+      commits = λ s.
+        let committing = walk (block d ReadWord).before h in
+        let place : place_of (word_sum (committing.registers 5) 0) ≡ SharedWord (index_at a) =
+          let same : word_sum a 0 ≡ a = omega arith in
+          ap (λ v. place_of (word_sum v 0)) va ∙ ap place_of same ∙ shared_place a x small address in
+        record {
+          next_hart = writes committing 5 (s.words (index_at a));
+          s' = s;
+          vs' = s.words (index_at a) ∷ vs;
+          serves = refl;
+          performs = λ t control number. ap (load t number committing (shared_of control s) 5) place;
+          pc = refl;
+          ended = live;
+          quiet = (top, tt);
+          holds = values_push h.local _ _ _ vs (local_word (d - 1) (length vs) (omega arith) (omega arith)) refl held.1;
+        };
+    }
+
+write_does : (d v a x : ℕ) (vs : List ℕ) (h : Hart) → d ≡ length vs + 2 → length vs < 500 → x < 1048576 → a ≡ 0x10000000 + 4 * x → h.ended ≡ false → HasValues h.local (v ∷ a ∷ vs) → Does (block d WriteWord) WriteWord h (v ∷ a ∷ vs)
+write_does d v a x vs h e lt small address live held =
+    let low = local_place (d - 2) (omega arith) in
+    let high = local_place (d - 1) (omega arith) in
+    let va = ap h.local (local_word (d - 2) (length vs) (omega arith) (omega arith)) ∙ held.1.0 in
+    let vv = ap h.local (local_word (d - 1) (suc (length vs)) (omega arith) (omega arith)) ∙ held.0 in
+    record {
+      quiet = (tt, (high, (low, tt)));
+      commits = λ s.
+        let committing = walk (block d WriteWord).before h in
+        let place : place_of (word_sum (committing.registers 7) 0) ≡ SharedWord (index_at a) =
+          let same : word_sum a 0 ≡ a = omega arith in
+          ap (λ w. place_of (word_sum w 0)) va ∙ ap place_of same ∙ shared_place a x small address in
+        record {
+          next_hart = moves committing (committing.pc + 4);
+          s' = record { words = put s.words (index_at a) v; output = s.output };
+          vs' = v ∷ vs;
+          serves = refl;
+          performs = λ t control number.
+            ap (store number committing (shared_of control s) (committing.registers 5)) place
+            ∙ ap (λ w. Goes (moves committing (committing.pc + 4)) (record { words = put s.words (index_at a) w; control = control; output = s.output })) vv;
+          pc = refl;
+          ended = live;
+          quiet = (low, tt);
+          holds = values_push h.local _ _ _ vs (local_word (d - 2) (length vs) (omega arith) (omega arith)) vv held.1.1;
+        };
+    }
+
+print_does : (d v : ℕ) (vs : List ℕ) (h : Hart) → d ≡ length vs + 1 → length vs < 500 → h.ended ≡ false → HasValues h.local (v ∷ vs) → Does (block d PrintNumber) PrintNumber h (v ∷ vs)
+print_does d v vs h e lt live held =
+    let top = local_place (d - 1) (omega arith) in
+    let vv = ap h.local (local_word (d - 1) (length vs) (omega arith) (omega arith)) ∙ held.0 in
+    record {
+      quiet = (tt, (top, (tt, tt)));
+      commits = λ s.
+        let committing = walk (block d PrintNumber).before h in
+        record {
+          next_hart = moves committing (committing.pc + 4);
+          s' = record { words = s.words; output = s.output ++ signed_line v };
+          vs' = vs;
+          serves = refl;
+          performs = λ t control number.
+            ap (store number committing (shared_of control s) (committing.registers 5)) output_place
+            ∙ ap (λ w. Goes (moves committing (committing.pc + 4)) (record { words = s.words; control = control; output = s.output ++ signed_line w })) vv;
+          pc = refl;
+          ended = live;
+          quiet = tt;
+          holds = held.1;
+        };
+    }
+
+halt_does : (d : ℕ) (vs : List ℕ) (h : Hart) → HasValues h.local vs → Does (block d Halt) Halt h vs
+halt_does d vs h held = record {
+  quiet = (tt, tt);
+  commits = λ s.
+    let committing = walk (block d Halt).before h in
+    record {
+      next_hart = record { registers = committing.registers; pc = committing.pc + 4; local = committing.local; ended = true };
+      s' = s;
+      vs' = vs;
+      serves = refl;
+      performs = λ t control number. ap (store number committing (shared_of control s) (committing.registers 0)) halt_place;
+      pc = refl;
+      ended = refl;
+      quiet = tt;
+      holds = held;
+    };
+}
+
+-- ---- all of them
+
+pub length-shape : (shape : Shape) (vs : List ℕ) → HasShape shape vs → length shape ≡ length vs
+length-shape [] [] has = refl
+length-shape (b ∷ shape) (v ∷ vs) has = ap suc (length-shape shape vs has.1)
+length-shape [] (v ∷ vs) has = absurd has
+length-shape (b ∷ shape) [] has = absurd has
+
+pub block_does : (op : Operation) (shape : Shape) (vs : List ℕ) (h : Hart) → IsReady op shape → HasShape shape vs → h.ended ≡ false → HasValues h.local vs → Does (block (length shape) op) op h vs
+block_does (PushNumber n) shape vs h ready has live held = number_does n (length shape) vs h (length-shape shape vs has) ready live held
+block_does (PushAddress x) shape vs h ready has live held = address_does x (length shape) vs h (length-shape shape vs has) ready.0 ready.1 live held
+block_does Add (r ∷ q ∷ shape) (b ∷ a ∷ vs) h ready has live held =
+    let e = length-shape shape vs has.1.1 in add_does (length (r ∷ q ∷ shape)) a b vs h (omega arith) (omega arith) live held
+block_does DropLast (q ∷ shape) (v ∷ vs) h ready has live held = drop_does (length (q ∷ shape)) v vs h live held
+block_does ReadWord (true ∷ shape) (a ∷ vs) h ready has live held =
+    let e = length-shape shape vs has.1 in read_does (length (true ∷ shape)) a has.0.0 vs h (omega arith) (omega arith) has.0.1 has.0.2 live held
+block_does WriteWord (q ∷ true ∷ shape) (v ∷ a ∷ vs) h ready has live held =
+    let e = length-shape shape vs has.1.1 in write_does (length (q ∷ true ∷ shape)) v a has.1.0.0 vs h (omega arith) (omega arith) has.1.0.1 has.1.0.2 live held
+block_does PrintNumber (q ∷ shape) (v ∷ vs) h ready has live held =
+    let e = length-shape shape vs has.1 in print_does (length (q ∷ shape)) v vs h (omega arith) (omega arith) live held
+block_does Halt shape vs h ready has live held = halt_does (length shape) vs h held
+block_does op shape vs h ready has live held = absurd (assumption ready)
+
+abbrev pub Fitting : Shape → Answer → Type 0
+Fitting shape (Served s vs) = HasShape shape vs
+Fitting shape (FaultAt site) = Unit {0}
+
+-- the shape is kept
+pub shape_kept : (op : Operation) (shape : Shape) (s : Store) (vs : List ℕ) → IsReady op shape → HasShape shape vs → Fitting (shape_after op shape) (effect op s vs)
+shape_kept (PushNumber n) shape s vs ready has = (tt, has)
+shape_kept (PushAddress x) shape s vs ready has = ((x, ready.1, refl), has)
+shape_kept Add (r ∷ q ∷ shape) s (b ∷ a ∷ vs) ready has = (tt, has.1.1)
+shape_kept DropLast (q ∷ shape) s (v ∷ vs) ready has = has.1
+shape_kept ReadWord (true ∷ shape) s (a ∷ vs) ready has = (tt, has.1)
+shape_kept WriteWord (q ∷ true ∷ shape) s (v ∷ a ∷ vs) ready has = (tt, has.1.1)
+shape_kept PrintNumber (q ∷ shape) s (v ∷ vs) ready has = has.1
+shape_kept Halt shape s vs ready has = has
+shape_kept op shape s vs ready has = absurd (assumption ready)
+
+pub short_block : (op : Operation) (d : ℕ) → (length (block d op).before ≤ 4) × (length (block d op).after ≤ 1)
+short_block (PushNumber x) d = omega arith
+short_block (PushAddress x) d = omega arith
+short_block Add d = omega arith
+short_block DropLast d = omega arith
+short_block ReadWord d = omega arith
+short_block WriteWord d = omega arith
+short_block PrintNumber d = omega arith
+short_block Halt d = omega arith

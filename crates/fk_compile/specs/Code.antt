@@ -1,0 +1,108 @@
+-- The block of each operation, and the code and commit table of a list of blocks.
+use Rattle.std.specs.Prelude.{ℕ, ◌+◌, ◌-◌, ◌*◌, ◌/◌, ◌%◌, List, [], ◌∷◌, ◌++◌, Bool, true, false, cond, map, Option, Some}
+use Rattle.fk_num.specs.Word.{word}
+use Rattle.fk_meaning.specs.declared.operations.Operation.{Operation}
+use Rattle.fk_meaning.specs.declared.operations.Operation.TheVariants as operation
+use Rattle.fk_meaning.specs.Operation.{address_of}
+use Rattle.fk_machine.specs.declared.instruction.Instruction.{Instruction}
+use Rattle.fk_machine.specs.declared.instruction.Instruction.TheVariants.{Lui, Addi, Add, Lw, Sw}
+use Rattle.fk_machine.specs.Row.{extended}
+use Rattle.fk_compile.specs.declared.marked.Marked.{Marked}
+
+-- a block runs straight: what precedes its commit, the commit, and what follows it
+pub record Block : Type 0 where
+  pub before : List Instruction
+  pub commit : Instruction
+  pub after : List Instruction
+
+-- the registers of the blocks
+abbrev pub t0 : ℕ
+t0 = 5
+
+abbrev pub t1 : ℕ
+t1 = 6
+
+abbrev pub t2 : ℕ
+t2 = 7
+
+-- a number is its upper 20 bits, shifted, and a signed rest
+abbrev pub upper : ℕ → ℕ
+upper n = (n + 2048) / 4096 % 1048576
+
+abbrev pub lower : ℕ → ℕ
+lower n = extended 12 (n % 4096)
+
+-- value i of the value list, counted from its first, stands in word i of the local memory
+abbrev pub push_block : ℕ → ℕ → Block
+push_block d n =
+    record {
+      before = Lui t1 0x20000 ∷ Lui t0 (upper n) ∷ Addi t0 t0 (lower n) ∷ [];
+      commit = Sw t1 t0 (4 * d);
+      after = [];
+    }
+
+-- the block of an operation where the value list has d values before it
+abbrev pub block : ℕ → Operation → Block
+block d (operation.PushNumber n) = push_block d n
+block d (operation.PushAddress x) = push_block d (word (address_of x))
+block d operation.Add =
+    record {
+      before = Lui t1 0x20000 ∷ Lw t0 t1 (4 * (d - 2)) ∷ Lw t2 t1 (4 * (d - 1)) ∷ Add t0 t0 t2 ∷ [];
+      commit = Sw t1 t0 (4 * (d - 2));
+      after = [];
+    }
+block d operation.DropLast = record { before = []; commit = Addi 0 0 0; after = [] }
+block d operation.ReadWord =
+    record {
+      before = Lui t1 0x20000 ∷ Lw t0 t1 (4 * (d - 1)) ∷ [];
+      commit = Lw t0 t0 0;
+      after = Sw t1 t0 (4 * (d - 1)) ∷ [];
+    }
+block d operation.WriteWord =
+    record {
+      before = Lui t1 0x20000 ∷ Lw t0 t1 (4 * (d - 1)) ∷ Lw t2 t1 (4 * (d - 2)) ∷ [];
+      commit = Sw t2 t0 0;
+      after = Sw t1 t0 (4 * (d - 2)) ∷ [];
+    }
+block d operation.PrintNumber =
+    record {
+      before = Lui t1 0x20000 ∷ Lw t0 t1 (4 * (d - 1)) ∷ Lui t2 0x30000 ∷ [];
+      commit = Sw t2 t0 0;
+      after = [];
+    }
+block d operation.Halt = record { before = Lui t0 0x30000 ∷ []; commit = Sw t0 0 12; after = [] }
+
+-- how many values there are after an operation
+abbrev pub depth_after : Operation → ℕ → ℕ
+depth_after (operation.PushNumber n) d = d + 1
+depth_after (operation.PushAddress x) d = d + 1
+depth_after operation.Add d = d - 1
+depth_after operation.DropLast d = d - 1
+depth_after operation.ReadWord d = d
+depth_after operation.WriteWord d = d - 1
+depth_after operation.PrintNumber d = d - 1
+depth_after operation.Halt d = d
+
+-- an instruction that does no operation
+abbrev pub plain : Instruction → Marked
+plain i = record { instruction = i; commits = false }
+
+abbrev pub committing : Instruction → Marked
+committing i = record { instruction = i; commits = true }
+
+abbrev pub marked : Block → List Marked
+marked b = map plain b.before ++ (committing b.commit ∷ map plain b.after)
+
+-- the blocks of operations, from a number of values on
+abbrev pub all_marked : ℕ → List Operation → List Marked
+all_marked d [] = []
+all_marked d (op ∷ ops) = marked (block d op) ++ all_marked (depth_after op d) ops
+
+-- the commit table from word k on: the address of each instruction that commits, with its count, 1
+abbrev pub commits_from : ℕ → List Marked → List (ℕ × ℕ)
+commits_from k [] = []
+commits_from k (m ∷ code) = cond m.commits ((4 * k, 1) ∷ commits_from (k + 1) code) (commits_from (k + 1) code)
+
+-- the instructions as a machine reads them
+abbrev pub rows : List Marked → List (Option Instruction)
+rows code = map (λ m. Some m.instruction) code
