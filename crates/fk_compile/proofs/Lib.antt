@@ -6,3 +6,5 @@ pub mod Linked
 pub mod Rounds
 pub mod Printed
 pub mod Cycles
+pub mod Runs
+pub mod Pace
