@@ -8,3 +8,8 @@ pub mod Printed
 pub mod Cycles
 pub mod Runs
 pub mod Pace
+pub mod Theorem
+pub mod Ready
+pub mod Places
+pub mod Limits
+pub mod Generated
