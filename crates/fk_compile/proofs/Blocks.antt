@@ -1,6 +1,6 @@
 -- Each block does its operation.
 use Rattle.std.proofs.Common.{◌≡◌, ℕ, suc, ◌+◌, ◌-◌, ◌*◌, ◌/◌, ◌%◌, ◌^◌, ◌<◌, ◌≤◌, List, [], ◌∷◌, ◌++◌, length, Bool, true, false, sym, ap, ◌∙◌, arith, refl, eq-eqb, ◌⊎◌, inl, inr}
-use Rattle.std.proofs.lemmas.Bool.{cases_lt}
+use Rattle.std.proofs.lemmas.Bool.{cases_lt, lt-ltb, le-ltb, ne_eqb}
 use Rattle.std.proofs.lemmas.Bool.Decides.{nat_tests}
 use Rattle.std.specs.Prelude.{◌==◌, nat_lt, nat_le, ◌&&◌, if◌then◌else◌}
 use Rattle.fk_num.specs.Word.{Memory, put, word, word_sum, signed_line}
@@ -12,7 +12,7 @@ use Rattle.fk_machine.specs.declared.instruction.Instruction.TheVariants as inst
 use Rattle.fk_machine.specs.declared.place.Device.TheVariants as device
 use Rattle.fk_machine.specs.declared.place.Place.TheVariants.{SharedWord, LocalWord, DeviceWord}
 use Rattle.fk_machine.specs.Hart.{Hart, Shared, Setting, Goes, place_of, device_at, writes, moves, load, store, perform}
-use Rattle.fk_compile.specs.Code.{Block, block, push_block, upper, lower}
+use Rattle.fk_compile.specs.Code.{Block, block, push_block, high_part, low_part}
 use Rattle.fk_compile.proofs.Walk.{local_index, IsLocalAddress, after, walk, AreQuiet, quiet_performs}
 
 -- ---- what a block has to do
@@ -121,7 +121,7 @@ above a lo hi p = grind (arith, nat_tests)
 local_from : (a d : ℕ) → d < 512 → a ≡ 536870912 + 4 * d → IsLocalAddress a
 local_from a d lt e =
     local_at a (eq-eqb (a % 4) 0 (omega arith)) (above a 268435456 272629760 (omega arith)) (above a 402653184 406847744 (omega arith))
-      (within a 536870912 537001984 (omega arith) (omega arith))
+    (within a 536870912 537001984 (omega arith) (omega arith))
 
 pub local_place : (d : ℕ) → d < 512 → IsLocalAddress (word_sum 536870912 (4 * d))
 local_place d lt = local_from _ d lt (omega arith)
@@ -145,11 +145,8 @@ halt_place = refl
 put_same : (m : Memory) (i v j : ℕ) → j ≡ i → put m i v j ≡ v
 put_same m i v j e = rw (eq-eqb j i e)
 
-apart : (i j : ℕ) → j < i → (j == i) ≡ false
-apart i j lt = grind (arith, nat_tests)
-
 put_other : (m : Memory) (i v j : ℕ) → j < i → put m i v j ≡ m j
-put_other m i v j lt = rw (apart i j lt)
+put_other m i v j lt = rw (ne_eqb j i (λ e. omega arith))
 
 values_put : (m : Memory) (i v : ℕ) (vs : List ℕ) → length vs ≤ i → HasValues m vs → HasValues (put m i v) vs
 values_put m i v [] le held = tt
@@ -162,7 +159,7 @@ values_push m i v w vs e f held =
 
 -- ---- the blocks
 
-push_does : (op : Operation) (n v d : ℕ) (vs : List ℕ) (h : Hart) → d ≡ length vs → d < 500 → h.ended ≡ false → HasValues h.local vs → word_sum (upper n * 4096) (lower n) ≡ v → ((s : Store) → effect op s vs ≡ Served s (v ∷ vs)) → is_halt op ≡ false → Does (push_block d n) op h vs
+push_does : (op : Operation) (n v d : ℕ) (vs : List ℕ) (h : Hart) → d ≡ length vs → d < 500 → h.ended ≡ false → HasValues h.local vs → word_sum (high_part n * 4096) (low_part n) ≡ v → ((s : Store) → effect op s vs ≡ Served s (v ∷ vs)) → is_halt op ≡ false → Does (push_block d n) op h vs
 push_does op n v d vs h e lt live held value does goes_on = record {
   quiet = (tt, (tt, (tt, tt)));
   commits = λ s. record {
@@ -178,19 +175,13 @@ push_does op n v d vs h e lt live held value does goes_on = record {
   };
 }
 
-lt-yes : (a b : ℕ) → a < b → nat_lt a b ≡ true
-lt-yes a b lt = grind (arith, nat_tests)
-
-lt-not : (a b : ℕ) → b ≤ a → nat_lt a b ≡ false
-lt-not a b le = grind (arith, nat_tests)
-
 -- the two parts of a number make its word
-parts_of : (n : ℕ) → word_sum (upper n * 4096) (lower n) ≡ word n
+parts_of : (n : ℕ) → word_sum (high_part n * 4096) (low_part n) ≡ word n
 parts_of n = split n (cases_lt (n % 4096) 2048)
   where
-    split : (n : ℕ) → ((n % 4096 < 2048) ⊎ (2048 ≤ n % 4096)) → word_sum (upper n * 4096) (lower n) ≡ word n
-    split n (inl lt) = rw (lt-yes (n % 4096) 2048 lt) (omega arith)
-    split n (inr le) = rw (lt-not (n % 4096) 2048 le) (omega arith)
+    split : (n : ℕ) → ((n % 4096 < 2048) ⊎ (2048 ≤ n % 4096)) → word_sum (high_part n * 4096) (low_part n) ≡ word n
+    split n (inl lt) = rw (lt-ltb (n % 4096) 2048 lt) (omega arith)
+    split n (inr le) = rw (le-ltb (n % 4096) 2048 le) (omega arith)
 
 number_does : (n d : ℕ) (vs : List ℕ) (h : Hart) → d ≡ length vs → d < 500 → h.ended ≡ false → HasValues h.local vs → Does (block d (PushNumber n)) (PushNumber n) h vs
 number_does n d vs h e lt live held = push_does (PushNumber n) n (word n) d vs h e lt live held (parts_of n) (λ s. refl) refl
@@ -247,21 +238,21 @@ read_does d a x vs h e lt small address live held =
     record {
       quiet = (tt, (top, tt));
       commits = λ s.
-        let committing = walk (block d ReadWord).before h in
-        let place : place_of (word_sum (committing.registers 5) 0) ≡ SharedWord (index_at a) =
+          let committing = walk (block d ReadWord).before h in
+          let place : place_of (word_sum (committing.registers 5) 0) ≡ SharedWord (index_at a) =
           let same : word_sum a 0 ≡ a = omega arith in
           ap (λ v. place_of (word_sum v 0)) va ∙ ap place_of same ∙ shared_place a x small address in
-        record {
-          next_hart = writes committing 5 (s.words (index_at a));
-          s' = s;
-          vs' = s.words (index_at a) ∷ vs;
-          serves = refl;
-          performs = λ t control number. ap (load t number committing (shared_of control s) 5) place;
-          pc = refl;
-          ended = live;
-          quiet = (top, tt);
-          holds = values_push h.local _ _ _ vs (local_word (d - 1) (length vs) (omega arith) (omega arith)) refl held.1;
-        };
+          record {
+            next_hart = writes committing 5 (s.words (index_at a));
+            s' = s;
+            vs' = s.words (index_at a) ∷ vs;
+            serves = refl;
+            performs = λ t control number. ap (load t number committing (shared_of control s) 5) place;
+            pc = refl;
+            ended = live;
+            quiet = (top, tt);
+            holds = values_push h.local _ _ _ vs (local_word (d - 1) (length vs) (omega arith) (omega arith)) refl held.1;
+          };
     }
 
 write_does : (d v a x : ℕ) (vs : List ℕ) (h : Hart) → d ≡ length vs + 2 → length vs < 500 → x < 1048576 → a ≡ 0x10000000 + 4 * x → h.ended ≡ false → HasValues h.local (v ∷ a ∷ vs) → Does (block d WriteWord) WriteWord h (v ∷ a ∷ vs)
@@ -273,23 +264,23 @@ write_does d v a x vs h e lt small address live held =
     record {
       quiet = (tt, (high, (low, tt)));
       commits = λ s.
-        let committing = walk (block d WriteWord).before h in
-        let place : place_of (word_sum (committing.registers 7) 0) ≡ SharedWord (index_at a) =
+          let committing = walk (block d WriteWord).before h in
+          let place : place_of (word_sum (committing.registers 7) 0) ≡ SharedWord (index_at a) =
           let same : word_sum a 0 ≡ a = omega arith in
           ap (λ w. place_of (word_sum w 0)) va ∙ ap place_of same ∙ shared_place a x small address in
-        record {
-          next_hart = moves committing (committing.pc + 4);
-          s' = record { words = put s.words (index_at a) v; output = s.output };
-          vs' = v ∷ vs;
-          serves = refl;
-          performs = λ t control number.
-            ap (store number committing (shared_of control s) (committing.registers 5)) place
-            ∙ ap (λ w. Goes (moves committing (committing.pc + 4)) (record { words = put s.words (index_at a) w; control = control; output = s.output })) vv;
-          pc = refl;
-          ended = live;
-          quiet = (low, tt);
-          holds = values_push h.local _ _ _ vs (local_word (d - 2) (length vs) (omega arith) (omega arith)) vv held.1.1;
-        };
+          record {
+            next_hart = moves committing (committing.pc + 4);
+            s' = record { words = put s.words (index_at a) v; output = s.output };
+            vs' = v ∷ vs;
+            serves = refl;
+            performs = λ t control number.
+                ap (store number committing (shared_of control s) (committing.registers 5)) place
+                ∙ ap (λ w. Goes (moves committing (committing.pc + 4)) (record { words = put s.words (index_at a) w; control = control; output = s.output })) vv;
+            pc = refl;
+            ended = live;
+            quiet = (low, tt);
+            holds = values_push h.local _ _ _ vs (local_word (d - 2) (length vs) (omega arith) (omega arith)) vv held.1.1;
+          };
     }
 
 print_does : (d v : ℕ) (vs : List ℕ) (h : Hart) → d ≡ length vs + 1 → length vs < 500 → h.ended ≡ false → HasValues h.local (v ∷ vs) → Does (block d PrintNumber) PrintNumber h (v ∷ vs)
@@ -299,38 +290,38 @@ print_does d v vs h e lt live held =
     record {
       quiet = (tt, (top, (tt, tt)));
       commits = λ s.
-        let committing = walk (block d PrintNumber).before h in
-        record {
-          next_hart = moves committing (committing.pc + 4);
-          s' = record { words = s.words; output = s.output ++ signed_line v };
-          vs' = vs;
-          serves = refl;
-          performs = λ t control number.
-            ap (store number committing (shared_of control s) (committing.registers 5)) output_place
-            ∙ ap (λ w. Goes (moves committing (committing.pc + 4)) (record { words = s.words; control = control; output = s.output ++ signed_line w })) vv;
-          pc = refl;
-          ended = live;
-          quiet = tt;
-          holds = held.1;
-        };
+          let committing = walk (block d PrintNumber).before h in
+          record {
+            next_hart = moves committing (committing.pc + 4);
+            s' = record { words = s.words; output = s.output ++ signed_line v };
+            vs' = vs;
+            serves = refl;
+            performs = λ t control number.
+                ap (store number committing (shared_of control s) (committing.registers 5)) output_place
+                ∙ ap (λ w. Goes (moves committing (committing.pc + 4)) (record { words = s.words; control = control; output = s.output ++ signed_line w })) vv;
+            pc = refl;
+            ended = live;
+            quiet = tt;
+            holds = held.1;
+          };
     }
 
 halt_does : (d : ℕ) (vs : List ℕ) (h : Hart) → HasValues h.local vs → Does (block d Halt) Halt h vs
 halt_does d vs h held = record {
   quiet = (tt, tt);
   commits = λ s.
-    let committing = walk (block d Halt).before h in
-    record {
-      next_hart = record { registers = committing.registers; pc = committing.pc + 4; local = committing.local; ended = true };
-      s' = s;
-      vs' = vs;
-      serves = refl;
-      performs = λ t control number. ap (store number committing (shared_of control s) (committing.registers 0)) halt_place;
-      pc = refl;
-      ended = refl;
-      quiet = tt;
-      holds = held;
-    };
+      let committing = walk (block d Halt).before h in
+      record {
+        next_hart = record { registers = committing.registers; pc = committing.pc + 4; local = committing.local; ended = true };
+        s' = s;
+        vs' = vs;
+        serves = refl;
+        performs = λ t control number. ap (store number committing (shared_of control s) (committing.registers 0)) halt_place;
+        pc = refl;
+        ended = refl;
+        quiet = tt;
+        holds = held;
+      };
 }
 
 -- ---- all of them

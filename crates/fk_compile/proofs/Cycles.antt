@@ -214,7 +214,7 @@ pub is_round : (image : Image) (t : Setting) (control : Memory) (number : ℕ) (
 is_round image t control number [] [] [] s runs all = inl (record { ds' = []; going = refl; no_fault = refl; shared = refl; together = tt; may = tt; fall = tt })
 is_round image t control number (d ∷ ds) (h ∷ hs) (p ∷ ps) s runs all =
     ⊎_elim
-      (λ one. joined image t control number d ds h hs p ps s one (is_round image t control (suc number) ds hs ps one.s' runs all.1))
-      (λ one. broken image t control number d ds h hs p ps s all.1 one)
-      (one_turn image t control number d h p s runs all.0)
+    (λ one. joined image t control number d ds h hs p ps s one (is_round image t control (suc number) ds hs ps one.s' runs all.1))
+    (λ one. broken image t control number d ds h hs p ps s all.1 one)
+    (one_turn image t control number d h p s runs all.0)
 is_round image t control number ds hs ps s runs all = absurd (assumption all)

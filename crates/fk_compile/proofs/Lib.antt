@@ -1,15 +1,32 @@
+-- From the words of instructions up to the theorem, each standing on those before it.
+
+-- the table reads back the words that are written
 pub mod Rows
+-- how a hart runs straight code
 pub mod Walk
+-- each block does its operation; this alone grows with the operations
 pub mod Blocks
+-- a remaining program as a list of operations
 pub mod Flat
+-- a hart keeps pace with its processor
 pub mod Linked
+-- a round, one processor after another
 pub mod Rounds
+-- a cycle does the same whatever was printed before it
 pub mod Printed
+-- a cycle is a round
 pub mod Cycles
+-- a run is a schedule of possible rounds
 pub mod Runs
+-- nobody who could act is passed over 256 times
 pub mod Pace
+-- an image with the blocks of a program follows it
 pub mod Theorem
+-- the operations of a program find their values
 pub mod Ready
+-- the blocks stand in the image that is made of them
 pub mod Places
+-- that image is within the limits of images
 pub mod Limits
+-- what `generate` makes is faithful
 pub mod Generated

@@ -95,15 +95,21 @@ follows image k shape op ops rest h s vs false e at ready placed same has pc c =
     let pc' : c.next_hart.pc ≡ 4 * suc (k + length b.before) = omega (arith, c.pc, pc) in
     let w = walked image b.after (suc (k + length b.before)) c.next_hart at.after_at pc' (c.ended ∙ e) c.quiet in
     let short = short_block op (length shape) in
-    inr (length b.after, omega (arith, short.1), walk b.after c.next_hart, w.runs, record {
-      word = k + block_size b;
-      shape = shape_after op shape;
-      at = omega (arith, w.pc);
-      live = w.live;
-      placed = subst (Placed image (k + block_size b) (shape_after op shape)) (sym same) (when_false _ _ e placed);
-      has = subst (Fitting (shape_after op shape)) c.serves (shape_kept op shape s vs ready has);
-      holds = c.holds;
-    })
+    inr (
+      length b.after,
+      omega (arith, short.1),
+      walk b.after c.next_hart,
+      w.runs,
+      record {
+        word = k + block_size b;
+        shape = shape_after op shape;
+        at = omega (arith, w.pc);
+        live = w.live;
+        placed = subst (Placed image (k + block_size b) (shape_after op shape)) (sym same) (when_false _ _ e placed);
+        has = subst (Fitting (shape_after op shape)) c.serves (shape_kept op shape s vs ready has);
+        holds = c.holds;
+      },
+    )
 
 soon_at : (image : Image) (k : ℕ) (shape : Shape) (h : Hart) (p : Processor) (ops : List Operation)
     → flat p.left ≡ ops → h.pc ≡ 4 * k → h.ended ≡ false → Placed image k shape ops → HasShape shape p.values → HasValues h.local p.values
@@ -128,16 +134,16 @@ soon_at image k shape h p (op ∷ ops) e pc live placed has holds =
           rest = n.step.rest;
           is_next = n.is_next ∙ ap (λ o. Some (record { first = o; rest = n.step.rest })) n.is_first;
           does = λ s.
-            let c = does.commits s in
-            inl (record {
-              h' = c.next_hart;
-              s' = c.s';
-              vs' = c.vs';
-              serves = c.serves;
-              goes = λ t runs control number.
-                step_at image (k + length b.before) 1 b.commit placed.0.commit_at t runs number (walk b.before h) (shared_of control s) w.pc ∙ c.performs t control number;
-              follows = follows image k shape op ops n.step.rest (walk b.before h) s p.values (is_halt op) refl placed.0 placed.1 placed.2 n.is_rest has w.pc c;
-            });
+              let c = does.commits s in
+              inl (record {
+                h' = c.next_hart;
+                s' = c.s';
+                vs' = c.vs';
+                serves = c.serves;
+                goes = λ t runs control number.
+                    step_at image (k + length b.before) 1 b.commit placed.0.commit_at t runs number (walk b.before h) (shared_of control s) w.pc ∙ c.performs t control number;
+                follows = follows image k shape op ops n.step.rest (walk b.before h) s p.values (is_halt op) refl placed.0 placed.1 placed.2 n.is_rest has w.pc c;
+              });
         };
       };
     }
@@ -156,9 +162,14 @@ Bound image (Some d) h p = (d ≤ 200) × Linked image d h p
 pub bound_after : (image : Image) (h : Hart) (p : Processor) → Follows image h p → (d : Option ℕ) × Bound image d h p
 bound_after image h p (inl both) = (None, both)
 bound_after image h p (inr (b, le, h', runs, en)) =
-    let n = soon image h' p en in
-    (Some (b + n.d), (omega (arith, n.below), record {
-      committing = n.linked.committing;
-      runs = join_runs image b n.d h h' n.linked.committing runs n.linked.runs;
-      commits = n.linked.commits;
-    }))
+    let n = soon image h' p en in (
+      Some (b + n.d),
+      (
+        omega (arith, n.below),
+        record {
+          committing = n.linked.committing;
+          runs = join_runs image b n.d h h' n.linked.committing runs n.linked.runs;
+          commits = n.linked.commits;
+        },
+      ),
+    )

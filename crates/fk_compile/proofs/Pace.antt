@@ -3,7 +3,7 @@ use Rattle.std.proofs.Common.{◌≡◌, ℕ, zero, suc, ◌+◌, ◌<◌, ◌�
 use Rattle.std.specs.Prelude.{slice_get, slice_index}
 use Rattle.std.proofs.lemmas.List.{take-append-le}
 use Rattle.std.proofs.Math.Seq.{take-append_seam}
-use Rattle.std.proofs.lemmas.Bool.{cases_lt}
+use Rattle.std.proofs.lemmas.Bool.{cases_Bool, cases_lt}
 use Rattle.fk_image.specs.declared.Image.{Image}
 use Rattle.fk_meaning.specs.Next.{next}
 use Rattle.fk_meaning.specs.Serve.{Processor}
@@ -13,18 +13,18 @@ use Rattle.fk_machine.specs.Hart.{Hart}
 use Rattle.fk_machine.specs.Cycle.{Machine, is_running, opening}
 use Rattle.fk_machine.specs.Run.{machine, round_of, rounds}
 use Rattle.fk_compile.proofs.Cycles.{Distances, Together, AllFall}
-use Rattle.fk_compile.proofs.Runs.{Tied, Cycled, IsCycled, IsOne, is_one, tied_cycle, not_running, rounds_running, rounds_over, machine_over, reached, going_of}
+use Rattle.fk_compile.proofs.Runs.{Tied, Cycled, IsCycled, IsKnown, tied_cycle, not_running, rounds_running, rounds_over, machine_over, reached, going_of}
 
 -- ---- which cycles were begun
 
-running_before : (image : Image) (input : List ℕ) (p n : ℕ) → is_running (machine image input p (suc n)).stand ≡ true → IsOne (is_running (machine image input p n).stand) → is_running (machine image input p n).stand ≡ true
+running_before : (image : Image) (input : List ℕ) (p n : ℕ) → is_running (machine image input p (suc n)).stand ≡ true → IsKnown (is_running (machine image input p n).stand) → is_running (machine image input p n).stand ≡ true
 running_before image input p n e (inl still) = still
 running_before image input p n e (inr over) = absurd (let f = sym e ∙ (ap (λ m. is_running m.stand) (machine_over image input p n over) ∙ over) in cc)
 
 length-rounds : (image : Image) (input : List ℕ) (p n : ℕ) → is_running (machine image input p n).stand ≡ true → length (rounds image input p n) ≡ n
 length-rounds image input p zero e = refl
 length-rounds image input p (suc n) e =
-    let before = running_before image input p n e (is_one _) in
+    let before = running_before image input p n e (cases_Bool _) in
     let all = length-rounds image input p n before in
     ap length (rounds_running image input p n before) ∙ length-append (rounds image input p n) (round_of image (machine image input p n) ∷ []) ∙ omega arith
 
@@ -70,7 +70,7 @@ begun_now image input p n k e before lt (inr le) =
     subst (λ j. Begun image input p j (rounds image input p n ++ round_of image (machine image input p n) ∷ [])) same (begun_last image input p n e)
 
 begun_next : (image : Image) (input : List ℕ) (p n k : ℕ) → (k < length (rounds image input p n) → Begun image input p k (rounds image input p n)) → k < length (rounds image input p (suc n))
-    → IsOne (is_running (machine image input p n).stand) → Begun image input p k (rounds image input p (suc n))
+    → IsKnown (is_running (machine image input p n).stand) → Begun image input p k (rounds image input p (suc n))
 begun_next image input p n k before lt (inr e) =
     let same = rounds_over image input p n e in
     subst (Begun image input p k) (sym same) (before (subst (λ rs. k < length rs) same lt))
@@ -81,7 +81,7 @@ begun_next image input p n k before lt (inl e) =
 
 begun : (image : Image) (input : List ℕ) (p n k : ℕ) → k < length (rounds image input p n) → Begun image input p k (rounds image input p n)
 begun image input p zero k lt = absurd (omega arith)
-begun image input p (suc n) k lt = begun_next image input p n k (begun image input p n k) lt (is_one _)
+begun image input p (suc n) k lt = begun_next image input p n k (begun image input p n k) lt (cases_Bool _)
 
 -- ---- a hart at a distance comes one step nearer, or commits
 

@@ -1,7 +1,9 @@
 -- In an image that is made of marked instructions the blocks stand in their places.
-use Rattle.std.proofs.Common.{◌≡◌, ◌≢◌, ℕ, zero, suc, ◌+◌, ◌*◌, ◌<◌, List, [], ◌∷◌, ◌++◌, length, Some, Bool, true, false, cond, sym, ap, subst, ◌∙◌, arith, refl, eq-eqb, length-append}
-use Rattle.std.specs.Prelude.{map, slice_get, ◌==◌, MatchBool}
-use Rattle.std.proofs.lemmas.Bool.Decides.{nat_tests}
+use Rattle.std.proofs.Common.{◌≡◌, ℕ, zero, suc, ◌+◌, ◌*◌, ◌<◌, List, [], ◌∷◌, ◌++◌, length, Some, Bool, true, false, cond, sym, ap, subst, ◌∙◌, arith, refl, eq-eqb, length-append}
+use Rattle.std.specs.Prelude.{map, slice_get, option_map, MatchBool}
+use Rattle.std.proofs.lemmas.Bool.{ne_eqb}
+use Rattle.std.proofs.lemmas.List.{length-map}
+use Rattle.std.proofs.lemmas.Option.{slice_get-map}
 use Rattle.fk_image.specs.declared.Image.{Image}
 use Rattle.fk_meaning.specs.declared.operations.Operation.{Operation}
 use Rattle.fk_machine.specs.declared.instruction.Instruction.{Instruction}
@@ -40,12 +42,7 @@ within_back all (m ∷ a) b k w = let e : suc k + length a ≡ k + suc (length a
 -- ---- the rows and the counts
 
 rows_get : (all : List Marked) (k : ℕ) (m : Marked) → slice_get all k ≡ Some m → slice_get (rows all) k ≡ Some (Some m.instruction)
-rows_get [] k m h = absurd (cc)
-rows_get (x ∷ all) zero m h = let same : x ≡ m = cc in ap (λ y. Some (Some y.instruction)) same
-rows_get (x ∷ all) (suc k) m h = rows_get all k m h
-
-differ : (i j : ℕ) → i ≢ j → (i == j) ≡ false
-differ i j ne = grind (arith, nat_tests)
+rows_get all k m h = slice_get-map (λ x. Some x.instruction) all k ∙ ap (option_map (λ x. Some x.instruction)) h
 
 abbrev count : Marked → ℕ
 count m = cond m.commits 1 0
@@ -54,9 +51,9 @@ count m = cond m.commits 1 0
 abbrev with_line : ℕ → Bool → List (ℕ × ℕ) → List (ℕ × ℕ)
 with_line j commits later = cond commits ((4 * j, 1) ∷ later) later
 
-skip : (j : ℕ) (commits : Bool) (later : List (ℕ × ℕ)) (a : ℕ) → 4 * j ≢ a → count_in (with_line j commits later) a ≡ count_in later a
+skip : (j : ℕ) (commits : Bool) (later : List (ℕ × ℕ)) (a : ℕ) → (4 * j ≡ a → ⊥) → count_in (with_line j commits later) a ≡ count_in later a
 skip j false later a ne = refl
-skip j true later a ne = ap (λ b. cond b 1 (count_in later a)) (differ (4 * j) a ne)
+skip j true later a ne = ap (λ b. cond b 1 (count_in later a)) (ne_eqb (4 * j) a ne)
 
 here : (j : ℕ) (commits : Bool) (later : List (ℕ × ℕ)) (a : ℕ) → a ≡ 4 * j → count_in later a ≡ 0 → count_in (with_line j commits later) a ≡ cond commits 1 0
 here j false later a e none' = none'
@@ -90,14 +87,10 @@ quiet_at : (image : Image) (all : List Marked) (k : ℕ) (part : List Instructio
 quiet_at image all k [] is w = tt
 quiet_at image all k (i ∷ part) is w = (is_at image all k (plain i) is w.0, quiet_at image all (suc k) part is w.1)
 
-length-plain : (part : List Instruction) → length (map plain part) ≡ length part
-length-plain [] = refl
-length-plain (i ∷ part) = ap suc (length-plain part)
-
 block_at : (image : Image) (all : List Marked) (k : ℕ) (b : Block) → IsCode image all → Within all k (marked b) → BlockAt image k b
 block_at image all k b is w =
     let rest = committing b.commit ∷ map plain b.after in
-    let tail = subst (λ n. Within all (k + n) rest) (length-plain b.before) (within_back all (map plain b.before) rest k w) in
+    let tail = subst (λ n. Within all (k + n) rest) (length-map b.before plain) (within_back all (map plain b.before) rest k w) in
     record {
       before_at = quiet_at image all k b.before is (within_front all (map plain b.before) rest k w);
       commit_at = is_at image all (k + length b.before) (committing b.commit) is tail.0;
@@ -107,7 +100,7 @@ block_at image all k b is w =
 pub length-marked : (b : Block) → length (marked b) ≡ block_size b
 length-marked b =
     length-append (map plain b.before) (committing b.commit ∷ map plain b.after)
-    ∙ omega (arith, length-plain b.before, length-plain b.after)
+    ∙ omega (arith, length-map b.before plain, length-map b.after plain)
 
 -- ---- all of them
 
@@ -123,12 +116,13 @@ placed_from image all [] shape k is ready w = absurd ready
 placed_from image all (op ∷ ops) shape k is ready w =
     let b = block (length shape) op in
     let rest = all_marked (depth_after op (length shape)) ops in
-    let tail = subst (λ n. Within all (k + n) rest) (length-marked b) (within_back all (marked b) rest k w) in
-    (block_at image all k b is (within_front all (marked b) rest k w),
-     ready.0,
-     placed_rest image (k + block_size b) shape op ops (is_halt op) ready.1
-       (λ r. placed_from image all ops (shape_after op shape) (k + block_size b) is r
-         (subst (λ d. Within all (k + block_size b) (all_marked d ops)) (depth_same op shape ready.0) tail)))
+    let tail = subst (λ n. Within all (k + n) rest) (length-marked b) (within_back all (marked b) rest k w) in (
+      block_at image all k b is (within_front all (marked b) rest k w),
+      ready.0,
+      placed_rest image (k + block_size b) shape op ops (is_halt op) ready.1
+          (λ r. placed_from image all ops (shape_after op shape) (k + block_size b) is r
+          (subst (λ d. Within all (k + block_size b) (all_marked d ops)) (depth_same op shape ready.0) tail)),
+    )
 
 pub placed : (image : Image) (ops : List Operation) → IsCode image (all_marked 0 ops) → AllReady [] ops → Placed image 0 [] ops
 placed image ops is ready = placed_from image (all_marked 0 ops) ops [] 0 is ready (within_self (all_marked 0 ops))

@@ -75,14 +75,14 @@ perform_same earlier t number (Lw rd rs imm) h s = load_same earlier t number h 
 perform_same earlier t number (Sw rs rv imm) h s = store_same earlier number h s (h.registers rv) (place_of (word_sum (h.registers rs) imm))
 perform_same earlier t number (Beq ra rb imm) h s =
     either_same earlier (h.registers ra == h.registers rb)
-      (jump number h s h (word_sum h.pc imm)) (Goes (moves h (h.pc + 4)) s)
-      (jump number h (printed earlier s) h (word_sum h.pc imm)) (Goes (moves h (h.pc + 4)) (printed earlier s))
-      (jump_same earlier number h s h (word_sum h.pc imm)) refl
+    (jump number h s h (word_sum h.pc imm)) (Goes (moves h (h.pc + 4)) s)
+    (jump number h (printed earlier s) h (word_sum h.pc imm)) (Goes (moves h (h.pc + 4)) (printed earlier s))
+    (jump_same earlier number h s h (word_sum h.pc imm)) refl
 perform_same earlier t number (Bne ra rb imm) h s =
     either_same earlier (h.registers ra == h.registers rb)
-      (Goes (moves h (h.pc + 4)) s) (jump number h s h (word_sum h.pc imm))
-      (Goes (moves h (h.pc + 4)) (printed earlier s)) (jump number h (printed earlier s) h (word_sum h.pc imm))
-      refl (jump_same earlier number h s h (word_sum h.pc imm))
+    (Goes (moves h (h.pc + 4)) s) (jump number h s h (word_sum h.pc imm))
+    (Goes (moves h (h.pc + 4)) (printed earlier s)) (jump number h (printed earlier s) h (word_sum h.pc imm))
+    refl (jump_same earlier number h s h (word_sum h.pc imm))
 perform_same earlier t number (Jal rd imm) h s = jump_same earlier number h s (writes h rd (h.pc + 4)) (word_sum h.pc imm)
 
 fetch_same : (earlier : List ℕ) (t : Setting) (number : ℕ) (fetched : Option (Option Instruction)) (h : Hart) (s : Shared) → on_fetch t number fetched h (printed earlier s) ≡ printed_effect earlier (on_fetch t number fetched h s)

@@ -1,6 +1,7 @@
 -- Whole runs: the machine's cycles are rounds of the source, each possible or the last and stopped.
 use Rattle.std.proofs.Common.{◌≡◌, ℕ, zero, suc, ◌+◌, List, [], ◌∷◌, ◌++◌, Option, Some, None, Bool, true, false, cond, sym, ap, subst, ◌∙◌, arith, refl, ◌⊎◌, inl, inr}
 use Rattle.std.specs.Prelude.{map, ◌&&◌}
+use Rattle.std.proofs.lemmas.Bool.{cases_Bool}
 use Rattle.std.proofs.lemmas.List.{append-nil}
 use Rattle.fk_num.specs.Word.{Memory}
 use Rattle.fk_image.specs.declared.Image.{Image}
@@ -176,12 +177,8 @@ pub record Gone (image : Image) (input : List ℕ) (p n : ℕ) (s : State) : Typ
 abbrev pub Reached : Image → List ℕ → ℕ → ℕ → State → Type 0
 Reached image input p n s = Going image input p n s ⊎ Gone image input p n s
 
-abbrev pub IsOne : Bool → Type 0
-IsOne b = (b ≡ true) ⊎ (b ≡ false)
-
-pub is_one : (b : Bool) → IsOne b
-is_one true = inl refl
-is_one false = inr refl
+abbrev pub IsKnown : Bool → Type 0
+IsKnown b = (b ≡ true) ⊎ (b ≡ false)
 
 pub not_running : (image : Image) (bytes : List ℕ) (m : Machine) (s : State) → Over image bytes m s → is_running m.stand ≡ false
 not_running image bytes m s over = ap is_running over.stand
@@ -195,9 +192,9 @@ going_on image input p n s g e (inl c) =
     let same = rounds_running image input p n e in
     inl (record {
       tied =
-        subst (λ o. Tied image o next (run (rounds image input p (suc n)) s)) (sym (output_running image input p n e))
+          subst (λ o. Tied image o next (run (rounds image input p (suc n)) s)) (sym (output_running image input p n e))
           (subst (λ rs. Tied image (output_of image input p n ++ next.shared.output) next (run rs s)) (sym same)
-            (subst (Tied image (output_of image input p n ++ next.shared.output) next) (sym (run-append (rounds image input p n) round s)) c.tied));
+          (subst (Tied image (output_of image input p n ++ next.shared.output) next) (sym (run-append (rounds image input p n) round s)) c.tied));
       possible = subst (λ rs. AllPossible rs s) (sym same) (all_append (rounds image input p n) round s g.possible c.possible);
     })
 going_on image input p n s g e (inr c) =
@@ -206,9 +203,9 @@ going_on image input p n s g e (inr c) =
     let same = rounds_running image input p n e in
     inr (record {
       over =
-        subst (λ o. Over image o next (run (rounds image input p (suc n)) s)) (sym (output_running image input p n e))
+          subst (λ o. Over image o next (run (rounds image input p (suc n)) s)) (sym (output_running image input p n e))
           (subst (λ rs. Over image (output_of image input p n ++ next.shared.output) next (run rs s)) (sym same)
-            (subst (Over image (output_of image input p n ++ next.shared.output) next) (sym (run-append (rounds image input p n) round s)) c.over));
+          (subst (Over image (output_of image input p n ++ next.shared.output) next) (sym (run-append (rounds image input p n) round s)) c.over));
       possible = subst (λ rs. ArePossible rs s) (sym same) (last_append (rounds image input p n) round s g.possible c.stopped);
     })
 
@@ -216,20 +213,20 @@ going_on image input p n s g e (inr c) =
 staying : (image : Image) (input : List ℕ) (p n : ℕ) (s : State) → Reached image input p n s → is_running (machine image input p n).stand ≡ false → Reached image input p (suc n) s
 staying image input p n s (inl g) e = inl (record {
   tied =
-    subst (λ o. Tied image o (machine image input p (suc n)) (run (rounds image input p (suc n)) s)) (sym (output_over image input p n e))
+      subst (λ o. Tied image o (machine image input p (suc n)) (run (rounds image input p (suc n)) s)) (sym (output_over image input p n e))
       (subst (λ rs. Tied image (output_of image input p n) (machine image input p (suc n)) (run rs s)) (sym (rounds_over image input p n e))
-        (subst (λ m. Tied image (output_of image input p n) m (run (rounds image input p n) s)) (sym (machine_over image input p n e)) g.tied));
+      (subst (λ m. Tied image (output_of image input p n) m (run (rounds image input p n) s)) (sym (machine_over image input p n e)) g.tied));
   possible = subst (λ rs. AllPossible rs s) (sym (rounds_over image input p n e)) g.possible;
 })
 staying image input p n s (inr g) e = inr (record {
   over =
-    subst (λ o. Over image o (machine image input p (suc n)) (run (rounds image input p (suc n)) s)) (sym (output_over image input p n e))
+      subst (λ o. Over image o (machine image input p (suc n)) (run (rounds image input p (suc n)) s)) (sym (output_over image input p n e))
       (subst (λ rs. Over image (output_of image input p n) (machine image input p (suc n)) (run rs s)) (sym (rounds_over image input p n e))
-        (subst (λ m. Over image (output_of image input p n) m (run (rounds image input p n) s)) (sym (machine_over image input p n e)) g.over));
+      (subst (λ m. Over image (output_of image input p n) m (run (rounds image input p n) s)) (sym (machine_over image input p n e)) g.over));
   possible = subst (λ rs. ArePossible rs s) (sym (rounds_over image input p n e)) g.possible;
 })
 
-reached_next : (image : Image) (input : List ℕ) (p n : ℕ) (s : State) → Reached image input p n s → IsOne (is_running (machine image input p n).stand) → Reached image input p (suc n) s
+reached_next : (image : Image) (input : List ℕ) (p n : ℕ) (s : State) → Reached image input p n s → IsKnown (is_running (machine image input p n).stand) → Reached image input p (suc n) s
 reached_next image input p n s (inl g) (inl e) =
     going_on image input p n s g e (tied_cycle image (output_of image input p n) (machine image input p n) (run (rounds image input p n) s) g.tied e)
 reached_next image input p n s (inr g) (inl e) = absurd (let f = sym e ∙ not_running image _ (machine image input p n) (run (rounds image input p n) s) g.over in cc)
@@ -237,7 +234,7 @@ reached_next image input p n s r (inr e) = staying image input p n s r e
 
 pub reached : (image : Image) (input : List ℕ) (p n : ℕ) (s : State) → Tied image [] (opening image input p) s → Reached image input p n s
 reached image input p zero s start = inl (record { tied = start; possible = tt })
-reached image input p (suc n) s start = reached_next image input p n s (reached image input p n s start) (is_one _)
+reached image input p (suc n) s start = reached_next image input p n s (reached image input p n s start) (cases_Bool _)
 
 -- a run that goes on has no fault
 pub going_of : (image : Image) (input : List ℕ) (p n : ℕ) (s : State) → Reached image input p n s → is_running (machine image input p n).stand ≡ true → Going image input p n s

@@ -139,11 +139,15 @@ walked image (i ∷ is) k h at e live q =
     let e' : (after i h).pc ≡ 4 * suc k = omega arith in
     let w = walked image is (suc k) (after i h) at.1 e' (p.1 ∙ live) q.1 in
     record {
-      runs = (after i h, record {
-        live = live;
-        uncounted = ap (count_in image.commits.items) e ∙ at.0.counted;
-        goes = λ t runs number s. step_at image k 0 i at.0 t runs number h s e ∙ quiet_performs i h q.0 t number s;
-      }, w.runs);
+      runs = (
+        after i h,
+        record {
+          live = live;
+          uncounted = ap (count_in image.commits.items) e ∙ at.0.counted;
+          goes = λ t runs number s. step_at image k 0 i at.0 t runs number h s e ∙ quiet_performs i h q.0 t number s;
+        },
+        w.runs,
+      );
       pc = let wp = w.pc in omega arith;
       live = w.live;
     }

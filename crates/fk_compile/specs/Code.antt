@@ -26,17 +26,17 @@ abbrev pub t2 : ℕ
 t2 = 7
 
 -- a number is its upper 20 bits, shifted, and a signed rest
-abbrev pub upper : ℕ → ℕ
-upper n = (n + 2048) / 4096 % 1048576
+abbrev pub high_part : ℕ → ℕ
+high_part n = (n + 2048) / 4096 % 1048576
 
-abbrev pub lower : ℕ → ℕ
-lower n = extended 12 (n % 4096)
+abbrev pub low_part : ℕ → ℕ
+low_part n = extended 12 (n % 4096)
 
 -- value i of the value list, counted from its first, stands in word i of the local memory
 abbrev pub push_block : ℕ → ℕ → Block
 push_block d n =
     record {
-      before = Lui t1 0x20000 ∷ Lui t0 (upper n) ∷ Addi t0 t0 (lower n) ∷ [];
+      before = Lui t1 0x20000 ∷ Lui t0 (high_part n) ∷ Addi t0 t0 (low_part n) ∷ [];
       commit = Sw t1 t0 (4 * d);
       after = [];
     }

@@ -14,7 +14,12 @@ use std::alloc::{AllocError, Global};
 /// How many bytes a text may have.
 const MOST_BYTES: usize = 1_048_576;
 
-/// The image of a text: by every schedule that the machine may follow, it does what the program means.
+/// The image of a text. Every run of it, whatever the input and the number of harts, is a run of the
+/// text's program by a lawful schedule: it prints the same bytes, and shared data and its stand are the same.
+///
+/// # Errors
+/// `SourceTooLong` for a text of more than 1,048,576 bytes, `NotBuilt` for one that is of no
+/// straight-line program, `Memory` where memory is refused.
 pub fn compile(alloc: Global, source: &[u8]) -> Result<Image, Refusal>
     ensures faithful { IfOk result (IsFaithful source.now) }
     ensures short { OnOk result (length source.now ≤ 1048576) }

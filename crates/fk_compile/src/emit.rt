@@ -6,24 +6,30 @@
 ghost use Rattle.std.specs.Prelude.{◌≡◌, ◌+◌, ◌*◌, ◌-◌, ◌^◌, ◌%◌, ◌≤◌, ◌++◌, ◌∷◌, [], IfOk, OnOk, length};
 ghost use Rattle.fk_num.specs.Word.{word};
 ghost use Rattle.fk_meaning.specs.Operation.{address_of};
-ghost use Rattle.fk_compile.specs.Code.{upper, lower, push_block, block, plain, committing, marked, all_marked, depth_after};
+ghost use Rattle.fk_compile.specs.Code.{high_part, low_part, push_block, block, plain, committing, marked, all_marked, depth_after};
 
 use crate::marked::Marked;
 use fk_machine::instruction::Instruction;
 use fk_meaning::operations::Operation;
 use std::alloc::{AllocError, Global};
 
+/// The registers of the blocks, by their names in the calling convention.
 const ZERO: u8 = 0;
+
 const T0: u8 = 5;
+
 const T1: u8 = 6;
+
 const T2: u8 = 7;
 
 /// The upper 20 bits of the addresses of local memory and of the devices.
 const LOCAL: u32 = 0x20000;
+
 const DEVICES: u32 = 0x30000;
 
-/// Where the devices that print a number and that end the hart stand from `DEVICES` on, in bytes.
+/// How far from `DEVICES` on the devices stand that print a number and that end the hart.
 const OUT_INT: u32 = 0;
+
 const HALT: u32 = 12;
 
 /// The blocks of operations, one after another.
@@ -31,7 +37,9 @@ pub fn emit(alloc: Global, operations: &[Operation]) -> Result<Vec<Marked>, Allo
     requires { length operations.now ≤ 100000 }
     ensures { IfOk result (λ code. code.items ≡ all_marked 0 operations.now) }
 {
-    let mut blocks = Blocks { code: Vec::new(alloc) };
+    let mut blocks = Blocks {
+        code: Vec::new(alloc),
+    };
     let mut depth: u32 = 0;
     for operation in operations {
         blocks.operation(depth, *operation)?;
@@ -69,8 +77,8 @@ impl Blocks {
         ensures { OnOk result (self.new.code.items ≡ self.old.code.items ++ marked (push_block depth number)) }
     {
         self.plain(Instruction::Lui(T1, LOCAL))?;
-        self.plain(Instruction::Lui(T0, upper_part(number)))?;
-        self.plain(Instruction::Addi(T0, T0, lower_part(number)))?;
+        self.plain(Instruction::Lui(T0, high_part(number)))?;
+        self.plain(Instruction::Addi(T0, T0, low_part(number)))?;
         self.commit(Instruction::Sw(T1, T0, 4 * depth))
     }
 
@@ -126,7 +134,10 @@ impl Blocks {
     fn plain(&mut self, instruction: Instruction) -> Result<(), AllocError>
         ensures { OnOk result (self.new.code.items ≡ self.old.code.items ++ plain instruction ∷ []) }
     {
-        self.code.push(Marked { instruction, commits: false })?;
+        self.code.push(Marked {
+            instruction,
+            commits: false,
+        })?;
         Ok(())
     }
 
@@ -134,7 +145,10 @@ impl Blocks {
     fn commit(&mut self, instruction: Instruction) -> Result<(), AllocError>
         ensures { OnOk result (self.new.code.items ≡ self.old.code.items ++ committing instruction ∷ []) }
     {
-        self.code.push(Marked { instruction, commits: true })?;
+        self.code.push(Marked {
+            instruction,
+            commits: true,
+        })?;
         Ok(())
     }
 }
@@ -154,14 +168,14 @@ fn address(variable: u32) -> u32
 }
 
 // `lui` takes the upper 20 bits, and `addi` adds the lower 12 as a signed number
-fn upper_part(number: u32) -> u32
-    ensures { result ≡ upper number }
+fn high_part(number: u32) -> u32
+    ensures { result ≡ high_part number }
 {
     ((u64::from(number) + 0x800) / 0x1000 % 0x10_0000) as u32
 }
 
-fn lower_part(number: u32) -> u32
-    ensures { result ≡ lower number }
+fn low_part(number: u32) -> u32
+    ensures { result ≡ low_part number }
 {
     let low = number % 0x1000;
     if low < 0x800 { low } else { low + 0xffff_f000 }

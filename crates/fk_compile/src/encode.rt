@@ -22,7 +22,11 @@ pub fn encode(instruction: Instruction) -> u32
         Instruction::Lw(rd, rs, imm) => i_field(imm) + rs1_field(rs) + WORD + rd_field(rd) + 0x03,
         Instruction::Sw(rs, rv, imm) => s_fields(imm) + rs2_field(rv) + rs1_field(rs) + WORD + 0x23,
         Instruction::Beq(ra, rb, imm) => b_fields(imm) + rs2_field(rb) + rs1_field(ra) + 0x63,
-        Instruction::Bne(ra, rb, imm) => b_fields(imm) + rs2_field(rb) + rs1_field(ra) + NOT_EQUAL + 0x63,
+        Instruction::Bne(ra, rb, imm) => b_fields(imm)
+            + rs2_field(rb)
+            + rs1_field(ra)
+            + NOT_EQUAL
+            + 0x63,
         Instruction::Jal(rd, imm) => j_field(imm) + rd_field(rd) + 0x6f,
     }
 }

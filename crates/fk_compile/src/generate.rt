@@ -21,5 +21,10 @@ pub fn generate(alloc: Global, program: &Program) -> Result<Image, AllocError>
 {
     let operations = lower(alloc, program.body.as_slice())?;
     let code = emit(alloc, operations.as_slice())?;
-    assemble(alloc, code.as_slice(), operations.as_slice(), program.variables)
+    assemble(
+        alloc,
+        code.as_slice(),
+        operations.as_slice(),
+        program.variables,
+    )
 }

@@ -4,13 +4,13 @@
 //! `assemble` puts their words, commits and sites into an image.
 #![tactic(auto)]
 
-pub mod assemble;
-pub mod compiler;
-pub mod emit;
-pub mod encode;
+mod assemble;
+mod compiler;
+mod emit;
+mod encode;
 pub mod generate;
-pub mod lower;
-pub mod marked;
+mod lower;
+mod marked;
 pub mod refusal;
 #[cfg(test)]
 mod tests;

@@ -5,5 +5,5 @@ use Rattle.fk_compile.proofs.assemble.sites.Given as goal
 abbrev pub invariant-loop-operation : goal.invariant-loop-operation
 invariant-loop-operation l = record {
   so_far : l.sites.items ++ map site_of (drop l.operation-index l.operations) ≡ map site_of l.operations;
-  count : vec_len l.sites ≡ l.operation-index
+  count : vec_len l.sites ≡ l.operation-index;
 }

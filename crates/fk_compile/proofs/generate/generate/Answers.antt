@@ -28,5 +28,5 @@ returns c =
     let again = c.as_slice-4.ensures.value ∙ c.in_ok-operations.ensures ∙ ap operations_of_body c.as_slice.ensures.value in
     let e = c.assemble.ensures in
     generated c.args.program.now c.as_slice-3.result.now c.as_slice-4.result.now c.assemble.result
-      (record { declared = c.requires.declared; short = c.requires.short; few = c.requires.few })
-      code again e.code e.commits e.sites e.globals e.code_words e.site_count e.global_count
+    (record { declared = c.requires.declared; short = c.requires.short; few = c.requires.few })
+    code again e.code e.commits e.sites e.globals e.code_words e.site_count e.global_count
