@@ -21,3 +21,15 @@ pub const UNKNOWN: u8 = 2;
 pub const MISALIGNED: u8 = 3;
 /// An address outside the map, code as data, or a use of a device that it doesn't take.
 pub const ACCESS: u8 = 4;
+
+impl Stand {
+    ghost use Rattle.std.specs.Prelude.{◌≡◌};
+    ghost use Rattle.fk_machine.specs.Cycle.{is_running};
+
+    /// Whether some hart has not ended, and no fault or trap has ended the machine.
+    pub fn is_running(&self) -> bool
+        ensures { result ≡ is_running self.now }
+    {
+        *self == Stand::Running
+    }
+}

@@ -1,6 +1,7 @@
 -- A machine that doesn't run stays as it is, and prints nothing more.
 use Rattle.std.proofs.Common.{◌≡◌, ℕ, zero, suc, ◌+◌, ◌≤◌, List, ◌++◌, Bool, true, false, cond, sym, ap, subst, ◌∙◌, arith, refl, ◌⊎◌, inl, inr, ◌-◌}
 use Rattle.fk_image.specs.declared.Image.{Image}
+use Rattle.fk_machine.specs.declared.stand.Stand.{Stand}
 use Rattle.fk_machine.specs.Cycle.{Machine, turns_of, after_turns, is_running, cycle}
 use Rattle.fk_machine.specs.Run.{machine, output_of}
 
@@ -54,3 +55,7 @@ ends image input p k n le (inl all) =
 ends image input p k n le (inr over) =
     let later : n ≡ k + (n - k) = omega arith in
     record { machine_is = sym (stays image input p k (n - k) n later over); output_is = sym (printed image input p k (n - k) n later over) }
+
+-- what the test of the loop says where it fails
+pub over : (image : Image) (input : List ℕ) (p k : ℕ) (m : Machine) (stand : Stand) (test : Bool) → m ≡ machine image input p k → stand ≡ m.stand → test ≡ is_running stand → test ≡ false → is_running (machine image input p k).stand ≡ false
+over image input p k m stand test run is tested fails = sym (ap is_running (is ∙ ap (λ (x : Machine). x.stand) run)) ∙ sym tested ∙ fails

@@ -1,7 +1,6 @@
-use Rattle.std.proofs.Common.{◌≡◌, ◌≤◌, ◌<◌, ◌∙◌, [], ap, sym, arith, inl, inr}
-use Rattle.fk_machine.specs.Cycle.{Machine, is_running}
-use Rattle.fk_machine.specs.Run.{machine}
-use Rattle.fk_top.proofs.Stays.{begun_within, Ends, ends}
+use Rattle.std.proofs.Common.{◌≡◌, ◌∙◌, [], ap, arith, inl, inr}
+use Rattle.fk_machine.specs.Cycle.{Machine}
+use Rattle.fk_top.proofs.Stays.{begun_within, Ends, ends, over}
 use Rattle.fk_top.proofs.run.run_image.Goals as goal
 use Rattle.fk_top.proofs.run.run_image.Goals.{else-loop-test, then-loop-test+then-not-is_running}
 
@@ -12,20 +11,26 @@ cycle-stand-requires c =
     omega (arith, run, within, c.loop-test.true, c.ranges.bound.fits)
 
 -- the loop ends at the bound, or where the machine doesn't run
-ended : (c : goal.After-cycles) → Ends c.args.image.now [] c.args.harts c.loop.counter c.args.bound
-ended c =
-    ends c.args.image.now [] c.args.harts c.loop.counter c.args.bound c.loop.auto.counter-end
-      (elim c.loop-test.branch [
-        | else-loop-test w ↦ inl w.loop-test.false
-        | then-loop-test+then-not-is_running w ↦
-            inr (sym (ap is_running (w.stand.ensures ∙ ap (λ (m : Machine). m.stand) c.loop.invariant.run)) ∙ sym w.is_running.ensures ∙ w.if-not-is_running.true)
-      ])
-
 pub returns-clause-output : goal.returns-clause-output
-returns-clause-output c = c.loop.invariant.printed ∙ (ended c).output_is
+returns-clause-output c =
+    let e : Ends c.args.image.now [] c.args.harts c.loop.counter c.args.bound = ends c.args.image.now [] c.args.harts c.loop.counter c.args.bound c.loop.auto.counter-end (elim c.loop-test.branch [
+      | else-loop-test w ↦ inl w.loop-test.false
+      | then-loop-test+then-not-is_running w ↦ inr (over c.args.image.now [] c.args.harts c.loop.counter _ _ _ c.loop.invariant.run w.stand.ensures w.is_running.ensures w.if-not-is_running.true)
+    ]) in
+    c.loop.invariant.printed ∙ e.output_is
 
 pub returns-clause-stand : goal.returns-clause-stand
-returns-clause-stand c = c.stand-2.ensures ∙ ap (λ (m : Machine). m.stand) (c.loop.invariant.run ∙ (ended c).machine_is)
+returns-clause-stand c =
+    let e : Ends c.args.image.now [] c.args.harts c.loop.counter c.args.bound = ends c.args.image.now [] c.args.harts c.loop.counter c.args.bound c.loop.auto.counter-end (elim c.loop-test.branch [
+      | else-loop-test w ↦ inl w.loop-test.false
+      | then-loop-test+then-not-is_running w ↦ inr (over c.args.image.now [] c.args.harts c.loop.counter _ _ _ c.loop.invariant.run w.stand.ensures w.is_running.ensures w.if-not-is_running.true)
+    ]) in
+    c.stand-2.ensures ∙ ap (λ (m : Machine). m.stand) (c.loop.invariant.run ∙ e.machine_is)
 
 pub returns-clause-cycles : goal.returns-clause-cycles
-returns-clause-cycles c = c.cycles.ensures ∙ ap (λ (m : Machine). m.begun) (c.loop.invariant.run ∙ (ended c).machine_is)
+returns-clause-cycles c =
+    let e : Ends c.args.image.now [] c.args.harts c.loop.counter c.args.bound = ends c.args.image.now [] c.args.harts c.loop.counter c.args.bound c.loop.auto.counter-end (elim c.loop-test.branch [
+      | else-loop-test w ↦ inl w.loop-test.false
+      | then-loop-test+then-not-is_running w ↦ inr (over c.args.image.now [] c.args.harts c.loop.counter _ _ _ c.loop.invariant.run w.stand.ensures w.is_running.ensures w.if-not-is_running.true)
+    ]) in
+    c.cycles.ensures ∙ ap (λ (m : Machine). m.begun) (c.loop.invariant.run ∙ e.machine_is)
