@@ -6,3 +6,6 @@ mod operator;
 
 pub use decimal::{read_unsigned, signed_text, unsigned_text};
 pub use operator::{Op, apply};
+
+#[cfg(test)]
+mod tests;
