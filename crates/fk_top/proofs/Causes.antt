@@ -52,7 +52,7 @@ pub source_ends : (r : Result Ending AllocError) (words : List (List ℕ)) (file
 source_ends (Ok e) words files before after command old new source reads empty same appended few ends =
     let b = begins files command.file old new source empty same appended few in
     from_source (request_of words files before after) e.status e.output.items e.report
-      (record { command = command; reads = reads; source = source; first_bytes = b.first_bytes; at_most = b.at_most; ends = ends })
+    (record { command = command; reads = reads; source = source; first_bytes = b.first_bytes; at_most = b.at_most; ends = ends })
 source_ends (Err e) words files before after command old new source reads empty same appended few ends = tt
 
 pub usage_ends : (words : List (List ℕ)) (files : Option Files) (before after : ℕ) (status : Status) (output : List ℕ) (line : report.Report)
@@ -128,17 +128,18 @@ no_fetch_fault call source order unread = go unread.fault
   where
     same : order.command.file ≡ unread.command.file
     same = file_once call.request.words order.command unread.command order.reads unread.reads
+
     go : FetchFaults call.request.files unread.command.file call.request.fetch_faults_before call.request.fetch_faults_after → ⊥
     go (inl rose) = order.fetch_steady rose
     go (inr lacks) =
-      not_lacked call.request.files order.files order.command.file source order.told order.held
+        not_lacked call.request.files order.files order.command.file source order.told order.held
         (subst (LacksFile call.request.files) (sym same) lacks.0)
 
 fetched : (call : Call) (source : List ℕ) (order : IsInOrder call source) (status : Status) (output : List ℕ) (line : report.Report) (f : FetchedEnds call.request status output line) → f.source ≡ take 1048577 source
 fetched call source order status output line f =
     let same = file_once call.request.words order.command f.command order.reads f.reads in
     found call.request.files order.files order.command.file source f.source order.told order.held
-      (subst (λ (name : List ℕ). AppendsFile call.request.files name 1048577 [] f.source) (sym same) f.first_bytes)
+    (subst (λ (name : List ℕ). AppendsFile call.request.files name 1048577 [] f.source) (sym same) f.first_bytes)
 
 -- a source that was fetched short was fetched whole
 whole : (source read : List ℕ) → read ≡ take 1048577 source → length read ≤ 1048576 → read ≡ source

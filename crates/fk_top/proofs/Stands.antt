@@ -39,7 +39,7 @@ stands_plain image source p n f some few short =
     let s = run (rounds image [] p n) (opening f.program [] p) in
     let fault = run_passes (rounds image [] p n) (opening f.program [] p) refl in
     plain (machine image [] p n).stand (all_done s.processors)
-      (subst (λ (o : Option Fault). StandsAgree (machine image [] p n).stand (stand_by o s.processors)) fault follows.agrees.stand)
+    (subst (λ (o : Option Fault). StandsAgree (machine image [] p n).stand (stand_by o s.processors)) fault follows.agrees.stand)
 
 -- a run of a faithful image, with its status and its report by how the machine stands, is what the source comes to
 pub run_ends : (source : List ℕ) (p n : ℕ) (image : Image) (stand : Stand) (output : List ℕ) (begun : ℕ) (status : Status) (line : report.Report)
@@ -52,12 +52,12 @@ run_ends source p n image stand output begun status line fits f some few short p
   where
     go : (b : Bool) → is_running stand ≡ b → SourceEnds source p n status output line
     go true e =
-      let r = running e in
-      let is = (stands_plain image source p n f some few short).running (ap is_running (sym stands) ∙ e) in
-      subst (λ (st : Status). SourceEnds source p n st output line) (sym r.0)
+        let r = running e in
+        let is = (stands_plain image source p n f some few short).running (ap is_running (sym stands) ∙ e) in
+        subst (λ (st : Status). SourceEnds source p n st output line) (sym r.0)
         (begun, record { short = fits; image = image; faithful = f; stand_is = is; output_is = printed; begun_is = began }, r.1)
     go false e =
-      let o = over e in
-      let is = (stands_plain image source p n f some few short).over (ap is_running (sym stands) ∙ e) in
-      subst (λ (st : Status). SourceEnds source p n st output line) (sym o.0)
+        let o = over e in
+        let is = (stands_plain image source p n f some few short).over (ap is_running (sym stands) ∙ e) in
+        subst (λ (st : Status). SourceEnds source p n st output line) (sym o.0)
         (begun, record { short = fits; image = image; faithful = f; stand_is = is; output_is = printed; begun_is = began }, o.1)

@@ -14,7 +14,7 @@ pub record Reads (words : List (List ℕ)) (command : Command) : Type 0 where
   pub harts_text : List ℕ
   pub cycles_text : List ℕ
   pub words_are :
-    words ≡ codes "run" ∷ command.file ∷ codes "--harts" ∷ harts_text ∷ codes "--cycles" ∷ cycles_text ∷ []
+      words ≡ codes "run" ∷ command.file ∷ codes "--harts" ∷ harts_text ∷ codes "--cycles" ∷ cycles_text ∷ []
   pub harts_are : read_word harts_text ≡ Some command.harts
   pub cycles_are : read_word cycles_text ≡ Some command.cycles
   pub some_harts : 1 ≤ command.harts

@@ -85,7 +85,11 @@ fn run_ending(ran: Ran, bound: u32) -> Ending
 }
 
 /// What the words come to over a store. It gives nothing to anybody.
-pub fn find_ending<F: Store>(alloc: Global, words: &[String], files: &mut F) -> Result<Ending, AllocError>
+pub fn find_ending<F: Store>(
+    alloc: Global,
+    words: &[String],
+    files: &mut F,
+) -> Result<Ending, AllocError>
     ensures ends { IfOk result (λ e. Ends (request_of (map string_bytes words.now) (F.files files.old) (F.fetch_faults files.old) (F.fetch_faults files.new)) e.status e.output.items e.report) }
     ensures files { F.files files.new ≡ F.files files.old }
     ensures put_faults { F.put_faults files.new ≡ F.put_faults files.old }

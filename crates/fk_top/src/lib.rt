@@ -6,6 +6,8 @@ pub mod ending;
 pub mod report;
 pub mod run;
 pub mod status;
+#[cfg(test)]
+mod tests;
 pub mod words;
 
 pub use call::fork95;

@@ -20,12 +20,7 @@ pub struct Ran {
 }
 
 /// Runs an image without input on so many harts, until it ends or the bound on the cycles is reached.
-pub fn run_image(
-    alloc: Global,
-    image: &Image,
-    harts: u32,
-    bound: u32,
-) -> Result<Ran, AllocError>
+pub fn run_image(alloc: Global, image: &Image, harts: u32, bound: u32) -> Result<Ran, AllocError>
     requires limits { IsWithinLimits image.now }
     requires some_harts { 1 ≤ harts }
     requires few_harts { harts ≤ 1024 }

@@ -10,4 +10,4 @@ returns-in_default-clause-ends g c =
 pub returns-in-Ok-clause-ends : goal.returns-in-Ok-clause-ends
 returns-in-Ok-clause-ends g c =
     source_ends _ _ _ _ _ (command_of c.in-Some.command) _ _ _ c.in-Some.ensures.some
-      c.new-source.ensures.items c.as_slice.ensures.value c.in-Ok.ensures.appended c.in-Ok.ensures.at_most c.source_ending.ensures
+    c.new-source.ensures.items c.as_slice.ensures.value c.in-Ok.ensures.appended c.in-Ok.ensures.at_most c.source_ending.ensures

@@ -1,0 +1,216 @@
+//! Whole calls over objects in memory.
+
+use crate::call::fork95;
+use crate::status::Status;
+use fk_ports::{MemSink, MemStore, SureSource};
+use std::alloc::{AllocError, Global};
+use std::test::Fail;
+
+const SUMS: &str = "sh int x; void main(void) { x = 2 + 3; putint(x); }";
+
+/// What a call answered, and what its sinks took.
+#[derive(Drop)]
+struct Outcome {
+    status: Status,
+    out: Vec<u8>,
+    err: Vec<u8>,
+}
+
+/// The numbers of the calls that fail, for the store and the two sinks.
+#[derive(Clone, Copy)]
+struct Fails<'a> {
+    files: &'a [u64],
+    out: &'a [u64],
+    err: &'a [u64],
+}
+
+const NONE: Fails = Fails {
+    files: &[],
+    out: &[],
+    err: &[],
+};
+
+// `run text.f95 --harts HARTS --cycles CYCLES` over a store that holds the text.
+fn run(
+    alloc: Global,
+    text: &[u8],
+    harts: &str,
+    cycles: &str,
+    fails: Fails,
+) -> Result<Outcome, AllocError> {
+    let words = ["run", "text.f95", "--harts", harts, "--cycles", cycles];
+    call(alloc, text, words.as_slice(), fails)
+}
+
+fn call(alloc: Global, text: &[u8], words: &[&str], fails: Fails) -> Result<Outcome, AllocError> {
+    let mut owned = Vec::new(alloc);
+    for word in words {
+        owned.push(String::from_str(alloc, word)?)?;
+    }
+    let name = String::from_str(alloc, "text.f95")?;
+    let held = vec![in alloc; (name, text.to_vec(alloc)?)]?;
+    let mut files = MemStore::make(held, fails.files.to_vec(alloc)?);
+    let mut input = SureSource::make(Vec::new(alloc));
+    let mut out = MemSink::make(alloc, 100_000, fails.out.to_vec(alloc)?)?;
+    let mut err = MemSink::make(alloc, 100, fails.err.to_vec(alloc)?)?;
+    let status = fork95(
+        alloc,
+        owned.as_slice(),
+        &mut files,
+        &mut input,
+        &mut out,
+        &mut err,
+    );
+    Ok(Outcome {
+        status,
+        out: out.bytes().to_vec(alloc)?,
+        err: err.bytes().to_vec(alloc)?,
+    })
+}
+
+fn blanks(alloc: Global, count: usize) -> Result<Vec<u8>, AllocError> {
+    vec![in alloc; b' '; count]
+}
+
+fn is_finished(err: &[u8]) -> bool {
+    err.starts_with(b"finished after ") && err.ends_with(b" cycles\n")
+}
+
+#[test]
+fn one_hart_prints_a_sum(rt: HostRuntime) -> Result<(), Fail> {
+    let got = run(rt.alloc(), SUMS.as_bytes(), "1", "1000000", NONE)?;
+    assert_eq!(rt; got.status, Status::Done);
+    assert_eq!(rt; got.out.as_slice(), b"5\n".as_slice());
+    assert!(rt; is_finished(got.err.as_slice()));
+    Ok(())
+}
+
+#[test]
+fn each_hart_prints_it(rt: HostRuntime) -> Result<(), Fail> {
+    let got = run(rt.alloc(), SUMS.as_bytes(), "2", "1000000", NONE)?;
+    assert_eq!(rt; got.status, Status::Done);
+    assert_eq!(rt; got.out.as_slice(), b"5\n5\n".as_slice());
+    Ok(())
+}
+
+#[test]
+fn no_cycle_is_run_at_bound_0(rt: HostRuntime) -> Result<(), Fail> {
+    let got = run(rt.alloc(), SUMS.as_bytes(), "1", "0", NONE)?;
+    assert_eq!(rt; got.status, Status::CycleBound);
+    assert_eq!(rt; got.out.as_slice(), b"".as_slice());
+    assert_eq!(rt; got.err.as_slice(), b"stopped after 0 cycles\n".as_slice());
+    Ok(())
+}
+
+#[test]
+fn numbers_wrap_and_print_signed(rt: HostRuntime) -> Result<(), Fail> {
+    let text = b"void main(void) { putint(4294967295); putint(4294967295 + 1); }";
+    let got = run(rt.alloc(), text, "1", "1000000", NONE)?;
+    assert_eq!(rt; got.status, Status::Done);
+    assert_eq!(rt; got.out.as_slice(), b"-1\n0\n".as_slice());
+    Ok(())
+}
+
+#[test]
+fn an_empty_main_prints_nothing(rt: HostRuntime) -> Result<(), Fail> {
+    let got = run(rt.alloc(), b"void main(void) { }", "1", "10000000", NONE)?;
+    assert_eq!(rt; got.status, Status::Done);
+    assert_eq!(rt; got.out.as_slice(), b"".as_slice());
+    assert!(rt; is_finished(got.err.as_slice()));
+    Ok(())
+}
+
+#[test]
+fn an_undeclared_name_is_refused(rt: HostRuntime) -> Result<(), Fail> {
+    let got = run(
+        rt.alloc(),
+        b"void main(void) { putint(y); }",
+        "1",
+        "1000000",
+        NONE,
+    )?;
+    assert_eq!(rt; got.status, Status::Refused);
+    assert_eq!(rt; got.out.as_slice(), b"".as_slice());
+    assert_eq!(rt; got.err.as_slice(), b"refused 22 NotBuilt\n".as_slice());
+    Ok(())
+}
+
+#[test]
+fn a_text_that_is_too_long_is_refused(rt: HostRuntime) -> Result<(), Fail> {
+    let text = blanks(rt.alloc(), 1_048_577)?;
+    let got = run(rt.alloc(), text.as_slice(), "1", "1000000", NONE)?;
+    assert_eq!(rt; got.status, Status::Refused);
+    assert_eq!(rt;
+        got.err.as_slice(),
+        b"refused 12 SourceTooLong 1048577\n".as_slice()
+    );
+    Ok(())
+}
+
+#[test]
+fn no_harts_are_no_command(rt: HostRuntime) -> Result<(), Fail> {
+    for harts in ["0", "1025", "+1", "", "4294967297"] {
+        let got = run(rt.alloc(), SUMS.as_bytes(), harts, "1000000", NONE)?;
+        assert_eq!(rt; got.status, Status::Usage);
+        assert_eq!(rt; got.out.as_slice(), b"".as_slice());
+        assert_eq!(rt; got.err.as_slice(), b"refused command line\n".as_slice());
+    }
+    Ok(())
+}
+
+#[test]
+fn other_words_are_no_command(rt: HostRuntime) -> Result<(), Fail> {
+    let got = call(rt.alloc(), SUMS.as_bytes(), ["--help"].as_slice(), NONE)?;
+    assert_eq!(rt; got.status, Status::Usage);
+    Ok(())
+}
+
+#[test]
+fn a_store_that_fails_is_a_read_fault(rt: HostRuntime) -> Result<(), Fail> {
+    let fails = Fails {
+        files: &[1],
+        out: &[],
+        err: &[],
+    };
+    let got = run(rt.alloc(), SUMS.as_bytes(), "1", "1000000", fails)?;
+    assert_eq!(rt; got.status, Status::ReadFault);
+    assert_eq!(rt; got.out.as_slice(), b"".as_slice());
+    assert_eq!(rt; got.err.as_slice(), b"read fault\n".as_slice());
+    Ok(())
+}
+
+#[test]
+fn an_absent_file_is_a_read_fault(rt: HostRuntime) -> Result<(), Fail> {
+    let words = ["run", "other.f95", "--harts", "1", "--cycles", "1"];
+    let got = call(rt.alloc(), SUMS.as_bytes(), words.as_slice(), NONE)?;
+    assert_eq!(rt; got.status, Status::ReadFault);
+    assert_eq!(rt; got.err.as_slice(), b"read fault\n".as_slice());
+    Ok(())
+}
+
+#[test]
+fn a_sink_that_fails_ends_the_call_without_a_report(rt: HostRuntime) -> Result<(), Fail> {
+    let fails = Fails {
+        files: &[],
+        out: &[1],
+        err: &[],
+    };
+    let got = run(rt.alloc(), SUMS.as_bytes(), "1", "1000000", fails)?;
+    assert_eq!(rt; got.status, Status::WriteFault);
+    assert_eq!(rt; got.out.as_slice(), b"".as_slice());
+    assert_eq!(rt; got.err.as_slice(), b"".as_slice());
+    Ok(())
+}
+
+#[test]
+fn a_report_that_is_not_taken_is_a_write_fault(rt: HostRuntime) -> Result<(), Fail> {
+    let fails = Fails {
+        files: &[],
+        out: &[],
+        err: &[1],
+    };
+    let got = run(rt.alloc(), SUMS.as_bytes(), "1", "1000000", fails)?;
+    assert_eq!(rt; got.status, Status::WriteFault);
+    assert_eq!(rt; got.out.as_slice(), b"5\n".as_slice());
+    Ok(())
+}
