@@ -2,13 +2,12 @@
 use Rattle.std.proofs.Common.{◌≡◌, ℕ, suc, ◌+◌, ◌-◌, ◌*◌, ◌/◌, ◌%◌, ◌^◌, ◌<◌, ◌≤◌, List, [], ◌∷◌, ◌++◌, length, Bool, true, false, sym, ap, ◌∙◌, arith, refl, eq-eqb, ◌⊎◌, inl, inr}
 use Rattle.std.proofs.lemmas.Bool.{cases_lt, lt-ltb, le-ltb, ne_eqb}
 use Rattle.std.proofs.lemmas.Bool.Decides.{nat_tests}
-use Rattle.std.specs.Prelude.{◌==◌, nat_lt, nat_le, ◌&&◌, if◌then◌else◌}
+use Rattle.std.specs.Prelude.{◌==◌, nat_lt, nat_le, ◌&&◌}
 use Rattle.fk_num.specs.Word.{Memory, put, word, word_sum, signed_line}
 use Rattle.fk_meaning.specs.declared.operations.Operation.{Operation}
 use Rattle.fk_meaning.specs.declared.operations.Operation.TheVariants.{PushNumber, PushAddress, Add, DropLast, ReadWord, WriteWord, PrintNumber, Halt}
 use Rattle.fk_meaning.specs.Operation.{Class, Local, Request, Tree, class_of, local, address_of}
 use Rattle.fk_meaning.specs.Serve.{Store, Answer, Served, FaultAt, serve, index_at}
-use Rattle.fk_machine.specs.declared.instruction.Instruction.TheVariants as instruction
 use Rattle.fk_machine.specs.declared.place.Device.TheVariants as device
 use Rattle.fk_machine.specs.declared.place.Place.TheVariants.{SharedWord, LocalWord, DeviceWord}
 use Rattle.fk_machine.specs.Hart.{Hart, Shared, Setting, Goes, place_of, device_at, writes, moves, load, store, perform}

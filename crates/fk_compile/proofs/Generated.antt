@@ -1,5 +1,5 @@
 -- What is assembled from the blocks of a program is faithful to it.
-use Rattle.std.proofs.Common.{◌≡◌, ℕ, ◌+◌, ◌*◌, ◌≤◌, List, [], length, Ok, Err, All, IfOk, sym, ap, subst, ◌∙◌, arith}
+use Rattle.std.proofs.Common.{◌≡◌, ◌≤◌, List, [], length, Ok, Err, All, IfOk, sym, ap, subst, ◌∙◌, arith}
 use Rattle.std.specs.Prelude.{Result, map, replicate, vec_len}
 use Rattle.std.specs.declared.alloc.AllocError.{AllocError}
 use Rattle.fk_image.specs.declared.Image.{Image}
@@ -16,7 +16,7 @@ use Rattle.fk_compile.proofs.Flat.{flat_main}
 use Rattle.fk_compile.proofs.Linked.{Placed}
 use Rattle.fk_compile.proofs.Theorem.{IsMade, made_follows}
 use Rattle.fk_compile.proofs.Ready.{ready_body}
-use Rattle.fk_compile.proofs.Places.{IsCode, placed}
+use Rattle.fk_compile.proofs.Places.{placed}
 use Rattle.fk_compile.proofs.Limits.{code_length, some_operation, sites_fit, commits_fit, commits_rise}
 
 -- a program that the compiler takes

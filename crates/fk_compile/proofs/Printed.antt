@@ -9,7 +9,7 @@ use Rattle.fk_machine.specs.declared.place.Device.{Device}
 use Rattle.fk_machine.specs.declared.place.Device.TheVariants.{OutInt, OutChar, Fault, Halt, Cycle, HartId, Harts, Inputs}
 use Rattle.fk_machine.specs.declared.place.Place.{Place}
 use Rattle.fk_machine.specs.declared.place.Place.TheVariants.{SharedWord, ControlWord, LocalWord, DeviceWord, Misaligned, Nowhere}
-use Rattle.fk_machine.specs.Hart.{Hart, Shared, Setting, Effect, Goes, Stops, place_of, moves, writes, load_device, load, store_device, store, trap, jump, perform, on_row, on_fetch, step}
+use Rattle.fk_machine.specs.Hart.{Hart, Shared, Setting, Effect, Goes, Stops, place_of, moves, writes, load_device, load, store_device, store, trap, jump, perform, on_fetch, step}
 use Rattle.fk_machine.specs.Cycle.{Turns, before, after_effect, turn, turns}
 
 -- the shared state, its output after bytes that were printed earlier

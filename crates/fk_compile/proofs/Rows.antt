@@ -1,5 +1,5 @@
 -- The table reads back the word of each instruction.
-use Rattle.std.proofs.Common.{◌≡◌, ℕ, ◌+◌, ◌*◌, ◌/◌, ◌%◌, ◌^◌, Some, ap, arith}
+use Rattle.std.proofs.Common.{◌≡◌, ℕ, ◌+◌, ◌*◌, ◌/◌, ◌%◌, Some, ap, arith}
 use Rattle.fk_machine.specs.declared.instruction.Instruction.TheVariants.{Lui, Addi, Add, Lw, Sw, Beq, Bne, Jal}
 use Rattle.fk_machine.specs.Row.{row}
 use Rattle.fk_compile.specs.Encoding.{IsShort, IsEncodable}

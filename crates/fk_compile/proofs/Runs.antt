@@ -6,10 +6,9 @@ use Rattle.std.proofs.lemmas.List.{append-nil}
 use Rattle.fk_num.specs.Word.{Memory}
 use Rattle.fk_image.specs.declared.Image.{Image}
 use Rattle.fk_meaning.specs.Next.{Todo, Step, next}
-use Rattle.fk_meaning.specs.Serve.{Store, Processor, is_done}
+use Rattle.fk_meaning.specs.Serve.{Processor, is_done}
 use Rattle.fk_meaning.specs.Round.{State, Fault, Round, result, IsPossible, IsStopped, cut}
 use Rattle.fk_meaning.specs.Schedule.{Schedule, run, ArePossible, all_done}
-use Rattle.fk_machine.specs.declared.stand.Stand.{Stand}
 use Rattle.fk_machine.specs.declared.stand.Stand.TheVariants.{Running, Finished, Faulted}
 use Rattle.fk_machine.specs.Hart.{Hart, Shared}
 use Rattle.fk_machine.specs.Row.{row}

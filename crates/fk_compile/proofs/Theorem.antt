@@ -1,5 +1,5 @@
 -- An image that has the blocks of a program in their places follows the program.
-use Rattle.std.proofs.Common.{◌≡◌, ℕ, zero, suc, ◌<◌, ◌≤◌, List, [], ◌∷◌, ◌++◌, Option, Some, Bool, true, false, cond, sym, ap, subst, arith, refl, inl, inr}
+use Rattle.std.proofs.Common.{◌≡◌, ℕ, zero, suc, ◌≤◌, List, [], ◌∷◌, ◌++◌, Some, Bool, true, false, cond, sym, ap, subst, arith, refl, inl, inr}
 use Rattle.std.specs.Prelude.{replicate, slice_index, ◌&&◌}
 use Rattle.fk_image.specs.declared.Image.{Image}
 use Rattle.fk_meaning.specs.declared.syntax.Program.{Program}

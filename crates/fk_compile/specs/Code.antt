@@ -1,5 +1,5 @@
 -- The block of each operation, and the code and commit table of a list of blocks.
-use Rattle.std.specs.Prelude.{ℕ, ◌+◌, ◌-◌, ◌*◌, ◌/◌, ◌%◌, List, [], ◌∷◌, ◌++◌, Bool, true, false, cond, map, Option, Some}
+use Rattle.std.specs.Prelude.{ℕ, ◌+◌, ◌-◌, ◌*◌, ◌/◌, ◌%◌, List, [], ◌∷◌, ◌++◌, true, false, cond, map, Option, Some}
 use Rattle.fk_num.specs.Word.{word}
 use Rattle.fk_meaning.specs.declared.operations.Operation.{Operation}
 use Rattle.fk_meaning.specs.declared.operations.Operation.TheVariants as operation

@@ -1,4 +1,4 @@
-use Rattle.std.proofs.Common.{◌≡◌, ◌≤◌, ◌∙◌, List, [], length, All, ap, sym, subst, arith}
+use Rattle.std.proofs.Common.{◌∙◌, length, All, ap, sym, subst, arith}
 use Rattle.fk_meaning.specs.Sites.{operations, operations_of_body}
 use Rattle.fk_compile.specs.Encoding.{IsEncodable}
 use Rattle.fk_compile.specs.Code.{all_marked}
