@@ -103,11 +103,14 @@ pub record Does (b : Block) (op : Operation) (h : Hart) (vs : List ℕ) : Type 0
 
 -- ---- addresses
 
-local_at : (a : ℕ) → (a % 4 == 0) ≡ true → (nat_le 0x10000000 a && nat_lt a (0x10000000 + 4 * 2 ^ 20)) ≡ false → (nat_le 0x18000000 a && nat_lt a (0x18000000 + 4 * (2 ^ 20 + 64))) ≡ false → (nat_le 0x20000000 a && nat_lt a (0x20000000 + 4 * 32768)) ≡ true → place_of a ≡ LocalWord ((a - 0x20000000) / 4)
+local_at : (a : ℕ) → (a % 4 == 0) ≡ true → (nat_le 0x10000000 a && nat_lt a (0x10000000 + 4 * 2 ^ 20)) ≡ false
+    → (nat_le 0x18000000 a && nat_lt a (0x18000000 + 4 * (2 ^ 20 + 64))) ≡ false
+    → (nat_le 0x20000000 a && nat_lt a (0x20000000 + 4 * 32768)) ≡ true → place_of a ≡ LocalWord ((a - 0x20000000) / 4)
 unfolding place_of
 local_at a e0 e1 e2 e3 = rw (e0, e1, e2, e3)
 
-shared_at : (a : ℕ) → (a % 4 == 0) ≡ true → (nat_le 0x10000000 a && nat_lt a (0x10000000 + 4 * 2 ^ 20)) ≡ true → place_of a ≡ SharedWord ((a - 0x10000000) / 4)
+shared_at : (a : ℕ) → (a % 4 == 0) ≡ true → (nat_le 0x10000000 a && nat_lt a (0x10000000 + 4 * 2 ^ 20)) ≡ true
+    → place_of a ≡ SharedWord ((a - 0x10000000) / 4)
 unfolding place_of
 shared_at a e0 e1 = rw (e0, e1)
 
@@ -122,10 +125,10 @@ local_from a d lt e =
     local_at a (eq-eqb (a % 4) 0 (omega arith)) (above a 268435456 272629760 (omega arith)) (above a 402653184 406847744 (omega arith))
     (within a 536870912 537001984 (omega arith) (omega arith))
 
-pub local_place : (d : ℕ) → d < 512 → IsLocalAddress (word_sum 536870912 (4 * d))
+local_place : (d : ℕ) → d < 512 → IsLocalAddress (word_sum 536870912 (4 * d))
 local_place d lt = local_from _ d lt (omega arith)
 
-pub local_word : (d k : ℕ) → d < 512 → d ≡ k → local_index (word_sum 536870912 (4 * d)) ≡ k
+local_word : (d k : ℕ) → d < 512 → d ≡ k → local_index (word_sum 536870912 (4 * d)) ≡ k
 local_word d k lt e = omega arith
 
 shared_place : (a x : ℕ) → x < 1048576 → a ≡ 0x10000000 + 4 * x → place_of a ≡ SharedWord (index_at a)
@@ -158,7 +161,9 @@ values_push m i v w vs e f held =
 
 -- ---- the blocks
 
-push_does : (op : Operation) (n v d : ℕ) (vs : List ℕ) (h : Hart) → d ≡ length vs → d < 500 → h.ended ≡ false → HasValues h.local vs → word_sum (high_part n * 4096) (low_part n) ≡ v → ((s : Store) → effect op s vs ≡ Served s (v ∷ vs)) → is_halt op ≡ false → Does (push_block d n) op h vs
+push_does : (op : Operation) (n v d : ℕ) (vs : List ℕ) (h : Hart) → d ≡ length vs → d < 500 → h.ended ≡ false → HasValues h.local vs
+    → word_sum (high_part n * 4096) (low_part n) ≡ v → ((s : Store) → effect op s vs ≡ Served s (v ∷ vs)) → is_halt op ≡ false
+    → Does (push_block d n) op h vs
 push_does op n v d vs h e lt live held value does goes_on = record {
   quiet = (tt, (tt, (tt, tt)));
   commits = λ s. record {
@@ -182,10 +187,12 @@ parts_of n = split n (cases_lt (n % 4096) 2048)
     split n (inl lt) = rw (lt-ltb (n % 4096) 2048 lt) (omega arith)
     split n (inr le) = rw (le-ltb (n % 4096) 2048 le) (omega arith)
 
-number_does : (n d : ℕ) (vs : List ℕ) (h : Hart) → d ≡ length vs → d < 500 → h.ended ≡ false → HasValues h.local vs → Does (block d (PushNumber n)) (PushNumber n) h vs
+number_does : (n d : ℕ) (vs : List ℕ) (h : Hart) → d ≡ length vs → d < 500 → h.ended ≡ false → HasValues h.local vs
+    → Does (block d (PushNumber n)) (PushNumber n) h vs
 number_does n d vs h e lt live held = push_does (PushNumber n) n (word n) d vs h e lt live held (parts_of n) (λ s. refl) refl
 
-address_does : (x d : ℕ) (vs : List ℕ) (h : Hart) → d ≡ length vs → d < 500 → x < 1048576 → h.ended ≡ false → HasValues h.local vs → Does (block d (PushAddress x)) (PushAddress x) h vs
+address_does : (x d : ℕ) (vs : List ℕ) (h : Hart) → d ≡ length vs → d < 500 → x < 1048576 → h.ended ≡ false → HasValues h.local vs
+    → Does (block d (PushAddress x)) (PushAddress x) h vs
 address_does x d vs h e lt small live held =
     let w : word (word (address_of x)) ≡ address_of x = omega arith in
     push_does (PushAddress x) (word (address_of x)) (address_of x) d vs h e lt live held (parts_of (word (address_of x)) ∙ w) (λ s. refl) refl
@@ -193,7 +200,8 @@ address_does x d vs h e lt small live held =
 sums : {a b c d : ℕ} → a ≡ c → b ≡ d → word_sum a b ≡ word_sum c d
 sums {b = b} {c = c} e f = ap (λ x. word_sum x b) e ∙ ap (word_sum c) f
 
-add_does : (d a b : ℕ) (vs : List ℕ) (h : Hart) → d ≡ length vs + 2 → length vs < 500 → h.ended ≡ false → HasValues h.local (b ∷ a ∷ vs) → Does (block d Add) Add h (b ∷ a ∷ vs)
+add_does : (d a b : ℕ) (vs : List ℕ) (h : Hart) → d ≡ length vs + 2 → length vs < 500 → h.ended ≡ false → HasValues h.local (b ∷ a ∷ vs)
+    → Does (block d Add) Add h (b ∷ a ∷ vs)
 add_does d a b vs h e lt live held =
     let low = local_place (d - 2) (omega arith) in
     let high = local_place (d - 1) (omega arith) in
@@ -230,7 +238,8 @@ drop_does d v vs h live held = record {
   };
 }
 
-read_does : (d a x : ℕ) (vs : List ℕ) (h : Hart) → d ≡ length vs + 1 → length vs < 500 → x < 1048576 → a ≡ 0x10000000 + 4 * x → h.ended ≡ false → HasValues h.local (a ∷ vs) → Does (block d ReadWord) ReadWord h (a ∷ vs)
+read_does : (d a x : ℕ) (vs : List ℕ) (h : Hart) → d ≡ length vs + 1 → length vs < 500 → x < 1048576 → a ≡ 0x10000000 + 4 * x
+    → h.ended ≡ false → HasValues h.local (a ∷ vs) → Does (block d ReadWord) ReadWord h (a ∷ vs)
 read_does d a x vs h e lt small address live held =
     let top = local_place (d - 1) (omega arith) in
     let va = ap h.local (local_word (d - 1) (length vs) (omega arith) (omega arith)) ∙ held.0 in
@@ -254,7 +263,8 @@ read_does d a x vs h e lt small address live held =
           };
     }
 
-write_does : (d v a x : ℕ) (vs : List ℕ) (h : Hart) → d ≡ length vs + 2 → length vs < 500 → x < 1048576 → a ≡ 0x10000000 + 4 * x → h.ended ≡ false → HasValues h.local (v ∷ a ∷ vs) → Does (block d WriteWord) WriteWord h (v ∷ a ∷ vs)
+write_does : (d v a x : ℕ) (vs : List ℕ) (h : Hart) → d ≡ length vs + 2 → length vs < 500 → x < 1048576 → a ≡ 0x10000000 + 4 * x
+    → h.ended ≡ false → HasValues h.local (v ∷ a ∷ vs) → Does (block d WriteWord) WriteWord h (v ∷ a ∷ vs)
 write_does d v a x vs h e lt small address live held =
     let low = local_place (d - 2) (omega arith) in
     let high = local_place (d - 1) (omega arith) in
@@ -282,7 +292,8 @@ write_does d v a x vs h e lt small address live held =
           };
     }
 
-print_does : (d v : ℕ) (vs : List ℕ) (h : Hart) → d ≡ length vs + 1 → length vs < 500 → h.ended ≡ false → HasValues h.local (v ∷ vs) → Does (block d PrintNumber) PrintNumber h (v ∷ vs)
+print_does : (d v : ℕ) (vs : List ℕ) (h : Hart) → d ≡ length vs + 1 → length vs < 500 → h.ended ≡ false → HasValues h.local (v ∷ vs)
+    → Does (block d PrintNumber) PrintNumber h (v ∷ vs)
 print_does d v vs h e lt live held =
     let top = local_place (d - 1) (omega arith) in
     let vv = ap h.local (local_word (d - 1) (length vs) (omega arith) (omega arith)) ∙ held.0 in
@@ -325,13 +336,14 @@ halt_does d vs h held = record {
 
 -- ---- all of them
 
-pub length-shape : (shape : Shape) (vs : List ℕ) → HasShape shape vs → length shape ≡ length vs
+length-shape : (shape : Shape) (vs : List ℕ) → HasShape shape vs → length shape ≡ length vs
 length-shape [] [] has = refl
 length-shape (b ∷ shape) (v ∷ vs) has = ap suc (length-shape shape vs has.1)
 length-shape [] (v ∷ vs) has = absurd has
 length-shape (b ∷ shape) [] has = absurd has
 
-pub block_does : (op : Operation) (shape : Shape) (vs : List ℕ) (h : Hart) → IsReady op shape → HasShape shape vs → h.ended ≡ false → HasValues h.local vs → Does (block (length shape) op) op h vs
+pub block_does : (op : Operation) (shape : Shape) (vs : List ℕ) (h : Hart) → IsReady op shape → HasShape shape vs → h.ended ≡ false
+    → HasValues h.local vs → Does (block (length shape) op) op h vs
 block_does (PushNumber n) shape vs h ready has live held = number_does n (length shape) vs h (length-shape shape vs has) ready live held
 block_does (PushAddress x) shape vs h ready has live held = address_does x (length shape) vs h (length-shape shape vs has) ready.0 ready.1 live held
 block_does Add (r ∷ q ∷ shape) (b ∷ a ∷ vs) h ready has live held =
@@ -351,7 +363,8 @@ Fitting shape (Served s vs) = HasShape shape vs
 Fitting shape (FaultAt site) = Unit {0}
 
 -- the shape is kept
-pub shape_kept : (op : Operation) (shape : Shape) (s : Store) (vs : List ℕ) → IsReady op shape → HasShape shape vs → Fitting (shape_after op shape) (effect op s vs)
+pub shape_kept : (op : Operation) (shape : Shape) (s : Store) (vs : List ℕ) → IsReady op shape → HasShape shape vs
+    → Fitting (shape_after op shape) (effect op s vs)
 shape_kept (PushNumber n) shape s vs ready has = (tt, has)
 shape_kept (PushAddress x) shape s vs ready has = ((x, ready.1, refl), has)
 shape_kept Add (r ∷ q ∷ shape) s (b ∷ a ∷ vs) ready has = (tt, has.1.1)

@@ -1,12 +1,12 @@
 -- A cycle of the machine is a round of the source. No line here knows an operation of the source.
-use Rattle.std.proofs.Common.{◌≡◌, ℕ, zero, suc, ◌+◌, List, [], ◌∷◌, Option, Some, None, sym, ap, subst, ◌∙◌, arith, refl, ◌⊎◌, inl, inr, ⊎_elim}
+use Rattle.std.proofs.Common.{◌≡◌, ℕ, zero, suc, ◌+◌, List, [], ◌∷◌, Option, Some, None, false, sym, ap, subst, ◌∙◌, arith, refl, ◌⊎◌, inl, inr, ⊎_elim}
 use Rattle.std.specs.Prelude.{map}
 use Rattle.fk_num.specs.Word.{Memory}
 use Rattle.fk_image.specs.declared.Image.{Image}
 use Rattle.fk_meaning.specs.Serve.{Store, Processor}
-use Rattle.fk_meaning.specs.Round.{Fault, Round, Acting, Passes, Breaks, Phases, after_phase, all_requests, all_locals, begin, begin_all, local_phase, tree_phase, cut, MayDo, AllMayDo}
+use Rattle.fk_meaning.specs.Round.{Fault, Round, Acting, Phase, Passes, Breaks, Phases, after_phase, all_requests, all_locals, begin, begin_all, local_phase, tree_phase, cut, MayDo, AllMayDo}
 use Rattle.fk_machine.specs.declared.stand.Stand.TheVariants.{Faulted}
-use Rattle.fk_machine.specs.Hart.{Hart, Shared, Setting, Stops}
+use Rattle.fk_machine.specs.Hart.{Hart, Shared, Setting, Effect, Stops, step}
 use Rattle.fk_machine.specs.Cycle.{Turns, before, no_address, after_effect, turn, turns}
 use Rattle.fk_machine.specs.Run.{count_of}
 use Rattle.fk_compile.proofs.Walk.{Holds}
@@ -88,10 +88,16 @@ record OneFault (image : Image) (t : Setting) (control : Memory) (number : ℕ) 
   pub may : MayDo (count_of image (Some h.pc)) p
   pub turned : (hs : List Hart) (others : Shared → Turns) → turn h.ended t number h hs others (shared_of control s) ≡ after_effect h hs others (shared_of control s) (Stops (Faulted site number))
 
+live_turn : (t : Setting) (number : ℕ) (h : Hart) (hs : List Hart) (others : Shared → Turns) (s : Shared) (does : Effect)
+    → h.ended ≡ false → step t number h s ≡ does → turn h.ended t number h hs others s ≡ after_effect h hs others s does
+live_turn t number h hs others s does live e = ap (λ b. turn b t number h hs others s) live ∙ ap (after_effect h hs others s) e
+
 may_once : (image : Image) (h : Hart) (p : Processor) (c : AtCommit image h p) → MayDo (count_of image (Some h.pc)) p
 may_once image h p c = rw c.counted (omega arith, tt, (record { first = c.op; rest = c.rest }, c.is_next))
 
-commit_turn : (image : Image) (t : Setting) (control : Memory) (number : ℕ) (h : Hart) (p : Processor) (s : Store) → Holds image t → (c : AtCommit image h p) → (Serves image h c.op c.rest p.values s ⊎ Faults image h c.op p.values s) → OneTurn image t control number (Some 0) h p s ⊎ OneFault image t control number h p s
+commit_turn : (image : Image) (t : Setting) (control : Memory) (number : ℕ) (h : Hart) (p : Processor) (s : Store) → Holds image t
+    → (c : AtCommit image h p) → (Serves image h c.op c.rest p.values s ⊎ Faults image h c.op p.values s)
+    → OneTurn image t control number (Some 0) h p s ⊎ OneFault image t control number h p s
 commit_turn image t control number h p s runs c (inl v) =
     let b = bound_after image v.h' (record { left = c.rest; values = v.vs' }) v.follows in
     let once = in_turn-served p c.op c.rest s v.s' v.vs' c.is_next v.serves in
@@ -106,17 +112,18 @@ commit_turn image t control number h p s runs c (inl v) =
       bound = b.1;
       may = may_once image h p c;
       falls = count;
-      turned = λ hs others. ap (λ e. turn e t number h hs others (shared_of control s)) c.live ∙ ap (after_effect h hs others (shared_of control s)) (v.goes t runs control number);
+      turned = λ hs others. live_turn t number h hs others (shared_of control s) _ c.live (v.goes t runs control number);
     })
 commit_turn image t control number h p s runs c (inr f) =
     inr (record {
       site = f.site;
       phase = ap (λ n. in_turn n s p) c.counted ∙ in_turn-faulted p c.op c.rest s f.site c.is_next f.faults;
       may = may_once image h p c;
-      turned = λ hs others. ap (λ e. turn e t number h hs others (shared_of control s)) c.live ∙ ap (after_effect h hs others (shared_of control s)) (f.stops t runs control number);
+      turned = λ hs others. live_turn t number h hs others (shared_of control s) _ c.live (f.stops t runs control number);
     })
 
-one_turn : (image : Image) (t : Setting) (control : Memory) (number : ℕ) (d : Option ℕ) (h : Hart) (p : Processor) (s : Store) → Holds image t → Bound image d h p → OneTurn image t control number d h p s ⊎ OneFault image t control number h p s
+one_turn : (image : Image) (t : Setting) (control : Memory) (number : ℕ) (d : Option ℕ) (h : Hart) (p : Processor) (s : Store)
+    → Holds image t → Bound image d h p → OneTurn image t control number d h p s ⊎ OneFault image t control number h p s
 one_turn image t control number None h p s runs b = inl (record {
   h' = h;
   ran = None;
@@ -142,7 +149,7 @@ one_turn image t control number (Some (suc d)) h p s runs (below, l) =
       bound = (omega arith, record { committing = l.committing; runs = l.runs.2; commits = l.commits });
       may = rw count tt;
       falls = (refl, count);
-      turned = λ hs others. ap (λ e. turn e t number h hs others (shared_of control s)) first.live ∙ ap (after_effect h hs others (shared_of control s)) (first.goes t runs number (shared_of control s));
+      turned = λ hs others. live_turn t number h hs others (shared_of control s) _ first.live (first.goes t runs number (shared_of control s));
     })
 one_turn image t control number (Some zero) h p s runs (below, l) =
     let c = subst (λ g. AtCommit image g p) (sym l.runs) l.commits in
@@ -151,7 +158,8 @@ one_turn image t control number (Some zero) h p s runs (below, l) =
 -- ---- all harts
 
 -- nobody else is in a round that a fault ends
-zeros_may : (image : Image) (ds : Distances) (hs : List Hart) (ps : List Processor) → Together image ds hs ps → AllMayDo (map (count_of image) (map no_address hs)) ps
+zeros_may : (image : Image) (ds : Distances) (hs : List Hart) (ps : List Processor) → Together image ds hs ps
+    → AllMayDo (map (count_of image) (map no_address hs)) ps
 zeros_may image [] [] [] all = tt
 zeros_may image (d ∷ ds) (h ∷ hs) (p ∷ ps) all = (tt, zeros_may image ds hs ps all.1)
 zeros_may image ds hs ps all = absurd (assumption all)
@@ -160,18 +168,24 @@ zeros_cut : (image : Image) (hs : List Hart) → map (count_of image) (map no_ad
 zeros_cut image [] = refl
 zeros_cut image (h ∷ hs) = ap (λ r. 0 ∷ r) (zeros_cut image hs)
 
--- the phases with one processor more
-served-passes : (number c : ℕ) (round : Round) (p : Processor) (ps : List Processor) (s s' : Store) (a : Acting) → in_turn c s p ≡ Passes s' a
-    → served_from number (c ∷ round) (p ∷ ps) s ≡ (let rs = served_from (suc number) round ps s' in record { store = rs.store; acting = a ∷ rs.acting; fault = rs.fault })
-served-passes number c round p ps s s' a e = ap (after_phase number s (local_phase (begin c p) (begin c p).due) (all_locals (begin_all round ps)) (all_requests (suc number) (all_locals (begin_all round ps)))) e
+-- the phases with one processor more, by what becomes of it
+abbrev with_first : ℕ → ℕ → Round → Processor → List Processor → Store → Phase → Phases
+with_first number c round p ps s =
+    let later = all_locals (begin_all round ps) in
+    after_phase number s (local_phase (begin c p) (begin c p).due) later (all_requests (suc number) later)
 
-served-breaks : (number c : ℕ) (round : Round) (p : Processor) (ps : List Processor) (s : Store) (site : ℕ) → in_turn c s p ≡ Breaks site
-    → served_from number (c ∷ round) (p ∷ ps) s ≡ record { store = s; acting = local_phase (begin c p) (begin c p).due ∷ all_locals (begin_all round ps); fault = Some (record { site = site; processor = number }) }
-served-breaks number c round p ps s site e = ap (after_phase number s (local_phase (begin c p) (begin c p).due) (all_locals (begin_all round ps)) (all_requests (suc number) (all_locals (begin_all round ps)))) e
+served-passes : (number c : ℕ) (round : Round) (p : Processor) (ps : List Processor) (s s' : Store) (a : Acting)
+    → in_turn c s p ≡ Passes s' a → served_from number (c ∷ round) (p ∷ ps) s ≡ with_first number c round p ps s (Passes s' a)
+served-passes number c round p ps s s' a e = ap (with_first number c round p ps s) e
+
+served-breaks : (number c : ℕ) (round : Round) (p : Processor) (ps : List Processor) (s : Store) (site : ℕ)
+    → in_turn c s p ≡ Breaks site → served_from number (c ∷ round) (p ∷ ps) s ≡ with_first number c round p ps s (Breaks site)
+served-breaks number c round p ps s site e = ap (with_first number c round p ps s) e
 
 -- a turn and the turns of the others
 joined : (image : Image) (t : Setting) (control : Memory) (number : ℕ) (d : Option ℕ) (ds : Distances) (h : Hart) (hs : List Hart) (p : Processor) (ps : List Processor) (s : Store) (one : OneTurn image t control number d h p s)
-    → IsRound image control (suc number) ds ps one.s' (turns t (suc number) hs (shared_of control one.s')) → IsRound image control number (d ∷ ds) (p ∷ ps) s (turns t number (h ∷ hs) (shared_of control s))
+    → IsRound image control (suc number) ds ps one.s' (turns t (suc number) hs (shared_of control one.s'))
+    → IsRound image control number (d ∷ ds) (p ∷ ps) s (turns t number (h ∷ hs) (shared_of control s))
 joined image t control number d ds h hs p ps s one (inl rest) =
     let same = served-passes number (count_of image one.ran) (counts image (turns t (suc number) hs (shared_of control one.s'))) p ps s one.s' one.acting one.phase in
     subst (IsRound image control number (d ∷ ds) (p ∷ ps) s) (sym (one.turned hs (turns t (suc number) hs))) (inl (record {
@@ -196,7 +210,9 @@ joined image t control number d ds h hs p ps s one (inr rest) =
       is_cut = ap (λ r. count_of image one.ran ∷ r) rest.is_cut;
     }))
 
-broken : (image : Image) (t : Setting) (control : Memory) (number : ℕ) (d : Option ℕ) (ds : Distances) (h : Hart) (hs : List Hart) (p : Processor) (ps : List Processor) (s : Store) → Together image ds hs ps → OneFault image t control number h p s → IsRound image control number (d ∷ ds) (p ∷ ps) s (turns t number (h ∷ hs) (shared_of control s))
+broken : (image : Image) (t : Setting) (control : Memory) (number : ℕ) (d : Option ℕ) (ds : Distances) (h : Hart) (hs : List Hart) (p : Processor) (ps : List Processor) (s : Store)
+    → Together image ds hs ps → OneFault image t control number h p s
+    → IsRound image control number (d ∷ ds) (p ∷ ps) s (turns t number (h ∷ hs) (shared_of control s))
 broken image t control number d ds h hs p ps s all one =
     let same = served-breaks number (count_of image (Some h.pc)) (map (count_of image) (map no_address hs)) p ps s one.site one.phase in
     let place : number ≡ number + 0 = omega arith in
@@ -210,7 +226,8 @@ broken image t control number d ds h hs p ps s all one =
       is_cut = ap (λ r. count_of image (Some h.pc) ∷ r) (zeros_cut image hs);
     }))
 
-pub is_round : (image : Image) (t : Setting) (control : Memory) (number : ℕ) (ds : Distances) (hs : List Hart) (ps : List Processor) (s : Store) → Holds image t → Together image ds hs ps → IsRound image control number ds ps s (turns t number hs (shared_of control s))
+pub is_round : (image : Image) (t : Setting) (control : Memory) (number : ℕ) (ds : Distances) (hs : List Hart) (ps : List Processor) (s : Store)
+    → Holds image t → Together image ds hs ps → IsRound image control number ds ps s (turns t number hs (shared_of control s))
 is_round image t control number [] [] [] s runs all = inl (record { ds' = []; going = refl; no_fault = refl; shared = refl; together = tt; may = tt; fall = tt })
 is_round image t control number (d ∷ ds) (h ∷ hs) (p ∷ ps) s runs all =
     ⊎_elim

@@ -68,7 +68,8 @@ faithful program image taken parts = record {
   follows = λ input p n is_input pos most lt. made_follows program image (is_made program image taken parts) input p n pos;
 }
 
-pub generated : (program : Program) (code : List Marked) (ops : List Operation) (r : Result Image AllocError) → IsTaken program → code ≡ all_marked 0 (operations program) → ops ≡ operations program
+pub generated : (program : Program) (code : List Marked) (ops : List Operation) (r : Result Image AllocError) → IsTaken program
+    → code ≡ all_marked 0 (operations program) → ops ≡ operations program
     → IfOk r (λ image. map row image.code.items ≡ rows code)
     → IfOk r (λ image. image.commits.items ≡ commits_from 0 code)
     → IfOk r (λ image. image.sites.items ≡ map site_of ops)

@@ -68,7 +68,8 @@ sites_fit ops = All-map IsSite site_of ops (each ops)
 commit_fits : (k words : ℕ) → k < words → IsCommit words (4 * k, 1)
 commit_fits k words lt = record { aligned = omega arith; within = omega arith; counted = omega arith; event = omega arith }
 
-line_fits : (k words : ℕ) (commits : Bool) (later : List (ℕ × ℕ)) → k < words → All (IsCommit words) later → All (IsCommit words) (cond commits ((4 * k, 1) ∷ later) later)
+line_fits : (k words : ℕ) (commits : Bool) (later : List (ℕ × ℕ)) → k < words → All (IsCommit words) later
+    → All (IsCommit words) (cond commits ((4 * k, 1) ∷ later) later)
 line_fits k words true later lt all = All-cons (IsCommit words) (4 * k, 1) later (commit_fits k words lt) all
 line_fits k words false later lt all = all
 
@@ -86,7 +87,8 @@ earlier : (a b : ℕ) (commits : List (ℕ × ℕ)) → a ≤ b → BeginsAt b c
 earlier a b [] le begins = tt
 earlier a b (commit ∷ commits) le begins = omega arith
 
-line_begins : (k : ℕ) (commits : Bool) (later : List (ℕ × ℕ)) → BeginsAt (4 * (k + 1)) later → BeginsAt (4 * k) (cond commits ((4 * k, 1) ∷ later) later)
+line_begins : (k : ℕ) (commits : Bool) (later : List (ℕ × ℕ)) → BeginsAt (4 * (k + 1)) later
+    → BeginsAt (4 * k) (cond commits ((4 * k, 1) ∷ later) later)
 line_begins k true later begins = omega arith
 line_begins k false later begins = earlier (4 * k) (4 * (k + 1)) later (omega arith) begins
 
@@ -98,7 +100,8 @@ rise_after : (k : ℕ) (later : List (ℕ × ℕ)) → BeginsAt (4 * (k + 1)) la
 rise_after k [] begins rise = tt
 rise_after k (commit ∷ later) begins rise = (omega arith, rise)
 
-line_rises : (k : ℕ) (commits : Bool) (later : List (ℕ × ℕ)) → BeginsAt (4 * (k + 1)) later → Rise later → Rise (cond commits ((4 * k, 1) ∷ later) later)
+line_rises : (k : ℕ) (commits : Bool) (later : List (ℕ × ℕ)) → BeginsAt (4 * (k + 1)) later → Rise later
+    → Rise (cond commits ((4 * k, 1) ∷ later) later)
 line_rises k true later begins rise = rise_after k later begins rise
 line_rises k false later begins rise = rise
 

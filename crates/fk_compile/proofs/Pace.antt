@@ -17,7 +17,8 @@ use Rattle.fk_compile.proofs.Runs.{Tied, Cycled, IsCycled, IsKnown, tied_cycle, 
 
 -- ---- which cycles were begun
 
-running_before : (image : Image) (input : List ℕ) (p n : ℕ) → is_running (machine image input p (suc n)).stand ≡ true → IsKnown (is_running (machine image input p n).stand) → is_running (machine image input p n).stand ≡ true
+running_before : (image : Image) (input : List ℕ) (p n : ℕ) → is_running (machine image input p (suc n)).stand ≡ true
+    → IsKnown (is_running (machine image input p n).stand) → is_running (machine image input p n).stand ≡ true
 running_before image input p n e (inl still) = still
 running_before image input p n e (inr over) = absurd (let f = sym e ∙ (ap (λ m. is_running m.stand) (machine_over image input p n over) ∙ over) in cc)
 
@@ -43,14 +44,16 @@ get-append_seam : (xs : Schedule) (y : Round) → slice_get (xs ++ y ∷ []) (le
 get-append_seam [] y = refl
 get-append_seam (x ∷ xs) y = get-append_seam xs y
 
-begun_append : (image : Image) (input : List ℕ) (p n k : ℕ) → Begun image input p k (rounds image input p n) → k < length (rounds image input p n) → Begun image input p k (rounds image input p n ++ round_of image (machine image input p n) ∷ [])
+begun_append : (image : Image) (input : List ℕ) (p n k : ℕ) → Begun image input p k (rounds image input p n)
+    → k < length (rounds image input p n) → Begun image input p k (rounds image input p n ++ round_of image (machine image input p n) ∷ [])
 begun_append image input p n k b lt = record {
   running = b.running;
   round = get-append_left (rounds image input p n) _ k lt ∙ b.round;
   earlier = take-append-le k (rounds image input p n) (round_of image (machine image input p n) ∷ []) (omega arith) ∙ b.earlier;
 }
 
-begun_last : (image : Image) (input : List ℕ) (p n : ℕ) → is_running (machine image input p n).stand ≡ true → Begun image input p n (rounds image input p n ++ round_of image (machine image input p n) ∷ [])
+begun_last : (image : Image) (input : List ℕ) (p n : ℕ) → is_running (machine image input p n).stand ≡ true
+    → Begun image input p n (rounds image input p n ++ round_of image (machine image input p n) ∷ [])
 begun_last image input p n e =
     let all = length-rounds image input p n e in
     let round = round_of image (machine image input p n) in
@@ -60,8 +63,10 @@ begun_last image input p n e =
       earlier = ap (λ k. take k (rounds image input p n ++ round ∷ [])) (sym all) ∙ take-append_seam (rounds image input p n) (round ∷ []);
     }
 
-begun_now : (image : Image) (input : List ℕ) (p n k : ℕ) → is_running (machine image input p n).stand ≡ true → (k < length (rounds image input p n) → Begun image input p k (rounds image input p n))
-    → k < length (rounds image input p n) + 1 → ((k < n) ⊎ (n ≤ k)) → Begun image input p k (rounds image input p n ++ round_of image (machine image input p n) ∷ [])
+begun_now : (image : Image) (input : List ℕ) (p n k : ℕ) → is_running (machine image input p n).stand ≡ true
+    → (k < length (rounds image input p n) → Begun image input p k (rounds image input p n))
+    → k < length (rounds image input p n) + 1 → ((k < n) ⊎ (n ≤ k))
+    → Begun image input p k (rounds image input p n ++ round_of image (machine image input p n) ∷ [])
 begun_now image input p n k e before lt (inl earlier) =
     let lt' : k < length (rounds image input p n) = omega (arith, length-rounds image input p n e) in
     begun_append image input p n k (before lt') lt'
@@ -69,7 +74,8 @@ begun_now image input p n k e before lt (inr le) =
     let same : n ≡ k = omega (arith, length-rounds image input p n e) in
     subst (λ j. Begun image input p j (rounds image input p n ++ round_of image (machine image input p n) ∷ [])) same (begun_last image input p n e)
 
-begun_next : (image : Image) (input : List ℕ) (p n k : ℕ) → (k < length (rounds image input p n) → Begun image input p k (rounds image input p n)) → k < length (rounds image input p (suc n))
+begun_next : (image : Image) (input : List ℕ) (p n k : ℕ)
+    → (k < length (rounds image input p n) → Begun image input p k (rounds image input p n)) → k < length (rounds image input p (suc n))
     → IsKnown (is_running (machine image input p n).stand) → Begun image input p k (rounds image input p (suc n))
 begun_next image input p n k before lt (inr e) =
     let same = rounds_over image input p n e in
@@ -109,18 +115,21 @@ Acts : Image → List ℕ → ℕ → ℕ → ℕ → ℕ → Type 0
 Acts image input p h t d = (i : ℕ) × (i ≤ d) × (slice_index (round_of image (machine image input p (t + i))) h ≡ 1)
 
 -- a cycle after which the machine still runs has no fault
-cycled_of : (image : Image) (bytes : List ℕ) (ds : Distances) (s : State) (m : Machine) (round : Round) → is_running m.stand ≡ true → IsCycled image bytes ds s m round → Cycled image bytes ds s m round
+cycled_of : (image : Image) (bytes : List ℕ) (ds : Distances) (s : State) (m : Machine) (round : Round) → is_running m.stand ≡ true
+    → IsCycled image bytes ds s m round → Cycled image bytes ds s m round
 cycled_of image bytes ds s m round e (inl c) = c
 cycled_of image bytes ds s m round e (inr b) = absurd (let f = sym e ∙ not_running image _ m (result round s) b.over in cc)
 
-cycle_of : (image : Image) (input : List ℕ) (p n t : ℕ) (bytes : List ℕ) (s : State) (tied : Tied image bytes (machine image input p t) s) → suc t < length (rounds image input p n)
+cycle_of : (image : Image) (input : List ℕ) (p n t : ℕ) (bytes : List ℕ) (s : State) (tied : Tied image bytes (machine image input p t) s)
+    → suc t < length (rounds image input p n)
     → Cycled image bytes tied.ds s (machine image input p (suc t)) (round_of image (machine image input p t))
 cycle_of image input p n t bytes s tied lt =
     let b = begun image input p n t (omega arith) in
     let later = begun image input p n (suc t) lt in
     cycled_of image bytes tied.ds s (machine image input p (suc t)) (round_of image (machine image input p t)) later.running (tied_cycle image bytes (machine image input p t) s tied b.running)
 
-acts : (image : Image) (input : List ℕ) (p n h d t : ℕ) (bytes : List ℕ) (s : State) (tied : Tied image bytes (machine image input p t) s) → At tied.ds h d → suc (t + d) < length (rounds image input p n) → Acts image input p h t d
+acts : (image : Image) (input : List ℕ) (p n h d t : ℕ) (bytes : List ℕ) (s : State) (tied : Tied image bytes (machine image input p t) s)
+    → At tied.ds h d → suc (t + d) < length (rounds image input p n) → Acts image input p h t d
 unfolding Acts
 acts image input p n h zero t bytes s tied at lt =
     let c = cycle_of image input p n t bytes s tied (omega arith) in
@@ -139,7 +148,8 @@ cannot : (c : ℕ) (p : Processor) → p.left ≡ [] → MayDo (suc c) p → ⊥
 cannot zero p e may = let f : next [] ≡ Some may.2.0 = ap next (sym e) ∙ may.2.1 in absurd (cc)
 cannot (suc c) p e may = let f : next [] ≡ Some may.1.0.0 = ap next (sym e) ∙ may.1.0.1 in absurd (cc)
 
-could : (image : Image) (ds : Distances) (hs : List Hart) (ps : List Processor) (round : Round) (h : ℕ) → Together image ds hs ps → AllMayDo round ps → IsIn h round → (d : ℕ) × (d ≤ 200) × At ds h d
+could : (image : Image) (ds : Distances) (hs : List Hart) (ps : List Processor) (round : Round) (h : ℕ) → Together image ds hs ps
+    → AllMayDo round ps → IsIn h round → (d : ℕ) × (d ≤ 200) × At ds h d
 could image (None ∷ ds) (g ∷ hs) (p ∷ ps) (zero ∷ round) zero all may here = absurd (omega arith)
 could image (None ∷ ds) (g ∷ hs) (p ∷ ps) (suc c ∷ round) zero all may here = absurd (cannot c p all.0.1 may.0)
 could image (Some d ∷ ds) (g ∷ hs) (p ∷ ps) (c ∷ round) zero all may here = (d, all.0.0, refl)

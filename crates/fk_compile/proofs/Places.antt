@@ -55,7 +55,8 @@ skip : (j : ℕ) (commits : Bool) (later : List (ℕ × ℕ)) (a : ℕ) → (4 *
 skip j false later a ne = refl
 skip j true later a ne = ap (λ b. cond b 1 (count_in later a)) (ne_eqb (4 * j) a ne)
 
-here : (j : ℕ) (commits : Bool) (later : List (ℕ × ℕ)) (a : ℕ) → a ≡ 4 * j → count_in later a ≡ 0 → count_in (with_line j commits later) a ≡ cond commits 1 0
+here : (j : ℕ) (commits : Bool) (later : List (ℕ × ℕ)) (a : ℕ) → a ≡ 4 * j → count_in later a ≡ 0
+    → count_in (with_line j commits later) a ≡ cond commits 1 0
 here j false later a e none' = none'
 here j true later a e none' = ap (λ b. cond b 1 (count_in later a)) (eq-eqb (4 * j) a (sym e))
 
@@ -63,7 +64,8 @@ none_below : (j : ℕ) (all : List Marked) (a : ℕ) → a < 4 * j → count_in 
 none_below j [] a lt = refl
 none_below j (m ∷ all) a lt = skip j m.commits (commits_from (j + 1) all) a (omega arith) ∙ none_below (j + 1) all a (omega arith)
 
-count_get : (all : List Marked) (j k : ℕ) (m : Marked) (a : ℕ) → slice_get all k ≡ Some m → a ≡ 4 * (j + k) → count_in (commits_from j all) a ≡ count m
+count_get : (all : List Marked) (j k : ℕ) (m : Marked) (a : ℕ) → slice_get all k ≡ Some m → a ≡ 4 * (j + k)
+    → count_in (commits_from j all) a ≡ count m
 count_get [] j k m a h same = absurd (cc)
 count_get (x ∷ all) j zero m a h same =
     let one : x ≡ m = cc in
@@ -83,7 +85,8 @@ is_at image all k m is h = record {
   counted = ap (λ c. count_in c (4 * k)) is.commits ∙ count_get all 0 k m (4 * k) h (omega arith);
 }
 
-quiet_at : (image : Image) (all : List Marked) (k : ℕ) (part : List Instruction) → IsCode image all → Within all k (map plain part) → QuietAt image k part
+quiet_at : (image : Image) (all : List Marked) (k : ℕ) (part : List Instruction) → IsCode image all → Within all k (map plain part)
+    → QuietAt image k part
 quiet_at image all k [] is w = tt
 quiet_at image all k (i ∷ part) is w = (is_at image all k (plain i) is w.0, quiet_at image all (suc k) part is w.1)
 
@@ -111,7 +114,8 @@ placed_rest : (image : Image) (k : ℕ) (shape : Shape) (op : Operation) (ops : 
 placed_rest image k shape op ops true ready more = ready
 placed_rest image k shape op ops false ready more = more ready
 
-placed_from : (image : Image) (all : List Marked) (ops : List Operation) (shape : Shape) (k : ℕ) → IsCode image all → AllReady shape ops → Within all k (all_marked (length shape) ops) → Placed image k shape ops
+placed_from : (image : Image) (all : List Marked) (ops : List Operation) (shape : Shape) (k : ℕ) → IsCode image all → AllReady shape ops
+    → Within all k (all_marked (length shape) ops) → Placed image k shape ops
 placed_from image all [] shape k is ready w = absurd ready
 placed_from image all (op ∷ ops) shape k is ready w =
     let b = block (length shape) op in

@@ -29,24 +29,28 @@ abbrev pub AllReady : Shape → List Operation → Type 0
 AllReady shape [] = ⊥
 AllReady shape (op ∷ ops) = IsReady op shape × MatchBool (is_halt op) (ops ≡ []) (AllReady (shape_after op shape) ops)
 
-ready_part : (part : Part) (count : ℕ) (shape : Shape) (rest : List Operation) → IsDeclared count part → count ≤ 1048576 → length shape < 10 → AllReady (false ∷ shape) rest → AllReady shape (operations_of_part part ++ rest)
+ready_part : (part : Part) (count : ℕ) (shape : Shape) (rest : List Operation) → IsDeclared count part → count ≤ 1048576 → length shape < 10
+    → AllReady (false ∷ shape) rest → AllReady shape (operations_of_part part ++ rest)
 ready_part (Number n) count shape rest declared few room ready = (omega arith, ready)
 ready_part (Name x) count shape rest declared few room ready = ((omega arith, omega arith), (omega arith, ready))
 
-ready_parts : (parts : List Part) (count : ℕ) (shape : Shape) (rest : List Operation) → All (IsDeclared count) parts → count ≤ 1048576 → length shape < 5 → AllReady (false ∷ shape) rest → AllReady (false ∷ shape) (operations_of_parts parts ++ rest)
+ready_parts : (parts : List Part) (count : ℕ) (shape : Shape) (rest : List Operation) → All (IsDeclared count) parts → count ≤ 1048576
+    → length shape < 5 → AllReady (false ∷ shape) rest → AllReady (false ∷ shape) (operations_of_parts parts ++ rest)
 ready_parts [] count shape rest declared few room ready = ready
 ready_parts (part ∷ parts) count shape rest declared few room ready =
     let more = ready_parts parts count shape rest (All-rest (IsDeclared count) part parts (part ∷ parts) refl declared) few room ready in
     subst (AllReady (false ∷ shape)) (sym (append_assoc (operations_of_part part) (Add ∷ operations_of_parts parts) rest))
     (ready_part part count (false ∷ shape) (Add ∷ operations_of_parts parts ++ rest) (declared 0 part (omega arith)) few (omega arith) (omega arith, more))
 
-ready_sum : (e : Sum) (count : ℕ) (shape : Shape) (rest : List Operation) → IsDeclaredSum count e → count ≤ 1048576 → length shape < 5 → AllReady (false ∷ shape) rest → AllReady shape (operations_of_sum e ++ rest)
+ready_sum : (e : Sum) (count : ℕ) (shape : Shape) (rest : List Operation) → IsDeclaredSum count e → count ≤ 1048576 → length shape < 5
+    → AllReady (false ∷ shape) rest → AllReady shape (operations_of_sum e ++ rest)
 ready_sum e count shape rest declared few room ready =
     subst (AllReady shape) (sym (append_assoc (operations_of_part e.first) (operations_of_parts e.others.items) rest))
     (ready_part e.first count shape (operations_of_parts e.others.items ++ rest) declared.0 few (omega arith)
     (ready_parts e.others.items count shape rest declared.1 few room ready))
 
-ready_statement : (s : Statement) (count : ℕ) (rest : List Operation) → AreDeclared count s → count ≤ 1048576 → AllReady [] rest → AllReady [] (operations_of_statement s ++ rest)
+ready_statement : (s : Statement) (count : ℕ) (rest : List Operation) → AreDeclared count s → count ≤ 1048576 → AllReady [] rest
+    → AllReady [] (operations_of_statement s ++ rest)
 ready_statement (Assign x e) count rest declared few ready = (
   (omega arith, omega (arith, declared.0)),
   subst (AllReady (true ∷ [])) (sym (append_assoc (operations_of_sum e) (WriteWord ∷ DropLast ∷ []) rest))
@@ -142,7 +146,8 @@ encodable_append : (a b : List Marked) → AreEncodable a → AreEncodable b →
 encodable_append [] b p q = q
 encodable_append (m ∷ a) b p q = (p.0, encodable_append a b p.1 q)
 
-encodable_rest : (op : Operation) (ops : List Operation) (shape : Shape) (halts : Bool) → IsReady op shape → MatchBool halts (ops ≡ []) (AllReady (shape_after op shape) ops)
+encodable_rest : (op : Operation) (ops : List Operation) (shape : Shape) (halts : Bool) → IsReady op shape
+    → MatchBool halts (ops ≡ []) (AllReady (shape_after op shape) ops)
     → (AllReady (shape_after op shape) ops → AreEncodable (all_marked (length (shape_after op shape)) ops))
     → AreEncodable (all_marked (depth_after op (length shape)) ops)
 encodable_rest op ops shape true r ready more = subst (λ o. AreEncodable (all_marked (depth_after op (length shape)) o)) (sym ready) tt

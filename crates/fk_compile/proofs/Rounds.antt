@@ -33,7 +33,8 @@ served_in Request op rest vs vs' s s' e does =
 served_in Tree op rest vs vs' s s' e does = record { due = Some op; passes = rw (e, e) (ap (waiting op rest) (rw e at does)) }
 
 -- a processor with count 1 does its next operation
-pub in_turn-served : (p : Processor) (op : Operation) (rest : List Todo) (s s' : Store) (vs' : List ℕ) → next p.left ≡ Some (record { first = op; rest = rest }) → effect op s p.values ≡ Served s' vs' → Passed (in_turn 1 s p) s' rest vs'
+pub in_turn-served : (p : Processor) (op : Operation) (rest : List Todo) (s s' : Store) (vs' : List ℕ)
+    → next p.left ≡ Some (record { first = op; rest = rest }) → effect op s p.values ≡ Served s' vs' → Passed (in_turn 1 s p) s' rest vs'
 in_turn-served p op rest s s' vs' e does =
     let a = served_in (class_of op) op rest p.values vs' s s' refl does in
     record { due = a.due; passes = ap (λ n. phase_of s (taking p n)) e ∙ a.passes }
@@ -44,5 +45,6 @@ faulted_in Local op rest vs s site e does = absurd (let f = rw e at does in cc)
 faulted_in Request op rest vs s site e does = rw (e, e) (ap (answered (record { due = Some op; processor = record { left = rest; values = vs } })) (rw e at does))
 faulted_in Tree op rest vs s site e does = absurd (let f = rw e at does in cc)
 
-pub in_turn-faulted : (p : Processor) (op : Operation) (rest : List Todo) (s : Store) (site : ℕ) → next p.left ≡ Some (record { first = op; rest = rest }) → effect op s p.values ≡ FaultAt site → in_turn 1 s p ≡ Breaks site
+pub in_turn-faulted : (p : Processor) (op : Operation) (rest : List Todo) (s : Store) (site : ℕ)
+    → next p.left ≡ Some (record { first = op; rest = rest }) → effect op s p.values ≡ FaultAt site → in_turn 1 s p ≡ Breaks site
 in_turn-faulted p op rest s site e does = ap (λ n. phase_of s (taking p n)) e ∙ faulted_in (class_of op) op rest p.values s site refl does

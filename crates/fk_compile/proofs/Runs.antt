@@ -75,7 +75,8 @@ IsCycled image bytes ds s m' round = Cycled image bytes ds s m' round ⊎ Broken
 
 -- the turns, seen with the earlier output before them, are a round
 turned : (image : Image) (control : Memory) (bytes : List ℕ) (m : Machine) (s : State) (tied : Tied image bytes m s) (done : Turns)
-    → IsRound image control 0 tied.ds s.processors s.store (printed_turns s.store.output done) → IsCycled image bytes tied.ds s (after_turns m done) (counts image done)
+    → IsRound image control 0 tied.ds s.processors s.store (printed_turns s.store.output done)
+    → IsCycled image bytes tied.ds s (after_turns m done) (counts image done)
 turned image control bytes m s tied done (inl r) = inl (record {
   tied = record {
     code = tied.code;
@@ -110,12 +111,14 @@ turned image control bytes m s tied done (inr r) =
     })
 
 -- the shared state that the source sees is the machine's at the start of a cycle, with the earlier output before it
-shared_before : (image : Image) (bytes : List ℕ) (m : Machine) (s : State) → Tied image bytes m s → shared_of m.shared.control s.store ≡ printed s.store.output (unprinted m.shared)
+shared_before : (image : Image) (bytes : List ℕ) (m : Machine) (s : State) → Tied image bytes m s
+    → shared_of m.shared.control s.store ≡ printed s.store.output (unprinted m.shared)
 shared_before image bytes m s tied =
     ap (λ w. let x : Shared = record { words = w; control = m.shared.control; output = s.store.output } in x) (sym tied.words)
     ∙ ap (λ o. let x : Shared = record { words = m.shared.words; control = m.shared.control; output = o } in x) (sym (append-nil s.store.output))
 
-pub tied_cycle : (image : Image) (bytes : List ℕ) (m : Machine) (s : State) (tied : Tied image bytes m s) → is_running m.stand ≡ true → IsCycled image bytes tied.ds s (cycle m) (round_of image m)
+pub tied_cycle : (image : Image) (bytes : List ℕ) (m : Machine) (s : State) (tied : Tied image bytes m s) → is_running m.stand ≡ true
+    → IsCycled image bytes tied.ds s (cycle m) (round_of image m)
 tied_cycle image bytes m s tied e =
     let round = is_round image (setting_of m) m.shared.control 0 tied.ds m.harts s.processors s.store tied.code tied.together in
     let same = ap (turns (setting_of m) 0 m.harts) (shared_before image bytes m s tied) ∙ turns_same s.store.output (setting_of m) 0 m.harts (unprinted m.shared) in
@@ -124,19 +127,24 @@ tied_cycle image bytes m s tied e =
 
 -- ---- the rounds so far
 
-pub rounds_running : (image : Image) (input : List ℕ) (p n : ℕ) → is_running (machine image input p n).stand ≡ true → rounds image input p (suc n) ≡ rounds image input p n ++ round_of image (machine image input p n) ∷ []
+pub rounds_running : (image : Image) (input : List ℕ) (p n : ℕ) → is_running (machine image input p n).stand ≡ true
+    → rounds image input p (suc n) ≡ rounds image input p n ++ round_of image (machine image input p n) ∷ []
 rounds_running image input p n e = ap (λ b. cond b (rounds image input p n ++ round_of image (machine image input p n) ∷ []) (rounds image input p n)) e
 
-pub rounds_over : (image : Image) (input : List ℕ) (p n : ℕ) → is_running (machine image input p n).stand ≡ false → rounds image input p (suc n) ≡ rounds image input p n
+pub rounds_over : (image : Image) (input : List ℕ) (p n : ℕ) → is_running (machine image input p n).stand ≡ false
+    → rounds image input p (suc n) ≡ rounds image input p n
 rounds_over image input p n e = ap (λ b. cond b (rounds image input p n ++ round_of image (machine image input p n) ∷ []) (rounds image input p n)) e
 
-output_running : (image : Image) (input : List ℕ) (p n : ℕ) → is_running (machine image input p n).stand ≡ true → output_of image input p (suc n) ≡ output_of image input p n ++ (machine image input p (suc n)).shared.output
+output_running : (image : Image) (input : List ℕ) (p n : ℕ) → is_running (machine image input p n).stand ≡ true
+    → output_of image input p (suc n) ≡ output_of image input p n ++ (machine image input p (suc n)).shared.output
 output_running image input p n e = ap (λ b. cond b (output_of image input p n ++ (machine image input p (suc n)).shared.output) (output_of image input p n)) e
 
-output_over : (image : Image) (input : List ℕ) (p n : ℕ) → is_running (machine image input p n).stand ≡ false → output_of image input p (suc n) ≡ output_of image input p n
+output_over : (image : Image) (input : List ℕ) (p n : ℕ) → is_running (machine image input p n).stand ≡ false
+    → output_of image input p (suc n) ≡ output_of image input p n
 output_over image input p n e = ap (λ b. cond b (output_of image input p n ++ (machine image input p (suc n)).shared.output) (output_of image input p n)) e
 
-pub machine_over : (image : Image) (input : List ℕ) (p n : ℕ) → is_running (machine image input p n).stand ≡ false → machine image input p (suc n) ≡ machine image input p n
+pub machine_over : (image : Image) (input : List ℕ) (p n : ℕ) → is_running (machine image input p n).stand ≡ false
+    → machine image input p (suc n) ≡ machine image input p n
 machine_over image input p n e = ap (λ b. cond b (after_turns (machine image input p n) (turns_of (machine image input p n))) (machine image input p n)) e
 
 run-append : (schedule : Schedule) (round : Round) (s : State) → run (schedule ++ round ∷ []) s ≡ result round (run schedule s)
@@ -147,11 +155,13 @@ abbrev pub AllPossible : Schedule → State → Type 0
 AllPossible [] s = Unit {0}
 AllPossible (round ∷ schedule) s = IsPossible round s × AllPossible schedule (result round s)
 
-all_append : (schedule : Schedule) (round : Round) (s : State) → AllPossible schedule s → IsPossible round (run schedule s) → AllPossible (schedule ++ round ∷ []) s
+all_append : (schedule : Schedule) (round : Round) (s : State) → AllPossible schedule s → IsPossible round (run schedule s)
+    → AllPossible (schedule ++ round ∷ []) s
 all_append [] round s all one = (one, tt)
 all_append (r ∷ schedule) round s all one = (all.0, all_append schedule round (result r s) all.1 one)
 
-last_append : (schedule : Schedule) (round : Round) (s : State) → AllPossible schedule s → IsStopped round (run schedule s) → ArePossible (schedule ++ round ∷ []) s
+last_append : (schedule : Schedule) (round : Round) (s : State) → AllPossible schedule s → IsStopped round (run schedule s)
+    → ArePossible (schedule ++ round ∷ []) s
 last_append [] round s all one = inr one
 last_append (r ∷ []) round s all one = (all.0, inr one)
 last_append (r ∷ q ∷ schedule) round s all one = (all.0, last_append (q ∷ schedule) round (result r s) all.1 one)
@@ -209,7 +219,8 @@ going_on image input p n s g e (inr c) =
     })
 
 -- a machine that has stopped stays as it is
-staying : (image : Image) (input : List ℕ) (p n : ℕ) (s : State) → Reached image input p n s → is_running (machine image input p n).stand ≡ false → Reached image input p (suc n) s
+staying : (image : Image) (input : List ℕ) (p n : ℕ) (s : State) → Reached image input p n s
+    → is_running (machine image input p n).stand ≡ false → Reached image input p (suc n) s
 staying image input p n s (inl g) e = inl (record {
   tied =
       subst (λ o. Tied image o (machine image input p (suc n)) (run (rounds image input p (suc n)) s)) (sym (output_over image input p n e))
@@ -225,7 +236,8 @@ staying image input p n s (inr g) e = inr (record {
   possible = subst (λ rs. ArePossible rs s) (sym (rounds_over image input p n e)) g.possible;
 })
 
-reached_next : (image : Image) (input : List ℕ) (p n : ℕ) (s : State) → Reached image input p n s → IsKnown (is_running (machine image input p n).stand) → Reached image input p (suc n) s
+reached_next : (image : Image) (input : List ℕ) (p n : ℕ) (s : State) → Reached image input p n s
+    → IsKnown (is_running (machine image input p n).stand) → Reached image input p (suc n) s
 reached_next image input p n s (inl g) (inl e) =
     going_on image input p n s g e (tied_cycle image (output_of image input p n) (machine image input p n) (run (rounds image input p n) s) g.tied e)
 reached_next image input p n s (inr g) (inl e) = absurd (let f = sym e ∙ not_running image _ (machine image input p n) (run (rounds image input p n) s) g.over in cc)
@@ -236,6 +248,7 @@ reached image input p zero s start = inl (record { tied = start; possible = tt }
 reached image input p (suc n) s start = reached_next image input p n s (reached image input p n s start) (cases_Bool _)
 
 -- a run that goes on has no fault
-pub going_of : (image : Image) (input : List ℕ) (p n : ℕ) (s : State) → Reached image input p n s → is_running (machine image input p n).stand ≡ true → Going image input p n s
+pub going_of : (image : Image) (input : List ℕ) (p n : ℕ) (s : State) → Reached image input p n s
+    → is_running (machine image input p n).stand ≡ true → Going image input p n s
 going_of image input p n s (inl g) e = g
 going_of image input p n s (inr g) e = absurd (let f = sym e ∙ not_running image _ (machine image input p n) (run (rounds image input p n) s) g.over in cc)

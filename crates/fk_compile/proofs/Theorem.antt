@@ -59,7 +59,8 @@ agree image input p n s (inr g) =
 
 -- ---- the beginning
 
-opening_together : (image : Image) (left : List Todo) (q : ℕ) → Placed image 0 [] (flat left) → (ds : Distances) × Together image ds (replicate q first_hart) (replicate q (record { left = left; values = [] }))
+opening_together : (image : Image) (left : List Todo) (q : ℕ) → Placed image 0 [] (flat left)
+    → (ds : Distances) × Together image ds (replicate q first_hart) (replicate q (record { left = left; values = [] }))
 opening_together image left zero placed = ([], tt)
 opening_together image left (suc q) placed =
     let rest = opening_together image left q placed in
@@ -78,7 +79,8 @@ started : (body : List Statement) → is_done (main_of body) ≡ false
 started [] = refl
 started (s ∷ body) = refl
 
-begins : (program : Program) (image : Image) (input : List ℕ) → IsMade program image → (p : ℕ) → 1 ≤ p → Tied image [] (opening image input p) (source.opening program input p)
+begins : (program : Program) (image : Image) (input : List ℕ) → IsMade program image → (p : ℕ) → 1 ≤ p
+    → Tied image [] (opening image input p) (source.opening program input p)
 begins program image input made zero pos = absurd (omega arith)
 begins program image input made (suc q) pos =
     let all = opening_together image (main_of program.body.items) (suc q) made.placed in

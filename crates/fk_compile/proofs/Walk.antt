@@ -33,7 +33,8 @@ pub record BlockAt (image : Image) (k : ℕ) (b : Block) : Type 0 where
 abbrev pub Holds : Image → Setting → Type 0
 Holds image t = t.code ≡ map row image.code.items
 
-pub step_at : (image : Image) (k count : ℕ) (i : Instruction) → IsAt image k i count → (t : Setting) → Holds image t → (number : ℕ) (h : Hart) (s : Shared) → h.pc ≡ 4 * k → step t number h s ≡ perform t number i h s
+pub step_at : (image : Image) (k count : ℕ) (i : Instruction) → IsAt image k i count → (t : Setting) → Holds image t
+    → (number : ℕ) (h : Hart) (s : Shared) → h.pc ≡ 4 * k → step t number h s ≡ perform t number i h s
 step_at image k count i at t runs number h s e =
     let place : h.pc / 4 ≡ k = omega arith in
     ap (λ a. on_fetch t number (slice_get t.code a) h s) place
@@ -78,7 +79,8 @@ IsQuiet (Beq ra rb imm) h = ⊥
 IsQuiet (Bne ra rb imm) h = ⊥
 IsQuiet (Jal rd imm) h = ⊥
 
-pub quiet_performs : (i : Instruction) (h : Hart) → IsQuiet i h → (t : Setting) (number : ℕ) (s : Shared) → perform t number i h s ≡ Goes (after i h) s
+pub quiet_performs : (i : Instruction) (h : Hart) → IsQuiet i h → (t : Setting) (number : ℕ) (s : Shared)
+    → perform t number i h s ≡ Goes (after i h) s
 quiet_performs (Lui rd imm) h q t number s = refl
 quiet_performs (Addi rd rs imm) h q t number s = refl
 quiet_performs (Add rd ra rb) h q t number s = refl
@@ -132,7 +134,8 @@ pub record Walked (image : Image) (k : ℕ) (is : List Instruction) (h : Hart) :
   pub pc : (walk is h).pc ≡ 4 * (k + length is)
   pub live : (walk is h).ended ≡ false
 
-pub walked : (image : Image) (is : List Instruction) (k : ℕ) (h : Hart) → QuietAt image k is → h.pc ≡ 4 * k → h.ended ≡ false → AreQuiet is h → Walked image k is h
+pub walked : (image : Image) (is : List Instruction) (k : ℕ) (h : Hart) → QuietAt image k is → h.pc ≡ 4 * k → h.ended ≡ false
+    → AreQuiet is h → Walked image k is h
 walked image [] k h at e live q = record { runs = refl; pc = omega arith; live = live }
 walked image (i ∷ is) k h at e live q =
     let p = quiet_goes_on i h q.0 in

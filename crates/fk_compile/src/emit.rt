@@ -13,23 +13,21 @@ use fk_machine::instruction::Instruction;
 use fk_meaning::operations::Operation;
 use std::alloc::{AllocError, Global};
 
-/// The registers of the blocks, by their names in the calling convention.
+/// `zero`, the register that stays 0.
 const ZERO: u8 = 0;
-
+/// `t0`, a register for values between two instructions of a block, as `t1` and `t2`.
 const T0: u8 = 5;
-
+/// `t1`
 const T1: u8 = 6;
-
+/// `t2`
 const T2: u8 = 7;
-
-/// The upper 20 bits of the addresses of local memory and of the devices.
+/// The upper 20 bits of the address of local memory.
 const LOCAL: u32 = 0x20000;
-
+/// The upper 20 bits of the addresses of devices.
 const DEVICES: u32 = 0x30000;
-
-/// How far from `DEVICES` on the devices stand that print a number and that end the hart.
+/// How far from `DEVICES` on the device stands that prints a number.
 const OUT_INT: u32 = 0;
-
+/// How far from `DEVICES` on the device stands that ends the hart.
 const HALT: u32 = 12;
 
 /// The blocks of operations, one after another.

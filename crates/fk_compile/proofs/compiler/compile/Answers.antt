@@ -10,7 +10,8 @@ use Rattle.fk_compile.specs.Faithful.{IsFaithful, IsFaithfulTo}
 use Rattle.fk_compile.proofs.compiler.compile.Goals as goal
 
 -- an image that was made for the program of a text
-passed : (source : List ℕ) (program : Program) (made : Result Image AllocError) (r : Result Image Refusal) (D : AllocError → Refusal → Type 0) → IsStraight source program → IfOk made (IsFaithfulTo program)
+passed : (source : List ℕ) (program : Program) (made : Result Image AllocError) (r : Result Image Refusal) (D : AllocError → Refusal → Type 0)
+    → IsStraight source program → IfOk made (IsFaithfulTo program)
     → MatchResult made (λ image. r ≡ Ok image) (λ e. IsErrAnd r (D e)) → IfOk r (IsFaithful source)
 passed source program (Ok image) r D straight faithful same =
     subst (λ x. IfOk x (IsFaithful source)) (sym same) (record { program = program; straight = straight; faithful = faithful })
