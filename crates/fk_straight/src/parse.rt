@@ -1,4 +1,7 @@
 //! The parser of straight-line programs.
+//!
+//! The next token always says which rule comes, and a name is found by its hash. So each token is read once, and parsing takes time
+//! linear in the number of tokens.
 ghost use Rattle.std.specs.Prelude.{◌≡◌, ◌≤◌, Contains, IfOk, alloc_error, codes, length, map};
 ghost use Rattle.fk_meaning.specs.declared.syntax.Program.{Program};
 ghost use Rattle.fk_straight.specs.View.{token_of};
@@ -16,7 +19,7 @@ use fk_meaning::syntax::{Part, Program, Statement, Sum};
 use names::Names;
 use std::alloc::{AllocError, AllocFailed, Global};
 
-/// A program has at most this many operations.
+/// A program has at most this many operations, with the one that halts.
 const MAX_OPERATIONS: u32 = 16_000;
 
 /// `push` had no memory.
@@ -142,6 +145,9 @@ fn parse_header(cursor: &mut Cursor) -> Result<(), ReadFault>
 }
 
 /// The program of a list of tokens.
+///
+/// `NotStraight` comes exactly where they are the tokens of no program: where the grammar does not fit, a declared name is reserved or
+/// declared before, a name is used that is not declared, or there would be more than 16,000 operations.
 pub fn parse(alloc: Global, tokens: &[Token]) -> Result<Program, ReadFault>
     requires { length tokens.now ≤ 1048576 }
     ensures program { IfOk result (λ p. Derives (map token_of tokens.now) p) }

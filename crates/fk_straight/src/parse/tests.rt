@@ -4,7 +4,7 @@ use Token::{Number, Signed, Word};
 use std::test::Fail;
 
 // sh int x; void main(void) { x = 2 + 3; putint(x); }
-const SUM: [Token; 25] = [
+const SUM: [Token; 22] = [
     Word(b"sh"),
     Word(b"int"),
     Word(b"x"),
@@ -27,16 +27,40 @@ const SUM: [Token; 25] = [
     Signed(CloseParenthesis),
     Signed(Semicolon),
     Signed(CloseBrace),
-    Signed(CloseBrace),
-    Signed(CloseBrace),
+];
+
+// void main(void) { putint(y); }
+const UNDECLARED: [Token; 12] = [
+    Word(b"void"),
+    Word(b"main"),
+    Signed(OpenParenthesis),
+    Word(b"void"),
+    Signed(CloseParenthesis),
+    Signed(OpenBrace),
+    Word(b"putint"),
+    Signed(OpenParenthesis),
+    Word(b"y"),
+    Signed(CloseParenthesis),
+    Signed(Semicolon),
     Signed(CloseBrace),
 ];
 
 #[test]
-fn a_program_with_a_sum(rt: HostRuntime) -> Result<(), Fail> {
-    let program = parse(rt.alloc(), &SUM[..22])?;
+fn a_sum_is_assigned_and_printed(rt: HostRuntime) -> Result<(), Fail> {
+    let program = parse(rt.alloc(), &SUM)?;
     assert_eq!(rt; program.variables, 1);
-    assert_eq!(rt; program.body.len(), 2);
-    assert!(rt; parse(rt.alloc(), &SUM[..23]).is_err());
+    let [Statement::Assign(0, sum), Statement::Print(printed)] = program.body.as_slice() else {
+        return Err("other statements".into());
+    };
+    assert_eq!(rt; sum.first, Part::Number(2));
+    assert_eq!(rt; sum.others.as_slice(), [Part::Number(3)].as_slice());
+    assert_eq!(rt; printed.first, Part::Name(0));
+    assert!(rt; printed.others.is_empty());
     Ok(())
+}
+
+#[test]
+fn a_name_is_used_undeclared(rt: HostRuntime) {
+    let answer = parse(rt.alloc(), &UNDECLARED);
+    assert!(rt; matches!(&answer, Err(ReadFault::NotStraight)));
 }
