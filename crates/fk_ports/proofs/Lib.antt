@@ -1,3 +1,4 @@
 pub mod Given
+pub mod Risen
 pub mod Stored
 pub mod Taken
