@@ -1,14 +1,14 @@
 -- A cycle of the code is a cycle of the machine.
-use Rattle.std.proofs.Common.{◌≡◌, ℕ, ◌+◌, suc, List, [], ◌∷◌, Option, Bool, true, false, length, cond, sym, ap, subst, ◌∙◌, refl}
+use Rattle.std.proofs.Common.{◌≡◌, ℕ, ◌+◌, suc, List, [], ◌∷◌, Option, length, cond, sym, ap, subst, ◌∙◌, refl}
 use Rattle.fk_num.specs.Word.{Memory}
 use Rattle.fk_machine.specs.declared.stand.Stand.{Stand}
 use Rattle.fk_machine.specs.declared.stand.Stand.TheVariants.{Running}
 use Rattle.fk_machine.specs.declared.hart.HartState.{HartState}
-use Rattle.fk_machine.specs.declared.shared.SharedState.{SharedState}
 use Rattle.fk_machine.specs.declared.machine.Machine.{Machine as MachineState}
-use Rattle.fk_machine.specs.Hart.{Hart, Shared, Setting}
-use Rattle.fk_machine.specs.Cycle.{Machine, Turns, turns, turns_of, setting_of as setting_in, unprinted, stand_after, is_running, cycle, after_turns}
-use Rattle.fk_machine.specs.View.{hart_of, harts_of, local_of, shared_of, setting_of, machine_of, TurnsGive}
+use Rattle.fk_machine.specs.Hart.{Hart, Shared}
+use Rattle.fk_machine.specs.Cycle.{Machine, turns, turns_of, setting_of as setting_in, unprinted, stand_after, is_running, cycle, after_turns}
+use Rattle.fk_machine.specs.View.{harts_of, local_of, shared_of, setting_of, machine_of}
+use Rattle.fk_machine.specs.Does.{TurnsGive}
 
 length-harts_of : (n : ℕ) (hs : List HartState) (w : ℕ → Memory) → length (harts_of n hs w) ≡ length hs
 length-harts_of n [] w = refl
@@ -25,7 +25,7 @@ setting_is m =
 abbrev pub machine_after : Machine → List Hart → Shared → Stand → Machine
 machine_after m hs s stand = record { code = m.code; harts = hs; shared = s; inputs = m.inputs; begun = m.begun + 1; stand = stand }
 
-pub cycled : (m : MachineState) (s s' : Shared) (hs : List HartState) (locals : List ℕ) (stop : Option Stand) (stand : Stand) → m.stand ≡ Running → s ≡ unprinted (shared_of m.shared) → TurnsGive stop (turns (setting_of m.setting) 0 (harts_of 0 m.harts.items (local_of m.locals.items)) s) (harts_of 0 hs (local_of locals)) s' → stand ≡ stand_after stop (harts_of 0 hs (local_of locals)) → machine_after (machine_of m) (harts_of 0 hs (local_of locals)) s' stand ≡ cycle (machine_of m)
+pub cycled : (m : MachineState) (s s' : Shared) (hs : List HartState) (locals : List ℕ) (stop : Option Stand) (stand : Stand) → m.stand ≡ Running → s ≡ unprinted (shared_of m.shared) → TurnsGive (turns (setting_of m.setting) 0 (harts_of 0 m.harts.items (local_of m.locals.items)) s) stop (harts_of 0 hs (local_of locals)) s' → stand ≡ stand_after stop (harts_of 0 hs (local_of locals)) → machine_after (machine_of m) (harts_of 0 hs (local_of locals)) s' stand ≡ cycle (machine_of m)
 unfolding machine_of
 cycled m s s' hs locals stop stand running begins given ends =
     let old = machine_of m in
@@ -33,7 +33,7 @@ cycled m s s' hs locals stop stand running begins given ends =
     let whole = turns_of old in
     let same : turns (setting_of m.setting) 0 (harts_of 0 m.harts.items (local_of m.locals.items)) s ≡ whole =
     ap (λ t. turns t 0 old.harts s) (setting_is m) ∙ ap (turns (setting_in old) 0 old.harts) begins in
-    let g = subst (λ t. TurnsGive stop t new s') same given in
+    let g = subst (λ t. TurnsGive t stop new s') same given in
     let runs : cycle old ≡ after_turns old whole = ap (λ b. cond (is_running b) (after_turns old whole) old) running in
     sym (
     runs

@@ -1,5 +1,5 @@
 -- The turns of the first harts, and those of the others.
-use Rattle.std.proofs.Common.{◌≡◌, ◌≢◌, ℕ, zero, suc, ◌+◌, ◌<◌, ◌≤◌, List, [], ◌∷◌, ◌++◌, length, take, drop, get_or, length-take-le, Option, Some, None, Bool, true, false, sym, ap, subst, ◌∙◌, arith, refl, append_assoc, add-one, ◌⊎◌, inl, inr}
+use Rattle.std.proofs.Common.{◌≡◌, ◌≢◌, ℕ, suc, ◌+◌, ◌<◌, ◌≤◌, List, [], ◌∷◌, ◌++◌, length, take, drop, get_or, length-take-le, Option, Some, None, true, false, sym, ap, subst, ◌∙◌, arith, refl, append_assoc, add-one, inl, inr}
 use Rattle.std.specs.Prelude.{slice_set}
 use Rattle.std.proofs.Math.Seq.{take-suc, take-suc-set, drop-cons}
 use Rattle.std.proofs.lemmas.List.{drop-set, drop-set-lt, take-set, take-append-drop}
@@ -7,9 +7,10 @@ use Rattle.std.proofs.lemmas.Bool.{cases_eq}
 use Rattle.fk_num.specs.Word.{Memory}
 use Rattle.fk_machine.specs.declared.stand.Stand.{Stand}
 use Rattle.fk_machine.specs.declared.hart.HartState.{HartState}
-use Rattle.fk_machine.specs.Hart.{Hart, Shared, Setting, Effect, Goes, Stops, step}
+use Rattle.fk_machine.specs.Hart.{Hart, Shared, Setting, Goes, Stops, step}
 use Rattle.fk_machine.specs.Cycle.{Turns, before, after_effect, turn, turns}
-use Rattle.fk_machine.specs.View.{hart_of, harts_of, TurnsGive}
+use Rattle.fk_machine.specs.View.{hart_of, harts_of}
+use Rattle.fk_machine.specs.Does.{TurnsGive}
 
 -- the turns of all harts are those of the first, and then those that are left
 pub record Joined (whole : Turns) (first : List Hart) (rest : Turns) : Type 0 where
@@ -100,7 +101,7 @@ same_memory : (n : ℕ) (w w' : ℕ → Memory) → ((k : ℕ) → k ≢ n → w
 same_memory n w w' others own k = elim (cases_eq k n) [ inl e ↦ subst (λ i. w' i ≡ w i) (sym e) own | inr other ↦ others k other ]
 
 -- hart n has ended the machine, and nothing has changed
-pub is_stopped : (t : Setting) (n : ℕ) (hs : List HartState) (d h h' : HartState) (w w' : ℕ → Memory) (s s' : Shared) (stand : Stand) (whole : Turns) → n < length hs → h ≡ get_or hs n d → ((k : ℕ) → k ≢ n → w' k ≡ w k) → h.ended ≡ false → step t n (hart_of h (w n)) s ≡ Stops stand → hart_of h' (w' n) ≡ hart_of h (w n) → s' ≡ s → Joined whole (harts_of 0 (take n hs) w) (turns t n (harts_of n (drop n hs) w) s) → TurnsGive (Some stand) whole (harts_of 0 (slice_set hs n h') w') s'
+pub is_stopped : (t : Setting) (n : ℕ) (hs : List HartState) (d h h' : HartState) (w w' : ℕ → Memory) (s s' : Shared) (stand : Stand) (whole : Turns) → n < length hs → h ≡ get_or hs n d → ((k : ℕ) → k ≢ n → w' k ≡ w k) → h.ended ≡ false → step t n (hart_of h (w n)) s ≡ Stops stand → hart_of h' (w' n) ≡ hart_of h (w n) → s' ≡ s → Joined whole (harts_of 0 (take n hs) w) (turns t n (harts_of n (drop n hs) w) s) → TurnsGive whole (Some stand) (harts_of 0 (slice_set hs n h') w') s'
 is_stopped t n hs d h h' w w' s s' stand whole lt at others live e same_hart same j =
     let a = subst (λ l. Joined whole (harts_of 0 (take n hs) w) (turns t n l s)) (rest_of hs n d h w lt at) j in
     let b = subst (Joined whole (harts_of 0 (take n hs) w)) (stops t n (hart_of h (w n)) (harts_of (suc n) (drop (suc n) hs) w) s stand live e) a in

@@ -5,3 +5,4 @@ pub mod Harts
 pub mod RowFits
 pub mod Cycled
 pub mod Opened
+pub mod Runs

@@ -7,7 +7,7 @@ use Rattle.fk_machine.specs.declared.instruction.Instruction.{Instruction}
 use Rattle.fk_machine.specs.declared.stand.Stand.TheVariants.{Running}
 use Rattle.fk_machine.specs.Row.{row}
 use Rattle.fk_machine.specs.Hart.{Hart}
-use Rattle.fk_machine.specs.Cycle.{Machine, first_hart, opening}
+use Rattle.fk_machine.specs.Cycle.{first_hart, opening}
 
 pub opened : (image : Image) (input : List ℕ) (p : ℕ) (code : List (Option Instruction)) (hs : List Hart) (words control : Memory) (output : List ℕ) (inputs begun : ℕ) → code ≡ map row image.code.items → hs ≡ replicate p first_hart → words ≡ slice_index (image.globals.items ++ input) → control ≡ (λ i. 0) → output ≡ [] → inputs ≡ length input → begun ≡ 0 → record { code = code; harts = hs; shared = record { words = words; control = control; output = output }; inputs = inputs; begun = begun; stand = Running } ≡ opening image input p
 opened image input p code hs words control output inputs begun code_is harts_are words_are control_is output_is inputs_are begun_is = cc

@@ -4,3 +4,4 @@ pub mod Cycle
 pub mod Run
 pub mod Fits
 pub mod View
+pub mod Does

@@ -1,13 +1,12 @@
 -- The states of the code as those of the definitions.
-use Rattle.std.specs.Prelude.{◌≡◌, ℕ, suc, ◌+◌, ◌-◌, ◌*◌, ◌≤◌, List, [], ◌∷◌, Option, Some, None, Result, Ok, Err, slice_index, slice_range, vec_len, vec_capacity}
+use Rattle.std.specs.Prelude.{ℕ, suc, ◌+◌, ◌*◌, List, [], ◌∷◌, slice_index, slice_range}
 use Rattle.fk_num.specs.Word.{Memory}
-use Rattle.fk_machine.specs.declared.stand.Stand.{Stand}
 use Rattle.fk_machine.specs.declared.hart.HartState.{HartState}
 use Rattle.fk_machine.specs.declared.shared.SharedState.{SharedState}
 use Rattle.fk_machine.specs.declared.setting.Setting.{Setting as SettingState}
 use Rattle.fk_machine.specs.declared.machine.Machine.{Machine as MachineState}
-use Rattle.fk_machine.specs.Hart.{Hart, Shared, Setting, Effect, Goes, Stops, writes, trap}
-use Rattle.fk_machine.specs.Cycle.{Turns, Machine}
+use Rattle.fk_machine.specs.Hart.{Hart, Shared, Setting}
+use Rattle.fk_machine.specs.Cycle.{Machine}
 
 -- a hart with its local memory
 abbrev pub hart_of : HartState → Memory → Hart
@@ -28,31 +27,6 @@ shared_of s =
 
 abbrev pub setting_of : SettingState → Setting
 setting_of t = record { code = t.code.items; harts = t.harts; inputs = t.inputs; finished = t.finished }
-
--- how many more bytes can be printed without taking memory
-abbrev pub room_of : SharedState → ℕ
-room_of s = vec_capacity s.output - vec_len s.output
-
--- at most so many bytes are printed, and the memory for output stays
-pub record PrintsUpTo (bytes : ℕ) (old new : SharedState) : Type 0 where
-  pub printed : vec_len new.output ≤ vec_len old.output + bytes
-  pub capacity : vec_capacity old.output ≤ vec_capacity new.output
-
--- a load after a word was found, or the number of a trap
-abbrev pub after_read : ℕ → Hart → Shared → ℕ → Result ℕ ℕ → Effect
-after_read number h s rd (Ok v) = Goes (writes h rd v) s
-after_read number h s rd (Err kind) = trap number h kind
-
--- an effect goes on to the new hart and shared state, or stops and leaves them
-abbrev pub Gives : Option Stand → Effect → Hart → Shared → Hart → Shared → Type 0
-Gives None effect h s h' s' = effect ≡ Goes h' s'
-Gives (Some stand) effect h s h' s' = (effect ≡ Stops stand) × (h' ≡ h) × (s' ≡ s)
-
--- turns leave these harts and this shared state, and end with this stand, if they do
-pub record TurnsGive (stop : Option Stand) (t : Turns) (harts : List Hart) (shared : Shared) : Type 0 where
-  pub harts_are : t.harts ≡ harts
-  pub shared_is : t.shared ≡ shared
-  pub stop_is : t.stop ≡ stop
 
 -- the machine of the definitions that a machine of the code is
 unfoldable pub machine_of : MachineState → Machine

@@ -7,6 +7,9 @@ ghost use Rattle.fk_machine.specs.View.{harts_of};
 
 use std::alloc::{AllocError, Global};
 
+/// The register that stays 0.
+pub const ZERO: u8 = 0;
+
 /// A hart, but for its local memory, which is a part of the machine's.
 #[derive(Drop)]
 pub struct HartState {
@@ -34,7 +37,7 @@ impl HartState {
         ensures pc { self.new.pc ≡ self.old.pc + 4 }
         ensures ended { self.new.ended ≡ self.old.ended }
     {
-        if rd != 0 {
+        if rd != ZERO {
             self.registers[rd as usize] = value;
         }
         self.pc += 4;

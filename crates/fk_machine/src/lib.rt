@@ -15,3 +15,6 @@ mod zeros;
 
 pub use machine::Machine;
 pub use stand::Stand;
+
+#[cfg(test)]
+mod tests;

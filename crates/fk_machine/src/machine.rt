@@ -3,10 +3,11 @@
 ghost use Rattle.std.specs.Prelude.{◌≡◌, ◌+◌, ◌*◌, ◌≤◌, vec_len, vec_capacity};
 
 use crate::hart::{HartState, first_harts};
+use crate::place::LOCAL_WORDS;
 use crate::setting::Setting;
 use crate::shared::SharedState;
 use crate::stand::Stand;
-use crate::turns::{LOCAL_WORDS, stand_after, take_turns};
+use crate::turns::{stand_after, take_turns};
 use crate::zeros::zeros;
 use fk_image::Image;
 use std::alloc::{AllocError, Global};
@@ -50,7 +51,7 @@ impl Machine {
     {
         let setting = Setting::make(alloc, &image.code, harts, input.len() as u32)?;
         let shared = SharedState::make(alloc, &image.globals, input, harts)?;
-        let locals = zeros(alloc, LOCAL_WORDS * harts as usize)?;
+        let locals = zeros(alloc, LOCAL_WORDS as usize * harts as usize)?;
         Ok(Machine {
             setting,
             harts: first_harts(alloc, harts)?,
@@ -67,6 +68,7 @@ impl Machine {
         requires { (machine_of self.old).begun < 2 ^ 32 - 1 }
         ensures cycle { machine_of self.new ≡ cycle (machine_of self.old) }
         ensures stand { result ≡ (machine_of self.new).stand }
+        ensures count { (machine_of self.new).begun ≤ (machine_of self.old).begun + 1 }
     {
         if self.stand != Stand::Running {
             return self.stand;

@@ -1,8 +1,26 @@
 //! What an address names.
 
-ghost use Rattle.std.specs.Prelude.{◌≡◌};
-ghost use Rattle.fk_machine.specs.Hart.{place_of, device_at};
+ghost use Rattle.std.specs.Prelude.{◌≡◌, ◌+◌, ◌-◌, ◌*◌, ◌/◌, ◌<◌, ◌^◌, if◌then◌else◌};
+ghost use Rattle.fk_machine.specs.Hart.{is_in, place_of, device_at};
 ghost use Rattle.fk_machine.specs.Fits.{IsWithin};
+
+/// Where shared data begins.
+pub const SHARED_START: u32 = 0x1000_0000;
+
+/// How many words of shared data there are.
+pub const SHARED_WORDS: u32 = 1 << 20;
+
+/// Where shared control begins.
+pub const CONTROL_START: u32 = 0x1800_0000;
+
+/// How many words of shared control there are.
+pub const CONTROL_WORDS: u32 = (1 << 20) + 64;
+
+/// Where the local memory of each hart begins.
+pub const LOCAL_START: u32 = 0x2000_0000;
+
+/// How many words of local memory a hart has.
+pub const LOCAL_WORDS: u32 = 32768;
 
 /// A device: one word of the map that is no memory.
 #[derive(Clone, Copy, PartialEq, Eq, Debug)]
@@ -38,20 +56,32 @@ pub enum Place {
     Nowhere,
 }
 
+// The index of an address in a memory of so many words from a start on, where it lies in it.
+fn index_in(address: u32, start: u32, words: u32) -> Option<u32>
+    requires { start + 4 * words < 2 ^ 32 }
+    ensures { result ≡ (if is_in address start words then Some ((address - start) / 4) else None) }
+{
+    if start <= address && address < start + 4 * words {
+        Some((address - start) / 4)
+    } else {
+        None
+    }
+}
+
 /// What an address names.
 #[tactic(auto, unfolding(crate::specs::Hart::place_of))]
-pub fn place_at(address: u32) -> Place
+pub(crate) fn place_at(address: u32) -> Place
     ensures place { result ≡ place_of address }
     ensures within { IsWithin result }
 {
     if address % 4 != 0 {
         Place::Misaligned
-    } else if 0x1000_0000 <= address && address < 0x1040_0000 {
-        Place::SharedWord((address - 0x1000_0000) / 4)
-    } else if 0x1800_0000 <= address && address < 0x1840_0100 {
-        Place::ControlWord((address - 0x1800_0000) / 4)
-    } else if 0x2000_0000 <= address && address < 0x2002_0000 {
-        Place::LocalWord((address - 0x2000_0000) / 4)
+    } else if let Some(index) = index_in(address, SHARED_START, SHARED_WORDS) {
+        Place::SharedWord(index)
+    } else if let Some(index) = index_in(address, CONTROL_START, CONTROL_WORDS) {
+        Place::ControlWord(index)
+    } else if let Some(index) = index_in(address, LOCAL_START, LOCAL_WORDS) {
+        Place::LocalWord(index)
     } else {
         device_at(address)
     }

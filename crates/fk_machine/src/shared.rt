@@ -2,15 +2,13 @@
 
 ghost use Rattle.std.specs.Prelude.{◌≡◌, ◌+◌, ◌≤◌, ◌^◌, ◌++◌, length, slice_index, vec_len, IfOk};
 
+use crate::place::{CONTROL_WORDS, SHARED_WORDS};
 use crate::zeros::zeros;
 use fk_num::signed_text;
 use std::alloc::{AllocError, Global};
 
-/// How many words of data all harts share.
-const SHARED_WORDS: usize = 1 << 20;
-
-/// How many words of control all harts share.
-const CONTROL_WORDS: usize = (1 << 20) + 64;
+/// The most bytes that an instruction prints: a sign, ten digits and a newline.
+pub const LINE_BYTES: usize = 12;
 
 /// Shared data, shared control, and the bytes printed in this cycle.
 #[derive(Drop)]
@@ -26,7 +24,8 @@ impl SharedState {
     ghost use Rattle.std.specs.Prelude.{◌*◌, ◌%◌, [], ◌∷◌};
     ghost use Rattle.fk_num.specs.Word.{signed_line};
     ghost use Rattle.fk_machine.specs.Hart.{prints};
-    ghost use Rattle.fk_machine.specs.View.{shared_of, room_of, PrintsUpTo};
+    ghost use Rattle.fk_machine.specs.View.{shared_of};
+    ghost use Rattle.fk_machine.specs.Does.{room_of, PrintsUpTo};
 
     /// Shared data with the words of globals and then those of input, and zeros for the rest,
     /// with room for what so many harts print in a cycle.
@@ -40,11 +39,11 @@ impl SharedState {
         ensures words { IfOk result (λ s. slice_index s.words.items ≡ slice_index (globals.now ++ input.now)) }
         ensures control { IfOk result (λ s. slice_index s.control.items ≡ λ i. 0) }
         ensures output { IfOk result (λ s. s.output.items ≡ []) }
-        ensures room { IfOk result (λ s. 12 * harts ≤ room_of s) }
+        ensures room { IfOk result (λ s. LINE_BYTES * harts ≤ room_of s) }
     {
         let words = first_words(alloc, globals, input)?;
-        let control = zeros(alloc, CONTROL_WORDS)?;
-        let output = Vec::with_capacity(alloc, 12 * harts as usize)?;
+        let control = zeros(alloc, CONTROL_WORDS as usize)?;
+        let output = Vec::with_capacity(alloc, LINE_BYTES * harts as usize)?;
         Ok(SharedState {
             words,
             control,
@@ -57,18 +56,15 @@ impl SharedState {
         ensures bytes { shared_of self.new ≡ prints (shared_of self.old) bytes.now }
         ensures room { PrintsUpTo (length bytes.now) self.old self.new }
     {
-        match self.output.extend_from_slice(bytes) {
-            Ok(()) => {}
-            Err(_) => unreachable!(),
-        }
+        self.output.extend_from_slice(bytes).unwrap();
     }
 
     /// Prints the decimal of a word's signed value, and a newline.
     #[tactic(auto, unfolding(fk_num::specs::Word::signed_line))]
     pub fn print_number(&mut self, word: u32)
-        requires { 12 ≤ room_of self.old }
+        requires { LINE_BYTES ≤ room_of self.old }
         ensures line { shared_of self.new ≡ prints (shared_of self.old) (signed_line word) }
-        ensures room { PrintsUpTo 12 self.old self.new }
+        ensures room { PrintsUpTo LINE_BYTES self.old self.new }
     {
         self.print(signed_text(word).as_slice());
         self.print(b"\n");
@@ -76,9 +72,9 @@ impl SharedState {
 
     /// Prints the low byte of a word.
     pub fn print_byte(&mut self, word: u32)
-        requires { 12 ≤ room_of self.old }
+        requires { LINE_BYTES ≤ room_of self.old }
         ensures byte { shared_of self.new ≡ prints (shared_of self.old) (word % 256 ∷ []) }
-        ensures room { PrintsUpTo 12 self.old self.new }
+        ensures room { PrintsUpTo LINE_BYTES self.old self.new }
     {
         self.print(&[(word % 256) as u8]);
     }
@@ -91,9 +87,9 @@ fn first_words(alloc: Global, globals: &[u32], input: &[u32]) -> Result<Vec<u32>
     ensures len { IfOk result (λ words. vec_len words ≡ 2 ^ 20) }
     ensures words { IfOk result (λ words. slice_index words.items ≡ slice_index (globals.now ++ input.now)) }
 {
-    let mut words = Vec::with_capacity(alloc, SHARED_WORDS)?;
+    let mut words = Vec::with_capacity(alloc, SHARED_WORDS as usize)?;
     words.extend_from_slice(globals)?;
     words.extend_from_slice(input)?;
-    words.resize(SHARED_WORDS, 0)?;
+    words.resize(SHARED_WORDS as usize, 0)?;
     Ok(words)
 }

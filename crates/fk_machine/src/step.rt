@@ -4,13 +4,14 @@ ghost use Rattle.std.specs.Prelude.{◌≡◌, ℕ, ◌<◌, ◌≤◌, ◌+◌,
 ghost use Rattle.fk_machine.specs.Fits.{fits, IsWithin};
 ghost use Rattle.fk_num.specs.Word.{Memory, word_sum};
 ghost use Rattle.fk_machine.specs.Hart.{Hart, Shared, load, store, jump, perform, step, place_of, writes};
-ghost use Rattle.fk_machine.specs.View.{hart_of, shared_of, setting_of, room_of, PrintsUpTo, Gives, after_read};
+ghost use Rattle.fk_machine.specs.View.{hart_of, shared_of, setting_of};
+ghost use Rattle.fk_machine.specs.Does.{room_of, PrintsUpTo, Gives, Does, after_read};
 
-use crate::hart::HartState;
+use crate::hart::{HartState, ZERO};
 use crate::instruction::Instruction;
-use crate::place::{Device, Place, place_at};
+use crate::place::{Device, LOCAL_WORDS, Place, place_at};
 use crate::setting::Setting;
-use crate::shared::SharedState;
+use crate::shared::{LINE_BYTES, SharedState};
 use crate::stand::{ACCESS, FETCH, MISALIGNED, Stand, UNKNOWN};
 
 // The word that a load by the hart with a number finds at a place, or the number of its trap.
@@ -22,7 +23,7 @@ fn read(
     place: Place,
 ) -> Result<u32, u8>
     requires within { IsWithin place }
-    requires own { length local.now ≡ 32768 }
+    requires own { length local.now ≡ LOCAL_WORDS }
     ensures { (h : Hart) (rd : ℕ) → h.local ≡ slice_index local.now → let s = shared_of shared.now in
         load (setting_of setting.now) number h s rd place ≡ after_read number h s rd result }
 {
@@ -51,9 +52,9 @@ fn load(
 ) -> Option<Stand>
     requires register { rd < 32 }
     requires room { hart.old.pc + 4 < 2 ^ 32 }
-    requires own { length local.now ≡ 32768 }
-    ensures { let h = hart_of hart.old (slice_index local.now) in let s = shared_of shared.now in
-        Gives result (load (setting_of setting.now) number h s rd (place_of address)) h s (hart_of hart.new (slice_index local.now)) s }
+    requires own { length local.now ≡ LOCAL_WORDS }
+    ensures { Does (λ h s. load (setting_of setting.now) number h s rd (place_of address))
+        hart.old local.now shared.now result hart.new local.now shared.now }
 {
     match read(setting, number, local, shared, place_at(address)) {
         Ok(value) => {
@@ -74,11 +75,11 @@ fn store(
     address: u32,
 ) -> Option<Stand>
     requires room { hart.old.pc + 4 < 2 ^ 32 }
-    requires own { length local.old ≡ 32768 }
-    requires output { 12 ≤ room_of shared.old }
-    ensures effect { let h = hart_of hart.old (slice_index local.old) in let s = shared_of shared.old in
-        Gives result (store number h s value (place_of address)) h s (hart_of hart.new (slice_index local.new)) (shared_of shared.new) }
-    ensures output { PrintsUpTo 12 shared.old shared.new }
+    requires own { length local.old ≡ LOCAL_WORDS }
+    requires output { LINE_BYTES ≤ room_of shared.old }
+    ensures effect { Does (λ h s. store number h s value (place_of address))
+        hart.old local.old shared.old result hart.new local.new shared.new }
+    ensures output { PrintsUpTo LINE_BYTES shared.old shared.new }
 {
     match place_at(address) {
         Place::SharedWord(index) => shared.words[index as usize] = value,
@@ -100,7 +101,7 @@ fn jump(number: u32, hart: &mut HartState, rd: u8, offset: u32) -> Option<Stand>
     requires register { rd < 32 }
     requires room { hart.old.pc + 4 < 2 ^ 32 }
     ensures { (local : Memory) (s : Shared) → let h = hart_of hart.old local in
-        Gives result (jump number h s (writes h rd (h.pc + 4)) (word_sum h.pc offset)) h s (hart_of hart.new local) s }
+        Gives (jump number h s (writes h rd (h.pc + 4)) (word_sum h.pc offset)) h s result (hart_of hart.new local) s }
 {
     let target = hart.pc.wrapping_add(offset);
     if target % 4 != 0 {
@@ -123,11 +124,11 @@ fn perform(
 ) -> Option<Stand>
     requires fits { IsTrue (fits instruction) }
     requires room { hart.old.pc + 4 < 2 ^ 32 }
-    requires own { length local.old ≡ 32768 }
-    requires output { 12 ≤ room_of shared.old }
-    ensures effect { let h = hart_of hart.old (slice_index local.old) in let s = shared_of shared.old in
-        Gives result (perform (setting_of setting.now) number instruction h s) h s (hart_of hart.new (slice_index local.new)) (shared_of shared.new) }
-    ensures output { PrintsUpTo 12 shared.old shared.new }
+    requires own { length local.old ≡ LOCAL_WORDS }
+    requires output { LINE_BYTES ≤ room_of shared.old }
+    ensures effect { Does (perform (setting_of setting.now) number instruction)
+        hart.old local.old shared.old result hart.new local.new shared.new }
+    ensures output { PrintsUpTo LINE_BYTES shared.old shared.new }
 {
     match instruction {
         Instruction::Lui(rd, upper) => hart.write(rd, upper << 12),
@@ -150,13 +151,13 @@ fn perform(
         }
         Instruction::Beq(rs1, rs2, offset) => {
             if hart.register(rs1) == hart.register(rs2) {
-                return jump(number, hart, 0, offset);
+                return jump(number, hart, ZERO, offset);
             }
             hart.pc += 4;
         }
         Instruction::Bne(rs1, rs2, offset) => {
             if hart.register(rs1) != hart.register(rs2) {
-                return jump(number, hart, 0, offset);
+                return jump(number, hart, ZERO, offset);
             }
             hart.pc += 4;
         }
@@ -173,11 +174,11 @@ pub fn step(
     local: &mut [u32],
     shared: &mut SharedState,
 ) -> Option<Stand>
-    requires own { length local.old ≡ 32768 }
-    requires output { 12 ≤ room_of shared.old }
-    ensures effect { let h = hart_of hart.old (slice_index local.old) in let s = shared_of shared.old in
-        Gives result (step (setting_of setting.now) number h s) h s (hart_of hart.new (slice_index local.new)) (shared_of shared.new) }
-    ensures output { PrintsUpTo 12 shared.old shared.new }
+    requires own { length local.old ≡ LOCAL_WORDS }
+    requires output { LINE_BYTES ≤ room_of shared.old }
+    ensures effect { Does (step (setting_of setting.now) number)
+        hart.old local.old shared.old result hart.new local.new shared.new }
+    ensures output { PrintsUpTo LINE_BYTES shared.old shared.new }
 {
     let index = (hart.pc / 4) as usize;
     if index >= setting.code.len() {

@@ -3,16 +3,15 @@
 ghost use Rattle.std.specs.Prelude.{◌≡◌, ℕ, ◌*◌, ◌≤◌, length};
 ghost use Rattle.fk_num.specs.Word.{Memory};
 ghost use Rattle.fk_machine.specs.Cycle.{turns, all_ended, stand_after};
-ghost use Rattle.fk_machine.specs.View.{harts_of, local_of, shared_of, setting_of, room_of, PrintsUpTo, TurnsGive};
+ghost use Rattle.fk_machine.specs.View.{harts_of, setting_of};
+ghost use Rattle.fk_machine.specs.Does.{room_of, PrintsUpTo, TakesTurns};
 
 use crate::hart::HartState;
+use crate::place::LOCAL_WORDS;
 use crate::setting::Setting;
-use crate::shared::SharedState;
+use crate::shared::{LINE_BYTES, SharedState};
 use crate::stand::Stand;
 use crate::step::step;
-
-/// How many words of local memory a hart has.
-pub const LOCAL_WORDS: usize = 32768;
 
 /// How the machine stands after the turns, where one of them may have ended it.
 pub fn stand_after(stop: Option<Stand>, harts: &[HartState]) -> Stand
@@ -39,21 +38,19 @@ pub fn take_turns(
     shared: &mut SharedState,
 ) -> Option<Stand>
     requires few { length harts.old ≤ 1024 }
-    requires own { length locals.old ≡ 32768 * length harts.old }
-    requires output { 12 * length harts.old ≤ room_of shared.old }
-    ensures turns { TurnsGive result
-        (turns (setting_of setting.now) 0 (harts_of 0 harts.old (local_of locals.old)) (shared_of shared.old))
-        (harts_of 0 harts.new (local_of locals.new)) (shared_of shared.new) }
-    ensures output { PrintsUpTo (12 * length harts.old) shared.old shared.new }
+    requires own { length locals.old ≡ LOCAL_WORDS * length harts.old }
+    requires output { LINE_BYTES * length harts.old ≤ room_of shared.old }
+    ensures turns { TakesTurns (turns (setting_of setting.now) 0)
+        harts.old locals.old shared.old result harts.new locals.new shared.new }
+    ensures output { PrintsUpTo (LINE_BYTES * length harts.old) shared.old shared.new }
 {
     for number in 0..harts.len() {
         let hart = &mut harts[number];
         if !hart.ended {
-            let start = LOCAL_WORDS * number;
-            let local = &mut locals[start..start + LOCAL_WORDS];
-            match step(setting, number as u32, hart, local, shared) {
-                Some(stand) => return Some(stand),
-                None => {}
+            let start = LOCAL_WORDS as usize * number;
+            let local = &mut locals[start..start + LOCAL_WORDS as usize];
+            if let Some(stand) = step(setting, number as u32, hart, local, shared) {
+                return Some(stand);
             }
         }
     }

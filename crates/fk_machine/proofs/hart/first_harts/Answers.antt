@@ -1,8 +1,7 @@
-use Rattle.std.proofs.Common.{ap, ◌∙◌, arith}
+use Rattle.std.proofs.Common.{ap, arith}
 use Rattle.std.specs.Prelude.{replicate}
 use Rattle.fk_machine.specs.Cycle.{first_hart}
-use Rattle.fk_machine.specs.View.{harts_of}
-use Rattle.fk_machine.proofs.Harts.{fresh, harts_of-fresh}
+use Rattle.fk_machine.proofs.Harts.{harts_of-fresh}
 use Rattle.fk_machine.proofs.hart.first_harts.Goals as goal
 
 pub returns-clause-harts : goal.returns-clause-harts

@@ -1,6 +1,7 @@
 use Rattle.std.proofs.Common.{◌*◌, take, drop}
 use Rattle.fk_machine.specs.Cycle.{turns}
-use Rattle.fk_machine.specs.View.{harts_of, local_of, shared_of, setting_of, PrintsUpTo}
+use Rattle.fk_machine.specs.View.{harts_of, local_of, shared_of, setting_of}
+use Rattle.fk_machine.specs.Does.{PrintsUpTo}
 use Rattle.fk_machine.proofs.Joined.{Joined}
 use Rattle.fk_machine.proofs.turns.take_turns.Given as goal
 

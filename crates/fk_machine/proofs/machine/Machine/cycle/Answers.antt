@@ -1,10 +1,9 @@
-use Rattle.std.proofs.Common.{◌≡◌, sym, ap, ◌∙◌, subst, arith, rules, length, vec_len}
+use Rattle.std.proofs.Common.{◌≡◌, ap, ◌∙◌, arith, rules}
 use Rattle.std.specs.Vec.{with_items}
 use Rattle.std.proofs.lemmas.List.{with_items_is}
 use Rattle.fk_machine.specs.declared.stand.Stand.TheVariants.{Running}
-use Rattle.fk_machine.specs.Hart.{Shared}
-use Rattle.fk_machine.specs.Cycle.{turns, stand_after}
-use Rattle.fk_machine.specs.View.{harts_of, local_of, shared_of, setting_of, machine_of, TurnsGive}
+use Rattle.fk_machine.specs.Cycle.{stand_after}
+use Rattle.fk_machine.specs.View.{harts_of, local_of, shared_of, machine_of}
 use Rattle.fk_machine.proofs.Cycled.{cycled, machine_after}
 use Rattle.fk_machine.proofs.machine.Machine.cycle.Goals as goal
 

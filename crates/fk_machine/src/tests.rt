@@ -1,0 +1,105 @@
+//! Hand-made images. The words are those of the RISC-V Unprivileged ISA, "RV32I Base Integer Instruction Set".
+
+ghost use Rattle.std.specs.Prelude.{◌≡◌, ◌≤◌, ◌+◌, length, vec_len, IfOk};
+ghost use Rattle.fk_image.specs.Limits.{IsWithinLimits};
+ghost use Rattle.fk_machine.specs.Run.{machine, output_of};
+ghost use Rattle.fk_machine.specs.View.{machine_of};
+
+use crate::stand::UNKNOWN;
+use crate::{Machine, Stand};
+use fk_image::Image;
+use std::alloc::{AllocError, Global};
+use std::test::Fail;
+
+// Runs an image for at most so many cycles, and answers the machine and all that it printed.
+fn run(
+    alloc: Global,
+    image: &Image,
+    input: &[u32],
+    harts: u32,
+    bound: u32,
+) -> Result<(Machine, Vec<u8>), AllocError>
+    requires limits { IsWithinLimits image.now }
+    requires some_harts { 1 ≤ harts }
+    requires few_harts { harts ≤ 1024 }
+    requires few_inputs { length input.now ≤ 65536 }
+    requires room { vec_len image.now.globals + length input.now ≤ 524288 }
+    ensures machine { IfOk result (λ r. machine_of r.0 ≡ machine image.now input.now harts bound) }
+    ensures bytes { IfOk result (λ r. r.1.items ≡ output_of image.now input.now harts bound) }
+{
+    let mut machine = Machine::make(alloc, image, input, harts)?;
+    let mut bytes = Vec::new(alloc);
+    for _ in 0..bound {
+        if machine.stand() != Stand::Running {
+            break;
+        }
+        machine.cycle();
+        bytes.extend_from_slice(machine.output())?;
+    }
+    Ok((machine, bytes))
+}
+
+#[test]
+fn two_harts_print_in_order(rt: HostRuntime) -> Result<(), Fail> {
+    let alloc = rt.alloc();
+    let image = Image {
+        // lui t0, 0x30000; lw t1, 20(t0); sw t1, 0(t0); sw zero, 12(t0)
+        code: vec![in alloc; 0x300002b7, 0x0142a303, 0x0062a023, 0x0002a623]?,
+        globals: Vec::new(alloc),
+        sites: Vec::new(alloc),
+        commits: Vec::new(alloc),
+    };
+    let (machine, bytes) = run(alloc, &image, &[], 2, 10)?;
+    assert_eq!(rt; bytes.as_slice(), b"0\n1\n".as_slice());
+    assert_eq!(rt; machine.stand(), Stand::Finished);
+    assert_eq!(rt; machine.cycles(), 4);
+    assert_eq!(rt; machine.output().len(), 0);
+    Ok(())
+}
+
+#[test]
+fn an_unknown_word_traps(rt: HostRuntime) -> Result<(), Fail> {
+    let alloc = rt.alloc();
+    let image = Image {
+        // addi t0, zero, -1; ebreak
+        code: vec![in alloc; 0xfff00293, 0x00100073]?,
+        globals: Vec::new(alloc),
+        sites: Vec::new(alloc),
+        commits: Vec::new(alloc),
+    };
+    let (machine, _) = run(alloc, &image, &[], 3, 10)?;
+    assert_eq!(rt; machine.stand(), Stand::Trapped(0, 4, UNKNOWN));
+    assert_eq!(rt; machine.cycles(), 2);
+    Ok(())
+}
+
+#[test]
+fn devices_answer_loads(rt: HostRuntime) -> Result<(), Fail> {
+    let alloc = rt.alloc();
+    let image = Image {
+        // lui t0, 0x30000; lui t1, 0x10000
+        // lw t2, 16(t0); sw t2, 0(t1); lw t2, 20(t0); sw t2, 4(t1)
+        // lw t2, 24(t0); sw t2, 8(t1); lw t2, 28(t0); sw t2, 12(t1); sw zero, 12(t0)
+        code: vec![in alloc;
+            0x300002b7, 0x10000337, 0x0102a383, 0x00732023, 0x0142a383, 0x00732223, 0x0182a383,
+            0x00732423, 0x01c2a383, 0x00732623, 0x0002a623,
+        ]?,
+        globals: vec![in alloc; 100, 101, 102, 103, 104]?,
+        sites: Vec::new(alloc),
+        commits: Vec::new(alloc),
+    };
+    let (machine, _) = run(alloc, &image, &[105, 106], 3, 100)?;
+    assert_eq!(rt; machine.stand(), Stand::Finished);
+    assert_eq!(rt;
+        machine.word(0),
+        2,
+        "two cycles were finished before the load of CYCLE"
+    );
+    assert_eq!(rt; machine.word(1), 2, "the last of harts 0, 1, 2");
+    assert_eq!(rt; machine.word(2), 3, "harts");
+    assert_eq!(rt; machine.word(3), 2, "input numbers");
+    assert_eq!(rt; machine.word(4), 104, "a global");
+    assert_eq!(rt; machine.word(6), 106, "an input number");
+    assert_eq!(rt; machine.word(7), 0);
+    Ok(())
+}
