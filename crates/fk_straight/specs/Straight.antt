@@ -87,6 +87,10 @@ pub record Derives (tokens : List Token) (program : Program) : Type 0 where
   pub derived : tokens ≡ program_tokens names program.body.items
   pub short : length (operations program) ≤ 16000
 
+-- a list of tokens is that of at most one program: so many variables, and these operations
+abbrev pub DerivesOnce : Type 0
+DerivesOnce = (tokens : List Token) (p q : Program) → Derives tokens p → Derives tokens q → (p.variables ≡ q.variables) × (operations p ≡ operations q)
+
 -- a text is that of a straight-line program
 pub record IsStraight (source : List ℕ) (program : Program) : Type 0 where
   pub tokens : List Token

@@ -3,8 +3,8 @@ use Rattle.std.proofs.lemmas.List.{length-map}
 use Rattle.fk_meaning.specs.Sites.{operations_of_body}
 use Rattle.fk_straight.specs.Straight.{Derives}
 use Rattle.fk_straight.specs.View.{token_of}
-use Rattle.fk_straight.proofs.FaultLemmas.{passed_on}
-use Rattle.fk_straight.proofs.ProgramLemmas.{putint_free, no_header, no_body, no_end, too_long, operations_at_most}
+use Rattle.fk_straight.proofs.ParseLemmas.Faults.{passed_on}
+use Rattle.fk_straight.proofs.ParseLemmas.Programs.{putint_free, no_header, no_body, no_end, too_long, operations_at_most}
 use Rattle.fk_straight.proofs.parse.parse.Goals as goal
 
 pub returns-in_err-parse_header-clause-none : goal.returns-in_err-parse_header-clause-none

@@ -4,8 +4,8 @@ use Rattle.fk_straight.specs.declared.token.Sign.TheVariants.{CloseBrace}
 use Rattle.fk_straight.specs.Text.{Signed}
 use Rattle.fk_straight.specs.Straight.{AreDeclared, body_tokens}
 use Rattle.fk_straight.specs.Reading.{Begins}
-use Rattle.fk_straight.proofs.FaultLemmas.{passed_on, pushed}
-use Rattle.fk_straight.proofs.BodyLemmas.{no_statement, body_tokens-push}
+use Rattle.fk_straight.proofs.ParseLemmas.Faults.{passed_on, pushed}
+use Rattle.fk_straight.proofs.ParseLemmas.Bodies.{no_statement, body_tokens-push}
 use Rattle.fk_straight.proofs.parse.parse_body.Goals as goal
 
 pub returns-in_err-statement-clause-refused : goal.returns-in_err-statement-clause-refused

@@ -2,9 +2,9 @@ use Rattle.std.proofs.Common.{◌≡◌, [], ◌∷◌, ◌++◌, ◌∙◌, Con
 use Rattle.std.proofs.lemmas.List.Elements.{All-push, All-same}
 use Rattle.fk_straight.specs.Text.{Word}
 use Rattle.fk_straight.specs.Straight.{AreDistinct, reserved, declaration_tokens}
-use Rattle.fk_straight.proofs.NamesLemmas.{AreDistinct-push}
-use Rattle.fk_straight.proofs.FaultLemmas.{passed_on}
-use Rattle.fk_straight.proofs.DeclarationLemmas.{declaration_tokens-push, length-declaration_tokens, no_declaration, no_new_name}
+use Rattle.fk_straight.proofs.ParseLemmas.Names.{AreDistinct-push}
+use Rattle.fk_straight.proofs.ParseLemmas.Faults.{passed_on}
+use Rattle.fk_straight.proofs.ParseLemmas.Declarations.{declaration_tokens-push, length-declaration_tokens, no_declaration, no_new_name}
 use Rattle.fk_straight.proofs.parse.parse_declarations.Goals as goal
 
 pub returns-in_err-name-clause-refused : goal.returns-in_err-name-clause-refused

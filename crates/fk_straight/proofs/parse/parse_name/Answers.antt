@@ -1,7 +1,7 @@
 use Rattle.std.proofs.Common.{◌∷◌}
 use Rattle.fk_straight.specs.declared.token.Sign.TheVariants.{Semicolon}
 use Rattle.fk_straight.specs.Text.{Signed}
-use Rattle.fk_straight.proofs.FaultLemmas.{passed_on}
+use Rattle.fk_straight.proofs.ParseLemmas.Faults.{passed_on}
 use Rattle.fk_straight.proofs.parse.parse_name.Goals as goal
 
 pub returns-in_err-name-clause-refused : goal.returns-in_err-name-clause-refused

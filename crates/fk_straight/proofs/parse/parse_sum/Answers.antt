@@ -3,8 +3,8 @@ use Rattle.std.proofs.lemmas.List.Elements.{All-push, All-same}
 use Rattle.fk_straight.specs.declared.token.Sign.TheVariants.{Plus}
 use Rattle.fk_straight.specs.Text.{Signed}
 use Rattle.fk_straight.specs.Straight.{IsDeclared, part_token, more_tokens}
-use Rattle.fk_straight.proofs.FaultLemmas.{passed_on, pushed}
-use Rattle.fk_straight.proofs.SumLemmas.{no_part, more_tokens-push}
+use Rattle.fk_straight.proofs.ParseLemmas.Faults.{passed_on, pushed}
+use Rattle.fk_straight.proofs.ParseLemmas.Sums.{no_part, more_tokens-push}
 use Rattle.fk_straight.proofs.parse.parse_sum.Goals as goal
 
 pub returns-in_err-part-clause-refused : goal.returns-in_err-part-clause-refused

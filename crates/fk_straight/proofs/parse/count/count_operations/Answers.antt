@@ -1,5 +1,5 @@
 use Rattle.std.proofs.Common.{arith}
-use Rattle.fk_straight.proofs.CountLemmas.{length-operations_of_body-drop}
+use Rattle.fk_straight.proofs.ParseLemmas.Counts.{length-operations_of_body-drop}
 use Rattle.fk_straight.proofs.parse.count.count_operations.Goals as goal
 
 pub count_statement-count-requires : goal.count_statement-count-requires

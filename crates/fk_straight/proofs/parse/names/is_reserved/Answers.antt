@@ -4,7 +4,7 @@ use Rattle.std.specs.List.{list_any}
 use Rattle.std.proofs.lemmas.Bool.{false≢true}
 use Rattle.std.proofs.lemmas.Slice.Eq.{bytes_eq-Decides}
 use Rattle.fk_straight.specs.Straight.{reserved}
-use Rattle.fk_straight.proofs.NamesLemmas.{list_any-Decides}
+use Rattle.fk_straight.proofs.ParseLemmas.Names.{list_any-Decides}
 use Rattle.fk_straight.proofs.parse.names.is_reserved.Goals as goal
 
 reserved-Decides : (word : List ℕ) → Decides (list_any (λ name. pointwise nat_eq name word) reserved) (Contains reserved word)

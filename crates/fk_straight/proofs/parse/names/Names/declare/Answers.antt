@@ -1,5 +1,5 @@
 use Rattle.std.proofs.Common.{inr, rules}
-use Rattle.fk_straight.proofs.NamesLemmas.{is_new, is_old}
+use Rattle.fk_straight.proofs.ParseLemmas.Names.{is_new, is_old}
 use Rattle.fk_straight.proofs.parse.names.Names.declare.Goals as goal
 use Rattle.fk_straight.proofs.parse.names.Names.declare.Goals.{in-Ok-true, in-Ok-false, in-Err}
 

@@ -1,4 +1,4 @@
-use Rattle.fk_straight.proofs.NamesLemmas.{is_absent, is_at}
+use Rattle.fk_straight.proofs.ParseLemmas.Names.{is_absent, is_at}
 use Rattle.fk_straight.proofs.parse.names.Names.number_of.Goals as goal
 
 pub returns-in_err-index-clause-undeclared : goal.returns-in_err-index-clause-undeclared

@@ -5,8 +5,8 @@ use Rattle.std.proofs.lemmas.List.Elements.{All-contains, Contains-append_right}
 use Rattle.fk_straight.specs.declared.token.Sign.TheVariants.{Semicolon}
 use Rattle.fk_straight.specs.Text.{Token, Word, Signed}
 use Rattle.fk_straight.specs.Straight.{Names, AreDistinct, reserved, declaration_tokens}
-use Rattle.fk_straight.specs.Reading.{Begins, BeginsDeclarations}
-use Rattle.fk_straight.proofs.NamesLemmas.{AreDistinct-apart, Contains-head}
+use Rattle.fk_straight.specs.Reading.{Begins, BeginsDeclarations, NoName}
+use Rattle.fk_straight.proofs.ParseLemmas.Names.{AreDistinct-apart, Contains-head}
 
 pub declaration_tokens-push : (names : Names) (name : List ℕ) (rest : List Token)
     → declaration_tokens (names ++ name ∷ []) ++ rest ≡ declaration_tokens names ++ Word (codes "sh") ∷ Word (codes "int") ∷ Word name ∷ Signed Semicolon ∷ rest
@@ -53,7 +53,7 @@ module _ (tokens rest : List Token) (names : Names) (begins : BeginsDeclarations
 
 -- no declaration follows `sh`
 pub no_declaration : (tokens rest : List Token) (names : Names) (done : Names) (left : List Token) → tokens ≡ declaration_tokens done ++ Word (codes "sh") ∷ left
-    → ((after : List Token) (name : List ℕ) → ¬ (left ≡ Word (codes "int") ∷ Word name ∷ Signed Semicolon ∷ after)) → ¬ BeginsDeclarations tokens rest names
+    → NoName left → ¬ BeginsDeclarations tokens rest names
 no_declaration tokens rest names done left so_far none begins =
     let m = one_more tokens rest names begins done left so_far in
     none _ m.0 m.3
