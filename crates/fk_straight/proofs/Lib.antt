@@ -1,14 +1,7 @@
-pub mod BodyLemmas
-pub mod CountLemmas
-pub mod DeclarationLemmas
 pub mod Derived
-pub mod FaultLemmas
 pub mod FirstToken
 pub mod Fronts
-pub mod NamesLemmas
 pub mod Numbers
-pub mod ProgramLemmas
+pub mod ParseLemmas
 pub mod Reached
 pub mod Spelled
-pub mod StatementLemmas
-pub mod SumLemmas

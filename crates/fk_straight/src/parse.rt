@@ -5,7 +5,7 @@
 ghost use Rattle.std.specs.Prelude.{◌≡◌, ◌≤◌, Contains, IfOk, alloc_error, codes, length, map};
 ghost use Rattle.fk_meaning.specs.declared.syntax.Program.{Program};
 ghost use Rattle.fk_straight.specs.View.{token_of};
-ghost use Rattle.fk_straight.specs.Straight.{Derives, DerivesOnce};
+ghost use Rattle.fk_straight.specs.Straight.{Derives};
 ghost use Rattle.fk_straight.specs.Reading.{BeginsPart, BeginsSum, BeginsStatement, BeginsBody, BeginsDeclarations, NoPart, NoSum, NoStatement, NoBody, NoName, NoDeclarations, NoHeader, name_tokens, header_tokens};
 
 mod count;
@@ -166,11 +166,6 @@ pub fn parse(alloc: Global, tokens: &[Token]) -> Result<Program, ReadFault>
         body,
     })
 }
-
-/// The tokens of a program are those of no other: what `parse` gives is the one program that they have.
-pub fn one_program()
-    ensures { DerivesOnce }
-{}
 
 #[cfg(test)]
 mod tests;
