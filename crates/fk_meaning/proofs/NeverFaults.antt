@@ -2,9 +2,8 @@
 use Rattle.std.proofs.Common.{◌≡◌, ℕ, suc, List, [], ◌∷◌, Option, Some, None, ap, ◌∙◌, refl}
 use Rattle.fk_meaning.specs.declared.operations.Operation.{Operation}
 use Rattle.fk_meaning.specs.declared.operations.Operation.TheVariants.{PushNumber, PushAddress, Add, DropLast, ReadWord, WriteWord, PrintNumber, Halt}
-use Rattle.fk_meaning.specs.Serve.{Store, Answer, Served, FaultAt, serve}
-use Rattle.fk_meaning.specs.Round.{Acting, State, Round, Phase, Passes, answered, do_request, request_phase, after_phase, all_requests, all_locals, begin_all, result}
-use Rattle.fk_meaning.specs.Operation.{class_of}
+use Rattle.fk_meaning.specs.Serve.{Store, Served, serve}
+use Rattle.fk_meaning.specs.Round.{Acting, State, Round, Passes, answered, request_phase, after_phase, all_requests, all_locals, begin_all, result}
 use Rattle.fk_meaning.specs.Schedule.{Schedule, run}
 
 record IsServed (op : Operation) (s : Store) (vs : List ℕ) : Type 0 where

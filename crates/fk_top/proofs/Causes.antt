@@ -1,8 +1,7 @@
 -- What a call comes to, by what its parts came to.
-use Rattle.std.proofs.Common.{◌≡◌, ℕ, ◌≤◌, List, [], length, Option, Result, Ok, Err, sym, subst, ap, ◌∙◌, arith, rules, refl, ◌⊎◌, inl, inr, ◌++◌, Some, None, ◌<◌, take}
+use Rattle.std.proofs.Common.{◌≡◌, ℕ, ◌≤◌, List, [], length, Option, Result, Ok, Err, sym, subst, ap, ◌∙◌, arith, refl, ◌⊎◌, inl, inr, ◌++◌, Some, None, take}
 use Rattle.std.specs.Prelude.{IfOk}
 use Rattle.std.specs.declared.alloc.AllocError.{AllocError}
-use Rattle.std.specs.Io.KnownBytes.{append_known}
 use Rattle.fk_ports.specs.Faults.{HasRisen}
 use Rattle.fk_ports.specs.Files.{Files, AppendsFile, AppendsAtMost}
 use Rattle.fk_machine.specs.declared.stand.Stand.{Stand}
@@ -12,11 +11,11 @@ use Rattle.fk_top.specs.declared.report.Report.TheVariants as reports
 use Rattle.fk_top.specs.declared.status.Status.{Status}
 use Rattle.fk_top.specs.declared.status.Status.TheVariants.{Done, Refused, Usage, ReadFault, WriteFault, Memory, SourceFault, CycleBound, Trap, ImageRefused, InputRefused}
 use Rattle.std.proofs.lemmas.List.{take_all, length-take}
-use Rattle.std.specs.Prelude.{codes, IfSome, IsSomeAnd}
+use Rattle.std.specs.Prelude.{IsSomeAnd}
 use Rattle.fk_ports.specs.Files.{FetchFaults, LacksFile, file}
 use Rattle.fk_top.specs.Words.{Command, Reads}
 use Rattle.fk_top.specs.Report.{line_of}
-use Rattle.fk_top.specs.Call.{Request, request_of, Sunk, Took, FailedIn, Call, IsNoCommand, IsUnread, SourceEnds, IsRefusedAs, FetchedEnds, Ends, IsAnswered, IsCut, AreCut, IsInOrder, IsText, IsRun, IsOfRun, IsOfRefusal, IsOfNoCommand, IsBuilt}
+use Rattle.fk_top.specs.Call.{Request, request_of, Sunk, Took, Call, IsNoCommand, IsUnread, SourceEnds, IsRefusedAs, FetchedEnds, Ends, IsAnswered, IsCut, AreCut, IsInOrder, IsText, IsRun, IsOfRun, IsOfRefusal, IsOfNoCommand, IsBuilt}
 
 -- no source ends in a status of the words or of the file
 from_source : (request : Request) (status : Status) (output : List ℕ) (line : report.Report) → FetchedEnds request status output line → Ends request status output line

@@ -1,5 +1,5 @@
 -- A run of a faithful image neither faults nor traps.
-use Rattle.std.proofs.Common.{◌≡◌, ℕ, ◌+◌, ◌≤◌, ◌<◌, ◌^◌, List, [], length, Option, None, Bool, true, false, cond, sym, ap, subst, ◌∙◌, arith, refl, ◌⊎◌, inl, inr, rules}
+use Rattle.std.proofs.Common.{◌≡◌, ℕ, ◌≤◌, ◌<◌, ◌^◌, List, [], length, Option, Bool, true, false, cond, sym, ap, subst, ◌∙◌, arith, refl, rules}
 use Rattle.fk_image.specs.declared.Image.{Image}
 use Rattle.fk_meaning.specs.Round.{Fault}
 use Rattle.fk_meaning.specs.Schedule.{opening, run, SourceRunning, SourceFinished, all_done, stand_by}

@@ -1,5 +1,5 @@
 -- A machine that doesn't run stays as it is, and prints nothing more.
-use Rattle.std.proofs.Common.{◌≡◌, ℕ, zero, suc, ◌+◌, ◌≤◌, List, ◌++◌, Bool, true, false, cond, sym, ap, subst, ◌∙◌, arith, refl, ◌⊎◌, inl, inr, ◌-◌}
+use Rattle.std.proofs.Common.{◌≡◌, ℕ, zero, suc, ◌+◌, ◌≤◌, List, ◌++◌, Bool, true, false, cond, sym, ap, ◌∙◌, arith, refl, ◌⊎◌, inl, inr, ◌-◌}
 use Rattle.fk_image.specs.declared.Image.{Image}
 use Rattle.fk_machine.specs.declared.stand.Stand.{Stand}
 use Rattle.fk_machine.specs.Cycle.{Machine, turns_of, after_turns, is_running, cycle}

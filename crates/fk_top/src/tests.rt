@@ -1,8 +1,10 @@
 //! Whole calls over objects in memory.
 
+ghost use Rattle.std.specs.Prelude.{◌≢◌};
+
 use crate::call::fork95;
 use crate::status::Status;
-use fk_ports::{MemSink, MemStore, SureSource};
+use fk_ports::{MemSink, MemStore, SureSink, SureSource, SureStore};
 use std::alloc::{AllocError, Global};
 use std::test::Fail;
 
@@ -29,6 +31,21 @@ const NONE: Fails = Fails {
     out: &[],
     err: &[],
 };
+
+// Over a store, a source and sinks that never fail no fault is answered.
+fn call_surely(
+    alloc: Global,
+    words: &[String],
+    files: &mut SureStore,
+    input: &mut SureSource,
+    out: &mut SureSink,
+    err: &mut SureSink,
+) -> Status
+    ensures reads { result ≢ Status.ReadFault }
+    ensures writes { result ≢ Status.WriteFault }
+{
+    fork95(alloc, words, files, input, out, err)
+}
 
 // `run text.f95 --harts HARTS --cycles CYCLES` over a store that holds the text.
 fn run(
@@ -212,5 +229,28 @@ fn a_report_that_is_not_taken_is_a_write_fault(rt: HostRuntime) -> Result<(), Fa
     let got = run(rt.alloc(), SUMS.as_bytes(), "1", "1000000", fails)?;
     assert_eq!(rt; got.status, Status::WriteFault);
     assert_eq!(rt; got.out.as_slice(), b"5\n".as_slice());
+    Ok(())
+}
+
+#[test]
+fn a_call_that_meets_no_fault_is_done(rt: HostRuntime) -> Result<(), Fail> {
+    let alloc = rt.alloc();
+    let mut words = Vec::new(alloc);
+    for word in ["run", "any.f95", "--harts", "4", "--cycles", "1000000"] {
+        words.push(String::from_str(alloc, word)?)?;
+    }
+    let mut files = SureStore::make(SUMS.as_bytes().to_vec(alloc)?);
+    let mut input = SureSource::make(Vec::new(alloc));
+    let mut out = SureSink::make();
+    let mut err = SureSink::make();
+    let status = call_surely(
+        alloc,
+        words.as_slice(),
+        &mut files,
+        &mut input,
+        &mut out,
+        &mut err,
+    );
+    assert_eq!(rt; status, Status::Done);
     Ok(())
 }

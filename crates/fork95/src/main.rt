@@ -16,7 +16,14 @@ fn main(rt: HostRuntime) -> ExitCode {
     let mut input = HostSource::make(rt.stdin());
     let mut out = HostSink::make(rt.stdout());
     let mut err = HostSink::make(rt.stderr());
-    let status = fork95(rt.alloc(), words.as_slice(), &mut files, &mut input, &mut out, &mut err);
+    let status = fork95(
+        rt.alloc(),
+        words.as_slice(),
+        &mut files,
+        &mut input,
+        &mut out,
+        &mut err,
+    );
     ExitCode::from(status.code())
 }
 

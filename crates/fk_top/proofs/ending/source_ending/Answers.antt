@@ -1,4 +1,4 @@
-use Rattle.std.proofs.Common.{ap, ◌∙◌}
+use Rattle.std.proofs.Common.{◌∙◌}
 use Rattle.fk_top.proofs.Stands.{run_ends}
 use Rattle.fk_top.proofs.ending.source_ending.Goals as goal
 

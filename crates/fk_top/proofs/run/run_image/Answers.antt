@@ -1,4 +1,4 @@
-use Rattle.std.proofs.Common.{◌≡◌, ◌∙◌, [], ap, arith, inl, inr}
+use Rattle.std.proofs.Common.{◌∙◌, [], ap, arith, inl, inr}
 use Rattle.fk_machine.specs.Cycle.{Machine}
 use Rattle.fk_top.proofs.Stays.{begun_within, Ends, ends, over}
 use Rattle.fk_top.proofs.run.run_image.Goals as goal
