@@ -15,7 +15,11 @@ use Rattle.std.specs.Prelude.{IsSomeAnd}
 use Rattle.fk_ports.specs.Files.{FetchFaults, LacksFile, file}
 use Rattle.fk_top.specs.Words.{Command, Reads}
 use Rattle.fk_top.specs.Report.{line_of}
-use Rattle.fk_top.specs.Call.{Request, request_of, Sunk, Took, Call, IsNoCommand, IsUnread, SourceEnds, IsRefusedAs, FetchedEnds, Ends, IsAnswered, IsCut, AreCut, IsInOrder, IsText, IsRun, IsOfRun, IsOfRefusal, IsOfNoCommand, IsBuilt}
+use Rattle.fk_top.specs.Call.{Request, Sunk, Took, Call, IsNoCommand, IsUnread, SourceEnds, IsRefusedAs, FetchedEnds, Ends, IsAnswered, IsCut, AreCut, IsInOrder, IsText, IsRun, IsOfRun, IsOfRefusal, IsOfNoCommand, IsBuilt}
+
+abbrev pub asked : List (List ℕ) → Option Files → ℕ → ℕ → Request
+asked words files before after =
+    record { words = words; files = files; fetch_faults_before = before; fetch_faults_after = after }
 
 -- no source ends in a status of the words or of the file
 from_source : (request : Request) (status : Status) (output : List ℕ) (line : report.Report) → FetchedEnds request status output line → Ends request status output line
@@ -47,17 +51,17 @@ begins files name old new source empty same appended few =
 pub source_ends : (r : Result Ending AllocError) (words : List (List ℕ)) (files : Option Files) (before after : ℕ) (command : Command) (old new source : List ℕ)
     → Reads words command → old ≡ [] → source ≡ new → AppendsFile files command.file 1048577 old new → AppendsAtMost 1048577 old new
     → IfOk r (λ e. SourceEnds source command.harts command.cycles e.status e.output.items e.report)
-    → IfOk r (λ e. Ends (request_of words files before after) e.status e.output.items e.report)
+    → IfOk r (λ e. Ends (asked words files before after) e.status e.output.items e.report)
 source_ends (Ok e) words files before after command old new source reads empty same appended few ends =
     let b = begins files command.file old new source empty same appended few in
-    from_source (request_of words files before after) e.status e.output.items e.report
+    from_source (asked words files before after) e.status e.output.items e.report
     (record { command = command; reads = reads; source = source; first_bytes = b.first_bytes; at_most = b.at_most; ends = ends })
 source_ends (Err e) words files before after command old new source reads empty same appended few ends = tt
 
 pub usage_ends : (words : List (List ℕ)) (files : Option Files) (before after : ℕ) (status : Status) (output : List ℕ) (line : report.Report)
-    → status ≡ Usage → output ≡ [] → line ≡ reports.CommandLine → IsNoCommand words → Ends (request_of words files before after) status output line
+    → status ≡ Usage → output ≡ [] → line ≡ reports.CommandLine → IsNoCommand words → Ends (asked words files before after) status output line
 usage_ends words files before after status output line is silent reported none =
-    subst (λ (st : Status). Ends (request_of words files before after) st output line) (sym is) (none, silent, reported)
+    subst (λ (st : Status). Ends (asked words files before after) st output line) (sym is) (none, silent, reported)
 
 -- ---- each status
 
@@ -91,18 +95,18 @@ write_fault_cause call status answer is =
 
 -- ---- words that are no command
 
-pub no_command : (call : Call) (status : Status) → IsNoCommand call.request.words → IsAnswered call status → IsOfNoCommand status
-no_command call Usage none answer = inl refl
-no_command call WriteFault none answer = inr (inl refl)
-no_command call Memory none answer = inr (inr refl)
-no_command call ReadFault none answer = absurd (none answer.cause.0.command answer.cause.0.reads)
-no_command call Done none answer = absurd (none answer.cause.command answer.cause.reads)
-no_command call Refused none answer = absurd (none answer.cause.command answer.cause.reads)
-no_command call CycleBound none answer = absurd (none answer.cause.command answer.cause.reads)
-no_command call SourceFault none answer = absurd answer.cause.ends
-no_command call Trap none answer = absurd answer.cause.ends
-no_command call ImageRefused none answer = absurd answer.cause.ends
-no_command call InputRefused none answer = absurd answer.cause.ends
+pub no_command : (request : Request) (status : Status) (output : List ℕ) (line : report.Report) → IsNoCommand request.words → Ends request status output line → IsOfNoCommand status
+no_command request Usage output line none cause = inl refl
+no_command request ReadFault output line none cause = absurd (none cause.0.command cause.0.reads)
+no_command request Done output line none cause = absurd (none cause.command cause.reads)
+no_command request Refused output line none cause = absurd (none cause.command cause.reads)
+no_command request CycleBound output line none cause = absurd (none cause.command cause.reads)
+no_command request WriteFault output line none cause = absurd cause.ends
+no_command request Memory output line none cause = absurd cause.ends
+no_command request SourceFault output line none cause = absurd cause.ends
+no_command request Trap output line none cause = absurd cause.ends
+no_command request ImageRefused output line none cause = absurd cause.ends
+no_command request InputRefused output line none cause = absurd cause.ends
 
 -- ---- a call that is in order
 

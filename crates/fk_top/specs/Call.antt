@@ -32,18 +32,20 @@ pub record Request : Type 0 where
   pub fetch_faults_before : ℕ
   pub fetch_faults_after : ℕ
 
-abbrev pub request_of : List (List ℕ) → Option Files → ℕ → ℕ → Request
-request_of words files before after =
-    record { words = words; files = files; fetch_faults_before = before; fetch_faults_after = after }
+-- the request of these words over a store, by the words in which a store tells of itself
+abbrev pub request_of : {S : Type 0} → (S → Option Files) → (S → ℕ) → List (List ℕ) → S → S → Request
+request_of files fetch_faults words old new =
+    record { words = words; files = files old; fetch_faults_before = fetch_faults old; fetch_faults_after = fetch_faults new }
 
 pub record Call : Type 0 where
   pub request : Request
   pub out : Sunk
   pub err : Sunk
 
-abbrev pub sunk_of : ℕ → ℕ → Option (List ℕ) → Option (List ℕ) → Sunk
-sunk_of faults_before faults_after before after =
-    record { faults_before = faults_before; faults_after = faults_after; before = before; after = after }
+-- a sink before and after a call, by the words in which it tells of itself
+abbrev pub sunk_of : {S : Type 0} → (S → ℕ) → (S → Option (List ℕ)) → S → S → Sunk
+sunk_of faults taken old new =
+    record { faults_before = faults old; faults_after = faults new; before = taken old; after = taken new }
 
 abbrev pub Took : Sunk → List ℕ → Type 0
 Took sink bytes = sink.after ≡ append_known sink.before bytes

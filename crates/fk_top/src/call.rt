@@ -12,9 +12,9 @@ use std::alloc::Global;
 
 // Gives the output, and then the line of the report.
 fn give_ending<K: Sink, E: Sink>(ending: &Ending, out: &mut K, err: &mut E) -> Result<(), Failed>
-    ensures out_took { OnOk result (Took (sunk_of (K.faults out.old) (K.faults out.new) (K.taken out.old) (K.taken out.new)) ending.now.output.items) }
-    ensures err_took { OnOk result (Took (sunk_of (E.faults err.old) (E.faults err.new) (E.taken err.old) (E.taken err.new)) (line_of ending.now.report)) }
-    ensures cut { OnErr result (AreCut (sunk_of (K.faults out.old) (K.faults out.new) (K.taken out.old) (K.taken out.new)) (sunk_of (E.faults err.old) (E.faults err.new) (E.taken err.old) (E.taken err.new)) ending.now.output.items ending.now.report) }
+    ensures out_took { OnOk result (Took (sunk_of K.faults K.taken out.old out.new) ending.now.output.items) }
+    ensures err_took { OnOk result (Took (sunk_of E.faults E.taken err.old err.new) (line_of ending.now.report)) }
+    ensures cut { OnErr result (AreCut (sunk_of K.faults K.taken out.old out.new) (sunk_of E.faults E.taken err.old err.new) ending.now.output.items ending.now.report) }
 {
     give_all(out, ending.output.as_slice())?;
     let line = ending.report.line();
@@ -36,15 +36,15 @@ pub fn fork95<F: Store, S: Source, K: Sink, E: Sink>(
 ) -> Status
     // Each answer has its cause; the status, the bytes that `out` and `err` got and the number of cycles are
     // those of one run of one image, faithful to the bytes that were fetched.
-    ensures answer { IsAnswered (call_of (request_of (map string_bytes words.now) (F.files files.old) (F.fetch_faults files.old) (F.fetch_faults files.new)) (sunk_of (K.faults out.old) (K.faults out.new) (K.taken out.old) (K.taken out.new)) (sunk_of (E.faults err.old) (E.faults err.new) (E.taken err.old) (E.taken err.new))) result }
+    ensures answer { IsAnswered (call_of (request_of F.files F.fetch_faults (map string_bytes words.now) files.old files.new) (sunk_of K.faults K.taken out.old out.new) (sunk_of E.faults E.taken err.old err.new)) result }
 
     ensures usage { result ≡ Status.Usage → IsNoCommand (map string_bytes words.now) }
     ensures no_command { IsNoCommand (map string_bytes words.now) → IsOfNoCommand result }
-    ensures read_fault { result ≡ Status.ReadFault → IsUnread (request_of (map string_bytes words.now) (F.files files.old) (F.fetch_faults files.old) (F.fetch_faults files.new)) }
+    ensures read_fault { result ≡ Status.ReadFault → IsUnread (request_of F.files F.fetch_faults (map string_bytes words.now) files.old files.new) }
     ensures write_fault { result ≡ Status.WriteFault → HasRisen (K.faults out.old) (K.faults out.new) ⊎ HasRisen (E.faults err.old) (E.faults err.new) }
     ensures built { IsBuilt result }
-    ensures complete { (source : List ℕ) → IsInOrder (call_of (request_of (map string_bytes words.now) (F.files files.old) (F.fetch_faults files.old) (F.fetch_faults files.new)) (sunk_of (K.faults out.old) (K.faults out.new) (K.taken out.old) (K.taken out.new)) (sunk_of (E.faults err.old) (E.faults err.new) (E.taken err.old) (E.taken err.new))) source → IsText source → IsOfRun result }
-    ensures refused { (source : List ℕ) → IsInOrder (call_of (request_of (map string_bytes words.now) (F.files files.old) (F.fetch_faults files.old) (F.fetch_faults files.new)) (sunk_of (K.faults out.old) (K.faults out.new) (K.taken out.old) (K.taken out.new)) (sunk_of (E.faults err.old) (E.faults err.new) (E.taken err.old) (E.taken err.new))) source → ¬ IsText source → IsOfRefusal result }
+    ensures complete { (source : List ℕ) → IsInOrder (call_of (request_of F.files F.fetch_faults (map string_bytes words.now) files.old files.new) (sunk_of K.faults K.taken out.old out.new) (sunk_of E.faults E.taken err.old err.new)) source → IsText source → IsOfRun result }
+    ensures refused { (source : List ℕ) → IsInOrder (call_of (request_of F.files F.fetch_faults (map string_bytes words.now) files.old files.new) (sunk_of K.faults K.taken out.old out.new) (sunk_of E.faults E.taken err.old err.new)) source → ¬ IsText source → IsOfRefusal result }
 
     // What stays the same.
     ensures files { F.files files.new ≡ F.files files.old }

@@ -90,7 +90,7 @@ pub fn find_ending<F: Store>(
     words: &[String],
     files: &mut F,
 ) -> Result<Ending, AllocError>
-    ensures ends { IfOk result (λ e. Ends (request_of (map string_bytes words.now) (F.files files.old) (F.fetch_faults files.old) (F.fetch_faults files.new)) e.status e.output.items e.report) }
+    ensures ends { IfOk result (λ e. Ends (request_of F.files F.fetch_faults (map string_bytes words.now) files.old files.new) e.status e.output.items e.report) }
     ensures files { F.files files.new ≡ F.files files.old }
     ensures put_faults { F.put_faults files.new ≡ F.put_faults files.old }
     ensures never_falls { F.fetch_faults files.old ≤ F.fetch_faults files.new }

@@ -1,11 +1,9 @@
-use Rattle.fk_top.specs.Call.{call_of, sunk_of}
 use Rattle.fk_top.proofs.Causes.{ended, in_order, no_command, refusal}
 use Rattle.fk_top.proofs.call.fork95.Goals as goal
 
 pub returns-in-Ok-give_ending-clause-no_command : goal.returns-in-Ok-give_ending-clause-no_command
 returns-in-Ok-give_ending-clause-no_command g c =
-    λ none. no_command (call_of _ (sunk_of 0 0 _ _) (sunk_of 0 0 _ _)) c.in-Ok.ending.status none
-    (ended _ c.in-Ok.ending.status _ _ c.in-Ok.ensures.ends c.in-Ok-give_ending.ensures.out_took c.in-Ok-give_ending.ensures.err_took)
+    λ none. no_command _ c.in-Ok.ending.status _ _ none c.in-Ok.ensures.ends
 
 pub returns-in-Ok-give_ending-clause-complete : goal.returns-in-Ok-give_ending-clause-complete
 returns-in-Ok-give_ending-clause-complete g c =
