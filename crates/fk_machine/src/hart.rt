@@ -10,10 +10,11 @@ use std::alloc::{AllocError, Global};
 /// The register that stays 0.
 pub const ZERO: u8 = 0;
 
-/// A hart, but for its local memory, which is a part of the machine's.
+/// A hart, without its local memory: those of all harts stand in one list of the machine's.
 #[derive(Drop)]
 pub struct HartState {
     pub registers: [u32; 32],
+    /// The address of the next instruction.
     pub pc: u32,
     pub ended: bool,
 }
@@ -33,7 +34,8 @@ impl HartState {
     pub fn write(&mut self, rd: u8, value: u32)
         requires register { rd < 32 }
         requires room { self.old.pc + 4 < 2 ^ 32 }
-        ensures registers { slice_index self.new.registers ≡ set_register (slice_index self.old.registers) rd value }
+        ensures registers { slice_index self.new.registers
+            ≡ set_register (slice_index self.old.registers) rd value }
         ensures pc { self.new.pc ≡ self.old.pc + 4 }
         ensures ended { self.new.ended ≡ self.old.ended }
     {
@@ -47,7 +49,8 @@ impl HartState {
 /// So many harts before their first instruction.
 pub fn first_harts(alloc: Global, count: u32) -> Result<Vec<HartState>, AllocError>
     ensures len { IfOk result (λ hs. vec_len hs ≡ count) }
-    ensures harts { (local : ℕ → Memory) → ((k : ℕ) → local k ≡ λ i. 0) → IfOk result (λ hs. harts_of 0 hs.items local ≡ replicate count first_hart) }
+    ensures harts { (local : ℕ → Memory) → ((k : ℕ) → local k ≡ λ i. 0) →
+        IfOk result (λ hs. harts_of 0 hs.items local ≡ replicate count first_hart) }
 {
     let mut harts = Vec::with_capacity(alloc, count as usize)?;
     for _ in 0..count {

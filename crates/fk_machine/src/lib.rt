@@ -1,4 +1,19 @@
-//! The machine: harts that run in lockstep on one shared memory.
+//! The machine: harts that run RISC-V code in lockstep on one shared memory.
+//!
+//! In a cycle each hart that has not ended runs one instruction, in ascending number. The
+//! instructions are `lui`, `addi`, `add`, `lw`, `sw`, `beq`, `bne` and `jal` of the RISC-V
+//! Unprivileged ISA ("RV32I Base Integer Instruction Set"). Code is fetched from address 0 on, and
+//! is no data. Data is words, at these addresses:
+//!
+//! | address | what stands there |
+//! |---|---|
+//! | 0x10000000 | 2^20 words of data, shared by all harts |
+//! | 0x18000000 | 2^20 + 64 words of control, shared by all harts |
+//! | 0x20000000 | 32,768 words of each hart's own |
+//! | 0x30000000 | eight devices, a word each ([`place::Device`]), in the order of their declaration |
+//!
+//! A hart that can't go on traps, and that ends the machine ([`stand`] has the causes). The first
+//! cause in their order counts, and a trapping instruction changes nothing.
 #![tactic(auto)]
 
 mod decode;

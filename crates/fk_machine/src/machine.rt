@@ -12,7 +12,7 @@ use crate::zeros::zeros;
 use fk_image::Image;
 use std::alloc::{AllocError, Global};
 
-/// A machine that runs an image.
+/// A machine that runs an image: its harts, what they share, and how it stands.
 #[derive(Drop)]
 pub struct Machine {
     setting: Setting,
@@ -35,7 +35,11 @@ impl Machine {
     ghost use Rattle.fk_machine.specs.Cycle.{opening, cycle};
     ghost use Rattle.fk_machine.specs.View.{machine_of};
 
-    /// A machine before its first cycle, with so many harts. It takes all the memory that a run needs.
+    /// A machine before its first cycle, with so many harts. Shared data begins with the globals of
+    /// the image, then the input numbers, then zeros.
+    ///
+    /// It takes all the memory that a run needs, 8 MiB for what is shared and 128 KiB for each hart
+    /// beside its code. Where that is not there it answers [`AllocError`].
     pub fn make(
         alloc: Global,
         image: &Image,
@@ -62,8 +66,8 @@ impl Machine {
     }
 
     /// One cycle: every hart that has not ended runs one instruction, in ascending number. A fault or
-    /// a trap ends the machine, and the harts above are not served. A machine that doesn't run stays
-    /// as it is. It takes no memory.
+    /// a trap ends the machine at once, and the harts above are not served. A machine that doesn't
+    /// run stays as it is. The answer is how it stands then. A cycle takes no memory.
     pub fn cycle(&mut self) -> Stand
         requires { (machine_of self.old).begun < 2 ^ 32 - 1 }
         ensures cycle { machine_of self.new ≡ cycle (machine_of self.old) }
@@ -85,7 +89,7 @@ impl Machine {
         self.stand
     }
 
-    /// The bytes printed in the last cycle, at most 12 for each hart.
+    /// The bytes printed in the last cycle, at most 12 for each hart. Before the first cycle there are none.
     pub fn output(&self) -> &[u8]
         ensures output { result.now ≡ (machine_of self.now).shared.output }
         ensures few { length result.now ≤ 12288 }
@@ -93,7 +97,7 @@ impl Machine {
         &self.shared.output
     }
 
-    /// How many cycles were begun.
+    /// How many cycles were begun. The cycle that ended the machine is one of them.
     pub fn cycles(&self) -> u32
         ensures { result ≡ (machine_of self.now).begun }
     {

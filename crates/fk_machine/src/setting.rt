@@ -11,11 +11,13 @@ use std::alloc::{AllocError, Global};
 /// The code, and the numbers that devices give.
 #[derive(Drop)]
 pub struct Setting {
-    /// Each word of the code by its row of the table, `None` where it has none.
+    /// Each word of the code by its row of the table of instructions, `None` where it has none.
     pub code: Vec<Option<Instruction>>,
+    /// How many harts there are.
     pub harts: u32,
+    /// How many input numbers there are.
     pub inputs: u32,
-    /// The cycles finished before this one.
+    /// How many cycles were finished before this one.
     pub finished: u32,
     ghost short: { vec_len code ≤ 262144 },
     ghost fitting: { IsTrue (list_all row_fits code.items) },
@@ -25,7 +27,7 @@ impl Setting {
     ghost use Rattle.std.specs.Prelude.{◌≡◌, length, map, IfOk};
     ghost use Rattle.fk_machine.specs.Row.{row};
 
-    /// The setting of a first cycle.
+    /// The setting of the first cycle.
     #[tactic(auto, using(crate::proofs::RowFits::list_all_rows))]
     pub fn make(alloc: Global, code: &[u32], harts: u32, inputs: u32) -> Result<Setting, AllocError>
         requires { length code.now ≤ 262144 }

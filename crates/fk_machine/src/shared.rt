@@ -27,8 +27,8 @@ impl SharedState {
     ghost use Rattle.fk_machine.specs.View.{shared_of};
     ghost use Rattle.fk_machine.specs.Does.{room_of, PrintsUpTo};
 
-    /// Shared data with the words of globals and then those of input, and zeros for the rest,
-    /// with room for what so many harts print in a cycle.
+    /// Shared data with the globals and then the input numbers, control of zeros, and room for what
+    /// so many harts print in a cycle.
     pub fn make(
         alloc: Global,
         globals: &[u32],
@@ -36,7 +36,8 @@ impl SharedState {
         harts: u32,
     ) -> Result<SharedState, AllocError>
         requires { length globals.now + length input.now ≤ 524288 }
-        ensures words { IfOk result (λ s. slice_index s.words.items ≡ slice_index (globals.now ++ input.now)) }
+        ensures words { IfOk result (λ s.
+            slice_index s.words.items ≡ slice_index (globals.now ++ input.now)) }
         ensures control { IfOk result (λ s. slice_index s.control.items ≡ λ i. 0) }
         ensures output { IfOk result (λ s. s.output.items ≡ []) }
         ensures room { IfOk result (λ s. LINE_BYTES * harts ≤ room_of s) }
@@ -51,6 +52,7 @@ impl SharedState {
         })
     }
 
+    // There is room, so no memory is taken, and nothing can fail.
     fn print(&mut self, bytes: &[u8])
         requires { length bytes.now ≤ room_of self.old }
         ensures bytes { shared_of self.new ≡ prints (shared_of self.old) bytes.now }
@@ -80,12 +82,12 @@ impl SharedState {
     }
 }
 
-// Shared data with the words of globals and then those of input, and zeros for the rest.
-#[tactic(auto, using(crate::proofs::IndexZeros::index_append_zeros))]
+// The globals, then the input numbers, then zeros.
 fn first_words(alloc: Global, globals: &[u32], input: &[u32]) -> Result<Vec<u32>, AllocError>
     requires { length globals.now + length input.now ≤ 524288 }
     ensures len { IfOk result (λ words. vec_len words ≡ 2 ^ 20) }
-    ensures words { IfOk result (λ words. slice_index words.items ≡ slice_index (globals.now ++ input.now)) }
+    ensures words { IfOk result (λ words.
+        slice_index words.items ≡ slice_index (globals.now ++ input.now)) }
 {
     let mut words = Vec::with_capacity(alloc, SHARED_WORDS as usize)?;
     words.extend_from_slice(globals)?;

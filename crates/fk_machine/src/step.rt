@@ -14,7 +14,7 @@ use crate::setting::Setting;
 use crate::shared::{LINE_BYTES, SharedState};
 use crate::stand::{ACCESS, FETCH, MISALIGNED, Stand, UNKNOWN};
 
-// The word that a load by the hart with a number finds at a place, or the number of its trap.
+// The word that the hart with a number loads from a place, or the number of its trap.
 fn read(
     setting: &Setting,
     number: u32,
@@ -40,7 +40,7 @@ fn read(
     }
 }
 
-// A load by the hart with a number, from an address into a register.
+// A load by the hart with a number. It answers the stand that ends the machine, if it traps.
 fn load(
     setting: &Setting,
     number: u32,
@@ -65,7 +65,7 @@ fn load(
     }
 }
 
-// A store of a word by the hart with a number, to an address.
+// A store by the hart with a number. It answers the stand that ends the machine, if it does.
 fn store(
     number: u32,
     hart: &mut HartState,
@@ -96,7 +96,7 @@ fn store(
     None
 }
 
-// A jump by the hart with a number, whose next address goes to a register.
+// A jump by the hart with a number. The address of the next instruction goes to a register.
 fn jump(number: u32, hart: &mut HartState, rd: u8, offset: u32) -> Option<Stand>
     requires register { rd < 32 }
     requires room { hart.old.pc + 4 < 2 ^ 32 }
@@ -166,7 +166,8 @@ fn perform(
     None
 }
 
-/// One instruction of the hart with a number, with its local memory.
+/// One instruction of the hart with a number, on its local memory and on what is shared. It answers
+/// the stand that ends the machine, if it does.
 pub fn step(
     setting: &Setting,
     number: u32,

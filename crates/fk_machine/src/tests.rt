@@ -1,4 +1,4 @@
-//! Hand-made images. The words are those of the RISC-V Unprivileged ISA, "RV32I Base Integer Instruction Set".
+//! Hand-made images, in words as an assembler for RV32I writes them.
 
 ghost use Rattle.std.specs.Prelude.{◌≡◌, ◌≤◌, ◌+◌, length, vec_len, IfOk};
 ghost use Rattle.fk_image.specs.Limits.{IsWithinLimits};
@@ -39,17 +39,32 @@ fn run(
     Ok((machine, bytes))
 }
 
+// An image with this code and these globals.
+fn image_of(alloc: Global, code: &[u32], globals: &[u32]) -> Result<Image, AllocError>
+    requires some_code { 1 ≤ length code.now }
+    requires code { length code.now ≤ 262144 }
+    requires globals { length globals.now ≤ 1000 }
+    ensures limits { IfOk result IsWithinLimits }
+    ensures globals { IfOk result (λ image. vec_len image.globals ≡ length globals.now) }
+{
+    Ok(Image {
+        code: code.to_vec(alloc)?,
+        globals: globals.to_vec(alloc)?,
+        sites: Vec::new(alloc),
+        commits: Vec::new(alloc),
+    })
+}
+
 #[test]
 fn two_harts_print_in_order(rt: HostRuntime) -> Result<(), Fail> {
     let alloc = rt.alloc();
-    let image = Image {
-        // lui t0, 0x30000; lw t1, 20(t0); sw t1, 0(t0); sw zero, 12(t0)
-        code: vec![in alloc; 0x300002b7, 0x0142a303, 0x0062a023, 0x0002a623]?,
-        globals: Vec::new(alloc),
-        sites: Vec::new(alloc),
-        commits: Vec::new(alloc),
-    };
-    let (machine, bytes) = run(alloc, &image, &[], 2, 10)?;
+    let code = [
+        0x300002b7, // lui t0, 0x30000
+        0x0142a303, // lw t1, 20(t0)
+        0x0062a023, // sw t1, 0(t0)
+        0x0002a623, // sw zero, 12(t0)
+    ];
+    let (machine, bytes) = run(alloc, &image_of(alloc, &code, &[])?, &[], 2, 10)?;
     assert_eq!(rt; bytes.as_slice(), b"0\n1\n".as_slice());
     assert_eq!(rt; machine.stand(), Stand::Finished);
     assert_eq!(rt; machine.cycles(), 4);
@@ -60,14 +75,11 @@ fn two_harts_print_in_order(rt: HostRuntime) -> Result<(), Fail> {
 #[test]
 fn an_unknown_word_traps(rt: HostRuntime) -> Result<(), Fail> {
     let alloc = rt.alloc();
-    let image = Image {
-        // addi t0, zero, -1; ebreak
-        code: vec![in alloc; 0xfff00293, 0x00100073]?,
-        globals: Vec::new(alloc),
-        sites: Vec::new(alloc),
-        commits: Vec::new(alloc),
-    };
-    let (machine, _) = run(alloc, &image, &[], 3, 10)?;
+    let code = [
+        0xfff00293, // addi t0, zero, -1
+        0x00100073, // ebreak
+    ];
+    let (machine, _) = run(alloc, &image_of(alloc, &code, &[])?, &[], 3, 10)?;
     assert_eq!(rt; machine.stand(), Stand::Trapped(0, 4, UNKNOWN));
     assert_eq!(rt; machine.cycles(), 2);
     Ok(())
@@ -76,30 +88,32 @@ fn an_unknown_word_traps(rt: HostRuntime) -> Result<(), Fail> {
 #[test]
 fn devices_answer_loads(rt: HostRuntime) -> Result<(), Fail> {
     let alloc = rt.alloc();
-    let image = Image {
-        // lui t0, 0x30000; lui t1, 0x10000
-        // lw t2, 16(t0); sw t2, 0(t1); lw t2, 20(t0); sw t2, 4(t1)
-        // lw t2, 24(t0); sw t2, 8(t1); lw t2, 28(t0); sw t2, 12(t1); sw zero, 12(t0)
-        code: vec![in alloc;
-            0x300002b7, 0x10000337, 0x0102a383, 0x00732023, 0x0142a383, 0x00732223, 0x0182a383,
-            0x00732423, 0x01c2a383, 0x00732623, 0x0002a623,
-        ]?,
-        globals: vec![in alloc; 100, 101, 102, 103, 104]?,
-        sites: Vec::new(alloc),
-        commits: Vec::new(alloc),
-    };
+    let code = [
+        0x300002b7, // lui t0, 0x30000
+        0x10000337, // lui t1, 0x10000
+        0x0102a383, // lw t2, 16(t0)
+        0x00732023, // sw t2, 0(t1)
+        0x0142a383, // lw t2, 20(t0)
+        0x00732223, // sw t2, 4(t1)
+        0x0182a383, // lw t2, 24(t0)
+        0x00732423, // sw t2, 8(t1)
+        0x01c2a383, // lw t2, 28(t0)
+        0x00732623, // sw t2, 12(t1)
+        0x0002a623, // sw zero, 12(t0)
+    ];
+    let image = image_of(alloc, &code, &[100, 101, 102, 103, 104])?;
     let (machine, _) = run(alloc, &image, &[105, 106], 3, 100)?;
     assert_eq!(rt; machine.stand(), Stand::Finished);
     assert_eq!(rt;
         machine.word(0),
         2,
-        "two cycles were finished before the load of CYCLE"
+        "two cycles are finished at the load of CYCLE"
     );
-    assert_eq!(rt; machine.word(1), 2, "the last of harts 0, 1, 2");
+    assert_eq!(rt; machine.word(1), 2, "the last of the harts 0, 1 and 2");
     assert_eq!(rt; machine.word(2), 3, "harts");
     assert_eq!(rt; machine.word(3), 2, "input numbers");
-    assert_eq!(rt; machine.word(4), 104, "a global");
-    assert_eq!(rt; machine.word(6), 106, "an input number");
+    assert_eq!(rt; machine.word(4), 104, "the last global");
+    assert_eq!(rt; machine.word(6), 106, "the last input number");
     assert_eq!(rt; machine.word(7), 0);
     Ok(())
 }

@@ -13,7 +13,7 @@ use crate::shared::{LINE_BYTES, SharedState};
 use crate::stand::Stand;
 use crate::step::step;
 
-/// How the machine stands after the turns, where one of them may have ended it.
+/// How the machine stands after its turns, of which one may have ended it.
 pub fn stand_after(stop: Option<Stand>, harts: &[HartState]) -> Stand
     ensures { (local : ℕ → Memory) → result ≡ stand_after stop (harts_of 0 harts.now local) }
 {
@@ -30,7 +30,8 @@ fn have_all_ended(harts: &[HartState]) -> bool
     harts.iter().all(|hart| hart.ended)
 }
 
-/// The harts that have not ended take their turns in ascending number, up to one that ends the machine.
+/// The harts that have not ended take their turns, in ascending number. Where one ends the machine,
+/// those above are not served, and the answer is how the machine then stands.
 pub fn take_turns(
     setting: &Setting,
     harts: &mut [HartState],
