@@ -1,6 +1,9 @@
 //! Files, standard input, standard output and standard error. What they give and take is trusted.
-ghost use Rattle.std.specs.Prelude.{◌≡◌, None, OnOk, length, take};
+ghost use Rattle.std.specs.Prelude.{◌≡◌, ◌<◌, ◌≤◌, IfOk, None, OnOk, if◌then◌else◌, is_err, length, take};
+ghost use Rattle.std.specs.Io.KnownBytes.{ReadConsumes, WriteAppends};
+ghost use Rattle.fk_ports.specs.Faults.{one_more};
 ghost use Rattle.fk_ports.specs.Files.{AppendsAtMost};
+ghost use Rattle.fk_ports.specs.Host.{reader_of, sink_faults, source_faults, store_fetch_faults, store_put_faults, writer_of};
 
 use crate::faults::{Failed, StoreFault};
 use crate::sink::Sink;
@@ -21,8 +24,8 @@ pub struct HostStore<R> {
 impl<R: Files> HostStore<R> {
     /// A store over the files of a runtime.
     pub fn make(rt: R) -> HostStore<R>
-        ensures fetch_faults { ⟦<HostStore<R> as Store>⟧.fetch_faults result ≡ 0 }
-        ensures put_faults { ⟦<HostStore<R> as Store>⟧.put_faults result ≡ 0 }
+        ensures fetch_faults { store_fetch_faults result ≡ 0 }
+        ensures put_faults { store_put_faults result ≡ 0 }
     {
         HostStore {
             rt,
@@ -33,9 +36,9 @@ impl<R: Files> HostStore<R> {
 }
 
 impl<R: Files> Store for HostStore<R> {
-    ghost fetch_faults = { λ store. store.fetch_faults };
+    ghost fetch_faults = { store_fetch_faults };
 
-    ghost put_faults = { λ store. store.put_faults };
+    ghost put_faults = { store_put_faults };
 
     ghost files = { λ _. None };
 
@@ -87,7 +90,7 @@ fn append_from<R: Read>(reader: &mut R, most: usize, into: &mut Vec<u8>) -> Resu
     Ok(())
 }
 
-/// A source over a reader, as standard input. It counts the errors.
+/// A source over a reader, as standard input. It counts the errors, and tells nothing.
 #[derive(Drop)]
 pub struct HostSource<R> {
     reader: R,
@@ -97,18 +100,25 @@ pub struct HostSource<R> {
 impl<R: Read> HostSource<R> {
     /// A source of what a reader gives.
     pub fn make(reader: R) -> HostSource<R>
-        ensures { ⟦<HostSource<R> as Source>⟧.faults result ≡ 0 }
+        ensures reader { reader_of result ≡ reader }
+        ensures faults { source_faults result ≡ 0 }
     {
         HostSource { reader, faults: 0 }
     }
 }
 
 impl<R: Read> Source for HostSource<R> {
-    ghost faults = { λ source. source.faults };
+    ghost faults = { source_faults };
 
     ghost left = { λ _. None };
 
-    fn take(&mut self, into: &mut [u8]) -> Result<usize, Failed> {
+    /// Reads once. Each error is a fault.
+    fn take(&mut self, into: &mut [u8]) -> Result<usize, Failed>
+        ensures room { IfOk result (λ n. n ≤ length into.new) }
+        ensures read { ReadConsumes (R.remaining (reader_of self.old)) (R.remaining (reader_of self.new)) result into.new }
+        ensures faults { source_faults self.new ≡ (if is_err result then one_more (source_faults self.old) else source_faults self.old) }
+        ensures never_falls { source_faults self.old ≤ source_faults self.new }
+    {
         match self.reader.read(into) {
             Ok(count) => Ok(count),
             Err(_) => {
@@ -120,7 +130,7 @@ impl<R: Read> Source for HostSource<R> {
 }
 
 /// A sink over a writer, as standard output and standard error. It counts the errors, and a write
-/// that takes nothing as one.
+/// that takes nothing as one, and tells nothing.
 #[derive(Drop)]
 pub struct HostSink<W> {
     writer: W,
@@ -130,18 +140,26 @@ pub struct HostSink<W> {
 impl<W: Write> HostSink<W> {
     /// A sink that hands on to a writer.
     pub fn make(writer: W) -> HostSink<W>
-        ensures { ⟦<HostSink<W> as Sink>⟧.faults result ≡ 0 }
+        ensures writer { writer_of result ≡ writer }
+        ensures faults { sink_faults result ≡ 0 }
     {
         HostSink { writer, faults: 0 }
     }
 }
 
 impl<W: Write> Sink for HostSink<W> {
-    ghost faults = { λ sink. sink.faults };
+    ghost faults = { sink_faults };
 
     ghost taken = { λ _. None };
 
-    fn give(&mut self, bytes: &[u8]) -> Result<usize, Failed> {
+    /// Writes once. Each error is a fault, and so is a write that takes nothing.
+    fn give(&mut self, bytes: &[u8]) -> Result<usize, Failed>
+        ensures some { IfOk result (λ n. 0 < n) }
+        ensures within { IfOk result (λ n. n ≤ length bytes.now) }
+        ensures written { WriteAppends (W.contents (writer_of self.old)) (W.contents (writer_of self.new)) result bytes.now }
+        ensures faults { sink_faults self.new ≡ (if is_err result then one_more (sink_faults self.old) else sink_faults self.old) }
+        ensures never_falls { sink_faults self.old ≤ sink_faults self.new }
+    {
         match self.writer.write(bytes) {
             Ok(count) if count > 0 => Ok(count),
             _ => {
