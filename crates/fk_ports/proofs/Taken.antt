@@ -1,9 +1,9 @@
 -- What was taken of a source so far.
-use Rattle.std.proofs.Common.{◌≡◌, ℕ, ◌+◌, ◌-◌, ◌<◌, ◌≤◌, ◌↔◌, List, [], ◌∷◌, ◌++◌, Option, Some, None, IfSome, length, take, arith, refl, sym, ap, subst, ◌∙◌, append_assoc, append-nil, length-append}
+use Rattle.std.proofs.Common.{◌≡◌, ℕ, ◌+◌, ◌≤◌, List, [], ◌++◌, Option, Some, None, IfSome, length, take, arith, refl, sym, ap, subst, ◌∙◌, append_assoc, append-nil, length-append}
 use Rattle.std.proofs.Math.Seq.{take-append_seam}
 use Rattle.std.proofs.lemmas.List.{take_all}
 use Rattle.std.specs.Io.KnownBytes.{prepend_known}
-use Rattle.fk_ports.specs.Known.{GivesAtMost}
+use Rattle.fk_ports.specs.Known.{GivesAtMost, MovesFirst}
 
 pub prepend_known-nil : (known : Option (List ℕ)) → prepend_known [] known ≡ known
 prepend_known-nil None = refl
@@ -13,34 +13,44 @@ pub prepend_known-append : (xs ys : List ℕ) (known : Option (List ℕ)) → pr
 prepend_known-append xs ys None = refl
 prepend_known-append xs ys (Some bytes) = ap Some (sym (append_assoc xs ys bytes))
 
--- of a source that had `before` left, these bytes were taken, at most so many
-pub record HasTaken (most : ℕ) (bytes : List ℕ) (before now : Option (List ℕ)) : Type 0 where
-  pub few : length bytes ≤ most
+-- of a source that had `before` left, these bytes were moved behind the old ones, and some are still missing
+pub record HasMoved (most missing : ℕ) (before now : Option (List ℕ)) (old new : List ℕ) : Type 0 where
+  pub bytes : List ℕ
+  pub count : length bytes + missing ≡ most
+  pub appended : new ≡ old ++ bytes
   pub left : before ≡ prepend_known bytes now
 
-pub none_taken : (most : ℕ) (before : Option (List ℕ)) → HasTaken most [] before before
-none_taken most before = record { few = omega arith; left = sym (prepend_known-nil before) }
+pub none_moved : (most : ℕ) (before : Option (List ℕ)) (old : List ℕ) → HasMoved most most before before old old
+none_moved most before old = record { bytes = []; count = omega arith; appended = sym (append-nil old); left = sym (prepend_known-nil before) }
 
-pub more_taken : (most : ℕ) (bytes more all : List ℕ) (before between now : Option (List ℕ)) → HasTaken most bytes before between
-    → between ≡ prepend_known more now → all ≡ bytes ++ more → length bytes + length more ≤ most → HasTaken most all before now
-more_taken most bytes more all before between now taken step e bound = record {
-  few = omega (arith, ap length e, length-append bytes more);
-  left = taken.left ∙ ap (prepend_known bytes) step ∙ prepend_known-append bytes more now ∙ ap (λ l. prepend_known l now) (sym e);
+pub more_moved : (most missing still : ℕ) (before between now : Option (List ℕ)) (old mid new piece : List ℕ) → HasMoved most missing before between old mid
+    → between ≡ prepend_known piece now → new ≡ mid ++ piece → length piece + still ≡ missing → HasMoved most still before now old new
+more_moved most missing still before between now old mid new piece moved step e count = record {
+  bytes = moved.bytes ++ piece;
+  count = omega (arith, moved.count, length-append moved.bytes piece);
+  appended = e ∙ ap (λ l. l ++ piece) moved.appended ∙ append_assoc old moved.bytes piece;
+  left = moved.left ∙ ap (prepend_known moved.bytes) step ∙ prepend_known-append moved.bytes piece now;
 }
 
-pub some_taken : (most : ℕ) (bytes : List ℕ) (before now : Option (List ℕ)) → HasTaken most bytes before now → GivesAtMost most before now
-some_taken most bytes before now taken = record { given = bytes; few = taken.few; left = taken.left }
+pub some_moved : (most missing : ℕ) (before now : Option (List ℕ)) (old new : List ℕ) → HasMoved most missing before now old new → GivesAtMost most before now
+some_moved most missing before now old new moved = record { given = moved.bytes; few = omega (arith, moved.count); left = moved.left }
 
-enough : (most : ℕ) (bytes : List ℕ) (known : Option (List ℕ)) → length bytes ≤ most → most ≤ length bytes → IfSome (prepend_known bytes known) (λ left. bytes ≡ take most left)
-enough most bytes None few h = tt
-enough most bytes (Some rest) few h =
-    let e : length bytes ≡ most = omega arith in
-    sym (take-append_seam bytes rest) ∙ ap (λ n. take n (bytes ++ rest)) e
+pub front_kept : (most missing : ℕ) (before now : Option (List ℕ)) (old new : List ℕ) → HasMoved most missing before now old new → take (length old) new ≡ old
+front_kept most missing before now old new moved = ap (take (length old)) moved.appended ∙ take-append_seam old moved.bytes
+
+enough : (most : ℕ) (bytes : List ℕ) (known : Option (List ℕ)) → length bytes ≡ most → IfSome (prepend_known bytes known) (λ left. bytes ≡ take most left)
+enough most bytes None e = tt
+enough most bytes (Some rest) e = sym (take-append_seam bytes rest) ∙ ap (λ n. take n (bytes ++ rest)) e
 
 -- as many as were asked for
-pub enough_taken : (most : ℕ) (bytes : List ℕ) (before now : Option (List ℕ)) → HasTaken most bytes before now → most ≤ length bytes → IfSome before (λ left. bytes ≡ take most left)
-enough_taken most bytes before now taken h =
-    subst (λ known. IfSome known (λ left. bytes ≡ take most left)) (sym taken.left) (enough most bytes now taken.few h)
+pub enough_moved : (most missing : ℕ) (before now : Option (List ℕ)) (old new : List ℕ) → HasMoved most missing before now old new → missing ≡ 0 → MovesFirst most before now old new
+enough_moved most missing before now old new moved e = record {
+  bytes = moved.bytes;
+  few = omega (arith, moved.count);
+  appended = moved.appended;
+  left = moved.left;
+  first = subst (λ known. IfSome known (λ left. moved.bytes ≡ take most left)) (sym moved.left) (enough most moved.bytes now (omega (arith, moved.count)));
+}
 
 at_end : (most : ℕ) (bytes : List ℕ) (known : Option (List ℕ)) → length bytes ≤ most → IfSome known (λ left. left ≡ []) → IfSome (prepend_known bytes known) (λ left. bytes ≡ take most left)
 at_end most bytes None few end = tt
@@ -48,6 +58,11 @@ at_end most bytes (Some rest) few end =
     sym (take_all most bytes few) ∙ ap (take most) (sym (append-nil bytes) ∙ ap (λ l. bytes ++ l) (sym end))
 
 -- all that was left
-pub end_taken : (most : ℕ) (bytes : List ℕ) (before now : Option (List ℕ)) → HasTaken most bytes before now → IfSome now (λ left. left ≡ []) → IfSome before (λ left. bytes ≡ take most left)
-end_taken most bytes before now taken end =
-    subst (λ known. IfSome known (λ left. bytes ≡ take most left)) (sym taken.left) (at_end most bytes now taken.few end)
+pub end_moved : (most missing : ℕ) (before now : Option (List ℕ)) (old new : List ℕ) → HasMoved most missing before now old new → IfSome now (λ left. left ≡ []) → MovesFirst most before now old new
+end_moved most missing before now old new moved end = record {
+  bytes = moved.bytes;
+  few = omega (arith, moved.count);
+  appended = moved.appended;
+  left = moved.left;
+  first = subst (λ known. IfSome known (λ left. moved.bytes ≡ take most left)) (sym moved.left) (at_end most moved.bytes now (omega (arith, moved.count)) end);
+}

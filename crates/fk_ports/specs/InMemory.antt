@@ -1,5 +1,5 @@
 -- What is seen of the objects in memory.
-use Rattle.std.specs.Prelude.{ℕ, ◌+◌, ◌-◌, Bool, ◌==◌, List, ◌++◌, Vec, String, length, map as each, nat_eq, nat_le, string_bytes, if◌then◌else◌, refl}
+use Rattle.std.specs.Prelude.{ℕ, ◌+◌, ◌-◌, Bool, ◌==◌, List, Vec, String, length, map as each, nat_eq, nat_le, string_bytes, if◌then◌else◌, refl}
 use Rattle.std.specs.Coded.{Coded, code_by, coded×, coded_list, coded_ℕ}
 use Rattle.std.specs.FinMap as map
 use Rattle.std.specs.List.{list_any}

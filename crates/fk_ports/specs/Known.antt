@@ -1,5 +1,5 @@
 -- What is known of the bytes that a sink took and of those that a source has left.
-use Rattle.std.specs.Prelude.{◌≡◌, ℕ, ◌≤◌, List, ◌++◌, Option, length}
+use Rattle.std.specs.Prelude.{◌≡◌, ℕ, ◌≤◌, List, ◌++◌, Option, IfSome, length, take}
 use Rattle.std.specs.Io.KnownBytes.{append_known, prepend_known}
 
 -- a sink that had taken `before` took some of these bytes from their front, and has now taken `now`
@@ -14,3 +14,11 @@ pub record GivesAtMost (most : ℕ) (before now : Option (List ℕ)) : Type 0 wh
   pub given : List ℕ
   pub few : length given ≤ most
   pub left : before ≡ prepend_known given now
+
+-- the first bytes that such a source had left, `most` of them or all, were moved behind the old bytes
+pub record MovesFirst (most : ℕ) (before now : Option (List ℕ)) (old new : List ℕ) : Type 0 where
+  pub bytes : List ℕ
+  pub few : length bytes ≤ most
+  pub appended : new ≡ old ++ bytes
+  pub left : before ≡ prepend_known bytes now
+  pub first : IfSome before (λ left. bytes ≡ take most left)

@@ -1,13 +1,12 @@
 //! Files, standard input, standard output and standard error. What they give and take is trusted.
-ghost use Rattle.std.specs.Prelude.{◌≡◌, ◌<◌, ◌≤◌, IfOk, None, OnOk, if◌then◌else◌, is_err, length, take};
+ghost use Rattle.std.specs.Prelude.{◌≡◌, ◌<◌, ◌≤◌, IfOk, None, if◌then◌else◌, is_err, length};
 ghost use Rattle.std.specs.Io.KnownBytes.{ReadConsumes, WriteAppends};
 ghost use Rattle.fk_ports.specs.Faults.{one_more};
-ghost use Rattle.fk_ports.specs.Files.{AppendsAtMost};
 ghost use Rattle.fk_ports.specs.Host.{reader_of, sink_faults, source_faults, store_fetch_faults, store_put_faults, writer_of};
 
 use crate::faults::{Failed, StoreFault};
 use crate::sink::Sink;
-use crate::source::Source;
+use crate::source::{Source, append_all};
 use crate::store::Store;
 use std::fs;
 use std::io::{Read, Write};
@@ -45,7 +44,7 @@ impl<R: Files> Store for HostStore<R> {
     fn fetch(&mut self, name: &str, most: usize, into: &mut Vec<u8>) -> Result<(), StoreFault> {
         let start = into.len();
         let result = match fs::open(&self.rt, name) {
-            Ok(mut file) => append_from(&mut file, most, into),
+            Ok(file) => append_all(&mut HostSource::make(file), most, into),
             Err(_) => Err(StoreFault::Fault),
         };
         if let Err(fault) = result {
@@ -66,28 +65,6 @@ impl<R: Files> Store for HostStore<R> {
             }
         }
     }
-}
-
-/// Appends the bytes that a reader gives, at most so many.
-fn append_from<R: Read>(reader: &mut R, most: usize, into: &mut Vec<u8>) -> Result<(), StoreFault>
-    ensures at_most { OnOk result (AppendsAtMost most into.old.items into.new.items) }
-    ensures front { take (length into.old.items) into.new.items ≡ into.old.items }
-{
-    let mut piece = [0; 4096];
-    let mut missing = most;
-    while missing > 0 {
-        let room = missing.min(piece.len());
-        let count = match reader.read(&mut piece[..room]) {
-            Ok(count) => count,
-            Err(_) => return Err(StoreFault::Fault),
-        };
-        if count == 0 {
-            break;
-        }
-        into.extend_from_slice(&piece[..count])?;
-        missing -= count;
-    }
-    Ok(())
 }
 
 /// A source over a reader, as standard input. It counts the errors, and tells nothing.

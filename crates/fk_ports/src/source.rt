@@ -2,7 +2,7 @@
 ghost use Rattle.std.specs.Prelude.{◌≡◌, ◌<◌, ◌≤◌, ◌↔◌, ℕ, List, [], Option, IfOk, IfSome, IsErrOf, OnErr, OnOk, length, take};
 ghost use Rattle.std.specs.Io.KnownBytes.{prepend_known};
 ghost use Rattle.fk_ports.specs.Faults.{HasRisen};
-ghost use Rattle.fk_ports.specs.Known.{GivesAtMost};
+ghost use Rattle.fk_ports.specs.Known.{GivesAtMost, MovesFirst};
 
 use crate::faults::{Failed, StoreFault};
 use std::alloc::Global;
@@ -53,14 +53,35 @@ pub fn take_all<S: Source>(
     ensures never_falls { S.faults source.old ≤ S.faults source.new }
 {
     let mut bytes = Vec::new(alloc);
+    append_all(source, most, &mut bytes)?;
+    Ok(bytes)
+}
+
+/// Reads as `take_all` does, and appends what it reads.
+pub(crate) fn append_all<S: Source>(
+    source: &mut S,
+    most: usize,
+    into: &mut Vec<u8>,
+) -> Result<(), StoreFault>
+    ensures moved { OnOk result (MovesFirst most (S.left source.old) (S.left source.new) into.old.items into.new.items) }
+    ensures refused { OnErr result (GivesAtMost most (S.left source.old) (S.left source.new)) }
+    ensures front { take (length into.old.items) into.new.items ≡ into.old.items }
+
+    ensures fault { IsErrOf result StoreFault.Fault → HasRisen (S.faults source.old) (S.faults source.new) }
+    ensures memory { IsErrOf result StoreFault.Memory → S.faults source.new ≡ S.faults source.old }
+    ensures steady { OnOk result (S.faults source.new ≡ S.faults source.old) }
+    ensures never_falls { S.faults source.old ≤ S.faults source.new }
+{
     let mut piece = [0; 4096];
-    while bytes.len() < most {
-        let room = piece.len().min(most - bytes.len());
+    let mut missing = most;
+    while missing > 0 {
+        let room = piece.len().min(missing);
         let count = source.take(&mut piece[..room])?;
         if count == 0 {
-            return Ok(bytes);
+            return Ok(());
         }
-        bytes.extend_from_slice(&piece[..count])?;
+        into.extend_from_slice(&piece[..count])?;
+        missing -= count;
     }
-    Ok(bytes)
+    Ok(())
 }

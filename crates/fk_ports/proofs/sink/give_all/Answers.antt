@@ -1,4 +1,4 @@
-use Rattle.std.proofs.Common.{◌<◌, length, arith, ◌∙◌}
+use Rattle.std.proofs.Common.{arith, ◌∙◌}
 use Rattle.std.proofs.lemmas.Result.{err_from_is_err_and}
 use Rattle.fk_ports.proofs.Given.{more_given, no_piece, part_given}
 use Rattle.fk_ports.proofs.sink.give_all.Goals as goal

@@ -2,7 +2,7 @@ use Rattle.std.proofs.Common.{◌≡◌, None, Some, sym, ap, ◌∙◌}
 use Rattle.std.specs.List.{position}
 use Rattle.std.specs.Option.{option_copied}
 use Rattle.fk_ports.specs.Files.{file}
-use Rattle.fk_ports.specs.InMemory.{is_named, stored_files}
+use Rattle.fk_ports.specs.InMemory.{is_named}
 use Rattle.fk_ports.proofs.Stored.{file-at, file-none}
 use Rattle.fk_ports.proofs.mem_store.MemStore.bytes.Goals as goal
 
