@@ -1,0 +1,7 @@
+pub mod Bytes
+pub mod Kinds
+pub mod Positions
+pub mod Reading
+pub mod Sizes
+pub mod Steps
+pub mod View

@@ -1,0 +1,67 @@
+-- The tokens of a text, or its first fault.
+use Rattle.std.specs.Prelude.{◌≡◌, ℕ, ◌<◌, Option, Some, None, List, [], ◌∷◌, ◌++◌, length, take, drop}
+use Rattle.fk_syntax.specs.declared.Place.{Place}
+use Rattle.fk_lex.specs.declared.token.TokenKind.{TokenKind}
+use Rattle.fk_lex.specs.declared.token.LexFault.{LexFault}
+use Rattle.fk_lex.specs.declared.token.LexFault.TheVariants as fault
+use Rattle.fk_lex.specs.declared.step.FaultKind.{FaultKind}
+use Rattle.fk_lex.specs.declared.step.FaultKind.TheVariants as kinds
+use Rattle.fk_lex.specs.declared.step.Step.{Step}
+use Rattle.fk_lex.specs.declared.step.Step.TheVariants.{Gap, Token, Fault}
+use Rattle.fk_lex.specs.declared.position.Position.{Position}
+use Rattle.fk_lex.specs.Positions.{start, after, place_of}
+use Rattle.fk_lex.specs.Sizes.{size_of}
+use Rattle.fk_lex.specs.Steps.{Stands}
+
+-- a token, its bytes, and the place of the first of them
+pub record Spelled : Type 0 where
+  pub kind : TokenKind
+  pub bytes : List ℕ
+  pub place : Place
+
+abbrev pub fault_at : FaultKind → Place → LexFault
+fault_at kinds.BadByte place = fault.BadByte place
+fault_at kinds.OpenComment place = fault.OpenComment place
+fault_at kinds.OpenString place = fault.OpenString place
+fault_at kinds.WideNumber place = fault.WideNumber place
+
+-- a gap or a token
+abbrev pub IsPiece : Step → Type 0
+IsPiece (Gap n) = Unit {0}
+IsPiece (Token n kind) = Unit {0}
+IsPiece (Fault n kind) = ⊥
+
+-- a text, from this position on, is cut into these pieces up to its end or up to a fault
+abbrev pub Cuts : List Step → Position → List ℕ → Option LexFault → Type 0
+Cuts [] at text None = text ≡ []
+Cuts [] at text (Some fault) =
+    (n : ℕ) × (kind : FaultKind) × (0 < length text) × Stands at text (Fault n kind)
+    × (fault ≡ fault_at kind (place_of (after at (take n text))))
+Cuts (piece ∷ pieces) at text end =
+    (0 < length text) × Stands at text piece × IsPiece piece
+    × Cuts pieces (after at (take (size_of piece) text)) (drop (size_of piece) text) end
+
+abbrev pub spelled_by : Step → Position → List ℕ → List Spelled
+spelled_by (Token n kind) at text = record { kind = kind; bytes = take n text; place = place_of at } ∷ []
+spelled_by (Gap n) at text = []
+spelled_by (Fault n kind) at text = []
+
+-- the tokens among pieces
+abbrev pub tokens_in : List Step → Position → List ℕ → List Spelled
+tokens_in [] at text = []
+tokens_in (piece ∷ pieces) at text =
+    spelled_by piece at text ++ tokens_in pieces (after at (take (size_of piece) text)) (drop (size_of piece) text)
+
+-- a text has these tokens, with gaps between them
+abbrev pub Tokens : List ℕ → List Spelled → Type 0
+Tokens text tokens = (pieces : List Step) × Cuts pieces start text None × (tokens ≡ tokens_in pieces start text)
+
+-- a text has this fault, and gaps and tokens before it
+abbrev pub Faults : List ℕ → LexFault → Type 0
+Faults text found = (pieces : List Step) × Cuts pieces start text (Some found)
+
+-- a text has one list of tokens or one fault
+pub record OneReading : Type 0 where
+  pub tokens : (text : List ℕ) (list other : List Spelled) → Tokens text list → Tokens text other → list ≡ other
+  pub faults : (text : List ℕ) (found other : LexFault) → Faults text found → Faults text other → found ≡ other
+  pub apart : (text : List ℕ) (list : List Spelled) (found : LexFault) → Tokens text list → Faults text found → ⊥

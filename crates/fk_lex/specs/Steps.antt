@@ -1,0 +1,154 @@
+-- What stands at a point of a text: a blank, a comment, an include line, a token or a fault.
+use Rattle.std.specs.Prelude.{◌≡◌, ℕ, ◌+◌, ◌<◌, ◌≤◌, ◌^◌, ◌==◌, ◌&&◌, ◌||◌, ◌⊎◌, nat_lt, not, Bool, true, false, Option, Some, None, List, [], ◌∷◌, length, take, drop, slice_index, codes, if◌then◌else◌}
+use Rattle.std.specs.List.{list_all, prefix_len}
+use Rattle.std.specs.Str.{bytes_eq}
+use Rattle.fk_lex.specs.declared.step.Beginning.{Beginning}
+use Rattle.fk_lex.specs.declared.step.Beginning.TheVariants as begins
+use Rattle.fk_lex.specs.declared.step.Step.{Step}
+use Rattle.fk_lex.specs.declared.step.Step.TheVariants.{Gap, Token, Fault}
+use Rattle.fk_lex.specs.declared.step.FaultKind.TheVariants.{BadByte, OpenComment, OpenString, WideNumber}
+use Rattle.fk_lex.specs.declared.position.Position.{Position}
+use Rattle.fk_lex.specs.declared.token.TokenKind.{TokenKind}
+use Rattle.fk_lex.specs.declared.token.TokenKind.TheVariants.{Number, Text}
+use Rattle.fk_lex.specs.Bytes.{is_blank, is_word_byte, is_plain, escape_value}
+use Rattle.fk_lex.specs.Kinds.{Longest, SpellsNone}
+
+-- what the first two bytes say
+abbrev pub beginning_of : ℕ → ℕ → Beginning
+beginning_of c d =
+    if is_blank c then begins.Blank
+    else (if (c == 47) && (d == 42) then begins.Comment
+    else (if (c == 47) && (d == 47) then begins.LineComment
+    else (if c == 35 then begins.Directive
+    else (if c == 39 then begins.Character
+    else (if c == 34 then begins.Text else begins.Other)))))
+
+abbrev pub beginning : List ℕ → Beginning
+beginning text = beginning_of (slice_index text 0) (slice_index text 1)
+
+-- how many bytes stand before the end of the line
+abbrev pub line_length : List ℕ → ℕ
+line_length text = prefix_len (λ c. not (c == 10)) text
+
+-- `*/`
+abbrev pub EndsAt : List ℕ → ℕ → Type 0
+EndsAt text n = (slice_index text n ≡ 42) × (slice_index text (n + 1) ≡ 47)
+
+-- a comment goes from `/*` to the next `*/`
+pub record CommentTo (text : List ℕ) (n : ℕ) : Type 0 where
+  pub behind : 2 ≤ n
+  pub ends : EndsAt text n
+  pub next : (m : ℕ) → 2 ≤ m → m < n → EndsAt text m → ⊥
+
+abbrev pub CommentStep : List ℕ → Step → Type 0
+CommentStep text step =
+    ((n : ℕ) × CommentTo text n × (step ≡ Gap (n + 2)))
+    ⊎ (((m : ℕ) → 2 ≤ m → EndsAt text m → ⊥) × (step ≡ Fault 0 OpenComment))
+
+-- these bytes, and blanks or none
+abbrev pub is_named : List ℕ → List ℕ → Bool
+is_named name text = bytes_eq name (take (length name) text) && list_all is_blank (drop (length name) text)
+
+abbrev pub is_header : List ℕ → Bool
+is_header text = is_named (codes "<fork.h>") text || is_named (codes "<io.h>") text
+
+-- `#include`, blanks or none, `<fork.h>` or `<io.h>`, and blanks or none
+abbrev pub is_include : List ℕ → Bool
+is_include line =
+    bytes_eq (codes "#include") (take 8 line)
+    && is_header (drop (prefix_len is_blank (drop 8 line)) (drop 8 line))
+
+-- an include line has only blanks before its `#`; every other `#` is a bad byte
+unfoldable pub directive_step : Bool → List ℕ → Step
+directive_step only_blanks text =
+    if only_blanks && is_include (take (line_length text) text) then Gap (line_length text) else Fault 0 BadByte
+
+abbrev pub escaped : Option ℕ → Step
+escaped None = Fault 0 BadByte
+escaped (Some value) = Token 4 (Number value false)
+
+-- a character constant is a byte between quotes, or a backslash and a byte
+abbrev pub character_of : ℕ → ℕ → ℕ → Step
+character_of c d e =
+    if is_plain 39 c && (d == 39) then Token 3 (Number c false)
+    else (if (c == 92) && (e == 39) then escaped (escape_value d) else Fault 0 BadByte)
+
+unfoldable pub character_step : List ℕ → Step
+character_step text = character_of (slice_index text 1) (slice_index text 2) (slice_index text 3)
+
+abbrev pub is_some_byte : Option ℕ → Bool
+is_some_byte None = false
+is_some_byte (Some byte) = true
+
+-- a backslash and one of the bytes that it takes
+abbrev pub is_escape : ℕ → ℕ → Bool
+is_escape c d = (c == 92) && is_some_byte (escape_value d)
+
+abbrev pub part_length : ℕ → ℕ → ℕ
+part_length c d = if is_escape c d then 2 else 1
+
+-- an escape, or a byte of a text that stands for itself
+abbrev pub is_part : ℕ → ℕ → Bool
+is_part c d = is_escape c d || is_plain 34 c
+
+-- so many bytes farther
+abbrev pub farther : ℕ → Option ℕ → Option ℕ
+farther k None = None
+farther k (Some n) = Some (k + n)
+
+-- how many bytes stand before the closing quote, where the line has one
+abbrev pub closing : List ℕ → Option ℕ
+closing [] = None
+closing (c ∷ []) = if c == 34 then Some 0 else None
+closing (c ∷ d ∷ more) =
+    if c == 34 then Some 0
+    else (if c == 10 then None
+    else (if is_escape c d then farther 2 (closing more) else farther 1 (closing (d ∷ more))))
+
+-- the first byte before the closing quote that no text has there
+abbrev pub first_bad : List ℕ → Option ℕ
+first_bad [] = None
+first_bad (c ∷ []) = if (c == 34) || is_plain 34 c then None else Some 0
+first_bad (c ∷ d ∷ more) =
+    if c == 34 then None
+    else (if is_escape c d then farther 2 (first_bad more)
+    else (if is_plain 34 c then farther 1 (first_bad (d ∷ more)) else Some 0))
+
+abbrev pub closed : ℕ → Option ℕ → Step
+closed n None = Token (n + 2) Text
+closed n (Some bad) = Fault (bad + 1) BadByte
+
+abbrev pub text_of : Option ℕ → Option ℕ → Step
+text_of None bad = Fault 0 OpenString
+text_of (Some n) bad = closed n bad
+
+-- a text goes to its closing quote, in its line
+unfoldable pub text_step : List ℕ → Step
+text_step text = text_of (closing (drop 1 text)) (first_bad (drop 1 text))
+
+-- a number is below 2^32, and neither letter, digit nor `_` follows it
+unfoldable pub token_or_fault : List ℕ → ℕ → TokenKind → Step
+token_or_fault text n (Number value unsigned) =
+    if nat_lt value (2 ^ 32)
+    then (if is_word_byte (slice_index text n) then Fault n BadByte else Token n (Number value unsigned))
+    else Fault 0 WideNumber
+token_or_fault text n kind = Token n kind
+
+-- the longest token that a text begins with, or a bad byte where it begins with none
+abbrev pub TokenStep : List ℕ → Step → Type 0
+TokenStep text step =
+    ((n : ℕ) × (kind : TokenKind) × Longest text n kind × (step ≡ token_or_fault text n kind))
+    ⊎ (SpellsNone text × (step ≡ Fault 0 BadByte))
+
+abbrev pub StandsBy : Beginning → Position → List ℕ → Step → Type 0
+StandsBy begins.Blank at text step = step ≡ Gap 1
+StandsBy begins.Comment at text step = CommentStep text step
+StandsBy begins.LineComment at text step = step ≡ Gap (line_length text)
+StandsBy begins.Directive at text step = step ≡ directive_step at.only_blanks text
+StandsBy begins.Character at text step = step ≡ character_step text
+StandsBy begins.Text at text step = step ≡ text_step text
+StandsBy begins.Other at text step = TokenStep text step
+
+-- what stands at this position, where this text goes on
+abbrev pub Stands : Position → List ℕ → Step → Type 0
+Stands at text step = StandsBy (beginning text) at text step

@@ -1,0 +1,87 @@
+//! Classes of bytes.
+
+ghost use Rattle.std.specs.Prelude.{◌≡◌, ◌<◌, slice_index};
+ghost use Rattle.fk_lex.specs.Bytes;
+
+/// Space, tab, carriage return and newline.
+pub fn is_blank(byte: u8) -> bool
+    ensures { result ≡ Bytes.is_blank byte }
+{
+    matches!(byte, b' ' | b'\t' | b'\r' | b'\n')
+}
+
+/// A letter or `_`.
+pub fn is_letter(byte: u8) -> bool
+    ensures { result ≡ Bytes.is_letter byte }
+{
+    byte.is_ascii_alphabetic() || byte == b'_'
+}
+
+/// A decimal digit.
+pub fn is_digit(byte: u8) -> bool
+    ensures { result ≡ Bytes.is_digit byte }
+{
+    byte.is_ascii_digit()
+}
+
+/// A letter, a digit or `_`.
+pub fn is_word_byte(byte: u8) -> bool
+    ensures { result ≡ Bytes.is_word_byte byte }
+{
+    is_letter(byte) || is_digit(byte)
+}
+
+/// The value of a hexadecimal digit, and 16 for every other byte.
+pub fn digit_value(byte: u8) -> u32
+    ensures { result ≡ Bytes.digit_value byte }
+{
+    match byte {
+        b'0'..=b'9' => (byte - b'0') as u32,
+        b'a'..=b'f' => (byte - b'a') as u32 + 10,
+        b'A'..=b'F' => (byte - b'A') as u32 + 10,
+        _ => 16,
+    }
+}
+
+/// The letter that makes a number `unsigned`.
+pub fn is_suffix(byte: u8) -> bool
+    ensures { result ≡ Bytes.is_suffix byte }
+{
+    byte == b'u' || byte == b'U'
+}
+
+/// The letter that makes the digits behind a 0 hexadecimal.
+pub fn is_x(byte: u8) -> bool
+    ensures { result ≡ Bytes.is_x byte }
+{
+    byte == b'x' || byte == b'X'
+}
+
+/// A byte between these quotes that stands for itself.
+pub fn is_plain(quote: u8, byte: u8) -> bool
+    ensures { result ≡ Bytes.is_plain quote byte }
+{
+    byte >= 32 && byte <= 126 && byte != quote && byte != b'\\'
+}
+
+/// The byte that a backslash and this byte stand for.
+pub fn escape_value(byte: u8) -> Option<u8>
+    ensures { result ≡ Bytes.escape_value byte }
+{
+    match byte {
+        b'n' => Some(b'\n'),
+        b't' => Some(b'\t'),
+        b'0' => Some(0),
+        b'\\' => Some(b'\\'),
+        b'\'' => Some(b'\''),
+        b'"' => Some(b'"'),
+        _ => None,
+    }
+}
+
+/// A byte of a text, and 0 past its end.
+pub fn byte_at(text: &[u8], at: usize) -> u8
+    ensures { result ≡ slice_index text.now at }
+{
+    if at < text.len() { text[at] } else { 0 }
+}
