@@ -1,0 +1,4 @@
+pub mod Bits
+pub mod Row
+pub mod Find
+pub mod Fits
