@@ -12,3 +12,5 @@ pub use decoder::decode;
 pub use encoder::encode;
 pub use instruction::Instruction;
 
+#[cfg(test)]
+mod tests;
