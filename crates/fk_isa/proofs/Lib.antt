@@ -2,3 +2,4 @@ pub mod Found
 pub mod Held
 pub mod OneWord
 pub mod InRange
+pub mod Trapped

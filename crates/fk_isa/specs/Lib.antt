@@ -2,3 +2,5 @@ pub mod Bits
 pub mod Row
 pub mod Find
 pub mod Fits
+pub mod Tells
+pub mod Step

@@ -1,13 +1,13 @@
 //! The instruction of a word.
 
 ghost use Rattle.std.specs.Prelude.{◌≡◌, ◌↔◌, ◌<◌, ◌≤◌, ◌^◌, Some, IfSome};
-ghost use Rattle.fk_isa.specs.Bits.{bits, is_set, extended, i_immediate, s_immediate, b_immediate, j_immediate};
+ghost use Rattle.fk_isa.specs.Bits.{bits, is_set, i_immediate, s_immediate, b_immediate, j_immediate};
 ghost use Rattle.fk_isa.specs.Find.{row, jump_row, branch_row, load_row, store_row, left_shift_row, right_shift_row, immediate_row, base_row, other_row, product_row, operation_row, fence_row, system_row, reserved_row, word_row, atomic_row};
 ghost use Rattle.fk_isa.specs.Fits.{Fits};
 ghost use Rattle.fk_isa.specs.Row.{Row};
 ghost use Rattle.fk_isa.specs.declared.instruction.Instruction.{Instruction};
 
-use crate::fields::bits;
+use crate::fields::{bits, extended};
 use crate::instruction::Instruction;
 use crate::opcode::{
     AMO, AUIPC, BRANCH, JAL, JALR, LOAD, LUI, MISC_MEM, OP, OP_IMM, STORE, SYSTEM,
@@ -58,20 +58,6 @@ fn funct7(word: u32) -> u32
     ensures { result ≡ bits word 25 7 }
 {
     bits(word, 25, 7)
-}
-
-// A signed number of so many bits, as a word.
-fn extended(count: u32, number: u32) -> u32
-    requires some { 1 ≤ count }
-    requires count { count < 32 }
-    requires fits { number < 2 ^ count }
-    ensures { result ≡ extended count number }
-{
-    if number < 1 << (count - 1) {
-        number
-    } else {
-        number + (u32::MAX << count)
-    }
 }
 
 fn i_immediate(word: u32) -> u32

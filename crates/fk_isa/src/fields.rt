@@ -1,7 +1,7 @@
 //! Fields of words.
 
-ghost use Rattle.std.specs.Prelude.{◌≡◌, ◌<◌, ◌^◌};
-ghost use Rattle.fk_isa.specs.Bits.{bits};
+ghost use Rattle.std.specs.Prelude.{◌≡◌, ◌<◌, ◌≤◌, ◌^◌};
+ghost use Rattle.fk_isa.specs.Bits.{bits, extended};
 
 /// The bits of a word from `low` on, so many.
 pub fn bits(word: u32, low: u32, count: u32) -> u32
@@ -11,4 +11,18 @@ pub fn bits(word: u32, low: u32, count: u32) -> u32
     ensures fits { result < 2 ^ count }
 {
     (word >> low) % (1 << count)
+}
+
+/// A signed number of so many bits, as a word.
+pub fn extended(count: u32, number: u32) -> u32
+    requires some { 1 ≤ count }
+    requires count { count < 32 }
+    requires fits { number < 2 ^ count }
+    ensures { result ≡ extended count number }
+{
+    if number < 1 << (count - 1) {
+        number
+    } else {
+        number + (u32::MAX << count)
+    }
 }

@@ -1,8 +1,12 @@
-//! Laws of the table of instructions, over its definition alone.
+//! Laws over the definitions alone: of the table of instructions, and of a step.
 
 ghost use Rattle.std.specs.Prelude.{◌≡◌, ℕ, ◌<◌, ◌^◌};
 ghost use Rattle.fk_isa.specs.declared.instruction.Instruction.{Instruction};
 ghost use Rattle.fk_isa.specs.Row.{Row};
+ghost use Rattle.fk_isa.specs.Step.{HartState, After, step};
+ghost use Rattle.fk_isa.specs.declared.effect.Effect.TheVariants.{Trap};
+
+use crate::bus::Bus;
 
 /// A word has at most one row.
 pub fn one_row()
@@ -12,4 +16,10 @@ pub fn one_row()
 /// An instruction has at most one word.
 pub fn one_word()
     ensures { (i : Instruction) (word other : ℕ) → word < 2 ^ 32 → other < 2 ^ 32 → Row word i → Row other i → word ≡ other }
+{}
+
+/// A trapping instruction changes neither its hart nor the bus.
+pub fn trap_changes_nothing<B: Bus>()
+    ensures { (instruction : Instruction) (number kind : ℕ) (hart after : HartState) (bus left : B.State) →
+        step B.tells number instruction hart bus ≡ After (Trap kind) after left → (after ≡ hart) × (left ≡ bus) }
 {}

@@ -1,16 +1,24 @@
-//! RV32IMA: the table of instructions both ways.
+//! RV32IMA: the table of instructions both ways, and one step of a hart.
 #![tactic(auto)]
 
+mod bus;
 mod decoder;
+mod effect;
 mod encoder;
 mod fields;
+mod hart;
 mod instruction;
 pub mod laws;
 mod opcode;
+mod stepping;
 
+pub use bus::Bus;
 pub use decoder::decode;
+pub use effect::Effect;
 pub use encoder::encode;
+pub use hart::Hart;
 pub use instruction::Instruction;
+pub use stepping::step;
 
 #[cfg(test)]
 mod tests;

@@ -1,0 +1,124 @@
+//! Harts.
+
+ghost use Rattle.std.specs.Prelude.{◌≡◌, ◌<◌, slice_index};
+
+use crate::effect::{Effect, MISALIGNED};
+use fk_num::{Op, apply};
+
+/// A hart: its registers, the address of its next instruction, and whether it has ended.
+#[derive(Clone, Copy, PartialEq, Eq, Debug)]
+pub struct Hart {
+    pub registers: [u32; 32],
+    pub pc: u32,
+    pub ended: bool,
+}
+
+impl Hart {
+    ghost use Rattle.std.specs.Prelude.{Bool, ◌*◌, ◌/◌};
+    ghost use Rattle.fk_num.specs.Op.{applied};
+    ghost use Rattle.fk_num.specs.Word.{signed, word_sum};
+    ghost use Rattle.fk_isa.specs.declared.effect.Effect.TheVariants.{Next, Ended};
+    ghost use Rattle.fk_isa.specs.Step.{HartState, hart_of, set_register, moved, next, written, ended, jump_effect, jumped, branch_effect, branched};
+
+    /// The word of a register.
+    pub fn register(&self, number: u8) -> u32
+        requires { number < 32 }
+        ensures { result ≡ slice_index self.now.registers number }
+    {
+        self.registers[number as usize]
+    }
+
+    // The signed value of a register.
+    pub fn signed(&self, number: u8) -> i32
+        requires { number < 32 }
+        ensures { result ≡ signed (slice_index self.now.registers number) }
+    {
+        self.register(number).cast_signed()
+    }
+
+    // A register plus an immediate.
+    pub fn sum(&self, number: u8, immediate: u32) -> u32
+        requires { number < 32 }
+        ensures { result ≡ word_sum (slice_index self.now.registers number) immediate }
+    {
+        self.register(number).wrapping_add(immediate)
+    }
+
+    // Goes on to the next instruction.
+    pub fn go_on(&mut self) -> Effect
+        ensures effect { result ≡ Next }
+        ensures hart { hart_of self.new ≡ moved (hart_of self.old) (next (hart_of self.old)) }
+    {
+        self.pc = self.pc.wrapping_add(4);
+        Effect::Next
+    }
+
+    // Goes on, and ends.
+    pub fn end(&mut self) -> Effect
+        ensures effect { result ≡ Ended }
+        ensures hart { hart_of self.new ≡ ended (hart_of self.old) }
+    {
+        self.pc = self.pc.wrapping_add(4);
+        self.ended = true;
+        Effect::Ended
+    }
+
+    // Gives a register a word, but register 0 stays 0.
+    fn set(&mut self, rd: u8, value: u32)
+        requires { rd < 32 }
+        ensures registers { slice_index self.new.registers ≡ set_register (slice_index self.old.registers) rd value }
+        ensures pc { self.new.pc ≡ self.old.pc }
+        ensures ended { self.new.ended ≡ self.old.ended }
+    {
+        if rd != 0 {
+            self.registers[rd as usize] = value;
+        }
+    }
+
+    // Gives a register a word, and goes on.
+    pub fn write(&mut self, rd: u8, value: u32) -> Effect
+        requires { rd < 32 }
+        ensures effect { result ≡ Next }
+        ensures hart { hart_of self.new ≡ written (hart_of self.old) rd value }
+    {
+        self.set(rd, value);
+        self.go_on()
+    }
+
+    // Gives a register what an operator gives of another one and a word.
+    pub fn operate(&mut self, op: Op, rd: u8, rs1: u8, right: u32) -> Effect
+        requires rd { rd < 32 }
+        requires rs1 { rs1 < 32 }
+        ensures effect { result ≡ Next }
+        ensures hart { hart_of self.new ≡ written (hart_of self.old) rd (applied op (slice_index self.old.registers rs1) right) }
+    {
+        let value = apply(op, self.register(rs1), right);
+        self.write(rd, value)
+    }
+
+    // Jumps, and gives a register the address of the next instruction.
+    pub fn jump(&mut self, rd: u8, target: u32) -> Effect
+        requires { rd < 32 }
+        ensures effect { result ≡ jump_effect target }
+        ensures hart { hart_of self.new ≡ jumped (hart_of self.old) rd target }
+    {
+        if target % 4 != 0 {
+            return Effect::Trap(MISALIGNED);
+        }
+        self.set(rd, self.pc.wrapping_add(4));
+        self.pc = target;
+        Effect::Next
+    }
+
+    // Jumps as far as the offset says where a condition holds, and else goes on.
+    pub fn branch(&mut self, holds: bool, offset: u32) -> Effect
+        ensures effect { result ≡ branch_effect holds (word_sum self.old.pc offset) }
+        ensures hart { hart_of self.new ≡ branched holds (hart_of self.old) (word_sum self.old.pc offset) }
+    {
+        if holds {
+            self.jump(0, self.pc.wrapping_add(offset))
+        } else {
+            self.go_on()
+        }
+    }
+}
