@@ -1,12 +1,18 @@
 -- When a text is refused.
 use Rattle.std.specs.Prelude.{◌≡◌, ℕ, ◌<◌, ◌≤◌, List, length}
-use Rattle.fk_meaning.specs.declared.syntax.Program.{Program}
-use Rattle.fk_straight.specs.Straight.{IsStraight}
+use Rattle.fk_lex.specs.declared.token.LexFault.TheVariants as fault
+use Rattle.fk_lex.specs.Reading.{Faults}
+use Rattle.fk_straight.specs.Straight.{IsNotStraight}
 use Rattle.fk_compile.specs.declared.refusal.Refusal.{Refusal}
-use Rattle.fk_compile.specs.declared.refusal.Refusal.TheVariants.{SourceTooLong, NotBuilt, Memory}
+use Rattle.fk_compile.specs.declared.refusal.Refusal.TheVariants.{BadByte, OpenComment, OpenString, WideNumber, SourceTooLong, NotBuilt, Memory}
 
--- the length is that of a text that is too long; a text that isn't, and is of no program, is not built
+-- the length is that of a text that is too long; one that isn't has a lexical fault at the least place, or it has
+-- tokens, and they are of no program
 abbrev pub IsRefused : List ℕ → Refusal → Type 0
 IsRefused source (SourceTooLong bytes) = (bytes ≡ length source) × (1048576 < bytes)
-IsRefused source NotBuilt = (length source ≤ 1048576) × ((program : Program) → ¬ IsStraight source program)
+IsRefused source (BadByte place) = (length source ≤ 1048576) × Faults source (fault.BadByte place)
+IsRefused source (OpenComment place) = (length source ≤ 1048576) × Faults source (fault.OpenComment place)
+IsRefused source (OpenString place) = (length source ≤ 1048576) × Faults source (fault.OpenString place)
+IsRefused source (WideNumber place) = (length source ≤ 1048576) × Faults source (fault.WideNumber place)
+IsRefused source NotBuilt = (length source ≤ 1048576) × IsNotStraight source
 IsRefused source (Memory e) = Unit {0}

@@ -2,3 +2,4 @@ pub mod Text
 pub mod Straight
 pub mod View
 pub mod Reading
+pub mod Unread

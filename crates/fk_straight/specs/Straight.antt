@@ -1,5 +1,5 @@
 -- Texts of straight-line programs: shared `int` variables, sums, assignments and `putint`.
-use Rattle.std.specs.Prelude.{◌≡◌, ℕ, ◌<◌, ◌≤◌, List, [], ◌∷◌, ◌++◌, All, Contains, codes, length, slice_index_or}
+use Rattle.std.specs.Prelude.{map, ◌≡◌, ℕ, ◌<◌, ◌≤◌, List, [], ◌∷◌, ◌++◌, All, Contains, codes, length, slice_index_or}
 use Rattle.fk_meaning.specs.declared.syntax.Part.{Part}
 use Rattle.fk_meaning.specs.declared.syntax.Part.TheVariants.{Number, Name}
 use Rattle.fk_meaning.specs.declared.syntax.Sum.{Sum}
@@ -7,9 +7,10 @@ use Rattle.fk_meaning.specs.declared.syntax.Statement.{Statement}
 use Rattle.fk_meaning.specs.declared.syntax.Statement.TheVariants.{Assign, Print}
 use Rattle.fk_meaning.specs.declared.syntax.Program.{Program}
 use Rattle.fk_meaning.specs.Sites.{operations}
+use Rattle.fk_lex.specs.Reading.{Spelled, Tokens}
 use Rattle.fk_straight.specs.Text as text
 use Rattle.fk_straight.specs.declared.token.Sign.TheVariants.{Semicolon, Equals, Plus, OpenParenthesis, CloseParenthesis, OpenBrace, CloseBrace}
-use Rattle.fk_straight.specs.Text.{Token, Word, Signed, Spells}
+use Rattle.fk_straight.specs.Text.{Token, Word, Signed, seen}
 
 -- the keywords, the predeclared names and `main` name no variable
 abbrev pub reserved : List (List ℕ)
@@ -93,6 +94,12 @@ DerivesOnce = (tokens : List Token) (p q : Program) → Derives tokens p → Der
 
 -- a text is that of a straight-line program
 pub record IsStraight (source : List ℕ) (program : Program) : Type 0 where
-  pub tokens : List Token
-  pub spelled : Spells tokens source
-  pub derives : Derives tokens program
+  pub tokens : List Spelled
+  pub spelled : Tokens source tokens
+  pub derives : Derives (map seen tokens) program
+
+-- a text has tokens, and is that of no straight-line program
+pub record IsNotStraight (source : List ℕ) : Type 0 where
+  pub tokens : List Spelled
+  pub spelled : Tokens source tokens
+  pub none : (program : Program) → ¬ IsStraight source program

@@ -2,7 +2,6 @@
 #![tactic(auto)]
 
 pub mod laws;
-pub mod lex;
 pub mod parse;
 pub mod read;
 pub mod token;

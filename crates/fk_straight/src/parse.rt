@@ -40,7 +40,7 @@ fn parse_part(names: &Names, cursor: &mut Cursor) -> Result<Part, ReadFault>
             Some(number) => Ok(Part::Name(number)),
             None => Err(ReadFault::NotStraight),
         },
-        Token::Signed(_) => Err(ReadFault::NotStraight),
+        Token::Signed(_) | Token::Other => Err(ReadFault::NotStraight),
     }
 }
 

@@ -21,12 +21,14 @@ pub enum Token<'a> {
     Word(&'a [u8]),
     Number(u32),
     Signed(Sign),
+    /// What no straight-line program has.
+    Other,
 }
 
-/// Why a text is not read.
+/// Why tokens are not read.
 #[derive(Debug, Drop, Error)]
 pub enum ReadFault {
-    /// It is not the text of a straight-line program of at most 16,000 operations.
+    /// They are not those of a straight-line program of at most 16,000 operations.
     #[error("no straight-line program")]
     NotStraight,
     /// There is no memory for the program.

@@ -5,6 +5,7 @@ use Rattle.std.specs.declared.alloc.AllocError.{AllocError}
 use Rattle.fk_ports.specs.Faults.{HasRisen}
 use Rattle.fk_ports.specs.Files.{Files, AppendsFile, AppendsAtMost}
 use Rattle.fk_machine.specs.declared.stand.Stand.{Stand}
+use Rattle.fk_lex.proofs.Determined as lexed
 use Rattle.fk_top.specs.declared.ending.Ending.{Ending}
 use Rattle.fk_top.specs.declared.report.Report as report
 use Rattle.fk_top.specs.declared.report.Report.TheVariants as reports
@@ -152,7 +153,11 @@ whole source read is few =
 
 not_refused : (source : List ℕ) → IsText source → (line : report.Report) → IsRefusedAs source line → ⊥
 not_refused source text (reports.SourceTooLong bytes) refused = let short = text.short in absurd (omega (arith, refused.0, refused.1))
-not_refused source text reports.NotBuilt refused = refused.1 text.program text.straight
+not_refused source text (reports.BadByte place) refused = lexed.one_reading.apart source text.straight.tokens _ text.straight.spelled refused.1
+not_refused source text (reports.OpenComment place) refused = lexed.one_reading.apart source text.straight.tokens _ text.straight.spelled refused.1
+not_refused source text (reports.OpenString place) refused = lexed.one_reading.apart source text.straight.tokens _ text.straight.spelled refused.1
+not_refused source text (reports.WideNumber place) refused = lexed.one_reading.apart source text.straight.tokens _ text.straight.spelled refused.1
+not_refused source text reports.NotBuilt refused = refused.1.none text.program text.straight
 not_refused source text line refused = absurd (assumption refused)
 
 no_refusal : (call : Call) (source : List ℕ) (order : IsInOrder call source) → IsText source → (output : List ℕ) (line : report.Report) → FetchedEnds call.request Refused output line → ⊥

@@ -5,7 +5,9 @@ use Rattle.fk_ports.specs.Faults.{HasRisen}
 use Rattle.fk_ports.specs.Known.{TakesPrefix}
 use Rattle.fk_ports.specs.Files.{Files, file, AppendsFile, FetchFaults}
 use Rattle.fk_meaning.specs.declared.syntax.Program.{Program}
-use Rattle.fk_straight.specs.Straight.{IsStraight}
+use Rattle.fk_lex.specs.declared.token.LexFault.TheVariants as fault
+use Rattle.fk_lex.specs.Reading.{Faults}
+use Rattle.fk_straight.specs.Straight.{IsStraight, IsNotStraight}
 use Rattle.fk_image.specs.declared.Image.{Image}
 use Rattle.fk_machine.specs.declared.stand.Stand.{Stand}
 use Rattle.fk_machine.specs.declared.stand.Stand.TheVariants.{Finished, Running}
@@ -74,10 +76,15 @@ pub record IsRun (source : List ℕ) (harts cycles : ℕ) (stand : Stand) (outpu
   pub output_is : output ≡ output_of image [] harts cycles
   pub begun_is : begun ≡ (machine image [] harts cycles).begun
 
--- why a source is refused: it is too long, or is no straight-line program
+-- why a source is refused: it is too long; or it has a lexical fault, the first; or it has tokens, and they are of no
+-- straight-line program
 abbrev pub IsRefusedAs : List ℕ → report.Report → Type 0
 IsRefusedAs source (reports.SourceTooLong bytes) = (bytes ≡ length source) × (1048576 < bytes)
-IsRefusedAs source reports.NotBuilt = (length source ≤ 1048576) × ((program : Program) → ¬ IsStraight source program)
+IsRefusedAs source (reports.BadByte place) = (length source ≤ 1048576) × Faults source (fault.BadByte place)
+IsRefusedAs source (reports.OpenComment place) = (length source ≤ 1048576) × Faults source (fault.OpenComment place)
+IsRefusedAs source (reports.OpenString place) = (length source ≤ 1048576) × Faults source (fault.OpenString place)
+IsRefusedAs source (reports.WideNumber place) = (length source ≤ 1048576) × Faults source (fault.WideNumber place)
+IsRefusedAs source reports.NotBuilt = (length source ≤ 1048576) × IsNotStraight source
 IsRefusedAs source line = ⊥
 
 -- why a source that was fetched ends in a status, these bytes for `out`, and this report for `err`

@@ -37,6 +37,15 @@ fn silent(alloc: Global, status: Status, report: Report) -> Ending
     }
 }
 
+// The ending of a source that is refused.
+fn refused(alloc: Global, report: Report) -> Ending
+    ensures status { result.status ≡ Status.Refused }
+    ensures output { result.output.items ≡ [] }
+    ensures report { result.report ≡ report }
+{
+    silent(alloc, Status::Refused, report)
+}
+
 // What a source comes to.
 fn source_ending(
     alloc: Global,
@@ -56,9 +65,13 @@ fn source_ending(
         }
         Err(Refusal::SourceTooLong(bytes)) => {
             let report = Report::SourceTooLong(bytes as u32);
-            Ok(silent(alloc, Status::Refused, report))
+            Ok(refused(alloc, report))
         }
-        Err(Refusal::NotBuilt) => Ok(silent(alloc, Status::Refused, Report::NotBuilt)),
+        Err(Refusal::BadByte(place)) => Ok(refused(alloc, Report::BadByte(place))),
+        Err(Refusal::OpenComment(place)) => Ok(refused(alloc, Report::OpenComment(place))),
+        Err(Refusal::OpenString(place)) => Ok(refused(alloc, Report::OpenString(place))),
+        Err(Refusal::WideNumber(place)) => Ok(refused(alloc, Report::WideNumber(place))),
+        Err(Refusal::NotBuilt) => Ok(refused(alloc, Report::NotBuilt)),
         Err(Refusal::Memory(error)) => Err(error),
     }
 }

@@ -153,6 +153,30 @@ fn an_undeclared_name_is_refused(rt: HostRuntime) -> Result<(), Fail> {
 }
 
 #[test]
+fn a_lexical_fault_is_refused_at_its_place(rt: HostRuntime) -> Result<(), Fail> {
+    let texts: [(&[u8], &[u8]); 4] = [
+        (b"?#", b"refused 1 BadByte at 1:2\n"),
+        (b"/*", b"refused 2 OpenComment at 1:1\n"),
+        (b"\"a", b"refused 3 OpenString at 1:1\n"),
+        (b"4294967296", b"refused 4 WideNumber at 1:1\n"),
+    ];
+    for (text, line) in texts {
+        let got = run(rt.alloc(), text, "1", "1000000", NONE)?;
+        assert_eq!(rt; got.status, Status::Refused);
+        assert_eq!(rt; got.err.as_slice(), line);
+    }
+    Ok(())
+}
+
+#[test]
+fn comments_and_every_spelling_of_a_number_are_read(rt: HostRuntime) -> Result<(), Fail> {
+    let text = b"#include <fork.h>\n// hex, octal\nvoid main(void) { putint(0x10 + 010 /* and */ + 'a' + 1u); }";
+    let got = run(rt.alloc(), text, "1", "1000000", NONE)?;
+    assert_eq!(rt; got.out.as_slice(), b"122\n".as_slice());
+    Ok(())
+}
+
+#[test]
 fn a_text_that_is_too_long_is_refused(rt: HostRuntime) -> Result<(), Fail> {
     let text = blanks(rt.alloc(), 1_048_577)?;
     let got = run(rt.alloc(), text.as_slice(), "1", "1000000", NONE)?;

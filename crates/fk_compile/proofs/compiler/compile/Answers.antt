@@ -5,6 +5,7 @@ use Rattle.std.specs.declared.alloc.AllocError.{AllocError}
 use Rattle.fk_image.specs.declared.Image.{Image}
 use Rattle.fk_meaning.specs.declared.syntax.Program.{Program}
 use Rattle.fk_straight.specs.Straight.{IsStraight}
+use Rattle.fk_straight.specs.Unread.{IsUnread}
 use Rattle.fk_compile.specs.declared.refusal.Refusal.{Refusal}
 use Rattle.fk_compile.specs.Faithful.{IsFaithful, IsFaithfulTo}
 use Rattle.fk_compile.proofs.compiler.compile.Goals as goal
@@ -21,7 +22,7 @@ passed source program (Err error) (Err refusal) D straight faithful other = tt
 pub returns-in-Err-NotStraight-clause-refused : goal.returns-in-Err-NotStraight-clause-refused
 returns-in-Err-NotStraight-clause-refused c =
     let arm = c.in-Err-NotStraight in
-    (omega (arith, c.if-source-gt-MOST_BYTES.false), c.read.ensures.none (arm.is ∙ ap (λ e. Err e) arm.field-0-is))
+    (omega (arith, c.if-source-gt-MOST_BYTES.false), subst (IsUnread c.args.source.now) arm.field-0-is arm.ensures.refused)
 
 pub returns-clause-faithful : goal.returns-clause-faithful
 returns-clause-faithful c =
