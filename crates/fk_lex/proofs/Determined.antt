@@ -1,11 +1,11 @@
 -- A text has one list of tokens or one fault.
-use Rattle.std.proofs.Common.{◌≡◌, ℕ, ◌+◌, ◌<◌, ◌≤◌, ◌⊎◌, inl, inr, ⊎_elim, Option, Some, None, List, [], ◌∷◌, length, take, drop, refl, sym, ap, subst, ◌∙◌, arith}
+use Rattle.std.proofs.Common.{◌≡◌, ℕ, ◌+◌, ◌<◌, inl, inr, ⊎_elim, Option, Some, None, List, [], ◌∷◌, length, take, drop, refl, sym, ap, subst, ◌∙◌, arith}
 use Rattle.std.proofs.lemmas.Bool.{cases_lt}
 use Rattle.fk_lex.specs.declared.step.Beginning.{Beginning}
 use Rattle.fk_lex.specs.declared.step.Beginning.TheVariants as begins
 use Rattle.fk_lex.specs.declared.step.FaultKind.{FaultKind}
 use Rattle.fk_lex.specs.declared.step.Step.{Step}
-use Rattle.fk_lex.specs.declared.step.Step.TheVariants.{Gap, Token, Fault}
+use Rattle.fk_lex.specs.declared.step.Step.TheVariants.{Gap, Fault}
 use Rattle.fk_lex.specs.declared.token.TokenKind.{TokenKind}
 use Rattle.fk_lex.specs.declared.token.LexFault.{LexFault}
 use Rattle.fk_lex.specs.declared.position.Position.{Position}

@@ -1,6 +1,5 @@
 -- How far what stands at a position goes, and where the next position is.
-use Rattle.std.proofs.Common.{◌≡◌, ℕ, ◌+◌, ◌-◌, ◌*◌, ◌<◌, ◌≤◌, ◌^◌, ◌==◌, ◌&&◌, ◌||◌, not, inl, inr, ⊎_elim, Bool, true, false, Option, Some, None, List, [], ◌∷◌, length, take, drop, get_or, refl, sym, ap, subst, ◌∙◌, arith, if◌then◌else◌, length-drop}
-use Rattle.std.specs.List.{prefix_len}
+use Rattle.std.proofs.Common.{◌≡◌, ℕ, ◌+◌, ◌<◌, ◌≤◌, ◌==◌, ◌&&◌, ◌||◌, not, inl, inr, ⊎_elim, Bool, true, false, Option, Some, None, List, [], ◌∷◌, length, take, drop, get_or, refl, sym, ap, subst, ◌∙◌, arith, if◌then◌else◌, length-drop}
 use Rattle.std.proofs.lemmas.Bool.{cases_lt, both_ways}
 use Rattle.std.proofs.lemmas.Bool.Decides.{nat_tests}
 use Rattle.std.proofs.lemmas.Grind.{common_steps}
@@ -8,16 +7,15 @@ use Rattle.std.proofs.lemmas.List.{get_or_past}
 use Rattle.std.proofs.lemmas.List.Sums.{prefix_len-le-length}
 use Rattle.fk_lex.specs.declared.step.Beginning.{Beginning}
 use Rattle.fk_lex.specs.declared.step.Beginning.TheVariants as begins
-use Rattle.fk_lex.specs.declared.step.FaultKind.{FaultKind}
-use Rattle.fk_lex.specs.declared.step.FaultKind.TheVariants.{BadByte, OpenComment, OpenString, WideNumber}
+use Rattle.fk_lex.specs.declared.step.FaultKind.TheVariants.{BadByte, OpenComment, WideNumber}
 use Rattle.fk_lex.specs.declared.step.Step.{Step}
 use Rattle.fk_lex.specs.declared.step.Step.TheVariants.{Gap, Token, Fault}
 use Rattle.fk_lex.specs.declared.token.TokenKind.{TokenKind}
-use Rattle.fk_lex.specs.declared.token.TokenKind.TheVariants.{Number, Text}
+use Rattle.fk_lex.specs.declared.token.TokenKind.TheVariants.{Number}
 use Rattle.fk_lex.specs.declared.position.Position.{Position}
 use Rattle.fk_lex.specs.Bytes.{is_blank, is_word_byte, is_plain, escape_value}
 use Rattle.fk_lex.specs.Kinds.{kind_of, Longest}
-use Rattle.fk_lex.specs.Positions.{start, next, after, place_of}
+use Rattle.fk_lex.specs.Positions.{next, after}
 use Rattle.fk_lex.specs.Steps
 
 -- positions

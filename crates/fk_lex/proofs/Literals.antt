@@ -1,9 +1,8 @@
 -- Texts: where they close, and their first bad byte, part by part.
-use Rattle.std.proofs.Common.{◌≡◌, ℕ, ◌+◌, ◌<◌, ◌≤◌, ◌==◌, ◌&&◌, ◌||◌, Bool, true, false, Option, Some, None, List, [], ◌∷◌, length, take, drop, get_or, refl, sym, ap, subst, ◌∙◌, arith, if◌then◌else◌, add-zero, length-drop}
+use Rattle.std.proofs.Common.{◌≡◌, ℕ, ◌+◌, ◌<◌, ◌≤◌, ◌==◌, ◌&&◌, ◌||◌, Bool, true, false, Option, Some, None, List, [], ◌∷◌, length, drop, get_or, refl, sym, ap, ◌∙◌, arith, if◌then◌else◌, add-zero, length-drop}
 use Rattle.std.proofs.lemmas.Bool.Decides.{nat_tests}
 use Rattle.std.proofs.lemmas.List.{get_or-drop, drop-drop, drop_all}
-use Rattle.fk_lex.specs.declared.step.Step.{Step}
-use Rattle.fk_lex.specs.Bytes.{is_plain, escape_value}
+use Rattle.fk_lex.specs.Bytes.{is_plain}
 use Rattle.fk_lex.specs.Steps.{is_escape, is_part, part_length, farther, closing, first_bad}
 
 pub farther_zero : (found : Option ℕ) → found ≡ farther 0 found

@@ -1,10 +1,9 @@
 -- The longest number that a text begins with.
-use Rattle.std.proofs.Common.{◌≡◌, ℕ, zero, suc, ◌+◌, ◌<◌, ◌≤◌, ◌==◌, ◌&&◌, ◌||◌, Bool, true, false, nat_lt, Option, Some, None, List, [], ◌∷◌, length, take, drop, get_or, refl, sym, ap, subst, ◌∙◌, arith, if◌then◌else◌}
+use Rattle.std.proofs.Common.{◌≡◌, ℕ, zero, suc, ◌+◌, ◌<◌, ◌≤◌, ◌==◌, ◌&&◌, ◌||◌, Bool, true, false, nat_lt, Some, None, List, [], ◌∷◌, length, take, drop, get_or, refl, sym, ap, ◌∙◌, arith, if◌then◌else◌}
 use Rattle.std.proofs.lemmas.Bool.Decides.{nat_tests}
-use Rattle.fk_lex.specs.declared.token.TokenKind.{TokenKind}
 use Rattle.fk_lex.specs.declared.token.TokenKind.TheVariants.{Number}
 use Rattle.fk_lex.specs.Bytes.{is_letter, is_digit, digit_value, is_suffix, is_x}
-use Rattle.fk_lex.specs.Kinds.{LongestBy, LongestNumeral, LongestTail, is_numeral, is_hexadecimal, is_tail, is_empty, kind_of, Longest, numeral_value, is_unsigned}
+use Rattle.fk_lex.specs.Kinds.{LongestNumeral, LongestTail, is_numeral, is_hexadecimal, is_tail, kind_of, Longest, numeral_value, is_unsigned}
 use Rattle.fk_lex.proofs.Fronts.{longest_more, longest_at, longest_spelled, is_digit_of, tail_other}
 use Rattle.fk_lex.proofs.Literals.{same_is, other_is, if_true, if_false}
 

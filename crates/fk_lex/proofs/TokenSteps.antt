@@ -1,20 +1,19 @@
 -- What the code finds is the longest token, or its fault.
-use Rattle.std.proofs.Common.{◌≡◌, ℕ, zero, suc, ◌+◌, ◌-◌, ◌*◌, ◌<◌, ◌≤◌, ◌^◌, ◌==◌, ◌&&◌, ◌||◌, ◌⊎◌, inl, inr, ⊎_elim, Bool, true, false, nat_le, nat_lt, Option, Some, None, SomeIff, List, [], ◌∷◌, length, take, drop, get_or, refl, sym, ap, subst, ◌∙◌, arith, if◌then◌else◌, drop-cons}
+use Rattle.std.proofs.Common.{◌≡◌, ℕ, suc, ◌+◌, ◌-◌, ◌*◌, ◌<◌, ◌≤◌, ◌^◌, ◌==◌, ◌&&◌, ◌||◌, inl, inr, Bool, true, false, nat_le, nat_lt, Option, Some, None, SomeIff, List, [], ◌∷◌, length, take, drop, get_or, refl, sym, ap, subst, ◌∙◌, arith, if◌then◌else◌, drop-cons}
 use Rattle.std.proofs.Math.Nat.{mul-le-mul_left}
 use Rattle.std.specs.List.{prefix_len}
 use Rattle.std.specs.Str.{bytes_eq}
 use Rattle.std.proofs.lemmas.Bool.Decides.{nat_tests}
-use Rattle.fk_lex.specs.declared.step.Step.{Step}
-use Rattle.fk_lex.specs.declared.step.Step.TheVariants.{Gap, Token, Fault}
+use Rattle.fk_lex.specs.declared.step.Step.TheVariants.{Token, Fault}
 use Rattle.fk_lex.specs.declared.step.FaultKind.TheVariants.{BadByte, WideNumber}
 use Rattle.fk_lex.specs.declared.token.TokenKind.{TokenKind}
-use Rattle.fk_lex.specs.declared.token.TokenKind.TheVariants.{Number, Word}
+use Rattle.fk_lex.specs.declared.token.TokenKind.TheVariants.{Number}
 use Rattle.fk_lex.specs.Bytes.{is_letter, is_digit, is_word_byte, digit_value, is_suffix, is_x}
-use Rattle.fk_lex.specs.Kinds.{LongestNumeral, Longest, SpellsNone, lookup, keywords, signs, or_word, numeral_value, is_unsigned, number_of, value_in}
+use Rattle.fk_lex.specs.Kinds.{LongestNumeral, Longest, lookup, keywords, signs, or_word, numeral_value, is_unsigned, number_of, value_in}
 use Rattle.fk_lex.specs.Steps.{TokenStep, token_or_fault}
 use Rattle.fk_lex.proofs.Literals.{if_true, if_false, same_is, other_is}
 use Rattle.fk_lex.proofs.Numerals.{number_longest}
-use Rattle.fk_lex.proofs.Words.{word_longest, sign_in, sign_longest, sign_none, none_of_three}
+use Rattle.fk_lex.proofs.Words.{word_longest, sign_in, sign_longest, sign_none}
 
 -- words and signs are no numbers
 

@@ -1,5 +1,5 @@
 -- Lines and columns.
-use Rattle.std.specs.Prelude.{ℕ, ◌+◌, ◌==◌, ◌&&◌, Bool, true, List, [], ◌∷◌, if◌then◌else◌}
+use Rattle.std.specs.Prelude.{ℕ, ◌+◌, ◌==◌, ◌&&◌, true, List, [], ◌∷◌, if◌then◌else◌}
 use Rattle.fk_syntax.specs.declared.Place.{Place}
 use Rattle.fk_lex.specs.declared.position.Position.{Position}
 use Rattle.fk_lex.specs.Bytes.{is_blank}

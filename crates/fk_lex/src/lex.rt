@@ -147,10 +147,8 @@ mod tests {
     }
 
     #[test]
-    fn faults_stand_at_their_places(rt: HostRuntime) {
-        let texts: [(&[u8], &str, u32, u32); 21] = [
-            (b"?#", "BadByte", 1, 2),
-            (b"/*", "OpenComment", 1, 1),
+    fn faults_of_tokens_stand_at_their_places(rt: HostRuntime) {
+        let texts: [(&[u8], &str, u32, u32); 13] = [
             (b"\"a", "OpenString", 1, 1),
             (b"4294967296", "WideNumber", 1, 1),
             (b"4294967296x", "WideNumber", 1, 1),
@@ -159,12 +157,25 @@ mod tests {
             (b"0x1g", "BadByte", 1, 4),
             (b"1uu", "BadByte", 1, 3),
             (b"12_", "BadByte", 1, 3),
-            (b"\n  /*/", "OpenComment", 2, 3),
             (b"x\n\"a\\q\\\"b\" \"", "BadByte", 2, 3),
             (b"\"a\x01\n\"", "OpenString", 1, 1),
             (b"''", "BadByte", 1, 1),
             (b"'ab'", "BadByte", 1, 1),
             (b"'\\q'", "BadByte", 1, 1),
+        ];
+        for (text, name, line, column) in texts {
+            let (found, place) = named(lex(rt.alloc(), text));
+            assert_eq!(rt; found, name, "in {text:?}");
+            assert_eq!(rt; place, Place { line, column }, "in {text:?}");
+        }
+    }
+
+    #[test]
+    fn faults_between_tokens_stand_at_their_places(rt: HostRuntime) {
+        let texts: [(&[u8], &str, u32, u32); 8] = [
+            (b"?#", "BadByte", 1, 2),
+            (b"/*", "OpenComment", 1, 1),
+            (b"\n  /*/", "OpenComment", 2, 3),
             (b"#include <stdio.h>", "BadByte", 1, 1),
             (b"# include <io.h>", "BadByte", 1, 1),
             (b"/* */#include <io.h>", "BadByte", 1, 6),

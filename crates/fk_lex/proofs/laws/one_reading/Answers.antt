@@ -1,5 +1,4 @@
 use Rattle.fk_lex.proofs.Determined as determined
-use Rattle.fk_lex.proofs.TokenSteps as extents
 use Rattle.fk_lex.proofs.laws.one_reading.Goals as goal
 
 pub returns : goal.returns

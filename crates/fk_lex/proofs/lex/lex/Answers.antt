@@ -1,11 +1,11 @@
-use Rattle.std.proofs.Common.{◌≡◌, ◌<◌, ◌≤◌, ◌+◌, [], ◌∷◌, ◌++◌, length, map, take, drop, is_ok, sym, ap, subst, subst₂, ◌∙◌, arith, false-eqb, true-eqb}
+use Rattle.std.proofs.Common.{◌≡◌, ◌<◌, [], ◌∷◌, ◌++◌, length, map, take, drop, is_ok, sym, ap, subst, subst₂, ◌∙◌, arith, false-eqb, true-eqb}
 use Rattle.std.proofs.lemmas.List.{map-append}
 use Rattle.std.proofs.ResultArms.{chosen}
 use Rattle.fk_lex.specs.Positions.{after, place_of}
 use Rattle.fk_lex.specs.Reading.{Spelled, fault_at}
 use Rattle.fk_lex.specs.Sizes.{size_of}
 use Rattle.fk_lex.specs.View.{spelled}
-use Rattle.fk_lex.proofs.Reached.{Reached, reached_start, reached_gap, reached_token, reached_end, reached_less, reached_own_fault, stands_size, fault_small, gap_is_piece, token_is_piece, empty_list}
+use Rattle.fk_lex.proofs.Reached.{Reached, reached_gap, reached_token, reached_end, reached_less, reached_own_fault, stands_size, fault_small, gap_is_piece, token_is_piece, empty_list}
 use Rattle.fk_lex.proofs.lex.lex.Goals as goal
 
 pub split_at-requires : goal.split_at-requires

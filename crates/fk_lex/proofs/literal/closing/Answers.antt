@@ -1,4 +1,4 @@
-use Rattle.std.proofs.Common.{◌≡◌, ◌+◌, sym, ap, subst, ◌∙◌, arith, drop}
+use Rattle.std.proofs.Common.{◌≡◌, ◌+◌, sym, subst, arith, drop}
 use Rattle.fk_lex.specs.Steps.{closing, farther}
 use Rattle.fk_lex.proofs.Literals.{farther_zero, closing_quote, closing_line, closing_more, closing_none}
 use Rattle.fk_lex.proofs.literal.closing.Goals as goal

@@ -1,4 +1,4 @@
-use Rattle.std.proofs.Common.{◌≡◌, ◌+◌, ◌∙◌, Some, None, sym, ap, drop}
+use Rattle.std.proofs.Common.{◌≡◌, ◌∙◌, Some, None, sym, ap, drop}
 use Rattle.fk_lex.specs.Steps.{first_bad, closing, closed, text_of, text_step}
 use Rattle.fk_lex.proofs.literal.text_step.Goals as goal
 

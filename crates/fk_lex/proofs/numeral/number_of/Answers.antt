@@ -1,4 +1,4 @@
-use Rattle.std.proofs.Common.{◌≡◌, ℕ, ◌<◌, ◌^◌, Option, Some, None, SomeIff, sym, ap, subst, ◌∙◌, arith}
+use Rattle.std.proofs.Common.{◌<◌, ◌^◌, SomeIff, subst}
 use Rattle.fk_lex.specs.Kinds.{numeral_value}
 use Rattle.fk_lex.proofs.TokenSteps.{number_of_some, number_of_none}
 use Rattle.fk_lex.proofs.numeral.number_of.Goals as goal

@@ -1,4 +1,4 @@
-use Rattle.std.proofs.Common.{◌≡◌, sym, ap, subst, ◌∙◌, arith, drop}
+use Rattle.std.proofs.Common.{sym, subst, arith}
 use Rattle.fk_lex.specs.Kinds.{LongestTail}
 use Rattle.fk_lex.proofs.Numerals.{decimal_longest, octal_longest, hexadecimal_longest}
 use Rattle.fk_lex.proofs.numeral.numeral_length.Goals.{else-text-gt2-via-then-text-gt2+else-is_hexadecimal, else-text-gt2-via-else-text-gt2}

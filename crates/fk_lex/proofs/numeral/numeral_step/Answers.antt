@@ -1,4 +1,4 @@
-use Rattle.std.proofs.Common.{◌≡◌, Some, None, sym, ap, ◌∙◌, arith}
+use Rattle.std.proofs.Common.{sym, ap, ◌∙◌}
 use Rattle.fk_lex.specs.Bytes.{is_word_byte}
 use Rattle.fk_lex.specs.Kinds.{number_of}
 use Rattle.fk_lex.proofs.TokenSteps.{wide_step_is, joined_step_is, number_step_is}

@@ -1,7 +1,7 @@
-use Rattle.std.proofs.Common.{◌≡◌, ℕ, ◌<◌, ◌^◌, SomeIff, get_or, sym, ap, subst, ◌∙◌, arith, refl}
+use Rattle.std.proofs.Common.{sym, ap, ◌∙◌, arith}
 use Rattle.std.proofs.lemmas.List.{get_or_past}
 use Rattle.fk_lex.specs.Bytes.{is_x}
-use Rattle.fk_lex.specs.Kinds.{value_in, numeral_value}
+use Rattle.fk_lex.specs.Kinds.{value_in}
 use Rattle.fk_lex.proofs.TokenSteps.{decimal_value, hexadecimal_value, octal_value, same_value}
 use Rattle.fk_lex.proofs.numeral.numeral_value.Goals.{else-numeral-gt1-via-then-numeral-gt1+else-is_x, else-numeral-gt1-via-else-numeral-gt1}
 use Rattle.fk_lex.proofs.numeral.numeral_value.Goals as goal

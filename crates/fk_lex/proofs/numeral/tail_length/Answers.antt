@@ -1,4 +1,4 @@
-use Rattle.std.proofs.Common.{◌≡◌, ◌≤◌, length, get_or, sym, ap, subst, ◌∙◌, arith, refl, false}
+use Rattle.std.proofs.Common.{sym, ap, subst}
 use Rattle.std.proofs.lemmas.List.{get_or_past}
 use Rattle.fk_lex.specs.Bytes.{is_suffix}
 use Rattle.fk_lex.proofs.Fronts.{IsTailAt, tail_at}

@@ -1,6 +1,4 @@
-use Rattle.std.proofs.Common.{◌≡◌, ℕ, ◌<◌, ◌≤◌, ◌+◌, ◌*◌, Option, None, SomeIff, sym, ap, subst, ◌∙◌, arith}
-use Rattle.fk_lex.specs.Bytes.{digit_value}
-use Rattle.fk_lex.specs.Kinds.{value_in}
+use Rattle.std.proofs.Common.{◌≡◌, ℕ, Option, None, SomeIff, sym, subst, arith}
 use Rattle.fk_lex.proofs.TokenSteps.{value_least}
 use Rattle.fk_lex.proofs.numeral.value_in.Goals as goal
 

@@ -1,4 +1,4 @@
-use Rattle.std.proofs.Common.{◌≡◌, sym, ap, ◌∙◌, arith, Some, None}
+use Rattle.std.proofs.Common.{◌≡◌, sym, ◌∙◌, arith, None}
 use Rattle.fk_lex.proofs.Words.{sign_in, none_of_three}
 use Rattle.fk_lex.proofs.TokenSteps.{sign_step_is, no_sign_is}
 use Rattle.fk_lex.proofs.table.sign_step.Goals as goal

@@ -1,4 +1,4 @@
-use Rattle.std.proofs.Common.{◌≡◌, sym, ap, ◌∙◌}
+use Rattle.std.proofs.Common.{ap, ◌∙◌}
 use Rattle.fk_lex.specs.Kinds.{lookup, keywords, or_word}
 use Rattle.fk_lex.proofs.TokenSteps.{word_step_is}
 use Rattle.fk_lex.proofs.table.word_step.Goals as goal
