@@ -1,13 +1,13 @@
 //! The lexer of Fork95: the tokens of a source text, or its first lexical fault.
 #![tactic(auto)]
 
-pub mod bytes;
-pub mod gap;
+mod bytes;
+mod gap;
 pub mod laws;
 pub mod lex;
-pub mod literal;
-pub mod numeral;
-pub mod position;
-pub mod step;
-pub mod table;
+mod literal;
+mod numeral;
+mod position;
+mod step;
+mod table;
 pub mod token;
