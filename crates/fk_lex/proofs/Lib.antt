@@ -4,5 +4,6 @@ pub mod Fronts
 pub mod Literals
 pub mod Numerals
 pub mod Reached
+pub mod Spelled
 pub mod TokenSteps
 pub mod Words

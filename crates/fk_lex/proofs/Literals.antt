@@ -25,7 +25,7 @@ closing_two : (c d : ℕ) (more : List ℕ) (e : Bool) → (if e then farther 2 
 closing_two c d more true = refl
 closing_two c d more false = refl
 
-closing_step : (text : List ℕ) → 0 < length text → let c = get_or text 0 0 in let k = part_length c (get_or text 1 0) in closing text ≡ (if c == 34 then Some 0 else (if c == 10 then None else farther k (closing (drop k text))))
+pub closing_step : (text : List ℕ) → 0 < length text → let c = get_or text 0 0 in let k = part_length c (get_or text 1 0) in closing text ≡ (if c == 34 then Some 0 else (if c == 10 then None else farther k (closing (drop k text))))
 closing_step [] some = absurd (omega arith)
 closing_step (c ∷ []) some = closing_one c (c == 34) (c == 10) (is_escape c 0)
 closing_step (c ∷ d ∷ more) some = ap (λ x. if c == 34 then Some 0 else (if c == 10 then None else x)) (closing_two c d more (is_escape c d))
@@ -45,7 +45,7 @@ bad_two c d more true b = refl
 bad_two c d more false true = refl
 bad_two c d more false false = refl
 
-bad_step : (text : List ℕ) → 0 < length text → let c = get_or text 0 0 in let k = part_length c (get_or text 1 0) in first_bad text ≡ (if c == 34 then None else (if is_part c (get_or text 1 0) then farther k (first_bad (drop k text)) else Some 0))
+pub bad_step : (text : List ℕ) → 0 < length text → let c = get_or text 0 0 in let k = part_length c (get_or text 1 0) in first_bad text ≡ (if c == 34 then None else (if is_part c (get_or text 1 0) then farther k (first_bad (drop k text)) else Some 0))
 bad_step [] some = absurd (omega arith)
 bad_step (c ∷ []) some = bad_one c (c == 34) (is_plain 34 c) (is_escape c 0) (no_escape (c == 92))
 bad_step (c ∷ d ∷ more) some = ap (λ x. if c == 34 then None else x) (bad_two c d more (is_escape c d) (is_plain 34 c))

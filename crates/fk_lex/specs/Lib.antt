@@ -3,5 +3,6 @@ pub mod Kinds
 pub mod Positions
 pub mod Reading
 pub mod Sizes
+pub mod Spellings
 pub mod Steps
 pub mod View
