@@ -92,7 +92,7 @@ abbrev pub store : {S : Type 0} → Tells S → ℕ → HartState → S → ℕ 
 store t n h s rs1 rs2 imm size = stores_to h s (t.stores s n (address h rs1 imm) size (h.registers rs2))
 
 abbrev pub atomic : {S : Type 0} → Tells S → ℕ → HartState → S → ℕ → ℕ → ℕ → ℕ → Outcome S
-atomic t n h s rd rs1 what value = puts h s rd (λ v. v) (t.atomics s n (h.registers rs1) what value)
+atomic t n h s what rd rs1 rs2 = puts h s rd (λ v. v) (t.atomics s n (h.registers rs1) what (h.registers rs2))
 
 abbrev pub immediate : {S : Type 0} → Op → HartState → S → ℕ → ℕ → ℕ → Outcome S
 immediate o h s rd rs1 imm = goes (written h rd (applied o (h.registers rs1) imm)) s
@@ -149,14 +149,14 @@ step t n (Remu rd rs1 rs2) h s = operation op.RemU h s rd rs1 rs2
 step t n (Fence high low) h s = goes (moved h (next h)) s
 step t n Ecall h s = traps 5 h s
 step t n Ebreak h s = traps 6 h s
-step t n (LrW rd rs1 aq rl) h s = atomic t n h s rd rs1 0b00010 0
-step t n (ScW rd rs1 rs2 aq rl) h s = atomic t n h s rd rs1 0b00011 (h.registers rs2)
-step t n (AmoSwapW rd rs1 rs2 aq rl) h s = atomic t n h s rd rs1 0b00001 (h.registers rs2)
-step t n (AmoAddW rd rs1 rs2 aq rl) h s = atomic t n h s rd rs1 0b00000 (h.registers rs2)
-step t n (AmoXorW rd rs1 rs2 aq rl) h s = atomic t n h s rd rs1 0b00100 (h.registers rs2)
-step t n (AmoAndW rd rs1 rs2 aq rl) h s = atomic t n h s rd rs1 0b01100 (h.registers rs2)
-step t n (AmoOrW rd rs1 rs2 aq rl) h s = atomic t n h s rd rs1 0b01000 (h.registers rs2)
-step t n (AmoMinW rd rs1 rs2 aq rl) h s = atomic t n h s rd rs1 0b10000 (h.registers rs2)
-step t n (AmoMaxW rd rs1 rs2 aq rl) h s = atomic t n h s rd rs1 0b10100 (h.registers rs2)
-step t n (AmoMinuW rd rs1 rs2 aq rl) h s = atomic t n h s rd rs1 0b11000 (h.registers rs2)
-step t n (AmoMaxuW rd rs1 rs2 aq rl) h s = atomic t n h s rd rs1 0b11100 (h.registers rs2)
+step t n (LrW rd rs1 aq rl) h s = atomic t n h s 0b00010 rd rs1 0
+step t n (ScW rd rs1 rs2 aq rl) h s = atomic t n h s 0b00011 rd rs1 rs2
+step t n (AmoSwapW rd rs1 rs2 aq rl) h s = atomic t n h s 0b00001 rd rs1 rs2
+step t n (AmoAddW rd rs1 rs2 aq rl) h s = atomic t n h s 0b00000 rd rs1 rs2
+step t n (AmoXorW rd rs1 rs2 aq rl) h s = atomic t n h s 0b00100 rd rs1 rs2
+step t n (AmoAndW rd rs1 rs2 aq rl) h s = atomic t n h s 0b01100 rd rs1 rs2
+step t n (AmoOrW rd rs1 rs2 aq rl) h s = atomic t n h s 0b01000 rd rs1 rs2
+step t n (AmoMinW rd rs1 rs2 aq rl) h s = atomic t n h s 0b10000 rd rs1 rs2
+step t n (AmoMaxW rd rs1 rs2 aq rl) h s = atomic t n h s 0b10100 rd rs1 rs2
+step t n (AmoMinuW rd rs1 rs2 aq rl) h s = atomic t n h s 0b11000 rd rs1 rs2
+step t n (AmoMaxuW rd rs1 rs2 aq rl) h s = atomic t n h s 0b11100 rd rs1 rs2

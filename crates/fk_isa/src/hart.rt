@@ -21,7 +21,7 @@ impl Hart {
     ghost use Rattle.fk_isa.specs.Step.{HartState, hart_of, set_register, moved, next, written, ended, jump_effect, jumped, branch_effect, branched};
 
     /// The word of a register.
-    pub fn register(&self, number: u8) -> u32
+    pub fn word(&self, number: u8) -> u32
         requires { number < 32 }
         ensures { result ≡ slice_index self.now.registers number }
     {
@@ -33,7 +33,7 @@ impl Hart {
         requires { number < 32 }
         ensures { result ≡ signed (slice_index self.now.registers number) }
     {
-        self.register(number).cast_signed()
+        self.word(number).cast_signed()
     }
 
     // A register plus an immediate.
@@ -41,7 +41,7 @@ impl Hart {
         requires { number < 32 }
         ensures { result ≡ word_sum (slice_index self.now.registers number) immediate }
     {
-        self.register(number).wrapping_add(immediate)
+        self.word(number).wrapping_add(immediate)
     }
 
     // Goes on to the next instruction.
@@ -92,7 +92,7 @@ impl Hart {
         ensures effect { result ≡ Next }
         ensures hart { hart_of self.new ≡ written (hart_of self.old) rd (applied op (slice_index self.old.registers rs1) right) }
     {
-        let value = apply(op, self.register(rs1), right);
+        let value = apply(op, self.word(rs1), right);
         self.write(rd, value)
     }
 
