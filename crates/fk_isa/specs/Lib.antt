@@ -4,3 +4,4 @@ pub mod Find
 pub mod Fits
 pub mod Tells
 pub mod Step
+pub mod Flat

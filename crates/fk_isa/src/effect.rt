@@ -16,6 +16,8 @@ pub enum Effect {
 
 pub const MISALIGNED: u8 = 3;
 
+pub const ACCESS: u8 = 4;
+
 pub const ECALL: u8 = 5;
 
 pub const EBREAK: u8 = 6;
