@@ -1,6 +1,7 @@
 //! Tests of the table.
 use crate::{decode, encode};
 
+mod stepping;
 mod vectors;
 
 use vectors::VECTORS;
