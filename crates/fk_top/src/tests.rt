@@ -170,7 +170,8 @@ fn a_lexical_fault_is_refused_at_its_place(rt: HostRuntime) -> Result<(), Fail> 
 
 #[test]
 fn comments_and_every_spelling_of_a_number_are_read(rt: HostRuntime) -> Result<(), Fail> {
-    let text = b"#include <fork.h>\n// hex, octal\nvoid main(void) { putint(0x10 + 010 /* and */ + 'a' + 1u); }";
+    let text =
+        b"#include <fork.h>\n// hex, octal\nvoid main(void) { putint(0x10 + 010 /* and */ + 'a' + 1u); }";
     let got = run(rt.alloc(), text, "1", "1000000", NONE)?;
     assert_eq!(rt; got.out.as_slice(), b"122\n".as_slice());
     Ok(())

@@ -8,4 +8,4 @@ use Rattle.fk_straight.proofs.read.parse_lexed.Goals as goal
 pub returns-in-Ok-clause-none : goal.returns-in-Ok-clause-none
 returns-in-Ok-clause-none c = λ refused p derives.
     c.parse.ensures.none refused p
-      (subst (λ (l : List Token). Derives l p) (sym (ap (map token_of) c.as_slice.ensures.value ∙ c.in-Ok.ensures.tokens)) derives)
+    (subst (λ (l : List Token). Derives l p) (sym (ap (map token_of) c.as_slice.ensures.value ∙ c.in-Ok.ensures.tokens)) derives)

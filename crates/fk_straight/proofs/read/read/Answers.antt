@@ -15,4 +15,4 @@ returns-in-Ok-parse_lexed-clause-few c =
 pub returns-in-Err-NotStraight-clause-refused : goal.returns-in-Err-NotStraight-clause-refused
 returns-in-Err-NotStraight-clause-refused c =
     not_straight c.args.source.now (map spelled c.in-Ok.lexed.items) c.in-Ok.ensures.tokens
-      (λ p derives. c.in-Err-NotStraight.ensures.none (ap (λ e. Err e) c.in-Err-NotStraight.field-0-is) p (subst (λ l. Derives (map seen (map spelled l)) p) (sym c.as_slice.ensures.value) derives))
+    (λ p derives. c.in-Err-NotStraight.ensures.none (ap (λ e. Err e) c.in-Err-NotStraight.field-0-is) p (subst (λ l. Derives (map seen (map spelled l)) p) (sym c.as_slice.ensures.value) derives))
