@@ -1,3 +1,11 @@
+/* Words have 32 bits: sums wrap, and putint prints them signed.
+
+       ./fork95 run examples/sums.f95 --harts 1 --cycles 1000000
+
+   prints 5, -1, 0 and -2147483648. With --harts 3 each line comes three times: the processors
+   stand at the same putint in the same cycle, and print in ascending number. */
+#include <io.h>
+
 sh int small;
 sh int large;
 
@@ -5,7 +13,7 @@ void main(void) {
   small = 2 + 3;
   putint(small);
 
-  large = 4294967295;
+  large = 0xFFFFFFFF;
   putint(large);
   putint(large + 1);
 
