@@ -60,6 +60,17 @@ fn run(
 }
 
 fn call(alloc: Global, text: &[u8], words: &[&str], fails: Fails) -> Result<Outcome, AllocError> {
+    call_into(alloc, text, words, fails, 100_000)
+}
+
+// A call whose `out` has room for so many bytes.
+fn call_into(
+    alloc: Global,
+    text: &[u8],
+    words: &[&str],
+    fails: Fails,
+    room: usize,
+) -> Result<Outcome, AllocError> {
     let mut owned = Vec::new(alloc);
     for word in words {
         owned.push(String::from_str(alloc, word)?)?;
@@ -68,7 +79,7 @@ fn call(alloc: Global, text: &[u8], words: &[&str], fails: Fails) -> Result<Outc
     let held = vec![in alloc; (name, text.to_vec(alloc)?)]?;
     let mut files = MemStore::make(held, fails.files.to_vec(alloc)?);
     let mut input = SureSource::make(Vec::new(alloc));
-    let mut out = MemSink::make(alloc, 100_000, fails.out.to_vec(alloc)?)?;
+    let mut out = MemSink::make(alloc, room, fails.out.to_vec(alloc)?)?;
     let mut err = MemSink::make(alloc, 100, fails.err.to_vec(alloc)?)?;
     let status = fork95(
         alloc,
@@ -240,6 +251,16 @@ fn a_sink_that_fails_ends_the_call_without_a_report(rt: HostRuntime) -> Result<(
     let got = run(rt.alloc(), SUMS.as_bytes(), "1", "1000000", fails)?;
     assert_eq!(rt; got.status, Status::WriteFault);
     assert_eq!(rt; got.out.as_slice(), b"".as_slice());
+    assert_eq!(rt; got.err.as_slice(), b"".as_slice());
+    Ok(())
+}
+
+#[test]
+fn a_sink_that_fails_in_mid_stream_took_a_beginning(rt: HostRuntime) -> Result<(), Fail> {
+    let words = ["run", "text.f95", "--harts", "2", "--cycles", "1000000"];
+    let got = call_into(rt.alloc(), SUMS.as_bytes(), words.as_slice(), NONE, 3)?;
+    assert_eq!(rt; got.status, Status::WriteFault);
+    assert_eq!(rt; got.out.as_slice(), b"5\n5".as_slice());
     assert_eq!(rt; got.err.as_slice(), b"".as_slice());
     Ok(())
 }
