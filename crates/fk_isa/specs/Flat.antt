@@ -1,9 +1,8 @@
 -- A small memory: 256 bytes, and the reservation of each of two harts.
 use Rattle.std.specs.Prelude.{ℕ, ◌+◌, ◌*◌, ◌/◌, ◌%◌, ◌^◌, ◌==◌, nat_lt, if◌then◌else◌, List, map, Option, Some, None, slice_index, slice_index_or, slice_set}
-use Rattle.fk_num.specs.Op.{applied}
 use Rattle.fk_num.specs.Word.{Memory, put}
-use Rattle.fk_num.specs.declared.operator.Op.TheVariants as op
 use Rattle.fk_isa.specs.declared.flat.FlatMemory.{FlatMemory}
+use Rattle.fk_isa.specs.Atomic.{combined, unless}
 use Rattle.fk_isa.specs.Tells.{Answer, Gives, Traps, GoesOn, Tells}
 
 -- the byte at each address, and the number of the word that each hart has reserved
@@ -33,27 +32,9 @@ with_word m a v = with_half (with_half m a v) (a + 2) (v / 2 ^ 16)
 abbrev pub with_number : Memory → ℕ → ℕ → ℕ → Memory
 with_number m a size v = if size == 1 then put m a (v % 2 ^ 8) else if size == 2 then with_half m a v else with_word m a v
 
--- a reservation, unless it is that of a word
-abbrev pub unless : ℕ → Option ℕ → Option ℕ
-unless word None = None
-unless word (Some r) = if r == word then None else Some r
-
 -- the memory after a store of so many bytes, which clears the reservations of their word
 abbrev pub after_store : Flat → ℕ → ℕ → ℕ → Flat
 after_store m a size v = record { bytes = with_number m.bytes a size v; reserved = map (unless (a / 4)) m.reserved }
-
--- the word that an atomic operation stores, of the one that it found and its value
-unfoldable pub combined : ℕ → ℕ → ℕ → ℕ
-combined what old v =
-    if what == 0b00001 then v
-    else if what == 0b00000 then applied op.Add old v
-    else if what == 0b00100 then applied op.Xor old v
-    else if what == 0b01100 then applied op.And old v
-    else if what == 0b01000 then applied op.Or old v
-    else if what == 0b10000 then applied op.MinS old v
-    else if what == 0b10100 then applied op.MaxS old v
-    else if what == 0b11000 then applied op.MinU old v
-    else applied op.MaxU old v
 
 -- the trap of an access: 3 Misaligned, 4 Access
 abbrev pub flat_trap : ℕ → ℕ → Option ℕ

@@ -3,5 +3,6 @@ pub mod Row
 pub mod Find
 pub mod Fits
 pub mod Tells
+pub mod Atomic
 pub mod Step
 pub mod Flat

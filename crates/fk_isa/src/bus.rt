@@ -21,12 +21,16 @@ pub trait Bus {
     /// What its calls answer and change.
     ghost tells: { Tells State };
 
+    /// What a call leaves of the bus beside its state: say how long its memories are.
+    ghost keeps: { Self → Self → Type 0 };
+
     /// A load by a hart of 1, 2 or 4 bytes, as a number without sign, or the number of its trap.
     fn load(&mut self, hart: u32, address: u32, size: u8) -> Result<u32, u8>
         requires hart { hart < harts self.old }
         requires ready { is_ready self.old }
         requires size { IsSize size }
         ensures told { Told (tells.loads (state self.old) hart address size) result (state self.old) (state self.new) }
+        ensures keeps { keeps self.old self.new }
         ensures fits { IfOk result (λ value. value < 2 ^ (8 * size)) };
 
     /// A store by a hart of the low 1, 2 or 4 bytes of a value, or the number of its trap.
@@ -34,7 +38,8 @@ pub trait Bus {
         requires hart { hart < harts self.old }
         requires ready { is_ready self.old }
         requires size { IsSize size }
-        ensures told { ToldStore (tells.stores (state self.old) hart address size value) result (state self.old) (state self.new) };
+        ensures told { ToldStore (tells.stores (state self.old) hart address size value) result (state self.old) (state self.new) }
+        ensures keeps { keeps self.old self.new };
 
     /// The atomic instruction of a hart that has the bits 31 to 27 of its word: what it puts
     /// in rd, or the number of its trap.
@@ -42,5 +47,6 @@ pub trait Bus {
         requires hart { hart < harts self.old }
         requires ready { is_ready self.old }
         requires what { IsAtomic what }
-        ensures told { Told (tells.atomics (state self.old) hart address what value) result (state self.old) (state self.new) };
+        ensures told { Told (tells.atomics (state self.old) hart address what value) result (state self.old) (state self.new) }
+        ensures keeps { keeps self.old self.new };
 }

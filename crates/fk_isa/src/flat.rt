@@ -1,12 +1,13 @@
 //! A small memory for tests.
 
 ghost use Rattle.std.specs.Prelude.{◌≡◌, ◌≤◌, ◌<◌, ◌+◌, ◌/◌, None, map, slice_index};
-ghost use Rattle.fk_isa.specs.Flat.{flat_trap, unless, combined};
+ghost use Rattle.fk_isa.specs.Atomic.{unless};
+ghost use Rattle.fk_isa.specs.Flat.{flat_trap};
 ghost use Rattle.fk_isa.specs.Tells.{IsSize};
 
+use crate::atomic::{combine, unless};
 use crate::bus::Bus;
 use crate::effect::{ACCESS, Effect, MISALIGNED};
-use fk_num::{Op, apply};
 
 /// A bus of 256 bytes and two harts, each with its reservation of a word, by the word's number.
 #[derive(Drop)]
@@ -30,16 +31,6 @@ fn trap_of(address: u32, size: u8) -> Option<u8>
     }
 }
 
-// A reservation, unless it is that of a word.
-fn unless(word: u32, reservation: Option<u32>) -> Option<u32>
-    ensures { result ≡ unless word reservation }
-{
-    match reservation {
-        Some(reserved) if reserved == word => None,
-        other => other,
-    }
-}
-
 // Clears the reservations of a word.
 fn clear(reserved: &mut [Option<u32>], word: u32)
     ensures { reserved.new ≡ map (unless word) reserved.old }
@@ -47,25 +38,6 @@ fn clear(reserved: &mut [Option<u32>], word: u32)
     for reservation in reserved.iter_mut() {
         *reservation = unless(word, *reservation);
     }
-}
-
-// The word that an atomic operation stores, of the one that it found and its value.
-#[tactic(auto, unfolding(crate::specs::Flat::combined))]
-fn combine(what: u8, old: u32, value: u32) -> u32
-    ensures { result ≡ combined what old value }
-{
-    let op = match what {
-        0b00001 => return value,
-        0b00000 => Op::Add,
-        0b00100 => Op::Xor,
-        0b01100 => Op::And,
-        0b01000 => Op::Or,
-        0b10000 => Op::MinS,
-        0b10100 => Op::MaxS,
-        0b11000 => Op::MinU,
-        _ => Op::MaxU,
-    };
-    apply(op, old, value)
 }
 
 impl FlatMemory {
@@ -166,6 +138,8 @@ impl Bus for FlatMemory {
     ghost is_ready = { λ m. Unit {0} };
 
     ghost tells = { flat_tells };
+
+    ghost keeps = { λ old new. Unit {0} };
 
     fn load(&mut self, _hart: u32, address: u32, size: u8) -> Result<u32, u8> {
         match trap_of(address, size) {

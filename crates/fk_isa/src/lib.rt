@@ -1,6 +1,7 @@
 //! RV32IMA: the table of instructions both ways, and one step of a hart.
 #![tactic(auto)]
 
+mod atomic;
 mod bus;
 mod decoder;
 mod effect;
@@ -13,6 +14,7 @@ pub mod laws;
 mod opcode;
 mod stepping;
 
+pub use atomic::{combine, unless};
 pub use bus::Bus;
 pub use decoder::decode;
 pub use effect::Effect;

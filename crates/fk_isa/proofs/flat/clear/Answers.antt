@@ -1,6 +1,6 @@
 use Rattle.std.proofs.Common.{◌≡◌, ℕ, zero, suc, ◌<◌, List, [], ◌∷◌, length, get_or, Option, refl, arith}
 use Rattle.std.proofs.lemmas.List.Edits.{map_over_more}
-use Rattle.fk_isa.specs.Flat.{unless}
+use Rattle.fk_isa.specs.Atomic.{unless}
 use Rattle.fk_isa.proofs.flat.clear.Goals as goal
 
 -- within the list the word given for what is past it does not matter

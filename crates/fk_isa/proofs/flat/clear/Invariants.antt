@@ -1,5 +1,5 @@
 use Rattle.std.proofs.Common.{◌≡◌, ◌++◌, map, take, drop}
-use Rattle.fk_isa.specs.Flat.{unless}
+use Rattle.fk_isa.specs.Atomic.{unless}
 use Rattle.fk_isa.proofs.flat.clear.Given as goal
 
 abbrev pub invariant-loop-reservation : goal.invariant-loop-reservation
