@@ -1,1 +1,4 @@
 pub mod Limits
+pub mod Refusals
+pub mod Spelling
+pub mod Tables

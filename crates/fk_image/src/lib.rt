@@ -1,5 +1,17 @@
-//! Images: what a machine runs.
+//! Images: what a machine runs, and how it stands in a file.
 #![tactic(auto)]
+
+mod fault;
+pub mod laws;
+mod reading;
+mod writing;
+
+pub use fault::ImageFault;
+pub use reading::read_image;
+pub use writing::write_image;
+
+#[cfg(test)]
+mod tests;
 
 /// A program for the machine.
 #[derive(Drop)]

@@ -1,0 +1,24 @@
+-- The parts of an image's bytes.
+use Rattle.std.proofs.Common.{◌≡◌, ℕ, ◌+◌, ◌<◌, List, [], ◌∷◌, ◌++◌, All, flat_map, get_or, length, take, ap, sym, ◌∙◌, append_assoc}
+use Rattle.std.proofs.lemmas.List.{append-nil, take_more}
+use Rattle.std.proofs.lemmas.List.Concat.{flat_map-append}
+use Rattle.std.proofs.lemmas.List.Elements.{All-append, All-same}
+use Rattle.fk_image.specs.Spelling.{IsWord, word_bytes}
+
+pub spelled-parts : (front a b c d e : List ℕ) → front ++ flat_map word_bytes (a ++ b ++ c ++ d ++ e) ≡ front ++ flat_map word_bytes a ++ flat_map word_bytes b ++ flat_map word_bytes c ++ flat_map word_bytes d ++ flat_map word_bytes e
+spelled-parts front a b c d e = simp (flat_map-append, append_assoc)
+
+-- one more entry of a table
+flat_map-take_more : {X : Type 0} (f : X → List ℕ) (xs : List X) (i : ℕ) (d : X) → i < length xs → flat_map f (take (i + 1) xs) ≡ flat_map f (take i xs) ++ f (get_or xs i d)
+flat_map-take_more f xs i d within =
+    ap (flat_map f) (take_more xs i d within) ∙ flat_map-append f (take i xs) (get_or xs i d ∷ [])
+    ∙ ap (λ (ys : List ℕ). flat_map f (take i xs) ++ ys) (append-nil (f (get_or xs i d)))
+
+pub words-take_more : {X : Type 0} (f : X → List ℕ) (xs : List X) (i : ℕ) (d : X) → i < length xs → All IsWord (flat_map f (take i xs)) → All IsWord (f (get_or xs i d)) → All IsWord (flat_map f (take (i + 1) xs))
+words-take_more f xs i d within before here =
+    All-same IsWord (flat_map f (take (i + 1) xs)) (flat_map f (take i xs) ++ f (get_or xs i d)) (flat_map-take_more f xs i d within)
+    (All-append IsWord (flat_map f (take i xs)) (f (get_or xs i d)) before here)
+
+pub words-parts : (a b c d e : List ℕ) → All IsWord a → All IsWord b → All IsWord c → All IsWord d → All IsWord e → All IsWord (a ++ b ++ c ++ d ++ e)
+words-parts a b c d e p q r s t =
+    All-append IsWord (a ++ b ++ c ++ d) e (All-append IsWord (a ++ b ++ c) d (All-append IsWord (a ++ b) c (All-append IsWord a b p q) r) s) t

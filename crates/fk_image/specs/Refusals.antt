@@ -1,0 +1,129 @@
+-- Why bytes are no image: the first refusal that applies.
+use Rattle.std.specs.Prelude.{◌≡◌, ◌≢◌, ℕ, ◌+◌, ◌*◌, ◌<◌, ◌≤◌, ◌==◌, ◌⊎◌, List, length, take, drop, codes, if◌then◌else◌}
+use Rattle.std.specs.Int.{w32, from_le_bytes}
+use Rattle.fk_image.specs.declared.fault.ImageFault.{ImageFault}
+use Rattle.fk_image.specs.declared.fault.ImageFault.TheVariants.{Magic, Version, Short, LongTail, BadTable, BadWord, Memory}
+use Rattle.fk_image.specs.Limits.{IsSite, IsCommit}
+
+-- the word at a place, counted in words
+unfoldable pub word_at : List ℕ → ℕ → ℕ
+word_at bytes place = from_le_bytes w32 (take 4 (drop (4 * place) bytes))
+
+-- the site and the commit at a place
+abbrev pub site_at : List ℕ → ℕ → ℕ × ℕ × ℕ
+site_at bytes place = (word_at bytes place, word_at bytes (place + 1), word_at bytes (place + 2))
+
+abbrev pub commit_at : List ℕ → ℕ → ℕ × ℕ
+commit_at bytes place = (word_at bytes place, word_at bytes (place + 1))
+
+-- what words 2 to 5 say
+abbrev pub code_words : List ℕ → ℕ
+code_words bytes = word_at bytes 2
+
+abbrev pub global_words : List ℕ → ℕ
+global_words bytes = word_at bytes 3
+
+abbrev pub site_count : List ℕ → ℕ
+site_count bytes = word_at bytes 4
+
+abbrev pub commit_count : List ℕ → ℕ
+commit_count bytes = word_at bytes 5
+
+-- the length that they ask for
+abbrev pub needed : List ℕ → ℕ
+needed bytes = 24 + 4 * code_words bytes + 4 * global_words bytes + 12 * site_count bytes + 8 * commit_count bytes
+
+-- the least and the greatest value of these words
+abbrev pub least : ℕ → ℕ
+least index = if index == 2 then 1 else 0
+
+abbrev pub greatest : List ℕ → ℕ → ℕ
+greatest bytes index =
+    if index == 2 then 262144
+    else (if index == 3 then 524288
+    else (if index == 4 then 16000 else code_words bytes))
+
+abbrev pub IsWithin : List ℕ → ℕ → Type 0
+IsWithin bytes index = (least index ≤ word_at bytes index) × (word_at bytes index ≤ greatest bytes index)
+
+-- n is the first, counted from this one, that isn't good
+pub record IsFirstBad (from : ℕ) (IsGood : ℕ → Type 0) (n : ℕ) : Type 0 where
+  pub behind : from ≤ n
+  pub bad : IsGood n → ⊥
+  pub good_before : (k : ℕ) → from ≤ k → k < n → IsGood k
+
+-- the tables of sites and of commits begin behind the code and the globals
+abbrev pub sites_place : List ℕ → ℕ
+sites_place bytes = 6 + code_words bytes + global_words bytes
+
+abbrev pub commits_place : List ℕ → ℕ
+commits_place bytes = sites_place bytes + 3 * site_count bytes
+
+abbrev pub site_of : List ℕ → ℕ → ℕ × ℕ × ℕ
+site_of bytes k = site_at bytes (sites_place bytes + 3 * k)
+
+abbrev pub commit_of : List ℕ → ℕ → ℕ × ℕ
+commit_of bytes k = commit_at bytes (commits_place bytes + 2 * k)
+
+-- commit k is one within so many words of code, above the address of the commit before it
+pub record IsNextCommit (words : ℕ) (commits : ℕ → ℕ × ℕ) (k : ℕ) : Type 0 where
+  pub limits : IsCommit words (commits k)
+  pub rises : (before : ℕ) → before + 1 ≡ k → (commits before).0 < (commits k).0
+
+-- entries of tables are counted from 0, the sites first and the commits after them
+pub record IsEntry (bytes : List ℕ) (entry : ℕ) : Type 0 where
+  pub site : entry < site_count bytes → IsSite (site_of bytes entry)
+  pub commit : (k : ℕ) → entry ≡ site_count bytes + k → IsNextCommit (code_words bytes) (commit_of bytes) k
+
+-- ---- each refusal
+
+abbrev pub IsShort : List ℕ → ℕ → ℕ → Type 0
+IsShort bytes size wanted = (size ≡ length bytes) × (size < wanted)
+
+abbrev pub IsOtherMagic : List ℕ → Type 0
+IsOtherMagic bytes = take 4 bytes ≢ codes "FK95"
+
+abbrev pub IsOtherVersion : List ℕ → ℕ → Type 0
+IsOtherVersion bytes version = (version ≡ word_at bytes 1) × (version ≢ 1)
+
+abbrev pub IsBadWord : List ℕ → ℕ → Type 0
+IsBadWord bytes index = (index ≤ 5) × IsFirstBad 2 (IsWithin bytes) index
+
+abbrev pub IsLongTail : List ℕ → ℕ → Type 0
+IsLongTail bytes wanted = (wanted ≡ needed bytes) × (wanted < length bytes)
+
+abbrev pub IsBadTable : List ℕ → ℕ → Type 0
+IsBadTable bytes entry = (entry < site_count bytes + commit_count bytes) × IsFirstBad 0 (IsEntry bytes) entry
+
+-- ---- how far none applies
+
+-- a header's length, and its first word
+abbrev pub HasMagic : List ℕ → Type 0
+HasMagic bytes = (24 ≤ length bytes) × (take 4 bytes ≡ codes "FK95")
+
+abbrev pub HasVersion : List ℕ → Type 0
+HasVersion bytes = HasMagic bytes × (word_at bytes 1 ≡ 1)
+
+-- all six words of the header
+abbrev pub HasHeader : List ℕ → Type 0
+HasHeader bytes = HasVersion bytes × ((index : ℕ) → 2 ≤ index → index ≤ 5 → IsWithin bytes index)
+
+-- and the length that they ask for
+abbrev pub HasLength : List ℕ → Type 0
+HasLength bytes = HasHeader bytes × (length bytes ≡ needed bytes)
+
+-- the bytes are refused: this refusal applies, and none before it. Want of memory is no refusal of the bytes
+abbrev pub IsRefused : List ℕ → ImageFault → Type 0
+IsRefused bytes (Short size wanted) =
+    IsShort bytes size wanted × ((wanted ≡ 24) ⊎ (HasHeader bytes × (wanted ≡ needed bytes)))
+IsRefused bytes Magic = (24 ≤ length bytes) × IsOtherMagic bytes
+IsRefused bytes (Version version) = HasMagic bytes × IsOtherVersion bytes version
+IsRefused bytes (BadWord index) = HasVersion bytes × IsBadWord bytes index
+IsRefused bytes (LongTail wanted) = HasHeader bytes × IsLongTail bytes wanted
+IsRefused bytes (BadTable entry) = HasLength bytes × IsBadTable bytes entry
+IsRefused bytes (Memory e) = ⊥
+
+-- the bytes are refused so, if it isn't want of memory
+abbrev pub IsFault : List ℕ → ImageFault → Type 0
+IsFault bytes (Memory e) = Unit {0}
+IsFault bytes fault = IsRefused bytes fault

@@ -1,0 +1,34 @@
+-- What the readers of single tables answer.
+use Rattle.std.specs.Prelude.{◌≡◌, ℕ, ◌+◌, ◌*◌, ◌<◌, List, length, slice_index_or}
+use Rattle.fk_image.specs.declared.fault.ImageFault.{ImageFault}
+use Rattle.fk_image.specs.declared.fault.ImageFault.TheVariants.{Magic, Version, Short, LongTail, BadTable, BadWord, Memory}
+use Rattle.fk_image.specs.declared.reading.Header.{Header}
+use Rattle.fk_image.specs.Limits.{IsSite}
+use Rattle.fk_image.specs.Refusals.{HasHeader, IsFirstBad, IsNextCommit, code_words, commit_at, commit_count, global_words, site_at, site_count}
+
+-- the header says what these bytes say
+pub record IsHeaderOf (bytes : List ℕ) (header : Header) : Type 0 where
+  pub holds : HasHeader bytes
+  pub code : header.code ≡ code_words bytes
+  pub globals : header.globals ≡ global_words bytes
+  pub sites : header.sites ≡ site_count bytes
+  pub commits : header.commits ≡ commit_count bytes
+
+-- the fault names the first of a table's sites that is none, or memory ran out
+abbrev pub IsSiteFault : List ℕ → ImageFault → Type 0
+IsSiteFault table (BadTable k) = (12 * k < length table) × IsFirstBad 0 (λ j. IsSite (site_at table (3 * j))) k
+IsSiteFault table (Memory e) = Unit {0}
+IsSiteFault table fault = ⊥
+
+-- the same of a table's commits, which are counted on from the sites
+abbrev pub IsCommitFault : Header → List ℕ → ImageFault → Type 0
+IsCommitFault header table (BadTable entry) =
+    (k : ℕ) × (entry ≡ header.sites + k) × (8 * k < length table)
+    × IsFirstBad 0 (IsNextCommit header.code (λ j. commit_at table (2 * j))) k
+IsCommitFault header table (Memory e) = Unit {0}
+IsCommitFault header table fault = ⊥
+
+-- the address is above that of the last of these commits
+abbrev pub IsAboveLast : List (ℕ × ℕ) → ℕ → Type 0
+IsAboveLast commits address =
+    (k : ℕ) (d : ℕ × ℕ) → length commits ≡ k + 1 → (slice_index_or commits k d).0 < address

@@ -1,0 +1,32 @@
+//! Why bytes are no image.
+
+use std::alloc::AllocError;
+use thiserror::Error;
+
+/// Why bytes are no image: the first of the refusals that applies, in this order, `Short` once before
+/// `Magic` and once after `BadWord`.
+#[derive(Debug, Drop, Error)]
+pub enum ImageFault {
+    /// The first word isn't the bytes `FK95`.
+    #[error("the bytes don't begin with FK95")]
+    Magic,
+    /// The version, in word 1, isn't 1.
+    #[error("version {0} is not known")]
+    Version(u32),
+    /// There are this many bytes, fewer than this many: than the 24 of a header, or than the header
+    /// asks for.
+    #[error("there are {0} bytes of {1}")]
+    Short(u64, u64),
+    /// There are more bytes than the header asks for, which is this many.
+    #[error("bytes follow the {0} of the image")]
+    LongTail(u64),
+    /// This entry of the tables is past the limits. Sites are counted from 0, and commits after them.
+    #[error("entry {0} of the tables is past its limits")]
+    BadTable(u32),
+    /// This word of the header, from 2 to 5, is past its limits.
+    #[error("word {0} of the header is past its limits")]
+    BadWord(u32),
+    /// Memory ran out, which says nothing of the bytes.
+    #[error(transparent)]
+    Memory(AllocError),
+}

@@ -1,0 +1,22 @@
+//! Laws of the definitions.
+
+ghost use Rattle.std.specs.Prelude.{◌≡◌, ℕ, List};
+ghost use Rattle.fk_image.specs.declared.Image.{Image};
+ghost use Rattle.fk_image.specs.declared.fault.ImageFault.{ImageFault};
+ghost use Rattle.fk_image.specs.Refusals.{IsRefused};
+ghost use Rattle.fk_image.specs.Spelling.{IsImageOf, AreAlike};
+
+/// No two images have one spelling.
+pub fn one_image()
+    ensures { (bytes : List ℕ) (image other : Image) → IsImageOf bytes image → IsImageOf bytes other → AreAlike image other }
+{}
+
+/// The bytes of an image are not refused: what is written is read back.
+pub fn no_refusal()
+    ensures { (bytes : List ℕ) (image : Image) (fault : ImageFault) → IsImageOf bytes image → IsRefused bytes fault → ⊥ }
+{}
+
+/// Bytes have one refusal at most.
+pub fn one_refusal()
+    ensures { (bytes : List ℕ) (fault other : ImageFault) → IsRefused bytes fault → IsRefused bytes other → fault ≡ other }
+{}
