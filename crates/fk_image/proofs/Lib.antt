@@ -1,3 +1,4 @@
 pub mod Commits
 pub mod Parts
+pub mod Tables
 pub mod Words

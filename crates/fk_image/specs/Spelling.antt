@@ -12,6 +12,11 @@ IsWord word = word < 2 ^ 32
 unfoldable pub word_bytes : ℕ → List ℕ
 word_bytes word = to_le_bytes w32 word
 
+-- these words spell these bytes
+pub record Spells (words bytes : List ℕ) : Type 0 where
+  pub fit : All IsWord words
+  pub spelling : flat_map word_bytes words ≡ bytes
+
 -- a site's kind, line and column
 abbrev pub site_words : ℕ × ℕ × ℕ → List ℕ
 site_words site = site.0 ∷ site.1 ∷ site.2 ∷ []

@@ -3,7 +3,7 @@
 ghost use Rattle.std.specs.Prelude.{◌≡◌, ℕ, ◌+◌, ◌*◌, ◌%◌, ◌<◌, ◌≤◌, ◌↔◌, All, flat_map, length, IfOk, IfErr, IsTrue, OnOk};
 ghost use Rattle.fk_image.specs.Limits.{IsCommit, IsSite, Rise};
 ghost use Rattle.fk_image.specs.Refusals.{HasLength, HasVersion, IsFault, IsWithin, greatest, least, word_at};
-ghost use Rattle.fk_image.specs.Spelling.{IsImageOf, commit_words, site_words, word_bytes};
+ghost use Rattle.fk_image.specs.Spelling.{IsImageOf, Spells, commit_words, site_words};
 ghost use Rattle.fk_image.specs.Tables.{IsAboveLast, IsCommitFault, IsHeaderOf, IsSiteFault};
 
 use crate::Image;
@@ -102,7 +102,7 @@ fn header_word(bytes: &[u8], index: u32, low: u32, high: u32) -> Result<u32, Ima
     ensures fault { IfErr result (λ fault. IsFault bytes.now fault) }
 {
     let word = read_word(bytes, index as usize);
-    if word < low || high < word {
+    if !(low..=high).contains(&word) {
         return Err(ImageFault::BadWord(index));
     }
     Ok(word)
@@ -128,7 +128,7 @@ fn check_length(bytes: &[u8], header: Header) -> Result<(), ImageFault>
 /// The words of a table, which are all of its bytes.
 fn read_words(alloc: Global, table: &[u8]) -> Result<Vec<u32>, AllocError>
     requires { length table.now % 4 ≡ 0 }
-    ensures { IfOk result (λ words. flat_map word_bytes words.items ≡ table.now) }
+    ensures { IfOk result (λ words. Spells words.items table.now) }
 {
     let count = table.len() / 4;
     let mut words = Vec::with_capacity(alloc, count)?;
@@ -142,7 +142,7 @@ fn read_words(alloc: Global, table: &[u8]) -> Result<Vec<u32>, AllocError>
 fn read_sites(alloc: Global, table: &[u8]) -> Result<Vec<(u32, u32, u32)>, ImageFault>
     requires whole { length table.now % 12 ≡ 0 }
     requires few { length table.now ≤ 12 * 16000 }
-    ensures spelling { IfOk result (λ sites. flat_map word_bytes (flat_map site_words sites.items) ≡ table.now) }
+    ensures spelling { IfOk result (λ sites. Spells (flat_map site_words sites.items) table.now) }
     ensures sites { IfOk result (λ sites. All IsSite sites.items) }
     ensures fault { IfErr result (λ fault. IsSiteFault table.now fault) }
 {
@@ -150,7 +150,7 @@ fn read_sites(alloc: Global, table: &[u8]) -> Result<Vec<(u32, u32, u32)>, Image
     let mut sites = Vec::with_capacity(alloc, count).map_err(ImageFault::Memory)?;
     for i in 0..count {
         let kind = read_word(table, 3 * i);
-        if kind < 1 || kind > 34 {
+        if !(1..=34).contains(&kind) {
             return Err(ImageFault::BadTable(i as u32));
         }
         let line = read_word(table, 3 * i + 1);
@@ -167,7 +167,7 @@ fn read_commits(alloc: Global, header: Header, table: &[u8]) -> Result<Vec<(u32,
     requires whole { length table.now % 8 ≡ 0 }
     requires few { length table.now ≤ 8 * 262144 }
     requires sites { header.sites ≤ 16000 }
-    ensures spelling { IfOk result (λ commits. flat_map word_bytes (flat_map commit_words commits.items) ≡ table.now) }
+    ensures spelling { IfOk result (λ commits. Spells (flat_map commit_words commits.items) table.now) }
     ensures commits { IfOk result (λ commits. All (IsCommit header.code) commits.items) }
     ensures rise { IfOk result (λ commits. Rise commits.items) }
     ensures fault { IfErr result (λ fault. IsCommitFault header table.now fault) }
@@ -175,15 +175,23 @@ fn read_commits(alloc: Global, header: Header, table: &[u8]) -> Result<Vec<(u32,
     let count = table.len() / 8;
     let mut commits = Vec::with_capacity(alloc, count).map_err(ImageFault::Memory)?;
     for i in 0..count {
-        let commit = (read_word(table, 2 * i), read_word(table, 2 * i + 1));
-        if !is_commit(header.code, commit) || !rises(&commits, commit.0) {
+        let address = read_word(table, 2 * i);
+        let word = read_word(table, 2 * i + 1);
+        if !may_follow(&commits, header.code, (address, word)) {
             return Err(ImageFault::BadTable(header.sites + i as u32));
         }
         commits
-            .push(commit)
+            .push((address, word))
             .map_err(|_| ImageFault::Memory(AllocError))?;
     }
     Ok(commits)
+}
+
+/// Whether a commit may follow these, within so many words of code.
+fn may_follow(commits: &[(u32, u32)], code_words: u32, commit: (u32, u32)) -> bool
+    ensures { IsTrue result ↔ (IsCommit code_words commit × IsAboveLast commits.now commit.0) }
+{
+    is_commit(code_words, commit) && rises(commits, commit.0)
 }
 
 /// Whether this is a commit within so many words of code.
