@@ -1,6 +1,7 @@
 -- Words, and the bytes that spell them.
 use Rattle.std.proofs.Common.{◌≡◌, ℕ, ◌+◌, ◌-◌, ◌*◌, ◌^◌, ◌<◌, ◌≤◌, List, [], ◌∷◌, ◌++◌, length, get_or, take, drop, refl, sym, ap, ◌∙◌, arith, inl, inr}
 use Rattle.std.specs.Int.{w32, from_le_bytes, to_le_bytes}
+use Rattle.std.proofs.Math.Seq.{take-add}
 use Rattle.std.proofs.lemmas.Bool.{cases_lt}
 use Rattle.std.proofs.lemmas.List.{drop-drop, drop-take, take-take, drop_at, get_or-take, get_or-drop, get_or_past, length-drop, length-take, take-append-drop, take_at}
 use Rattle.std.proofs.lemmas.Nat.{le_bytes_4, from_le_bytes-to_le_bytes_4}
@@ -61,16 +62,24 @@ word_at-spelled front rest place word len lt =
     ap (λ (xs : List ℕ). from_le_bytes w32 (take 4 xs)) behind
     ∙ ap (from_le_bytes w32) (take_at (to_le_bytes w32 word) rest 4 refl) ∙ from_le_bytes-to_le_bytes_4 word lt
 
--- a part of the bytes has the same words
-pub word_at-part : (bytes : List ℕ) (n m place : ℕ) → 4 * place + 4 ≤ n → word_at (take n (drop (4 * m) bytes)) place ≡ word_at bytes (m + place)
+-- what stands behind a place, and the front of that, have the same words
+pub word_at-drop : (bytes : List ℕ) (m place : ℕ) → word_at (drop (4 * m) bytes) place ≡ word_at bytes (m + place)
 unfolding word_at
-word_at-part bytes n m place within =
-    let behind = drop (4 * m) bytes in
+word_at-drop bytes m place =
+    let place_is : 4 * m + 4 * place ≡ 4 * (m + place) = omega arith in
+    ap (λ (xs : List ℕ). from_le_bytes w32 (take 4 xs)) (drop-drop (4 * place) (4 * m) bytes ∙ ap (λ (j : ℕ). drop j bytes) place_is)
+
+pub word_at-take : (bytes : List ℕ) (n place : ℕ) → 4 * place + 4 ≤ n → word_at (take n bytes) place ≡ word_at bytes place
+unfolding word_at
+word_at-take bytes n place within =
     let k = n - 4 * place in
     let split : n ≡ 4 * place + k = omega arith in
-    let part : drop (4 * place) (take n behind) ≡ take k (drop (4 * place) behind) = ap (λ (j : ℕ). drop (4 * place) (take j behind)) split ∙ drop-take (4 * place) k behind in
+    let part : drop (4 * place) (take n bytes) ≡ take k (drop (4 * place) bytes) = ap (λ (j : ℕ). drop (4 * place) (take j bytes)) split ∙ drop-take (4 * place) k bytes in
     let enough : 4 ≤ k = omega arith in
-    let first : take 4 (take k (drop (4 * place) behind)) ≡ take 4 (drop (4 * place) behind) = take-take 4 k (drop (4 * place) behind) enough in
-    let place-is : 4 * m + 4 * place ≡ 4 * (m + place) = omega arith in
-    let far : drop (4 * place) behind ≡ drop (4 * (m + place)) bytes = drop-drop (4 * place) (4 * m) bytes ∙ ap (λ (j : ℕ). drop j bytes) place-is in
-    ap (from_le_bytes w32) (ap (take 4) part ∙ first ∙ ap (take 4) far)
+    ap (from_le_bytes w32) (ap (take 4) part ∙ take-take 4 k (drop (4 * place) bytes) enough)
+
+-- one word more of the front
+pub take-word : (bytes : List ℕ) (place : ℕ) → IsBytes bytes → 4 * place + 4 ≤ length bytes → take (4 * place + 4) bytes ≡ take (4 * place) bytes ++ word_bytes (word_at bytes place)
+take-word bytes place fits within =
+    take-add (4 * place) 4 bytes
+    ∙ ap (λ (xs : List ℕ). take (4 * place) bytes ++ xs) (sym (word_bytes-word_at bytes place fits within))

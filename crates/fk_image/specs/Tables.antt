@@ -1,10 +1,10 @@
 -- What the readers of single tables answer.
-use Rattle.std.specs.Prelude.{◌≡◌, ℕ, ◌+◌, ◌*◌, ◌<◌, List, length, slice_index_or}
+use Rattle.std.specs.Prelude.{◌≡◌, ℕ, ◌+◌, ◌*◌, ◌<◌, List, drop, length, slice_index_or, take}
 use Rattle.fk_image.specs.declared.fault.ImageFault.{ImageFault}
 use Rattle.fk_image.specs.declared.fault.ImageFault.TheVariants.{Magic, Version, Short, LongTail, BadTable, BadWord, Memory}
 use Rattle.fk_image.specs.declared.reading.Header.{Header}
 use Rattle.fk_image.specs.Limits.{IsSite}
-use Rattle.fk_image.specs.Refusals.{HasHeader, IsFirstBad, IsNextCommit, code_words, commit_at, commit_count, global_words, site_at, site_count}
+use Rattle.fk_image.specs.Refusals.{HasHeader, IsFirstBad, IsNextCommit, code_words, commit_at, commit_count, commits_place, global_words, site_at, site_count, sites_place}
 
 -- the header says what these bytes say
 pub record IsHeaderOf (bytes : List ℕ) (header : Header) : Type 0 where
@@ -13,6 +13,19 @@ pub record IsHeaderOf (bytes : List ℕ) (header : Header) : Type 0 where
   pub globals : header.globals ≡ global_words bytes
   pub sites : header.sites ≡ site_count bytes
   pub commits : header.commits ≡ commit_count bytes
+
+-- the bytes of each table
+abbrev pub code_table : List ℕ → List ℕ
+code_table bytes = take (4 * code_words bytes) (drop 24 bytes)
+
+abbrev pub global_table : List ℕ → List ℕ
+global_table bytes = take (4 * global_words bytes) (drop (24 + 4 * code_words bytes) bytes)
+
+abbrev pub site_table : List ℕ → List ℕ
+site_table bytes = take (12 * site_count bytes) (drop (4 * sites_place bytes) bytes)
+
+abbrev pub commit_table : List ℕ → List ℕ
+commit_table bytes = drop (4 * commits_place bytes) bytes
 
 -- the fault names the first of a table's sites that is none, or memory ran out
 abbrev pub IsSiteFault : List ℕ → ImageFault → Type 0

@@ -2,9 +2,9 @@
 
 ghost use Rattle.std.specs.Prelude.{◌≡◌, ℕ, ◌+◌, ◌*◌, ◌%◌, ◌<◌, ◌≤◌, ◌↔◌, All, flat_map, length, IfOk, IfErr, IsTrue, OnOk};
 ghost use Rattle.fk_image.specs.Limits.{IsCommit, IsSite, Rise};
-ghost use Rattle.fk_image.specs.Refusals.{HasLength, HasVersion, IsFault, IsWithin, greatest, least, word_at};
+ghost use Rattle.fk_image.specs.Refusals.{HasLength, HasVersion, IsFault, IsWithin, greatest, least, site_at, word_at};
 ghost use Rattle.fk_image.specs.Spelling.{IsImageOf, Spells, commit_words, site_words};
-ghost use Rattle.fk_image.specs.Tables.{IsAboveLast, IsCommitFault, IsHeaderOf, IsSiteFault};
+ghost use Rattle.fk_image.specs.Tables.{IsAboveLast, IsCommitFault, IsHeaderOf, IsSiteFault, code_table, commit_table, global_table, site_table};
 
 use crate::Image;
 use crate::fault::ImageFault;
@@ -33,6 +33,15 @@ impl Header {
     }
 }
 
+/// The bytes of each table of an image.
+#[derive(Clone, Copy, Debug)]
+struct Tables<'a> {
+    code: &'a [u8],
+    globals: &'a [u8],
+    sites: &'a [u8],
+    commits: &'a [u8],
+}
+
 /// The image whose bytes these are, all of them, or their first refusal. It takes time linear in the
 /// bytes.
 pub fn read_image(alloc: Global, bytes: &[u8]) -> Result<Image, ImageFault>
@@ -41,15 +50,12 @@ pub fn read_image(alloc: Global, bytes: &[u8]) -> Result<Image, ImageFault>
 {
     let header = read_header(bytes)?;
     check_length(bytes, header)?;
-    let (_, tables) = bytes.split_at(HEADER_SIZE);
-    let (code, tables) = tables.split_at(4 * header.code as usize);
-    let (globals, tables) = tables.split_at(4 * header.globals as usize);
-    let (sites, commits) = tables.split_at(12 * header.sites as usize);
+    let tables = split_tables(bytes, header);
     Ok(Image {
-        code: read_words(alloc, code).map_err(ImageFault::Memory)?,
-        globals: read_words(alloc, globals).map_err(ImageFault::Memory)?,
-        sites: read_sites(alloc, sites)?,
-        commits: read_commits(alloc, header, commits)?,
+        code: read_words(alloc, tables.code).map_err(ImageFault::Memory)?,
+        globals: read_words(alloc, tables.globals).map_err(ImageFault::Memory)?,
+        sites: read_sites(alloc, tables.sites)?,
+        commits: read_commits(alloc, header, tables.commits)?,
     })
 }
 
@@ -125,6 +131,27 @@ fn check_length(bytes: &[u8], header: Header) -> Result<(), ImageFault>
     Ok(())
 }
 
+/// The tables behind the header.
+fn split_tables(bytes: &[u8], header: Header) -> Tables<'_>
+    requires header { IsHeaderOf bytes.now header }
+    requires length { HasLength bytes.now }
+    ensures code { result.code.now ≡ code_table bytes.now }
+    ensures globals { result.globals.now ≡ global_table bytes.now }
+    ensures sites { result.sites.now ≡ site_table bytes.now }
+    ensures commits { result.commits.now ≡ commit_table bytes.now }
+{
+    let (_, rest) = bytes.split_at(HEADER_SIZE);
+    let (code, rest) = rest.split_at(4 * header.code as usize);
+    let (globals, rest) = rest.split_at(4 * header.globals as usize);
+    let (sites, commits) = rest.split_at(12 * header.sites as usize);
+    Tables {
+        code,
+        globals,
+        sites,
+        commits,
+    }
+}
+
 /// The words of a table, which are all of its bytes.
 fn read_words(alloc: Global, table: &[u8]) -> Result<Vec<u32>, AllocError>
     requires { length table.now % 4 ≡ 0 }
@@ -144,6 +171,7 @@ fn read_sites(alloc: Global, table: &[u8]) -> Result<Vec<(u32, u32, u32)>, Image
     requires few { length table.now ≤ 12 * 16000 }
     ensures spelling { IfOk result (λ sites. Spells (flat_map site_words sites.items) table.now) }
     ensures sites { IfOk result (λ sites. All IsSite sites.items) }
+    ensures entries { OnOk result ((k : ℕ) → 12 * k < length table.now → IsSite (site_at table.now (3 * k))) }
     ensures fault { IfErr result (λ fault. IsSiteFault table.now fault) }
 {
     let count = table.len() / 12;
