@@ -1,9 +1,8 @@
 -- Commits whose addresses rise are no more than the words of code.
-use Rattle.std.proofs.Common.{◌≡◌, ℕ, ◌+◌, ◌*◌, ◌%◌, ◌<◌, ◌≤◌, List, [], ◌∷◌, length, All, vec_len, arith}
+use Rattle.std.proofs.Common.{ℕ, ◌+◌, ◌*◌, ◌≤◌, List, [], ◌∷◌, length, All, arith}
 use Rattle.std.specs.List.{AllByRecursion}
 use Rattle.std.proofs.lemmas.List.Elements.{recursion_from_All}
-use Rattle.fk_image.specs.declared.Image.{Image}
-use Rattle.fk_image.specs.Limits.{IsCommit, IsWithinLimits, Rise}
+use Rattle.fk_image.specs.Limits.{IsCommit, Rise}
 
 -- commits from word a on
 few : (words a : ℕ) (c : ℕ × ℕ) (cs : List (ℕ × ℕ)) → 4 * a ≤ c.0 → Rise (c ∷ cs) → AllByRecursion (IsCommit words) (c ∷ cs) → a + length (c ∷ cs) ≤ words

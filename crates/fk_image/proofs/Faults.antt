@@ -1,11 +1,11 @@
 -- The fault of a table is that of the bytes.
-use Rattle.std.proofs.Common.{◌≡◌, ℕ, ◌+◌, ◌*◌, ◌<◌, ◌≤◌, List, length, take, drop, sym, ap, subst, ◌∙◌, arith}
+use Rattle.std.proofs.Common.{◌≡◌, ℕ, ◌+◌, ◌*◌, ◌<◌, List, length, drop, sym, ap, subst, ◌∙◌, arith}
 use Rattle.std.proofs.lemmas.List.{length-drop, length-take}
 use Rattle.fk_image.specs.declared.fault.ImageFault.{ImageFault}
 use Rattle.fk_image.specs.declared.fault.ImageFault.TheVariants.{Magic, Version, Short, LongTail, BadTable, BadWord, Memory}
 use Rattle.fk_image.specs.declared.reading.Header.{Header}
 use Rattle.fk_image.specs.Limits.{IsSite}
-use Rattle.fk_image.specs.Refusals.{HasLength, IsEntry, IsFault, IsNextCommit, code_words, commit_at, commit_of, commits_place, site_at, site_count, site_of, sites_place, word_at}
+use Rattle.fk_image.specs.Refusals.{HasLength, IsFault, IsNextCommit, code_words, commit_at, commit_of, commits_place, site_at, site_count, site_of, sites_place, word_at}
 use Rattle.fk_image.specs.Tables.{IsCommitFault, IsHeaderOf, IsSiteFault, commit_table, site_table}
 use Rattle.fk_image.proofs.Words.{word_at-drop, word_at-take}
 

@@ -1,9 +1,9 @@
 -- Words, and the bytes that spell them.
-use Rattle.std.proofs.Common.{◌≡◌, ℕ, ◌+◌, ◌-◌, ◌*◌, ◌^◌, ◌<◌, ◌≤◌, List, [], ◌∷◌, ◌++◌, length, get_or, take, drop, refl, sym, ap, ◌∙◌, arith, inl, inr}
+use Rattle.std.proofs.Common.{◌≡◌, ℕ, ◌+◌, ◌-◌, ◌*◌, ◌^◌, ◌<◌, ◌≤◌, List, ◌++◌, length, get_or, take, drop, refl, sym, ap, ◌∙◌, arith, inl, inr}
 use Rattle.std.specs.Int.{w32, from_le_bytes, to_le_bytes}
 use Rattle.std.proofs.Math.Seq.{take-add}
 use Rattle.std.proofs.lemmas.Bool.{cases_lt}
-use Rattle.std.proofs.lemmas.List.{drop-drop, drop-take, take-take, drop_at, get_or-take, get_or-drop, get_or_past, length-drop, length-take, take-append-drop, take_at}
+use Rattle.std.proofs.lemmas.List.{drop-drop, drop-take, take-take, drop_at, get_or-take, get_or-drop, get_or_past, length-drop, length-take, take_at}
 use Rattle.std.proofs.lemmas.Nat.{le_bytes_4, from_le_bytes-to_le_bytes_4}
 use Rattle.byteorder.specs.Endian.{little_number}
 use Rattle.fk_image.specs.Refusals.{word_at}
@@ -83,3 +83,9 @@ pub take-word : (bytes : List ℕ) (place : ℕ) → IsBytes bytes → 4 * place
 take-word bytes place fits within =
     take-add (4 * place) 4 bytes
     ∙ ap (λ (xs : List ℕ). take (4 * place) bytes ++ xs) (sym (word_bytes-word_at bytes place fits within))
+
+-- words that spell the same are the same
+pub word_bytes-injective : (word other : ℕ) → word < 2 ^ 32 → other < 2 ^ 32 → word_bytes word ≡ word_bytes other → word ≡ other
+unfolding word_bytes
+word_bytes-injective word other p q e =
+    sym (from_le_bytes-to_le_bytes_4 word p) ∙ ap (from_le_bytes w32) e ∙ from_le_bytes-to_le_bytes_4 other q

@@ -1,7 +1,7 @@
 -- What the readers of single tables answer.
 use Rattle.std.specs.Prelude.{◌≡◌, ℕ, ◌+◌, ◌*◌, ◌<◌, List, drop, length, slice_index_or, take}
 use Rattle.fk_image.specs.declared.fault.ImageFault.{ImageFault}
-use Rattle.fk_image.specs.declared.fault.ImageFault.TheVariants.{Magic, Version, Short, LongTail, BadTable, BadWord, Memory}
+use Rattle.fk_image.specs.declared.fault.ImageFault.TheVariants.{BadTable, Memory}
 use Rattle.fk_image.specs.declared.reading.Header.{Header}
 use Rattle.fk_image.specs.Limits.{IsSite}
 use Rattle.fk_image.specs.Refusals.{HasHeader, IsFirstBad, IsNextCommit, code_words, commit_at, commit_count, commits_place, global_words, site_at, site_count, sites_place}

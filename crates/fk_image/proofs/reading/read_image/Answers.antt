@@ -1,4 +1,4 @@
-use Rattle.std.proofs.Common.{◌≡◌, ℕ, ◌*◌, ◌<◌, length, arith, rules}
+use Rattle.std.proofs.Common.{ℕ, ◌*◌, ◌<◌, length, arith, rules}
 use Rattle.std.proofs.lemmas.Result.{err_from_is_err_and}
 use Rattle.fk_image.specs.Limits.{IsSite}
 use Rattle.fk_image.specs.Refusals.{site_at}

@@ -1,4 +1,4 @@
-use Rattle.std.proofs.Common.{◌≡◌, ◌*◌, ◌+◌, ◌∷◌, ◌++◌, [], arith}
+use Rattle.std.proofs.Common.{◌≡◌, ◌∷◌, ◌++◌, [], arith}
 use Rattle.std.proofs.Common.{rules}
 use Rattle.fk_image.proofs.Tables.{Spells-word}
 use Rattle.fk_image.proofs.reading.read_words.Goals as goal

@@ -1,4 +1,4 @@
-use Rattle.std.proofs.Common.{◌≡◌, ℕ, ◌≤◌, List, [], ◌∷◌, ◌++◌, length, vec_len, codes, flat_map, sym, ◌∙◌, arith, rules}
+use Rattle.std.proofs.Common.{◌≡◌, [], ◌∷◌, ◌++◌, vec_len, codes, flat_map, sym, ◌∙◌, arith, rules}
 use Rattle.std.proofs.lemmas.List.Elements.{All-same}
 use Rattle.fk_image.specs.Spelling.{IsWord, commit_words, header_words, site_words, word_bytes}
 use Rattle.fk_image.proofs.Parts.{spelled-parts, words-parts}
