@@ -1,0 +1,4 @@
+pub mod Jump
+pub mod Assembly
+pub mod Sound
+pub mod Block

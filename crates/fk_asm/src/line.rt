@@ -1,0 +1,56 @@
+//! Lines of code.
+
+ghost use Rattle.std.specs.Prelude.{◌≡◌, Some, IfNone, IfSome};
+ghost use Rattle.fk_isa.specs.Fits.{Fits};
+ghost use Rattle.fk_isa.specs.Find.{row};
+
+use crate::jump::{distance, reaches, with_distance};
+use fk_isa::{Instruction, encode};
+
+/// A line of code: an instruction and, for a jump to a label, the label.
+#[derive(Clone, Copy, Debug)]
+pub struct Line {
+    pub instruction: Instruction,
+    pub label: Option<u32>,
+}
+
+impl Line {
+    ghost use Rattle.fk_asm.specs.Assembly.{distance_of, placed, IsNear, IsTooFar};
+
+    /// How far the line of a word goes, if it goes to a label.
+    pub fn distance(&self, bound: &[Option<u32>], own: u32) -> Option<i64>
+        ensures { result ≡ distance_of bound.now own self.now }
+    {
+        let to = *bound.get(self.label? as usize)?;
+        Some(distance(own, to?))
+    }
+
+    /// How far the line of a word goes, where its format can't hold it.
+    pub fn too_far(&self, bound: &[Option<u32>], own: u32) -> Option<i64>
+        ensures near { IfNone result (IsNear bound.now own self.now) }
+        ensures far { IfSome result (IsTooFar bound.now own self.now) }
+    {
+        self.distance(bound, own)
+            .filter(|distance| !reaches(self.instruction, *distance))
+    }
+
+    /// The instruction of the line of a word: a jump to a label goes the distance to it.
+    pub fn placed(&self, bound: &[Option<u32>], own: u32) -> Instruction
+        requires { IsNear bound.now own self.now }
+        ensures { result ≡ placed bound.now own self.now }
+    {
+        match self.distance(bound, own) {
+            Some(distance) => with_distance(self.instruction, distance),
+            None => self.instruction,
+        }
+    }
+
+    /// The word of the line, if it is near.
+    pub fn word(&self, bound: &[Option<u32>], own: u32) -> u32
+        requires fits { Fits self.now.instruction }
+        requires near { IsNear bound.now own self.now }
+        ensures { row result ≡ Some (placed bound.now own self.now) }
+    {
+        encode(self.placed(bound, own))
+    }
+}
