@@ -1,11 +1,11 @@
 -- A jump with its distance has its fields in range.
-use Rattle.std.proofs.Common.{◌≡◌, ℕ, ◌+◌, ◌-◌, ◌*◌, ◌%◌, ◌^◌, ◌<◌, ◌≤◌, ℤ, pos, negsuc, neg_ℤ, ◌-ℤ◌, ◌≤ℤ◌, ◌⊎◌, inl, inr, Option, Some, None, IfSome, option_map, List, refl, arith}
+use Rattle.std.proofs.Common.{◌≡◌, ℕ, ◌-◌, ◌%◌, ◌^◌, ◌<◌, ◌≤◌, ℤ, pos, negsuc, neg_ℤ, ◌≤ℤ◌, ◌⊎◌, inl, inr, Option, Some, None, IfSome, option_map, List, refl, arith}
 use Rattle.std.proofs.lemmas.Int.{ints}
 use Rattle.std.specs.Int.{w32, cast_unsigned}
 use Rattle.std.specs.Option.{option_map_or}
 use Rattle.fk_isa.specs.declared.instruction.Instruction.{Instruction}
 use Rattle.fk_isa.specs.declared.instruction.Instruction.TheVariants.{Jal, Beq, Bne, Blt, Bge, Bltu, Bgeu}
-use Rattle.fk_isa.specs.Fits.{Fits, IsOffset, IsShort}
+use Rattle.fk_isa.specs.Fits.{Fits, IsOffset}
 use Rattle.fk_asm.specs.declared.line.Line.{Line}
 use Rattle.fk_asm.specs.Jump.{distance, Reaches, with_distance}
 use Rattle.fk_asm.specs.Assembly.{target, distance_of, placed}

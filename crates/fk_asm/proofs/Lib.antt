@@ -1,3 +1,4 @@
 pub mod Jumps
 pub mod Entries
 pub mod Near
+pub mod Straight

@@ -77,10 +77,7 @@ impl Assembler {
         ensures followed { OnOk result (AreFollowed self.new) }
         ensures refused { OnErr result (self.new ≡ self.old) }
     {
-        self.lines.push(Line {
-            instruction: i,
-            label: None,
-        })?;
+        self.lines.push(Line::straight(i))?;
         Ok(())
     }
 
@@ -94,17 +91,14 @@ impl Assembler {
         ensures followed { OnOk result (AreFollowed self.new) }
         ensures refused { OnErr result (self.new ≡ self.old) }
     {
-        self.lines.push(Line {
-            instruction: i,
-            label: Some(label),
-        })?;
+        self.lines.push(Line::jump_to(i, label))?;
         Ok(())
     }
 
     /// Says that the next word commits so many operations, with an event: 0 none, 1 split,
     /// 2 shrink, 3 end, 4 resume, 5 meet, 6 agree.
     pub fn commit(&mut self, count: u32, event: u32) -> Result<(), AllocError>
-        requires some { 1 ≤ count }
+        requires least { 1 ≤ count }
         requires most { count ≤ 255 }
         requires event { event ≤ 6 }
         requires free { AreFollowed self.old }
@@ -172,8 +166,8 @@ fn words(alloc: Global, lines: &[Line], bound: &[Option<u32>]) -> Result<Vec<u32
     ensures count { IfOk result (λ words. vec_len words ≡ length lines.now) }
 {
     let mut words = Vec::new(alloc);
-    for (k, line) in lines.iter().enumerate() {
-        words.push(line.word(bound, k as u32))?;
+    for (own, line) in lines.iter().enumerate() {
+        words.push(line.word(bound, own as u32))?;
     }
     Ok(words)
 }

@@ -15,10 +15,28 @@ pub struct Line {
 }
 
 impl Line {
-    ghost use Rattle.fk_asm.specs.Assembly.{distance_of, placed, IsNear, IsTooFar};
+    ghost use Rattle.fk_asm.specs.Assembly.{straight, jump_to, distance_of, placed, IsNear, IsTooFar};
 
-    /// How far the line of a word goes, if it goes to a label.
-    pub fn distance(&self, bound: &[Option<u32>], own: u32) -> Option<i64>
+    pub(crate) fn straight(instruction: Instruction) -> Line
+        ensures { result ≡ straight instruction }
+    {
+        Line {
+            instruction,
+            label: None,
+        }
+    }
+
+    pub(crate) fn jump_to(instruction: Instruction, label: u32) -> Line
+        ensures { result ≡ jump_to instruction label }
+    {
+        Line {
+            instruction,
+            label: Some(label),
+        }
+    }
+
+    // How far the line of a word goes, if it goes to a label.
+    fn distance(&self, bound: &[Option<u32>], own: u32) -> Option<i64>
         ensures { result ≡ distance_of bound.now own self.now }
     {
         let to = *bound.get(self.label? as usize)?;
@@ -26,7 +44,7 @@ impl Line {
     }
 
     /// How far the line of a word goes, where its format can't hold it.
-    pub fn too_far(&self, bound: &[Option<u32>], own: u32) -> Option<i64>
+    pub(crate) fn too_far(&self, bound: &[Option<u32>], own: u32) -> Option<i64>
         ensures near { IfNone result (IsNear bound.now own self.now) }
         ensures far { IfSome result (IsTooFar bound.now own self.now) }
     {
@@ -34,8 +52,8 @@ impl Line {
             .filter(|distance| !reaches(self.instruction, *distance))
     }
 
-    /// The instruction of the line of a word: a jump to a label goes the distance to it.
-    pub fn placed(&self, bound: &[Option<u32>], own: u32) -> Instruction
+    // The instruction of the line of a word: a jump to a label goes the distance to it.
+    fn placed(&self, bound: &[Option<u32>], own: u32) -> Instruction
         requires { IsNear bound.now own self.now }
         ensures { result ≡ placed bound.now own self.now }
     {
@@ -45,8 +63,8 @@ impl Line {
         }
     }
 
-    /// The word of the line, if it is near.
-    pub fn word(&self, bound: &[Option<u32>], own: u32) -> u32
+    /// The word of the line, which is near.
+    pub(crate) fn word(&self, bound: &[Option<u32>], own: u32) -> u32
         requires fits { Fits self.now.instruction }
         requires near { IsNear bound.now own self.now }
         ensures { row result ≡ Some (placed bound.now own self.now) }

@@ -1,6 +1,5 @@
 use Rattle.std.proofs.Common.{ap, Some, ◌∙◌}
 use Rattle.fk_isa.proofs.Found.{found}
-use Rattle.fk_asm.specs.Assembly.{placed}
 use Rattle.fk_asm.proofs.Jumps.{Fits-placed}
 use Rattle.fk_asm.proofs.line.Line.word.Goals as goal
 
