@@ -2,3 +2,5 @@ pub mod Jump
 pub mod Assembly
 pub mod Sound
 pub mod Block
+pub mod Listing
+pub mod View

@@ -1,4 +1,5 @@
-//! The assembler: lines of code, their labels, and the commit table.
+//! The assembler: lines of code, their labels, and the commit table; and words of code as the lines
+//! of a listing.
 #![tactic(auto)]
 
 mod assembler;
@@ -6,6 +7,7 @@ mod blocks;
 mod code;
 mod jump;
 mod line;
+pub mod listing;
 
 pub use assembler::Assembler;
 pub use blocks::Blocks;
