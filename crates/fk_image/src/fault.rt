@@ -3,8 +3,8 @@
 use std::alloc::AllocError;
 use thiserror::Error;
 
-/// Why bytes are no image: the first of the refusals that applies, in this order, `Short` once before
-/// `Magic` and once after `BadWord`.
+/// Why bytes are no image: the first of these that applies. The order is `Short` of a header, `Magic`,
+/// `Version`, `BadWord`, `Short` of what the header asks for, `LongTail`, `BadTable`.
 #[derive(Debug, Drop, Error)]
 pub enum ImageFault {
     /// The first word isn't the bytes `FK95`.

@@ -1,4 +1,9 @@
 //! Images: what a machine runs, and how it stands in a file.
+//!
+//! All words of the file are little-endian. It begins with a header of six words: the bytes `FK95`,
+//! the version 1, and how many words of code, words of globals, sites and commits follow: 1 to
+//! 262,144, at most 524,288, at most 16,000, and at most as many as words of code. Then come the code,
+//! the globals, the sites of three words each, and the commits of two, and nothing else.
 #![tactic(auto)]
 
 mod fault;

@@ -15,7 +15,7 @@ use std::alloc::{AllocError, Global};
 const HEADER_SIZE: usize = 24;
 
 /// How many entries each table of an image has.
-#[derive(Clone, Copy, Debug)]
+#[derive(Clone, Copy)]
 struct Header {
     code: u32,
     globals: u32,
@@ -34,7 +34,7 @@ impl Header {
 }
 
 /// The bytes of each table of an image.
-#[derive(Clone, Copy, Debug)]
+#[derive(Clone, Copy)]
 struct Tables<'a> {
     code: &'a [u8],
     globals: &'a [u8],
@@ -42,8 +42,10 @@ struct Tables<'a> {
     commits: &'a [u8],
 }
 
-/// The image whose bytes these are, all of them, or their first refusal. It takes time linear in the
-/// bytes.
+/// The image whose bytes these are, all of them.
+///
+/// Where there is none, the fault is the first that applies, in the order of the file: see
+/// [`ImageFault`]. It takes time linear in the bytes.
 pub fn read_image(alloc: Global, bytes: &[u8]) -> Result<Image, ImageFault>
     ensures image { IfOk result (λ image. IsImageOf bytes.now image) }
     ensures fault { IfErr result (λ fault. IsFault bytes.now fault) }
