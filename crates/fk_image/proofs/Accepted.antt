@@ -9,7 +9,7 @@ use Rattle.fk_image.specs.declared.fault.ImageFault.TheVariants.{Magic, Version,
 use Rattle.fk_image.specs.Limits.{IsCommit, Rise}
 use Rattle.fk_image.specs.Refusals.{HasLength, IsEntry, IsNextCommit, IsRefused, IsWithin, code_words, commit_count, commit_of, commits_place, global_words, site_count, sites_place, word_at}
 use Rattle.fk_image.specs.Spelling.{IsImageOf, IsWord, commit_words, header_words, image_words, site_words, word_bytes}
-use Rattle.fk_image.proofs.Commits.{few_commits}
+use Rattle.fk_image.proofs.Commits.{few_of_image}
 use Rattle.fk_image.proofs.Images.{length-commits, length-sites, length-words}
 use Rattle.fk_image.proofs.Same.{pair-same}
 use Rattle.fk_image.proofs.Words.{word_at-spelled}
@@ -112,11 +112,11 @@ each-index P p q r s (suc (suc (suc (suc (suc (suc n)))))) low high = absurd (om
 has_length : (bytes : List ℕ) (image : Image) → IsImageOf bytes image → HasLength bytes
 has_length bytes image is =
     let says = says bytes image is in
-    let few = few_commits (vec_len image.code) image.commits.items is.limits.rise is.limits.commits in
+    let few = few_of_image image is.limits in
     let size : length bytes ≡ 4 + 4 * length (image_words image) = ap length is.spelling ∙ omega (arith, length-words (image_words image)) in
     let total = long image in
     let magic : take 4 bytes ≡ codes "FK95" = ap (take 4) is.spelling in
-    let index = each-index (IsWithin bytes) (omega (arith, says.code, is.limits.some_code), omega (arith, says.code, is.limits.code)) (omega arith, omega (arith, says.globals, is.limits.globals)) (omega arith, omega (arith, says.sites, is.limits.few_sites)) (omega arith, omega (arith, says.commits, says.code, few, image.commits.ok.0)) in
+    let index = each-index (IsWithin bytes) (omega (arith, says.code, is.limits.some_code), omega (arith, says.code, is.limits.code)) (omega arith, omega (arith, says.globals, is.limits.globals)) (omega arith, omega (arith, says.sites, is.limits.few_sites)) (omega arith, omega (arith, says.commits, says.code, few)) in
     ((((omega (arith, size, total), magic), says.version), index), omega (arith, size, total, says.code, says.globals, says.sites, says.commits))
 
 -- a site's kind, and a commit

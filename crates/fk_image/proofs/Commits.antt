@@ -1,8 +1,9 @@
 -- Commits whose addresses rise are no more than the words of code.
-use Rattle.std.proofs.Common.{ℕ, ◌+◌, ◌*◌, ◌≤◌, List, [], ◌∷◌, length, All, arith}
+use Rattle.std.proofs.Common.{ℕ, ◌+◌, ◌*◌, ◌≤◌, List, [], ◌∷◌, length, All, vec_len, arith}
 use Rattle.std.specs.List.{AllByRecursion}
 use Rattle.std.proofs.lemmas.List.Elements.{recursion_from_All}
-use Rattle.fk_image.specs.Limits.{IsCommit, Rise}
+use Rattle.fk_image.specs.declared.Image.{Image}
+use Rattle.fk_image.specs.Limits.{IsCommit, IsWithinLimits, Rise}
 
 -- commits from word a on
 few : (words a : ℕ) (c : ℕ × ℕ) (cs : List (ℕ × ℕ)) → 4 * a ≤ c.0 → Rise (c ∷ cs) → AllByRecursion (IsCommit words) (c ∷ cs) → a + length (c ∷ cs) ≤ words
@@ -18,5 +19,11 @@ few_by_recursion : (words : ℕ) (cs : List (ℕ × ℕ)) → Rise cs → AllByR
 few_by_recursion words [] rise fits = omega arith
 few_by_recursion words (c ∷ cs) rise fits = let all = few words 0 c cs (omega arith) rise fits in omega (arith, all)
 
-pub few_commits : (words : ℕ) (cs : List (ℕ × ℕ)) → Rise cs → All (IsCommit words) cs → length cs ≤ words
+-- at most as many as words of code
+few_commits : (words : ℕ) (cs : List (ℕ × ℕ)) → Rise cs → All (IsCommit words) cs → length cs ≤ words
 few_commits words cs rise fits = few_by_recursion words cs rise (recursion_from_All (IsCommit words) cs fits)
+
+pub few_of_image : (image : Image) → IsWithinLimits image → vec_len image.commits ≤ vec_len image.code
+few_of_image image limits =
+    let few = few_commits (vec_len image.code) image.commits.items limits.rise limits.commits in
+    omega (arith, few, image.commits.ok.0)

@@ -1,6 +1,6 @@
 -- The parts of an image's bytes.
-use Rattle.std.proofs.Common.{◌≡◌, ℕ, ◌+◌, ◌<◌, List, [], ◌∷◌, ◌++◌, All, flat_map, get_or, length, take, ap, ◌∙◌, append_assoc}
-use Rattle.std.proofs.lemmas.List.{append-nil, take_more}
+use Rattle.std.proofs.Common.{◌≡◌, ℕ, ◌+◌, ◌<◌, List, [], ◌∷◌, ◌++◌, All, flat_map, get_or, length, drop, take, ap, ◌∙◌, append_assoc}
+use Rattle.std.proofs.lemmas.List.{append-nil, drop-drop, take_more}
 use Rattle.std.proofs.lemmas.List.Concat.{flat_map-append}
 use Rattle.std.proofs.lemmas.List.Elements.{All-append, All-same}
 use Rattle.fk_image.specs.Spelling.{IsWord, word_bytes}
@@ -22,3 +22,11 @@ words-take_more f xs i d within before here =
 pub words-parts : (a b c d e : List ℕ) → All IsWord a → All IsWord b → All IsWord c → All IsWord d → All IsWord e → All IsWord (a ++ b ++ c ++ d ++ e)
 words-parts a b c d e p q r s t =
     All-append IsWord (a ++ b ++ c ++ d) e (All-append IsWord (a ++ b ++ c) d (All-append IsWord (a ++ b) c (All-append IsWord a b p q) r) s) t
+
+-- what stands behind a part that stands behind n
+pub drop-next : (bytes rest : List ℕ) (n m p : ℕ) → rest ≡ drop n bytes → n + m ≡ p → drop m rest ≡ drop p bytes
+drop-next bytes rest n m p e at =
+    ap (drop m) e ∙ drop-drop m n bytes ∙ ap (λ (k : ℕ). drop k bytes) at
+
+pub take-same : (bytes rest : List ℕ) (n m p : ℕ) → rest ≡ drop p bytes → n ≡ m → take n rest ≡ take m (drop p bytes)
+take-same bytes rest n m p e same = cc

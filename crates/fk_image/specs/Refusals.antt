@@ -9,40 +9,46 @@ use Rattle.fk_image.specs.Limits.{IsSite, IsCommit}
 unfoldable pub word_at : List ℕ → ℕ → ℕ
 word_at bytes place = from_le_bytes w32 (take 4 (drop (4 * place) bytes))
 
--- the site and the commit at a place
+-- the site at a place
 abbrev pub site_at : List ℕ → ℕ → ℕ × ℕ × ℕ
 site_at bytes place = (word_at bytes place, word_at bytes (place + 1), word_at bytes (place + 2))
 
+-- the commit at a place
 abbrev pub commit_at : List ℕ → ℕ → ℕ × ℕ
 commit_at bytes place = (word_at bytes place, word_at bytes (place + 1))
 
--- what words 2 to 5 say
+-- word 2: how many words of code there are
 abbrev pub code_words : List ℕ → ℕ
 code_words bytes = word_at bytes 2
 
+-- word 3: how many words of globals
 abbrev pub global_words : List ℕ → ℕ
 global_words bytes = word_at bytes 3
 
+-- word 4: how many sites
 abbrev pub site_count : List ℕ → ℕ
 site_count bytes = word_at bytes 4
 
+-- word 5: how many commits
 abbrev pub commit_count : List ℕ → ℕ
 commit_count bytes = word_at bytes 5
 
--- the length that they ask for
+-- how many bytes they ask for
 abbrev pub needed : List ℕ → ℕ
 needed bytes = 24 + 4 * code_words bytes + 4 * global_words bytes + 12 * site_count bytes + 8 * commit_count bytes
 
--- the least and the greatest value of these words
+-- the least value of each of these words
 abbrev pub least : ℕ → ℕ
 least index = if index == 2 then 1 else 0
 
+-- the greatest value, of word 5 as many as there are words of code
 abbrev pub greatest : List ℕ → ℕ → ℕ
 greatest bytes index =
     if index == 2 then 262144
     else (if index == 3 then 524288
     else (if index == 4 then 16000 else code_words bytes))
 
+-- the word is within its limits
 abbrev pub IsWithin : List ℕ → ℕ → Type 0
 IsWithin bytes index = (least index ≤ word_at bytes index) × (word_at bytes index ≤ greatest bytes index)
 
@@ -52,16 +58,19 @@ pub record IsFirstBad (from : ℕ) (IsGood : ℕ → Type 0) (n : ℕ) : Type 0 
   pub bad : IsGood n → ⊥
   pub good_before : (k : ℕ) → from ≤ k → k < n → IsGood k
 
--- the tables of sites and of commits begin behind the code and the globals
+-- the sites begin behind the code and the globals
 abbrev pub sites_place : List ℕ → ℕ
 sites_place bytes = 6 + code_words bytes + global_words bytes
 
+-- the commits begin behind the sites
 abbrev pub commits_place : List ℕ → ℕ
 commits_place bytes = sites_place bytes + 3 * site_count bytes
 
+-- site k of the bytes
 abbrev pub site_of : List ℕ → ℕ → ℕ × ℕ × ℕ
 site_of bytes k = site_at bytes (sites_place bytes + 3 * k)
 
+-- commit k of the bytes
 abbrev pub commit_of : List ℕ → ℕ → ℕ × ℕ
 commit_of bytes k = commit_at bytes (commits_place bytes + 2 * k)
 
@@ -77,38 +86,45 @@ pub record IsEntry (bytes : List ℕ) (entry : ℕ) : Type 0 where
 
 -- ---- each refusal
 
+-- there are so many bytes, fewer than are wanted
 abbrev pub IsShort : List ℕ → ℕ → ℕ → Type 0
 IsShort bytes size wanted = (size ≡ length bytes) × (size < wanted)
 
+-- the first word is another
 abbrev pub IsOtherMagic : List ℕ → Type 0
 IsOtherMagic bytes = take 4 bytes ≢ codes "FK95"
 
+-- the version is this one, and not 1
 abbrev pub IsOtherVersion : List ℕ → ℕ → Type 0
 IsOtherVersion bytes version = (version ≡ word_at bytes 1) × (version ≢ 1)
 
+-- this word of the header is the first past its limits
 abbrev pub IsBadWord : List ℕ → ℕ → Type 0
 IsBadWord bytes index = (index ≤ 5) × IsFirstBad 2 (IsWithin bytes) index
 
+-- there are more bytes than the header asks for
 abbrev pub IsLongTail : List ℕ → ℕ → Type 0
 IsLongTail bytes wanted = (wanted ≡ needed bytes) × (wanted < length bytes)
 
+-- this entry of the tables is the first past its limits
 abbrev pub IsBadTable : List ℕ → ℕ → Type 0
 IsBadTable bytes entry = (entry < site_count bytes + commit_count bytes) × IsFirstBad 0 (IsEntry bytes) entry
 
 -- ---- how far none applies
 
--- a header's length, and its first word
+-- there are as many bytes as a header has, and the first word is `FK95`
 abbrev pub HasMagic : List ℕ → Type 0
 HasMagic bytes = (24 ≤ length bytes) × (take 4 bytes ≡ codes "FK95")
 
+-- and the version is 1
 abbrev pub HasVersion : List ℕ → Type 0
 HasVersion bytes = HasMagic bytes × (word_at bytes 1 ≡ 1)
 
--- all six words of the header
+-- and each word of the header is within its limits
 abbrev pub HasHeader : List ℕ → Type 0
 HasHeader bytes = HasVersion bytes × ((index : ℕ) → 2 ≤ index → index ≤ 5 → IsWithin bytes index)
 
--- and the length that they ask for
+-- and there are as many bytes as the header asks for
 abbrev pub HasLength : List ℕ → Type 0
 HasLength bytes = HasHeader bytes × (length bytes ≡ needed bytes)
 

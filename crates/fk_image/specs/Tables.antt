@@ -14,16 +14,19 @@ pub record IsHeaderOf (bytes : List ℕ) (header : Header) : Type 0 where
   pub sites : header.sites ≡ site_count bytes
   pub commits : header.commits ≡ commit_count bytes
 
--- the bytes of each table
+-- the bytes of the code
 abbrev pub code_table : List ℕ → List ℕ
 code_table bytes = take (4 * code_words bytes) (drop 24 bytes)
 
+-- those of the globals
 abbrev pub global_table : List ℕ → List ℕ
 global_table bytes = take (4 * global_words bytes) (drop (24 + 4 * code_words bytes) bytes)
 
+-- those of the sites
 abbrev pub site_table : List ℕ → List ℕ
 site_table bytes = take (12 * site_count bytes) (drop (4 * sites_place bytes) bytes)
 
+-- those of the commits, which are the last
 abbrev pub commit_table : List ℕ → List ℕ
 commit_table bytes = drop (4 * commits_place bytes) bytes
 
