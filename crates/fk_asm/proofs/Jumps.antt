@@ -1,11 +1,12 @@
 -- A jump with its distance has its fields in range.
-use Rattle.std.proofs.Common.{◌≡◌, ℕ, ◌-◌, ◌%◌, ◌^◌, ◌<◌, ◌≤◌, ℤ, pos, negsuc, neg_ℤ, ◌≤ℤ◌, ◌⊎◌, inl, inr, Option, Some, None, IfSome, option_map, List, refl, arith}
+use Rattle.std.proofs.Common.{◌≡◌, ℕ, suc, ◌+◌, ◌-◌, ◌*◌, ◌%◌, ◌^◌, ◌<◌, ◌≤◌, ℤ, pos, negsuc, neg_ℤ, ◌≤ℤ◌, ◌⊎◌, inl, inr, Option, Some, None, IfSome, option_map, List, refl, arith}
 use Rattle.std.proofs.lemmas.Int.{ints}
 use Rattle.std.specs.Int.{w32, cast_unsigned}
 use Rattle.std.specs.Option.{option_map_or}
 use Rattle.fk_isa.specs.declared.instruction.Instruction.{Instruction}
 use Rattle.fk_isa.specs.declared.instruction.Instruction.TheVariants.{Jal, Beq, Bne, Blt, Bge, Bltu, Bgeu}
 use Rattle.fk_isa.specs.Fits.{Fits, IsOffset}
+use Rattle.fk_num.specs.Word.{word_sum}
 use Rattle.fk_asm.specs.declared.line.Line.{Line}
 use Rattle.fk_asm.specs.Jump.{distance, Reaches, with_distance}
 use Rattle.fk_asm.specs.Assembly.{target, distance_of, placed}
@@ -45,3 +46,11 @@ Fits-to i from (Some to) f r = Fits-with_distance i from to f r
 
 pub Fits-placed : (bound : List (Option ℕ)) (own : ℕ) (line : Line) → Fits line.instruction → IfSome (distance_of bound own line) (Reaches line.instruction) → Fits (placed bound own line)
 Fits-placed bound own line f near = Fits-to line.instruction own (target bound line) f near
+
+-- a jump at a word, by the word of a distance, arrives at the other word
+arrives : (from to : ℕ) (d : ℤ) → from < 2 ^ 30 → to < 2 ^ 30 → d ≡ distance from to → word_sum (4 * from) (cast_unsigned w32 d) ≡ 4 * to
+arrives from to (pos n) low high e = let sum : 4 * from + n ≡ 4 * to = omega (arith, ints) in rw sum (omega arith)
+arrives from to (negsuc n) low high e = let sum : 4 * from + (2 ^ 32 - suc n) ≡ 4 * to + 2 ^ 32 = omega (arith, ints) in rw sum (omega arith)
+
+pub word_sum-distance : (from to : ℕ) → from < 2 ^ 30 → to < 2 ^ 30 → word_sum (4 * from) (cast_unsigned w32 (distance from to)) ≡ 4 * to
+word_sum-distance from to low high = arrives from to (distance from to) low high refl
