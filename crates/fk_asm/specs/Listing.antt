@@ -38,6 +38,7 @@ register_names =
     codes "t3" ∷ codes "t4" ∷ codes "t5" ∷ codes "t6" ∷
     []
 
+-- the name of a register
 unfoldable pub register : ℕ → List ℕ
 register number = slice_index_or register_names number []
 
@@ -47,6 +48,7 @@ register number = slice_index_or register_names number []
 abbrev pub opening : List ℕ → ℕ → List ℕ
 opening name r = name ++ codes " " ++ register r ++ codes ", "
 
+-- the register of an address
 abbrev pub in_parentheses : ℕ → List ℕ
 in_parentheses r = codes "(" ++ register r ++ codes ")"
 
@@ -91,6 +93,7 @@ atomic name aq rl rd value base = opening (name ++ ordering aq rl) rd ++ registe
 
 -- ---- the table
 
+-- the text of an instruction
 abbrev pub text_of : Instruction → List ℕ
 text_of (Lui rd imm) = upper (codes "lui") rd imm
 text_of (Auipc rd imm) = upper (codes "auipc") rd imm
