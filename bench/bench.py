@@ -5,31 +5,54 @@
 
 Hart-instructions per second, for 1, 64 and 1,024 harts: the least time of RUNS whole runs of one
 text, less the least time of as many that stop before the first cycle, so that reading, compiling
-and taking memory don't count. Bytes compiled per second, for texts of 1 KiB to 1 MiB: the time of
-runs that stop before the first cycle, less that of an empty `main`.
+and taking memory don't count. The same of one image, for the proved machine and for machine.c,
+built by gcc -O2, with the ratio of the two. Bytes compiled per second, for texts of 1 KiB to 1 MiB:
+the time of runs that stop before the first cycle, less that of an empty `main`.
 """
 import os
+import struct
 import subprocess
 import sys
 import tempfile
 import time
 
-TOP = os.path.dirname(os.path.dirname(os.path.abspath(__file__)))
+BENCH = os.path.dirname(os.path.abspath(__file__))
+TOP = os.path.dirname(BENCH)
 FORK95 = os.path.join(TOP, "fork95")
 PROGRAM = os.path.join(TOP, "crates", "fork95", "out", "fork95")
+HARTS = (1, 64, 1024)
+# how many hart-instructions a run of the image has
+LOOPED = 2**24
+HEADER_WORDS = 6
+# sw zero, 12(t0), with the address of the devices in t0: the hart ends
+HALT = 0x0002A623
 
 
-def least_time(path, harts, cycles, runs):
-    """The least seconds of a run, and the report of the last one."""
-    words = [PROGRAM, "run", path, "--harts", str(harts), "--cycles", str(cycles)]
-    best, report = None, ""
+def least_times(commands, runs):
+    """For each command, run in turns, the least seconds of a run and the report of the last one."""
+    best, reports = [float("inf")] * len(commands), [""] * len(commands)
     for _ in range(runs):
-        start = time.perf_counter()
-        ended = subprocess.run(words, stdout=subprocess.DEVNULL, stderr=subprocess.PIPE, text=True)
-        seconds = time.perf_counter() - start
-        best = seconds if best is None else min(best, seconds)
-        report = ended.stderr.strip()
-    return best, report
+        for number, words in enumerate(commands):
+            start = time.perf_counter()
+            ended = subprocess.run(
+                words, stdin=subprocess.DEVNULL, stdout=subprocess.DEVNULL, stderr=subprocess.PIPE, text=True
+            )
+            best[number] = min(best[number], time.perf_counter() - start)
+            reports[number] = ended.stderr.strip()
+    return list(zip(best, reports))
+
+
+def bounds(harts, cycles):
+    return ["--harts", str(harts), "--cycles", str(cycles)]
+
+
+def rates(machines, harts, cycles, runs):
+    """Million hart-instructions per second of each machine, which gives the command for harts and cycles."""
+    timed = least_times([machine(harts, bound) for machine in machines for bound in (cycles, 0)], runs)
+    return [
+        int(report.split()[2]) * harts / max(whole - start, 1e-6) / 1e6
+        for (whole, report), (start, _) in zip(timed[::2], timed[1::2])
+    ]
 
 
 def write(folder, name, text):
@@ -56,30 +79,92 @@ def padded(size):
     return "".join(lines) + " " * left + tail
 
 
+def build_image(folder, name, text):
+    source, image = write(folder, name + ".f95", text), os.path.join(folder, name)
+    subprocess.run([PROGRAM, "build", source, "-o", image], check=True, stderr=subprocess.DEVNULL)
+    return image
+
+
+def make_endless(path):
+    """Makes the last word of code, which ends a hart, a jump to the first, so that it runs as long as asked."""
+    with open(path, "r+b") as file:
+        code_words = struct.unpack("<%dI" % HEADER_WORDS, file.read(4 * HEADER_WORDS))[2]
+        last = 4 * (HEADER_WORDS + code_words - 1)
+        file.seek(last)
+        assert struct.unpack("<I", file.read(4))[0] == HALT, "the code doesn't end as it did"
+        file.seek(last)
+        file.write(struct.pack("<I", jump(-4 * (code_words - 1))))
+
+
+def jump(offset):
+    """The word of `jal zero, offset`."""
+    assert -(2**20) <= offset < 0
+    bits = offset & (2**21 - 1)
+    return (bits >> 20) << 31 | (bits >> 1 & 0x3FF) << 21 | (bits >> 11 & 1) << 20 | (bits >> 12 & 0xFF) << 12 | 0x6F
+
+
+def build_baseline(folder):
+    program = os.path.join(folder, "machine")
+    subprocess.run(["gcc", "-O2", "-o", program, os.path.join(BENCH, "machine.c")], check=True)
+    return program
+
+
+def require_same_runs(folder, baseline):
+    """The two machines print and report the same of each example."""
+    examples = os.path.join(TOP, "examples")
+    for name in sorted(os.listdir(examples)):
+        with open(os.path.join(examples, name), encoding="ascii") as file:
+            image = build_image(folder, os.path.splitext(name)[0], file.read())
+        commands = [PROGRAM, "exec", image] + bounds(64, 10**6), [baseline, image, "64", str(10**6)]
+        ours, theirs = (subprocess.run(c, stdin=subprocess.DEVNULL, capture_output=True) for c in commands)
+        assert (ours.stdout, ours.stderr) == (theirs.stdout, theirs.stderr), name
+
+
+def print_rates(folder, runs):
+    text = write(folder, "sums.f95", sums(2280))
+    base = None
+    print("harts  million hart-instructions/s  ratio to 1 hart")
+    for harts in HARTS:
+        [rate] = rates([lambda h, c: [PROGRAM, "run", text] + bounds(h, c)], harts, 10**7, runs)
+        base = base or rate
+        print("%5d  %27.1f  %15.2f" % (harts, rate, rate / base))
+
+
+def print_ratios_to_c(folder, runs):
+    baseline = build_baseline(folder)
+    require_same_runs(folder, baseline)
+    image = build_image(folder, "endless", sums(100))
+    make_endless(image)
+    machines = [
+        lambda h, c: [PROGRAM, "exec", image] + bounds(h, c),
+        lambda h, c: [baseline, image, str(h), str(c)],
+    ]
+    print("harts  million hart-instructions/s  machine.c  ratio to machine.c")
+    for harts in HARTS:
+        ours, theirs = rates(machines, harts, LOOPED // harts, runs)
+        print("%5d  %27.1f  %9.1f  %18.3f" % (harts, ours, theirs, ours / theirs))
+
+
+def print_compiling(folder, runs):
+    empty = write(folder, "empty.f95", "void main(void) { }\n")
+    [(nothing, _)] = least_times([[PROGRAM, "run", empty] + bounds(1, 0)], runs)
+    base = None
+    print("KiB    million bytes compiled/s       ratio to 1 KiB")
+    for kib in (1, 16, 128, 1024):
+        path = write(folder, "text.f95", padded(kib * 1024))
+        [(seconds, report)] = least_times([[PROGRAM, "run", path] + bounds(1, 0)], runs)
+        rate = kib * 1024 / max(seconds - nothing, 1e-6) / 1e6
+        base = base or rate
+        print("%5d  %27.1f  %15.2f   %s" % (kib, rate, rate / base, report))
+
+
 def main():
     runs = int(sys.argv[1]) if len(sys.argv) > 1 else 40
     subprocess.run([FORK95], stdout=subprocess.DEVNULL, stderr=subprocess.DEVNULL)
     with tempfile.TemporaryDirectory() as folder:
-        text = write(folder, "sums.f95", sums(2280))
-        base = None
-        print("harts  million hart-instructions/s  ratio to 1 hart")
-        for harts in (1, 64, 1024):
-            whole, report = least_time(text, harts, 10**7, runs)
-            start, _ = least_time(text, harts, 0, runs)
-            cycles = int(report.split()[2])
-            rate = cycles * harts / max(whole - start, 1e-6) / 1e6
-            base = base or rate
-            print("%5d  %27.1f  %15.2f" % (harts, rate, rate / base))
-        empty = write(folder, "empty.f95", "void main(void) { }\n")
-        nothing, _ = least_time(empty, 1, 0, runs)
-        base = None
-        print("KiB    million bytes compiled/s       ratio to 1 KiB")
-        for kib in (1, 16, 128, 1024):
-            path = write(folder, "text.f95", padded(kib * 1024))
-            seconds, report = least_time(path, 1, 0, runs)
-            rate = kib * 1024 / max(seconds - nothing, 1e-6) / 1e6
-            base = base or rate
-            print("%5d  %27.1f  %15.2f   %s" % (kib, rate, rate / base, report))
+        print_rates(folder, runs)
+        print_ratios_to_c(folder, runs)
+        print_compiling(folder, runs)
 
 
 main()
