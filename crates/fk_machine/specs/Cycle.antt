@@ -2,11 +2,12 @@
 use Rattle.std.specs.Prelude.{ℕ, suc, ◌+◌, List, [], ◌∷◌, ◌++◌, Option, Some, None, Bool, true, false, ◌&&◌, cond, map, length, replicate, slice_index}
 use Rattle.fk_num.specs.Word.{Memory}
 use Rattle.fk_image.specs.declared.Image.{Image}
-use Rattle.fk_machine.specs.declared.instruction.Instruction.{Instruction}
+use Rattle.fk_isa.specs.declared.instruction.Instruction.{Instruction}
+use Rattle.fk_isa.specs.Find.{row}
 use Rattle.fk_machine.specs.declared.stand.Stand.{Stand}
 use Rattle.fk_machine.specs.declared.stand.Stand.TheVariants.{Running, Finished, Faulted, Trapped}
-use Rattle.fk_machine.specs.Row.{row}
-use Rattle.fk_machine.specs.Hart.{Hart, Shared, Setting, Effect, Goes, Stops, step}
+use Rattle.fk_machine.specs.Hart.{Hart, Shared, Setting, Effect, Goes, Stops}
+use Rattle.fk_machine.specs.Step.{step}
 
 -- what the harts from one on do in a cycle: the harts and the shared state after it, the address that each
 -- ran, none for one that was not served, and the stand that ended the cycle, if one did
@@ -52,7 +53,7 @@ setting_of m = record { code = m.code; harts = length m.harts; inputs = m.inputs
 
 -- a cycle begins with nothing printed
 abbrev pub unprinted : Shared → Shared
-unprinted s = record { words = s.words; control = s.control; output = [] }
+unprinted s = record s { output = [] }
 
 abbrev pub turns_of : Machine → Turns
 turns_of m = turns (setting_of m) 0 m.harts (unprinted m.shared)
@@ -98,7 +99,7 @@ opening image input p =
     record {
       code = map row image.code.items;
       harts = replicate p first_hart;
-      shared = record { words = first_words image input; control = λ i. 0; output = [] };
+      shared = record { words = first_words image input; control = λ i. 0; output = []; reserved = λ number. None };
       inputs = length input;
       begun = 0;
       stand = Running;

@@ -1,25 +1,39 @@
--- What the code of one instruction, and of the turns of a cycle, does.
-use Rattle.std.specs.Prelude.{◌≡◌, ℕ, ◌+◌, ◌-◌, ◌≤◌, List, Option, Some, None, Result, Ok, Err, slice_index, vec_len, vec_capacity}
-use Rattle.fk_machine.specs.declared.stand.Stand.{Stand}
-use Rattle.fk_machine.specs.declared.hart.HartState.{HartState}
+-- What the code of one turn, and of the turns of a cycle, does.
+use Rattle.std.specs.Prelude.{◌≡◌, ℕ, ◌+◌, ◌-◌, ◌≤◌, List, Option, Some, None, length, slice_index, vec_len, vec_capacity}
+use Rattle.fk_isa.specs.declared.hart.Hart.{Hart as HartState}
+use Rattle.fk_machine.specs.declared.bus.HartBus.{HartBus}
 use Rattle.fk_machine.specs.declared.shared.SharedState.{SharedState}
-use Rattle.fk_machine.specs.Hart.{Hart, Shared, Effect, Goes, Stops, writes, trap}
+use Rattle.fk_machine.specs.declared.stand.Stand.{Stand}
+use Rattle.fk_machine.specs.Hart.{Hart, Shared, Effect, Goes, Stops}
+use Rattle.fk_machine.specs.Reach.{Reach}
 use Rattle.fk_machine.specs.Cycle.{Turns}
-use Rattle.fk_machine.specs.View.{hart_of, harts_of, local_of, shared_of}
+use Rattle.fk_machine.specs.View.{hart_of, harts_of, local_of, shared_of, setting_of}
 
 -- how many more bytes can be printed without taking memory
 abbrev pub room_of : SharedState → ℕ
 room_of s = vec_capacity s.output - vec_len s.output
 
--- at most so many bytes are printed, and the memory for output stays
+-- at most so many bytes are printed, and the memory for output and for reservations stays
 pub record PrintsUpTo (bytes : ℕ) (old new : SharedState) : Type 0 where
   pub printed : vec_len new.output ≤ vec_len old.output + bytes
   pub capacity : vec_capacity old.output ≤ vec_capacity new.output
+  pub harts : vec_len new.reserved ≡ vec_len old.reserved
 
--- a load after a word was found, or the number of a trap
-abbrev pub after_read : ℕ → Hart → Shared → ℕ → Result ℕ ℕ → Effect
-after_read number h s rd (Ok v) = Goes (writes h rd v) s
-after_read number h s rd (Err kind) = trap number h kind
+-- a hart's bus as what the hart reaches
+abbrev pub reach_of : HartBus → Reach
+reach_of b = record { setting = setting_of b.setting.now; local = slice_index b.local.now; shared = shared_of b.shared.now }
+
+-- a bus is ready for its hart: it has the hart's whole memory, and room for a line
+pub record IsReady (b : HartBus) : Type 0 where
+  pub own : length b.local.now ≡ 32768
+  pub room : 12 ≤ room_of b.shared.now
+
+-- a call keeps what the bus borrows, and prints a line at most
+pub record Keeps (old new : HartBus) : Type 0 where
+  pub local : new.local.ghost_name ≡ old.local.ghost_name
+  pub shared : new.shared.ghost_name ≡ old.shared.ghost_name
+  pub own : length new.local.now ≡ length old.local.now
+  pub prints : PrintsUpTo 12 old.shared.now new.shared.now
 
 -- an effect goes on to the new hart and shared state, or stops with a stand and leaves the old ones
 abbrev pub Gives : Effect → Hart → Shared → Option Stand → Hart → Shared → Type 0

@@ -1,5 +1,7 @@
-pub mod Row
+pub mod Place
 pub mod Hart
+pub mod Reach
+pub mod Step
 pub mod Cycle
 pub mod Run
 pub mod Fits

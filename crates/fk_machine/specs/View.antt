@@ -1,7 +1,7 @@
 -- The states of the code as those of the definitions.
-use Rattle.std.specs.Prelude.{ℕ, suc, ◌+◌, ◌*◌, List, [], ◌∷◌, slice_index, slice_range}
+use Rattle.std.specs.Prelude.{ℕ, suc, ◌+◌, ◌*◌, List, [], ◌∷◌, None, slice_index, slice_index_or, slice_range}
 use Rattle.fk_num.specs.Word.{Memory}
-use Rattle.fk_machine.specs.declared.hart.HartState.{HartState}
+use Rattle.fk_isa.specs.declared.hart.Hart.{Hart as HartState}
 use Rattle.fk_machine.specs.declared.shared.SharedState.{SharedState}
 use Rattle.fk_machine.specs.declared.setting.Setting.{Setting as SettingState}
 use Rattle.fk_machine.specs.declared.machine.Machine.{Machine as MachineState}
@@ -22,8 +22,12 @@ harts_of number [] local = []
 harts_of number (h ∷ hs) local = hart_of h (local number) ∷ harts_of (suc number) hs local
 
 abbrev pub shared_of : SharedState → Shared
-shared_of s =
-    record { words = slice_index s.words.items; control = slice_index s.control.items; output = s.output.items }
+shared_of s = record {
+  words = slice_index s.words.items;
+  control = slice_index s.control.items;
+  output = s.output.items;
+  reserved = λ number. slice_index_or s.reserved.items number None;
+}
 
 abbrev pub setting_of : SettingState → Setting
 setting_of t = record { code = t.code.items; harts = t.harts; inputs = t.inputs; finished = t.finished }

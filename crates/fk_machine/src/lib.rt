@@ -1,9 +1,8 @@
 //! The machine: harts that run RISC-V code in lockstep on one shared memory.
 //!
 //! In a cycle each hart that has not ended runs one instruction, in ascending number. The
-//! instructions are `lui`, `addi`, `add`, `lw`, `sw`, `beq`, `bne` and `jal` of the RISC-V
-//! Unprivileged ISA ("RV32I Base Integer Instruction Set"). Code is fetched from address 0 on, and
-//! is no data. Data is words, at these addresses:
+//! instructions are RV32I, M and A of the RISC-V Unprivileged ISA. Code is fetched from address 0 on,
+//! and is no data. Data is little-endian words, at these addresses:
 //!
 //! | address | what stands there |
 //! |---|---|
@@ -16,15 +15,14 @@
 //! cause in their order counts, and a trapping instruction changes nothing.
 #![tactic(auto)]
 
-mod decode;
+mod bus;
 mod hart;
-pub mod instruction;
 mod machine;
 pub mod place;
 mod setting;
 mod shared;
 pub mod stand;
-mod step;
+mod turn;
 mod turns;
 mod zeros;
 

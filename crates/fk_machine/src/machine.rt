@@ -2,7 +2,7 @@
 
 ghost use Rattle.std.specs.Prelude.{◌≡◌, ◌+◌, ◌*◌, ◌≤◌, vec_len, vec_capacity};
 
-use crate::hart::{HartState, first_harts};
+use crate::hart::first_harts;
 use crate::place::LOCAL_WORDS;
 use crate::setting::Setting;
 use crate::shared::SharedState;
@@ -10,13 +10,14 @@ use crate::stand::Stand;
 use crate::turns::{stand_after, take_turns};
 use crate::zeros::zeros;
 use fk_image::Image;
+use fk_isa::Hart;
 use std::alloc::{AllocError, Global};
 
 /// A machine that runs an image: its harts, what they share, and how it stands.
 #[derive(Drop)]
 pub struct Machine {
     setting: Setting,
-    harts: Vec<HartState>,
+    harts: Vec<Hart>,
     /// The local memories of all harts, in the order of their numbers.
     locals: Vec<u32>,
     shared: SharedState,
@@ -24,6 +25,7 @@ pub struct Machine {
     ghost few: { vec_len harts ≤ 1024 },
     ghost counted: { setting.harts ≡ vec_len harts },
     ghost own: { vec_len locals ≡ 32768 * vec_len harts },
+    ghost reserved: { vec_len shared.reserved ≡ vec_len harts },
     ghost room: { 12 * vec_len harts ≤ vec_capacity shared.output },
     ghost printed: { vec_len shared.output ≤ 12 * vec_len harts },
 }

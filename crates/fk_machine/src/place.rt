@@ -1,7 +1,7 @@
 //! What an address names.
 
 ghost use Rattle.std.specs.Prelude.{◌≡◌, ◌+◌, ◌-◌, ◌*◌, ◌/◌, ◌<◌, ◌^◌, if◌then◌else◌};
-ghost use Rattle.fk_machine.specs.Hart.{is_in, place_of, device_at};
+ghost use Rattle.fk_machine.specs.Place.{is_in, place_of, device_at};
 ghost use Rattle.fk_machine.specs.Fits.{IsWithin};
 
 /// Where shared data begins.
@@ -43,15 +43,13 @@ pub enum Device {
     Inputs,
 }
 
-/// What an address names. A word of a memory goes by its index.
+/// What an address lies in. A word of a memory goes by its index.
 #[derive(Clone, Copy, PartialEq, Eq, Debug)]
 pub enum Place {
     SharedWord(u32),
     ControlWord(u32),
     LocalWord(u32),
     DeviceWord(Device),
-    /// The address is no multiple of 4.
-    Misaligned,
     /// Outside the map, or code.
     Nowhere,
 }
@@ -69,14 +67,12 @@ fn index_in(address: u32, start: u32, words: u32) -> Option<u32>
 }
 
 /// What an address names.
-#[tactic(auto, unfolding(crate::specs::Hart::place_of))]
+#[tactic(auto, unfolding(crate::specs::Place::place_of))]
 pub(crate) fn place_at(address: u32) -> Place
     ensures place { result ≡ place_of address }
     ensures within { IsWithin result }
 {
-    if address % 4 != 0 {
-        Place::Misaligned
-    } else if let Some(index) = index_in(address, SHARED_START, SHARED_WORDS) {
+    if let Some(index) = index_in(address, SHARED_START, SHARED_WORDS) {
         Place::SharedWord(index)
     } else if let Some(index) = index_in(address, CONTROL_START, CONTROL_WORDS) {
         Place::ControlWord(index)
@@ -87,7 +83,7 @@ pub(crate) fn place_at(address: u32) -> Place
     }
 }
 
-#[tactic(auto, unfolding(crate::specs::Hart::device_at))]
+#[tactic(auto, unfolding(crate::specs::Place::device_at))]
 fn device_at(address: u32) -> Place
     ensures place { result ≡ device_at address }
     ensures within { IsWithin result }

@@ -1,11 +1,9 @@
 //! What stays the same in a cycle.
 
-ghost use Rattle.std.specs.Prelude.{◌≤◌, IsTrue, vec_len};
-ghost use Rattle.std.specs.List.{list_all};
-ghost use Rattle.fk_machine.specs.Fits.{row_fits};
+ghost use Rattle.std.specs.Prelude.{◌≡◌, ◌≤◌, All, vec_len};
+ghost use Rattle.fk_machine.specs.Fits.{RowFits};
 
-use crate::decode::decode_all;
-use crate::instruction::Instruction;
+use fk_isa::{Instruction, decode};
 use std::alloc::{AllocError, Global};
 
 /// The code, and the numbers that devices give.
@@ -20,15 +18,14 @@ pub struct Setting {
     /// How many cycles were finished before this one.
     pub finished: u32,
     ghost short: { vec_len code ≤ 262144 },
-    ghost fitting: { IsTrue (list_all row_fits code.items) },
+    ghost fitting: { ∥ All RowFits code.items ∥₁ },
 }
 
 impl Setting {
-    ghost use Rattle.std.specs.Prelude.{◌≡◌, length, map, IfOk};
-    ghost use Rattle.fk_machine.specs.Row.{row};
+    ghost use Rattle.std.specs.Prelude.{length, map, IfOk};
+    ghost use Rattle.fk_isa.specs.Find.{row};
 
     /// The setting of the first cycle.
-    #[tactic(auto, using(crate::proofs::RowFits::list_all_rows))]
     pub fn make(alloc: Global, code: &[u32], harts: u32, inputs: u32) -> Result<Setting, AllocError>
         requires { length code.now ≤ 262144 }
         ensures code { IfOk result (λ t. t.code.items ≡ map row code.now) }
@@ -37,7 +34,7 @@ impl Setting {
         ensures finished { IfOk result (λ t. t.finished ≡ 0) }
     {
         Ok(Setting {
-            code: decode_all(alloc, code)?,
+            code: code.iter().map(|word| decode(*word)).collect(alloc)?,
             harts,
             inputs,
             finished: 0,

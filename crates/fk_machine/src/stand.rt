@@ -17,7 +17,7 @@ pub enum Stand {
 pub const FETCH: u8 = 1;
 /// The word is no instruction of the table.
 pub const UNKNOWN: u8 = 2;
-/// An access not on its size, or a jump to an address that is no multiple of 4.
+/// An access not on its size, or a taken jump or branch to an address that is no multiple of 4.
 pub const MISALIGNED: u8 = 3;
 /// An address outside the map, code as data, or a use of a device that it doesn't take.
 pub const ACCESS: u8 = 4;

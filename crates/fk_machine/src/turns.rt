@@ -1,20 +1,20 @@
 //! The turns of a cycle.
 
-ghost use Rattle.std.specs.Prelude.{◌≡◌, ℕ, ◌*◌, ◌≤◌, length};
+ghost use Rattle.std.specs.Prelude.{◌≡◌, ℕ, ◌*◌, ◌≤◌, length, vec_len};
 ghost use Rattle.fk_num.specs.Word.{Memory};
 ghost use Rattle.fk_machine.specs.Cycle.{turns, all_ended, stand_after};
 ghost use Rattle.fk_machine.specs.View.{harts_of, setting_of};
 ghost use Rattle.fk_machine.specs.Does.{room_of, PrintsUpTo, TakesTurns};
 
-use crate::hart::HartState;
 use crate::place::LOCAL_WORDS;
 use crate::setting::Setting;
 use crate::shared::{LINE_BYTES, SharedState};
 use crate::stand::Stand;
-use crate::step::step;
+use crate::turn::take_turn;
+use fk_isa::Hart;
 
 /// How the machine stands after its turns, of which one may have ended it.
-pub fn stand_after(stop: Option<Stand>, harts: &[HartState]) -> Stand
+pub fn stand_after(stop: Option<Stand>, harts: &[Hart]) -> Stand
     ensures { (local : ℕ → Memory) → result ≡ stand_after stop (harts_of 0 harts.now local) }
 {
     match stop {
@@ -24,7 +24,7 @@ pub fn stand_after(stop: Option<Stand>, harts: &[HartState]) -> Stand
     }
 }
 
-fn have_all_ended(harts: &[HartState]) -> bool
+fn have_all_ended(harts: &[Hart]) -> bool
     ensures { (local : ℕ → Memory) → result ≡ all_ended (harts_of 0 harts.now local) }
 {
     harts.iter().all(|hart| hart.ended)
@@ -34,12 +34,13 @@ fn have_all_ended(harts: &[HartState]) -> bool
 /// those above are not served, and the answer is how the machine then stands.
 pub fn take_turns(
     setting: &Setting,
-    harts: &mut [HartState],
+    harts: &mut [Hart],
     locals: &mut [u32],
     shared: &mut SharedState,
 ) -> Option<Stand>
     requires few { length harts.old ≤ 1024 }
     requires own { length locals.old ≡ LOCAL_WORDS * length harts.old }
+    requires reserved { vec_len shared.old.reserved ≡ length harts.old }
     requires output { LINE_BYTES * length harts.old ≤ room_of shared.old }
     ensures turns { TakesTurns (turns (setting_of setting.now) 0)
         harts.old locals.old shared.old result harts.new locals.new shared.new }
@@ -50,7 +51,7 @@ pub fn take_turns(
         if !hart.ended {
             let start = LOCAL_WORDS as usize * number;
             let local = &mut locals[start..start + LOCAL_WORDS as usize];
-            if let Some(stand) = step(setting, number as u32, hart, local, shared) {
+            if let Some(stand) = take_turn(setting, number as u32, hart, local, shared) {
                 return Some(stand);
             }
         }

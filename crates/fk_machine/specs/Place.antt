@@ -1,0 +1,30 @@
+-- The map of addresses.
+use Rattle.std.specs.Prelude.{ℕ, ◌+◌, ◌-◌, ◌*◌, ◌/◌, ◌^◌, ◌==◌, nat_lt, nat_le, ◌&&◌, if◌then◌else◌, Bool}
+use Rattle.fk_machine.specs.declared.place.Device.TheVariants.{OutInt, OutChar, Fault, Halt, Cycle, HartId, Harts, Inputs}
+use Rattle.fk_machine.specs.declared.place.Place.{Place}
+use Rattle.fk_machine.specs.declared.place.Place.TheVariants.{SharedWord, ControlWord, LocalWord, DeviceWord, Nowhere}
+
+-- whether an address lies in a memory of so many words from a start on
+abbrev pub is_in : ℕ → ℕ → ℕ → Bool
+is_in a start words = nat_le start a && nat_lt a (start + 4 * words)
+
+-- the devices, a word each
+unfoldable pub device_at : ℕ → Place
+device_at a =
+    if a == 0x30000000 then DeviceWord OutInt
+    else if a == 0x30000004 then DeviceWord OutChar
+    else if a == 0x30000008 then DeviceWord Fault
+    else if a == 0x3000000c then DeviceWord Halt
+    else if a == 0x30000010 then DeviceWord Cycle
+    else if a == 0x30000014 then DeviceWord HartId
+    else if a == 0x30000018 then DeviceWord Harts
+    else if a == 0x3000001c then DeviceWord Inputs
+    else Nowhere
+
+-- the word that holds an address: of 2^20 words of shared data, 64 more of shared control, 32,768 of the hart's own
+unfoldable pub place_of : ℕ → Place
+place_of a =
+    if is_in a 0x10000000 (2 ^ 20) then SharedWord ((a - 0x10000000) / 4)
+    else if is_in a 0x18000000 (2 ^ 20 + 64) then ControlWord ((a - 0x18000000) / 4)
+    else if is_in a 0x20000000 32768 then LocalWord ((a - 0x20000000) / 4)
+    else device_at a
