@@ -2,6 +2,7 @@ pub mod Bits
 pub mod Row
 pub mod Find
 pub mod Fits
+pub mod FitsProp
 pub mod Tells
 pub mod Atomic
 pub mod Step

@@ -3,7 +3,7 @@ use Rattle.std.proofs.Common.{◌≡◌, ℕ, ◌+◌, suc, List, [], ◌∷◌,
 use Rattle.fk_num.specs.Word.{Memory}
 use Rattle.fk_machine.specs.declared.stand.Stand.{Stand}
 use Rattle.fk_machine.specs.declared.stand.Stand.TheVariants.{Running}
-use Rattle.fk_machine.specs.declared.hart.HartState.{HartState}
+use Rattle.fk_isa.specs.declared.hart.Hart.{Hart as HartState}
 use Rattle.fk_machine.specs.declared.machine.Machine.{Machine as MachineState}
 use Rattle.fk_machine.specs.Hart.{Hart, Shared}
 use Rattle.fk_machine.specs.Cycle.{Machine, turns, turns_of, setting_of as setting_in, unprinted, stand_after, is_running, cycle, after_turns}

@@ -4,7 +4,7 @@ use Rattle.std.specs.Prelude.{replicate, slice_index}
 use Rattle.std.proofs.Math.Path.{fun_ext}
 use Rattle.std.specs.List.{list_all}
 use Rattle.fk_num.specs.Word.{Memory}
-use Rattle.fk_machine.specs.declared.hart.HartState.{HartState}
+use Rattle.fk_isa.specs.declared.hart.Hart.{Hart as HartState}
 use Rattle.fk_machine.specs.Cycle.{all_ended, first_hart}
 use Rattle.fk_machine.specs.View.{hart_of, harts_of}
 use Rattle.fk_machine.proofs.IndexZeros.{index_zeros}

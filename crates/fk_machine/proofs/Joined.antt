@@ -6,8 +6,9 @@ use Rattle.std.proofs.lemmas.List.{drop-set, drop-set-lt, take-set, take-append-
 use Rattle.std.proofs.lemmas.Bool.{cases_eq}
 use Rattle.fk_num.specs.Word.{Memory}
 use Rattle.fk_machine.specs.declared.stand.Stand.{Stand}
-use Rattle.fk_machine.specs.declared.hart.HartState.{HartState}
-use Rattle.fk_machine.specs.Hart.{Hart, Shared, Setting, Goes, Stops, step}
+use Rattle.fk_isa.specs.declared.hart.Hart.{Hart as HartState}
+use Rattle.fk_machine.specs.Hart.{Hart, Shared, Setting, Goes, Stops}
+use Rattle.fk_machine.specs.Step.{step}
 use Rattle.fk_machine.specs.Cycle.{Turns, before, after_effect, turn, turns}
 use Rattle.fk_machine.specs.View.{hart_of, harts_of}
 use Rattle.fk_machine.specs.Does.{TurnsGive}

@@ -1,8 +1,9 @@
 pub mod IndexZeros
+pub mod Words
+pub mod Parts
 pub mod Joined
 pub mod Locals
 pub mod Harts
-pub mod RowFits
 pub mod Cycled
 pub mod Opened
 pub mod Runs

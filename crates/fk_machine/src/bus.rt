@@ -110,18 +110,19 @@ impl HartBus<'_> {
         ensures stored { reach_of self.new ≡ stored (reach_of self.old) number word place value }
         ensures keeps { Keeps self.old self.new }
     {
+        let (local, shared) = (&mut *self.local, &mut *self.shared);
         match place {
             Place::SharedWord(index) => {
-                self.shared.words[index as usize] = value;
-                self.shared.clear(word);
+                shared.words[index as usize] = value;
+                shared.clear(word);
             }
             Place::ControlWord(index) => {
-                self.shared.control[index as usize] = value;
-                self.shared.clear(word);
+                shared.control[index as usize] = value;
+                shared.clear(word);
             }
             Place::LocalWord(index) => {
-                self.local[index as usize] = value;
-                self.shared.clear_own(number, word);
+                local[index as usize] = value;
+                shared.clear_own(number, word);
             }
             _ => {}
         }
@@ -136,8 +137,9 @@ impl HartBus<'_> {
             (Ok result) (reach_of self.old) (reach_of self.new) }
         ensures keeps { Keeps self.old self.new }
     {
-        let holds = self.shared.reserved[number as usize] == Some(word);
-        self.shared.reserve(number, None);
+        let shared = &mut *self.shared;
+        let holds = shared.reserved[number as usize] == Some(word);
+        shared.reserve(number, None);
         if holds {
             self.store_word(number, word, place, value);
             0

@@ -1,7 +1,7 @@
 //! What stays the same in a cycle.
 
 ghost use Rattle.std.specs.Prelude.{◌≡◌, ◌≤◌, All, vec_len};
-ghost use Rattle.fk_machine.specs.Fits.{RowFits};
+ghost use Rattle.fk_machine.specs.Fits.{RowFits, RowsFit-prop};
 
 use fk_isa::{Instruction, decode};
 use std::alloc::{AllocError, Global};
@@ -18,7 +18,7 @@ pub struct Setting {
     /// How many cycles were finished before this one.
     pub finished: u32,
     ghost short: { vec_len code ≤ 262144 },
-    ghost fitting: { ∥ All RowFits code.items ∥₁ },
+    ghost fitting: { All RowFits code.items } by { RowsFit-prop code.items },
 }
 
 impl Setting {

@@ -1,6 +1,7 @@
 //! What all harts share.
 
-ghost use Rattle.std.specs.Prelude.{◌≡◌, ℕ, ◌+◌, ◌≤◌, ◌<◌, ◌^◌, ◌++◌, Option, None, false, length, slice_index, slice_index_or, vec_len, IfOk};
+ghost use Rattle.std.specs.Prelude.{◌≡◌, ℕ, ◌+◌, ◌≤◌, ◌<◌, ◌^◌, ◌++◌, None, false, length, map, slice_index, slice_index_or, vec_len, IfOk};
+ghost use Rattle.fk_isa.specs.Atomic.{unless};
 
 use crate::place::{CONTROL_WORDS, SHARED_WORDS};
 use crate::zeros::zeros;
@@ -29,7 +30,6 @@ pub struct SharedState {
 impl SharedState {
     ghost use Rattle.std.specs.Prelude.{◌*◌, ◌%◌, [], ◌∷◌};
     ghost use Rattle.fk_num.specs.Word.{signed_line};
-    ghost use Rattle.fk_isa.specs.Atomic.{unless};
     ghost use Rattle.fk_machine.specs.Reach.{cleared, reserves};
     ghost use Rattle.fk_machine.specs.View.{shared_of};
     ghost use Rattle.fk_machine.specs.Does.{room_of, PrintsUpTo};
@@ -122,16 +122,16 @@ impl SharedState {
         ensures rest { PrintsUpTo 0 self.old self.new }
     {
         if self.has_reserved {
-            self.has_reserved = clear_reservations(&mut self.reserved, word);
+            self.has_reserved = clear_all(&mut self.reserved, word);
         }
     }
 }
 
 // Clears the reservations of a word. It answers whether there is any other.
 #[inline(never)]
-fn clear_reservations(reserved: &mut [Option<u32>], word: u32) -> bool
+fn clear_all(reserved: &mut [Option<u32>], word: u32) -> bool
     ensures reserved { reserved.new ≡ map (unless word) reserved.old }
-    ensures left { result ≡ list_any is_some reserved.new }
+    ensures left { result ≡ false → (number : ℕ) → slice_index_or reserved.new number None ≡ None }
 {
     let mut left = false;
     for reservation in reserved.iter_mut() {

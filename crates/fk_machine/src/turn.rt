@@ -1,16 +1,41 @@
 //! The turn of a hart.
 
 ghost use Rattle.std.specs.Prelude.{◌≡◌, ◌<◌, ◌≤◌, length, vec_len};
-ghost use Rattle.fk_machine.specs.Step.{step};
+ghost use Rattle.fk_isa.specs.Fits.{Fits};
+ghost use Rattle.fk_machine.specs.Step.{perform, step};
 ghost use Rattle.fk_machine.specs.View.{setting_of};
-ghost use Rattle.fk_machine.specs.Does.{room_of, PrintsUpTo, Does};
+ghost use Rattle.fk_machine.specs.Does.{room_of, PrintsUpTo, IsReady, Keeps, Does};
 
 use crate::bus::HartBus;
 use crate::place::LOCAL_WORDS;
 use crate::setting::Setting;
 use crate::shared::{LINE_BYTES, SharedState};
 use crate::stand::{FETCH, Stand, UNKNOWN};
-use fk_isa::{Effect, Hart, step};
+use fk_isa::{Effect, Hart, Instruction, step};
+
+// An instruction of the hart with a number, over what it reaches. It answers the stand that ends the
+// machine, if it does.
+#[inline(always)]
+fn perform(
+    instruction: Instruction,
+    number: u32,
+    hart: &mut Hart,
+    bus: &mut HartBus,
+) -> Option<Stand>
+    requires fits { Fits instruction }
+    requires number { number < vec_len bus.old.shared.now.reserved }
+    requires ready { IsReady bus.old }
+    ensures effect { Does (perform (setting_of bus.old.setting.now) number instruction)
+        hart.old bus.old.local.now bus.old.shared.now result hart.new bus.new.local.now bus.new.shared.now }
+    ensures keeps { Keeps bus.old bus.new }
+{
+    let pc = hart.pc;
+    match step(instruction, number, hart, bus) {
+        Effect::Next | Effect::Ended => None,
+        Effect::Fault(site) => Some(Stand::Faulted(site, number)),
+        Effect::Trap(kind) => Some(Stand::Trapped(number, pc, kind)),
+    }
+}
 
 /// One instruction of the hart with a number, on its local memory and on what is shared. It answers
 /// the stand that ends the machine, if it does.
@@ -29,23 +54,18 @@ pub fn take_turn(
         hart.old local.old shared.old result hart.new local.new shared.new }
     ensures output { PrintsUpTo LINE_BYTES shared.old shared.new }
 {
-    let pc = hart.pc;
-    let index = (pc / 4) as usize;
+    let index = (hart.pc / 4) as usize;
     if index >= setting.code.len() {
-        return Some(Stand::Trapped(number, pc, FETCH));
+        return Some(Stand::Trapped(number, hart.pc, FETCH));
     }
     let instruction = match setting.code[index] {
         Some(instruction) => instruction,
-        None => return Some(Stand::Trapped(number, pc, UNKNOWN)),
+        None => return Some(Stand::Trapped(number, hart.pc, UNKNOWN)),
     };
     let mut bus = HartBus {
         setting,
         local,
         shared,
     };
-    match step(instruction, number, hart, &mut bus) {
-        Effect::Next | Effect::Ended => None,
-        Effect::Fault(site) => Some(Stand::Faulted(site, number)),
-        Effect::Trap(kind) => Some(Stand::Trapped(number, pc, kind)),
-    }
+    perform(instruction, number, hart, &mut bus)
 }

@@ -1,7 +1,7 @@
 use Rattle.std.proofs.Common.{◌∙◌, sym, rules, tests}
 use Rattle.std.proofs.lemmas.Iterator.{YieldsList-from_slice}
 use Rattle.std.proofs.lemmas.Iterator.Search.{all_from_yields_List}
-use Rattle.fk_machine.specs.declared.hart.HartState.{HartState}
+use Rattle.fk_isa.specs.declared.hart.Hart.{Hart as HartState}
 use Rattle.fk_machine.proofs.Harts.{all_ended-harts_of}
 use Rattle.fk_machine.proofs.turns.have_all_ended.Goals as goal
 

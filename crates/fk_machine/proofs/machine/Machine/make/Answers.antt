@@ -1,6 +1,6 @@
 use Rattle.std.proofs.Common.{ap, ◌∙◌, ◌++◌}
 use Rattle.std.specs.Prelude.{map, slice_index}
-use Rattle.fk_machine.specs.Row.{row}
+use Rattle.fk_isa.specs.Find.{row}
 use Rattle.fk_machine.specs.View.{local_of, machine_of}
 use Rattle.fk_machine.proofs.Locals.{local_of-zeros}
 use Rattle.fk_machine.proofs.Opened.{opened}
@@ -15,4 +15,4 @@ returns c =
     let shared = c.in_ok-shared.ensures in
     let code = setting.code ∙ ap (map row) c.deref.ensures.value in
     let words = shared.words ∙ ap (λ globals. slice_index (globals ++ c.args.input.now)) c.deref-2.ensures.value in
-    opened c.args.image.now c.args.input.now c.args.harts _ _ _ _ _ _ _ code harts words shared.control shared.output setting.inputs setting.finished
+    opened c.args.image.now c.args.input.now c.args.harts _ _ _ _ _ _ _ _ code harts words shared.control shared.output shared.reserved setting.inputs setting.finished
