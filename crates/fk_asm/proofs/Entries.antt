@@ -5,6 +5,7 @@ use Rattle.std.proofs.lemmas.Bool.{cases_lt}
 use Rattle.std.proofs.lemmas.List.{length_push, map-append, get_or_append_left, get_or_push}
 use Rattle.std.proofs.lemmas.List.Elements.{All-map, All-push}
 use Rattle.fk_asm.specs.declared.line.Line.{Line}
+use Rattle.fk_asm.specs.Commits.{IsEntry}
 use Rattle.fk_asm.specs.Sound.{IsSound}
 
 pub IsStrictlyIncreasing-push : (xs : List ℕ) (y : ℕ) → IsStrictlyIncreasing xs → All (λ x. x < y) xs → IsStrictlyIncreasing (xs ++ y ∷ [])
@@ -16,11 +17,13 @@ IsStrictlyIncreasing-push xs y rise below k h =
     (cases_lt (k + 1) (length xs))
 
 -- one more entry, of the next word, whose index is n
-pub IsSound-entry : (lines : List Line) (commits : List (ℕ × ℕ)) (n entry : ℕ) → IsSound lines commits → All (λ e. e.0 < 4 * length lines) commits → n ≡ length lines → IsSound lines (commits ++ (4 * n, entry) ∷ [])
-IsSound-entry lines commits n entry s followed same =
+pub IsSound-entry : (lines : List Line) (commits : List (ℕ × ℕ)) (n count event : ℕ) → IsSound lines commits → All (λ e. e.0 < 4 * length lines) commits → n ≡ length lines
+    → 1 ≤ count → count ≤ 255 → event ≤ 6 → IsSound lines (commits ++ (4 * n, count + 256 * event) ∷ [])
+IsSound-entry lines commits n count event s followed same least most up =
     record {
       few = s.few;
       fit = s.fit;
-      within = All-push (λ e. e.0 ≤ 4 * length lines) commits (4 * n, entry) s.within (omega arith);
+      entries = All-push IsEntry commits (4 * n, count + 256 * event) s.entries (record { aligned = omega arith; counted = omega arith; event = omega arith });
+      within = All-push (λ e. e.0 ≤ 4 * length lines) commits (4 * n, count + 256 * event) s.within (omega arith);
       rise = rw (map-append, same) (IsStrictlyIncreasing-push (map (λ e. e.0) commits) (4 * length lines) s.rise (All-map (λ m. m < 4 * length lines) (λ e. e.0) commits followed));
     }

@@ -1,5 +1,6 @@
 pub mod Jump
 pub mod Assembly
+pub mod Commits
 pub mod Sound
 pub mod Block
 pub mod Listing

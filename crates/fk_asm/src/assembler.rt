@@ -1,10 +1,10 @@
 //! The assembler.
 
 ghost use Rattle.std.specs.Prelude.{◌≡◌, ◌↔◌, ◌+◌, ◌-◌, ◌*◌, ◌^◌, ◌<◌, ◌≤◌, ℕ, ℤ, [], ◌∷◌, ◌++◌, map, length, All, None, Some, Ok, Err, IfOk, IfNone, IfSome, OnOk, OnErr, slice_get, slice_set, vec_len};
-ghost use Rattle.std.specs.List.Sorted.{IsStrictlyIncreasing};
 ghost use Rattle.fk_isa.specs.Fits.{Fits};
 ghost use Rattle.fk_isa.specs.Find.{row};
 ghost use Rattle.fk_asm.specs.Jump.{IsJump};
+ghost use Rattle.fk_asm.specs.Commits.{IsCommitTable};
 ghost use Rattle.fk_asm.specs.Assembly.{empty, straight, jump_to, next_address, AreFollowed, IsBound, instructions, AreNearBelow, IsFirstTooFar};
 
 use crate::code::{AsmFault, Code};
@@ -123,7 +123,7 @@ impl Assembler {
         ensures rows { IfOk result (λ code. map row code.words.items ≡ map Some (instructions self.bound self.lines)) }
         ensures count { IfOk result (λ code. vec_len code.words ≡ length self.lines) }
         ensures commits { IfOk result (λ code. code.commits.items ≡ self.commits) }
-        ensures rise { IfOk result (λ code. IsStrictlyIncreasing (map (λ entry. entry.0) code.commits.items)) }
+        ensures table { IfOk result (λ code. IsCommitTable (vec_len code.words) code.commits.items) }
 
         ensures near { OnOk result (AreNearBelow self.bound self.lines (length self.lines)) }
         ensures too_far { (k : ℕ) (d : ℤ) → (result ≡ Err (AsmFault.TooFar k d)) ↔ IsFirstTooFar self.bound self.lines k d }

@@ -15,7 +15,7 @@ pub trait Blocks<O> {
     /// The block of an operation.
     ghost block: { O → List MarkedLine };
 
-    /// Adds the block of an operation. After an error the assembler holds a part of it.
+    /// Adds the block of an operation. After an error nothing is promised of the assembler.
     fn emit_op(&self, op: &O, into: &mut Assembler) -> Result<(), AllocError>
         requires known { has_block op.now }
         requires labels { All (GoesToMade into.old.bound) (block op.now) }
