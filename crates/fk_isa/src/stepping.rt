@@ -112,6 +112,7 @@ pub fn step<B: Bus>(instruction: Instruction, number: u32, hart: &mut Hart, bus:
 }
 
 // A load of so many bytes, without sign.
+#[inline(always)]
 fn load<B: Bus>(
     number: u32,
     hart: &mut Hart,
@@ -136,6 +137,7 @@ fn load<B: Bus>(
 }
 
 // A load of one or two bytes, with their sign.
+#[inline(always)]
 fn load_signed<B: Bus>(
     number: u32,
     hart: &mut Hart,
@@ -160,6 +162,7 @@ fn load_signed<B: Bus>(
 }
 
 // A store of the low bytes of rs2, so many.
+#[inline(always)]
 fn store<B: Bus>(
     number: u32,
     hart: &mut Hart,
@@ -186,6 +189,7 @@ fn store<B: Bus>(
 }
 
 // An atomic instruction by its bits 31 to 27.
+#[inline(always)]
 fn atomic<B: Bus>(
     number: u32,
     hart: &mut Hart,

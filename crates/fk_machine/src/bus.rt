@@ -58,6 +58,7 @@ impl HartBus<'_> {
     ghost use Rattle.fk_machine.specs.Does.{IsReady, Keeps, reach_of};
 
     // A load from a device, or the number of its trap.
+    #[inline(always)]
     fn load_device(&self, number: u32, device: Device) -> Result<u32, u8>
         ensures { Told (load_device (reach_of self.now) number device) result (reach_of self.now) (reach_of self.now) }
     {
@@ -71,6 +72,7 @@ impl HartBus<'_> {
     }
 
     // A store to a device, or the number of its trap.
+    #[inline(always)]
     fn store_device(&mut self, device: Device, value: u32) -> Result<Effect, u8>
         requires { IsReady self.old }
         ensures told { ToldStore (store_device (reach_of self.old) value device) result (reach_of self.old) (reach_of self.new) }
@@ -129,6 +131,7 @@ impl HartBus<'_> {
     }
 
     // The conditional store of a word: 0 where it is done, and 1 where no reservation was held.
+    #[inline(always)]
     fn store_conditional(&mut self, number: u32, word: u32, place: Place, value: u32) -> u32
         requires number { number < vec_len self.old.shared.now.reserved }
         requires within { IsWithin place }
@@ -208,6 +211,7 @@ impl Bus for HartBus<'_> {
         }
     }
 
+    #[inline(always)]
     fn atomic(&mut self, hart: u32, address: u32, what: u8, value: u32) -> Result<u32, u8> {
         if address % 4 != 0 {
             return Err(MISALIGNED);
