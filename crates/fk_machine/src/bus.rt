@@ -175,16 +175,12 @@ impl Bus for HartBus<'_> {
             return Err(MISALIGNED);
         }
         let place = place_at(address);
-        if let Place::DeviceWord(device) = place {
-            return if size == 4 {
-                self.load_device(hart, device)
-            } else {
-                Err(ACCESS)
-            };
-        }
         match self.word_at(place) {
             Some(word) => Ok(part(word, address % 4, size)),
-            None => Err(ACCESS),
+            None => match place {
+                Place::DeviceWord(device) if size == 4 => self.load_device(hart, device),
+                _ => Err(ACCESS),
+            },
         }
     }
 
@@ -194,20 +190,16 @@ impl Bus for HartBus<'_> {
             return Err(MISALIGNED);
         }
         let place = place_at(address);
-        if let Place::DeviceWord(device) = place {
-            return if size == 4 {
-                self.store_device(device, value)
-            } else {
-                Err(ACCESS)
-            };
-        }
         match self.word_at(place) {
             Some(word) => {
                 let stored = with_part(word, address % 4, size, value);
                 self.store_word(hart, address / 4 * 4, place, stored);
                 Ok(Effect::Next)
             }
-            None => Err(ACCESS),
+            None => match place {
+                Place::DeviceWord(device) if size == 4 => self.store_device(device, value),
+                _ => Err(ACCESS),
+            },
         }
     }
 

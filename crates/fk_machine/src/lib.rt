@@ -1,8 +1,9 @@
 //! The machine: harts that run RISC-V code in lockstep on one shared memory.
 //!
 //! In a cycle each hart that has not ended runs one instruction, in ascending number. The
-//! instructions are RV32I, M and A of the RISC-V Unprivileged ISA. Code is fetched from address 0 on,
-//! and is no data. Data is little-endian words, at these addresses:
+//! instructions are RV32I with M and A of the RISC-V Unprivileged ISA, by the table of `fk_isa`.
+//! Code is fetched from address 0 on, and is no data. Data is little-endian words, at these
+//! addresses:
 //!
 //! | address | what stands there |
 //! |---|---|
@@ -10,6 +11,12 @@
 //! | 0x18000000 | 2^20 + 64 words of control, shared by all harts |
 //! | 0x20000000 | 32,768 words of each hart's own |
 //! | 0x30000000 | eight devices, a word each ([`place::Device`]), in the order of their declaration |
+//!
+//! Loads and stores are of 1, 2 or 4 bytes at multiples of their size; devices take those of 4.
+//! `lr.w` reserves a word for its hart, in place of the word that it had reserved. A store to that
+//! word by any hart, atomic ones too, clears the reservation, and so does an `sc.w` of the hart
+//! itself. `sc.w` stores where its hart has reserved the word. The words at one local address are
+//! different words to different harts.
 //!
 //! A hart that can't go on traps, and that ends the machine ([`stand`] has the causes). The first
 //! cause in their order counts, and a trapping instruction changes nothing.

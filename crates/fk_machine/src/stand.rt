@@ -21,6 +21,10 @@ pub const UNKNOWN: u8 = 2;
 pub const MISALIGNED: u8 = 3;
 /// An address outside the map, code as data, or a use of a device that it doesn't take.
 pub const ACCESS: u8 = 4;
+/// `ecall`.
+pub const ECALL: u8 = 5;
+/// `ebreak`.
+pub const EBREAK: u8 = 6;
 
 impl Stand {
     ghost use Rattle.std.specs.Prelude.{◌≡◌};

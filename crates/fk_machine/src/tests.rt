@@ -1,11 +1,11 @@
-//! Hand-made images, in words as an assembler for RV32I writes them.
+//! Hand-made images, in words as an assembler for RV32IMA writes them.
 
 ghost use Rattle.std.specs.Prelude.{◌≡◌, ◌≤◌, ◌+◌, length, vec_len, IfOk};
 ghost use Rattle.fk_image.specs.Limits.{IsWithinLimits};
 ghost use Rattle.fk_machine.specs.Run.{machine, output_of};
 ghost use Rattle.fk_machine.specs.View.{machine_of};
 
-use crate::stand::UNKNOWN;
+use crate::stand::{ACCESS, EBREAK, ECALL, FETCH, MISALIGNED, UNKNOWN};
 use crate::{Machine, Stand};
 use fk_image::Image;
 use std::alloc::{AllocError, Global};
@@ -72,16 +72,120 @@ fn two_harts_print_in_order(rt: HostRuntime) -> Result<(), Fail> {
     Ok(())
 }
 
+// How one hart that runs this code ends.
+fn stand_of(alloc: Global, code: &[u32]) -> Result<Stand, AllocError>
+    requires some_code { 1 ≤ length code.now }
+    requires code { length code.now ≤ 262144 }
+{
+    let (machine, _) = run(alloc, &image_of(alloc, code, &[])?, &[], 1, 10)?;
+    Ok(machine.stand())
+}
+
 #[test]
-fn an_unknown_word_traps(rt: HostRuntime) -> Result<(), Fail> {
+fn each_trap(rt: HostRuntime) -> Result<(), Fail> {
+    let alloc = rt.alloc();
+    let jump_out = [0x0100006f]; // jal zero, .+16
+    assert_eq!(rt; stand_of(alloc, &jump_out)?, Stand::Trapped(0, 16, FETCH));
+    let no_instruction = [0x00000000];
+    assert_eq!(rt;
+        stand_of(alloc, &no_instruction)?,
+        Stand::Trapped(0, 0, UNKNOWN)
+    );
+    let across_two_words = [0x00202303]; // lw t1, 2(zero)
+    assert_eq!(rt;
+        stand_of(alloc, &across_two_words)?,
+        Stand::Trapped(0, 0, MISALIGNED)
+    );
+    let code_as_data = [0x00002303]; // lw t1, 0(zero)
+    assert_eq!(rt;
+        stand_of(alloc, &code_as_data)?,
+        Stand::Trapped(0, 0, ACCESS)
+    );
+    let byte_to_device = [
+        0x300002b7, // lui t0, 0x30000
+        0x00528223, // sb t0, 4(t0)
+    ];
+    assert_eq!(rt;
+        stand_of(alloc, &byte_to_device)?,
+        Stand::Trapped(0, 4, ACCESS)
+    );
+    assert_eq!(rt;
+        stand_of(alloc, &[0x00000073])?,
+        Stand::Trapped(0, 0, ECALL)
+    );
+    assert_eq!(rt;
+        stand_of(alloc, &[0x00100073])?,
+        Stand::Trapped(0, 0, EBREAK)
+    );
+    Ok(())
+}
+
+#[test]
+fn a_fault_ends_the_machine(rt: HostRuntime) -> Result<(), Fail> {
     let alloc = rt.alloc();
     let code = [
-        0xfff00293, // addi t0, zero, -1
-        0x00100073, // ebreak
+        0x300002b7, // lui t0, 0x30000
+        0x0142a303, // lw t1, 20(t0)
+        0x04130393, // addi t2, t1, 65
+        0x0072a223, // sw t2, 4(t0)
+        0x0072a423, // sw t2, 8(t0)
     ];
-    let (machine, _) = run(alloc, &image_of(alloc, &code, &[])?, &[], 3, 10)?;
-    assert_eq!(rt; machine.stand(), Stand::Trapped(0, 4, UNKNOWN));
-    assert_eq!(rt; machine.cycles(), 2);
+    let (machine, bytes) = run(alloc, &image_of(alloc, &code, &[])?, &[], 3, 10)?;
+    assert_eq!(rt; bytes.as_slice(), b"ABC".as_slice());
+    assert_eq!(rt; machine.stand(), Stand::Faulted(65, 0));
+    assert_eq!(rt; machine.cycles(), 5);
+    Ok(())
+}
+
+#[test]
+fn parts_of_words(rt: HostRuntime) -> Result<(), Fail> {
+    let alloc = rt.alloc();
+    let code = [
+        0x100002b7, // lui t0, 0x10000
+        0x89abd337, // lui t1, 0x89abd
+        0xdef30313, // addi t1, t1, -529
+        0x0062a023, // sw t1, 0(t0)
+        0x000280a3, // sb zero, 1(t0)
+        0x0062a223, // sw t1, 4(t0)
+        0x00029323, // sh zero, 6(t0)
+        0x00328383, // lb t2, 3(t0)
+        0x0072a423, // sw t2, 8(t0)
+        0x0022d383, // lhu t2, 2(t0)
+        0x0072a623, // sw t2, 12(t0)
+        0x300002b7, // lui t0, 0x30000
+        0x0002a623, // sw zero, 12(t0)
+    ];
+    let (machine, _) = run(alloc, &image_of(alloc, &code, &[])?, &[], 1, 20)?;
+    assert_eq!(rt; machine.stand(), Stand::Finished);
+    assert_eq!(rt; machine.word(0), 0x89ab00ef);
+    assert_eq!(rt; machine.word(1), 0x0000cdef);
+    assert_eq!(rt; machine.word(2), 0xffffff89);
+    assert_eq!(rt; machine.word(3), 0x000089ab);
+    Ok(())
+}
+
+#[test]
+fn a_reservation_is_lost_to_another_hart(rt: HostRuntime) -> Result<(), Fail> {
+    let alloc = rt.alloc();
+    // Hart 0 reserves word 0 and hart 1 word 1. Hart 0 stores to word 2 and hart 1 to word 0.
+    let code = [
+        0x300002b7, // lui t0, 0x30000
+        0x0142a303, // lw t1, 20(t0)
+        0x00231313, // slli t1, t1, 2
+        0x100003b7, // lui t2, 0x10000
+        0x00638e33, // add t3, t2, t1
+        0x40638eb3, // sub t4, t2, t1
+        0x406e8eb3, // sub t4, t4, t1
+        0x100e252f, // lr.w a0, (t3)
+        0x005e84a3, // sb t0, 9(t4)
+        0x185e25af, // sc.w a1, t0, (t3)
+        0x00b2a023, // sw a1, 0(t0)
+        0x0002a623, // sw zero, 12(t0)
+    ];
+    let (machine, bytes) = run(alloc, &image_of(alloc, &code, &[])?, &[], 2, 20)?;
+    assert_eq!(rt; bytes.as_slice(), b"1\n0\n".as_slice());
+    assert_eq!(rt; machine.word(0), 0, "hart 0 has stored nothing");
+    assert_eq!(rt; machine.word(1), 0x30000000);
     Ok(())
 }
 
