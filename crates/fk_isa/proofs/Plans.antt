@@ -9,7 +9,7 @@ use Rattle.fk_isa.specs.declared.instruction.Instruction.{Instruction}
 use Rattle.fk_isa.specs.declared.instruction.Instruction.TheVariants.{Lui, Auipc, Jal, Jalr, Beq, Bne, Blt, Bge, Bltu, Bgeu, Lb, Lh, Lw, Lbu, Lhu, Sb, Sh, Sw, Addi, Slti, Sltiu, Xori, Ori, Andi, Slli, Srli, Srai, Add, Sub, Sll, Slt, Sltu, Xor, Srl, Sra, Or, And, Mul, Mulh, Mulhsu, Mulhu, Div, Divu, Rem, Remu, Fence, Ecall, Ebreak, LrW, ScW, AmoSwapW, AmoAddW, AmoXorW, AmoAndW, AmoOrW, AmoMinW, AmoMaxW, AmoMinuW, AmoMaxuW}
 use Rattle.fk_isa.specs.Bits.{extended}
 use Rattle.fk_isa.specs.Tells.{Tells}
-use Rattle.fk_isa.specs.Step.{HartState, Outcome, After, set_register, next, moved, written, address, puts, stores_to, jump, branch, step}
+use Rattle.fk_isa.specs.Step.{HartState, Outcome, After, next, moved, written, address, puts, stores_to, jump, branch, step}
 
 -- an instruction moves its hart alone, or traps by itself, or makes one call of the bus
 pub data Plan : Type 0 where

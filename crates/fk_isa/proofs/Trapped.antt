@@ -1,6 +1,6 @@
 -- A trapping instruction changes nothing.
 use Rattle.std.proofs.Common.{◌≡◌, ℕ, sym, ◌∙◌}
-use Rattle.fk_isa.specs.declared.effect.Effect.TheVariants.{Next, Trap}
+use Rattle.fk_isa.specs.declared.effect.Effect.TheVariants.{Trap}
 use Rattle.fk_isa.specs.declared.instruction.Instruction.{Instruction}
 use Rattle.fk_isa.specs.Tells.{Answer, Gives, Traps, Stored, GoesOn, Ends, FaultsAt, Tells}
 use Rattle.fk_isa.specs.Step.{HartState, Outcome, After, puts, stores_to, step}

@@ -1,5 +1,5 @@
 -- What an instruction does to its hart and to the shared state.
-use Rattle.std.proofs.Common.{◌≡◌, ℕ, ◌+◌, ◌-◌, ◌*◌, ◌/◌, ◌%◌, ◌^◌, ◌<◌, ◌≤◌, ◌++◌, Option, Some, None, Bool, true, false, ap, sym, ◌∙◌, refl, arith, eq-eqb, inl, inr}
+use Rattle.std.proofs.Common.{◌≡◌, ℕ, ◌+◌, ◌-◌, ◌*◌, ◌/◌, ◌%◌, ◌^◌, ◌<◌, ◌≤◌, ◌++◌, None, true, false, ap, sym, ◌∙◌, refl, arith, eq-eqb, inl, inr}
 use Rattle.std.specs.Prelude.{◌==◌, nat_lt, nat_le, ◌&&◌, if◌then◌else◌}
 use Rattle.std.proofs.Math.Path.{fun_ext}
 use Rattle.std.proofs.lemmas.Bool.{cases_eq, ne_eqb}
@@ -8,7 +8,7 @@ use Rattle.fk_num.specs.Word.{put, word_sum, signed_line}
 use Rattle.fk_isa.specs.declared.instruction.Instruction.TheVariants.{Lui, Addi, Add, Lw, Sw}
 use Rattle.fk_isa.specs.Atomic.{unless}
 use Rattle.fk_isa.specs.Step.{set_register, puts, stores_to}
-use Rattle.fk_isa.specs.Tells.{Answer, Gives, Traps, Stored, GoesOn, Ends, FaultsAt}
+use Rattle.fk_isa.specs.Tells.{Answer, Gives, Traps, GoesOn}
 use Rattle.fk_machine.specs.declared.place.Device.TheVariants as device
 use Rattle.fk_machine.specs.declared.place.Place.{Place}
 use Rattle.fk_machine.specs.declared.place.Place.TheVariants.{SharedWord, ControlWord, LocalWord, DeviceWord}

@@ -1,5 +1,5 @@
 -- A cycle does the same whatever was printed before it.
-use Rattle.std.proofs.Common.{◌≡◌, ℕ, suc, ◌+◌, List, [], ◌∷◌, ◌++◌, Option, Some, None, Bool, true, false, sym, ap, ◌∙◌, refl}
+use Rattle.std.proofs.Common.{◌≡◌, ℕ, suc, List, [], ◌∷◌, ◌++◌, Option, Some, None, Bool, true, false, sym, ap, ◌∙◌, refl}
 use Rattle.std.specs.Prelude.{◌/◌, ◌%◌, ◌==◌, slice_get, if◌then◌else◌}
 use Rattle.std.proofs.lemmas.List.{append_assoc}
 use Rattle.fk_num.specs.Word.{signed_line}
@@ -15,8 +15,8 @@ use Rattle.fk_machine.specs.declared.place.Place.{Place}
 use Rattle.fk_machine.specs.declared.place.Place.TheVariants.{SharedWord, ControlWord, LocalWord, DeviceWord, Nowhere}
 use Rattle.fk_machine.specs.Hart.{Hart, Shared, Setting, Effect, Goes, Stops}
 use Rattle.fk_machine.specs.Place.{place_of}
-use Rattle.fk_machine.specs.Reach.{Reach, part, with_part, load_device, load, store_device, store, word_at, on_word, stored, reserving, is_of, conditional, atomic, prints, tells}
-use Rattle.fk_machine.specs.Step.{state_of, reach_of, on_outcome, perform, on_fetch, step}
+use Rattle.fk_machine.specs.Reach.{Reach, load_device, load, store_device, store, word_at, on_word, stored, reserving, is_of, conditional, atomic, prints, tells}
+use Rattle.fk_machine.specs.Step.{state_of, reach_of, on_outcome, on_fetch, step}
 use Rattle.fk_machine.specs.Cycle.{Turns, before, after_effect, turn, turns}
 
 -- the shared state, its output after bytes that were printed earlier

@@ -1,5 +1,5 @@
 -- Rows and places that fit the machine.
-use Rattle.std.specs.Prelude.{ℕ, ◌<◌, ◌^◌, ◌+◌, List, Option, Some, None, All, IfSome, slice_index_or}
+use Rattle.std.specs.Prelude.{◌<◌, ◌^◌, ◌+◌, List, Option, Some, None, All, IfSome, slice_index_or}
 use Rattle.std.specs.Coded.{Π_prop, Unit-prop}
 use Rattle.fk_isa.specs.declared.instruction.Instruction.{Instruction}
 use Rattle.fk_isa.specs.Fits.{Fits}

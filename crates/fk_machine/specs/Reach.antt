@@ -16,7 +16,7 @@ pub record Reach : Type 0 where
   pub local : Memory
   pub shared : Shared
 
--- the bytes of a word from one on, so many, lowest first; all four are the word
+-- the bytes of a word from one on, so many, lowest first, as a number; all four are the word
 abbrev pub part : ℕ → ℕ → ℕ → ℕ
 part w byte size = if size == 4 then w else w / 2 ^ (8 * byte) % 2 ^ (8 * size)
 
@@ -26,7 +26,7 @@ with_part w byte size v =
     if size == 4 then v
     else w % 2 ^ (8 * byte) + v % 2 ^ (8 * size) * 2 ^ (8 * byte) + w / 2 ^ (8 * (byte + size)) * 2 ^ (8 * (byte + size))
 
--- traps of an access: 3 Misaligned, where its address is no multiple of its size, before 4 Access
+-- an access whose address is no multiple of its size is the trap Misaligned, before Access
 abbrev pub aligned : {A : Type 0} → ℕ → ℕ → Answer Reach A → Answer Reach A
 aligned a size answer = if a % size == 0 then answer else Traps 3
 
@@ -42,6 +42,7 @@ load_device r number Harts = Gives r.setting.harts r
 load_device r number Inputs = Gives r.setting.inputs r
 load_device r number device = Traps 4
 
+-- after bytes were printed
 abbrev pub prints : Reach → List ℕ → Reach
 prints r bytes = record r { shared = record r.shared { output = r.shared.output ++ bytes } }
 
@@ -70,11 +71,11 @@ on_word (Some w) answer = answer w
 abbrev pub cleared : Reservations → ℕ → Reservations
 cleared reserved word = λ hart. unless word (reserved hart)
 
+-- the reservation of one hart replaced
 abbrev pub reserves : Reservations → ℕ → Option ℕ → Reservations
 reserves reserved number r = λ hart. if hart == number then r else reserved hart
 
--- after hart number has stored a word: its reservations are cleared. A local word is the hart's own,
--- and the words that others have at its address keep theirs
+-- after a hart has stored a word, whose reservations are cleared; a local word can be reserved by its own hart alone
 abbrev pub stored : Reach → ℕ → ℕ → Place → ℕ → Reach
 stored r number word (SharedWord i) v =
     record r { shared = record r.shared { words = put r.shared.words i v; reserved = cleared r.shared.reserved word } }
@@ -98,14 +99,16 @@ store r number a size v (DeviceWord device) = whole size (store_device r v devic
 store r number a size v place =
     on_word (word_at r place) (λ w. Gives GoesOn (stored r number (a / 4 * 4) place (with_part w (a % 4) size v)))
 
+-- after a hart has reserved a word, or has none reserved any more
 abbrev pub reserving : Reach → ℕ → Option ℕ → Reach
 reserving r number word = record r { shared = record r.shared { reserved = reserves r.shared.reserved number word } }
 
+-- whether a reservation is of a word
 abbrev pub is_of : ℕ → Option ℕ → Bool
 is_of word None = false
 is_of word (Some reserved) = reserved == word
 
--- sc.w stores where the hart has reserved the word, and gives 0, else 1; it clears the hart's reservation
+-- sc.w stores where the hart has reserved the word, and gives 0, else 1; the hart has none reserved any more
 abbrev pub conditional : Bool → Reach → ℕ → ℕ → Place → ℕ → Answer Reach ℕ
 conditional true r number word place v = Gives 0 (stored (reserving r number None) number word place v)
 conditional false r number word place v = Gives 1 (reserving r number None)
@@ -117,6 +120,7 @@ atomic r number word what v place w =
     else if what == 0b00011 then conditional (is_of word (r.shared.reserved number)) r number word place v
     else Gives w (stored r number word place (combined what w v))
 
+-- what the bus of a hart tells
 abbrev pub tells : Tells Reach
 tells = record {
   loads = λ r number a size. aligned a size (load r number a size (place_of a));

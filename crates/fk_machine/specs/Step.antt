@@ -11,12 +11,15 @@ use Rattle.fk_machine.specs.Reach.{Reach, tells}
 abbrev pub trap : ℕ → Hart → ℕ → Effect
 trap number h kind = Stops (Trapped number h.pc kind)
 
+-- a hart without its local memory
 abbrev pub state_of : Hart → HartState
 state_of h = record { registers = h.registers; pc = h.pc; ended = h.ended }
 
+-- what a hart reaches
 abbrev pub reach_of : Setting → Hart → Shared → Reach
 reach_of t h s = record { setting = t; local = h.local; shared = s }
 
+-- the hart goes on with what it has reached
 abbrev pub goes : HartState → Reach → Effect
 goes h r = Goes (record { registers = h.registers; pc = h.pc; local = r.local; ended = h.ended }) r.shared
 
@@ -27,6 +30,7 @@ on_outcome number h (After Ended h' r) = goes h' r
 on_outcome number h (After (Fault site) h' r) = Stops (Faulted site number)
 on_outcome number h (After (Trap kind) h' r) = trap number h kind
 
+-- an instruction of the hart with a number
 abbrev pub perform : Setting → ℕ → Instruction → Hart → Shared → Effect
 perform t number i h s = on_outcome number h (outcome tells number i (state_of h) (reach_of t h s))
 

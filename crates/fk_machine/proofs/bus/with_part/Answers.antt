@@ -1,6 +1,6 @@
-use Rattle.std.proofs.Common.{◌≡◌, ◌≢◌, ℕ, ◌<◌, ◌≤◌, ◌⊎◌, sym, ap, subst, ◌∙◌, arith}
+use Rattle.std.proofs.Common.{◌≢◌, ℕ, ◌<◌, ◌≤◌, sym, ap, subst, ◌∙◌, arith}
 use Rattle.fk_isa.specs.Tells.{IsSize}
-use Rattle.fk_machine.proofs.Parts.{spliced, Splices, splices}
+use Rattle.fk_machine.proofs.Parts.{spliced, splices}
 use Rattle.fk_machine.proofs.bus.with_part.Goals as goal
 
 some_bytes : (size : ℕ) → IsSize size → size ≢ 4 → (1 ≤ size) × (size ≤ 2)

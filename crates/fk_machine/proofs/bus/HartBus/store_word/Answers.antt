@@ -1,8 +1,6 @@
-use Rattle.std.proofs.Common.{◌≡◌, ◌<◌, length, sym, ap, subst, ◌∙◌, arith}
-use Rattle.std.specs.Prelude.{slice_index}
+use Rattle.std.proofs.Common.{◌<◌, length, sym, ap, subst, ◌∙◌, arith}
 use Rattle.fk_machine.specs.Fits.{IsWithin}
-use Rattle.fk_machine.specs.Hart.{Shared}
-use Rattle.fk_machine.specs.Reach.{Reach, cleared, stored}
+use Rattle.fk_machine.specs.Reach.{cleared, stored}
 use Rattle.fk_machine.specs.Does.{reach_of}
 use Rattle.fk_machine.proofs.Words.{index_set}
 use Rattle.fk_machine.proofs.bus.HartBus.store_word.Goals as goal
