@@ -9,3 +9,5 @@ pub mod Cycled
 pub mod Opened
 pub mod Runs
 pub mod Printed
+pub mod Places
+pub mod Performs
