@@ -1,24 +1,35 @@
 -- Each block does its operation.
-use Rattle.std.proofs.Common.{◌≡◌, ℕ, suc, ◌+◌, ◌-◌, ◌*◌, ◌/◌, ◌%◌, ◌^◌, ◌<◌, ◌≤◌, List, [], ◌∷◌, ◌++◌, length, Bool, true, false, sym, ap, ◌∙◌, arith, refl, eq-eqb, ◌⊎◌, inl, inr}
+use Rattle.std.proofs.Common.{◌≡◌, ℕ, suc, ◌+◌, ◌-◌, ◌*◌, ◌/◌, ◌%◌, ◌^◌, ◌<◌, ◌≤◌, List, [], ◌∷◌, ◌++◌, length, Bool, true, false, sym, ap, ◌∙◌, append_assoc, arith, refl, eq-eqb, ◌⊎◌, inl, inr}
 use Rattle.std.proofs.lemmas.Bool.{cases_lt, lt-ltb, le-ltb, ne_eqb}
-use Rattle.std.proofs.lemmas.Bool.Decides.{nat_tests}
-use Rattle.std.specs.Prelude.{◌==◌, nat_lt, nat_le, ◌&&◌}
 use Rattle.fk_num.specs.Word.{Memory, put, word, word_sum, signed_line}
 use Rattle.fk_meaning.specs.declared.operations.Operation.{Operation}
 use Rattle.fk_meaning.specs.declared.operations.Operation.TheVariants.{PushNumber, PushAddress, Add, DropLast, ReadWord, WriteWord, PrintNumber, Halt}
 use Rattle.fk_meaning.specs.Operation.{Class, Local, Request, Tree, class_of, local, address_of}
 use Rattle.fk_meaning.specs.Serve.{Store, Answer, Served, FaultAt, serve, index_at}
-use Rattle.fk_machine.specs.declared.place.Device.TheVariants as device
-use Rattle.fk_machine.specs.declared.place.Place.TheVariants.{SharedWord, LocalWord, DeviceWord}
-use Rattle.fk_machine.specs.Hart.{Hart, Shared, Setting, Goes, place_of, device_at, writes, moves, load, store, perform}
+use Rattle.fk_machine.specs.Hart.{Hart, Shared, Setting, Effect, Goes}
+use Rattle.fk_machine.specs.Step.{perform}
+use Rattle.fk_machine.proofs.Places.{place_of-shared, place_of-local, place_of-out_int, place_of-halt}
+use Rattle.fk_machine.proofs.Performs.{writes, moves, lw-shared, sw-shared, sw-out_int, sw-halt}
 use Rattle.fk_compile.specs.Code.{Block, block, push_block, high_part, low_part}
-use Rattle.fk_compile.proofs.Walk.{local_index, IsLocalAddress, after, walk, AreQuiet, quiet_performs}
+use Rattle.fk_compile.proofs.Walk.{local_index, IsLocalAddress, GoesAlone, after, walk, AreQuiet, quiet_performs}
 
 -- ---- what a block has to do
 
--- the machine's shared state of a store; the blocks leave its control words as they are
-abbrev pub shared_of : Memory → Store → Shared
-shared_of control s = record { words = s.words; control = control; output = s.output }
+-- what the harts share in a cycle shows a store: the same data, and the same output where this cycle's bytes
+-- come after those of earlier ones. A store has no control words and no reservations, so these are free
+pub record Shows (earlier : List ℕ) (m : Shared) (s : Store) : Type 0 where
+  pub words : m.words ≡ s.words
+  pub output : earlier ++ m.output ≡ s.output
+
+-- an effect goes on, to a shared state that shows a store
+abbrev pub GoesShowing : List ℕ → Effect → Hart → Store → Type 0
+GoesShowing earlier effect h s = (m : Shared) × (effect ≡ Goes h m) × Shows earlier m s
+
+-- what touches nothing but its hart shows the same store
+pub shows_alone : (earlier : List ℕ) (effect : Effect) (h : Hart) (m : Shared) (s : Store) → Shows earlier m s → GoesAlone effect h m
+    → GoesShowing earlier effect h s
+shows_alone earlier effect h m s shows alone =
+    (record m { reserved = alone.0 }, alone.1, record { words = shows.words; output = shows.output })
 
 -- what an operation does to the store and to the value list
 abbrev pub effect_by : Class → Operation → Store → List ℕ → Answer
@@ -91,8 +102,9 @@ pub record Commits (b : Block) (op : Operation) (committing : Hart) (s : Store) 
   pub s' : Store
   pub vs' : List ℕ
   pub serves : effect op s vs ≡ Served s' vs'
-  pub performs : (t : Setting) (control : Memory) (number : ℕ) → perform t number b.commit committing (shared_of control s) ≡ Goes next_hart (shared_of control s')
-  pub pc : next_hart.pc ≡ committing.pc + 4
+  pub performs : (t : Setting) (number : ℕ) (earlier : List ℕ) (m : Shared) → Shows earlier m s
+      → GoesShowing earlier (perform t number b.commit committing m) next_hart s'
+  pub pc : next_hart.pc ≡ word_sum committing.pc 4
   pub ended : next_hart.ended ≡ is_halt op
   pub quiet : AreQuiet b.after next_hart
   pub holds : HasValues (walk b.after next_hart).local vs'
@@ -103,44 +115,14 @@ pub record Does (b : Block) (op : Operation) (h : Hart) (vs : List ℕ) : Type 0
 
 -- ---- addresses
 
-local_at : (a : ℕ) → (a % 4 == 0) ≡ true → (nat_le 0x10000000 a && nat_lt a (0x10000000 + 4 * 2 ^ 20)) ≡ false
-    → (nat_le 0x18000000 a && nat_lt a (0x18000000 + 4 * (2 ^ 20 + 64))) ≡ false
-    → (nat_le 0x20000000 a && nat_lt a (0x20000000 + 4 * 32768)) ≡ true → place_of a ≡ LocalWord ((a - 0x20000000) / 4)
-unfolding place_of
-local_at a e0 e1 e2 e3 = rw (e0, e1, e2, e3)
-
-shared_at : (a : ℕ) → (a % 4 == 0) ≡ true → (nat_le 0x10000000 a && nat_lt a (0x10000000 + 4 * 2 ^ 20)) ≡ true
-    → place_of a ≡ SharedWord ((a - 0x10000000) / 4)
-unfolding place_of
-shared_at a e0 e1 = rw (e0, e1)
-
-within : (a lo hi : ℕ) → lo ≤ a → a < hi → (nat_le lo a && nat_lt a hi) ≡ true
-within a lo hi p q = grind (arith, nat_tests)
-
-above : (a lo hi : ℕ) → hi ≤ a → (nat_le lo a && nat_lt a hi) ≡ false
-above a lo hi p = grind (arith, nat_tests)
-
 local_from : (a d : ℕ) → d < 512 → a ≡ 536870912 + 4 * d → IsLocalAddress a
-local_from a d lt e =
-    local_at a (eq-eqb (a % 4) 0 (omega arith)) (above a 268435456 272629760 (omega arith)) (above a 402653184 406847744 (omega arith))
-    (within a 536870912 537001984 (omega arith) (omega arith))
+local_from a d lt e = (omega arith, place_of-local a (local_index a) (omega arith) (omega arith))
 
 local_place : (d : ℕ) → d < 512 → IsLocalAddress (word_sum 536870912 (4 * d))
 local_place d lt = local_from _ d lt (omega arith)
 
 local_word : (d k : ℕ) → d < 512 → d ≡ k → local_index (word_sum 536870912 (4 * d)) ≡ k
 local_word d k lt e = omega arith
-
-shared_place : (a x : ℕ) → x < 1048576 → a ≡ 0x10000000 + 4 * x → place_of a ≡ SharedWord (index_at a)
-shared_place a x lt e = shared_at a (eq-eqb (a % 4) 0 (omega arith)) (within a 268435456 272629760 (omega arith) (omega arith))
-
-output_place : place_of 805306368 ≡ DeviceWord device.OutInt
-unfolding place_of device_at
-output_place = refl
-
-halt_place : place_of 805306380 ≡ DeviceWord device.Halt
-unfolding place_of device_at
-halt_place = refl
 
 -- ---- values
 
@@ -171,7 +153,9 @@ push_does op n v d vs h e lt live held value does goes_on = record {
     s' = s;
     vs' = v ∷ vs;
     serves = does s;
-    performs = λ t control number. quiet_performs (push_block d n).commit (walk (push_block d n).before h) (local_place d (omega arith)) t number (shared_of control s);
+    performs = λ t number earlier m shows.
+        shows_alone earlier _ _ m s shows
+        (quiet_performs (push_block d n).commit (walk (push_block d n).before h) (local_place d (omega arith)) t number m);
     pc = refl;
     ended = live ∙ sym goes_on;
     quiet = tt;
@@ -214,7 +198,8 @@ add_does d a b vs h e lt live held =
         s' = s;
         vs' = word_sum a b ∷ vs;
         serves = refl;
-        performs = λ t control number. quiet_performs (block d Add).commit (walk (block d Add).before h) low t number (shared_of control s);
+        performs = λ t number earlier m shows.
+            shows_alone earlier _ _ m s shows (quiet_performs (block d Add).commit (walk (block d Add).before h) low t number m);
         pc = refl;
         ended = live;
         quiet = tt;
@@ -230,7 +215,7 @@ drop_does d v vs h live held = record {
     s' = s;
     vs' = vs;
     serves = refl;
-    performs = λ t control number. refl;
+    performs = λ t number earlier m shows. (m, refl, shows);
     pc = refl;
     ended = live;
     quiet = tt;
@@ -247,15 +232,18 @@ read_does d a x vs h e lt small address live held =
       quiet = (tt, (top, tt));
       commits = λ s.
           let committing = walk (block d ReadWord).before h in
-          let place : place_of (word_sum (committing.registers 5) 0) ≡ SharedWord (index_at a) =
-          let same : word_sum a 0 ≡ a = omega arith in
-          ap (λ v. place_of (word_sum v 0)) va ∙ ap place_of same ∙ shared_place a x small address in
+          let at : word_sum (committing.registers 5) 0 ≡ a = omega (arith, va) in
           record {
             next_hart = writes committing 5 (s.words (index_at a));
             s' = s;
             vs' = s.words (index_at a) ∷ vs;
             serves = refl;
-            performs = λ t control number. ap (load t number committing (shared_of control s) 5) place;
+            performs = λ t number earlier m shows. (
+              m,
+              lw-shared t number 5 5 0 (index_at a) committing m (omega (arith, at)) (place_of-shared _ (index_at a) (omega arith) (omega (arith, at)))
+                  ∙ ap (λ words. Goes (writes committing 5 (words (index_at a))) m) shows.words,
+              shows,
+            );
             pc = refl;
             ended = live;
             quiet = (top, tt);
@@ -274,17 +262,17 @@ write_does d v a x vs h e lt small address live held =
       quiet = (tt, (high, (low, tt)));
       commits = λ s.
           let committing = walk (block d WriteWord).before h in
-          let place : place_of (word_sum (committing.registers 7) 0) ≡ SharedWord (index_at a) =
-          let same : word_sum a 0 ≡ a = omega arith in
-          ap (λ w. place_of (word_sum w 0)) va ∙ ap place_of same ∙ shared_place a x small address in
+          let at : word_sum (committing.registers 7) 0 ≡ a = omega (arith, va) in
           record {
-            next_hart = moves committing (committing.pc + 4);
+            next_hart = moves committing;
             s' = record { words = put s.words (index_at a) v; output = s.output };
             vs' = v ∷ vs;
             serves = refl;
-            performs = λ t control number.
-                ap (store number committing (shared_of control s) (committing.registers 5)) place
-                ∙ ap (λ w. Goes (moves committing (committing.pc + 4)) (record { words = put s.words (index_at a) w; control = control; output = s.output })) vv;
+            performs = λ t number earlier m shows. (
+              _,
+              sw-shared t number 7 5 0 (index_at a) committing m (omega (arith, at)) (place_of-shared _ (index_at a) (omega arith) (omega (arith, at))),
+              record { words = ap (λ words. put words (index_at a) (committing.registers 5)) shows.words ∙ ap (put s.words (index_at a)) vv; output = shows.output },
+            );
             pc = refl;
             ended = live;
             quiet = (low, tt);
@@ -302,13 +290,21 @@ print_does d v vs h e lt live held =
       commits = λ s.
           let committing = walk (block d PrintNumber).before h in
           record {
-            next_hart = moves committing (committing.pc + 4);
+            next_hart = moves committing;
             s' = record { words = s.words; output = s.output ++ signed_line v };
             vs' = vs;
             serves = refl;
-            performs = λ t control number.
-                ap (store number committing (shared_of control s) (committing.registers 5)) output_place
-                ∙ ap (λ w. Goes (moves committing (committing.pc + 4)) (record { words = s.words; control = control; output = s.output ++ signed_line w })) vv;
+            performs = λ t number earlier m shows. (
+              _,
+              sw-out_int t number 7 5 0 committing m refl place_of-out_int,
+              record {
+                words = shows.words;
+                output =
+                    ap (λ w. earlier ++ (m.output ++ signed_line w)) vv
+                    ∙ sym (append_assoc earlier m.output (signed_line v))
+                    ∙ ap (λ o. o ++ signed_line v) shows.output;
+              },
+            );
             pc = refl;
             ended = live;
             quiet = tt;
@@ -322,11 +318,11 @@ halt_does d vs h held = record {
   commits = λ s.
       let committing = walk (block d Halt).before h in
       record {
-        next_hart = record { registers = committing.registers; pc = committing.pc + 4; local = committing.local; ended = true };
+        next_hart = record (moves committing) { ended = true };
         s' = s;
         vs' = vs;
         serves = refl;
-        performs = λ t control number. ap (store number committing (shared_of control s) (committing.registers 0)) halt_place;
+        performs = λ t number earlier m shows. (m, sw-halt t number 5 0 12 committing m refl place_of-halt, shows);
         pc = refl;
         ended = refl;
         quiet = tt;

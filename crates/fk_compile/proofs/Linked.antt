@@ -2,17 +2,17 @@
 use Rattle.std.proofs.Common.{◌≡◌, ℕ, suc, ◌+◌, ◌*◌, ◌≤◌, List, [], ◌∷◌, length, Option, Some, None, Bool, true, false, sym, ap, subst, ◌∙◌, arith, refl, ◌⊎◌, inl, inr}
 use Rattle.std.specs.Prelude.{MatchBool}
 use Rattle.std.proofs.lemmas.Bool.Decides.{when_true, when_false}
-use Rattle.fk_num.specs.Word.{Memory}
 use Rattle.fk_image.specs.declared.Image.{Image}
 use Rattle.fk_meaning.specs.declared.operations.Operation.{Operation}
 use Rattle.fk_meaning.specs.Next.{Todo, next}
 use Rattle.fk_meaning.specs.Serve.{Store, Processor, Served, FaultAt}
 use Rattle.fk_machine.specs.declared.stand.Stand.TheVariants.{Faulted}
-use Rattle.fk_machine.specs.Hart.{Hart, Setting, Goes, Stops, step}
+use Rattle.fk_machine.specs.Hart.{Hart, Shared, Setting, Stops}
+use Rattle.fk_machine.specs.Step.{step}
 use Rattle.fk_machine.specs.Run.{count_in}
 use Rattle.fk_compile.specs.Code.{Block, block}
 use Rattle.fk_compile.proofs.Walk.{Holds, BlockAt, step_at, walk, PrivateRun, join_runs, walked}
-use Rattle.fk_compile.proofs.Blocks.{shared_of, effect, HasValues, Shape, HasShape, Fitting, shape_after, IsReady, is_halt, Commits, block_does, shape_kept, short_block}
+use Rattle.fk_compile.proofs.Blocks.{Shows, GoesShowing, effect, HasValues, Shape, HasShape, Fitting, shape_after, IsReady, is_halt, Commits, block_does, shape_kept, short_block}
 use Rattle.fk_compile.proofs.Flat.{flat, flat_next, flat_none}
 
 -- ---- what a hart and its processor have in common
@@ -49,14 +49,16 @@ pub record Serves (image : Image) (h : Hart) (op : Operation) (rest : List Todo)
   pub s' : Store
   pub vs' : List ℕ
   pub serves : effect op s vs ≡ Served s' vs'
-  pub goes : (t : Setting) → Holds image t → (control : Memory) (number : ℕ) → step t number h (shared_of control s) ≡ Goes h' (shared_of control s')
+  pub goes : (t : Setting) → Holds image t → (number : ℕ) (earlier : List ℕ) (m : Shared) → Shows earlier m s
+      → GoesShowing earlier (step t number h m) h' s'
   pub follows : Follows image h' (record { left = rest; values = vs' })
 
 -- or it stores the site of the operation's fault
 pub record Faults (image : Image) (h : Hart) (op : Operation) (vs : List ℕ) (s : Store) : Type 0 where
   pub site : ℕ
   pub faults : effect op s vs ≡ FaultAt site
-  pub stops : (t : Setting) → Holds image t → (control : Memory) (number : ℕ) → step t number h (shared_of control s) ≡ Stops (Faulted site number)
+  pub stops : (t : Setting) → Holds image t → (number : ℕ) (earlier : List ℕ) (m : Shared) → Shows earlier m s
+      → step t number h m ≡ Stops (Faulted site number)
 
 -- a hart stands at its commit, which does the next operation of the processor
 pub record AtCommit (image : Image) (h : Hart) (p : Processor) : Type 0 where
@@ -92,7 +94,7 @@ follows image k shape op ops rest h s vs true e at ready placed same has pc c =
     inl (c.ended ∙ e, flat_none rest (same ∙ when_true _ _ e placed))
 follows image k shape op ops rest h s vs false e at ready placed same has pc c =
     let b = block (length shape) op in
-    let pc' : c.next_hart.pc ≡ 4 * suc (k + length b.before) = omega (arith, c.pc, pc) in
+    let pc' : c.next_hart.pc ≡ 4 * suc (k + length b.before) = omega (arith, c.pc, pc, at.commit_at.within) in
     let w = walked image b.after (suc (k + length b.before)) c.next_hart at.after_at pc' (c.ended ∙ e) c.quiet in
     let short = short_block op (length shape) in
     inr (
@@ -140,8 +142,9 @@ soon_at image k shape h p (op ∷ ops) e pc live placed has holds =
                 s' = c.s';
                 vs' = c.vs';
                 serves = c.serves;
-                goes = λ t runs control number.
-                    step_at image (k + length b.before) 1 b.commit placed.0.commit_at t runs number (walk b.before h) (shared_of control s) w.pc ∙ c.performs t control number;
+                goes = λ t runs number earlier m shows.
+                    let done = c.performs t number earlier m shows in
+                    (done.0, step_at image (k + length b.before) 1 b.commit placed.0.commit_at t runs number (walk b.before h) m w.pc ∙ done.1, done.2);
                 follows = follows image k shape op ops n.step.rest (walk b.before h) s p.values (is_halt op) refl placed.0 placed.1 placed.2 n.is_rest has w.pc c;
               });
         };

@@ -3,20 +3,18 @@ use Rattle.std.proofs.Common.{◌≡◌, ℕ, zero, suc, ◌+◌, List, [], ◌�
 use Rattle.std.specs.Prelude.{map, ◌&&◌}
 use Rattle.std.proofs.lemmas.Bool.{cases_Bool}
 use Rattle.std.proofs.lemmas.List.{append-nil}
-use Rattle.fk_num.specs.Word.{Memory}
 use Rattle.fk_image.specs.declared.Image.{Image}
+use Rattle.fk_isa.specs.Find.{row}
 use Rattle.fk_meaning.specs.Next.{Todo, Step, next}
 use Rattle.fk_meaning.specs.Serve.{Processor, is_done}
 use Rattle.fk_meaning.specs.Round.{State, Fault, Round, result, IsPossible, IsStopped, cut}
 use Rattle.fk_meaning.specs.Schedule.{Schedule, run, ArePossible, all_done}
 use Rattle.fk_machine.specs.declared.stand.Stand.TheVariants.{Running, Finished, Faulted}
-use Rattle.fk_machine.specs.Hart.{Hart, Shared}
-use Rattle.fk_machine.specs.Row.{row}
+use Rattle.fk_machine.specs.Hart.{Hart}
 use Rattle.fk_machine.specs.Cycle.{Turns, turns, turns_of, setting_of, unprinted, Machine, all_ended, stand_after, is_running, after_turns, cycle, opening}
 use Rattle.fk_machine.specs.Run.{machine, output_of, round_of, rounds}
-use Rattle.fk_compile.proofs.Blocks.{shared_of}
+use Rattle.fk_compile.proofs.Blocks.{Shows}
 use Rattle.fk_compile.proofs.Linked.{Bound, Linked}
-use Rattle.fk_compile.proofs.Printed.{printed, printed_turns, turns_same}
 use Rattle.fk_compile.proofs.Cycles.{Distances, Together, AllFall, IsRound, counts, is_round}
 
 -- ---- a machine and a state
@@ -73,29 +71,28 @@ pub record Broken (image : Image) (bytes : List ℕ) (s : State) (m' : Machine) 
 abbrev pub IsCycled : Image → List ℕ → Distances → State → Machine → Round → Type 0
 IsCycled image bytes ds s m' round = Cycled image bytes ds s m' round ⊎ Broken image bytes s m' round
 
--- the turns, seen with the earlier output before them, are a round
-turned : (image : Image) (control : Memory) (bytes : List ℕ) (m : Machine) (s : State) (tied : Tied image bytes m s) (done : Turns)
-    → IsRound image control 0 tied.ds s.processors s.store (printed_turns s.store.output done)
-    → IsCycled image bytes tied.ds s (after_turns m done) (counts image done)
-turned image control bytes m s tied done (inl r) = inl (record {
+-- the turns, their bytes after those that were printed before, are a round
+turned : (image : Image) (bytes : List ℕ) (m : Machine) (s : State) (tied : Tied image bytes m s) (done : Turns)
+    → IsRound image bytes 0 tied.ds s.processors s.store done → IsCycled image bytes tied.ds s (after_turns m done) (counts image done)
+turned image bytes m s tied done (inl r) = inl (record {
   tied = record {
     code = tied.code;
     ds = r.ds';
     together = r.together;
-    words = ap (λ x. x.words) r.shared;
-    output = ap (λ o. o ++ done.shared.output) tied.output ∙ ap (λ x. x.output) r.shared;
+    words = r.shows.words;
+    output = r.shows.output;
     running = r.no_fault;
     stand = ap (λ o. stand_after o done.harts) r.going ∙ ap (λ e. cond e Finished Running) (all_same image r.ds' done.harts _ r.together);
   };
   possible = record { running = tied.running; may = r.may; no_fault = r.no_fault };
   fall = r.fall;
 })
-turned image control bytes m s tied done (inr r) =
+turned image bytes m s tied done (inr r) =
     let place : 0 + r.place ≡ r.place = omega arith in
     inr (record {
       over = record {
-        words = ap (λ x. x.words) r.shared;
-        output = ap (λ o. o ++ done.shared.output) tied.output ∙ ap (λ x. x.output) r.shared;
+        words = r.shows.words;
+        output = r.shows.output;
         fault = record { site = r.site; processor = 0 + r.place };
         faulted = r.faults;
         stand = ap (λ o. stand_after o done.harts) r.stops;
@@ -110,19 +107,15 @@ turned image control bytes m s tied done (inr r) =
       };
     })
 
--- the shared state that the source sees is the machine's at the start of a cycle, with the earlier output before it
-shared_before : (image : Image) (bytes : List ℕ) (m : Machine) (s : State) → Tied image bytes m s
-    → shared_of m.shared.control s.store ≡ printed s.store.output (unprinted m.shared)
-shared_before image bytes m s tied =
-    ap (λ w. let x : Shared = record { words = w; control = m.shared.control; output = s.store.output } in x) (sym tied.words)
-    ∙ ap (λ o. let x : Shared = record { words = m.shared.words; control = m.shared.control; output = o } in x) (sym (append-nil s.store.output))
+-- at the start of a cycle nothing is printed, and the output is that of earlier cycles
+shows_before : (image : Image) (bytes : List ℕ) (m : Machine) (s : State) → Tied image bytes m s → Shows bytes (unprinted m.shared) s.store
+shows_before image bytes m s tied = record { words = tied.words; output = append-nil bytes ∙ tied.output }
 
 pub tied_cycle : (image : Image) (bytes : List ℕ) (m : Machine) (s : State) (tied : Tied image bytes m s) → is_running m.stand ≡ true
     → IsCycled image bytes tied.ds s (cycle m) (round_of image m)
 tied_cycle image bytes m s tied e =
-    let round = is_round image (setting_of m) m.shared.control 0 tied.ds m.harts s.processors s.store tied.code tied.together in
-    let same = ap (turns (setting_of m) 0 m.harts) (shared_before image bytes m s tied) ∙ turns_same s.store.output (setting_of m) 0 m.harts (unprinted m.shared) in
-    let one = turned image m.shared.control bytes m s tied (turns_of m) (subst (IsRound image m.shared.control 0 tied.ds s.processors s.store) same round) in
+    let round = is_round image (setting_of m) bytes 0 tied.ds m.harts s.processors (unprinted m.shared) s.store tied.code tied.together (shows_before image bytes m s tied) in
+    let one = turned image bytes m s tied (turns_of m) round in
     subst (λ b. IsCycled image bytes tied.ds s (cond b (after_turns m (turns_of m)) m) (round_of image m)) (sym e) one
 
 -- ---- the rounds so far

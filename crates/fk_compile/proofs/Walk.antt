@@ -1,20 +1,24 @@
 -- How a hart runs straight code. No line here knows an operation of the source.
-use Rattle.std.proofs.Common.{◌≡◌, ℕ, zero, suc, ◌+◌, ◌-◌, ◌*◌, ◌/◌, List, [], ◌∷◌, length, Some, false, sym, ap, subst, ◌∙◌, arith, refl}
+use Rattle.std.proofs.Common.{◌≡◌, ℕ, zero, suc, ◌+◌, ◌-◌, ◌*◌, ◌/◌, ◌%◌, ◌<◌, List, [], ◌∷◌, length, Some, false, sym, ap, subst, ◌∙◌, arith, refl}
 use Rattle.std.specs.Prelude.{map, slice_get}
 use Rattle.fk_num.specs.Word.{put, word_sum}
 use Rattle.fk_image.specs.declared.Image.{Image}
-use Rattle.fk_machine.specs.declared.instruction.Instruction.{Instruction}
-use Rattle.fk_machine.specs.declared.instruction.Instruction.TheVariants.{Lui, Addi, Add, Lw, Sw, Beq, Bne, Jal}
+use Rattle.fk_isa.specs.declared.instruction.Instruction.{Instruction}
+use Rattle.fk_isa.specs.declared.instruction.Instruction.TheVariants.{Lui, Addi, Add, Lw, Sw}
+use Rattle.fk_isa.specs.Find.{row}
 use Rattle.fk_machine.specs.declared.place.Place.TheVariants.{LocalWord}
-use Rattle.fk_machine.specs.Row.{row}
-use Rattle.fk_machine.specs.Hart.{Hart, Shared, Setting, Goes, place_of, writes, load, store, perform, on_fetch, step}
+use Rattle.fk_machine.specs.Place.{place_of}
+use Rattle.fk_machine.specs.Hart.{Hart, Shared, Setting, Reservations, Effect, Goes}
+use Rattle.fk_machine.specs.Step.{perform, on_fetch, step}
 use Rattle.fk_machine.specs.Run.{count_in}
+use Rattle.fk_machine.proofs.Performs.{writes, moves, lw-local, sw-local}
 use Rattle.fk_compile.specs.Code.{Block}
 
 -- ---- code in its place
 
 -- word k of the code is this instruction, and its address has this count
 pub record IsAt (image : Image) (k : ℕ) (i : Instruction) (count : ℕ) : Type 0 where
+  pub within : k < 262144
   pub fetched : slice_get (map row image.code.items) k ≡ Some (Some i)
   pub counted : count_in image.commits.items (4 * k) ≡ count
 
@@ -43,6 +47,10 @@ step_at image k count i at t runs number h s e =
 
 -- ---- instructions that touch nothing but their hart
 
+-- a hart goes on, and of what is shared only reservations may change
+abbrev pub GoesAlone : Effect → Hart → Shared → Type 0
+GoesAlone effect h s = (reserved : Reservations) × (effect ≡ Goes h (record s { reserved = reserved }))
+
 abbrev pub local_index : ℕ → ℕ
 local_index a = (a - 0x20000000) / 4
 
@@ -55,18 +63,12 @@ after (Lui rd imm) h = writes h rd (imm * 4096)
 after (Addi rd rs imm) h = writes h rd (word_sum (h.registers rs) imm)
 after (Add rd ra rb) h = writes h rd (word_sum (h.registers ra) (h.registers rb))
 after (Lw rd rs imm) h = writes h rd (h.local (local_index (local_address h rs imm)))
-after (Sw rs rv imm) h =
-    record {
-      registers = h.registers;
-      pc = h.pc + 4;
-      local = put h.local (local_index (local_address h rs imm)) (h.registers rv);
-      ended = h.ended;
-    }
+after (Sw rs rv imm) h = record (moves h) { local = put h.local (local_index (local_address h rs imm)) (h.registers rv) }
 after i h = h
 
--- an address of the local memory
+-- the address of a word of the local memory
 abbrev pub IsLocalAddress : ℕ → Type 0
-IsLocalAddress a = place_of a ≡ LocalWord (local_index a)
+IsLocalAddress a = (a % 4 ≡ 0) × (place_of a ≡ LocalWord (local_index a))
 
 -- an instruction touches nothing but its hart, and goes on to the next
 abbrev pub IsQuiet : Instruction → Hart → Type 0
@@ -75,30 +77,24 @@ IsQuiet (Addi rd rs imm) h = Unit {0}
 IsQuiet (Add rd ra rb) h = Unit {0}
 IsQuiet (Lw rd rs imm) h = IsLocalAddress (local_address h rs imm)
 IsQuiet (Sw rs rv imm) h = IsLocalAddress (local_address h rs imm)
-IsQuiet (Beq ra rb imm) h = ⊥
-IsQuiet (Bne ra rb imm) h = ⊥
-IsQuiet (Jal rd imm) h = ⊥
+IsQuiet i h = ⊥
 
 pub quiet_performs : (i : Instruction) (h : Hart) → IsQuiet i h → (t : Setting) (number : ℕ) (s : Shared)
-    → perform t number i h s ≡ Goes (after i h) s
-quiet_performs (Lui rd imm) h q t number s = refl
-quiet_performs (Addi rd rs imm) h q t number s = refl
-quiet_performs (Add rd ra rb) h q t number s = refl
-quiet_performs (Lw rd rs imm) h q t number s = ap (load t number h s rd) q
-quiet_performs (Sw rs rv imm) h q t number s = ap (store number h s (h.registers rv)) q
-quiet_performs (Beq ra rb imm) h q t number s = absurd q
-quiet_performs (Bne ra rb imm) h q t number s = absurd q
-quiet_performs (Jal rd imm) h q t number s = absurd q
+    → GoesAlone (perform t number i h s) (after i h) s
+quiet_performs (Lui rd imm) h q t number s = (s.reserved, refl)
+quiet_performs (Addi rd rs imm) h q t number s = (s.reserved, refl)
+quiet_performs (Add rd ra rb) h q t number s = (s.reserved, refl)
+quiet_performs (Lw rd rs imm) h q t number s = (s.reserved, lw-local t number rd rs imm _ h s q.0 q.1)
+quiet_performs (Sw rs rv imm) h q t number s = (_, sw-local t number rs rv imm _ h s q.0 q.1)
+quiet_performs i h q t number s = absurd (assumption q)
 
-quiet_goes_on : (i : Instruction) (h : Hart) → IsQuiet i h → ((after i h).pc ≡ h.pc + 4) × ((after i h).ended ≡ h.ended)
+quiet_goes_on : (i : Instruction) (h : Hart) → IsQuiet i h → ((after i h).pc ≡ word_sum h.pc 4) × ((after i h).ended ≡ h.ended)
 quiet_goes_on (Lui rd imm) h q = (refl, refl)
 quiet_goes_on (Addi rd rs imm) h q = (refl, refl)
 quiet_goes_on (Add rd ra rb) h q = (refl, refl)
 quiet_goes_on (Lw rd rs imm) h q = (refl, refl)
 quiet_goes_on (Sw rs rv imm) h q = (refl, refl)
-quiet_goes_on (Beq ra rb imm) h q = absurd q
-quiet_goes_on (Bne ra rb imm) h q = absurd q
-quiet_goes_on (Jal rd imm) h q = absurd q
+quiet_goes_on i h q = absurd (assumption q)
 
 -- ---- several of them
 
@@ -110,11 +106,11 @@ abbrev pub AreQuiet : List Instruction → Hart → Type 0
 AreQuiet [] h = Unit {0}
 AreQuiet (i ∷ is) h = IsQuiet i h × AreQuiet is (after i h)
 
--- one instruction that does not commit, and that leaves the shared state as it is
+-- one instruction that does not commit, and that touches nothing but its hart
 pub record IsPrivate (image : Image) (h h' : Hart) : Type 0 where
   pub live : h.ended ≡ false
   pub uncounted : count_in image.commits.items h.pc ≡ 0
-  pub goes : (t : Setting) → Holds image t → (number : ℕ) (s : Shared) → step t number h s ≡ Goes h' s
+  pub goes : (t : Setting) → Holds image t → (number : ℕ) (s : Shared) → GoesAlone (step t number h s) h' s
 
 -- so many of them
 abbrev pub PrivateRun : Image → ℕ → Hart → Hart → Type 0
@@ -139,6 +135,7 @@ pub walked : (image : Image) (is : List Instruction) (k : ℕ) (h : Hart) → Qu
 walked image [] k h at e live q = record { runs = refl; pc = omega arith; live = live }
 walked image (i ∷ is) k h at e live q =
     let p = quiet_goes_on i h q.0 in
+    let within = at.0.within in
     let e' : (after i h).pc ≡ 4 * suc k = omega arith in
     let w = walked image is (suc k) (after i h) at.1 e' (p.1 ∙ live) q.1 in
     record {
@@ -147,7 +144,9 @@ walked image (i ∷ is) k h at e live q =
         record {
           live = live;
           uncounted = ap (count_in image.commits.items) e ∙ at.0.counted;
-          goes = λ t runs number s. step_at image k 0 i at.0 t runs number h s e ∙ quiet_performs i h q.0 t number s;
+          goes = λ t runs number s.
+              let alone = quiet_performs i h q.0 t number s in
+              (alone.0, step_at image k 0 i at.0 t runs number h s e ∙ alone.1);
         },
         w.runs,
       );

@@ -1,13 +1,14 @@
 -- The block of each operation, and the code and commit table of a list of blocks.
-use Rattle.std.specs.Prelude.{ℕ, ◌+◌, ◌-◌, ◌*◌, ◌/◌, ◌%◌, List, [], ◌∷◌, ◌++◌, true, false, cond, map, Option, Some}
+use Rattle.std.specs.Prelude.{ℕ, ◌+◌, ◌-◌, ◌*◌, ◌/◌, ◌%◌, ◌<◌, List, [], ◌∷◌, ◌++◌, map, Option, Some}
 use Rattle.fk_num.specs.Word.{word}
+use Rattle.fk_isa.specs.declared.instruction.Instruction.{Instruction}
+use Rattle.fk_isa.specs.declared.instruction.Instruction.TheVariants.{Lui, Addi, Add, Lw, Sw}
+use Rattle.fk_isa.specs.Bits.{extended}
+use Rattle.fk_asm.specs.Assembly.{straight}
+use Rattle.fk_asm.specs.Block.{MarkedLine, plain, committing}
 use Rattle.fk_meaning.specs.declared.operations.Operation.{Operation}
 use Rattle.fk_meaning.specs.declared.operations.Operation.TheVariants as operation
 use Rattle.fk_meaning.specs.Operation.{address_of}
-use Rattle.fk_machine.specs.declared.instruction.Instruction.{Instruction}
-use Rattle.fk_machine.specs.declared.instruction.Instruction.TheVariants.{Lui, Addi, Add, Lw, Sw}
-use Rattle.fk_machine.specs.Row.{extended}
-use Rattle.fk_compile.specs.declared.marked.Marked.{Marked}
 
 -- a block runs straight: what precedes its commit, the commit, and what follows it
 pub record Block : Type 0 where
@@ -83,26 +84,21 @@ depth_after operation.WriteWord d = d - 1
 depth_after operation.PrintNumber d = d - 1
 depth_after operation.Halt d = d
 
--- an instruction that does no operation
-abbrev pub plain : Instruction → Marked
-plain i = record { instruction = i; commits = false }
-
-abbrev pub committing : Instruction → Marked
-committing i = record { instruction = i; commits = true }
-
-abbrev pub marked : Block → List Marked
-marked b = map plain b.before ++ (committing b.commit ∷ map plain b.after)
+-- the commit of a block counts 1, and is no event
+abbrev pub marked : Block → List MarkedLine
+marked b =
+    map (λ i. plain (straight i)) b.before ++ (committing (straight b.commit) 1 ∷ map (λ i. plain (straight i)) b.after)
 
 -- the blocks of operations, from a number of values on
-abbrev pub all_marked : ℕ → List Operation → List Marked
+abbrev pub all_marked : ℕ → List Operation → List MarkedLine
 all_marked d [] = []
 all_marked d (op ∷ ops) = marked (block d op) ++ all_marked (depth_after op d) ops
 
--- the commit table from word k on: the address of each instruction that commits, with its count, 1
-abbrev pub commits_from : ℕ → List Marked → List (ℕ × ℕ)
-commits_from k [] = []
-commits_from k (m ∷ code) = cond m.commits ((4 * k, 1) ∷ commits_from (k + 1) code) (commits_from (k + 1) code)
+-- before each of these operations there are few enough values for the offset of an instruction
+abbrev pub AreShallow : ℕ → List Operation → Type 0
+AreShallow d [] = Unit {0}
+AreShallow d (op ∷ ops) = (d < 512) × AreShallow (depth_after op d) ops
 
 -- the instructions as a machine reads them
-abbrev pub rows : List Marked → List (Option Instruction)
-rows code = map (λ m. Some m.instruction) code
+abbrev pub rows : List MarkedLine → List (Option Instruction)
+rows code = map (λ m. Some m.line.instruction) code

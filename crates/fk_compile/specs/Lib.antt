@@ -1,4 +1,3 @@
-pub mod Encoding
 pub mod Code
 pub mod Faithful
 pub mod Refusal
