@@ -1,7 +1,5 @@
 -- From the words of instructions up to the theorem, each standing on those before it.
 
--- the table reads back the words that are written
-pub mod Rows
 -- how a hart runs straight code
 pub mod Walk
 -- each block does its operation; this alone grows with the operations
@@ -12,8 +10,6 @@ pub mod Flat
 pub mod Linked
 -- a round, one processor after another
 pub mod Rounds
--- a cycle does the same whatever was printed before it
-pub mod Printed
 -- a cycle is a round
 pub mod Cycles
 -- a run is a schedule of possible rounds
@@ -28,5 +24,7 @@ pub mod Ready
 pub mod Places
 -- that image is within the limits of images
 pub mod Limits
+-- lines are made block by block, and none is too far
+pub mod Emitted
 -- what `generate` makes is faithful
 pub mod Generated

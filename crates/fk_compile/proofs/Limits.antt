@@ -1,21 +1,24 @@
 -- The images of programs are within the limits of images.
-use Rattle.std.proofs.Common.{ℕ, ◌+◌, ◌*◌, ◌<◌, ◌≤◌, List, [], ◌∷◌, length, All, Bool, true, false, cond, arith, length-append}
-use Rattle.std.specs.Prelude.{map}
-use Rattle.std.proofs.lemmas.List.Elements.{All-nil, All-cons, All-map}
+use Rattle.std.proofs.Common.{◌≡◌, ℕ, suc, ◌+◌, ◌*◌, ◌<◌, ◌≤◌, List, [], ◌∷◌, length, get_or, All, Option, Some, None, subst, arith, refl, length-append}
+use Rattle.std.specs.Prelude.{map, slice_index, IfSome}
+use Rattle.std.specs.List.Sorted.{IsStrictlyIncreasing}
+use Rattle.std.proofs.lemmas.List.Elements.{All-nil, All-cons, All-head, All-tail, All-append, All-map}
 use Rattle.fk_image.specs.Limits.{IsSite, IsCommit, Rise}
+use Rattle.fk_isa.specs.declared.instruction.Instruction.{Instruction}
+use Rattle.fk_asm.specs.Block.{MarkedLine, entry_at, entries_from}
+use Rattle.fk_asm.proofs.Straight.{IsUnlabeled}
 use Rattle.fk_meaning.specs.declared.syntax.Statement.{Statement}
 use Rattle.fk_meaning.specs.declared.operations.Operation.{Operation}
 use Rattle.fk_meaning.specs.declared.operations.Operation.TheVariants.{PushNumber, PushAddress, Add, DropLast, ReadWord, WriteWord, PrintNumber, Halt}
 use Rattle.fk_meaning.specs.Sites.{operations_of_statement, operations_of_body, site_of}
-use Rattle.fk_compile.specs.declared.marked.Marked.{Marked}
-use Rattle.fk_compile.specs.Code.{block, marked, all_marked, depth_after, commits_from}
+use Rattle.fk_compile.specs.Code.{block, quiet, commits, marked, all_marked, depth_after}
 use Rattle.fk_compile.proofs.Blocks.{short_block}
 use Rattle.fk_compile.proofs.Places.{length-marked}
 
 -- ---- the length of the code
 
 -- a block has one to six instructions
-block_length : (d : ℕ) (op : Operation) → (1 ≤ length (marked (block d op))) × (length (marked (block d op)) ≤ 6)
+pub block_length : (d : ℕ) (op : Operation) → (1 ≤ length (marked (block d op))) × (length (marked (block d op)) ≤ 6)
 block_length d op =
     let short = short_block op d in
     let same = length-marked (block d op) in
@@ -62,49 +65,53 @@ sites_fit ops = All-map IsSite site_of ops (each ops)
     each [] = All-nil (λ op. IsSite (site_of op))
     each (op ∷ ops) = All-cons (λ op. IsSite (site_of op)) op ops (kind_fits op) (each ops)
 
+-- ---- lines
+
+each_quiet : (P : MarkedLine → Type 0) → ((i : Instruction) → P (quiet i)) → (is : List Instruction) → All P (map quiet is)
+each_quiet P q is = All-map P quiet is (λ k i lt. q (get_or is k i))
+
+-- what holds of each line of a block holds of all lines
+each_line : (P : MarkedLine → Type 0) → ((i : Instruction) → P (quiet i)) → ((i : Instruction) → P (commits i)) → (ops : List Operation) (d : ℕ)
+    → All P (all_marked d ops)
+each_line P q c [] d = All-nil P
+each_line P q c (op ∷ ops) d =
+    let b = block d op in
+    All-append P (marked b) (all_marked (depth_after op d) ops)
+    (All-append P (map quiet b.before) (commits b.commit ∷ map quiet b.after) (each_quiet P q b.before)
+    (All-cons P (commits b.commit) (map quiet b.after) (c b.commit) (each_quiet P q b.after)))
+    (each_line P q c ops (depth_after op d))
+
+pub unlabeled : (ops : List Operation) (d : ℕ) → All IsUnlabeled (all_marked d ops)
+unlabeled ops d = each_line IsUnlabeled (λ i. refl) (λ i. refl) ops d
+
 -- ---- commits
 
--- the commit of word k, in so many words of code
-commit_fits : (k words : ℕ) → k < words → IsCommit words (4 * k, 1)
-commit_fits k words lt = record { aligned = omega arith; within = omega arith; counted = omega arith; event = omega arith }
+-- a line that commits counts 1, and is no event
+abbrev pub CountsOne : MarkedLine → Type 0
+CountsOne m = IfSome m.commit (λ commit. commit ≡ 1)
 
-line_fits : (k words : ℕ) (commits : Bool) (later : List (ℕ × ℕ)) → k < words → All (IsCommit words) later
-    → All (IsCommit words) (cond commits ((4 * k, 1) ∷ later) later)
-line_fits k words true later lt all = All-cons (IsCommit words) (4 * k, 1) later (commit_fits k words lt) all
-line_fits k words false later lt all = all
+pub count_one : (ops : List Operation) (d : ℕ) → All CountsOne (all_marked d ops)
+count_one ops d = each_line CountsOne (λ i. tt) (λ i. refl) ops d
 
-pub commits_fit : (code : List Marked) (k words : ℕ) → k + length code ≤ words → All (IsCommit words) (commits_from k code)
-commits_fit [] k words le = All-nil (IsCommit words)
-commits_fit (m ∷ code) k words le =
-    line_fits k words m.commits (commits_from (k + 1) code) (omega arith) (commits_fit code (k + 1) words (omega arith))
+entry_fits : (k words : ℕ) (commit : Option ℕ) → k < words → IfSome commit (λ c. c ≡ 1) → All (IsCommit words) (entry_at k commit)
+entry_fits k words None lt one = All-nil (IsCommit words)
+entry_fits k words (Some commit) lt one =
+    All-cons (IsCommit words) (4 * k, commit) []
+    (record { aligned = omega arith; within = omega arith; counted = omega arith; event = omega arith }) (All-nil (IsCommit words))
 
--- the first of these commits has an address of at least so much
-abbrev BeginsAt : ℕ → List (ℕ × ℕ) → Type 0
-BeginsAt a [] = Unit {0}
-BeginsAt a (commit ∷ commits) = a ≤ commit.0
+pub commits_fit : (code : List MarkedLine) (k words : ℕ) → All CountsOne code → k + length code ≤ words → All (IsCommit words) (entries_from k code)
+commits_fit [] k words one le = All-nil (IsCommit words)
+commits_fit (m ∷ code) k words one le =
+    All-append (IsCommit words) (entry_at k m.commit) (entries_from (k + 1) code)
+    (entry_fits k words m.commit (omega arith) (All-head CountsOne m code one))
+    (commits_fit code (k + 1) words (All-tail CountsOne m code one) (omega arith))
 
-earlier : (a b : ℕ) (commits : List (ℕ × ℕ)) → a ≤ b → BeginsAt b commits → BeginsAt a commits
-earlier a b [] le begins = tt
-earlier a b (commit ∷ commits) le begins = omega arith
+rise_later : (x : ℕ) (xs : List ℕ) → IsStrictlyIncreasing (x ∷ xs) → IsStrictlyIncreasing xs
+rise_later x xs rise k lt =
+    let e : suc k + 1 ≡ suc (k + 1) = omega arith in
+    subst (λ j. slice_index (x ∷ xs) (suc k) < slice_index (x ∷ xs) j) e (rise (suc k) (omega arith))
 
-line_begins : (k : ℕ) (commits : Bool) (later : List (ℕ × ℕ)) → BeginsAt (4 * (k + 1)) later
-    → BeginsAt (4 * k) (cond commits ((4 * k, 1) ∷ later) later)
-line_begins k true later begins = omega arith
-line_begins k false later begins = earlier (4 * k) (4 * (k + 1)) later (omega arith) begins
-
-begins_at : (code : List Marked) (k : ℕ) → BeginsAt (4 * k) (commits_from k code)
-begins_at [] k = tt
-begins_at (m ∷ code) k = line_begins k m.commits (commits_from (k + 1) code) (begins_at code (k + 1))
-
-rise_after : (k : ℕ) (later : List (ℕ × ℕ)) → BeginsAt (4 * (k + 1)) later → Rise later → Rise ((4 * k, 1) ∷ later)
-rise_after k [] begins rise = tt
-rise_after k (commit ∷ later) begins rise = (omega arith, rise)
-
-line_rises : (k : ℕ) (commits : Bool) (later : List (ℕ × ℕ)) → BeginsAt (4 * (k + 1)) later → Rise later
-    → Rise (cond commits ((4 * k, 1) ∷ later) later)
-line_rises k true later begins rise = rise_after k later begins rise
-line_rises k false later begins rise = rise
-
-pub commits_rise : (code : List Marked) (k : ℕ) → Rise (commits_from k code)
-commits_rise [] k = tt
-commits_rise (m ∷ code) k = line_rises k m.commits (commits_from (k + 1) code) (begins_at code (k + 1)) (commits_rise code (k + 1))
+pub commits_rise : (entries : List (ℕ × ℕ)) → IsStrictlyIncreasing (map (λ entry. entry.0) entries) → Rise entries
+commits_rise [] rise = tt
+commits_rise (c ∷ []) rise = tt
+commits_rise (c ∷ d ∷ rest) rise = (rise 0 (omega arith), commits_rise (d ∷ rest) (rise_later c.0 (map (λ entry. entry.0) (d ∷ rest)) rise))

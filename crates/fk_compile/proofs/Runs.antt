@@ -11,7 +11,7 @@ use Rattle.fk_meaning.specs.Round.{State, Fault, Round, result, IsPossible, IsSt
 use Rattle.fk_meaning.specs.Schedule.{Schedule, run, ArePossible, all_done}
 use Rattle.fk_machine.specs.declared.stand.Stand.TheVariants.{Running, Finished, Faulted}
 use Rattle.fk_machine.specs.Hart.{Hart}
-use Rattle.fk_machine.specs.Cycle.{Turns, turns, turns_of, setting_of, unprinted, Machine, all_ended, stand_after, is_running, after_turns, cycle, opening}
+use Rattle.fk_machine.specs.Cycle.{Turns, turns_of, setting_of, unprinted, Machine, all_ended, stand_after, is_running, after_turns, cycle, opening}
 use Rattle.fk_machine.specs.Run.{machine, output_of, round_of, rounds}
 use Rattle.fk_compile.proofs.Blocks.{Shows}
 use Rattle.fk_compile.proofs.Linked.{Bound, Linked}

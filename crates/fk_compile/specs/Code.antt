@@ -84,10 +84,16 @@ depth_after operation.WriteWord d = d - 1
 depth_after operation.PrintNumber d = d - 1
 depth_after operation.Halt d = d
 
--- the commit of a block counts 1, and is no event
+-- the line of an instruction that does no operation
+abbrev pub quiet : Instruction → MarkedLine
+quiet i = plain (straight i)
+
+-- of one that does: its commit counts 1, and is no event
+abbrev pub commits : Instruction → MarkedLine
+commits i = committing (straight i) 1
+
 abbrev pub marked : Block → List MarkedLine
-marked b =
-    map (λ i. plain (straight i)) b.before ++ (committing (straight b.commit) 1 ∷ map (λ i. plain (straight i)) b.after)
+marked b = map quiet b.before ++ (commits b.commit ∷ map quiet b.after)
 
 -- the blocks of operations, from a number of values on
 abbrev pub all_marked : ℕ → List Operation → List MarkedLine

@@ -1,67 +1,48 @@
-//! Images of marked instructions.
+//! Images of lines of code.
 
-ghost use Rattle.std.specs.Prelude.{◌≡◌, ◌+◌, ◌*◌, ◌≤◌, All, IfOk, [], ◌∷◌, ◌++◌, length, map, vec_len, replicate};
+ghost use Rattle.std.specs.Prelude.{◌≡◌, All, IfOk, [], ◌∷◌, ◌++◌, length, map, vec_len, replicate};
+ghost use Rattle.std.specs.List.Sorted.{IsStrictlyIncreasing};
+ghost use Rattle.fk_isa.specs.Find.{row};
+ghost use Rattle.fk_asm.specs.Assembly.{empty};
+ghost use Rattle.fk_asm.specs.Block.{entries_from, with_block};
 ghost use Rattle.fk_meaning.specs.Operation.{kind_of};
 ghost use Rattle.fk_meaning.specs.Sites.{site_of};
-ghost use Rattle.fk_machine.specs.Row.{row};
-ghost use Rattle.fk_compile.specs.Encoding.{IsEncodable};
-ghost use Rattle.fk_compile.specs.Code.{rows, commits_from};
+ghost use Rattle.fk_compile.specs.Code.{all_marked, rows};
 
-use crate::encode::encode;
-use crate::marked::Marked;
+use fk_asm::{AsmFault, Assembler};
 use fk_image::Image;
 use fk_meaning::operations::Operation;
 use std::alloc::{AllocError, Global};
 
-/// The image of a program's instructions and operations, with globals that begin as 0.
+/// The image of a program's operations and the lines of their blocks, with globals that begin as 0.
 pub fn assemble(
     alloc: Global,
-    code: &[Marked],
+    lines: Assembler,
     operations: &[Operation],
     variables: u32,
 ) -> Result<Image, AllocError>
-    requires encodable { All (λ m. IsEncodable m.instruction) code.now }
-    requires short { length code.now ≤ 262144 }
-    ensures code { IfOk result (λ image. map row image.code.items ≡ rows code.now) }
-    ensures commits { IfOk result (λ image. image.commits.items ≡ commits_from 0 code.now) }
+    requires { lines ≡ with_block empty (all_marked 0 operations.now) }
+    ensures code { IfOk result (λ image. map row image.code.items ≡ rows (all_marked 0 operations.now)) }
+    ensures commits { IfOk result (λ image. image.commits.items ≡ entries_from 0 (all_marked 0 operations.now)) }
+    ensures rise { IfOk result (λ image. IsStrictlyIncreasing (map (λ entry. entry.0) image.commits.items)) }
     ensures sites { IfOk result (λ image. image.sites.items ≡ map site_of operations.now) }
     ensures globals { IfOk result (λ image. image.globals.items ≡ replicate variables 0) }
-    ensures code_words { IfOk result (λ image. vec_len image.code ≡ length code.now) }
+    ensures code_words { IfOk result (λ image. vec_len image.code ≡ length (all_marked 0 operations.now)) }
     ensures site_count { IfOk result (λ image. vec_len image.sites ≡ length operations.now) }
     ensures global_count { IfOk result (λ image. vec_len image.globals ≡ variables) }
 {
+    let code = match lines.finish() {
+        Ok(code) => code,
+        Err(AsmFault::Memory(error)) => return Err(error),
+        // no line goes to a label
+        Err(AsmFault::TooFar(_, _)) => unreachable!(),
+    };
     Ok(Image {
-        code: words(alloc, code)?,
+        code: code.words,
         globals: vec![in alloc; 0u32; variables as usize]?,
         sites: sites(alloc, operations)?,
-        commits: commits(alloc, code)?,
+        commits: code.commits,
     })
-}
-
-fn words(alloc: Global, code: &[Marked]) -> Result<Vec<u32>, AllocError>
-    requires { All (λ m. IsEncodable m.instruction) code.now }
-    ensures rows { IfOk result (λ words. map row words.items ≡ rows code.now) }
-    ensures count { IfOk result (λ words. vec_len words ≡ length code.now) }
-{
-    let mut words = Vec::new(alloc);
-    for marked in code {
-        words.push(encode(marked.instruction))?;
-    }
-    Ok(words)
-}
-
-// the address of each instruction that commits, with count 1
-fn commits(alloc: Global, code: &[Marked]) -> Result<Vec<(u32, u32)>, AllocError>
-    requires { length code.now ≤ 262144 }
-    ensures { IfOk result (λ commits. commits.items ≡ commits_from 0 code.now) }
-{
-    let mut commits = Vec::new(alloc);
-    for (k, marked) in code.iter().enumerate() {
-        if marked.commits {
-            commits.push((4 * k as u32, 1))?;
-        }
-    }
-    Ok(commits)
 }
 
 // none of these operations has a place in the text

@@ -20,11 +20,6 @@ pub fn generate(alloc: Global, program: &Program) -> Result<Image, AllocError>
     ensures { IfOk result (IsFaithfulTo program.now) }
 {
     let operations = lower(alloc, program.body.as_slice())?;
-    let code = emit(alloc, operations.as_slice())?;
-    assemble(
-        alloc,
-        code.as_slice(),
-        operations.as_slice(),
-        program.variables,
-    )
+    let lines = emit(alloc, operations.as_slice())?;
+    assemble(alloc, lines, operations.as_slice(), program.variables)
 }

@@ -1,16 +1,14 @@
 //! The compiler: from a text to an image that is faithful to it.
 //!
-//! `lower` lists the operations of a program, `emit` makes the instructions of each, and
+//! `lower` lists the operations of a program, `emit` makes the lines of code of each, and
 //! `assemble` puts their words, commits and sites into an image.
 #![tactic(auto)]
 
 mod assemble;
 mod compiler;
 mod emit;
-mod encode;
 pub mod generate;
 mod lower;
-mod marked;
 pub mod refusal;
 #[cfg(test)]
 mod tests;

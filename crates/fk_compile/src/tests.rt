@@ -1,14 +1,15 @@
-use crate::encode::encode;
 use crate::generate::generate;
-use fk_machine::instruction::Instruction;
 use fk_meaning::syntax::{Part, Program, Statement, Sum};
 use std::test::Fail;
 
-// the words as an assembler for RV32I gives them
+// an empty program is `halt` alone: lui t0, 0x30000; sw zero, 12(t0), in the words of an assembler for RV32I
 #[test]
-fn words_are_those_of_the_isa(rt: HostRuntime) {
-    assert_eq!(rt; encode(Instruction::Lui(5, 0x30000)), 0x300002b7); // lui t0, 0x30000
-    assert_eq!(rt; encode(Instruction::Sw(5, 0, 12)), 0x0002a623); // sw zero, 12(t0)
+fn an_empty_program_ends(rt: HostRuntime) -> Result<(), Fail> {
+    let body = Vec::new(rt.alloc());
+    let image = generate(rt.alloc(), &Program { variables: 0, body })?;
+    assert_eq!(rt; image.code.as_slice(), [0x300002b7, 0x0002a623].as_slice());
+    assert_eq!(rt; image.commits.as_slice(), [(4, 1)].as_slice());
+    Ok(())
 }
 
 // x = 2 + 3; putint(x); by hand: const, const, const, binary, write, drop, const, read, outint, halt
