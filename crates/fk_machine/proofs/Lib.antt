@@ -1,13 +1,11 @@
 pub mod IndexZeros
 pub mod Words
 pub mod Parts
-pub mod Does
 pub mod Joined
 pub mod Locals
 pub mod Harts
 pub mod Cycled
 pub mod Opened
 pub mod Runs
-pub mod Printed
 pub mod Places
 pub mod Performs
