@@ -14,7 +14,7 @@ mod shapes;
 mod tests;
 
 use arrayvec::ArrayVec;
-use digits::eight_digits;
+pub use digits::eight_digits;
 use fk_isa::{Instruction, decode};
 use shapes::{
     append, at_offset, atomic, jump, plain, reserving, three_registers, upper, with_distance,
