@@ -19,18 +19,18 @@ above : (a k b e : ℕ) (xs ys : List ℕ) → a + k ≤ b → a ≤ length xs �
 above a k b e xs ys high in_xs len = ap (take (e - b)) (drop-put_mid a k xs ys b high in_xs len)
 
 -- the memory that is written
-pub local_of-own : (xs ys : List ℕ) (n : ℕ) → 32768 * n + 32768 ≤ length xs → length ys ≡ 32768 → local_of (put_mid (32768 * n) (32768 * n + 32768 - 32768 * n) xs ys) n ≡ slice_index ys
-local_of-own xs ys n in_xs len = ap slice_index (between-put_mid (32768 * n) (32768 * n + 32768 - 32768 * n) xs ys (32768 * n + 32768) (omega arith) (omega arith))
+pub local_of-own : (xs ys : List ℕ) (n : ℕ) → 32784 * n + 32768 ≤ length xs → length ys ≡ 32768 → local_of (put_mid (32784 * n) (32784 * n + 32768 - 32784 * n) xs ys) n ≡ slice_index ys
+local_of-own xs ys n in_xs len = ap slice_index (between-put_mid (32784 * n) (32784 * n + 32768 - 32784 * n) xs ys (32784 * n + 32768) (omega arith) (omega arith))
 
 apart : (n m : ℕ) → m ≢ n → (m < n) ⊎ (n < m)
 apart n m other = grind arith
 
 -- another memory
-pub local_of-other : (xs ys : List ℕ) (n m : ℕ) → 32768 * n + 32768 ≤ length xs → length ys ≡ 32768 → m ≢ n → local_of (put_mid (32768 * n) (32768 * n + 32768 - 32768 * n) xs ys) m ≡ local_of xs m
+pub local_of-other : (xs ys : List ℕ) (n m : ℕ) → 32784 * n + 32768 ≤ length xs → length ys ≡ 32768 → m ≢ n → local_of (put_mid (32784 * n) (32784 * n + 32768 - 32784 * n) xs ys) m ≡ local_of xs m
 local_of-other xs ys n m in_xs len other =
     elim (apart n m other) [
-      | inl less ↦ ap slice_index (below (32768 * n) (32768 * n + 32768 - 32768 * n) (32768 * m) (32768 * m + 32768) xs ys (omega arith) (omega arith) (omega arith))
-      | inr more ↦ ap slice_index (above (32768 * n) (32768 * n + 32768 - 32768 * n) (32768 * m) (32768 * m + 32768) xs ys (omega arith) (omega arith) (omega arith))
+      | inl less ↦ ap slice_index (below (32784 * n) (32784 * n + 32768 - 32784 * n) (32784 * m) (32784 * m + 32768) xs ys (omega arith) (omega arith) (omega arith))
+      | inr more ↦ ap slice_index (above (32784 * n) (32784 * n + 32768 - 32784 * n) (32784 * m) (32784 * m + 32768) xs ys (omega arith) (omega arith) (omega arith))
     ]
 
 zeros-take : (k : ℕ) (xs : List ℕ) → ((i : ℕ) → slice_index xs i ≡ 0) → (i : ℕ) → slice_index (take k xs) i ≡ 0
@@ -41,4 +41,4 @@ zeros-take (suc k) (x ∷ xs) zeros (suc i) = zeros-take k xs (λ j. zeros (suc 
 
 -- a part of zeros is a memory of zeros
 pub local_of-zeros : (xs : List ℕ) → ((i : ℕ) → slice_index xs i ≡ 0) → (n : ℕ) → local_of xs n ≡ (λ i. 0)
-local_of-zeros xs zeros n = fun_ext (zeros-take (32768 * n + 32768 - 32768 * n) (drop (32768 * n) xs) (λ i. get_or-drop (32768 * n) xs i 0 ∙ zeros (32768 * n + i)))
+local_of-zeros xs zeros n = fun_ext (zeros-take (32784 * n + 32768 - 32784 * n) (drop (32784 * n) xs) (λ i. get_or-drop (32784 * n) xs i 0 ∙ zeros (32784 * n + i)))

@@ -49,21 +49,21 @@ lw-control t number rd rs imm i h s e f = let aligned = eq-eqb _ 0 e in rw (alig
 pub sw-local : (t : Setting) (number rs rv imm i : ℕ) (h : Hart) (s : Shared) → word_sum (h.registers rs) imm % 4 ≡ 0
     → place_of (word_sum (h.registers rs) imm) ≡ LocalWord i
     → perform t number (Sw rs rv imm) h s
-        ≡ Goes (record (moves h) { local = put h.local i (h.registers rv) })
-          (record s { reserved = reserves s.reserved number (unless (word_sum (h.registers rs) imm / 4 * 4) (s.reserved number)) })
+    ≡ Goes (record (moves h) { local = put h.local i (h.registers rv) })
+    (record s { reserved = reserves s.reserved number (unless (word_sum (h.registers rs) imm / 4 * 4) (s.reserved number)) })
 sw-local t number rs rv imm i h s e f = let aligned = eq-eqb _ 0 e in rw (aligned, f)
 
 -- one to shared data or control ends those of its word
 pub sw-shared : (t : Setting) (number rs rv imm i : ℕ) (h : Hart) (s : Shared) → word_sum (h.registers rs) imm % 4 ≡ 0
     → place_of (word_sum (h.registers rs) imm) ≡ SharedWord i
     → perform t number (Sw rs rv imm) h s
-        ≡ Goes (moves h) (record s { words = put s.words i (h.registers rv); reserved = cleared s.reserved (word_sum (h.registers rs) imm / 4 * 4) })
+    ≡ Goes (moves h) (record s { words = put s.words i (h.registers rv); reserved = cleared s.reserved (word_sum (h.registers rs) imm / 4 * 4) })
 sw-shared t number rs rv imm i h s e f = let aligned = eq-eqb _ 0 e in rw (aligned, f)
 
 pub sw-control : (t : Setting) (number rs rv imm i : ℕ) (h : Hart) (s : Shared) → word_sum (h.registers rs) imm % 4 ≡ 0
     → place_of (word_sum (h.registers rs) imm) ≡ ControlWord i
     → perform t number (Sw rs rv imm) h s
-        ≡ Goes (moves h) (record s { control = put s.control i (h.registers rv); reserved = cleared s.reserved (word_sum (h.registers rs) imm / 4 * 4) })
+    ≡ Goes (moves h) (record s { control = put s.control i (h.registers rv); reserved = cleared s.reserved (word_sum (h.registers rs) imm / 4 * 4) })
 sw-control t number rs rv imm i h s e f = let aligned = eq-eqb _ 0 e in rw (aligned, f)
 
 pub sw-out_int : (t : Setting) (number rs rv imm : ℕ) (h : Hart) (s : Shared) → word_sum (h.registers rs) imm % 4 ≡ 0

@@ -12,9 +12,9 @@ use Rattle.fk_machine.specs.Cycle.{Machine}
 abbrev pub hart_of : HartState → Memory → Hart
 hart_of h local = record { registers = slice_index h.registers; pc = h.pc; local = local; ended = h.ended }
 
--- the local memory of the hart with a number, in those of all harts: 32,768 words each
+-- the local memory of the hart with a number, in those of all harts: 32,768 words each, and 16 unused ones after them
 abbrev pub local_of : List ℕ → ℕ → Memory
-local_of locals number = slice_index (slice_range locals (32768 * number) (32768 * number + 32768))
+local_of locals number = slice_index (slice_range locals (32784 * number) (32784 * number + 32768))
 
 -- the harts from a number on, each with its local memory
 abbrev pub harts_of : ℕ → List HartState → (ℕ → Memory) → List Hart

@@ -3,11 +3,10 @@
 ghost use Rattle.std.specs.Prelude.{◌≡◌, ◌+◌, ◌*◌, ◌≤◌, vec_len, vec_capacity};
 
 use crate::hart::first_harts;
-use crate::place::LOCAL_WORDS;
 use crate::setting::Setting;
 use crate::shared::SharedState;
 use crate::stand::Stand;
-use crate::turns::{stand_after, take_turns};
+use crate::turns::{LOCAL_STRIDE, stand_after, take_turns};
 use crate::zeros::zeros;
 use fk_image::Image;
 use fk_isa::Hart;
@@ -24,7 +23,7 @@ pub struct Machine {
     stand: Stand,
     ghost few: { vec_len harts ≤ 1024 },
     ghost counted: { setting.harts ≡ vec_len harts },
-    ghost own: { vec_len locals ≡ 32768 * vec_len harts },
+    ghost own: { vec_len locals ≡ 32784 * vec_len harts },
     ghost reserved: { vec_len shared.reserved ≡ vec_len harts },
     ghost room: { 12 * vec_len harts ≤ vec_capacity shared.output },
     ghost printed: { vec_len shared.output ≤ 12 * vec_len harts },
@@ -57,7 +56,7 @@ impl Machine {
     {
         let setting = Setting::make(alloc, &image.code, harts, input.len() as u32)?;
         let shared = SharedState::make(alloc, &image.globals, input, harts)?;
-        let locals = zeros(alloc, LOCAL_WORDS as usize * harts as usize)?;
+        let locals = zeros(alloc, LOCAL_STRIDE as usize * harts as usize)?;
         Ok(Machine {
             setting,
             harts: first_harts(alloc, harts)?,

@@ -13,6 +13,10 @@ use crate::stand::Stand;
 use crate::turn::take_turn;
 use fk_isa::Hart;
 
+/// From one hart's local memory to the next there are so many words: 16 more than it has. Where the
+/// distance is a power of two, the words that harts use most fall into the same sets of a cache.
+pub const LOCAL_STRIDE: u32 = LOCAL_WORDS + 16;
+
 /// How the machine stands after its turns, of which one may have ended it.
 pub fn stand_after(stop: Option<Stand>, harts: &[Hart]) -> Stand
     ensures { (local : ℕ → Memory) → result ≡ stand_after stop (harts_of 0 harts.now local) }
@@ -39,7 +43,7 @@ pub fn take_turns(
     shared: &mut SharedState,
 ) -> Option<Stand>
     requires few { length harts.old ≤ 1024 }
-    requires own { length locals.old ≡ LOCAL_WORDS * length harts.old }
+    requires own { length locals.old ≡ LOCAL_STRIDE * length harts.old }
     requires reserved { vec_len shared.old.reserved ≡ length harts.old }
     requires output { LINE_BYTES * length harts.old ≤ room_of shared.old }
     ensures turns { TakesTurns (turns (setting_of setting.now) 0)
@@ -49,7 +53,7 @@ pub fn take_turns(
     for number in 0..harts.len() {
         let hart = &mut harts[number];
         if !hart.ended {
-            let start = LOCAL_WORDS as usize * number;
+            let start = LOCAL_STRIDE as usize * number;
             let local = &mut locals[start..start + LOCAL_WORDS as usize];
             if let Some(stand) = take_turn(setting, number as u32, hart, local, shared) {
                 return Some(stand);

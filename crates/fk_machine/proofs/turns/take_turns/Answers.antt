@@ -21,7 +21,7 @@ returns-in-Some-clause-turns c =
     let n = c.loop-number.number in
     let old = c.loop-number.locals in
     let new = c.take_turn.new.local in
-    let within : 32768 * n + 32768 ≤ length old = omega arith in
+    let within : 32784 * n + 32768 ≤ length old = omega arith in
     let own : length new ≡ 32768 = grind (arith, common_steps, c.take_turn.auto.local) in
     let e = c.in-Some.ensures.effect in
     let hart = ap (hart_of c.take_turn.new.hart) (local_of-own old new n within own) ∙ e.1 in
@@ -35,7 +35,7 @@ loop-number-preserved c =
       | then-not-hart+in_default w ↦
           let old = c.loop-number.locals in
           let new = w.take_turn.new.local in
-          let within : 32768 * n + 32768 ≤ length old = omega arith in
+          let within : 32784 * n + 32768 ≤ length old = omega arith in
           let own : length new ≡ 32768 = grind (arith, common_steps, w.take_turn.auto.local) in
           let h' = w.take_turn.new.hart in
           let s' = shared_of w.take_turn.new.shared in
