@@ -1,9 +1,49 @@
 -- The report lines.
-use Rattle.std.specs.Prelude.{ℕ, List, [], ◌∷◌, ◌++◌, codes}
+use Rattle.std.specs.Prelude.{ℕ, List, [], ◌∷◌, ◌++◌, ◌==◌, if◌then◌else◌, codes}
 use Rattle.std.specs.Fmt.{decimal}
 use Rattle.fk_syntax.specs.declared.Place.{Place}
+use Rattle.fk_asm.specs.Listing.{eight_digits}
+use Rattle.fk_top.specs.declared.kinds.FaultKind.{FaultKind}
+use Rattle.fk_top.specs.declared.kinds.FaultKind.TheVariants as fault
+use Rattle.fk_top.specs.declared.kinds.TrapKind.{TrapKind}
+use Rattle.fk_top.specs.declared.kinds.TrapKind.TheVariants as trap
 use Rattle.fk_top.specs.declared.report.Report.{Report}
-use Rattle.fk_top.specs.declared.report.Report.TheVariants.{Finished, Stopped, BadByte, OpenComment, OpenString, WideNumber, SourceTooLong, NotBuilt, CommandLine, ReadFault}
+use Rattle.fk_top.specs.declared.report.Report.TheVariants.{Finished, Built, Listed, Fault, Stopped, Trap, BadByte, OpenComment, OpenString, WideNumber, Unexpected, EndOfText, Nesting, SourceTooLong, Magic, Version, Short, LongTail, BadTable, BadWord, NotBuilt, CommandLine, ReadFault}
+
+-- the fault of an operation, by its kind; most kinds have none
+abbrev pub fault_kind : ℕ → FaultKind
+fault_kind kind =
+    if kind == 12 then fault.BadAddress
+    else if kind == 22 then fault.CallDepth
+    else if kind == 25 then fault.GroupSpace
+    else if kind == 27 then fault.GroupSpace
+    else fault.Other
+
+-- the name of a fault
+abbrev pub fault_name : FaultKind → List ℕ
+fault_name fault.BadAddress = codes "BadAddress"
+fault_name fault.CallDepth = codes "CallDepth"
+fault_name fault.GroupSpace = codes "GroupSpace"
+fault_name fault.Other = codes "Fault"
+
+-- the traps of the machine, which numbers them from 1 to 6
+abbrev pub trap_kind : ℕ → TrapKind
+trap_kind number =
+    if number == 1 then trap.Fetch
+    else if number == 2 then trap.Unknown
+    else if number == 3 then trap.Misaligned
+    else if number == 4 then trap.Access
+    else if number == 5 then trap.Ecall
+    else trap.Ebreak
+
+-- the name of a trap
+abbrev pub trap_name : TrapKind → List ℕ
+trap_name trap.Fetch = codes "Fetch"
+trap_name trap.Unknown = codes "Unknown"
+trap_name trap.Misaligned = codes "Misaligned"
+trap_name trap.Access = codes "Access"
+trap_name trap.Ecall = codes "Ecall"
+trap_name trap.Ebreak = codes "Ebreak"
 
 -- a line and a column, with a colon between them
 abbrev pub place_text : Place → List ℕ
@@ -11,12 +51,29 @@ place_text place = decimal place.line ++ 58 ∷ decimal place.column
 
 abbrev pub text_of : Report → List ℕ
 text_of (Finished cycles) = codes "finished after " ++ decimal cycles ++ codes " cycles"
+text_of (Built words) = codes "built " ++ decimal words ++ codes " words"
+text_of (Listed words) = codes "listed " ++ decimal words ++ codes " words"
+text_of (Fault kind place processor cycles) =
+    codes "fault " ++ fault_name kind ++ codes " at " ++ place_text place
+    ++ codes " by processor " ++ decimal processor ++ codes " after " ++ decimal cycles ++ codes " cycles"
 text_of (Stopped cycles) = codes "stopped after " ++ decimal cycles ++ codes " cycles"
+text_of (Trap kind pc hart cycles) =
+    codes "trap " ++ trap_name kind ++ codes " at 0x" ++ eight_digits pc
+    ++ codes " by hart " ++ decimal hart ++ codes " after " ++ decimal cycles ++ codes " cycles"
 text_of (BadByte place) = codes "refused 1 BadByte at " ++ place_text place
 text_of (OpenComment place) = codes "refused 2 OpenComment at " ++ place_text place
 text_of (OpenString place) = codes "refused 3 OpenString at " ++ place_text place
 text_of (WideNumber place) = codes "refused 4 WideNumber at " ++ place_text place
+text_of (Unexpected place) = codes "refused 5 Unexpected at " ++ place_text place
+text_of EndOfText = codes "refused 6 EndOfText"
+text_of (Nesting place) = codes "refused 7 Nesting at " ++ place_text place
 text_of (SourceTooLong bytes) = codes "refused 12 SourceTooLong " ++ decimal bytes
+text_of Magic = codes "refused 13 Magic"
+text_of (Version version) = codes "refused 14 Version " ++ decimal version
+text_of (Short bytes wanted) = codes "refused 15 Short " ++ decimal bytes ++ codes " " ++ decimal wanted
+text_of (LongTail wanted) = codes "refused 16 LongTail " ++ decimal wanted
+text_of (BadTable entry) = codes "refused 17 BadTable " ++ decimal entry
+text_of (BadWord word) = codes "refused 18 BadWord " ++ decimal word
 text_of NotBuilt = codes "refused 22 NotBuilt"
 text_of CommandLine = codes "refused command line"
 text_of ReadFault = codes "read fault"

@@ -1,121 +1,206 @@
-//! What a call comes to, before anything is given.
+//! What a call comes to, before anything is put or given.
 
-ghost use Rattle.std.specs.Prelude.{◌≡◌, ◌≤◌, [], length, map, string_bytes, IfOk, OnErr};
-ghost use Rattle.std.specs.Prelude.{true, false};
-ghost use Rattle.fk_machine.specs.Cycle.{is_running};
-ghost use Rattle.fk_top.specs.Call.{Ends, SourceEnds, request_of};
+ghost use Rattle.std.specs.Prelude.{◌≡◌, ◌⊎◌, ◌≤◌, [], length, map, string_bytes, IfOk, IsSomeAnd};
+ghost use Rattle.fk_image.specs.Limits.{IsWithinLimits};
+ghost use Rattle.fk_top.specs.Words.{command_of};
+ghost use Rattle.fk_top.specs.Outcome.{ComesTo, ListsImage, PutsImage, RefusesImage, RefusesSource, RunsImage, RunsSource, listed, listing, ran, silent};
+ghost use Rattle.fk_top.specs.Ending.{outcome_of};
+ghost use Rattle.fk_top.specs.Call.{Ends, request_of};
 
+use crate::command::CommandWords;
+use crate::refused::{image_report_of, report_of};
 use crate::report::Report;
-use crate::run::{Ran, run_image};
+use crate::run::run_image;
+use crate::stand::{stand_report, status_of};
 use crate::status::Status;
 use crate::words::read_words;
-use fk_compile::{Refusal, compile};
+use fk_asm::listing::listing_line;
+use fk_compile::compile;
+use fk_image::{Image, read_image, write_image};
 use fk_ports::{Store, StoreFault};
 use std::alloc::{AllocError, Global};
 
-/// A source has at most so many bytes. One more is fetched, to tell a longer one.
-pub const SOURCE_LIMIT: usize = 1_048_576;
-
-/// What a call comes to: its status, the bytes for standard output, and its report.
+/// A file that is to be put.
 #[derive(Drop)]
-pub struct Ending {
+pub struct PutFile<'a> {
+    pub name: &'a str,
+    pub bytes: Vec<u8>,
+}
+
+/// What a call comes to: its status, the file that it puts, if it puts one, the bytes for standard
+/// output, and its report.
+#[derive(Drop)]
+pub struct Ending<'a> {
     pub status: Status,
+    pub put: Option<PutFile<'a>>,
     pub output: Vec<u8>,
     pub report: Report,
 }
 
-// An ending without output.
-fn silent(alloc: Global, status: Status, report: Report) -> Ending
-    ensures status { result.status ≡ status }
-    ensures output { result.output.items ≡ [] }
-    ensures report { result.report ≡ report }
+/// What the words come to over a store, which changes nothing there and gives nothing to anybody.
+pub fn find_ending<'a, F: Store>(
+    alloc: Global,
+    words: &'a [String],
+    files: &mut F,
+) -> Result<Ending<'a>, AllocError>
+    ensures ends { IfOk result (λ e. Ends (request_of F.files F.fetch_faults (map string_bytes words.now) files.old files.new) (outcome_of e)) }
+    ensures files { F.files files.new ≡ F.files files.old }
+    ensures put_faults { F.put_faults files.new ≡ F.put_faults files.old }
+{
+    let Some(command) = read_words(words) else {
+        return Ok(silent(alloc, Status::Usage, Report::CommandLine));
+    };
+    let mut bytes = Vec::new(alloc);
+    match files.fetch(command.file(), command.most_bytes(), &mut bytes) {
+        Ok(()) => command_ending(alloc, command, bytes.as_slice()),
+        Err(StoreFault::Fault) => Ok(silent(alloc, Status::ReadFault, Report::ReadFault)),
+        Err(StoreFault::Memory) => Err(AllocError),
+    }
+}
+
+// An ending without a file and without output.
+fn silent<'a>(alloc: Global, status: Status, report: Report) -> Ending<'a>
+    ensures { outcome_of result ≡ silent status report }
 {
     Ending {
         status,
+        put: None,
         output: Vec::new(alloc),
         report,
     }
 }
 
-// The ending of a source that is refused.
-fn refused(alloc: Global, report: Report) -> Ending
-    ensures status { result.status ≡ Status.Refused }
-    ensures output { result.output.items ≡ [] }
-    ensures report { result.report ≡ report }
+// What a command comes to over the bytes that it read.
+fn command_ending<'a>(
+    alloc: Global,
+    command: CommandWords<'a>,
+    bytes: &[u8],
+) -> Result<Ending<'a>, AllocError>
+    ensures { IfOk result (λ e. ComesTo (command_of command.entry) bytes.now (outcome_of e)) }
 {
-    silent(alloc, Status::Refused, report)
+    match command {
+        CommandWords::Run(run) => run_source(alloc, bytes, run.harts, run.cycles),
+        CommandWords::Build(_, image) => build_source(alloc, bytes, image),
+        CommandWords::Exec(run) => run_bytes(alloc, bytes, run.harts, run.cycles),
+        CommandWords::List(_) => list_bytes(alloc, bytes),
+    }
 }
 
-// What a source comes to.
-fn source_ending(
+// Compiles a source and runs it.
+fn run_source<'a>(
     alloc: Global,
     source: &[u8],
     harts: u32,
     cycles: u32,
-) -> Result<Ending, AllocError>
+) -> Result<Ending<'a>, AllocError>
     requires some_harts { 1 ≤ harts }
     requires few_harts { harts ≤ 1024 }
-    requires at_most { length source.now ≤ 1048577 }
-    ensures { IfOk result (λ e. SourceEnds source.now harts cycles e.status e.output.items e.report) }
+    ensures { IfOk result (λ e. RefusesSource source.now (outcome_of e) ⊎ RunsSource source.now harts cycles (outcome_of e)) }
+{
+    match compile(alloc, source) {
+        Ok(image) => run_ending(alloc, &image, harts, cycles),
+        Err(refusal) => refused(alloc, Status::Refused, report_of(refusal)),
+    }
+}
+
+// Compiles a source and makes the bytes of its image.
+fn build_source<'a>(alloc: Global, source: &[u8], name: &'a str) -> Result<Ending<'a>, AllocError>
+    ensures { IfOk result (λ e. RefusesSource source.now (outcome_of e) ⊎ PutsImage source.now name.now (outcome_of e)) }
 {
     match compile(alloc, source) {
         Ok(image) => {
-            let ran = run_image(alloc, &image, harts, cycles)?;
-            Ok(run_ending(ran, cycles))
+            let bytes = write_image(alloc, &image)?;
+            Ok(Ending {
+                status: Status::Done,
+                put: Some(PutFile { name, bytes }),
+                output: Vec::new(alloc),
+                report: Report::Built(image.code.len() as u32),
+            })
         }
-        Err(Refusal::SourceTooLong(bytes)) => {
-            let report = Report::SourceTooLong(bytes as u32);
-            Ok(refused(alloc, report))
-        }
-        Err(Refusal::BadByte(place)) => Ok(refused(alloc, Report::BadByte(place))),
-        Err(Refusal::OpenComment(place)) => Ok(refused(alloc, Report::OpenComment(place))),
-        Err(Refusal::OpenString(place)) => Ok(refused(alloc, Report::OpenString(place))),
-        Err(Refusal::WideNumber(place)) => Ok(refused(alloc, Report::WideNumber(place))),
-        Err(Refusal::NotBuilt) => Ok(refused(alloc, Report::NotBuilt)),
-        Err(Refusal::Memory(error)) => Err(error),
+        Err(refusal) => refused(alloc, Status::Refused, report_of(refusal)),
     }
 }
 
-// What a run comes to. A straight-line program neither faults nor traps.
-fn run_ending(ran: Ran, bound: u32) -> Ending
-    ensures output { result.output.items ≡ ran.output.items }
-    ensures running { is_running ran.stand ≡ true → (result.status ≡ Status.CycleBound) × (result.report ≡ Report.Stopped bound) }
-    ensures over { is_running ran.stand ≡ false → (result.status ≡ Status.Done) × (result.report ≡ Report.Finished ran.cycles) }
-{
-    if ran.stand.is_running() {
-        Ending {
-            status: Status::CycleBound,
-            output: ran.output,
-            report: Report::Stopped(bound),
-        }
-    } else {
-        Ending {
-            status: Status::Done,
-            output: ran.output,
-            report: Report::Finished(ran.cycles),
-        }
-    }
-}
-
-/// What the words come to over a store. It gives nothing to anybody.
-pub fn find_ending<F: Store>(
+// Reads an image and runs it.
+fn run_bytes<'a>(
     alloc: Global,
-    words: &[String],
-    files: &mut F,
-) -> Result<Ending, AllocError>
-    ensures ends { IfOk result (λ e. Ends (request_of F.files F.fetch_faults (map string_bytes words.now) files.old files.new) e.status e.output.items e.report) }
-    ensures files { F.files files.new ≡ F.files files.old }
-    ensures put_faults { F.put_faults files.new ≡ F.put_faults files.old }
-    ensures never_falls { F.fetch_faults files.old ≤ F.fetch_faults files.new }
-    ensures memory { OnErr result (F.fetch_faults files.new ≡ F.fetch_faults files.old) }
+    bytes: &[u8],
+    harts: u32,
+    cycles: u32,
+) -> Result<Ending<'a>, AllocError>
+    requires some_harts { 1 ≤ harts }
+    requires few_harts { harts ≤ 1024 }
+    ensures { IfOk result (λ e. RefusesImage bytes.now (outcome_of e) ⊎ RunsImage bytes.now harts cycles (outcome_of e)) }
 {
-    let Some(command) = read_words(words) else {
-        return Ok(silent(alloc, Status::Usage, Report::CommandLine));
-    };
-    let mut source = Vec::new(alloc);
-    match files.fetch(command.file, SOURCE_LIMIT + 1, &mut source) {
-        Ok(()) => source_ending(alloc, source.as_slice(), command.harts, command.cycles),
-        Err(StoreFault::Fault) => Ok(silent(alloc, Status::ReadFault, Report::ReadFault)),
-        Err(StoreFault::Memory) => Err(AllocError),
+    match read_image(alloc, bytes) {
+        Ok(image) => run_ending(alloc, &image, harts, cycles),
+        Err(fault) => refused(alloc, Status::ImageRefused, image_report_of(fault)),
     }
+}
+
+// Reads an image and lists its code.
+fn list_bytes<'a>(alloc: Global, bytes: &[u8]) -> Result<Ending<'a>, AllocError>
+    ensures { IfOk result (λ e. RefusesImage bytes.now (outcome_of e) ⊎ ListsImage bytes.now (outcome_of e)) }
+{
+    match read_image(alloc, bytes) {
+        Ok(image) => Ok(Ending {
+            status: Status::Done,
+            put: None,
+            output: list_code(alloc, &image.code)?,
+            report: Report::Listed(image.code.len() as u32),
+        }),
+        Err(fault) => refused(alloc, Status::ImageRefused, image_report_of(fault)),
+    }
+}
+
+// The ending of a refusal, which has a report where it isn't want of memory.
+fn refused<'a>(
+    alloc: Global,
+    status: Status,
+    report: Option<Report>,
+) -> Result<Ending<'a>, AllocError>
+    ensures { IfOk result (λ e. IsSomeAnd report (λ r. outcome_of e ≡ silent status r)) }
+{
+    match report {
+        Some(report) => Ok(silent(alloc, status, report)),
+        None => Err(AllocError),
+    }
+}
+
+// What a run of an image comes to.
+fn run_ending<'a>(
+    alloc: Global,
+    image: &Image,
+    harts: u32,
+    cycles: u32,
+) -> Result<Ending<'a>, AllocError>
+    requires limits { IsWithinLimits image.now }
+    requires some_harts { 1 ≤ harts }
+    requires few_harts { harts ≤ 1024 }
+    ensures { IfOk result (λ e. outcome_of e ≡ ran image.now harts cycles) }
+{
+    let run = run_image(alloc, image, harts, cycles)?;
+    Ok(Ending {
+        status: status_of(run.stand),
+        put: None,
+        output: run.output,
+        report: stand_report(image, cycles, run.stand, run.cycles),
+    })
+}
+
+/// The longest line of a listing.
+const LINE_SIZE: usize = 68;
+
+// The lines of code, one for each word.
+fn list_code(alloc: Global, code: &[u32]) -> Result<Vec<u8>, AllocError>
+    requires { length code.now ≤ 262144 }
+    ensures { IfOk result (λ lines. lines.items ≡ listing 0 code.now) }
+{
+    let mut lines = Vec::with_capacity(alloc, LINE_SIZE * code.len())?;
+    let mut address = 0;
+    for word in code {
+        lines.extend_from_slice(listing_line(address, *word).as_slice())?;
+        address += 4;
+    }
+    Ok(lines)
 }

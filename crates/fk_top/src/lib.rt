@@ -2,9 +2,14 @@
 #![tactic(auto)]
 
 mod call;
+mod command;
 mod ending;
+mod kinds;
+mod line;
+mod refused;
 mod report;
 mod run;
+mod stand;
 mod status;
 #[cfg(test)]
 mod tests;

@@ -1,13 +1,15 @@
 //! The report: the last line that a call writes, to standard error.
 
-ghost use Rattle.std.specs.Prelude.{◌≡◌, ◌≤◌, ◌+◌, ◌++◌, length};
-ghost use Rattle.arrayvec.specs.ArrayVec.{array_vec_len};
+ghost use Rattle.std.specs.Prelude.{◌≡◌, ◌≤◌, ◌+◌, ◌++◌, codes, length};
 ghost use Rattle.std.specs.Fmt.{decimal};
-ghost use Rattle.std.specs.Prelude.{[], ◌∷◌};
-ghost use Rattle.fk_top.specs.Report.{line_of, place_text};
+ghost use Rattle.arrayvec.specs.ArrayVec.{array_vec_len};
+ghost use Rattle.fk_top.specs.declared.report.Report.TheVariants as reports;
+ghost use Rattle.fk_top.specs.Report.{line_of, place_text, text_of};
 
+use crate::kinds::{FaultKind, TrapKind};
+use crate::line::{Line, append, append_number, append_place};
 use arrayvec::ArrayVec;
-use fk_num::unsigned_text;
+use fk_asm::listing::eight_digits;
 use fk_syntax::Place;
 
 /// What a call reports.
@@ -15,8 +17,26 @@ use fk_syntax::Place;
 pub enum Report {
     /// All harts ended: after so many cycles.
     Finished(u32),
+    /// An image was put: how many words of code it has.
+    Built(u32),
+    /// The words of code were listed: how many.
+    Listed(u32),
+    /// The program faulted: its operation's fault and place, the processor, and after how many cycles.
+    Fault {
+        kind: FaultKind,
+        place: Place,
+        processor: u32,
+        cycles: u32,
+    },
     /// The bound was reached: so many cycles.
     Stopped(u32),
+    /// The machine trapped: the trap, the pc and the hart, and after how many cycles.
+    Trap {
+        kind: TrapKind,
+        pc: u32,
+        hart: u32,
+        cycles: u32,
+    },
     /// A byte of the source begins no token.
     BadByte(Place),
     /// A comment isn't closed.
@@ -25,8 +45,26 @@ pub enum Report {
     OpenString(Place),
     /// A number is above 2^32 - 1.
     WideNumber(Place),
+    /// A token with which no program goes on.
+    Unexpected(Place),
+    /// The text ends before its program does.
+    EndOfText,
+    /// A token that opens one level too many.
+    Nesting(Place),
     /// The source has more than 1,048,576 bytes: how many were read.
-    SourceTooLong(u32),
+    SourceTooLong(u64),
+    /// The bytes of the image don't begin as those of one.
+    Magic,
+    /// The image has another version: which.
+    Version(u32),
+    /// The image has so many bytes, fewer than it needs: how many those are.
+    Short(u64, u64),
+    /// Bytes follow the image: how many it needs.
+    LongTail(u64),
+    /// An entry of the image's tables is past its limits: which.
+    BadTable(u32),
+    /// A word of the image's header is past its limits: which.
+    BadWord(u32),
     /// The source is not of the form that is built.
     NotBuilt,
     /// The words are no command.
@@ -37,56 +75,150 @@ pub enum Report {
 
 impl Report {
     /// The line, with its newline.
-    pub fn line(&self) -> ArrayVec<u8, 48>
+    pub fn line(&self) -> Line
         ensures { result.items ≡ line_of self.now }
     {
+        let mut line = self.text();
+        append(&mut line, b"\n");
+        line
+    }
+
+    // The line without its newline.
+    fn text(&self) -> Line
+        ensures text { result.items ≡ text_of self.now }
+        ensures short { array_vec_len result ≤ 159 }
+    {
         match *self {
-            Report::Finished(cycles) => counted(b"finished after ", cycles, b" cycles\n"),
-            Report::Stopped(cycles) => counted(b"stopped after ", cycles, b" cycles\n"),
+            Report::Finished(cycles) => counted(b"finished after ", cycles, b" cycles"),
+            Report::Built(words) => counted(b"built ", words, b" words"),
+            Report::Listed(words) => counted(b"listed ", words, b" words"),
+            Report::Fault {
+                kind,
+                place,
+                processor,
+                cycles,
+            } => fault_text(kind, place, processor, cycles),
+            Report::Stopped(cycles) => counted(b"stopped after ", cycles, b" cycles"),
+            Report::Trap {
+                kind,
+                pc,
+                hart,
+                cycles,
+            } => trap_text(kind, pc, hart, cycles),
             Report::BadByte(place) => placed(b"refused 1 BadByte at ", place),
             Report::OpenComment(place) => placed(b"refused 2 OpenComment at ", place),
             Report::OpenString(place) => placed(b"refused 3 OpenString at ", place),
             Report::WideNumber(place) => placed(b"refused 4 WideNumber at ", place),
-            Report::SourceTooLong(bytes) => counted(b"refused 12 SourceTooLong ", bytes, b"\n"),
-            Report::NotBuilt => plain(b"refused 22 NotBuilt\n"),
-            Report::CommandLine => plain(b"refused command line\n"),
-            Report::ReadFault => plain(b"read fault\n"),
+            Report::Unexpected(place) => placed(b"refused 5 Unexpected at ", place),
+            Report::EndOfText => plain(b"refused 6 EndOfText"),
+            Report::Nesting(place) => placed(b"refused 7 Nesting at ", place),
+            Report::SourceTooLong(bytes) => numbered(b"refused 12 SourceTooLong ", bytes),
+            Report::Magic => plain(b"refused 13 Magic"),
+            Report::Version(version) => numbered(b"refused 14 Version ", u64::from(version)),
+            Report::Short(bytes, wanted) => short_text(bytes, wanted),
+            Report::LongTail(wanted) => numbered(b"refused 16 LongTail ", wanted),
+            Report::BadTable(entry) => numbered(b"refused 17 BadTable ", u64::from(entry)),
+            Report::BadWord(word) => numbered(b"refused 18 BadWord ", u64::from(word)),
+            Report::NotBuilt => plain(b"refused 22 NotBuilt"),
+            Report::CommandLine => plain(b"refused command line"),
+            Report::ReadFault => plain(b"read fault"),
         }
     }
 }
 
-// A line without a number.
-fn plain(text: &[u8]) -> ArrayVec<u8, 48>
-    requires { length text.now ≤ 48 }
-    ensures { result.items ≡ text.now }
+// A text without a number.
+fn plain(text: &[u8]) -> Line
+    requires { length text.now ≤ 30 }
+    ensures text { result.items ≡ text.now }
+    ensures len { array_vec_len result ≡ length text.now }
 {
     let mut line = ArrayVec::new();
-    let _ = line.try_extend_from_slice(text);
+    append(&mut line, text);
     line
 }
 
-// A line with one number.
-fn counted(before: &[u8], number: u32, after: &[u8]) -> ArrayVec<u8, 48>
-    requires before { length before.now ≤ 26 }
-    requires after { length after.now ≤ 10 }
-    ensures text { result.items ≡ before.now ++ decimal number ++ after.now }
-    ensures short { array_vec_len result ≤ length before.now + 10 + length after.now }
+// A text that ends in a number.
+fn numbered(before: &[u8], number: u64) -> Line
+    requires { length before.now ≤ 30 }
+    ensures text { result.items ≡ before.now ++ decimal number }
+    ensures short { array_vec_len result ≤ 50 }
 {
     let mut line = plain(before);
-    let digits = unsigned_text(number);
-    let _ = line.try_extend_from_slice(digits.as_slice());
-    let _ = line.try_extend_from_slice(after);
+    append_number(&mut line, number);
     line
 }
 
-// A line that ends in a place.
-fn placed(before: &[u8], place: Place) -> ArrayVec<u8, 48>
-    requires { length before.now ≤ 25 }
-    ensures { result.items ≡ before.now ++ place_text place ++ 10 ∷ [] }
+// A text with a number in it.
+fn counted(before: &[u8], number: u32, after: &[u8]) -> Line
+    requires before { length before.now ≤ 30 }
+    requires after { length after.now ≤ 10 }
+    ensures text { result.items ≡ before.now ++ decimal number ++ after.now }
+    ensures short { array_vec_len result ≤ 60 }
 {
-    let mut line = counted(before, place.line, b":");
-    let digits = unsigned_text(place.column);
-    let _ = line.try_extend_from_slice(digits.as_slice());
-    let _ = line.try_extend_from_slice(b"\n");
+    let mut line = numbered(before, u64::from(number));
+    append(&mut line, after);
     line
+}
+
+// A text that ends in a place.
+fn placed(before: &[u8], place: Place) -> Line
+    requires { length before.now ≤ 30 }
+    ensures text { result.items ≡ before.now ++ place_text place }
+    ensures short { array_vec_len result ≤ 71 }
+{
+    let mut line = plain(before);
+    append_place(&mut line, place);
+    line
+}
+
+// The text of an image of so many bytes, fewer than it needs.
+fn short_text(bytes: u64, wanted: u64) -> Line
+    ensures text { result.items ≡ text_of (reports.Short bytes wanted) }
+    ensures short { array_vec_len result ≤ 71 }
+{
+    let mut line = numbered(b"refused 15 Short ", bytes);
+    append(&mut line, b" ");
+    append_number(&mut line, wanted);
+    line
+}
+
+// The text of a fault.
+fn fault_text(kind: FaultKind, place: Place, processor: u32, cycles: u32) -> Line
+    ensures text { result.items ≡ text_of (reports.Fault kind place processor cycles) }
+    ensures short { array_vec_len result ≤ 159 }
+{
+    let mut line = plain(b"fault ");
+    append(&mut line, kind.name());
+    append(&mut line, b" at ");
+    append_place(&mut line, place);
+    append(&mut line, b" by processor ");
+    append_number(&mut line, u64::from(processor));
+    append_cycles(&mut line, cycles);
+    line
+}
+
+// The text of a trap.
+fn trap_text(kind: TrapKind, pc: u32, hart: u32, cycles: u32) -> Line
+    ensures text { result.items ≡ text_of (reports.Trap kind pc hart cycles) }
+    ensures short { array_vec_len result ≤ 159 }
+{
+    let mut line = plain(b"trap ");
+    append(&mut line, kind.name());
+    append(&mut line, b" at 0x");
+    append(&mut line, &eight_digits(pc));
+    append(&mut line, b" by hart ");
+    append_number(&mut line, u64::from(hart));
+    append_cycles(&mut line, cycles);
+    line
+}
+
+// Appends after how many cycles it was.
+fn append_cycles(line: &mut Line, cycles: u32)
+    requires room { array_vec_len line.old + 34 ≤ 159 }
+    ensures items { line.new.items ≡ line.old.items ++ codes " after " ++ decimal cycles ++ codes " cycles" }
+    ensures len { array_vec_len line.new ≤ array_vec_len line.old + 34 }
+{
+    append(line, b" after ");
+    append_number(line, u64::from(cycles));
+    append(line, b" cycles");
 }

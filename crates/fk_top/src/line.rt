@@ -1,0 +1,43 @@
+//! The line of a report, as it grows.
+
+ghost use Rattle.std.specs.Prelude.{◌≡◌, ◌≤◌, ◌+◌, ◌++◌, length};
+ghost use Rattle.std.specs.Fmt.{decimal};
+ghost use Rattle.arrayvec.specs.ArrayVec.{array_vec_len};
+ghost use Rattle.fk_top.specs.Report.{place_text};
+
+use arrayvec::ArrayVec;
+use fk_syntax::Place;
+use itoa::Buffer;
+
+/// A line, or the beginning of one. It takes no memory.
+pub type Line = ArrayVec<u8, 160>;
+
+/// Appends a piece, for which there is room.
+pub fn append(line: &mut Line, piece: &[u8])
+    requires room { array_vec_len line.old + length piece.now ≤ 160 }
+    ensures items { line.new.items ≡ line.old.items ++ piece.now }
+    ensures len { array_vec_len line.new ≡ array_vec_len line.old + length piece.now }
+{
+    let _ = line.try_extend_from_slice(piece);
+}
+
+/// Appends a number in decimal.
+pub fn append_number(line: &mut Line, number: u64)
+    requires room { array_vec_len line.old + 20 ≤ 160 }
+    ensures items { line.new.items ≡ line.old.items ++ decimal number }
+    ensures len { array_vec_len line.new ≤ array_vec_len line.old + 20 }
+{
+    let mut buffer = Buffer::new();
+    append(line, buffer.format(number).as_bytes());
+}
+
+/// Appends a line and a column, with a colon between them.
+pub fn append_place(line: &mut Line, place: Place)
+    requires room { array_vec_len line.old + 41 ≤ 160 }
+    ensures items { line.new.items ≡ line.old.items ++ place_text place }
+    ensures len { array_vec_len line.new ≤ array_vec_len line.old + 41 }
+{
+    append_number(line, u64::from(place.line));
+    append(line, b":");
+    append_number(line, u64::from(place.column));
+}
