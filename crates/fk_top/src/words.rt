@@ -1,6 +1,6 @@
 //! The words of a command line.
 
-ghost use Rattle.std.specs.Prelude.{◌≡◌, ◌↔◌, ◌≤◌, ℕ, IsTrue, Some, codes, map, string_bytes, IsNone, IfSome};
+ghost use Rattle.std.specs.Prelude.{◌≡◌, ◌↔◌, ◌≤◌, ℕ, [], ◌∷◌, IsTrue, Some, codes, map, string_bytes, IsNone, IfSome};
 ghost use Rattle.fk_num.specs.Numeral.{read_word};
 ghost use Rattle.fk_top.specs.Words.{Command, Reads, command_of};
 
@@ -14,29 +14,44 @@ pub fn read_words<'a>(words: &'a [String]) -> Option<CommandWords<'a>>
     ensures none { IsNone result → (c : Command) → Reads (map string_bytes words.now) c → ⊥ }
 {
     match words {
-        [name, file, harts_option, harts, cycles_option, cycles] => {
-            if harts_option.as_str() != "--harts" || cycles_option.as_str() != "--cycles" {
-                return None;
-            }
-            let run = read_run(file.as_str(), harts.as_str(), cycles.as_str())?;
-            match name.as_str() {
-                "run" => Some(CommandWords::Run(run)),
-                "exec" => Some(CommandWords::Exec(run)),
-                _ => None,
-            }
-        }
-        [name, file, option, image] => {
-            if name.as_str() != "build" || option.as_str() != "-o" {
-                return None;
-            }
-            Some(CommandWords::Build(file.as_str(), image.as_str()))
-        }
-        [name, image] => {
-            if name.as_str() != "list" {
-                return None;
-            }
-            Some(CommandWords::List(image.as_str()))
-        }
+        [name, file, first, harts, second, cycles] => read_six(
+            name.as_str(),
+            file.as_str(),
+            first.as_str(),
+            harts.as_str(),
+            second.as_str(),
+            cycles.as_str(),
+        ),
+        [name, file, option, image] => read_four(
+            name.as_str(),
+            file.as_str(),
+            option.as_str(),
+            image.as_str(),
+        ),
+        [name, image] => read_two(name.as_str(), image.as_str()),
+        _ => None,
+    }
+}
+
+// The command of six words.
+fn read_six<'a>(
+    name: &str,
+    file: &'a str,
+    first: &str,
+    harts: &str,
+    second: &str,
+    cycles: &str,
+) -> Option<CommandWords<'a>>
+    ensures some { IfSome result (λ c. Reads (name.now ∷ file.now ∷ first.now ∷ harts.now ∷ second.now ∷ cycles.now ∷ []) (command_of c)) }
+    ensures none { IsNone result → (c : Command) → Reads (name.now ∷ file.now ∷ first.now ∷ harts.now ∷ second.now ∷ cycles.now ∷ []) c → ⊥ }
+{
+    if first != "--harts" || second != "--cycles" {
+        return None;
+    }
+    let run = read_run(file, harts, cycles)?;
+    match name {
+        "run" => Some(CommandWords::Run(run)),
+        "exec" => Some(CommandWords::Exec(run)),
         _ => None,
     }
 }
@@ -58,4 +73,33 @@ fn read_run<'a>(file: &'a str, harts: &str, cycles: &str) -> Option<RunWords<'a>
         harts,
         cycles,
     })
+}
+
+// The command of four words.
+fn read_four<'a>(
+    name: &str,
+    file: &'a str,
+    option: &str,
+    image: &'a str,
+) -> Option<CommandWords<'a>>
+    ensures some { IfSome result (λ c. Reads (name.now ∷ file.now ∷ option.now ∷ image.now ∷ []) (command_of c)) }
+    ensures none { IsNone result → (c : Command) → Reads (name.now ∷ file.now ∷ option.now ∷ image.now ∷ []) c → ⊥ }
+{
+    if name == "build" && option == "-o" {
+        Some(CommandWords::Build(file, image))
+    } else {
+        None
+    }
+}
+
+// The command of two words.
+fn read_two<'a>(name: &str, image: &'a str) -> Option<CommandWords<'a>>
+    ensures some { IfSome result (λ c. Reads (name.now ∷ image.now ∷ []) (command_of c)) }
+    ensures none { IsNone result → (c : Command) → Reads (name.now ∷ image.now ∷ []) c → ⊥ }
+{
+    if name == "list" {
+        Some(CommandWords::List(image))
+    } else {
+        None
+    }
 }

@@ -1,0 +1,54 @@
+-- What is read whole, and that what is in order is not refused.
+use Rattle.std.proofs.Common.{◌≡◌, ℕ, ◌+◌, ◌*◌, ◌≤◌, ◌<◌, List, ◌∷◌, ◌++◌, codes, length, take, vec_len, flat_map, Some, None, refl, sym, ap, subst, ◌∙◌, arith}
+use Rattle.std.proofs.lemmas.List.{length-append, length-take, take_all}
+use Rattle.fk_lex.proofs.Determined as lexed
+use Rattle.fk_image.specs.declared.Image.{Image}
+use Rattle.fk_image.specs.Spelling.{IsImageOf, word_bytes, image_words, site_words, commit_words, header_words}
+use Rattle.fk_image.proofs.Accepted.{no_refusal}
+use Rattle.fk_image.proofs.Commits.{few_of_image}
+use Rattle.fk_image.proofs.Images.{length-words, length-sites, length-commits}
+use Rattle.fk_compile.specs.declared.refusal.Refusal.{Refusal}
+use Rattle.fk_compile.specs.declared.refusal.Refusal.TheVariants.{BadByte, OpenComment, OpenString, WideNumber, SourceTooLong, NotBuilt, Memory}
+use Rattle.fk_compile.specs.Refusal.{IsRefused}
+use Rattle.fk_top.specs.declared.report.Report.{Report}
+use Rattle.fk_top.specs.Refused.{IsRefusedAs, IsNoImageAs, report_of}
+use Rattle.fk_top.specs.Call.{IsText, IsImage}
+
+-- what was read short of its bound was read whole
+pub whole : (most : ℕ) (bytes : List ℕ) → length (take most bytes) < most → take most bytes ≡ bytes
+whole most bytes few = take_all most bytes (omega (arith, length-take most bytes, few))
+
+-- ---- sources
+
+not_refused : (source : List ℕ) (refusal : Refusal) (report : Report) → IsText source → IsRefused source refusal → report_of refusal ≡ Some report → ⊥
+not_refused source (BadByte place) report text refused says = lexed.one_reading.apart source text.straight.tokens _ text.straight.spelled refused.1
+not_refused source (OpenComment place) report text refused says = lexed.one_reading.apart source text.straight.tokens _ text.straight.spelled refused.1
+not_refused source (OpenString place) report text refused says = lexed.one_reading.apart source text.straight.tokens _ text.straight.spelled refused.1
+not_refused source (WideNumber place) report text refused says = lexed.one_reading.apart source text.straight.tokens _ text.straight.spelled refused.1
+not_refused source (SourceTooLong bytes) report text refused says = let short = text.short in absurd (omega (arith, refused.0, refused.1))
+not_refused source NotBuilt report text refused says = refused.1.none text.program text.straight
+not_refused source (Memory e) report text refused says = cc
+
+pub text_accepted : (source : List ℕ) (report : Report) → IsText source → IsRefusedAs source report → ⊥
+text_accepted source report text r = not_refused source r.refusal report text r.refused r.says
+
+-- ---- images
+
+length-image_words : (image : Image) → length (image_words image) ≡ 5 + length image.code.items + length image.globals.items + 3 * length image.sites.items + 2 * length image.commits.items
+length-image_words image =
+    let code = image.code.items in
+    let globals = image.globals.items in
+    let sites = flat_map site_words image.sites.items in
+    let commits = flat_map commit_words image.commits.items in
+    omega (arith, length-append (code ++ globals ++ sites) commits, length-append (code ++ globals) sites, length-append code globals, length-sites image.sites.items, length-commits image.commits.items)
+
+pub image_short : (bytes : List ℕ) (image : Image) → IsImageOf bytes image → length bytes ≤ 5434904
+image_short bytes image is =
+    let spelled = ap length is.spelling ∙ length-append (codes "FK95") (flat_map word_bytes (image_words image)) in
+    let words = length-words (image_words image) in
+    let parts = length-image_words image in
+    let commits = few_of_image image is.limits in
+    omega (arith, image.code.ok.0, image.globals.ok.0, image.sites.ok.0, image.commits.ok.0, is.limits.code, is.limits.globals, is.limits.few_sites)
+
+pub image_accepted : (bytes : List ℕ) (report : Report) → IsImage bytes → IsNoImageAs bytes report → ⊥
+image_accepted bytes report image r = no_refusal bytes image.0 r.fault image.1 r.refused

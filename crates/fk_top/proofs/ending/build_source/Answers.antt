@@ -1,0 +1,12 @@
+use Rattle.std.proofs.Common.{inr}
+use Rattle.fk_top.proofs.ending.build_source.Goals as goal
+
+pub returns-in_ok-bytes-in-Ok : goal.returns-in_ok-bytes-in-Ok
+returns-in_ok-bytes-in-Ok c =
+    inr (record {
+      image = c.in-Ok.image;
+      compiled = record { short = c.in-Ok.ensures.short; faithful = c.in-Ok.ensures.faithful };
+      bytes = c.in_ok-bytes-in-Ok.bytes.items;
+      spelled = c.in_ok-bytes-in-Ok.ensures;
+      is = let empty = c.new.ensures.items in let words = c.len.ensures in cc;
+    })

@@ -1,0 +1,10 @@
+use Rattle.std.proofs.Common.{inr}
+use Rattle.fk_top.proofs.ending.list_bytes.Goals as goal
+
+pub returns-in_ok-list_code-in-Ok : goal.returns-in_ok-list_code-in-Ok
+returns-in_ok-list_code-in-Ok c =
+    inr (record {
+      image = c.in-Ok.image;
+      spelled = c.in-Ok.ensures.image;
+      is = let lines = c.in_ok-list_code-in-Ok.ensures in let words = c.len.ensures in let code = c.deref.ensures.value in cc;
+    })
