@@ -2,11 +2,11 @@
 use Rattle.std.proofs.Common.{◌≡◌, ℕ, ◌≤◌, List, [], length, Ok, Err, All, IfOk, sym, subst, arith}
 use Rattle.std.specs.Prelude.{Result, map, replicate, vec_len}
 use Rattle.std.specs.declared.alloc.AllocError.{AllocError}
-use Rattle.std.specs.List.Sorted.{IsStrictlyIncreasing}
 use Rattle.fk_image.specs.declared.Image.{Image}
-use Rattle.fk_image.specs.Limits.{IsSite, IsCommit, IsWithinLimits}
+use Rattle.fk_image.specs.Limits.{IsSite, IsWithinLimits}
 use Rattle.fk_isa.specs.Find.{row}
 use Rattle.fk_asm.specs.Block.{entries_from}
+use Rattle.fk_asm.specs.Commits.{IsCommitTable}
 use Rattle.fk_meaning.specs.declared.syntax.Program.{Program}
 use Rattle.fk_meaning.specs.declared.operations.Operation.{Operation}
 use Rattle.fk_meaning.specs.Sites.{operations, site_of}
@@ -18,7 +18,7 @@ use Rattle.fk_compile.proofs.Linked.{Placed}
 use Rattle.fk_compile.proofs.Theorem.{IsMade, made_follows}
 use Rattle.fk_compile.proofs.Ready.{ready_body}
 use Rattle.fk_compile.proofs.Places.{placed}
-use Rattle.fk_compile.proofs.Limits.{code_length, some_operation, sites_fit, count_one, commits_fit, commits_rise}
+use Rattle.fk_compile.proofs.Limits.{code_length, some_operation, sites_fit, commits_fit, commits_rise}
 
 -- a program that the compiler takes
 pub record IsTaken (program : Program) : Type 0 where
@@ -30,7 +30,7 @@ pub record IsTaken (program : Program) : Type 0 where
 pub record IsAssembled (ops : List Operation) (variables : ℕ) (image : Image) : Type 0 where
   pub code : map row image.code.items ≡ rows (all_marked 0 ops)
   pub commits : image.commits.items ≡ entries_from 0 (all_marked 0 ops)
-  pub rise : IsStrictlyIncreasing (map (λ entry. entry.0) image.commits.items)
+  pub table : IsCommitTable (vec_len image.code) image.commits.items
   pub sites : image.sites.items ≡ map site_of ops
   pub globals : image.globals.items ≡ replicate variables 0
   pub code_words : vec_len image.code ≡ length (all_marked 0 ops)
@@ -40,16 +40,16 @@ pub record IsAssembled (ops : List Operation) (variables : ℕ) (image : Image) 
 pub assembled : (ops : List Operation) (variables : ℕ) (r : Result Image AllocError)
     → IfOk r (λ image. map row image.code.items ≡ rows (all_marked 0 ops))
     → IfOk r (λ image. image.commits.items ≡ entries_from 0 (all_marked 0 ops))
-    → IfOk r (λ image. IsStrictlyIncreasing (map (λ entry. entry.0) image.commits.items))
+    → IfOk r (λ image. IsCommitTable (vec_len image.code) image.commits.items)
     → IfOk r (λ image. image.sites.items ≡ map site_of ops)
     → IfOk r (λ image. image.globals.items ≡ replicate variables 0)
     → IfOk r (λ image. vec_len image.code ≡ length (all_marked 0 ops))
     → IfOk r (λ image. vec_len image.sites ≡ length ops)
     → IfOk r (λ image. vec_len image.globals ≡ variables)
     → IfOk r (IsAssembled ops variables)
-assembled ops variables (Ok image) c k i s g cw sc gc =
-    record { code = c; commits = k; rise = i; sites = s; globals = g; code_words = cw; site_count = sc; global_count = gc }
-assembled ops variables (Err error) c k i s g cw sc gc = tt
+assembled ops variables (Ok image) c k t s g cw sc gc =
+    record { code = c; commits = k; table = t; sites = s; globals = g; code_words = cw; site_count = sc; global_count = gc }
+assembled ops variables (Err error) c k t s g cw sc gc = tt
 
 -- the image of a program
 abbrev IsOf : Program → Image → Type 0
@@ -57,7 +57,6 @@ IsOf program image = IsAssembled (operations program) program.variables image
 
 within : (program : Program) (image : Image) → IsTaken program → IsOf program image → IsWithinLimits image
 within program image taken parts =
-    let all = all_marked 0 (operations program) in
     let bounds = code_length (operations program) 0 in
     let least = bounds.0 in
     let most = bounds.1 in
@@ -68,8 +67,8 @@ within program image taken parts =
       globals = omega (arith, parts.global_count, taken.few);
       few_sites = omega (arith, parts.site_count, taken.short);
       sites = subst (All IsSite) (sym parts.sites) (sites_fit (operations program));
-      commits = subst (All (IsCommit (vec_len image.code))) (sym parts.commits) (commits_fit all 0 (vec_len image.code) (count_one (operations program) 0) (omega (arith, parts.code_words)));
-      rise = commits_rise image.commits.items parts.rise;
+      commits = commits_fit (vec_len image.code) image.commits.items parts.table;
+      rise = commits_rise image.commits.items parts.table.rise;
     }
 
 is_made : (program : Program) (image : Image) → IsTaken program → IsOf program image → IsMade program image

@@ -1,11 +1,12 @@
 -- The images of programs are within the limits of images.
-use Rattle.std.proofs.Common.{◌≡◌, ℕ, suc, ◌+◌, ◌*◌, ◌<◌, ◌≤◌, List, [], ◌∷◌, length, get_or, All, Option, Some, None, subst, arith, refl, length-append}
-use Rattle.std.specs.Prelude.{map, slice_index, IfSome}
+use Rattle.std.proofs.Common.{◌≡◌, ℕ, suc, ◌+◌, ◌*◌, ◌<◌, ◌≤◌, List, [], ◌∷◌, length, get_or, All, subst, arith, refl, length-append}
+use Rattle.std.specs.Prelude.{map, slice_index}
 use Rattle.std.specs.List.Sorted.{IsStrictlyIncreasing}
-use Rattle.std.proofs.lemmas.List.Elements.{All-nil, All-cons, All-head, All-tail, All-append, All-map}
+use Rattle.std.proofs.lemmas.List.Elements.{All-nil, All-cons, All-append, All-map}
 use Rattle.fk_image.specs.Limits.{IsSite, IsCommit, Rise}
 use Rattle.fk_isa.specs.declared.instruction.Instruction.{Instruction}
-use Rattle.fk_asm.specs.Block.{MarkedLine, entry_at, entries_from}
+use Rattle.fk_asm.specs.Block.{MarkedLine}
+use Rattle.fk_asm.specs.Commits.{IsCommitTable}
 use Rattle.fk_asm.proofs.Straight.{IsUnlabeled}
 use Rattle.fk_meaning.specs.declared.syntax.Statement.{Statement}
 use Rattle.fk_meaning.specs.declared.operations.Operation.{Operation}
@@ -86,25 +87,10 @@ unlabeled ops d = each_line IsUnlabeled (λ i. refl) (λ i. refl) ops d
 
 -- ---- commits
 
--- a line that commits counts 1, and is no event
-abbrev pub CountsOne : MarkedLine → Type 0
-CountsOne m = IfSome m.commit (λ commit. commit ≡ 1)
-
-pub count_one : (ops : List Operation) (d : ℕ) → All CountsOne (all_marked d ops)
-count_one ops d = each_line CountsOne (λ i. tt) (λ i. refl) ops d
-
-entry_fits : (k words : ℕ) (commit : Option ℕ) → k < words → IfSome commit (λ c. c ≡ 1) → All (IsCommit words) (entry_at k commit)
-entry_fits k words None lt one = All-nil (IsCommit words)
-entry_fits k words (Some commit) lt one =
-    All-cons (IsCommit words) (4 * k, commit) []
-    (record { aligned = omega arith; within = omega arith; counted = omega arith; event = omega arith }) (All-nil (IsCommit words))
-
-pub commits_fit : (code : List MarkedLine) (k words : ℕ) → All CountsOne code → k + length code ≤ words → All (IsCommit words) (entries_from k code)
-commits_fit [] k words one le = All-nil (IsCommit words)
-commits_fit (m ∷ code) k words one le =
-    All-append (IsCommit words) (entry_at k m.commit) (entries_from (k + 1) code)
-    (entry_fits k words m.commit (omega arith) (All-head CountsOne m code one))
-    (commits_fit code (k + 1) words (All-tail CountsOne m code one) (omega arith))
+pub commits_fit : (words : ℕ) (entries : List (ℕ × ℕ)) → IsCommitTable words entries → All (IsCommit words) entries
+commits_fit words entries table = λ k d lt.
+    let entry = table.entries k d lt in
+    record { aligned = entry.aligned; within = table.within k d lt; counted = entry.counted; event = entry.event }
 
 rise_later : (x : ℕ) (xs : List ℕ) → IsStrictlyIncreasing (x ∷ xs) → IsStrictlyIncreasing xs
 rise_later x xs rise k lt =

@@ -1,10 +1,10 @@
 //! Images of lines of code.
 
 ghost use Rattle.std.specs.Prelude.{◌≡◌, All, IfOk, [], ◌∷◌, ◌++◌, length, map, vec_len, replicate};
-ghost use Rattle.std.specs.List.Sorted.{IsStrictlyIncreasing};
 ghost use Rattle.fk_isa.specs.Find.{row};
 ghost use Rattle.fk_asm.specs.Assembly.{empty};
 ghost use Rattle.fk_asm.specs.Block.{entries_from, with_block};
+ghost use Rattle.fk_asm.specs.Commits.{IsCommitTable};
 ghost use Rattle.fk_meaning.specs.Operation.{kind_of};
 ghost use Rattle.fk_meaning.specs.Sites.{site_of};
 ghost use Rattle.fk_compile.specs.Code.{all_marked, rows};
@@ -24,7 +24,7 @@ pub fn assemble(
     requires { lines ≡ with_block empty (all_marked 0 operations.now) }
     ensures code { IfOk result (λ image. map row image.code.items ≡ rows (all_marked 0 operations.now)) }
     ensures commits { IfOk result (λ image. image.commits.items ≡ entries_from 0 (all_marked 0 operations.now)) }
-    ensures rise { IfOk result (λ image. IsStrictlyIncreasing (map (λ entry. entry.0) image.commits.items)) }
+    ensures table { IfOk result (λ image. IsCommitTable (vec_len image.code) image.commits.items) }
     ensures sites { IfOk result (λ image. image.sites.items ≡ map site_of operations.now) }
     ensures globals { IfOk result (λ image. image.globals.items ≡ replicate variables 0) }
     ensures code_words { IfOk result (λ image. vec_len image.code ≡ length (all_marked 0 operations.now)) }

@@ -20,4 +20,4 @@ returns c =
     generated program c.as_slice-3.result.now c.assemble.result
     (record { declared = c.requires.declared; short = c.requires.short; few = c.requires.few })
     listed
-    (assembled c.as_slice-3.result.now program.variables c.assemble.result e.code e.commits e.rise e.sites e.globals e.code_words e.site_count e.global_count)
+    (assembled c.as_slice-3.result.now program.variables c.assemble.result e.code e.commits e.table e.sites e.globals e.code_words e.site_count e.global_count)
