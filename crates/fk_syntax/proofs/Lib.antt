@@ -1,3 +1,0 @@
-pub mod Soundness
-pub mod Views
-pub mod ProgramViews
