@@ -3,7 +3,16 @@
        ./fork95 run examples/sums.f95 --harts 1 --cycles 1000000
 
    prints 5, -1, 0 and -2147483648. With --harts 3 each line comes three times: the processors
-   stand at the same putint in the same cycle, and print in ascending number. */
+   stand at the same putint in the same cycle, and print in ascending number.
+
+   To look inside, build an image of it and list its code; exec runs the image as run does:
+
+       ./fork95 build examples/sums.f95 -o sums.image
+       ./fork95 list sums.image
+       ./fork95 exec sums.image --harts 1 --cycles 1000000
+
+   Each value list stands in the hart's own memory at 0x20000000 (lui t1, 0x20000), and putint
+   is a store to the device at 0x30000000. */
 #include <io.h>
 
 sh int small;
