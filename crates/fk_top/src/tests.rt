@@ -10,6 +10,24 @@ use std::test::Fail;
 
 const SUMS: &str = "sh int x; void main(void) { x = 2 + 3; putint(x); }";
 
+/// An image of one word of code, `amoadd.w a0, a1, (a2)`.
+const ONE_WORD: [u8; 28] = [
+    0x46, 0x4b, 0x39, 0x35, 1, 0, 0, 0, 1, 0, 0, 0, 0, 0, 0, 0, 0, 0, 0, 0, 0, 0, 0, 0, 0x2f, 0x25,
+    0xb6, 0x00,
+];
+
+/// An image that halts: `lui t0, 0x30000` and `sw zero, 12(t0)`, which is a commit.
+const HALT: [u8; 40] = [
+    0x46, 0x4b, 0x39, 0x35, 1, 0, 0, 0, 2, 0, 0, 0, 0, 0, 0, 0, 0, 0, 0, 0, 1, 0, 0, 0, 0xb7, 0x02,
+    0x00, 0x30, 0x23, 0xa6, 0x02, 0x00, 4, 0, 0, 0, 1, 0, 0, 0,
+];
+
+/// An image that faults at its one site, a check at 7:9: `lui t0, 0x30000` and `sw zero, 8(t0)`.
+const FAULT: [u8; 44] = [
+    0x46, 0x4b, 0x39, 0x35, 1, 0, 0, 0, 2, 0, 0, 0, 0, 0, 0, 0, 1, 0, 0, 0, 0, 0, 0, 0, 0xb7, 0x02,
+    0x00, 0x30, 0x23, 0xa4, 0x02, 0x00, 12, 0, 0, 0, 7, 0, 0, 0, 9, 0, 0, 0,
+];
+
 /// What a call answered, and what its sinks took.
 #[derive(Drop)]
 struct Outcome {
@@ -59,14 +77,23 @@ fn run(
     call(alloc, text, words.as_slice(), fails)
 }
 
+// A call over a store that holds the text.
 fn call(alloc: Global, text: &[u8], words: &[&str], fails: Fails) -> Result<Outcome, AllocError> {
-    call_into(alloc, text, words, fails, 100_000)
+    let mut files = store(alloc, text, fails)?;
+    call_into(alloc, &mut files, words, fails, 100_000)
+}
+
+// A store with one file, `text.f95`.
+fn store(alloc: Global, text: &[u8], fails: Fails) -> Result<MemStore, AllocError> {
+    let name = String::from_str(alloc, "text.f95")?;
+    let held = vec![in alloc; (name, text.to_vec(alloc)?)]?;
+    Ok(MemStore::make(held, fails.files.to_vec(alloc)?))
 }
 
 // A call whose `out` has room for so many bytes.
 fn call_into(
     alloc: Global,
-    text: &[u8],
+    files: &mut MemStore,
     words: &[&str],
     fails: Fails,
     room: usize,
@@ -75,16 +102,13 @@ fn call_into(
     for word in words {
         owned.push(String::from_str(alloc, word)?)?;
     }
-    let name = String::from_str(alloc, "text.f95")?;
-    let held = vec![in alloc; (name, text.to_vec(alloc)?)]?;
-    let mut files = MemStore::make(held, fails.files.to_vec(alloc)?);
     let mut input = SureSource::make(Vec::new(alloc));
     let mut out = MemSink::make(alloc, room, fails.out.to_vec(alloc)?)?;
     let mut err = MemSink::make(alloc, 100, fails.err.to_vec(alloc)?)?;
     let status = fork95(
         alloc,
         owned.as_slice(),
-        &mut files,
+        files,
         &mut input,
         &mut out,
         &mut err,
@@ -258,7 +282,8 @@ fn a_sink_that_fails_ends_the_call_without_a_report(rt: HostRuntime) -> Result<(
 #[test]
 fn a_sink_that_fails_in_mid_stream_took_a_beginning(rt: HostRuntime) -> Result<(), Fail> {
     let words = ["run", "text.f95", "--harts", "2", "--cycles", "1000000"];
-    let got = call_into(rt.alloc(), SUMS.as_bytes(), words.as_slice(), NONE, 3)?;
+    let mut files = store(rt.alloc(), SUMS.as_bytes(), NONE)?;
+    let got = call_into(rt.alloc(), &mut files, words.as_slice(), NONE, 3)?;
     assert_eq!(rt; got.status, Status::WriteFault);
     assert_eq!(rt; got.out.as_slice(), b"5\n5".as_slice());
     assert_eq!(rt; got.err.as_slice(), b"".as_slice());
@@ -298,5 +323,118 @@ fn a_call_that_meets_no_fault_is_done(rt: HostRuntime) -> Result<(), Fail> {
         &mut err,
     );
     assert_eq!(rt; status, Status::Done);
+    Ok(())
+}
+
+// The first bytes of an image, so many, with zeros behind it, and with this byte at a place.
+fn changed(
+    alloc: Global,
+    image: &[u8],
+    length: usize,
+    place: usize,
+    byte: u8,
+) -> Result<Vec<u8>, AllocError> {
+    let mut bytes = image.to_vec(alloc)?;
+    bytes.resize(length, 0)?;
+    if place < bytes.len() {
+        bytes[place] = byte;
+    }
+    Ok(bytes)
+}
+
+#[test]
+fn images_are_run_and_listed(rt: HostRuntime) -> Result<(), Fail> {
+    let alloc = rt.alloc();
+    let exec = ["exec", "text.f95", "--harts", "1", "--cycles", "100"];
+    let rows: [(&[u8], Status, &[u8]); 3] = [
+        (
+            &ONE_WORD,
+            Status::Trap,
+            b"trap Access at 0x00000000 by hart 0 after 1 cycles\n",
+        ),
+        (&HALT, Status::Done, b"finished after 2 cycles\n"),
+        (
+            &FAULT,
+            Status::SourceFault,
+            b"fault BadAddress at 7:9 by processor 0 after 2 cycles\n",
+        ),
+    ];
+    for (image, status, line) in rows {
+        let got = call(alloc, image, exec.as_slice(), NONE)?;
+        assert_eq!(rt; got.status, status);
+        assert_eq!(rt; got.err.as_slice(), line);
+    }
+    let got = call(
+        alloc,
+        ONE_WORD.as_slice(),
+        ["list", "text.f95"].as_slice(),
+        NONE,
+    )?;
+    assert_eq!(rt; got.status, Status::Done);
+    assert_eq!(rt;
+        got.out.as_slice(),
+        b"00000000: 00b6252f  amoadd.w a0, a1, (a2)\n".as_slice()
+    );
+    assert_eq!(rt; got.err.as_slice(), b"listed 1 words\n".as_slice());
+    Ok(())
+}
+
+#[test]
+fn bytes_that_are_no_image_are_refused(rt: HostRuntime) -> Result<(), Fail> {
+    let alloc = rt.alloc();
+    let rows: [(&[u8], usize, usize, u8, &[u8]); 7] = [
+        (&ONE_WORD, 27, 0, 0x46, b"refused 15 Short 27 28\n"),
+        (&ONE_WORD, 29, 0, 0x46, b"refused 16 LongTail 28\n"),
+        (&ONE_WORD, 24, 8, 0, b"refused 18 BadWord 2\n"),
+        (&ONE_WORD, 0, 0, 0x46, b"refused 15 Short 0 24\n"),
+        (&ONE_WORD, 28, 0, 0x47, b"refused 13 Magic\n"),
+        (&ONE_WORD, 28, 4, 3, b"refused 14 Version 3\n"),
+        (&HALT, 40, 36, 0, b"refused 17 BadTable 0\n"),
+    ];
+    for (image, length, place, byte, line) in rows {
+        let bytes = changed(alloc, image, length, place, byte)?;
+        let got = call(
+            alloc,
+            bytes.as_slice(),
+            ["list", "text.f95"].as_slice(),
+            NONE,
+        )?;
+        assert_eq!(rt; got.status, Status::ImageRefused);
+        assert_eq!(rt; got.err.as_slice(), line);
+    }
+    Ok(())
+}
+
+#[test]
+fn an_image_that_was_built_gives_what_run_gives(rt: HostRuntime) -> Result<(), Fail> {
+    let alloc = rt.alloc();
+    let ran = run(alloc, SUMS.as_bytes(), "2", "1000", NONE)?;
+    let mut files = store(alloc, SUMS.as_bytes(), NONE)?;
+    let build = ["build", "text.f95", "-o", "image"];
+    let built = call_into(alloc, &mut files, build.as_slice(), NONE, 100)?;
+    assert_eq!(rt; built.status, Status::Done);
+    assert_eq!(rt; built.out.as_slice(), b"".as_slice());
+    assert!(rt; built.err.starts_with(b"built ") && built.err.ends_with(b" words\n"));
+    let exec = ["exec", "image", "--harts", "2", "--cycles", "1000"];
+    let got = call_into(alloc, &mut files, exec.as_slice(), NONE, 100)?;
+    assert_eq!(rt; got.status, ran.status);
+    assert_eq!(rt; got.out.as_slice(), ran.out.as_slice());
+    assert_eq!(rt; got.err.as_slice(), ran.err.as_slice());
+    Ok(())
+}
+
+#[test]
+fn a_put_that_fails_is_a_write_fault(rt: HostRuntime) -> Result<(), Fail> {
+    let fails = Fails {
+        files: &[2],
+        out: &[],
+        err: &[],
+    };
+    let mut files = store(rt.alloc(), SUMS.as_bytes(), fails)?;
+    let build = ["build", "text.f95", "-o", "image"];
+    let got = call_into(rt.alloc(), &mut files, build.as_slice(), fails, 100)?;
+    assert_eq!(rt; got.status, Status::WriteFault);
+    assert_eq!(rt; got.err.as_slice(), b"".as_slice());
+    assert_eq!(rt; files.bytes("image"), None);
     Ok(())
 }
