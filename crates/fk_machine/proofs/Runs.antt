@@ -1,10 +1,10 @@
 -- Whole runs.
-use Rattle.std.proofs.Common.{◌≡◌, ◌≢◌, ℕ, zero, suc, ◌≤◌, List, [], ◌∷◌, ◌++◌, Bool, true, false, cond, refl, ap, ◌∙◌, sym, arith, ◌⊎◌, inl, inr}
+use Rattle.std.proofs.Common.{◌≡◌, ◌≢◌, ℕ, zero, suc, ◌+◌, ◌≤◌, List, [], ◌∷◌, ◌++◌, Bool, true, false, cond, refl, ap, ◌∙◌, sym, arith, ◌⊎◌, inl, inr}
 use Rattle.fk_image.specs.declared.Image.{Image}
 use Rattle.fk_machine.specs.declared.stand.Stand.{Stand}
 use Rattle.fk_machine.specs.declared.stand.Stand.TheVariants.{Running, Finished, Faulted, Trapped}
-use Rattle.fk_machine.specs.Cycle.{Machine, is_running, after_turns, turns_of, cycle}
-use Rattle.fk_machine.specs.Run.{machine, output_of, rounds, round_of}
+use Rattle.fk_machine.specs.Cycle.{Machine, is_running, after_turns, turns_of, cycle, opening}
+use Rattle.fk_machine.specs.Run.{machine, output_of, after, output_in, rounds, round_of}
 
 begun-cond : (b : Bool) (m m' : Machine) (n : ℕ) → m.begun ≤ n → m'.begun ≤ n → (cond b m' m).begun ≤ n
 begun-cond true m m' n old new = new
@@ -18,6 +18,14 @@ begun-machine image input p (suc n) =
     let h : m.begun ≤ n = begun-machine image input p n in
     begun-cond (is_running m.stand) m (after_turns m (turns_of m)) (suc n) (omega arith) (omega arith)
 
+-- at most n more cycles are begun in n cycles
+pub begun-after : (m : Machine) (n : ℕ) → (after n m).begun ≤ m.begun + n
+begun-after m zero = omega arith
+begun-after m (suc n) =
+    let l = after n m in
+    let h : l.begun ≤ m.begun + n = begun-after m n in
+    begun-cond (is_running l.stand) l (after_turns l (turns_of l)) (m.begun + suc n) (omega arith) (omega arith)
+
 last_or_before : (k n : ℕ) → k ≤ suc n → (k ≤ n) ⊎ (k ≡ suc n)
 last_or_before k n le = grind arith
 
@@ -25,34 +33,65 @@ cycle-stopped : (m : Machine) → is_running m.stand ≡ false → cycle m ≡ m
 cycle-stopped m e = ap (λ b. cond b (after_turns m (turns_of m)) m) e
 
 -- a machine that has stopped after k cycles stays as it is
-pub machine-stopped : (image : Image) (input : List ℕ) (p k n : ℕ) → k ≤ n → is_running (machine image input p k).stand ≡ false → machine image input p n ≡ machine image input p k
-machine-stopped image input p k zero le stopped = let e : zero ≡ k = omega arith in ap (machine image input p) e
-machine-stopped image input p k (suc n) le stopped =
+pub after-stopped : (m : Machine) (k n : ℕ) → k ≤ n → is_running (after k m).stand ≡ false → after n m ≡ after k m
+after-stopped m k zero le stopped = let e : zero ≡ k = omega arith in ap (λ i. after i m) e
+after-stopped m k (suc n) le stopped =
     elim (last_or_before k n le) [
-      | inl before ↦ ap cycle (machine-stopped image input p k n before stopped) ∙ cycle-stopped (machine image input p k) stopped
-      | inr e ↦ ap (machine image input p) (sym e)
+      | inl before ↦ ap cycle (after-stopped m k n before stopped) ∙ cycle-stopped (after k m) stopped
+      | inr e ↦ ap (λ i. after i m) (sym e)
     ]
 
 -- what only the cycles of a machine that runs change stays as it is from there on
-stays : {X : Type 0} (image : Image) (input : List ℕ) (p : ℕ) (f next : ℕ → X) → ((n : ℕ) → f (suc n) ≡ cond (is_running (machine image input p n).stand) (next n) (f n)) → (k n : ℕ) → k ≤ n → is_running (machine image input p k).stand ≡ false → f n ≡ f k
-stays image input p f next grows k zero le stopped = let e : zero ≡ k = omega arith in ap f e
-stays image input p f next grows k (suc n) le stopped =
+stays : {X : Type 0} (m : Machine) (f next : ℕ → X) → ((n : ℕ) → f (suc n) ≡ cond (is_running (after n m).stand) (next n) (f n)) → (k n : ℕ) → k ≤ n → is_running (after k m).stand ≡ false → f n ≡ f k
+stays m f next grows k zero le stopped = let e : zero ≡ k = omega arith in ap f e
+stays m f next grows k (suc n) le stopped =
     elim (last_or_before k n le) [
       | inl before ↦
-          let still = ap (λ m. is_running m.stand) (machine-stopped image input p k n before stopped) ∙ stopped in
-          grows n ∙ ap (λ b. cond b (next n) (f n)) still ∙ stays image input p f next grows k n before stopped
+          let still = ap (λ l. is_running l.stand) (after-stopped m k n before stopped) ∙ stopped in
+          grows n ∙ ap (λ b. cond b (next n) (f n)) still ∙ stays m f next grows k n before stopped
       | inr e ↦ ap f (sym e)
     ]
 
 -- nothing more is printed
+pub output_in-stopped : (m : Machine) (k n : ℕ) → k ≤ n → is_running (after k m).stand ≡ false → output_in n m ≡ output_in k m
+output_in-stopped m k n le stopped =
+    stays m (λ i. output_in i m) (λ i. output_in i m ++ (after (suc i) m).shared.output) (λ i. refl) k n le stopped
+
+-- the cycles of a run are those of its opening
+pub machine-after : (image : Image) (input : List ℕ) (p n : ℕ) → machine image input p n ≡ after n (opening image input p)
+machine-after image input p zero = refl
+machine-after image input p (suc n) = ap cycle (machine-after image input p n)
+
+-- and so is what it prints
+pub output_of-after : (image : Image) (input : List ℕ) (p n : ℕ) → output_of image input p n ≡ output_in n (opening image input p)
+output_of-after image input p zero = refl
+output_of-after image input p (suc n) =
+    let m = opening image input p in
+    let before = output_in n m in
+    ap (λ l. cond (is_running l.stand) (output_of image input p n ++ (cycle l).shared.output) (output_of image input p n)) (machine-after image input p n)
+    ∙ ap (λ o. cond (is_running (after n m).stand) (o ++ (after (suc n) m).shared.output) o) (output_of-after image input p n)
+
+pub machine-stopped : (image : Image) (input : List ℕ) (p k n : ℕ) → k ≤ n → is_running (machine image input p k).stand ≡ false → machine image input p n ≡ machine image input p k
+machine-stopped image input p k n le stopped =
+    let m = opening image input p in
+    let there = ap (λ l. is_running l.stand) (sym (machine-after image input p k)) ∙ stopped in
+    machine-after image input p n ∙ after-stopped m k n le there ∙ sym (machine-after image input p k)
+
 pub output_of-stopped : (image : Image) (input : List ℕ) (p k n : ℕ) → k ≤ n → is_running (machine image input p k).stand ≡ false → output_of image input p n ≡ output_of image input p k
 output_of-stopped image input p k n le stopped =
-    stays image input p (output_of image input p) (λ i. output_of image input p i ++ (machine image input p (suc i)).shared.output) (λ i. refl) k n le stopped
+    let m = opening image input p in
+    let there = ap (λ l. is_running l.stand) (sym (machine-after image input p k)) ∙ stopped in
+    output_of-after image input p n ∙ output_in-stopped m k n le there ∙ sym (output_of-after image input p k)
 
 -- no more cycles are begun
 pub rounds-stopped : (image : Image) (input : List ℕ) (p k n : ℕ) → k ≤ n → is_running (machine image input p k).stand ≡ false → rounds image input p n ≡ rounds image input p k
 rounds-stopped image input p k n le stopped =
-    stays image input p (rounds image input p) (λ i. rounds image input p i ++ round_of image (machine image input p i) ∷ []) (λ i. refl) k n le stopped
+    let m = opening image input p in
+    let there = ap (λ l. is_running l.stand) (sym (machine-after image input p k)) ∙ stopped in
+    let next : ℕ → List (List ℕ) = λ i. rounds image input p i ++ round_of image (machine image input p i) ∷ [] in
+    let grows : (i : ℕ) → rounds image input p (suc i) ≡ cond (is_running (after i m).stand) (next i) (rounds image input p i) =
+    λ i. ap (λ (l : Machine). cond (is_running l.stand) (next i) (rounds image input p i)) (machine-after image input p i) in
+    stays m (rounds image input p) next grows k n le there
 
 -- a stand other than Running
 pub is_running-other : (s : Stand) → s ≢ Running → is_running s ≡ false

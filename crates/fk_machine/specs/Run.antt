@@ -17,6 +17,17 @@ output_of image input p (suc n) =
     (output_of image input p n ++ (machine image input p (suc n)).shared.output)
     (output_of image input p n)
 
+-- a machine after at most n cycles more
+abbrev pub after : ℕ → Machine → Machine
+after zero m = m
+after (suc n) m = cycle (after n m)
+
+-- what it prints in them: the bytes of each cycle that was begun, in order
+abbrev pub output_in : ℕ → Machine → List ℕ
+output_in zero m = []
+output_in (suc n) m =
+    cond (is_running (after n m).stand) (output_in n m ++ (after (suc n) m).shared.output) (output_in n m)
+
 -- the count of an address in the commit table, 0 where it has none
 abbrev pub count_in : List (ℕ × ℕ) → ℕ → ℕ
 count_in [] a = 0

@@ -31,9 +31,10 @@ pub struct Machine {
 
 #[tactic(auto, unfolding(crate::specs::View::machine_of))]
 impl Machine {
-    ghost use Rattle.std.specs.Prelude.{◌-◌, ◌<◌, ◌^◌, length, IfOk};
+    ghost use Rattle.std.specs.Prelude.{◌-◌, ◌<◌, ◌^◌, ◌++◌, length, IfOk, OnOk};
     ghost use Rattle.fk_image.specs.Limits.{IsWithinLimits};
     ghost use Rattle.fk_machine.specs.Cycle.{opening, cycle};
+    ghost use Rattle.fk_machine.specs.Run.{after, output_in};
     ghost use Rattle.fk_machine.specs.View.{machine_of};
 
     /// A machine before its first cycle, with so many harts. Shared data begins with the globals of
@@ -86,8 +87,28 @@ impl Machine {
             &mut self.shared,
         );
         self.setting.finished += 1;
-        self.stand = stand_after(stop, &self.harts);
+        self.stand.change_to(stand_after(stop, &self.harts));
         self.stand
+    }
+
+    /// Runs so many cycles, or fewer where the machine ends before, and appends what each prints to
+    /// `output`, in order. No other memory is taken: where there is none for the output it answers
+    /// [`AllocError`], and the machine has run some of the cycles.
+    pub fn run(&mut self, cycles: u32, output: &mut Vec<u8>) -> Result<(), AllocError>
+        requires { (machine_of self.old).begun + cycles < 2 ^ 32 }
+        ensures machine { OnOk result (machine_of self.new ≡ after cycles (machine_of self.old)) }
+        ensures output { OnOk result (output.new.items ≡ output.old.items ++ output_in cycles (machine_of self.old)) }
+    {
+        for _ in 0..cycles {
+            if self.stand != Stand::Running {
+                break;
+            }
+            self.cycle();
+            if !self.shared.output.is_empty() {
+                output.extend_from_slice(&self.shared.output)?;
+            }
+        }
+        Ok(())
     }
 
     /// The bytes printed in the last cycle, at most 12 for each hart. Before the first cycle there are none.

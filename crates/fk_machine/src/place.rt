@@ -72,12 +72,12 @@ pub(crate) fn place_at(address: u32) -> Place
     ensures place { result ≡ place_of address }
     ensures within { IsWithin result }
 {
-    if let Some(index) = index_in(address, SHARED_START, SHARED_WORDS) {
+    if let Some(index) = index_in(address, LOCAL_START, LOCAL_WORDS) {
+        Place::LocalWord(index)
+    } else if let Some(index) = index_in(address, SHARED_START, SHARED_WORDS) {
         Place::SharedWord(index)
     } else if let Some(index) = index_in(address, CONTROL_START, CONTROL_WORDS) {
         Place::ControlWord(index)
-    } else if let Some(index) = index_in(address, LOCAL_START, LOCAL_WORDS) {
-        Place::LocalWord(index)
     } else {
         device_at(address)
     }

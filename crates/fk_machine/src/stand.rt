@@ -28,6 +28,7 @@ pub const EBREAK: u8 = 6;
 
 impl Stand {
     ghost use Rattle.std.specs.Prelude.{◌≡◌};
+    ghost use Rattle.fk_machine.specs.declared.stand.Stand.TheVariants.{Running};
     ghost use Rattle.fk_machine.specs.Cycle.{is_running};
 
     /// Whether some hart has not ended, and no fault or trap has ended the machine.
@@ -35,5 +36,16 @@ impl Stand {
         ensures { result ≡ is_running self.now }
     {
         *self == Stand::Running
+    }
+
+    // What comes after `Running`. Where that is `Running` again nothing is written.
+    #[inline(always)]
+    pub(crate) fn change_to(&mut self, next: Stand)
+        requires { self.old ≡ Running }
+        ensures { self.new ≡ next }
+    {
+        if next != Stand::Running {
+            *self = next;
+        }
     }
 }

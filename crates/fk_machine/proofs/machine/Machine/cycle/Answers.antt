@@ -18,9 +18,9 @@ returns-clause-cycle c =
     let locals : (with_items m.locals ls).items ≡ ls = with_items_is m.locals ls (omega arith) in
     let given = rw (c.as_mut_slice.ensures.value, c.as_mut_slice-2.ensures.value) at c.take_turns-stop.ensures.turns in
     let begins = ap (λ bytes. record (shared_of m.shared) { output = bytes }) c.clear.ensures.items in
-    let ends = c.stand_after-self.ensures (local_of ls) ∙ ap (λ l. stand_after c.take_turns-stop.result (harts_of 0 l (local_of ls))) (c.deref.ensures.value ∙ harts) in
+    let ends = c.change_to.ensures ∙ c.stand_after.ensures (local_of ls) ∙ ap (λ l. stand_after c.take_turns-stop.result (harts_of 0 l (local_of ls))) (c.deref.ensures.value ∙ harts) in
     let s' = shared_of c.take_turns-stop.new.shared in
-    let stand = c.stand_after-self.result in
+    let stand = c.change_to.new.self in
     ap (λ l. machine_after (machine_of m) (harts_of 0 l (local_of (with_items m.locals ls).items)) s' stand) harts
     ∙ ap (λ l. machine_after (machine_of m) (harts_of 0 hs (local_of l)) s' stand) locals
     ∙ cycled m _ s' hs ls c.take_turns-stop.result stand running begins given ends
