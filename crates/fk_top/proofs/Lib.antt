@@ -1,3 +1,2 @@
-pub mod Stays
 pub mod Readable
 pub mod Causes

@@ -30,13 +30,7 @@ pub fn run_image(alloc: Global, image: &Image, harts: u32, bound: u32) -> Result
 {
     let mut machine = Machine::make(alloc, image, &[], harts)?;
     let mut output = Vec::new(alloc);
-    for _ in 0..bound {
-        if !machine.stand().is_running() {
-            break;
-        }
-        let _stand = machine.cycle();
-        output.extend_from_slice(machine.output())?;
-    }
+    machine.run(bound, &mut output)?;
     Ok(Ran {
         output,
         stand: machine.stand(),

@@ -1,36 +1,27 @@
-use Rattle.std.proofs.Common.{◌∙◌, [], ap, arith, inl, inr}
+use Rattle.std.proofs.Common.{[], ◌++◌, ap, ◌∙◌, sym, arith}
 use Rattle.fk_machine.specs.Cycle.{Machine}
-use Rattle.fk_top.proofs.Stays.{begun_within, Ends, ends, over}
+use Rattle.fk_machine.specs.Run.{after, output_in}
+use Rattle.fk_machine.specs.View.{machine_of}
+use Rattle.fk_machine.proofs.Runs.{machine-after, output_of-after}
 use Rattle.fk_top.proofs.run.run_image.Goals as goal
-use Rattle.fk_top.proofs.run.run_image.Goals.{else-loop-test, then-loop-test+then-not-is_running}
 
-pub cycle-stand-requires : goal.cycle-stand-requires
-cycle-stand-requires c =
-    let run = ap (λ (m : Machine). m.begun) c.loop.invariant.run in
-    let within = begun_within c.args.image.now [] c.args.harts c.loop.counter in
-    omega (arith, run, within, c.loop-test.true, c.ranges.bound.fits)
+pub run-requires : goal.run-requires
+run-requires c =
+    omega (arith, ap (λ (m : Machine). m.begun) c.in_ok-machine.ensures, c.ranges.bound.fits)
 
--- the loop ends at the bound, or where the machine doesn't run
 pub returns-clause-output : goal.returns-clause-output
 returns-clause-output c =
-    let e : Ends c.args.image.now [] c.args.harts c.loop.counter c.args.bound = ends c.args.image.now [] c.args.harts c.loop.counter c.args.bound c.loop.auto.counter-end (elim c.loop-test.branch [
-      | else-loop-test w ↦ inl w.loop-test.false
-      | then-loop-test+then-not-is_running w ↦ inr (over c.args.image.now [] c.args.harts c.loop.counter _ _ _ c.loop.invariant.run w.stand.ensures w.is_running.ensures w.if-not-is_running.true)
-    ]) in
-    c.loop.invariant.printed ∙ e.output_is
+    c.in_ok-run.ensures.output
+    ∙ ap (λ bytes. bytes ++ output_in c.args.bound (machine_of c.in_ok-machine.machine)) c.new-output.ensures.items
+    ∙ ap (output_in c.args.bound) c.in_ok-machine.ensures
+    ∙ sym (output_of-after c.args.image.now [] c.args.harts c.args.bound)
 
 pub returns-clause-stand : goal.returns-clause-stand
 returns-clause-stand c =
-    let e : Ends c.args.image.now [] c.args.harts c.loop.counter c.args.bound = ends c.args.image.now [] c.args.harts c.loop.counter c.args.bound c.loop.auto.counter-end (elim c.loop-test.branch [
-      | else-loop-test w ↦ inl w.loop-test.false
-      | then-loop-test+then-not-is_running w ↦ inr (over c.args.image.now [] c.args.harts c.loop.counter _ _ _ c.loop.invariant.run w.stand.ensures w.is_running.ensures w.if-not-is_running.true)
-    ]) in
-    c.stand-2.ensures ∙ ap (λ (m : Machine). m.stand) (c.loop.invariant.run ∙ e.machine_is)
+    c.stand.ensures
+    ∙ ap (λ (m : Machine). m.stand) (c.in_ok-run.ensures.machine ∙ ap (after c.args.bound) c.in_ok-machine.ensures ∙ sym (machine-after c.args.image.now [] c.args.harts c.args.bound))
 
 pub returns-clause-cycles : goal.returns-clause-cycles
 returns-clause-cycles c =
-    let e : Ends c.args.image.now [] c.args.harts c.loop.counter c.args.bound = ends c.args.image.now [] c.args.harts c.loop.counter c.args.bound c.loop.auto.counter-end (elim c.loop-test.branch [
-      | else-loop-test w ↦ inl w.loop-test.false
-      | then-loop-test+then-not-is_running w ↦ inr (over c.args.image.now [] c.args.harts c.loop.counter _ _ _ c.loop.invariant.run w.stand.ensures w.is_running.ensures w.if-not-is_running.true)
-    ]) in
-    c.cycles.ensures ∙ ap (λ (m : Machine). m.begun) (c.loop.invariant.run ∙ e.machine_is)
+    c.cycles.ensures
+    ∙ ap (λ (m : Machine). m.begun) (c.in_ok-run.ensures.machine ∙ ap (after c.args.bound) c.in_ok-machine.ensures ∙ sym (machine-after c.args.image.now [] c.args.harts c.args.bound))
