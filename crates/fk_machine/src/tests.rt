@@ -39,6 +39,26 @@ fn run(
     Ok((machine, bytes))
 }
 
+// The same in one call.
+fn run_at_once(
+    alloc: Global,
+    image: &Image,
+    input: &[u32],
+    harts: u32,
+    bound: u32,
+) -> Result<(Machine, Vec<u8>), AllocError>
+    requires limits { IsWithinLimits image.now }
+    requires some_harts { 1 ≤ harts }
+    requires few_harts { harts ≤ 1024 }
+    requires few_inputs { length input.now ≤ 65536 }
+    requires room { vec_len image.now.globals + length input.now ≤ 524288 }
+{
+    let mut machine = Machine::make(alloc, image, input, harts)?;
+    let mut bytes = Vec::new(alloc);
+    machine.run(bound, &mut bytes)?;
+    Ok((machine, bytes))
+}
+
 // An image with this code and these globals.
 fn image_of(alloc: Global, code: &[u32], globals: &[u32]) -> Result<Image, AllocError>
     requires some_code { 1 ≤ length code.now }
@@ -69,6 +89,29 @@ fn two_harts_print_in_order(rt: HostRuntime) -> Result<(), Fail> {
     assert_eq!(rt; machine.stand(), Stand::Finished);
     assert_eq!(rt; machine.cycles(), 4);
     assert_eq!(rt; machine.output().len(), 0);
+    Ok(())
+}
+
+#[test]
+fn one_call_keeps_the_output_of_all_cycles(rt: HostRuntime) -> Result<(), Fail> {
+    let alloc = rt.alloc();
+    let code = [
+        0x300002b7, // lui t0, 0x30000
+        0x0142a303, // lw t1, 20(t0)
+        0x0062a023, // sw t1, 0(t0)
+        0x00000013, // addi zero, zero, 0
+        0x0062a023, // sw t1, 0(t0)
+        0x0002a623, // sw zero, 12(t0)
+    ];
+    let image = image_of(alloc, &code, &[])?;
+    let (machine, bytes) = run_at_once(alloc, &image, &[], 2, 100)?;
+    assert_eq!(rt; bytes.as_slice(), b"0\n1\n0\n1\n".as_slice());
+    assert_eq!(rt; machine.stand(), Stand::Finished);
+    assert_eq!(rt; machine.cycles(), 6);
+    let (machine, bytes) = run_at_once(alloc, &image, &[], 2, 3)?;
+    assert_eq!(rt; bytes.as_slice(), b"0\n1\n".as_slice());
+    assert_eq!(rt; machine.stand(), Stand::Running);
+    assert_eq!(rt; machine.cycles(), 3);
     Ok(())
 }
 
