@@ -7,7 +7,7 @@ use Rattle.fk_lex.specs.declared.step.Step.TheVariants.{Gap, Token, Fault}
 use Rattle.fk_lex.specs.declared.step.FaultKind.TheVariants as kinds
 use Rattle.fk_lex.specs.declared.token.LexFault.{LexFault}
 use Rattle.fk_lex.specs.declared.token.TokenKind.{TokenKind}
-use Rattle.fk_syntax.specs.declared.Place.{Place}
+use Rattle.fk_syntax.specs.declared.place.Place.{Place}
 use Rattle.fk_lex.specs.View.{IsFault}
 use Rattle.fk_lex.specs.declared.position.Position.{Position}
 use Rattle.fk_lex.specs.Positions.{start, after, place_of}

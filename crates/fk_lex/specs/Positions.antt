@@ -1,6 +1,6 @@
 -- Lines and columns.
 use Rattle.std.specs.Prelude.{ℕ, ◌+◌, ◌==◌, ◌&&◌, true, List, [], ◌∷◌, if◌then◌else◌}
-use Rattle.fk_syntax.specs.declared.Place.{Place}
+use Rattle.fk_syntax.specs.declared.place.Place.{Place}
 use Rattle.fk_lex.specs.declared.position.Position.{Position}
 use Rattle.fk_lex.specs.Bytes.{is_blank}
 

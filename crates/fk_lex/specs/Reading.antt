@@ -1,6 +1,6 @@
 -- The tokens of a text, or its first fault.
 use Rattle.std.specs.Prelude.{◌≡◌, ℕ, ◌<◌, Option, Some, None, List, [], ◌∷◌, ◌++◌, length, take, drop}
-use Rattle.fk_syntax.specs.declared.Place.{Place}
+use Rattle.fk_syntax.specs.declared.place.Place.{Place}
 use Rattle.fk_lex.specs.declared.token.TokenKind.{TokenKind}
 use Rattle.fk_lex.specs.declared.token.LexFault.{LexFault}
 use Rattle.fk_lex.specs.declared.token.LexFault.TheVariants as fault

@@ -1,10 +1,14 @@
-//! What the parts of the Fork95 front end share.
+//! The syntax trees of Fork95, which the parts of its front end share.
 #![tactic(auto)]
 
-/// A place in a source text. Lines and columns count from 1, a column counts bytes, and a
-/// newline byte ends a line.
-#[derive(Clone, Copy, PartialEq, Eq, Debug)]
-pub struct Place {
-    pub line: u32,
-    pub column: u32,
-}
+pub mod expression;
+mod nodes;
+pub mod place;
+pub mod program;
+pub mod sign;
+
+pub use expression::{Base, Expr, Link, Suffix, TypeName};
+pub use nodes::well_formed;
+pub use place::{Name, Place, Spot};
+pub use program::{Declared, Function, Item, Mode, Program, Stmt};
+pub use sign::Sign;

@@ -1,3 +1,0 @@
-pub mod Derived
-pub mod ParseLemmas
-pub mod Texts

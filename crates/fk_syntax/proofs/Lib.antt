@@ -1,0 +1,3 @@
+pub mod Soundness
+pub mod Views
+pub mod ProgramViews

@@ -1,0 +1,253 @@
+//! Expressions.
+
+ghost use Rattle.std.specs.Prelude.{◌≡◌, map, IfOk};
+ghost use Rattle.fk_syntax.specs.View.{tree_of, link_of, suffix_of, type_of};
+ghost use Rattle.fk_syntax.specs.Tree as t;
+ghost use Rattle.fk_syntax.specs.Tree.{links_of, suffixes_of, trees_of};
+
+use crate::place::{Name, Spot};
+use crate::sign::Sign;
+use std::alloc::{AllocError, Global};
+
+/// The first words of a type.
+#[derive(Clone, Copy, Debug)]
+pub enum Base<'a> {
+    /// `int`
+    Int,
+    /// `unsigned`, with or without `int` after it
+    Unsigned,
+    /// `void`
+    Void,
+    /// `struct` and its name, which is no node of the tree
+    Struct(Name<'a>),
+}
+
+/// A type, as it is written: its first words, and how many `*` follow.
+#[derive(Clone, Copy, Debug)]
+pub struct TypeName<'a> {
+    pub base: Base<'a>,
+    pub stars: u32,
+}
+
+/// An expression. The parentheses that group one leave no trace in it.
+#[cycle(expression)]
+#[derive(Drop)]
+pub enum Expr<'a> {
+    /// A number or a character constant: its value, and whether its type is `unsigned`.
+    Number(Spot, u32, bool),
+    /// `puts` and its text, as it is written with its quotes.
+    Puts(Spot, &'a [u8]),
+    /// `sizeof` of a type.
+    Sizeof(Spot, TypeName<'a>),
+    /// A variable, or a function where it is called.
+    Named(Name<'a>),
+    /// `@`
+    GroupNumber(Spot),
+    /// `$`
+    GroupRank(Spot),
+    /// A sign before its operand: `-`, `+`, `!`, `~`, `*`, `&`, `++` or `--`.
+    Prefix(Spot, Sign, Box<Expr<'a>>),
+    /// A cast, by its opening parenthesis.
+    Cast(Spot, TypeName<'a>, Box<Expr<'a>>),
+    /// One level of signs that group to the left, the comma among them: the first operand, and a
+    /// link for each sign. In `a + b - c` both signs are links of one chain.
+    Chain(Box<Expr<'a>>, Vec<Link<'a>>),
+    /// An expression and what stands after it, from the left.
+    Postfix(Box<Expr<'a>>, Vec<Suffix<'a>>),
+    /// An assignment by `=` or a sign such as `+=`: the sign, the target and the value.
+    Assign(Spot, Sign, Box<Expr<'a>>, Box<Expr<'a>>),
+    /// `condition ? first : second`, by its `?`.
+    Choose(Spot, Box<Expr<'a>>, Box<Expr<'a>>, Box<Expr<'a>>),
+}
+
+/// A sign of a chain, and the operand on its right.
+#[cycle(expression)]
+#[derive(Drop)]
+pub struct Link<'a> {
+    pub spot: Spot,
+    pub sign: Sign,
+    pub right: Expr<'a>,
+}
+
+/// What stands after an expression.
+#[cycle(expression)]
+#[derive(Drop)]
+pub enum Suffix<'a> {
+    /// An index, by its `[`.
+    Index(Spot, Expr<'a>),
+    /// A call with its arguments, by its `(`.
+    Call(Spot, Vec<Expr<'a>>),
+    /// A member of a struct, by the `.` before it.
+    Dot(Spot, Name<'a>),
+    /// A member of the struct that a pointer points to, by the `->` before it.
+    Arrow(Spot, Name<'a>),
+    /// `++`
+    Up(Spot),
+    /// `--`
+    Down(Spot),
+}
+
+impl<'a> Expr<'a> {
+    /// A sign before its operand. Fails only for want of memory.
+    pub fn prefix(
+        alloc: Global,
+        spot: Spot,
+        sign: Sign,
+        operand: Expr<'a>,
+    ) -> Result<Expr<'a>, AllocError>
+        ensures { IfOk result (λ e. tree_of e ≡ t.Prefix spot sign (tree_of operand.entry)) }
+    {
+        Ok(Expr::Prefix(spot, sign, Box::new(alloc, operand)?))
+    }
+
+    /// A cast of its operand to a type. Fails only for want of memory.
+    pub fn cast(
+        alloc: Global,
+        spot: Spot,
+        kind: TypeName<'a>,
+        operand: Expr<'a>,
+    ) -> Result<Expr<'a>, AllocError>
+        ensures { IfOk result
+            (λ e. tree_of e ≡ t.Cast spot (type_of kind.entry) (tree_of operand.entry)) }
+    {
+        Ok(Expr::Cast(spot, kind, Box::new(alloc, operand)?))
+    }
+
+    /// One level of operators that group to the left: the first operand, and a link for each
+    /// operator. Fails only for want of memory.
+    pub fn chain(
+        alloc: Global,
+        first: Expr<'a>,
+        links: Vec<Link<'a>>,
+    ) -> Result<Expr<'a>, AllocError>
+        ensures { IfOk result (λ e. tree_of e
+            ≡ t.Chain (tree_of first.entry) (links_of (map link_of links.entry.items))) }
+    {
+        Ok(Expr::Chain(Box::new(alloc, first)?, links))
+    }
+
+    /// An expression, and what stands after it. Fails only for want of memory.
+    pub fn postfix(
+        alloc: Global,
+        whole: Expr<'a>,
+        suffixes: Vec<Suffix<'a>>,
+    ) -> Result<Expr<'a>, AllocError>
+        ensures { IfOk result (λ e. tree_of e
+            ≡ t.Postfix (tree_of whole.entry) (suffixes_of (map suffix_of suffixes.entry.items))) }
+    {
+        Ok(Expr::Postfix(Box::new(alloc, whole)?, suffixes))
+    }
+
+    /// An assignment. Fails only for want of memory.
+    pub fn assign(
+        alloc: Global,
+        spot: Spot,
+        sign: Sign,
+        target: Expr<'a>,
+        value: Expr<'a>,
+    ) -> Result<Expr<'a>, AllocError>
+        ensures { IfOk result
+            (λ e. tree_of e ≡ t.Assign spot sign (tree_of target.entry) (tree_of value.entry)) }
+    {
+        let target = Box::new(alloc, target)?;
+        Ok(Expr::Assign(spot, sign, target, Box::new(alloc, value)?))
+    }
+
+    /// `condition ? first : second`. Fails only for want of memory.
+    pub fn choose(
+        alloc: Global,
+        spot: Spot,
+        condition: Expr<'a>,
+        first: Expr<'a>,
+        second: Expr<'a>,
+    ) -> Result<Expr<'a>, AllocError>
+        ensures { IfOk result (λ e. tree_of e
+            ≡ t.Choose spot (tree_of condition.entry) (tree_of first.entry) (tree_of second.entry)) }
+    {
+        let condition = Box::new(alloc, condition)?;
+        let first = Box::new(alloc, first)?;
+        Ok(Expr::Choose(spot, condition, first, Box::new(alloc, second)?))
+    }
+}
+
+impl<'a> Link<'a> {
+    /// An operator and the operand on its right.
+    pub fn new(spot: Spot, sign: Sign, right: Expr<'a>) -> Link<'a>
+        ensures spot { (link_of result).spot ≡ spot }
+        ensures sign { (link_of result).sign ≡ sign }
+        ensures right { (link_of result).right ≡ tree_of right.entry }
+    {
+        Link { spot, sign, right }
+    }
+}
+
+impl<'a> Suffix<'a> {
+    /// `[by]`
+    pub fn index(spot: Spot, by: Expr<'a>) -> Suffix<'a>
+        ensures { suffix_of result ≡ t.Index spot (tree_of by.entry) }
+    {
+        Suffix::Index(spot, by)
+    }
+
+    /// A call with its arguments.
+    pub fn call(spot: Spot, arguments: Vec<Expr<'a>>) -> Suffix<'a>
+        ensures { suffix_of result ≡ t.Call spot (trees_of (map tree_of arguments.entry.items)) }
+    {
+        Suffix::Call(spot, arguments)
+    }
+}
+
+#[cfg(test)]
+mod tests {
+    use super::*;
+    use crate::place::Place;
+    use std::test::Fail;
+
+    const SPOT: Spot = Spot {
+        at: 0,
+        place: Place { line: 1, column: 1 },
+    };
+
+    const RANK: Expr<'static> = Expr::GroupRank(SPOT);
+
+    #[test]
+    fn operators_are_made(rt: HostRuntime) -> Result<(), Fail> {
+        let negated = Expr::prefix(rt.alloc(), SPOT, Sign::Minus, RANK)?;
+        assert!(rt; matches!(&negated, Expr::Prefix(_, Sign::Minus, _)));
+        let kind = TypeName {
+            base: Base::Int,
+            stars: 1,
+        };
+        assert!(rt;
+            matches!(
+                &Expr::cast(rt.alloc(), SPOT, kind, negated)?,
+                Expr::Cast(_, _, _)
+            )
+        );
+        Ok(())
+    }
+
+    #[test]
+    fn chains_are_made(rt: HostRuntime) -> Result<(), Fail> {
+        let links = vec![in rt.alloc(); Link::new(SPOT, Sign::Plus, RANK)]?;
+        let sum = Expr::chain(rt.alloc(), RANK, links)?;
+        assert!(rt; matches!(&sum, Expr::Chain(_, _)));
+        let suffixes = vec![in rt.alloc(); Suffix::index(SPOT, sum)]?;
+        assert!(rt;
+            matches!(
+                &Expr::postfix(rt.alloc(), RANK, suffixes)?,
+                Expr::Postfix(_, _)
+            )
+        );
+        Ok(())
+    }
+
+    #[test]
+    fn assignments_and_choices_are_made(rt: HostRuntime) -> Result<(), Fail> {
+        let value = Expr::choose(rt.alloc(), SPOT, RANK, RANK, RANK)?;
+        assert!(rt; matches!(&value, Expr::Choose(_, _, _, _)));
+        let whole = Expr::assign(rt.alloc(), SPOT, Sign::Assign, RANK, value)?;
+        assert!(rt; matches!(&whole, Expr::Assign(_, Sign::Assign, _, _)));
+        Ok(())
+    }
+}

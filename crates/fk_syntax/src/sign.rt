@@ -1,0 +1,74 @@
+//! Signs.
+
+/// The sign of an operator. Its place in the tree says what it does, where it has several meanings.
+#[derive(Clone, Copy, PartialEq, Eq, Debug)]
+pub enum Sign {
+    /// `+`
+    Plus,
+    /// `-`
+    Minus,
+    /// `*`
+    Star,
+    /// `/`
+    Slash,
+    /// `%`
+    Percent,
+    /// `&`
+    Ampersand,
+    /// `|`
+    Bar,
+    /// `^`
+    Caret,
+    /// `~`
+    Tilde,
+    /// `!`
+    Exclamation,
+    /// `<<`
+    ShiftLeft,
+    /// `>>`
+    ShiftRight,
+    /// `<`
+    LessThan,
+    /// `<=`
+    LessOrEqual,
+    /// `>`
+    GreaterThan,
+    /// `>=`
+    GreaterOrEqual,
+    /// `==`
+    EqualTo,
+    /// `!=`
+    NotEqualTo,
+    /// `&&`
+    AndAnd,
+    /// `||`
+    OrOr,
+    /// `=`
+    Assign,
+    /// `+=`
+    PlusAssign,
+    /// `-=`
+    MinusAssign,
+    /// `*=`
+    StarAssign,
+    /// `/=`
+    SlashAssign,
+    /// `%=`
+    PercentAssign,
+    /// `&=`
+    AmpersandAssign,
+    /// `|=`
+    BarAssign,
+    /// `^=`
+    CaretAssign,
+    /// `<<=`
+    ShiftLeftAssign,
+    /// `>>=`
+    ShiftRightAssign,
+    /// `++`
+    Increment,
+    /// `--`
+    Decrement,
+    /// `,`
+    Comma,
+}
