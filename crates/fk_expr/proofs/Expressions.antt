@@ -1,0 +1,120 @@
+-- Expressions are read as the grammar says, at each level and with each bound on repetitions.
+use Rattle.std.proofs.Common.{◌≡◌, ℕ, zero, suc, ◌+◌, ◌-◌, ◌≤◌, List, length, inl, inr, refl, arith}
+use Rattle.fk_syntax.specs.Tree.{Tree}
+use Rattle.fk_expr.specs.Languages.{Placed, Stretch, tokens_of, nothing}
+use Rattle.fk_expr.specs.Reads.{Reads, Spells, IsShallow, most_levels}
+use Rattle.fk_expr.specs.Grammar.{deeper, Comma, Assignment}
+use Rattle.fk_expr.specs.Reading.{Reader, inner, begins_suffix, begins_expression, read_comma, read_assignment, read_choice, read_prefix}
+use Rattle.fk_expr.proofs.Sets.{Kinds}
+use Rattle.fk_expr.proofs.Shapes.{shape_nothing}
+use Rattle.fk_expr.proofs.Productions.{IsRead}
+use Rattle.fk_expr.proofs.Beginnings.{deeper_shapes}
+use Rattle.fk_expr.proofs.Followers.{goes_choice, goes_assignment, goes_comma}
+use Rattle.fk_expr.proofs.Inner.{Inner}
+use Rattle.fk_expr.proofs.Prefixes.{reads_prefix}
+use Rattle.fk_expr.proofs.Operands.{reads_choice, reads_assignment_at, reads_comma_at}
+use Rattle.fk_expr.proofs.Longest.{Faithful, reads, one_value}
+
+-- a language with no stretch, where there is no room
+reads_nothing : {room : Type 0} {A : Type 0} (P : ℕ → Reader A) (level : ℕ) (first goes_on : Kinds) → (room → ⊥) → IsRead nothing P level first goes_on room
+reads_nothing P level first goes_on no_room = record {
+  shape = shape_nothing level first no_room;
+  exact = record {
+    exact = λ most. record { sound = λ r. absurd (no_room r); complete = λ s a rest l. absurd l; local = λ r. absurd (no_room r) };
+    same = λ r. absurd (no_room r);
+  };
+}
+
+-- where so many levels are left, there are readers for the next level, or that is past the bound
+pub inner_at : {room : Type 0} (left l bound : ℕ) → left + l ≡ most_levels → (room → left + 2 ≤ bound) → Inner (deeper bound) l (λ most. inner most left) room
+inner_at zero l bound all enough = record {
+  level = omega arith;
+  shapes = deeper_shapes bound (l + 1) (λ r. let h : 0 + 2 ≤ bound = enough r in omega arith);
+  readers = inl (record { is = λ most. refl; past = omega arith });
+}
+inner_at {room} (suc left) l zero all enough = record {
+  level = omega arith;
+  shapes = deeper_shapes zero (l + 1) (λ r. let h : suc left + 2 ≤ 0 = enough r in omega arith);
+  readers = inr (record {
+    readers = λ most. record {
+      comma = read_comma most (inner most left);
+      assignment = read_assignment most (inner most left);
+      choice = read_choice most (inner most left);
+      prefix = read_prefix most (inner most left);
+    };
+    deep = record { is = λ most. refl };
+    shallow = omega arith;
+    comma = reads_nothing _ (l + 1) begins_expression goes_comma none;
+    assignment = reads_nothing _ (l + 1) begins_expression goes_assignment none;
+    choice = reads_nothing _ (l + 1) begins_expression goes_choice none;
+    prefix = reads_nothing _ (l + 1) begins_expression begins_suffix none;
+  });
+}
+  where
+    none : room → ⊥
+    none r = let h : suc left + 2 ≤ 0 = enough r in omega arith
+inner_at {room} (suc left) l (suc bound) all enough =
+    let next : Inner (deeper bound) (l + 1) (λ most. inner most left) room =
+    inner_at left (l + 1) bound (omega arith) (λ r. let h : suc left + 2 ≤ suc bound = enough r in omega arith) in
+    record {
+      level = omega arith;
+      shapes = deeper_shapes (suc bound) (l + 1) (λ r. let h : suc left + 2 ≤ suc bound = enough r in omega arith);
+      readers = inr (record {
+        readers = λ most. record {
+          comma = read_comma most (inner most left);
+          assignment = read_assignment most (inner most left);
+          choice = read_choice most (inner most left);
+          prefix = read_prefix most (inner most left);
+        };
+        deep = record { is = λ most. refl };
+        shallow = omega arith;
+        comma = reads_comma_at (deeper bound) (l + 1) (λ most. inner most left) next;
+        assignment = reads_assignment_at (deeper bound) (l + 1) (λ most. inner most left) next;
+        choice = reads_choice (deeper bound) (l + 1) (λ most. inner most left) next;
+        prefix = reads_prefix (deeper bound) (l + 1) (λ most. inner most left) next;
+      });
+    }
+
+-- ---- what the readers answer
+
+-- the bound on levels leaves room where so many are left
+abbrev room_at : ℕ → ℕ → Type 0
+room_at level bound = (most_levels - level) + 2 ≤ bound
+
+-- expressions with commas are read exactly
+pub faithful_comma : (level : ℕ) → level ≤ most_levels → Faithful (Comma level) (λ most. read_comma most (inner most (most_levels - level))) goes_comma (room_at level)
+faithful_comma level h = record {
+  enough = (most_levels - level) + 2;
+  has_room = omega arith;
+  exact = λ bound. (reads_comma_at (deeper bound) level (λ most. inner most (most_levels - level))
+      (inner_at (most_levels - level) level bound (omega arith) (λ r. r))).exact;
+}
+
+-- assignments are read exactly
+pub faithful_assignment : (level : ℕ) → level ≤ most_levels
+    → Faithful (Assignment level) (λ most. read_assignment most (inner most (most_levels - level))) goes_assignment (room_at level)
+faithful_assignment level h = record {
+  enough = (most_levels - level) + 2;
+  has_room = omega arith;
+  exact = λ bound. (reads_assignment_at (deeper bound) level (λ most. inner most (most_levels - level))
+      (inner_at (most_levels - level) level bound (omega arith) (λ r. r))).exact;
+}
+
+-- what is answered of an expression with commas
+pub reads_comma : (level most : ℕ) (ts : List Placed) → level ≤ most_levels → length ts ≤ most → Reads (Comma level) ts (read_comma most (inner most (most_levels - level)) ts)
+reads_comma level most ts h fits = reads (faithful_comma level h) most ts fits
+
+-- what is answered of an assignment
+pub reads_assignment : (level most : ℕ) (ts : List Placed) → level ≤ most_levels → length ts ≤ most
+    → Reads (Assignment level) ts (read_assignment most (inner most (most_levels - level)) ts)
+reads_assignment level most ts h fits = reads (faithful_assignment level h) most ts fits
+
+-- the same tokens, nested within the bound, spell one tree
+pub one_comma : (level : ℕ) → level ≤ most_levels → (s t : Stretch) (a b : Tree) → Spells (Comma level) s a → Spells (Comma level) t b
+    → tokens_of s ≡ tokens_of t → IsShallow s → IsShallow t → a ≡ b
+one_comma level h = one_value (faithful_comma level h)
+
+-- and one assignment
+pub one_assignment : (level : ℕ) → level ≤ most_levels → (s t : Stretch) (a b : Tree) → Spells (Assignment level) s a → Spells (Assignment level) t b
+    → tokens_of s ≡ tokens_of t → IsShallow s → IsShallow t → a ≡ b
+one_assignment level h = one_value (faithful_assignment level h)

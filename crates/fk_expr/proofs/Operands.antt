@@ -1,0 +1,106 @@
+-- Joined operands, choices, assignments and expressions with commas are read exactly.
+use Rattle.std.proofs.Common.{◌≡◌, ℕ, zero, suc, ◌+◌, ◌≤◌, ◌<◌, Option, Some, refl, arith}
+use Rattle.fk_syntax.specs.declared.sign.Sign.{Sign}
+use Rattle.fk_syntax.specs.declared.sign.Sign.TheVariants as sign
+use Rattle.fk_lex.specs.declared.token.TokenKind.{TokenKind}
+use Rattle.fk_lex.specs.declared.token.TokenKind.TheVariants as kind
+use Rattle.fk_expr.specs.Kinds.{is_question, is_colon, is_comma, assignment_told}
+use Rattle.fk_expr.specs.Grammar.{Deeper, operator_at, joined, choice, assignment, comma}
+use Rattle.fk_expr.specs.Reading.{Readers, tells, begins_expression, read_joined, read_choice, read_assignment, read_comma}
+use Rattle.fk_expr.proofs.Sets.{Kinds, ◌∪◌, Apart, Within, none_apart, within_left, union_within}
+use Rattle.fk_expr.proofs.EachKind.{apart_by, within_by}
+use Rattle.fk_expr.proofs.Token.{example_token, shape_token}
+use Rattle.fk_expr.proofs.Shapes.{example_then, shape_then}
+use Rattle.fk_expr.proofs.Productions.{IsRead, reads_token, reads_telling, reads_making, reads_then, reads_then_loose, reads_maybe, reads_many, reads_wider}
+use Rattle.fk_expr.proofs.Followers.{goes_joined, goes_choice, goes_assignment, goes_comma, joined_apart}
+use Rattle.fk_expr.proofs.Inner.{Inner, examples_of, reads_opened}
+use Rattle.fk_expr.proofs.Prefixes.{reads_prefix}
+
+-- ---- joined operands
+
+-- an operator that binds so loosely
+record Operator (looseness : ℕ) : Type 0 where
+  kind : TokenKind
+  sign : Sign
+  is : operator_at looseness kind ≡ Some sign
+
+operator : (n : ℕ) → n < 10 → Operator (suc n)
+operator zero h = record { kind = kind.Star; sign = sign.Star; is = refl }
+operator (suc zero) h = record { kind = kind.Plus; sign = sign.Plus; is = refl }
+operator (suc (suc zero)) h = record { kind = kind.ShiftLeft; sign = sign.ShiftLeft; is = refl }
+operator (suc (suc (suc zero))) h = record { kind = kind.LessThan; sign = sign.LessThan; is = refl }
+operator (suc (suc (suc (suc zero)))) h = record { kind = kind.EqualTo; sign = sign.EqualTo; is = refl }
+operator (suc (suc (suc (suc (suc zero))))) h = record { kind = kind.Ampersand; sign = sign.Ampersand; is = refl }
+operator (suc (suc (suc (suc (suc (suc zero)))))) h = record { kind = kind.Caret; sign = sign.Caret; is = refl }
+operator (suc (suc (suc (suc (suc (suc (suc zero))))))) h = record { kind = kind.Bar; sign = sign.Bar; is = refl }
+operator (suc (suc (suc (suc (suc (suc (suc (suc zero)))))))) h = record { kind = kind.AndAnd; sign = sign.AndAnd; is = refl }
+operator (suc (suc (suc (suc (suc (suc (suc (suc (suc zero))))))))) h = record { kind = kind.OrOr; sign = sign.OrOr; is = refl }
+operator (suc (suc (suc (suc (suc (suc (suc (suc (suc (suc n)))))))))) h = absurd (omega arith)
+
+within_again : (f g : Kinds) → Within (f ∪ (f ∪ g)) (f ∪ g)
+within_again f g = union_within f (f ∪ g) (f ∪ g) (within_left f g) (λ k h. h)
+
+-- joined operands are read exactly
+pub reads_joined : {room : Type 0} (D : Deeper) (l : ℕ) (inner : ℕ → Option Readers) → Inner D l inner room → (looseness : ℕ) → looseness ≤ 10
+    → IsRead (joined D l looseness) (λ most. read_joined most (inner most) looseness) l begins_expression (goes_joined looseness) room
+unfolding read_joined
+reads_joined D l inner w zero h = reads_prefix D l inner w
+reads_joined D l inner w (suc n) h =
+    let o : Operator (suc n) = operator n h in
+    let operand = reads_joined D l inner w n (omega arith) in
+    let apart : Apart (goes_joined n) (tells (operator_at (suc n))) = joined_apart n (suc n) (omega arith) in
+    reads_wider (goes_joined (suc n)) (within_again (goes_joined n) (tells (operator_at (suc n))))
+    (reads_making _ (reads_then_loose operand
+    (reads_many (reads_making _ (reads_then (reads_telling l (operator_at (suc n)) o.kind o.sign o.is w.level) operand (none_apart begins_expression))) apart)
+    apart))
+
+-- ---- choices
+
+-- a choice is read exactly
+pub reads_choice : {room : Type 0} (D : Deeper) (l : ℕ) (inner : ℕ → Option Readers) → Inner D l inner room
+    → IsRead (choice D l) (λ most. read_choice most (inner most)) l begins_expression goes_choice room
+unfolding read_choice
+reads_choice D l inner w =
+    reads_wider goes_choice
+    (union_within (goes_joined 10) (goes_choice ∪ is_question) goes_choice (within_left (goes_joined 10) is_question)
+    (union_within goes_choice is_question goes_choice (λ k h. h) (within_by is_question goes_choice refl (λ v u. refl))))
+    (reads_making _ (reads_then_loose (reads_joined D l inner w 10 (omega arith))
+    (reads_maybe (reads_opened _ w
+    (shape_then (shape_token (l + 1) is_question kind.Question refl)
+    (λ r. example_then (examples_of w r).comma (example_then (example_token (l + 1) is_colon kind.Colon refl) (examples_of w r).choice)))
+    (λ v. (reads_then (reads_token (l + 1) is_question kind.Question refl v.shallow)
+    (reads_then v.comma
+    (reads_then (reads_token (l + 1) is_colon kind.Colon refl v.shallow) v.choice (none_apart begins_expression))
+    (apart_by goes_comma is_colon refl (λ v u. refl)))
+    (none_apart begins_expression)).exact)))
+    (apart_by (goes_joined 10) is_question refl (λ v u. refl))))
+
+-- ---- assignments
+
+-- an assignment is read exactly
+pub reads_assignment_at : {room : Type 0} (D : Deeper) (l : ℕ) (inner : ℕ → Option Readers) → Inner D l inner room
+    → IsRead (assignment D l) (λ most. read_assignment most (inner most)) l begins_expression goes_assignment room
+unfolding read_assignment
+reads_assignment_at D l inner w =
+    reads_wider goes_assignment
+    (union_within goes_choice (goes_assignment ∪ tells assignment_told) goes_assignment (within_left goes_choice (tells assignment_told))
+    (union_within goes_assignment (tells assignment_told) goes_assignment (λ k h. h) (within_by (tells assignment_told) goes_assignment refl (λ v u. refl))))
+    (reads_making _ (reads_then_loose (reads_choice D l inner w)
+    (reads_maybe (reads_then (reads_telling l assignment_told kind.Assign sign.Assign refl w.level)
+    (reads_opened _ w w.shapes.assignment (λ v. v.assignment.exact))
+    (none_apart begins_expression)))
+    (apart_by goes_choice (tells assignment_told) refl (λ v u. refl))))
+
+-- ---- expressions with commas
+
+-- an expression with commas is read exactly
+pub reads_comma_at : {room : Type 0} (D : Deeper) (l : ℕ) (inner : ℕ → Option Readers) → Inner D l inner room
+    → IsRead (comma D l) (λ most. read_comma most (inner most)) l begins_expression goes_comma room
+unfolding read_comma
+reads_comma_at D l inner w =
+    let apart : Apart goes_assignment is_comma = apart_by goes_assignment is_comma refl (λ v u. refl) in
+    let operand = reads_assignment_at D l inner w in
+    reads_wider goes_comma (within_again goes_assignment is_comma)
+    (reads_making _ (reads_then_loose operand
+    (reads_many (reads_making _ (reads_then (reads_token l is_comma kind.Comma refl w.level) operand (none_apart begins_expression))) apart)
+    apart))

@@ -1,0 +1,119 @@
+-- Stretches one after the other: their tokens, their levels, and what has to be answered of them.
+use Rattle.std.proofs.Common.{◌≡◌, ◌+◌, ◌≤◌, ◌<◌, List, [], ◌∷◌, ◌++◌, Bool, true, false, Ok, Err, length, nat_le, cond, ◌⊎◌, inl, inr, refl, ap, ◌∙◌, append_assoc, arith, length-append, le-leb}
+use Rattle.std.proofs.lemmas.Bool.{lt-leb}
+use Rattle.std.proofs.lemmas.List.{map-append, length-map}
+use Rattle.std.proofs.lemmas.List.Elements.{All-append, All-nil, All-cons, All-head, All-tail}
+use Rattle.fk_expr.specs.Languages.{Placed, Marked, Stretch, tokens_of}
+use Rattle.fk_expr.specs.Reads.{Answer, Unexpected, IsShallow, most_levels}
+use Rattle.fk_expr.specs.Reading.{Reader, after}
+use Rattle.fk_expr.proofs.Exact.{from_deep, settled_by, settled}
+
+-- ---- tokens
+
+-- the tokens of two stretches
+pub tokens-append : (s t : Stretch) → tokens_of (s ++ t) ≡ tokens_of s ++ tokens_of t
+tokens-append s t = map-append (λ m. m.token) s t
+
+pub tokens_regroup : (s t : Stretch) (rest : List Placed) → tokens_of (s ++ t) ++ rest ≡ tokens_of s ++ (tokens_of t ++ rest)
+tokens_regroup s t rest = rw (tokens-append s t, append_assoc (tokens_of s) (tokens_of t) rest) refl
+
+-- how many they are
+pub length-tokens : (s : Stretch) (rest : List Placed) → length (tokens_of s ++ rest) ≡ length s + length rest
+length-tokens s rest = length-append (tokens_of s) rest ∙ ap (λ n. n + length rest) (length-map s (λ m. m.token))
+
+-- ---- two lists that are one
+
+-- a list that is cut in two ways at an element: the first cut comes earlier, at the same place or later
+pub record Earlier (xs : List Placed) (x : Placed) (us : List Placed) (ys : List Placed) (y : Placed) (vs : List Placed) : Type 0 where
+  pub between : List Placed
+  pub front : xs ≡ ys ++ y ∷ between
+  pub back : vs ≡ between ++ x ∷ us
+
+-- at the same place
+pub record Same (xs : List Placed) (x : Placed) (us : List Placed) (ys : List Placed) (y : Placed) (vs : List Placed) : Type 0 where
+  pub front : xs ≡ ys
+  pub at : x ≡ y
+  pub back : us ≡ vs
+
+-- one of these is so
+pub cuts : (xs : List Placed) (x : Placed) (us : List Placed) (ys : List Placed) (y : Placed) (vs : List Placed)
+    → xs ++ x ∷ us ≡ ys ++ y ∷ vs → Earlier xs x us ys y vs ⊎ Same xs x us ys y vs ⊎ Earlier ys y vs xs x us
+cuts [] x us [] y vs e = inr (inl (record { front = refl; at = cc; back = cc }))
+cuts [] x us (b ∷ ys) y vs e = inr (inr (record { between = ys; front = cc; back = cc }))
+cuts (a ∷ xs) x us [] y vs e = inl (record { between = xs; front = cc; back = cc })
+cuts (a ∷ xs) x us (b ∷ ys) y vs e =
+    elim (cuts xs x us ys y vs (cc)) [
+      | inl w ↦ inl (record { between = w.between; front = cc; back = w.back })
+      | inr (inl w) ↦ inr (inl (record { front = cc; at = w.at; back = w.back }))
+      | inr (inr w) ↦ inr (inr (record { between = w.between; front = cc; back = w.back }))
+    ]
+
+-- what comes behind a token is shorter
+pub not_longer : (front : List Placed) (x : Placed) (rest : List Placed) → length rest < length (front ++ x ∷ rest)
+not_longer front x rest = omega (arith, length-append front (x ∷ rest))
+
+-- no cut of nothing
+pub nil_cut : {C : Type 0} (front : List Placed) (x : Placed) (rest : List Placed) → [] ≡ front ++ x ∷ rest → C
+nil_cut [] x rest e = absurd (cc)
+nil_cut (y ∷ front) x rest e = absurd (cc)
+
+-- the same token comes first, whatever is put behind a later cut
+pub same_head : (x : Placed) (r front : List Placed) (y : Placed) (rest : List Placed) → x ∷ r ≡ front ++ y ∷ rest
+    → (others : List Placed) → (back : List Placed) × (front ++ y ∷ others ≡ x ∷ back)
+same_head x r [] y rest e others = (others, cc)
+same_head x r (z ∷ front) y rest e others = (front ++ y ∷ others, cc)
+
+-- ---- levels
+
+-- stretches that are shallow
+pub shallow-append : (s t : Stretch) → IsShallow s → IsShallow t → IsShallow (s ++ t)
+shallow-append s t h k = All-append (λ m. m.level ≤ most_levels) s t h k
+
+pub shallow-nil : IsShallow []
+shallow-nil = All-nil (λ m. m.level ≤ most_levels)
+
+pub shallow-one : (m : Marked) → m.level ≤ most_levels → IsShallow (m ∷ [])
+shallow-one m h = All-cons (λ m. m.level ≤ most_levels) m [] h shallow-nil
+
+-- no token of a shallow stretch is past the bound
+pub from_deep-shallow : (s : Stretch) → IsShallow s → from_deep s ≡ []
+from_deep-shallow [] h = refl
+from_deep-shallow (m ∷ s) h =
+    rw (le-leb m.level most_levels (All-head (λ m. m.level ≤ most_levels) m s h)) (from_deep-shallow s (All-tail (λ m. m.level ≤ most_levels) m s h))
+
+-- a token past the bound comes first
+pub from_deep-past : (m : Marked) (s : Stretch) → most_levels < m.level → from_deep (m ∷ s) ≡ m ∷ s
+from_deep-past m s past = rw (lt-leb m.level most_levels past) refl
+
+-- ---- what has to be answered
+
+-- what is made of an answer
+pub settled_giving : {A B : Type 0} (f : A → B) (s : Stretch) (a : A) (rest : List Placed) (answer : Answer A)
+    → answer ≡ settled s a rest → after {B = B} answer (λ v others. Ok (f v, others)) ≡ settled s (f a) rest
+settled_giving {A} {B} f s a rest answer e = rw e (by (from_deep s))
+  where
+    by : (t : Stretch) → after {B = B} (settled_by t a rest) (λ v others. Ok (f v, others)) ≡ settled_by t (f a) rest
+    by [] = refl
+    by (m ∷ t) = refl
+
+-- one stretch after another
+settled_step : {A B : Type 0} (is_shallow : Bool) (m : Marked) (s t : Stretch) (a : A) (b : B) (rest : List Placed) (Q : Reader B)
+    → after {B = A × B} (settled s a (tokens_of t ++ rest)) (λ v others. after (Q others) (λ w more. Ok ((v, w), more))) ≡ settled (s ++ t) (a, b) rest
+    → after {B = A × B} (settled_by (cond is_shallow (from_deep s) (m ∷ s)) a (tokens_of t ++ rest)) (λ v others. after (Q others) (λ w more. Ok ((v, w), more)))
+    ≡ settled_by (cond is_shallow (from_deep (s ++ t)) (m ∷ (s ++ t))) (a, b) rest
+settled_step true m s t a b rest Q e = e
+settled_step false m s t a b rest Q e = rw (tokens_regroup s t rest) refl
+
+-- of one stretch after another both are answered, or the first token that nests too deep
+pub settled_then : {A B : Type 0} (s t : Stretch) (a : A) (b : B) (rest : List Placed) (Q : Reader B) → Q (tokens_of t ++ rest) ≡ settled t b rest
+    → after {B = A × B} (settled s a (tokens_of t ++ rest)) (λ v others. after (Q others) (λ w more. Ok ((v, w), more))) ≡ settled (s ++ t) (a, b) rest
+settled_then [] t a b rest Q e = settled_giving (λ w. (a, w)) t b rest (Q (tokens_of t ++ rest)) e
+settled_then (m ∷ s) t a b rest Q e = settled_step (nat_le m.level most_levels) m s t a b rest Q (settled_then s t a b rest Q e)
+
+-- a token of a stretch that is read is never unexpected
+pub settled_read : {A : Type 0} (s : Stretch) (a : A) (rest others : List Placed) → settled s a rest ≡ Err (Unexpected others) → ⊥
+settled_read {A} s a rest others e = by (from_deep s) e
+  where
+    by : (t : Stretch) → settled_by t a rest ≡ Err (Unexpected others) → ⊥
+    by [] e = cc
+    by (m ∷ t) e = cc

@@ -1,0 +1,113 @@
+-- Suffixes, and what they are put to, are read exactly.
+use Rattle.std.proofs.Common.{ℕ, ◌+◌, ◌≤◌, Option, IsTrue, refl, arith}
+use Rattle.fk_syntax.specs.Tree.{SuffixTree, Index, Call, trees_of}
+use Rattle.fk_lex.specs.declared.token.TokenKind.{TokenKind}
+use Rattle.fk_lex.specs.declared.token.TokenKind.TheVariants as kind
+use Rattle.fk_expr.specs.Languages.{Language, token, ◌then◌, making}
+use Rattle.fk_expr.specs.Reads.{most_levels}
+use Rattle.fk_expr.specs.Kinds.{is_name, is_comma, is_open_parenthesis, is_close_parenthesis, is_open_bracket, is_close_bracket, is_dot, is_arrow, is_increment, is_decrement}
+use Rattle.fk_expr.specs.Grammar.{spot, Deeper, arguments, suffix, postfix}
+use Rattle.fk_expr.specs.Reading.{Reader, Readers, expect, giving, ◌and◌, opened, begins_primary, begins_suffix, begins_expression, read_arguments, read_suffix, read_postfix}
+use Rattle.fk_expr.proofs.Sets.{Kinds, ◌∪◌, none, none_apart}
+use Rattle.fk_expr.proofs.EachKind.{apart_by, within_by}
+use Rattle.fk_expr.proofs.Token.{example_token, shape_token}
+use Rattle.fk_expr.proofs.Shapes.{example_then, example_empty, empty_maybe, empty_making, shape_making, shape_then}
+use Rattle.fk_expr.proofs.Productions.{IsRead, IsLooselyRead, reads_token, reads_making, loosely_making, reads_then, reads_then_loose, reads_loose_then, in_parentheses, shape_in_parentheses, reads_or, reads_maybe, reads_many, reads_lower, reads_kinds, reads_wider}
+use Rattle.fk_expr.proofs.Followers.{goes_assignment, goes_comma}
+use Rattle.fk_expr.proofs.Inner.{Below, Inner, examples_of, reads_opened}
+use Rattle.fk_expr.proofs.Primary.{reads_primary}
+
+-- what goes on with arguments
+abbrev goes_arguments : Kinds
+goes_arguments = (goes_assignment ∪ (goes_assignment ∪ is_comma)) ∪ begins_expression
+
+reads_arguments : {room : Type 0} (D : Deeper) (l : ℕ) (inner : ℕ → Option Readers) → (v : Below D l inner room)
+    → IsLooselyRead (arguments D (l + 1)) (λ most. read_arguments most (v.readers most)) (l + 1) begins_expression goes_arguments room
+unfolding read_arguments
+reads_arguments D l inner v =
+    loosely_making _ (reads_maybe (reads_then_loose v.assignment
+    (reads_many (reads_making _ (reads_then (reads_token (l + 1) is_comma kind.Comma refl v.shallow) v.assignment (none_apart begins_expression)))
+    (apart_by goes_assignment is_comma refl (λ v u. refl)))
+    (apart_by goes_assignment is_comma refl (λ v u. refl))))
+
+-- an index
+abbrev index : Deeper → ℕ → Language SuffixTree
+index D l = making (λ x. Index (spot x.0) x.1.0) (token (l + 1) is_open_bracket then D.comma (l + 1) then token (l + 1) is_close_bracket)
+
+abbrev read_index : Option Readers → Reader SuffixTree
+read_index inner = opened is_open_bracket inner (λ R. giving (λ x. Index (spot x.0) x.1.0) (expect is_open_bracket and R.comma and expect is_close_bracket))
+
+reads_index : {room : Type 0} (D : Deeper) (l : ℕ) (inner : ℕ → Option Readers) → Inner D l inner room
+    → IsRead (index D l) (λ most. read_index (inner most)) (l + 1) is_open_bracket none room
+reads_index D l inner w =
+    reads_opened _ w
+    (shape_making _ (shape_then (shape_token (l + 1) is_open_bracket kind.OpenBracket refl)
+    (λ r. example_then (examples_of w r).comma (example_token (l + 1) is_close_bracket kind.CloseBracket refl))))
+    (λ v. (reads_making _ (reads_then (reads_token (l + 1) is_open_bracket kind.OpenBracket refl v.shallow)
+    (reads_then v.comma (reads_token (l + 1) is_close_bracket kind.CloseBracket refl v.shallow) (apart_by goes_comma is_close_bracket refl (λ v u. refl)))
+    (none_apart begins_expression))).exact)
+
+-- a call
+abbrev call : Deeper → ℕ → Language SuffixTree
+call D l = making (λ x. Call (spot x.0) (trees_of x.1.0)) (in_parentheses (l + 1) (arguments D (l + 1)))
+
+abbrev read_call : ℕ → Option Readers → Reader SuffixTree
+read_call most inner =
+    opened is_open_parenthesis inner (λ R.
+    giving (λ x. Call (spot x.0) (trees_of x.1.0)) (expect is_open_parenthesis and read_arguments most R and expect is_close_parenthesis))
+
+reads_call : {room : Type 0} (D : Deeper) (l : ℕ) (inner : ℕ → Option Readers) → Inner D l inner room
+    → IsRead (call D l) (λ most. read_call most (inner most)) (l + 1) is_open_parenthesis none room
+reads_call D l inner w =
+    reads_opened _ w (shape_making _ (shape_in_parentheses (l + 1) (λ r. example_empty (empty_making _ (empty_maybe _))))) (λ v.
+    (reads_making _ (reads_then (reads_token (l + 1) is_open_parenthesis kind.OpenParenthesis refl v.shallow)
+    (reads_loose_then (reads_arguments D l inner v) (reads_token (l + 1) is_close_parenthesis kind.CloseParenthesis refl v.shallow)
+    (apart_by goes_arguments is_close_parenthesis refl (λ v u. refl)))
+    (none_apart (begins_expression ∪ is_close_parenthesis)))).exact)
+
+-- a name behind a sign
+reads_member : {room : Type 0} (l : ℕ) (is : Kinds) (k : TokenKind) → IsTrue (is k) → l ≤ most_levels
+    → IsRead (token l is then token l is_name) (λ most. expect is and expect is_name) l is none room
+reads_member l is k e h = reads_then (reads_token l is k e h) (reads_token l is_name kind.Word refl h) (none_apart is_name)
+
+-- the kinds that begin the productions of a suffix, from each on
+abbrev from_increment : Kinds
+from_increment = is_increment ∪ is_decrement
+
+abbrev from_arrow : Kinds
+from_arrow = is_arrow ∪ from_increment
+
+abbrev from_dot : Kinds
+from_dot = is_dot ∪ from_arrow
+
+abbrev from_parenthesis : Kinds
+from_parenthesis = is_open_parenthesis ∪ from_dot
+
+abbrev from_bracket : Kinds
+from_bracket = is_open_bracket ∪ from_parenthesis
+
+-- a suffix is read exactly
+pub reads_suffix : {room : Type 0} (D : Deeper) (l : ℕ) (inner : ℕ → Option Readers) → Inner D l inner room
+    → IsRead (suffix D l) (λ most. read_suffix most (inner most)) l begins_suffix none room
+unfolding read_suffix
+reads_suffix D l inner w =
+    reads_kinds begins_suffix (within_by from_bracket begins_suffix refl (λ v u. refl)) (within_by begins_suffix from_bracket refl (λ v u. refl))
+    (reads_wider none (λ k h. h)
+    (reads_or (reads_lower (omega arith) (reads_index D l inner w))
+    (reads_or (reads_lower (omega arith) (reads_call D l inner w))
+    (reads_or (reads_making _ (reads_member l is_dot kind.Dot refl w.level))
+    (reads_or (reads_making _ (reads_member l is_arrow kind.Arrow refl w.level))
+    (reads_or (reads_making _ (reads_token l is_increment kind.Increment refl w.level)) (reads_making _ (reads_token l is_decrement kind.Decrement refl w.level))
+    (apart_by is_increment is_decrement refl (λ v u. refl)))
+    (apart_by is_arrow from_increment refl (λ v u. refl)))
+    (apart_by is_dot from_arrow refl (λ v u. refl)))
+    (apart_by is_open_parenthesis from_dot refl (λ v u. refl)))
+    (apart_by is_open_bracket from_parenthesis refl (λ v u. refl))))
+
+-- a primary expression with its suffixes is read exactly
+pub reads_postfix : {room : Type 0} (D : Deeper) (l : ℕ) (inner : ℕ → Option Readers) → Inner D l inner room
+    → IsRead (postfix D l) (λ most. read_postfix most (inner most)) l begins_primary begins_suffix room
+unfolding read_postfix
+reads_postfix D l inner w =
+    reads_wider begins_suffix (λ k h. h)
+    (reads_making _ (reads_then_loose (reads_primary D l inner w) (reads_many (reads_suffix D l inner w) (none_apart begins_suffix)) (none_apart begins_suffix)))

@@ -1,0 +1,151 @@
+-- The shape of one token, and how it is read.
+use Rattle.std.proofs.Common.{◌≡◌, ℕ, ◌≤◌, List, [], ◌∷◌, Option, Some, None, Bool, true, false, IsTrue, Ok, Err, ◌⊎◌, inl, inr, refl, le_refl, suc-le-suc, zero-le}
+use Rattle.fk_lex.specs.declared.token.TokenKind.{TokenKind}
+use Rattle.fk_expr.specs.Languages.{Placed, Stretch, Language, token, telling}
+use Rattle.fk_expr.specs.Reads.{Unexpected, EndOfText, most_levels}
+use Rattle.fk_expr.specs.Reading.{Reader, expect, expect_told, tells, does_tell}
+use Rattle.fk_expr.proofs.Sets.{Kinds, none}
+use Rattle.fk_expr.proofs.Exact.{Example, Goes, Shape, Sound, SoundStop, IsSound, IsComplete, IsLocal, Exact}
+use Rattle.fk_expr.proofs.Stretches.{shallow-nil, shallow-one, from_deep-shallow}
+
+-- some token of a kind
+abbrev pub some_token : TokenKind → Placed
+some_token k = record { at = 0; kind = k; bytes = []; place = record { line = 1; column = 1 } }
+
+-- ---- shapes
+
+-- tokens that the language has
+pub example_token : (level : ℕ) (is : Kinds) (k : TokenKind) → IsTrue (is k) → Example (token level is)
+example_token level is k h = record { stretch = record { token = some_token k; level = level } ∷ []; value = some_token k; spelled = (refl, h) }
+
+pub example_telling : {A : Type 0} (level : ℕ) (told : TokenKind → Option A) (k : TokenKind) (a : A) → told k ≡ Some a → Example (telling level told)
+example_telling level told k a h = record { stretch = record { token = some_token k; level = level } ∷ []; value = (some_token k, a); spelled = (refl, h) }
+
+-- a token of a kind begins with that kind
+pub shape_token : {room : Type 0} (level : ℕ) (is : Kinds) (k : TokenKind) → IsTrue (is k) → Shape (token level is) level is room
+shape_token level is k h = record {
+  fronts = λ s t x. record { front = record { token = t; level = level }; others = []; is = x.0; kind = x.1; deep = le_refl level };
+  starts = λ r t x. record { at = level; deep = le_refl level; others = []; value = t; spelled = (refl, x) };
+  example = λ r. example_token level is k h;
+}
+
+-- what a kind tells, which tells something
+told_value : {A : Type 0} (o : Option A) → IsTrue (does_tell o) → (a : A) × (o ≡ Some a)
+told_value None h = absurd (cc)
+told_value (Some a) h = (a, refl)
+
+tells_from : {A : Type 0} (o : Option A) (a : A) → o ≡ Some a → IsTrue (does_tell o)
+tells_from o a e = rw e refl
+
+-- a token that tells something begins with the kinds that do
+pub shape_telling : {room : Type 0} {A : Type 0} (level : ℕ) (told : TokenKind → Option A) (k : TokenKind) (a : A) → told k ≡ Some a
+    → Shape (telling level told) level (tells told) room
+shape_telling level told k a h = record {
+  fronts = λ s x l. record { front = record { token = x.0; level = level }; others = []; is = l.0; kind = tells_from (told x.0.kind) x.1 l.1; deep = le_refl level };
+  starts = λ r t x. let v = told_value (told t.kind) x in record { at = level; deep = le_refl level; others = []; value = (t, v.0); spelled = (refl, v.1) };
+  example = λ r. example_telling level told k a h;
+}
+
+-- ---- what is answered where nothing is read
+
+-- nothing goes on to a stretch of the language
+pub example_goes : {A : Type 0} (L : Language A) → Example L → Goes L []
+example_goes L x = record { more = x.stretch; value = x.value; spelled = x.spelled }
+
+-- at the end of the tokens
+pub sound_end : {A : Type 0} (L : Language A) → Example L → SoundStop L [] []
+sound_end L x = record { stretch = []; is = refl; goes = example_goes L x; shallow = shallow-nil }
+
+-- at a token
+pub sound_unexpected : {A : Type 0} (L : Language A) (t : Placed) (ts : List Placed) → Example L → Sound L (t ∷ ts) (Err (Unexpected (t ∷ ts)))
+sound_unexpected L t ts x = (record { stretch = []; is = refl; goes = example_goes L x; shallow = shallow-nil }, suc-le-suc zero-le)
+
+-- ---- readers of one token
+
+-- a reader takes a token
+pub record Taken {A : Type 0} (L : Language A) (level : ℕ) (P : Reader A) (t : Placed) : Type 0 where
+  pub value : A
+  pub spelled : L (record { token = t; level = level } ∷ []) value
+  pub answer : (ts : List Placed) → P (t ∷ ts) ≡ Ok (value, ts)
+
+-- a reader takes one token where it spells a value of the language, and no other
+pub record TakesOne {A : Type 0} (L : Language A) (level : ℕ) (P : Reader A) : Type 0 where
+  pub at_end : P [] ≡ Err EndOfText
+  pub takes : (t : Placed) → Taken L level P t ⊎ ((ts : List Placed) → P (t ∷ ts) ≡ Err (Unexpected (t ∷ ts)))
+  pub spelled : (s : Stretch) (a : A) → L s a
+      → (t : Placed) × (s ≡ record { token = t; level = level } ∷ []) × ((ts : List Placed) → P (t ∷ ts) ≡ Ok (a, ts))
+
+sound_one : {A : Type 0} (most : ℕ) (L : Language A) (level : ℕ) (P : Reader A) → level ≤ most_levels → TakesOne L level P → Example L → IsSound most L P
+sound_one most L level P h one x [] fits = rw one.at_end (sound_end L x)
+sound_one most L level P h one x (t ∷ ts) fits =
+    elim (one.takes t) [
+      | inl w ↦ rw (w.answer ts) (record { stretch = record { token = t; level = level } ∷ []; is = refl; spelled = w.spelled; shallow = shallow-one (record { token = t; level = level }) h })
+      | inr e ↦ rw (e ts) (sound_unexpected L t ts x)
+    ]
+
+complete_one : {A : Type 0} (most : ℕ) (L : Language A) (level : ℕ) (P : Reader A) → level ≤ most_levels → TakesOne L level P → IsComplete most L P none
+complete_one most L level P h one s a rest l fits ends =
+    let w = one.spelled s a l in
+    rw w.1 (rw (from_deep-shallow (record { token = w.0; level = level } ∷ []) (shallow-one (record { token = w.0; level = level }) h)) (w.2 rest))
+
+local_one : {A : Type 0} (most : ℕ) (L : Language A) (level : ℕ) (P : Reader A) → TakesOne L level P → IsLocal most P
+local_one most L level P one [] fits = rw one.at_end tt
+local_one most L level P one (t ∷ []) fits =
+    elim (one.takes t) [
+      | inl w ↦ rw (w.answer []) (λ x others h e. cc (w.answer (x ∷ others)))
+      | inr e ↦ rw (e []) (record { front = []; is = refl; stays = λ others h. e others })
+    ]
+local_one most L level P one (t ∷ u ∷ ts) fits =
+    elim (one.takes t) [
+      | inl w ↦ rw (w.answer (u ∷ ts)) (record { front = t ∷ []; is = refl; stays = λ others h. w.answer (u ∷ others) })
+      | inr e ↦ rw (e (u ∷ ts)) (record { front = []; is = refl; stays = λ others h. e others })
+    ]
+
+-- such a reader reads the language exactly
+pub exact_one : {room : Type 0} {A : Type 0} (L : Language A) (level : ℕ) (P : Reader A) → level ≤ most_levels → TakesOne L level P → (room → Example L)
+    → Exact L (λ most. P) none room
+exact_one L level P h one x = record {
+  exact = λ most. record {
+    sound = λ r. sound_one most L level P h one (x r);
+    complete = complete_one most L level P h one;
+    local = λ r. local_one most L level P one;
+  };
+  same = λ r most more above ts fits. refl;
+}
+
+-- ---- a token of a kind
+
+expect_takes : (level : ℕ) (is : Kinds) → TakesOne (token level is) level (expect is)
+expect_takes level is = record {
+  at_end = refl;
+  takes = λ t. by t (is t.kind) refl;
+  spelled = λ s t x. (t, x.0, λ ts. rw (x.1, expect) refl);
+}
+  where
+    by : (t : Placed) (b : Bool) → is t.kind ≡ b
+        → Taken (token level is) level (expect is) t ⊎ ((ts : List Placed) → expect is (t ∷ ts) ≡ Err (Unexpected (t ∷ ts)))
+    by t true e = inl (record { value = t; spelled = (refl, e); answer = λ ts. rw (e, expect) refl })
+    by t false e = inr (λ ts. rw (e, expect) refl)
+
+-- a token of a kind is read exactly: name a kind of the set
+pub exact_token : {room : Type 0} (level : ℕ) (is : Kinds) (k : TokenKind) → IsTrue (is k) → level ≤ most_levels → Exact (token level is) (λ most. expect is) none room
+exact_token level is k e h = exact_one (token level is) level (expect is) h (expect_takes level is) (λ r. example_token level is k e)
+
+-- ---- a token whose kind tells something
+
+expect_told_takes : {A : Type 0} (level : ℕ) (told : TokenKind → Option A) → TakesOne (telling level told) level (expect_told told)
+expect_told_takes {A} level told = record {
+  at_end = refl;
+  takes = λ t. by t (told t.kind) refl;
+  spelled = λ s x l. (x.0, l.0, λ ts. rw l.1 refl);
+}
+  where
+    by : (t : Placed) (o : Option A) → told t.kind ≡ o
+        → Taken (telling level told) level (expect_told told) t ⊎ ((ts : List Placed) → expect_told told (t ∷ ts) ≡ Err (Unexpected (t ∷ ts)))
+    by t (Some a) e = inl (record { value = (t, a); spelled = (refl, e); answer = λ ts. rw e refl })
+    by t None e = inr (λ ts. rw e refl)
+
+-- a token whose kind tells something is read exactly: name a kind, and what it tells
+pub exact_telling : {room : Type 0} {A : Type 0} (level : ℕ) (told : TokenKind → Option A) (k : TokenKind) (a : A) → told k ≡ Some a → level ≤ most_levels
+    → Exact (telling level told) (λ most. expect_told told) none room
+exact_telling level told k a e h = exact_one (telling level told) level (expect_told told) h (expect_told_takes level told) (λ r. example_telling level told k a e)

@@ -1,0 +1,248 @@
+-- The indices in an expression are those of tokens of the stretch that spells it, and none stands more often.
+use Rattle.std.proofs.Common.{◌≡◌, ℕ, zero, suc, ◌+◌, ◌≤◌, List, [], ◌∷◌, ◌++◌, Option, Some, None, arith, ◌⊎◌}
+use Rattle.fk_syntax.specs.declared.nodes.Index.{Index}
+use Rattle.fk_syntax.specs.declared.nodes.Index.TheVariants.{Node, StructName}
+use Rattle.fk_syntax.specs.declared.sign.Sign.{Sign}
+use Rattle.fk_syntax.specs.Nodes.{base_indices, type_indices, tree_indices, links_indices, trees_indices, suffixes_indices}
+use Rattle.fk_syntax.specs.Tree.{BaseType, TypeTree, Tree, LinkTree, SuffixTree, Index as AtIndex, Call, Dot, Arrow, Up, Down, links_of, trees_of, suffixes_of, suffix}
+use Rattle.fk_expr.specs.Languages.{Placed}
+use Rattle.fk_expr.specs.Grammar as g
+use Rattle.fk_expr.specs.Grammar.{Deeper, deeper, linked, chained, suffixed, chosen, assigned, listed}
+use Rattle.fk_expr.specs.Kinds.{is_name, number_told, is_at, is_dollar, is_puts, is_sizeof, is_int, is_void, is_struct, is_comma, is_question, is_open_parenthesis, is_open_bracket, is_dot, is_arrow, is_increment, is_decrement, prefix_told, assignment_told}
+use Rattle.fk_expr.proofs.Uses.{one, Measure, Held, uncounted, by_place, by_first, both, each, if_some, held_uncounted, held_token, held_telling, held_then, held_or, held_making, held_many, held_maybe, held_nothing}
+
+-- a way to count the indices in a list: at most as often as they stand there
+pub record Count : Type 0 where
+  pub of : List Index → ℕ → ℕ
+  pub empty : (k : ℕ) → of [] k ≡ 0
+  pub append : (xs ys : List Index) (k : ℕ) → of (xs ++ ys) k ≤ of xs k + of ys k
+  pub node : (at k : ℕ) → of (Node at ∷ []) k ≤ one at k
+  pub name : (at k : ℕ) → of (StructName at ∷ []) k ≤ one at k
+  -- the names of a type's first words don't count, or nothing counts more than once
+  pub once : (base : BaseType) (k : ℕ) → (of (base_indices base) k ≡ 0) ⊎ ((xs : List Index) → of xs k ≤ 1)
+
+pub more : (C : Count) (at : ℕ) (xs : List Index) (k : ℕ) → C.of (Node at ∷ xs) k ≤ one at k + C.of xs k
+more C at xs k = let a = C.append (Node at ∷ []) xs k in let b = C.node at k in omega (arith, a, b)
+
+pub more_two : (C : Count) (at : ℕ) (xs ys : List Index) (k : ℕ) → C.of (Node at ∷ xs ++ ys) k ≤ one at k + (C.of xs k + C.of ys k)
+more_two C at xs ys k = let a = more C at (xs ++ ys) k in let b = C.append xs ys k in omega (arith, a, b)
+
+-- ---- what counts in the parts of expressions
+
+abbrev pub base_count : Count → Measure BaseType
+base_count C base k = C.of (base_indices base) k
+
+abbrev pub type_count : Count → Measure TypeTree
+type_count C type k = C.of (type_indices type) k
+
+abbrev pub tree_count : Count → Measure Tree
+tree_count C tree k = C.of (tree_indices tree) k
+
+abbrev pub link_count : Count → Measure LinkTree
+link_count C link k = one link.spot.at k + C.of (tree_indices link.right) k
+
+abbrev pub suffix_count : Count → Measure SuffixTree
+suffix_count C (AtIndex spot by) k = one spot.at k + C.of (tree_indices by) k
+suffix_count C (Call spot arguments) k = one spot.at k + C.of (trees_indices arguments) k
+suffix_count C (Dot spot member) k = one spot.at k + one member.at k
+suffix_count C (Arrow spot member) k = one spot.at k + one member.at k
+suffix_count C (Up spot) k = one spot.at k
+suffix_count C (Down spot) k = one spot.at k
+
+pub links_count : (C : Count) (links : List LinkTree) (k : ℕ) → C.of (links_indices (links_of links)) k ≤ each (link_count C) links k
+links_count C [] k = let e = C.empty k in omega (arith, e)
+links_count C (x ∷ xs) k =
+    let a = more_two C x.spot.at (tree_indices x.right) (links_indices (links_of xs)) k in
+    let b = links_count C xs k in
+    omega (arith, a, b)
+
+pub trees_count : (C : Count) (trees : List Tree) (k : ℕ) → C.of (trees_indices (trees_of trees)) k ≤ each (tree_count C) trees k
+trees_count C [] k = let e = C.empty k in omega (arith, e)
+trees_count C (x ∷ xs) k =
+    let a = C.append (tree_indices x) (trees_indices (trees_of xs)) k in
+    let b = trees_count C xs k in
+    omega (arith, a, b)
+
+suffix_before : (C : Count) (x : SuffixTree) (xs : List SuffixTree) (k : ℕ) → C.of (suffixes_indices (suffix x (suffixes_of xs))) k ≤ suffix_count C x k + C.of (suffixes_indices (suffixes_of xs)) k
+suffix_before C (AtIndex spot by) xs k = let a = more_two C spot.at (tree_indices by) (suffixes_indices (suffixes_of xs)) k in omega (arith, a)
+suffix_before C (Call spot arguments) xs k = let a = more_two C spot.at (trees_indices arguments) (suffixes_indices (suffixes_of xs)) k in omega (arith, a)
+suffix_before C (Dot spot member) xs k =
+    let a = more C spot.at (Node member.at ∷ suffixes_indices (suffixes_of xs)) k in let b = more C member.at (suffixes_indices (suffixes_of xs)) k in omega (arith, a, b)
+suffix_before C (Arrow spot member) xs k =
+    let a = more C spot.at (Node member.at ∷ suffixes_indices (suffixes_of xs)) k in let b = more C member.at (suffixes_indices (suffixes_of xs)) k in omega (arith, a, b)
+suffix_before C (Up spot) xs k = more C spot.at (suffixes_indices (suffixes_of xs)) k
+suffix_before C (Down spot) xs k = more C spot.at (suffixes_indices (suffixes_of xs)) k
+
+pub suffixes_count : (C : Count) (suffixes : List SuffixTree) (k : ℕ) → C.of (suffixes_indices (suffixes_of suffixes)) k ≤ each (suffix_count C) suffixes k
+suffixes_count C [] k = let e = C.empty k in omega (arith, e)
+suffixes_count C (x ∷ xs) k = let a = suffix_before C x xs k in let b = suffixes_count C xs k in omega (arith, a, b)
+
+-- ---- the productions
+
+pub held_base : (C : Count) (l : ℕ) → Held (g.base l) (base_count C)
+held_base C l =
+    held_or _ _ _ (held_making _ _ by_place _ (held_token l is_int) (λ t k. let e = C.empty k in omega (arith, e)))
+    (held_or _ _ _ (held_making _ _ uncounted _ (held_uncounted _) (λ t k. let e = C.empty k in omega (arith, e)))
+    (held_or _ _ _ (held_making _ _ by_place _ (held_token l is_void) (λ t k. let e = C.empty k in omega (arith, e)))
+    (held_making _ _ (both by_place by_place) _ (held_then _ _ by_place by_place (held_token l is_struct) (held_token l is_name))
+    (λ x k. let a = C.name x.1.at k in omega (arith, a)))))
+
+pub held_type : (C : Count) (l : ℕ) → Held (g.type_name l) (type_count C)
+held_type C l =
+    held_making _ _ (both (base_count C) uncounted) _ (held_then _ _ (base_count C) uncounted (held_base C l) (held_uncounted _)) (λ x k. omega arith)
+
+-- what stands one level deeper
+pub record HeldDeeper (C : Count) (D : Deeper) : Type 0 where
+  pub comma : (l : ℕ) → Held (D.comma l) (tree_count C)
+  pub assignment : (l : ℕ) → Held (D.assignment l) (tree_count C)
+  pub choice : (l : ℕ) → Held (D.choice l) (tree_count C)
+  pub prefix : (l : ℕ) → Held (D.prefix l) (tree_count C)
+
+pub held_parenthesized : (C : Count) (D : Deeper) → HeldDeeper C D → (l : ℕ) → Held (g.parenthesized D l) (tree_count C)
+held_parenthesized C D H l =
+    held_making _ _ (both uncounted (both (tree_count C) uncounted)) _
+    (held_then _ _ uncounted (both (tree_count C) uncounted) (held_uncounted _) (held_then _ _ (tree_count C) uncounted (H.comma (l + 1)) (held_uncounted _)))
+    (λ x k. omega arith)
+
+pub held_puts : (C : Count) (l : ℕ) → Held (g.puts l) (tree_count C)
+held_puts C l =
+    held_making _ _ (both by_place uncounted) _ (held_then _ _ by_place uncounted (held_token l is_puts) (held_uncounted _))
+    (λ x k. let a = C.node x.0.at k in omega (arith, a))
+
+pub held_primary : (C : Count) (D : Deeper) → HeldDeeper C D → (l : ℕ) → Held (g.primary D l) (tree_count C)
+held_primary C D H l =
+    held_or _ _ _ (held_making _ _ by_first _ (held_telling l number_told) (λ x k. C.node x.0.at k))
+    (held_or _ _ _ (held_making _ _ by_place _ (held_token l is_name) (λ t k. C.node t.at k))
+    (held_or _ _ _ (held_making _ _ by_place _ (held_token l is_at) (λ t k. C.node t.at k))
+    (held_or _ _ _ (held_making _ _ by_place _ (held_token l is_dollar) (λ t k. C.node t.at k))
+    (held_or _ _ _ (held_parenthesized C D H l) (held_puts C l)))))
+
+listed_count : (C : Count) (o : Option (Tree × List Tree)) (k : ℕ) → each (tree_count C) (listed o) k ≤ if_some (both (tree_count C) (each (tree_count C))) o k
+listed_count C None k = omega arith
+listed_count C (Some x) k = omega arith
+
+pub held_arguments : (C : Count) (D : Deeper) → HeldDeeper C D → (l : ℕ) → Held (g.arguments D l) (each (tree_count C))
+held_arguments C D H l =
+    held_making _ _ (if_some (both (tree_count C) (each (tree_count C)))) _
+    (held_maybe _ (both (tree_count C) (each (tree_count C)))
+    (held_then _ _ (tree_count C) (each (tree_count C)) (H.assignment l)
+    (held_many _ (tree_count C)
+    (held_making _ _ (both uncounted (tree_count C)) _ (held_then _ _ uncounted (tree_count C) (held_uncounted _) (H.assignment l)) (λ x k. omega arith)))))
+    (listed_count C)
+
+pub held_suffix : (C : Count) (D : Deeper) → HeldDeeper C D → (l : ℕ) → Held (g.suffix D l) (suffix_count C)
+held_suffix C D H l =
+    held_or _ _ _
+    (held_making _ _ (both by_place (both (tree_count C) uncounted)) _
+    (held_then _ _ by_place (both (tree_count C) uncounted) (held_token (l + 1) is_open_bracket) (held_then _ _ (tree_count C) uncounted (H.comma (l + 1)) (held_uncounted _)))
+    (λ x k. omega arith))
+    (held_or _ _ _
+    (held_making _ _ (both by_place (both (each (tree_count C)) uncounted)) _
+    (held_then _ _ by_place (both (each (tree_count C)) uncounted) (held_token (l + 1) is_open_parenthesis) (held_then _ _ (each (tree_count C)) uncounted (held_arguments C D H (l + 1)) (held_uncounted _)))
+    (λ x k. let a = trees_count C x.1.0 k in omega (arith, a)))
+    (held_or _ _ _ (held_making _ _ (both by_place by_place) _ (held_then _ _ by_place by_place (held_token l is_dot) (held_token l is_name)) (λ x k. omega arith))
+    (held_or _ _ _ (held_making _ _ (both by_place by_place) _ (held_then _ _ by_place by_place (held_token l is_arrow) (held_token l is_name)) (λ x k. omega arith))
+    (held_or _ _ _ (held_making _ _ by_place _ (held_token l is_increment) (λ t k. omega arith))
+    (held_making _ _ by_place _ (held_token l is_decrement) (λ t k. omega arith))))))
+
+suffixed_count : (C : Count) (whole : Tree) (suffixes : List SuffixTree) (k : ℕ) → tree_count C (suffixed whole suffixes) k ≤ tree_count C whole k + each (suffix_count C) suffixes k
+suffixed_count C whole [] k = omega arith
+suffixed_count C whole (x ∷ xs) k =
+    let a = C.append (tree_indices whole) (suffixes_indices (suffixes_of (x ∷ xs))) k in
+    let b = suffixes_count C (x ∷ xs) k in
+    omega (arith, a, b)
+
+pub held_postfix : (C : Count) (D : Deeper) → HeldDeeper C D → (l : ℕ) → Held (g.postfix D l) (tree_count C)
+held_postfix C D H l =
+    held_making _ _ (both (tree_count C) (each (suffix_count C))) _
+    (held_then _ _ (tree_count C) (each (suffix_count C)) (held_primary C D H l) (held_many _ (suffix_count C) (held_suffix C D H l)))
+    (λ x k. suffixed_count C x.0 x.1 k)
+
+pub held_cast : (C : Count) (D : Deeper) → HeldDeeper C D → (l : ℕ) → Held (g.cast D l) (tree_count C)
+held_cast C D H l =
+    held_making _ _ (both by_place (both (type_count C) (both uncounted (tree_count C)))) _
+    (held_then _ _ by_place (both (type_count C) (both uncounted (tree_count C))) (held_token (l + 1) is_open_parenthesis)
+    (held_then _ _ (type_count C) (both uncounted (tree_count C)) (held_type C (l + 1))
+    (held_then _ _ uncounted (tree_count C) (held_uncounted _) (H.prefix (l + 1)))))
+    (λ x k. let a = more_two C x.0.at (type_indices x.1.0) (tree_indices x.1.1.1) k in omega (arith, a))
+
+pub held_sizeof : (C : Count) (l : ℕ) → Held (g.sizeof l) (tree_count C)
+held_sizeof C l =
+    held_making _ _ (both by_place (both uncounted (both (type_count C) uncounted))) _
+    (held_then _ _ by_place (both uncounted (both (type_count C) uncounted)) (held_token l is_sizeof)
+    (held_then _ _ uncounted (both (type_count C) uncounted) (held_uncounted _) (held_then _ _ (type_count C) uncounted (held_type C (l + 1)) (held_uncounted _))))
+    (λ x k. let a = more C x.0.at (type_indices x.1.1.0) k in omega (arith, a))
+
+pub held_prefix : (C : Count) (D : Deeper) → HeldDeeper C D → (l : ℕ) → Held (g.prefix D l) (tree_count C)
+held_prefix C D H l =
+    held_or _ _ _
+    (held_making _ _ (both by_first (tree_count C)) _ (held_then _ _ by_first (tree_count C) (held_telling (l + 1) prefix_told) (H.prefix (l + 1)))
+    (λ x k. let a = more C x.0.0.at (tree_indices x.1) k in omega (arith, a)))
+    (held_or _ _ _ (held_cast C D H l) (held_or _ _ _ (held_sizeof C l) (held_postfix C D H l)))
+
+chained_count : (C : Count) (first : Tree) (links : List LinkTree) (k : ℕ) → tree_count C (chained first links) k ≤ tree_count C first k + each (link_count C) links k
+chained_count C first [] k = omega arith
+chained_count C first (x ∷ xs) k =
+    let a = C.append (tree_indices first) (links_indices (links_of (x ∷ xs))) k in
+    let b = links_count C (x ∷ xs) k in
+    omega (arith, a, b)
+
+pub held_joined : (C : Count) (D : Deeper) → HeldDeeper C D → (l looseness : ℕ) → Held (g.joined D l looseness) (tree_count C)
+held_joined C D H l zero = held_prefix C D H l
+held_joined C D H l (suc looseness) =
+    held_making _ _ (both (tree_count C) (each (link_count C))) _
+    (held_then _ _ (tree_count C) (each (link_count C)) (held_joined C D H l looseness)
+    (held_many _ (link_count C)
+    (held_making _ _ (both by_first (tree_count C)) _ (held_then _ _ by_first (tree_count C) (held_telling l (g.operator_at (suc looseness))) (held_joined C D H l looseness))
+    (λ x k. omega arith))))
+    (λ x k. chained_count C x.0 x.1 k)
+
+chosen_count : (C : Count) (condition : Tree) (o : Option (Placed × (Tree × (Placed × Tree)))) (k : ℕ)
+    → tree_count C (chosen condition o) k ≤ tree_count C condition k + if_some (both by_place (both (tree_count C) (both uncounted (tree_count C)))) o k
+chosen_count C condition None k = omega arith
+chosen_count C condition (Some x) k =
+    let a = more C x.0.at ((tree_indices condition ++ tree_indices x.1.0) ++ tree_indices x.1.1.1) k in
+    let b = C.append (tree_indices condition ++ tree_indices x.1.0) (tree_indices x.1.1.1) k in
+    let c = C.append (tree_indices condition) (tree_indices x.1.0) k in
+    omega (arith, a, b, c)
+
+pub held_choice : (C : Count) (D : Deeper) → HeldDeeper C D → (l : ℕ) → Held (g.choice D l) (tree_count C)
+held_choice C D H l =
+    held_making _ _ (both (tree_count C) (if_some (both by_place (both (tree_count C) (both uncounted (tree_count C)))))) _
+    (held_then _ _ (tree_count C) (if_some (both by_place (both (tree_count C) (both uncounted (tree_count C))))) (held_joined C D H l 10)
+    (held_maybe _ (both by_place (both (tree_count C) (both uncounted (tree_count C))))
+    (held_then _ _ by_place (both (tree_count C) (both uncounted (tree_count C))) (held_token (l + 1) is_question)
+    (held_then _ _ (tree_count C) (both uncounted (tree_count C)) (H.comma (l + 1))
+    (held_then _ _ uncounted (tree_count C) (held_uncounted _) (H.choice (l + 1)))))))
+    (λ x k. chosen_count C x.0 x.1 k)
+
+assigned_count : (C : Count) (target : Tree) (o : Option ((Placed × Sign) × Tree)) (k : ℕ) → tree_count C (assigned target o) k ≤ tree_count C target k + if_some (both by_first (tree_count C)) o k
+assigned_count C target None k = omega arith
+assigned_count C target (Some x) k = let a = more_two C x.0.0.at (tree_indices target) (tree_indices x.1) k in omega (arith, a)
+
+pub held_assignment : (C : Count) (D : Deeper) → HeldDeeper C D → (l : ℕ) → Held (g.assignment D l) (tree_count C)
+held_assignment C D H l =
+    held_making _ _ (both (tree_count C) (if_some (both by_first (tree_count C)))) _
+    (held_then _ _ (tree_count C) (if_some (both by_first (tree_count C))) (held_choice C D H l)
+    (held_maybe _ (both by_first (tree_count C)) (held_then _ _ by_first (tree_count C) (held_telling l assignment_told) (H.assignment (l + 1)))))
+    (λ x k. assigned_count C x.0 x.1 k)
+
+pub held_comma : (C : Count) (D : Deeper) → HeldDeeper C D → (l : ℕ) → Held (g.comma D l) (tree_count C)
+held_comma C D H l =
+    held_making _ _ (both (tree_count C) (each (link_count C))) _
+    (held_then _ _ (tree_count C) (each (link_count C)) (held_assignment C D H l)
+    (held_many _ (link_count C)
+    (held_making _ _ (both by_place (tree_count C)) _ (held_then _ _ by_place (tree_count C) (held_token l is_comma) (held_assignment C D H l)) (λ x k. omega arith))))
+    (λ x k. chained_count C x.0 x.1 k)
+
+pub held_deeper : (C : Count) (bound : ℕ) → HeldDeeper C (deeper bound)
+held_deeper C zero =
+    record { comma = λ l. held_nothing (tree_count C); assignment = λ l. held_nothing (tree_count C); choice = λ l. held_nothing (tree_count C); prefix = λ l. held_nothing (tree_count C) }
+held_deeper C (suc bound) =
+    let H = held_deeper C bound in
+    record {
+      comma = held_comma C (deeper bound) H;
+      assignment = held_assignment C (deeper bound) H;
+      choice = held_choice C (deeper bound) H;
+      prefix = held_prefix C (deeper bound) H;
+    }

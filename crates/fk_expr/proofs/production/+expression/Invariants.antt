@@ -1,0 +1,89 @@
+use Rattle.std.proofs.Common.{◌≡◌, ◌+◌, ◌*◌, ◌-◌, ◌≤◌, ◌++◌, List, Ok, length, map}
+use Rattle.fk_syntax.specs.Tree.{Tree}
+use Rattle.fk_syntax.specs.View.{tree_of, link_of, suffix_of}
+use Rattle.fk_expr.specs.Kinds.{is_comma}
+use Rattle.fk_expr.specs.Grammar.{operator_at}
+use Rattle.fk_expr.specs.Reading.{inner, tells, begins_suffix, read_suffix, read_next_argument, read_joined}
+use Rattle.fk_expr.specs.Ahead.{plenty, readers, read_link, read_comma_link, Shortens}
+use Rattle.fk_expr.proofs.Repeats.{Going}
+use Rattle.fk_expr.proofs.production.+expression.Given as goal
+
+abbrev pub decreases-comma : goal.decreases-comma
+decreases-comma l = 64 * l.left + 30
+
+abbrev pub decreases-assignment : goal.decreases-assignment
+decreases-assignment l = 64 * l.left + 29
+
+abbrev pub decreases-choice : goal.decreases-choice
+decreases-choice l = 64 * l.left + 28
+
+abbrev pub decreases-joined : goal.decreases-joined
+decreases-joined l = 64 * l.left + 2 * l.looseness + 6
+
+abbrev pub decreases-level : goal.decreases-level
+decreases-level l = 64 * l.left + 2 * l.looseness + 5
+
+abbrev pub decreases-prefix : goal.decreases-prefix
+decreases-prefix l = 64 * l.left + 4
+
+abbrev pub decreases-cast : goal.decreases-cast
+decreases-cast l = 64 * l.left + 3
+
+abbrev pub decreases-postfix : goal.decreases-postfix
+decreases-postfix l = 64 * l.left + 3
+
+abbrev pub decreases-primary : goal.decreases-primary
+decreases-primary l = 64 * l.left + 2
+
+abbrev pub decreases-suffix : goal.decreases-suffix
+decreases-suffix l = 64 * l.left + 2
+
+abbrev pub decreases-arguments : goal.decreases-arguments
+decreases-arguments l = 64 * l.left + 30
+
+abbrev pub invariant-arguments-loop-alloc : goal.invariant-arguments-loop-alloc
+invariant-arguments-loop-alloc l = record {
+  others : List Tree;
+  all : map tree_of l.arguments.items ≡ map tree_of l.initial.arguments.items ++ others;
+  going : Going is_comma (read_next_argument (readers l.left)) l.initial.cursor others l.cursor;
+}
+
+abbrev pub decreases-arguments-loop-alloc : goal.decreases-arguments-loop-alloc
+decreases-arguments-loop-alloc l = length l.cursor
+
+abbrev pub invariant-comma-loop-cursor : goal.invariant-comma-loop-cursor
+invariant-comma-loop-cursor l = record {
+  same : tree_of l.first ≡ tree_of l.initial.first;
+  going : Going is_comma (read_comma_link plenty (inner plenty l.left)) l.initial.cursor (map link_of l.links.items) l.cursor;
+}
+
+abbrev pub decreases-comma-loop-cursor : goal.decreases-comma-loop-cursor
+decreases-comma-loop-cursor l = length l.cursor
+
+abbrev pub invariant-joined-loop-next : goal.invariant-joined-loop-next
+invariant-joined-loop-next l = record {
+  read : read_joined plenty (inner plenty l.left) l.tighter l.fn.cursor ≡ Ok (tree_of l.whole, l.cursor);
+  within : l.tighter ≤ l.looseness;
+  shorter : Shortens l.fn.cursor l.cursor;
+}
+
+abbrev pub decreases-joined-loop-next : goal.decreases-joined-loop-next
+decreases-joined-loop-next l = l.looseness - l.tighter
+
+abbrev pub invariant-level-loop-cursor : goal.invariant-level-loop-cursor
+invariant-level-loop-cursor l = record {
+  same : tree_of l.first ≡ tree_of l.initial.first;
+  going : Going (tells (operator_at l.looseness)) (read_link plenty (inner plenty l.left) l.looseness (l.looseness - 1)) l.initial.cursor (map link_of l.links.items) l.cursor;
+}
+
+abbrev pub decreases-level-loop-cursor : goal.decreases-level-loop-cursor
+decreases-level-loop-cursor l = length l.cursor
+
+abbrev pub invariant-postfix-loop-suffixes : goal.invariant-postfix-loop-suffixes
+invariant-postfix-loop-suffixes l = record {
+  same : tree_of l.whole ≡ tree_of l.initial.whole;
+  going : Going begins_suffix (read_suffix plenty (inner plenty l.left)) l.initial.cursor (map suffix_of l.suffixes.items) l.cursor;
+}
+
+abbrev pub decreases-postfix-loop-suffixes : goal.decreases-postfix-loop-suffixes
+decreases-postfix-loop-suffixes l = length l.cursor

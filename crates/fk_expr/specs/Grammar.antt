@@ -1,0 +1,168 @@
+-- The grammar of expressions. A stretch is given with the levels that are open at each of its tokens.
+use Rattle.std.specs.Prelude.{ℕ, zero, suc, ◌+◌, ◌==◌, if◌then◌else◌, List, [], ◌∷◌, Option, Some, None, length}
+use Rattle.fk_syntax.specs.declared.place.Spot.{Spot}
+use Rattle.fk_syntax.specs.declared.sign.Sign.{Sign}
+use Rattle.fk_syntax.specs.declared.sign.Sign.TheVariants as sign
+use Rattle.fk_syntax.specs.Tree.{Named, BaseType, Int, Unsigned, Void, Struct, TypeTree, Tree, Number, Puts, Sizeof, Variable, GroupNumber, GroupRank, Prefix, Cast, Chain, Postfix, Assign, Choose, LinkTree, SuffixTree, Index, Call, Dot, Arrow, Up, Down, links_of, trees_of, suffixes_of}
+use Rattle.fk_lex.specs.declared.token.TokenKind.{TokenKind}
+use Rattle.fk_expr.specs.Languages.{Placed, Language, nothing, token, telling, ◌then◌, ◌or◌, making, many, maybe}
+use Rattle.fk_expr.specs.Kinds.{is_name, number_told, is_text, is_at, is_dollar, is_puts, is_sizeof, is_int, is_unsigned, is_void, is_struct, is_star, is_comma, is_question, is_colon, is_open_parenthesis, is_close_parenthesis, is_open_bracket, is_close_bracket, is_dot, is_arrow, is_increment, is_decrement, prefix_told, assignment_told, operator_told}
+use Rattle.fk_expr.specs.Reads.{Family}
+
+abbrev pub spot : Placed → Spot
+spot t = record { at = t.at; place = t.place }
+
+abbrev pub name : Placed → Named
+name t = record { bytes = t.bytes; at = t.at; place = t.place }
+
+-- ---- types
+
+-- type = "int" | "unsigned" [ "int" ] | "void" | "struct" Name
+abbrev pub base : ℕ → Language BaseType
+base l =
+    making (λ t. Int) (token l is_int)
+    or making (λ x. Unsigned) (token l is_unsigned then maybe (token l is_int))
+    or making (λ t. Void) (token l is_void)
+    or making (λ x. Struct (name x.1)) (token l is_struct then token l is_name)
+
+-- a type and its stars
+abbrev pub type_name : ℕ → Language TypeTree
+type_name l = making (λ x. record { base = x.0; stars = length x.1 }) (base l then many (token l is_star))
+
+-- ---- expressions, where those that stand one level deeper are given
+
+-- what stands one level deeper, by its level
+pub record Deeper : Type 1 where
+  pub comma : ℕ → Language Tree
+  pub assignment : ℕ → Language Tree
+  pub choice : ℕ → Language Tree
+  pub prefix : ℕ → Language Tree
+
+-- "(" comma ")", which leaves no trace
+abbrev pub parenthesized : Deeper → ℕ → Language Tree
+parenthesized D l =
+    making (λ x. x.1.0) (token (l + 1) is_open_parenthesis then D.comma (l + 1) then token (l + 1) is_close_parenthesis)
+
+-- "puts" "(" Text ")"
+abbrev pub puts : ℕ → Language Tree
+puts l =
+    making (λ x. Puts (spot x.0) x.1.1.0.bytes)
+    (token l is_puts then token (l + 1) is_open_parenthesis then token (l + 1) is_text then token (l + 1) is_close_parenthesis)
+
+-- primary = Number | Name | "@" | "$" | "(" comma ")" | "puts" "(" Text ")"
+abbrev pub primary : Deeper → ℕ → Language Tree
+primary D l =
+    making (λ x. Number (spot x.0) x.1.0 x.1.1) (telling l number_told)
+    or making (λ t. Variable (name t)) (token l is_name)
+    or making (λ t. GroupNumber (spot t)) (token l is_at)
+    or making (λ t. GroupRank (spot t)) (token l is_dollar)
+    or parenthesized D l
+    or puts l
+
+abbrev pub listed : {A : Type 0} → Option (A × List A) → List A
+listed None = []
+listed (Some x) = x.0 ∷ x.1
+
+-- [ assign { "," assign } ]
+abbrev pub arguments : Deeper → ℕ → Language (List Tree)
+arguments D l = making listed (maybe (D.assignment l then many (making (λ x. x.1) (token l is_comma then D.assignment l))))
+
+-- "[" comma "]" | "(" arguments ")" | "." Name | "->" Name | "++" | "--"
+abbrev pub suffix : Deeper → ℕ → Language SuffixTree
+suffix D l =
+    making (λ x. Index (spot x.0) x.1.0) (token (l + 1) is_open_bracket then D.comma (l + 1) then token (l + 1) is_close_bracket)
+    or making (λ x. Call (spot x.0) (trees_of x.1.0)) (token (l + 1) is_open_parenthesis then arguments D (l + 1) then token (l + 1) is_close_parenthesis)
+    or making (λ x. Dot (spot x.0) (name x.1)) (token l is_dot then token l is_name)
+    or making (λ x. Arrow (spot x.0) (name x.1)) (token l is_arrow then token l is_name)
+    or making (λ t. Up (spot t)) (token l is_increment)
+    or making (λ t. Down (spot t)) (token l is_decrement)
+
+abbrev pub suffixed : Tree → List SuffixTree → Tree
+suffixed whole [] = whole
+suffixed whole (s ∷ suffixes) = Postfix whole (suffixes_of (s ∷ suffixes))
+
+-- postfix = primary { suffix }
+abbrev pub postfix : Deeper → ℕ → Language Tree
+postfix D l = making (λ x. suffixed x.0 x.1) (primary D l then many (suffix D l))
+
+-- "(" type stars ")" prefix
+abbrev pub cast : Deeper → ℕ → Language Tree
+cast D l =
+    making (λ x. Cast (spot x.0) x.1.0 x.1.1.1)
+    (token (l + 1) is_open_parenthesis then type_name (l + 1) then token (l + 1) is_close_parenthesis then D.prefix (l + 1))
+
+-- "sizeof" "(" type stars ")"
+abbrev pub sizeof : ℕ → Language Tree
+sizeof l =
+    making (λ x. Sizeof (spot x.0) x.1.1.0)
+    (token l is_sizeof then token (l + 1) is_open_parenthesis then type_name (l + 1) then token (l + 1) is_close_parenthesis)
+
+-- prefix = sign prefix | "(" type stars ")" prefix | "sizeof" "(" type stars ")" | postfix
+abbrev pub prefix : Deeper → ℕ → Language Tree
+prefix D l =
+    making (λ x. Prefix (spot x.0.0) x.0.1 x.1) (telling (l + 1) prefix_told then D.prefix (l + 1))
+    or cast D l
+    or sizeof l
+    or postfix D l
+
+abbrev pub only : ℕ → Option (ℕ × Sign) → Option Sign
+only looseness None = None
+only looseness (Some x) = if x.0 == looseness then Some x.1 else None
+
+-- an operator that binds so loosely, 1 for * / % to 10 for ||
+abbrev pub operator_at : ℕ → TokenKind → Option Sign
+operator_at looseness kind = only looseness (operator_told kind)
+
+abbrev pub linked : (Placed × Sign) × Tree → LinkTree
+linked x = record { spot = spot x.0.0; sign = x.0.1; right = x.1 }
+
+abbrev pub chained : Tree → List LinkTree → Tree
+chained first [] = first
+chained first (link ∷ links) = Chain first (links_of (link ∷ links))
+
+-- operands joined by operators that bind so loosely or tighter, each level grouping to the left
+abbrev pub joined : Deeper → ℕ → ℕ → Language Tree
+joined D l zero = prefix D l
+joined D l (suc looseness) =
+    making (λ x. chained x.0 x.1)
+    (joined D l looseness then many (making linked (telling l (operator_at (suc looseness)) then joined D l looseness)))
+
+abbrev pub chosen : Tree → Option (Placed × (Tree × (Placed × Tree))) → Tree
+chosen condition None = condition
+chosen condition (Some x) = Choose (spot x.0) condition x.1.0 x.1.1.1
+
+-- choose = binary [ "?" comma ":" choose ]
+abbrev pub choice : Deeper → ℕ → Language Tree
+choice D l =
+    making (λ x. chosen x.0 x.1)
+    (joined D l 10
+    then maybe (token (l + 1) is_question then D.comma (l + 1) then token (l + 1) is_colon then D.choice (l + 1)))
+
+abbrev pub assigned : Tree → Option ((Placed × Sign) × Tree) → Tree
+assigned target None = target
+assigned target (Some x) = Assign (spot x.0.0) x.0.1 target x.1
+
+-- assign = choose [ asign assign ]
+abbrev pub assignment : Deeper → ℕ → Language Tree
+assignment D l = making (λ x. assigned x.0 x.1) (choice D l then maybe (telling l assignment_told then D.assignment (l + 1)))
+
+-- comma = assign { "," assign }
+abbrev pub comma : Deeper → ℕ → Language Tree
+comma D l =
+    making (λ x. chained x.0 x.1)
+    (assignment D l
+    then many (making (λ x. record { spot = spot x.0; sign = sign.Comma; right = x.1 }) (token l is_comma then assignment D l)))
+
+-- ---- so many levels deeper
+
+abbrev pub deeper : ℕ → Deeper
+deeper zero = record { comma = λ l. nothing; assignment = λ l. nothing; choice = λ l. nothing; prefix = λ l. nothing }
+deeper (suc n) =
+    record { comma = comma (deeper n); assignment = assignment (deeper n); choice = choice (deeper n); prefix = prefix (deeper n) }
+
+-- the productions `comma` and `assign` where so many levels are open, for each bound on those that they open
+abbrev pub Comma : ℕ → Family Tree
+Comma level bound = comma (deeper bound) level
+
+abbrev pub Assignment : ℕ → Family Tree
+Assignment level bound = assignment (deeper bound) level

@@ -1,0 +1,70 @@
+//! Expressions among the tokens of a text.
+
+ghost use Rattle.std.specs.Prelude.{◌≤◌, ◌<◌, ◌^◌, Ok, Err, length, IfOk, IfErr};
+ghost use Rattle.fk_syntax.specs.View.{tree_of};
+ghost use Rattle.fk_expr.specs.Grammar.{Comma, Assignment};
+ghost use Rattle.fk_expr.specs.Reads.{Reads};
+ghost use Rattle.fk_expr.specs.Faults.{Tells, tokens_from};
+
+use crate::cursor::Cursor;
+use crate::fault::SyntaxFault;
+use crate::production;
+use fk_lex::token::Token;
+use fk_syntax::expression::Expr;
+use std::alloc::Global;
+
+/// The levels that may be open in a text.
+const LEVELS: u32 = 128;
+
+/// The comma expression that begins at this token, inside so many open levels, and the index of
+/// the token after it. It is the longest run of tokens that begins an expression, with no bound
+/// on its nesting.
+///
+/// # Errors
+///
+/// Where the longest run is no expression, EndOfText if it reaches the end of the tokens, and else
+/// Unexpected at the token after it. Nesting comes before the answer and before both, at the first
+/// token of the run that opens level 129. Memory may be wanting for any tokens.
+pub fn expression<'a>(
+    alloc: Global,
+    tokens: &[Token<'a>],
+    at: usize,
+    level: u32,
+) -> Result<(Expr<'a>, usize), SyntaxFault>
+    requires begins { at ≤ length tokens.now }
+    requires few { length tokens.now < 2 ^ 32 }
+    requires levels { level ≤ 128 }
+    ensures read { IfOk result (λ x. Reads (Comma level) (tokens_from at tokens.now)
+        (Ok (tree_of x.0, tokens_from x.1 tokens.now))) }
+    ensures within { IfOk result (λ x. x.1 ≤ length tokens.now) }
+    ensures refused { IfErr result (Tells (λ stop. Reads (Comma level) (tokens_from at tokens.now) (Err stop))) }
+{
+    let mut cursor = Cursor::new(tokens, at);
+    let value = production::comma(alloc, &mut cursor, LEVELS - level)?;
+    Ok((value, tokens.len() - cursor.len()))
+}
+
+/// The same of an assignment expression, which no comma joins.
+///
+/// # Errors
+///
+/// Those of [`expression`].
+pub fn assignment<'a>(
+    alloc: Global,
+    tokens: &[Token<'a>],
+    at: usize,
+    level: u32,
+) -> Result<(Expr<'a>, usize), SyntaxFault>
+    requires begins { at ≤ length tokens.now }
+    requires few { length tokens.now < 2 ^ 32 }
+    requires levels { level ≤ 128 }
+    ensures read { IfOk result (λ x. Reads (Assignment level) (tokens_from at tokens.now)
+        (Ok (tree_of x.0, tokens_from x.1 tokens.now))) }
+    ensures within { IfOk result (λ x. x.1 ≤ length tokens.now) }
+    ensures refused { IfErr result
+        (Tells (λ stop. Reads (Assignment level) (tokens_from at tokens.now) (Err stop))) }
+{
+    let mut cursor = Cursor::new(tokens, at);
+    let value = production::assignment(alloc, &mut cursor, LEVELS - level)?;
+    Ok((value, tokens.len() - cursor.len()))
+}

@@ -1,0 +1,300 @@
+//! The productions of expressions.
+//!
+//! The next token, or the next two, say which alternative comes, so each token is read once, and
+//! only a level of nesting is read by a call inside a call.
+
+ghost use Rattle.std.specs.Prelude.{◌≤◌, ◌<◌, ◌-◌, ◌^◌, length, map, IfOk};
+ghost use Rattle.fk_syntax.specs.View.{tree_of, suffix_of};
+ghost use Rattle.fk_expr.specs.Reading.{inner, read_comma, read_assignment, read_choice, read_joined, read_prefix, read_cast, read_postfix, read_primary, read_suffix, read_arguments};
+ghost use Rattle.fk_expr.specs.Ahead.{Shortens, plenty, readers, read_links};
+ghost use Rattle.fk_expr.specs.Grammar.{chained};
+ghost use Rattle.fk_expr.specs.Gives.{Gives, Makes};
+
+use crate::cursor::Cursor;
+use crate::fault::SyntaxFault;
+use crate::kinds::{
+    Arrow, AssignmentSign, At, CloseBracket, CloseParenthesis, Colon, Comma, Decrement, Dollar,
+    Dot, ExpressionStart, Increment, NumberToken, OpenBracket, OpenParenthesis, PrefixSign,
+    Question, Sizeof, SuffixStart, TypeStart, Word,
+};
+use crate::parts::{chain, puts, size_of, suffixed};
+use crate::told::{
+    expect_assignment, expect_number, expect_operator, expect_prefix, next_looseness,
+    operator_is_next,
+};
+use crate::types::type_name;
+use fk_syntax::expression::{Expr, Link, Suffix};
+use fk_syntax::sign::Sign;
+use std::alloc::Global;
+
+/// How loosely the loosest operators bind that join operands.
+const LOOSEST: u32 = 10;
+
+/// comma = assign { "," assign }
+#[cycle(expression)]
+#[tactic(auto, using(crate::proofs::Halting::halting), unfolding(crate::specs::Reading::read_comma))]
+pub fn comma<'a>(
+    alloc: Global,
+    cursor: &mut Cursor<'_, 'a>,
+    left: u32,
+) -> Result<Expr<'a>, SyntaxFault>
+    ensures read { Gives tree_of result cursor.new (read_comma plenty (inner plenty left) cursor.old) }
+    ensures shorter { IfOk result (λ _. Shortens cursor.old cursor.new) }
+{
+    let first = assignment(alloc, cursor, left)?;
+    let mut links = Vec::new(alloc);
+    while cursor.next_is::<Comma>() {
+        let sign = cursor.expect::<Comma>()?;
+        let right = assignment(alloc, cursor, left)?;
+        links.push(Link::new(sign.spot(), Sign::Comma, right))?;
+    }
+    Ok(chain(alloc, first, links)?)
+}
+
+/// assign = choose [ asign assign ]
+#[cycle(expression)]
+#[tactic(auto, using(crate::proofs::Halting::halting), unfolding(crate::specs::Reading::read_assignment))]
+pub fn assignment<'a>(
+    alloc: Global,
+    cursor: &mut Cursor<'_, 'a>,
+    left: u32,
+) -> Result<Expr<'a>, SyntaxFault>
+    ensures read { Gives tree_of result cursor.new (read_assignment plenty (inner plenty left) cursor.old) }
+    ensures shorter { IfOk result (λ _. Shortens cursor.old cursor.new) }
+{
+    let target = choice(alloc, cursor, left)?;
+    if !cursor.next_is::<AssignmentSign>() {
+        return Ok(target);
+    }
+    let (token, sign) = expect_assignment(cursor)?;
+    let inside = cursor.open::<ExpressionStart>(left)?;
+    let value = assignment(alloc, cursor, inside)?;
+    Ok(Expr::assign(alloc, token.spot(), sign, target, value)?)
+}
+
+/// choose = binary [ "?" comma ":" choose ]
+#[cycle(expression)]
+#[tactic(auto, using(crate::proofs::Halting::halting), unfolding(crate::specs::Reading::read_choice))]
+fn choice<'a>(
+    alloc: Global,
+    cursor: &mut Cursor<'_, 'a>,
+    left: u32,
+) -> Result<Expr<'a>, SyntaxFault>
+    ensures read { Gives tree_of result cursor.new (read_choice plenty (inner plenty left) cursor.old) }
+    ensures shorter { IfOk result (λ _. Shortens cursor.old cursor.new) }
+{
+    let condition = joined(alloc, cursor, left, LOOSEST)?;
+    if !cursor.next_is::<Question>() {
+        return Ok(condition);
+    }
+    let inside = cursor.open::<Question>(left)?;
+    let question = cursor.expect::<Question>()?;
+    let first = comma(alloc, cursor, inside)?;
+    cursor.expect::<Colon>()?;
+    let second = choice(alloc, cursor, inside)?;
+    Ok(Expr::choose(alloc, question.spot(), condition, first, second)?)
+}
+
+/// Operands joined by operators that bind so loosely or tighter, each level grouping to the left.
+/// Levels are joined from the tightest on, and one whose operators don't come next is passed over.
+#[cycle(expression)]
+#[tactic(auto, using(crate::proofs::Halting::halting))]
+fn joined<'a>(
+    alloc: Global,
+    cursor: &mut Cursor<'_, 'a>,
+    left: u32,
+    looseness: u32,
+) -> Result<Expr<'a>, SyntaxFault>
+    requires { looseness ≤ 10 }
+    ensures read { Gives tree_of result cursor.new (read_joined plenty (inner plenty left) looseness cursor.old) }
+    ensures shorter { IfOk result (λ _. Shortens cursor.old cursor.new) }
+{
+    let mut whole = prefix(alloc, cursor, left)?;
+    let mut tighter = 0;
+    while let Some(next) = next_looseness(cursor, tighter, looseness) {
+        whole = level(alloc, cursor, left, next, whole)?;
+        tighter = next;
+    }
+    Ok(whole)
+}
+
+/// An operand that was read, and those that operators join to it that bind just so loosely.
+#[cycle(expression)]
+#[tactic(auto, using(crate::proofs::Halting::halting))]
+fn level<'a>(
+    alloc: Global,
+    cursor: &mut Cursor<'_, 'a>,
+    left: u32,
+    looseness: u32,
+    first: Expr<'a>,
+) -> Result<Expr<'a>, SyntaxFault>
+    requires looseness { (0 < looseness) × (looseness ≤ 10) }
+    requires few { length cursor.old < 2 ^ 32 }
+    ensures read { Makes (chained (tree_of first.entry)) tree_of result cursor.new
+        (read_links plenty (inner plenty left) looseness (looseness - 1) cursor.old) }
+    ensures fewer { IfOk result (λ _. length cursor.new ≤ length cursor.old) }
+{
+    let mut links = Vec::new(alloc);
+    while operator_is_next(cursor, looseness) {
+        let (token, sign) = expect_operator(cursor, looseness)?;
+        let right = joined(alloc, cursor, left, looseness - 1)?;
+        links.push(Link::new(token.spot(), sign, right))?;
+    }
+    Ok(chain(alloc, first, links)?)
+}
+
+/// prefix = sign prefix | "(" type stars ")" prefix | "sizeof" "(" type stars ")" | postfix
+#[cycle(expression)]
+#[tactic(auto, using(crate::proofs::Halting::halting), unfolding(crate::specs::Reading::read_prefix, crate::specs::Reading::read_signed))]
+fn prefix<'a>(
+    alloc: Global,
+    cursor: &mut Cursor<'_, 'a>,
+    left: u32,
+) -> Result<Expr<'a>, SyntaxFault>
+    ensures read { Gives tree_of result cursor.new (read_prefix plenty (inner plenty left) cursor.old) }
+    ensures shorter { IfOk result (λ _. Shortens cursor.old cursor.new) }
+{
+    if cursor.next_is::<PrefixSign>() {
+        let inside = cursor.open::<PrefixSign>(left)?;
+        let (token, sign) = expect_prefix(cursor)?;
+        let operand = prefix(alloc, cursor, inside)?;
+        return Ok(Expr::prefix(alloc, token.spot(), sign, operand)?);
+    }
+    if cursor.pair_is::<OpenParenthesis, TypeStart>() {
+        return cast(alloc, cursor, left);
+    }
+    if cursor.next_is::<Sizeof>() {
+        return size_of(cursor, left);
+    }
+    postfix(alloc, cursor, left)
+}
+
+/// "(" type stars ")" prefix
+#[cycle(expression)]
+#[tactic(auto, using(crate::proofs::Halting::halting), unfolding(crate::specs::Reading::read_cast))]
+fn cast<'a>(alloc: Global, cursor: &mut Cursor<'_, 'a>, left: u32) -> Result<Expr<'a>, SyntaxFault>
+    ensures read { Gives tree_of result cursor.new (read_cast plenty (inner plenty left) cursor.old) }
+    ensures shorter { IfOk result (λ _. Shortens cursor.old cursor.new) }
+{
+    let inside = cursor.open::<OpenParenthesis>(left)?;
+    let open = cursor.expect::<OpenParenthesis>()?;
+    let kind = type_name(cursor)?;
+    cursor.expect::<CloseParenthesis>()?;
+    let operand = prefix(alloc, cursor, inside)?;
+    Ok(Expr::cast(alloc, open.spot(), kind, operand)?)
+}
+
+/// postfix = primary { suffix }
+#[cycle(expression)]
+#[tactic(auto, using(crate::proofs::Halting::halting), unfolding(crate::specs::Reading::read_postfix))]
+fn postfix<'a>(
+    alloc: Global,
+    cursor: &mut Cursor<'_, 'a>,
+    left: u32,
+) -> Result<Expr<'a>, SyntaxFault>
+    ensures read { Gives tree_of result cursor.new (read_postfix plenty (inner plenty left) cursor.old) }
+    ensures shorter { IfOk result (λ _. Shortens cursor.old cursor.new) }
+{
+    let whole = primary(alloc, cursor, left)?;
+    let mut suffixes = Vec::new(alloc);
+    while cursor.next_is::<SuffixStart>() {
+        suffixes.push(suffix(alloc, cursor, left)?)?;
+    }
+    Ok(suffixed(alloc, whole, suffixes)?)
+}
+
+/// primary = Number | Name | "@" | "$" | "(" comma ")" | "puts" "(" Text ")"
+#[cycle(expression)]
+#[tactic(auto, using(crate::proofs::Halting::halting), unfolding(crate::specs::Reading::read_primary))]
+fn primary<'a>(
+    alloc: Global,
+    cursor: &mut Cursor<'_, 'a>,
+    left: u32,
+) -> Result<Expr<'a>, SyntaxFault>
+    ensures read { Gives tree_of result cursor.new (read_primary (inner plenty left) cursor.old) }
+    ensures shorter { IfOk result (λ _. Shortens cursor.old cursor.new) }
+{
+    if cursor.next_is::<NumberToken>() {
+        let (token, (value, unsigned)) = expect_number(cursor)?;
+        return Ok(Expr::Number(token.spot(), value, unsigned));
+    }
+    if cursor.next_is::<Word>() {
+        return Ok(Expr::Named(cursor.expect::<Word>()?.name()));
+    }
+    if cursor.next_is::<At>() {
+        return Ok(Expr::GroupNumber(cursor.expect::<At>()?.spot()));
+    }
+    if cursor.next_is::<Dollar>() {
+        return Ok(Expr::GroupRank(cursor.expect::<Dollar>()?.spot()));
+    }
+    if !cursor.next_is::<OpenParenthesis>() {
+        return puts(cursor, left);
+    }
+    let inside = cursor.open::<OpenParenthesis>(left)?;
+    cursor.expect::<OpenParenthesis>()?;
+    let value = comma(alloc, cursor, inside)?;
+    cursor.expect::<CloseParenthesis>()?;
+    Ok(value)
+}
+
+/// "[" comma "]" | "(" arguments ")" | "." Name | "->" Name | "++" | "--"
+#[cycle(expression)]
+#[tactic(auto, using(crate::proofs::Halting::halting), unfolding(crate::specs::Reading::read_suffix))]
+fn suffix<'a>(
+    alloc: Global,
+    cursor: &mut Cursor<'_, 'a>,
+    left: u32,
+) -> Result<Suffix<'a>, SyntaxFault>
+    ensures read { Gives suffix_of result cursor.new (read_suffix plenty (inner plenty left) cursor.old) }
+    ensures shorter { IfOk result (λ _. Shortens cursor.old cursor.new) }
+{
+    if cursor.next_is::<OpenBracket>() {
+        let inside = cursor.open::<OpenBracket>(left)?;
+        let open = cursor.expect::<OpenBracket>()?;
+        let by = comma(alloc, cursor, inside)?;
+        cursor.expect::<CloseBracket>()?;
+        return Ok(Suffix::index(open.spot(), by));
+    }
+    if cursor.next_is::<OpenParenthesis>() {
+        let inside = cursor.open::<OpenParenthesis>(left)?;
+        let open = cursor.expect::<OpenParenthesis>()?;
+        let arguments = arguments(alloc, cursor, inside)?;
+        cursor.expect::<CloseParenthesis>()?;
+        return Ok(Suffix::call(open.spot(), arguments));
+    }
+    if cursor.next_is::<Dot>() {
+        let dot = cursor.expect::<Dot>()?;
+        return Ok(Suffix::Dot(dot.spot(), cursor.expect::<Word>()?.name()));
+    }
+    if cursor.next_is::<Arrow>() {
+        let arrow = cursor.expect::<Arrow>()?;
+        return Ok(Suffix::Arrow(arrow.spot(), cursor.expect::<Word>()?.name()));
+    }
+    if cursor.next_is::<Increment>() {
+        return Ok(Suffix::Up(cursor.expect::<Increment>()?.spot()));
+    }
+    Ok(Suffix::Down(cursor.expect::<Decrement>()?.spot()))
+}
+
+/// [ assign { "," assign } ]
+#[cycle(expression)]
+#[tactic(auto, using(crate::proofs::Halting::halting), unfolding(crate::specs::Reading::read_arguments))]
+fn arguments<'a>(
+    alloc: Global,
+    cursor: &mut Cursor<'_, 'a>,
+    left: u32,
+) -> Result<Vec<Expr<'a>>, SyntaxFault>
+    ensures read { Gives (λ v. map tree_of v.items) result cursor.new (read_arguments plenty (readers left) cursor.old) }
+    ensures few { IfOk result (λ _. length cursor.new ≤ length cursor.old) }
+{
+    let mut arguments = Vec::new(alloc);
+    if !cursor.next_is::<ExpressionStart>() {
+        return Ok(arguments);
+    }
+    arguments.push(assignment(alloc, cursor, left)?)?;
+    while cursor.next_is::<Comma>() {
+        cursor.expect::<Comma>()?;
+        arguments.push(assignment(alloc, cursor, left)?)?;
+    }
+    Ok(arguments)
+}
