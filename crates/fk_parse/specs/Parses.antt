@@ -1,0 +1,41 @@
+-- What a text is read as.
+use Rattle.std.specs.Prelude.{◌≡◌, ℕ, ◌+◌, ◌<◌, List, [], ◌∷◌, Result, Ok, Err, length}
+use Rattle.fk_syntax.specs.declared.place.Place.{Place}
+use Rattle.fk_syntax.specs.Program.{ItemTree, ProgramTree}
+use Rattle.fk_lex.specs.Reading.{Spelled}
+use Rattle.fk_expr.specs.Languages.{Placed, Stretch, numbered}
+use Rattle.fk_expr.specs.Reads.{Stop, Unexpected, EndOfText, Nesting, IsShallow, IsLongest, ReadsValue, ReadsNothing, ReadsDeep}
+use Rattle.fk_parse.specs.Statements.{Items}
+
+-- the longest stretch that begins a text ends before a token, and nests within the bound
+pub record ReadsUnexpected (tokens rest : List Placed) : Type 0 where
+  pub stretch : Stretch
+  pub longest : IsLongest Items tokens stretch rest
+  pub some : 0 < length rest
+  pub shallow : IsShallow stretch
+
+-- all tokens are those of a text; no text goes on with a token; all tokens begin a text and are none; a token
+-- opens a level past the bound
+abbrev pub ReadsText : List Placed → Result (List ItemTree) Stop → Type 0
+ReadsText tokens (Ok items) = ReadsValue Items tokens items []
+ReadsText tokens (Err (Unexpected rest)) = ReadsUnexpected tokens rest
+ReadsText tokens (Err EndOfText) = ReadsNothing Items tokens []
+ReadsText tokens (Err (Nesting rest)) = ReadsDeep Items tokens rest
+
+-- the place directly behind the last token, 1:1 where there is none
+abbrev pub end_of : Place → List Spelled → Place
+end_of end [] = end
+end_of end (t ∷ tokens) = end_of (record { line = t.place.line; column = t.place.column + length t.bytes }) tokens
+
+abbrev pub beginning : Place
+beginning = record { line = 1; column = 1 }
+
+-- the tokens are those of a program
+pub record Derives (tokens : List Spelled) (program : ProgramTree) : Type 0 where
+  pub items : ReadsValue Items (numbered 0 tokens) program.items []
+  pub end : program.end ≡ end_of beginning tokens
+  pub count : program.tokens ≡ length tokens
+
+-- a list of tokens is that of at most one program
+abbrev pub OneTree : Type 0
+OneTree = (tokens : List Spelled) (p q : ProgramTree) → Derives tokens p → Derives tokens q → p ≡ q

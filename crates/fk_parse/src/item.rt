@@ -1,0 +1,184 @@
+//! Items: structs, variables of file scope, and functions.
+//!
+//! `left` is how many levels may be open in a text. A function's body opens the first.
+
+ghost use Rattle.std.specs.Prelude.{◌-◌, ◌<◌, map, IfOk};
+ghost use Rattle.std.specs.Option.{option_map};
+ghost use Rattle.fk_syntax.specs.View.{named, base_of, type_of};
+ghost use Rattle.fk_syntax.specs.Program.{statements_of};
+ghost use Rattle.fk_syntax.specs.ProgramView.{statement_of, item_of};
+ghost use Rattle.fk_expr.specs.Reading.{repeated, inner};
+ghost use Rattle.fk_expr.specs.Ahead.{Shortens, Leaves, plenty};
+ghost use Rattle.fk_expr.specs.Gives.{Gives, Makes};
+ghost use Rattle.fk_parse.specs.Reading.{begins_item, read_struct, read_variables_tail, read_function_tail, read_bare, read_moded};
+ghost use Rattle.fk_parse.specs.Parts.{read_body_within, read_optional_body, read_item_within, function_made, variables_made};
+
+use crate::declaration::{
+    Declarator, add_member, add_members, array_length, first_value, parameters, rows, variables,
+};
+use crate::kinds::{CloseBrace, ItemStart, ModeWord, OpenBrace, Semicolon, SharingWord};
+use crate::statement::block;
+use crate::told::expect_mode;
+use fk_expr::cursor::Cursor;
+use fk_expr::fault::SyntaxFault;
+use fk_expr::kinds::{CloseParenthesis, OpenParenthesis, Struct, Word};
+use fk_expr::types::{base, stars};
+use fk_syntax::expression::{Base, TypeName};
+use fk_syntax::place::Name;
+use fk_syntax::program::{Function, Item, Mode, Stmt};
+use std::alloc::Global;
+
+/// program = { item }
+pub fn items<'a>(
+    alloc: Global,
+    cursor: &mut Cursor<'_, 'a>,
+    left: u32,
+) -> Result<Vec<Item<'a>>, SyntaxFault>
+    requires { 0 < left }
+    ensures read { Gives (λ items. map item_of items.items) result cursor.new (repeated plenty begins_item (read_item_within left) cursor.old) }
+{
+    let mut items = Vec::new(alloc);
+    while cursor.next_is::<ItemStart>() {
+        items.push(item(alloc, cursor, left)?)?;
+    }
+    Ok(items)
+}
+
+/// A struct, variables or a function.
+#[tactic(auto, using(fk_expr::proofs::Halting::halting), unfolding(crate::specs::Reading::read_item))]
+fn item<'a>(alloc: Global, cursor: &mut Cursor<'_, 'a>, left: u32) -> Result<Item<'a>, SyntaxFault>
+    requires { 0 < left }
+    ensures read { Gives item_of result cursor.new (read_item_within left cursor.old) }
+    ensures shorter { IfOk result (λ _. Shortens cursor.old cursor.new) }
+{
+    if cursor.triple_is::<Struct, Word, OpenBrace>() {
+        return struct_item(alloc, cursor);
+    }
+    if cursor.next_is::<SharingWord>() {
+        return Ok(Item::Variables(variables(alloc, cursor, left)?));
+    }
+    if cursor.next_is::<ModeWord>() {
+        return moded(alloc, cursor, left);
+    }
+    bare(alloc, cursor, left)
+}
+
+/// "struct" Name "{" member { member } "}" ";"
+#[tactic(auto, using(fk_expr::proofs::Halting::halting), unfolding(crate::specs::Reading::read_struct))]
+fn struct_item<'a>(alloc: Global, cursor: &mut Cursor<'_, 'a>) -> Result<Item<'a>, SyntaxFault>
+    ensures read { Gives item_of result cursor.new (read_struct plenty cursor.old) }
+    ensures shorter { IfOk result (λ _. Shortens cursor.old cursor.new) }
+{
+    cursor.expect::<Struct>()?;
+    let name = cursor.expect::<Word>()?.name();
+    cursor.expect::<OpenBrace>()?;
+    let mut members = Vec::new(alloc);
+    add_member(cursor, &mut members)?;
+    add_members(cursor, &mut members)?;
+    cursor.expect::<CloseBrace>()?;
+    cursor.expect::<Semicolon>()?;
+    Ok(Item::Struct(name, members))
+}
+
+/// mode type stars Name, and a function from there on
+#[tactic(auto, using(fk_expr::proofs::Halting::halting), unfolding(crate::specs::Reading::read_moded))]
+fn moded<'a>(alloc: Global, cursor: &mut Cursor<'_, 'a>, left: u32) -> Result<Item<'a>, SyntaxFault>
+    requires { 0 < left }
+    ensures read { Gives item_of result cursor.new (read_moded plenty (read_body_within left) cursor.old) }
+    ensures shorter { IfOk result (λ _. Shortens cursor.old cursor.new) }
+{
+    let (_, mode) = expect_mode(cursor)?;
+    let base = base(cursor)?;
+    let stars = stars(cursor)?;
+    let name = cursor.expect::<Word>()?.name();
+    function(alloc, cursor, left, mode, TypeName { base, stars }, name)
+}
+
+/// An item that begins with a type: a parenthesis behind its name says that it is a function.
+#[tactic(auto, using(fk_expr::proofs::Halting::halting), unfolding(crate::specs::Reading::read_bare, crate::specs::Reading::read_tail))]
+fn bare<'a>(alloc: Global, cursor: &mut Cursor<'_, 'a>, left: u32) -> Result<Item<'a>, SyntaxFault>
+    requires { 0 < left }
+    ensures read { Gives item_of result cursor.new (read_bare plenty (inner plenty left) (read_body_within left) cursor.old) }
+    ensures shorter { IfOk result (λ _. Shortens cursor.old cursor.new) }
+{
+    let base = base(cursor)?;
+    let stars = stars(cursor)?;
+    let name = cursor.expect::<Word>()?.name();
+    if !cursor.next_is::<OpenParenthesis>() {
+        return file_variables(alloc, cursor, left, base, stars, name);
+    }
+    let kind = TypeName { base, stars };
+    function(alloc, cursor, left, Mode::Async, kind, name)
+}
+
+/// Variables, from behind the name of the first.
+#[tactic(auto, using(fk_expr::proofs::Halting::halting), unfolding(crate::specs::Reading::read_variables_tail, crate::specs::Reading::read_rest))]
+fn file_variables<'a>(
+    alloc: Global,
+    cursor: &mut Cursor<'_, 'a>,
+    left: u32,
+    base: Base<'a>,
+    stars: u32,
+    name: Name<'a>,
+) -> Result<Item<'a>, SyntaxFault>
+    ensures read { Makes (variables_made (base_of base.entry) stars (named name.entry)) item_of result cursor.new
+        (read_variables_tail plenty (inner plenty left) cursor.old) }
+    ensures shorter { IfOk result (λ _. Shortens cursor.old cursor.new) }
+{
+    let length = array_length(cursor)?;
+    let first = first_value(alloc, cursor, left)?;
+    let first = Declarator {
+        stars,
+        name,
+        length,
+        first,
+    };
+    let rows = rows(alloc, cursor, left, false, base, first)?;
+    cursor.expect::<Semicolon>()?;
+    Ok(Item::Variables(rows))
+}
+
+/// A function, from behind its name: "(" params ")" ( ";" | block )
+#[tactic(auto, using(fk_expr::proofs::Halting::halting), unfolding(crate::specs::Reading::read_function_tail))]
+fn function<'a>(
+    alloc: Global,
+    cursor: &mut Cursor<'_, 'a>,
+    left: u32,
+    mode: Mode,
+    kind: TypeName<'a>,
+    name: Name<'a>,
+) -> Result<Item<'a>, SyntaxFault>
+    requires { 0 < left }
+    ensures read { Makes (function_made mode (type_of kind.entry) (named name.entry)) item_of result cursor.new
+        (read_function_tail plenty (read_body_within left) cursor.old) }
+    ensures shorter { IfOk result (λ _. Shortens cursor.old cursor.new) }
+{
+    cursor.expect::<OpenParenthesis>()?;
+    let params = parameters(alloc, cursor)?;
+    cursor.expect::<CloseParenthesis>()?;
+    let body = body(alloc, cursor, left)?;
+    Ok(Item::Function(Function {
+        mode,
+        result: kind,
+        name,
+        params,
+        body,
+    }))
+}
+
+/// ";" | block
+fn body<'a>(
+    alloc: Global,
+    cursor: &mut Cursor<'_, 'a>,
+    left: u32,
+) -> Result<Option<Vec<Stmt<'a>>>, SyntaxFault>
+    requires { 0 < left }
+    ensures read { Gives (λ body. option_map (λ b. statements_of (map statement_of b.items)) body) result cursor.new (read_optional_body (read_body_within left) cursor.old) }
+    ensures shorter { IfOk result (λ _. Shortens cursor.old cursor.new) }
+{
+    if cursor.next_is::<OpenBrace>() {
+        return Ok(Some(block(alloc, cursor, left - 1)?));
+    }
+    cursor.expect::<Semicolon>()?;
+    Ok(None)
+}
