@@ -28,3 +28,5 @@ pub mod Limits
 pub mod Emitted
 -- what `generate` makes is faithful
 pub mod Generated
+-- how far tokens reach, and how few items they make
+pub mod Bounds

@@ -9,7 +9,7 @@ use Rattle.fk_image.specs.Limits.{IsWithinLimits}
 use Rattle.fk_machine.specs.declared.stand.Stand.{Stand}
 use Rattle.fk_machine.specs.declared.stand.Stand.TheVariants.{Running, Finished, Faulted}
 use Rattle.fk_machine.specs.Run.{machine, output_of, rounds}
-use Rattle.fk_straight.specs.Straight.{IsStraight}
+use Rattle.fk_compile.specs.Text.{IsStraight}
 
 -- a trap agrees with no stand of the source
 abbrev pub StandsAgree : Stand → SourceStand → Type 0
@@ -42,7 +42,7 @@ pub record IsFaithfulTo (program : Program) (image : Image) : Type 0 where
   pub globals_are : image.globals.items ≡ replicate program.variables 0
   pub follows : (input : List ℕ) (p n : ℕ) → IsInput image input → 1 ≤ p → p ≤ 1024 → n < 2 ^ 32 → Follows image program input p n
 
--- the text is that of a program to which the image is faithful
+-- the text is that of a straight-line program to which the image is faithful
 pub record IsFaithful (source : List ℕ) (image : Image) : Type 0 where
   pub program : Program
   pub straight : IsStraight source program

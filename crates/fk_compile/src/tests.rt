@@ -1,6 +1,10 @@
+use crate::compiler::compile;
 use crate::generate::generate;
+use crate::refusal::Refusal;
 use fk_meaning::syntax::{Part, Program, Statement, Sum};
 use std::test::Fail;
+
+mod syntax;
 
 // an empty program is `halt` alone: lui t0, 0x30000; sw zero, 12(t0), in the words of an assembler for RV32I
 #[test]
@@ -33,5 +37,14 @@ fn each_operation_has_its_site(rt: HostRuntime) -> Result<(), Fail> {
         kinds.as_slice(),
         [1, 1, 1, 7, 14, 4, 1, 13, 19, 34].as_slice()
     );
+    Ok(())
+}
+
+#[test]
+fn a_text_is_compiled_or_refused_by_its_tree(rt: HostRuntime) -> Result<(), Fail> {
+    let image = compile(rt.alloc(), b"void main(void) { }")?;
+    assert_eq!(rt; image.code.len(), 2);
+    let other = compile(rt.alloc(), b"void main(void) { start { } }");
+    assert!(rt; matches!(&other, Err(Refusal::NotBuilt)));
     Ok(())
 }

@@ -1,0 +1,33 @@
+-- What a text is: its tokens, its tree, and its program.
+use Rattle.std.specs.Prelude.{ℕ, List}
+use Rattle.fk_syntax.specs.Program.{ProgramTree}
+use Rattle.fk_lex.specs.Reading.{Spelled, Tokens}
+use Rattle.fk_expr.specs.declared.fault.SyntaxFault.{SyntaxFault}
+use Rattle.fk_parse.specs.Parses as parses
+use Rattle.fk_parse.specs.Refusals as refusals
+use Rattle.fk_meaning.specs.declared.syntax.Program.{Program}
+use Rattle.fk_straight.specs.Straight as trees
+
+-- a text has tokens, and the tree is theirs
+pub record HasTree (source : List ℕ) (tree : ProgramTree) : Type 0 where
+  pub tokens : List Spelled
+  pub spelled : Tokens source tokens
+  pub derived : parses.Derives tokens tree
+
+-- a text has tokens, and for this fault they have no tree
+pub record HasSyntaxFault (source : List ℕ) (fault : SyntaxFault) : Type 0 where
+  pub tokens : List Spelled
+  pub spelled : Tokens source tokens
+  pub refused : refusals.IsRefused tokens fault
+
+-- a text has a tree, and it is that of a straight-line program
+pub record IsStraight (source : List ℕ) (program : Program) : Type 0 where
+  pub tree : ProgramTree
+  pub parsed : HasTree source tree
+  pub straight : trees.Derives tree program
+
+-- a text has a tree, and it is that of no straight-line program
+pub record IsNotStraight (source : List ℕ) : Type 0 where
+  pub tree : ProgramTree
+  pub parsed : HasTree source tree
+  pub none : trees.IsNotStraight tree
