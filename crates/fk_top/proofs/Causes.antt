@@ -1,8 +1,7 @@
 -- Which answers come where no fault rose.
-use Rattle.std.proofs.Common.{◌≡◌, ℕ, ◌≤◌, List, [], length, Option, Some, None, IsSome, take, refl, sym, ap, subst, ◌∙◌, arith, ◌⊎◌, inl, inr}
+use Rattle.std.proofs.Common.{◌≡◌, ℕ, List, [], Option, Some, None, IsSome, take, refl, sym, ap, subst, ◌∙◌, arith, ◌⊎◌, inl, inr}
 use Rattle.std.specs.Prelude.{IsSomeAnd}
 use Rattle.std.proofs.lemmas.List.{take_all}
-use Rattle.fk_ports.specs.Faults.{HasRisen}
 use Rattle.fk_ports.specs.Files.{Files, AppendsFile, FetchFaults, LacksFile, file}
 use Rattle.fk_top.specs.declared.status.Status.{Status}
 use Rattle.fk_top.specs.declared.status.Status.TheVariants.{Done, Refused, Usage, ReadFault, WriteFault, Memory, SourceFault, CycleBound, Trap, ImageRefused, InputRefused}
@@ -11,7 +10,7 @@ use Rattle.fk_image.specs.declared.Image.{Image}
 use Rattle.fk_image.specs.Spelling.{IsImageOf}
 use Rattle.fk_top.specs.Outcome.{Outcome, ComesTo, RefusesSource, RefusesImage, IsBuiltFrom}
 use Rattle.fk_top.specs.Refused.{IsRefusedAs, IsNoImageAs}
-use Rattle.fk_top.specs.Call.{Call, Request, Ends, IsUnread, HasRead, HasEnded, IsCut, IsAnswered, IsInOrder, IsReadable, IsOfReadable, IsOfUnreadable, IsText, IsImage, Puts, AreCut}
+use Rattle.fk_top.specs.Call.{Call, Ends, IsUnread, IsCut, IsAnswered, IsInOrder, IsReadable, IsOfReadable, IsOfUnreadable, IsText, IsImage, Puts, AreCut}
 use Rattle.fk_top.proofs.Readable.{whole, text_accepted, image_accepted, image_short}
 
 -- words are one command

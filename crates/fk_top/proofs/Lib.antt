@@ -1,2 +1,4 @@
 pub mod Readable
 pub mod Causes
+pub mod Refusing
+pub mod Answered

@@ -1,15 +1,24 @@
 -- What is read whole, and that what is in order is not refused.
-use Rattle.std.proofs.Common.{◌≡◌, ℕ, ◌+◌, ◌*◌, ◌≤◌, ◌<◌, List, ◌∷◌, ◌++◌, codes, length, take, vec_len, flat_map, Some, None, refl, sym, ap, subst, ◌∙◌, arith}
+use Rattle.std.proofs.Common.{◌≡◌, ℕ, ◌+◌, ◌*◌, ◌≤◌, ◌<◌, List, ◌++◌, codes, length, take, flat_map, Some, ap, subst, ◌∙◌, arith}
 use Rattle.std.proofs.lemmas.List.{length-append, length-take, take_all}
+use Rattle.fk_syntax.specs.Program.{ProgramTree}
+use Rattle.fk_lex.specs.Reading.{Spelled}
 use Rattle.fk_lex.proofs.Determined as lexed
+use Rattle.fk_expr.specs.declared.fault.SyntaxFault.{SyntaxFault}
+use Rattle.fk_expr.specs.declared.fault.SyntaxFault.TheVariants as syntax_fault
+use Rattle.fk_expr.specs.Faults.{IsMemory}
+use Rattle.fk_parse.specs.Parses.{Derives}
+use Rattle.fk_parse.proofs.Texts.{one_tree, tree_or_fault}
+use Rattle.fk_straight.specs.Straight as trees
 use Rattle.fk_image.specs.declared.Image.{Image}
-use Rattle.fk_image.specs.Spelling.{IsImageOf, word_bytes, image_words, site_words, commit_words, header_words}
+use Rattle.fk_image.specs.Spelling.{IsImageOf, word_bytes, image_words, site_words, commit_words}
 use Rattle.fk_image.proofs.Accepted.{no_refusal}
 use Rattle.fk_image.proofs.Commits.{few_of_image}
 use Rattle.fk_image.proofs.Images.{length-words, length-sites, length-commits}
 use Rattle.fk_compile.specs.declared.refusal.Refusal.{Refusal}
-use Rattle.fk_compile.specs.declared.refusal.Refusal.TheVariants.{BadByte, OpenComment, OpenString, WideNumber, SourceTooLong, NotBuilt, Memory}
+use Rattle.fk_compile.specs.declared.refusal.Refusal.TheVariants.{BadByte, OpenComment, OpenString, WideNumber, Unexpected, EndOfText, Nesting, SourceTooLong, NotBuilt, Memory}
 use Rattle.fk_compile.specs.Refusal.{IsRefused}
+use Rattle.fk_compile.specs.Text.{HasTree, HasSyntaxFault, IsNotStraight}
 use Rattle.fk_top.specs.declared.report.Report.{Report}
 use Rattle.fk_top.specs.Refused.{IsRefusedAs, IsNoImageAs, report_of}
 use Rattle.fk_top.specs.Call.{IsText, IsImage}
@@ -20,13 +29,33 @@ whole most bytes few = take_all most bytes (omega (arith, length-take most bytes
 
 -- ---- sources
 
+-- a text that has a tree has no fault of syntax
+not_faulty : (source : List ℕ) (tree : ProgramTree) (fault : SyntaxFault) → HasTree source tree → HasSyntaxFault source fault → IsMemory fault
+not_faulty source tree fault parsed faulty =
+    let same = lexed.one_reading.tokens source parsed.tokens faulty.tokens parsed.spelled faulty.spelled in
+    tree_or_fault faulty.tokens tree fault (subst (λ (ts : List Spelled). Derives ts tree) same parsed.derived) faulty.refused
+
+-- a text has one tree
+same_tree : (source : List ℕ) (tree other : ProgramTree) → HasTree source tree → HasTree source other → tree ≡ other
+same_tree source tree other a b =
+    let same = lexed.one_reading.tokens source a.tokens b.tokens a.spelled b.spelled in
+    one_tree b.tokens tree other (subst (λ (ts : List Spelled). Derives ts tree) same a.derived) b.derived
+
+straight_or_not : (source : List ℕ) → IsText source → IsNotStraight source → ⊥
+straight_or_not source text not =
+    let same = same_tree source text.straight.tree not.tree text.straight.parsed not.parsed in
+    not.none (text.program, subst (λ (tree : ProgramTree). trees.Derives tree text.program) same text.straight.straight)
+
 not_refused : (source : List ℕ) (refusal : Refusal) (report : Report) → IsText source → IsRefused source refusal → report_of refusal ≡ Some report → ⊥
-not_refused source (BadByte place) report text refused says = lexed.one_reading.apart source text.straight.tokens _ text.straight.spelled refused.1
-not_refused source (OpenComment place) report text refused says = lexed.one_reading.apart source text.straight.tokens _ text.straight.spelled refused.1
-not_refused source (OpenString place) report text refused says = lexed.one_reading.apart source text.straight.tokens _ text.straight.spelled refused.1
-not_refused source (WideNumber place) report text refused says = lexed.one_reading.apart source text.straight.tokens _ text.straight.spelled refused.1
+not_refused source (BadByte place) report text refused says = lexed.one_reading.apart source text.straight.parsed.tokens _ text.straight.parsed.spelled refused.1
+not_refused source (OpenComment place) report text refused says = lexed.one_reading.apart source text.straight.parsed.tokens _ text.straight.parsed.spelled refused.1
+not_refused source (OpenString place) report text refused says = lexed.one_reading.apart source text.straight.parsed.tokens _ text.straight.parsed.spelled refused.1
+not_refused source (WideNumber place) report text refused says = lexed.one_reading.apart source text.straight.parsed.tokens _ text.straight.parsed.spelled refused.1
+not_refused source (Unexpected place) report text refused says = not_faulty source text.straight.tree (syntax_fault.Unexpected place) text.straight.parsed refused.1
+not_refused source EndOfText report text refused says = not_faulty source text.straight.tree syntax_fault.EndOfText text.straight.parsed refused.1
+not_refused source (Nesting place) report text refused says = not_faulty source text.straight.tree (syntax_fault.Nesting place) text.straight.parsed refused.1
 not_refused source (SourceTooLong bytes) report text refused says = let short = text.short in absurd (omega (arith, refused.0, refused.1))
-not_refused source NotBuilt report text refused says = refused.1.none text.program text.straight
+not_refused source NotBuilt report text refused says = straight_or_not source text refused.1
 not_refused source (Memory e) report text refused says = cc
 
 pub text_accepted : (source : List ℕ) (report : Report) → IsText source → IsRefusedAs source report → ⊥

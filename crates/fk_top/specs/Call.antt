@@ -5,10 +5,10 @@ use Rattle.fk_ports.specs.Faults.{HasRisen}
 use Rattle.fk_ports.specs.Known.{TakesPrefix}
 use Rattle.fk_ports.specs.Files.{Files, file, with_file_known, AppendsFile, FetchFaults}
 use Rattle.fk_meaning.specs.declared.syntax.Program.{Program}
-use Rattle.fk_straight.specs.Straight.{IsStraight}
 use Rattle.fk_image.specs.declared.Image.{Image}
 use Rattle.fk_image.specs.Spelling.{IsImageOf}
 use Rattle.fk_machine.specs.Run.{machine}
+use Rattle.fk_compile.specs.Text.{IsStraight}
 use Rattle.fk_top.specs.declared.report.Report.TheVariants as reports
 use Rattle.fk_top.specs.declared.status.Status.{Status}
 use Rattle.fk_top.specs.declared.status.Status.TheVariants.{Done, Refused, Usage, ReadFault, WriteFault, Memory, ImageRefused}

@@ -1,6 +1,5 @@
 -- What a command comes to over the file that it reads.
 use Rattle.std.specs.Prelude.{◌≡◌, ℕ, ◌+◌, ◌≤◌, ◌⊎◌, List, [], ◌∷◌, ◌++◌, length, vec_len, slice_get, Option, Some, None}
-use Rattle.fk_syntax.specs.declared.Place.{Place}
 use Rattle.fk_image.specs.declared.Image.{Image}
 use Rattle.fk_image.specs.Spelling.{IsImageOf}
 use Rattle.fk_asm.specs.Listing as lines

@@ -1,7 +1,7 @@
 -- The report lines.
 use Rattle.std.specs.Prelude.{ℕ, List, [], ◌∷◌, ◌++◌, ◌==◌, if◌then◌else◌, codes}
 use Rattle.std.specs.Fmt.{decimal}
-use Rattle.fk_syntax.specs.declared.Place.{Place}
+use Rattle.fk_syntax.specs.declared.place.Place.{Place}
 use Rattle.fk_asm.specs.Listing.{eight_digits}
 use Rattle.fk_top.specs.declared.kinds.FaultKind.{FaultKind}
 use Rattle.fk_top.specs.declared.kinds.FaultKind.TheVariants as fault

@@ -203,6 +203,32 @@ fn a_lexical_fault_is_refused_at_its_place(rt: HostRuntime) -> Result<(), Fail> 
     Ok(())
 }
 
+// A value that begins with 126 parentheses, the last of them in column 158.
+fn deep(alloc: Global) -> Result<Vec<u8>, AllocError> {
+    let mut text = b"sh int x; void main(void) { x = ".to_vec(alloc)?;
+    text.resize(158, b'(')?;
+    Ok(text)
+}
+
+#[test]
+fn a_fault_of_syntax_is_refused_at_its_place(rt: HostRuntime) -> Result<(), Fail> {
+    let deep = deep(rt.alloc())?;
+    let texts: [(&[u8], &[u8]); 3] = [
+        (
+            b"void main(void) { putint(1) }",
+            b"refused 5 Unexpected at 1:29\n",
+        ),
+        (b"void main(void) { start {", b"refused 6 EndOfText\n"),
+        (deep.as_slice(), b"refused 7 Nesting at 1:158\n"),
+    ];
+    for (text, line) in texts {
+        let got = run(rt.alloc(), text, "1", "1000000", NONE)?;
+        assert_eq!(rt; got.status, Status::Refused);
+        assert_eq!(rt; got.err.as_slice(), line);
+    }
+    Ok(())
+}
+
 #[test]
 fn comments_and_every_spelling_of_a_number_are_read(rt: HostRuntime) -> Result<(), Fail> {
     let text =

@@ -1,4 +1,5 @@
 use Rattle.std.proofs.Common.{inr}
+use Rattle.fk_top.proofs.Refusing.{refusing}
 use Rattle.fk_top.proofs.ending.build_source.Goals as goal
 
 pub returns-in_ok-bytes-in-Ok : goal.returns-in_ok-bytes-in-Ok
@@ -10,3 +11,7 @@ returns-in_ok-bytes-in-Ok c =
       spelled = c.in_ok-bytes-in-Ok.ensures;
       is = let empty = c.new.ensures.items in let words = c.len.ensures in cc;
     })
+
+pub returns-in-Err : goal.returns-in-Err
+returns-in-Err c =
+    refusing c.args.source.now c.in-Err.refusal c.report_of.result c.refused.result _ c.in-Err.ensures.refused c.report_of.ensures c.refused.ensures

@@ -2,7 +2,7 @@ use Rattle.std.proofs.Common.{◌≡◌, ℕ, List, Option, None, Some, Bor, len
 use Rattle.std.proofs.lemmas.Option.{slice_get_past, slice_get_read}
 use Rattle.std.specs.Option.{option_copied}
 use Rattle.std.specs.Slice.{IsItemAt}
-use Rattle.fk_top.specs.Outcome.{fault_report, stand_report}
+use Rattle.fk_top.specs.Outcome.{fault_report}
 use Rattle.fk_top.proofs.stand.stand_report.Goals as goal
 
 -- what `get` lends is the item of that number

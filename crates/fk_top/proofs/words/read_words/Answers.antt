@@ -1,4 +1,4 @@
-use Rattle.std.proofs.Common.{◌≡◌, ℕ, ◌≤◌, ◌<◌, List, [], ◌∷◌, length, arith, ap, ◌⊎◌, inl, inr, map, string_bytes, Global}
+use Rattle.std.proofs.Common.{◌≡◌, ℕ, List, length, arith, ap, ◌⊎◌, inl, inr, map, string_bytes, Global}
 use Rattle.std.proofs.lemmas.List.{length-map}
 use borrow.Author.Tests.{ltb-true, ltb-false}
 use Rattle.fk_top.specs.Words.{Command, Run, Build, Exec, ListCode, Reads}
