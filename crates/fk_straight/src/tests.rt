@@ -1,3 +1,5 @@
+ghost use Rattle.std.specs.Prelude.{◌<◌, ◌^◌, vec_len, IfOk};
+
 use super::*;
 use fk_meaning::syntax::{Part, Statement};
 use fk_syntax::{
@@ -38,7 +40,9 @@ fn print(alloc: Global) -> Result<Stmt<'static>, AllocError> {
 }
 
 // `sh int NAME; void main(void) { x = 2 + 3; putint(x); }`
-fn text(alloc: Global, declared: &'static [u8]) -> Result<Program<'static>, AllocError> {
+fn text(alloc: Global, declared: &'static [u8]) -> Result<Program<'static>, AllocError>
+    ensures { IfOk result (λ program. vec_len program.items < 2 ^ 32) }
+{
     let body = vec![in alloc; sum(alloc)?, print(alloc)?]?;
     let variable = Declared {
         shared: true,
