@@ -185,7 +185,7 @@ fn each_production_breaks_at_its_mark(rt: HostRuntime) -> Result<(), Fail> {
 const OPENERS: &[(&[u8], &[u8], usize, u32)] = &[
     (b"{", b"", 127, 138),
     (b"(", b"", 126, 137),
-    (b"-", b"", 126, 137),
+    (b"!", b"", 126, 137),
     (b"(int)", b"", 126, 641),
     (b"a=", b"", 127, 265),
     (b"a?", b"", 126, 264),
@@ -199,8 +199,8 @@ const OPENERS: &[(&[u8], &[u8], usize, u32)] = &[
     (b"farm ", b"", 127, 646),
     (b"seq ", b"", 127, 519),
     (b"fork(a;@=b)", b"", 127, 1408),
-    (b"-", b"sizeof(", 125, 143),
-    (b"-", b"puts(", 125, 141),
+    (b"!", b"sizeof(", 125, 143),
+    (b"!", b"puts(", 125, 141),
 ];
 
 /// A body that an opener stands in so many times, with no end.
