@@ -28,4 +28,3 @@ pub mod Loops
 pub mod Halting
 pub mod Behind
 pub mod Public
-pub mod Trees
