@@ -1,7 +1,7 @@
 pub mod IndexZeros
 pub mod Words
 pub mod Parts
-pub mod Joined
+pub mod Turned
 pub mod Locals
 pub mod Harts
 pub mod Cycled

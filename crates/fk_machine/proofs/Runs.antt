@@ -1,9 +1,9 @@
 -- Whole runs.
-use Rattle.std.proofs.Common.{◌≡◌, ◌≢◌, ℕ, zero, suc, ◌+◌, ◌≤◌, List, [], ◌∷◌, ◌++◌, Bool, true, false, cond, refl, ap, ◌∙◌, sym, arith, ◌⊎◌, inl, inr}
+use Rattle.std.proofs.Common.{◌≡◌, ◌≢◌, ℕ, zero, suc, ◌+◌, ◌≤◌, List, [], ◌∷◌, ◌++◌, Bool, true, false, cond, refl, ap, ◌∙◌, sym, arith, append-nil, append_assoc, ◌⊎◌, inl, inr}
 use Rattle.fk_image.specs.declared.Image.{Image}
 use Rattle.fk_machine.specs.declared.stand.Stand.{Stand}
 use Rattle.fk_machine.specs.declared.stand.Stand.TheVariants.{Running, Finished, Faulted, Trapped}
-use Rattle.fk_machine.specs.Cycle.{Machine, is_running, after_turns, turns_of, cycle, opening}
+use Rattle.fk_machine.specs.Cycle.{Machine, is_running, after_turns, turns_of, unprinted, cycle, opening}
 use Rattle.fk_machine.specs.Run.{machine, output_of, after, output_in, rounds, round_of}
 
 begun-cond : (b : Bool) (m m' : Machine) (n : ℕ) → m.begun ≤ n → m'.begun ≤ n → (cond b m' m).begun ≤ n
@@ -99,3 +99,52 @@ is_running-other Running other = absurd (other refl)
 is_running-other Finished other = refl
 is_running-other (Faulted site hart) other = refl
 is_running-other (Trapped hart pc kind) other = refl
+
+-- Runs in parts
+
+either : (b : Bool) (xs ys zs : List ℕ) → cond b ((xs ++ ys) ++ zs) (xs ++ ys) ≡ xs ++ cond b (ys ++ zs) ys
+either true xs ys zs = append_assoc xs ys zs
+either false xs ys zs = refl
+
+-- the cycles of k and then n
+pub after-sum : (m : Machine) (k n : ℕ) → after (k + n) m ≡ after n (after k m)
+after-sum m k zero = let e : k + zero ≡ k = omega arith in ap (λ i. after i m) e
+after-sum m k (suc n) = let e : k + suc n ≡ suc (k + n) = omega arith in ap (λ i. after i m) e ∙ ap cycle (after-sum m k n)
+
+-- and what they print
+pub output_in-sum : (m : Machine) (k n : ℕ) → output_in (k + n) m ≡ output_in k m ++ output_in n (after k m)
+output_in-sum m k zero = let e : k + zero ≡ k = omega arith in ap (λ i. output_in i m) e ∙ sym (append-nil (output_in k m))
+output_in-sum m k (suc n) =
+    let e : k + suc n ≡ suc (k + n) = omega arith in
+    let l = after n (after k m) in
+    let before = output_in n (after k m) in
+    ap (λ i. output_in i m) e
+    ∙ ap (λ (x : Machine). cond (is_running x.stand) (output_in (k + n) m ++ (cycle x).shared.output) (output_in (k + n) m)) (after-sum m k n)
+    ∙ ap (λ o. cond (is_running l.stand) (o ++ (cycle l).shared.output) o) (output_in-sum m k n)
+    ∙ either (is_running l.stand) (output_in k m) before (cycle l).shared.output
+
+-- a machine without what its last cycle printed
+abbrev pub quiet : Machine → Machine
+quiet m = record m { shared = unprinted m.shared }
+
+cycle-quiet : (m : Machine) → is_running m.stand ≡ true → cycle (quiet m) ≡ cycle m
+cycle-quiet m e =
+    ap (λ b. cond b (after_turns m (turns_of m)) (quiet m)) e ∙ sym (ap (λ b. cond b (after_turns m (turns_of m)) m) e)
+
+pub after-quiet : (m : Machine) (k : ℕ) → 1 ≤ k → is_running m.stand ≡ true → after k (quiet m) ≡ after k m
+after-quiet m zero some e = absurd (omega (arith, some))
+after-quiet m (suc zero) some e = cycle-quiet m e
+after-quiet m (suc (suc k)) some e = ap cycle (after-quiet m (suc k) (omega arith) e)
+
+pub output_in-quiet : (m : Machine) (k : ℕ) → 1 ≤ k → is_running m.stand ≡ true → output_in k (quiet m) ≡ output_in k m
+output_in-quiet m zero some e = absurd (omega (arith, some))
+output_in-quiet m (suc zero) some e = ap (λ (l : Machine). cond (is_running m.stand) ([] ++ l.shared.output) []) (cycle-quiet m e)
+output_in-quiet m (suc (suc k)) some e =
+    let before = output_in (suc k) (quiet m) in
+    ap (λ (l : Machine). cond (is_running l.stand) (before ++ (cycle l).shared.output) before) (after-quiet m (suc k) (omega arith) e)
+    ∙ ap (λ o. cond (is_running (after (suc k) m).stand) (o ++ (after (suc (suc k)) m).shared.output) o) (output_in-quiet m (suc k) (omega arith) e)
+
+-- the first cycle that prints
+pub output_in-first : (m : Machine) (k : ℕ) → is_running (after k m).stand ≡ true → output_in k m ≡ [] → output_in (suc k) m ≡ (cycle (after k m)).shared.output
+output_in-first m k running none =
+    ap (λ b. cond b (output_in k m ++ (cycle (after k m)).shared.output) (output_in k m)) running ∙ ap (λ o. o ++ (cycle (after k m)).shared.output) none

@@ -1,8 +1,10 @@
 -- The states of the code as those of the definitions.
-use Rattle.std.specs.Prelude.{ℕ, suc, ◌+◌, ◌*◌, List, [], ◌∷◌, None, slice_index, slice_index_or, slice_range}
+use Rattle.std.specs.Prelude.{ℕ, suc, ◌+◌, ◌*◌, List, [], ◌∷◌, Option, Some, None, if◌then◌else◌, map, slice_index, slice_index_or, slice_range}
 use Rattle.fk_num.specs.Word.{Memory}
 use Rattle.fk_isa.specs.declared.hart.Hart.{Hart as HartState}
 use Rattle.fk_machine.specs.declared.shared.SharedState.{SharedState}
+use Rattle.fk_isa.specs.declared.instruction.Instruction.{Instruction}
+use Rattle.fk_machine.specs.declared.setting.CodeWord.{CodeWord}
 use Rattle.fk_machine.specs.declared.setting.Setting.{Setting as SettingState}
 use Rattle.fk_machine.specs.declared.machine.Machine.{Machine as MachineState}
 use Rattle.fk_machine.specs.Hart.{Hart, Shared, Setting}
@@ -29,14 +31,18 @@ shared_of s = record {
   reserved = λ number. slice_index_or s.reserved.items number None;
 }
 
+-- the row of the table that a word of the code is, if it is one
+abbrev pub row_of : CodeWord → Option Instruction
+row_of w = if w.is_known then Some w.instruction else None
+
 abbrev pub setting_of : SettingState → Setting
-setting_of t = record { code = t.code.items; harts = t.harts; inputs = t.inputs; finished = t.finished }
+setting_of t = record { code = map row_of t.code.items; harts = t.harts; inputs = t.inputs; finished = t.finished }
 
 -- the machine of the definitions that a machine of the code is
 unfoldable pub machine_of : MachineState → Machine
 machine_of m =
     record {
-      code = m.setting.code.items;
+      code = map row_of m.setting.code.items;
       harts = harts_of 0 m.harts.items (local_of m.locals.items);
       shared = shared_of m.shared;
       inputs = m.setting.inputs;

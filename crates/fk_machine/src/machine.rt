@@ -31,8 +31,9 @@ pub struct Machine {
 
 #[tactic(auto, unfolding(crate::specs::View::machine_of))]
 impl Machine {
-    ghost use Rattle.std.specs.Prelude.{◌-◌, ◌<◌, ◌^◌, ◌++◌, length, IfOk, OnOk};
+    ghost use Rattle.std.specs.Prelude.{◌-◌, ◌<◌, ◌^◌, ◌++◌, [], length, IfOk, OnOk};
     ghost use Rattle.fk_image.specs.Limits.{IsWithinLimits};
+    ghost use Rattle.fk_machine.specs.declared.stand.Stand.TheVariants.{Running};
     ghost use Rattle.fk_machine.specs.Cycle.{opening, cycle};
     ghost use Rattle.fk_machine.specs.Run.{after, output_in};
     ghost use Rattle.fk_machine.specs.View.{machine_of};
@@ -80,15 +81,51 @@ impl Machine {
             return self.stand;
         }
         self.shared.output.clear();
-        let stop = take_turns(
+        self.serve()
+    }
+
+    // A cycle of a machine that runs and holds no output of the one before.
+    fn serve(&mut self) -> Stand
+        requires running { self.old.stand ≡ Running }
+        requires unprinted { self.old.shared.output.items ≡ [] }
+        requires count { (machine_of self.old).begun < 2 ^ 32 - 1 }
+        ensures cycle { machine_of self.new ≡ cycle (machine_of self.old) }
+        ensures stand { result ≡ self.new.stand }
+    {
+        let mut stop = None;
+        take_turns(
             &self.setting,
+            0,
             self.harts.as_mut_slice(),
             self.locals.as_mut_slice(),
             &mut self.shared,
+            &mut stop,
         );
         self.setting.finished += 1;
-        self.stand.change_to(stand_after(stop, &self.harts));
-        self.stand
+        let stand = stand_after(stop, &self.harts);
+        self.stand.change_to(stand);
+        stand
+    }
+
+    // Runs so many cycles, or fewer: none after one that prints or ends the machine. It answers how
+    // many it has run.
+    fn run_quietly(&mut self, cycles: u32) -> u32
+        requires running { self.old.stand ≡ Running }
+        requires some { 1 ≤ cycles }
+        requires count { (machine_of self.old).begun + cycles < 2 ^ 32 }
+        ensures machine { machine_of self.new ≡ after result (machine_of self.old) }
+        ensures output { output_in result (machine_of self.old) ≡ self.new.shared.output.items }
+        ensures some { 1 ≤ result }
+        ensures few { result ≤ cycles }
+    {
+        self.shared.output.clear();
+        for done in 0..cycles {
+            let stand = self.serve();
+            if stand != Stand::Running || !self.shared.output.is_empty() {
+                return done + 1;
+            }
+        }
+        cycles
     }
 
     /// Runs so many cycles, or fewer where the machine ends before, and appends what each prints to
@@ -99,14 +136,10 @@ impl Machine {
         ensures machine { OnOk result (machine_of self.new ≡ after cycles (machine_of self.old)) }
         ensures output { OnOk result (output.new.items ≡ output.old.items ++ output_in cycles (machine_of self.old)) }
     {
-        for _ in 0..cycles {
-            if self.stand != Stand::Running {
-                break;
-            }
-            self.cycle();
-            if !self.shared.output.is_empty() {
-                output.extend_from_slice(&self.shared.output)?;
-            }
+        let mut left = cycles;
+        while left > 0 && self.stand == Stand::Running {
+            left -= self.run_quietly(left);
+            output.extend_from_slice(&self.shared.output)?;
         }
         Ok(())
     }

@@ -1,16 +1,48 @@
 //! What stays the same in a cycle.
 
-ghost use Rattle.std.specs.Prelude.{◌≡◌, ◌≤◌, All, vec_len};
-ghost use Rattle.fk_machine.specs.Fits.{RowFits, RowsFit-prop};
+ghost use Rattle.std.specs.Prelude.{◌≡◌, ◌≤◌, false, vec_len};
+ghost use Rattle.fk_isa.specs.declared.instruction.Instruction.TheVariants.{Ebreak};
+ghost use Rattle.fk_isa.specs.Fits.{Fits};
+ghost use Rattle.fk_isa.specs.FitsProp.{Fits-prop};
 
 use fk_isa::{Instruction, decode};
 use std::alloc::{AllocError, Global};
 
+/// A word of the code, decoded. One that is no instruction stands as `ebreak`, so that it traps too
+/// and no turn but that one asks which it was.
+#[derive(Drop)]
+pub struct CodeWord {
+    pub instruction: Instruction,
+    /// Whether the word is an instruction of the table.
+    pub is_known: bool,
+    ghost fitting: { Fits instruction } by { Fits-prop instruction },
+    ghost unknown: { is_known ≡ false → instruction ≡ Ebreak },
+}
+
+impl CodeWord {
+    ghost use Rattle.fk_isa.specs.Find.{row};
+    ghost use Rattle.fk_machine.specs.View.{row_of};
+
+    fn of(word: u32) -> CodeWord
+        ensures { row_of result ≡ row word }
+    {
+        match decode(word) {
+            Some(instruction) => CodeWord {
+                instruction,
+                is_known: true,
+            },
+            None => CodeWord {
+                instruction: Instruction::Ebreak,
+                is_known: false,
+            },
+        }
+    }
+}
+
 /// The code, and the numbers that devices give.
 #[derive(Drop)]
 pub struct Setting {
-    /// Each word of the code by its row of the table of instructions, `None` where it has none.
-    pub code: Vec<Option<Instruction>>,
+    pub code: Vec<CodeWord>,
     /// How many harts there are.
     pub harts: u32,
     /// How many input numbers there are.
@@ -18,23 +50,27 @@ pub struct Setting {
     /// How many cycles were finished before this one.
     pub finished: u32,
     ghost short: { vec_len code ≤ 262144 },
-    ghost fitting: { All RowFits code.items } by { RowsFit-prop code.items },
 }
 
 impl Setting {
     ghost use Rattle.std.specs.Prelude.{length, map, IfOk};
     ghost use Rattle.fk_isa.specs.Find.{row};
+    ghost use Rattle.fk_machine.specs.View.{row_of};
 
     /// The setting of the first cycle.
     pub fn make(alloc: Global, code: &[u32], harts: u32, inputs: u32) -> Result<Setting, AllocError>
         requires { length code.now ≤ 262144 }
-        ensures code { IfOk result (λ t. t.code.items ≡ map row code.now) }
+        ensures code { IfOk result (λ t. map row_of t.code.items ≡ map row code.now) }
         ensures harts { IfOk result (λ t. t.harts ≡ harts) }
         ensures inputs { IfOk result (λ t. t.inputs ≡ inputs) }
         ensures finished { IfOk result (λ t. t.finished ≡ 0) }
     {
+        let mut words = Vec::with_capacity(alloc, code.len())?;
+        for word in code {
+            words.push(CodeWord::of(*word))?;
+        }
         Ok(Setting {
-            code: code.iter().map(|word| decode(*word)).collect(alloc)?,
+            code: words,
             harts,
             inputs,
             finished: 0,

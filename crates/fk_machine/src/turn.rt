@@ -1,39 +1,35 @@
 //! The turn of a hart.
 
 ghost use Rattle.std.specs.Prelude.{◌≡◌, ◌<◌, ◌≤◌, length, vec_len};
-ghost use Rattle.fk_isa.specs.Fits.{Fits};
-ghost use Rattle.fk_machine.specs.Step.{perform, step};
-ghost use Rattle.fk_machine.specs.View.{setting_of};
+ghost use Rattle.fk_machine.specs.Step.{on_row, step};
+ghost use Rattle.fk_machine.specs.View.{row_of, setting_of};
 ghost use Rattle.fk_machine.specs.Does.{room_of, PrintsUpTo, IsReady, Keeps, Does};
 
 use crate::bus::HartBus;
 use crate::place::LOCAL_WORDS;
-use crate::setting::Setting;
+use crate::setting::{CodeWord, Setting};
 use crate::shared::{LINE_BYTES, SharedState};
 use crate::stand::{FETCH, Stand, UNKNOWN};
-use fk_isa::{Effect, Hart, Instruction, step};
+use fk_isa::{Effect, Hart, step};
 
-// An instruction of the hart with a number, over what it reaches. It answers the stand that ends the
-// machine, if it does.
+// A word of the code as the hart with a number runs it, over what the hart reaches. It answers the
+// stand that ends the machine, if it does.
 #[inline(always)]
-fn perform(
-    instruction: Instruction,
-    number: u32,
-    hart: &mut Hart,
-    bus: &mut HartBus,
-) -> Option<Stand>
-    requires fits { Fits instruction }
+fn perform(word: &CodeWord, number: u32, hart: &mut Hart, bus: &mut HartBus) -> Option<Stand>
     requires number { number < vec_len bus.old.shared.now.reserved }
     requires ready { IsReady bus.old }
-    ensures effect { Does (perform (setting_of bus.old.setting.now) number instruction)
+    ensures effect { Does (on_row (setting_of bus.old.setting.now) number (row_of word.now))
         hart.old bus.old.local.now bus.old.shared.now result hart.new bus.new.local.now bus.new.shared.now }
     ensures keeps { Keeps bus.old bus.new }
 {
     let pc = hart.pc;
-    match step(instruction, number, hart, bus) {
+    match step(word.instruction, number, hart, bus) {
         Effect::Next | Effect::Ended => None,
         Effect::Fault(site) => Some(Stand::Faulted(site, number)),
-        Effect::Trap(kind) => Some(Stand::Trapped(number, pc, kind)),
+        Effect::Trap(kind) => {
+            let kind = if word.is_known { kind } else { UNKNOWN };
+            Some(Stand::Trapped(number, pc, kind))
+        }
     }
 }
 
@@ -58,14 +54,10 @@ pub fn take_turn(
     if index >= setting.code.len() {
         return Some(Stand::Trapped(number, hart.pc, FETCH));
     }
-    let instruction = match setting.code[index] {
-        Some(instruction) => instruction,
-        None => return Some(Stand::Trapped(number, hart.pc, UNKNOWN)),
-    };
     let mut bus = HartBus {
         setting,
         local,
         shared,
     };
-    perform(instruction, number, hart, &mut bus)
+    perform(&setting.code[index], number, hart, &mut bus)
 }

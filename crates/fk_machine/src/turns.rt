@@ -1,6 +1,6 @@
 //! The turns of a cycle.
 
-ghost use Rattle.std.specs.Prelude.{◌≡◌, ℕ, ◌*◌, ◌≤◌, length, vec_len};
+ghost use Rattle.std.specs.Prelude.{◌≡◌, ℕ, ◌+◌, ◌*◌, ◌≤◌, None, length, vec_len};
 ghost use Rattle.fk_num.specs.Word.{Memory};
 ghost use Rattle.fk_machine.specs.Cycle.{turns, all_ended, stand_after};
 ghost use Rattle.fk_machine.specs.View.{harts_of, setting_of};
@@ -28,37 +28,61 @@ pub fn stand_after(stop: Option<Stand>, harts: &[Hart]) -> Stand
     }
 }
 
+// The first hart is asked first, since it mostly goes on.
+#[inline(always)]
 fn have_all_ended(harts: &[Hart]) -> bool
+    ensures { (local : ℕ → Memory) → result ≡ all_ended (harts_of 0 harts.now local) }
+{
+    match harts.first() {
+        Some(hart) if !hart.ended => false,
+        _ => have_ended(harts),
+    }
+}
+
+#[inline(never)]
+fn have_ended(harts: &[Hart]) -> bool
     ensures { (local : ℕ → Memory) → result ≡ all_ended (harts_of 0 harts.now local) }
 {
     harts.iter().all(|hart| hart.ended)
 }
 
-/// The harts that have not ended take their turns, in ascending number. Where one ends the machine,
-/// those above are not served, and the answer is how the machine then stands.
+/// The harts that have not ended take their turns, in ascending number from that of the first one.
+/// Where one ends the machine, those above are not served, and `stop` tells how the machine then
+/// stands.
 pub fn take_turns(
     setting: &Setting,
+    number: u32,
     harts: &mut [Hart],
     locals: &mut [u32],
     shared: &mut SharedState,
-) -> Option<Stand>
-    requires few { length harts.old ≤ 1024 }
+    stop: &mut Option<Stand>,
+)
+    requires few { number + length harts.old ≤ 1024 }
     requires own { length locals.old ≡ LOCAL_STRIDE * length harts.old }
-    requires reserved { vec_len shared.old.reserved ≡ length harts.old }
+    requires reserved { number + length harts.old ≤ vec_len shared.old.reserved }
     requires output { LINE_BYTES * length harts.old ≤ room_of shared.old }
-    ensures turns { TakesTurns (turns (setting_of setting.now) 0)
-        harts.old locals.old shared.old result harts.new locals.new shared.new }
+    requires none { stop.old ≡ None }
+    ensures turns { TakesTurns (turns (setting_of setting.now) number)
+        harts.old locals.old shared.old stop.new harts.new locals.new shared.new }
     ensures output { PrintsUpTo (LINE_BYTES * length harts.old) shared.old shared.new }
 {
-    for number in 0..harts.len() {
-        let hart = &mut harts[number];
-        if !hart.ended {
-            let start = LOCAL_STRIDE as usize * number;
-            let local = &mut locals[start..start + LOCAL_WORDS as usize];
-            if let Some(stand) = take_turn(setting, number as u32, hart, local, shared) {
-                return Some(stand);
-            }
+    if harts.is_empty() {
+        return;
+    }
+    let hart = &mut harts[0];
+    if !hart.ended {
+        let local = &mut locals[..LOCAL_WORDS as usize];
+        if let Some(stand) = take_turn(setting, number, hart, local, shared) {
+            *stop = Some(stand);
+            return;
         }
     }
-    None
+    take_turns(
+        setting,
+        number + 1,
+        &mut harts[1..],
+        &mut locals[LOCAL_STRIDE as usize..],
+        shared,
+        stop,
+    );
 }

@@ -3,7 +3,7 @@ use Rattle.std.proofs.lemmas.Iterator.{YieldsList-from_slice}
 use Rattle.std.proofs.lemmas.Iterator.Search.{all_from_yields_List}
 use Rattle.fk_isa.specs.declared.hart.Hart.{Hart as HartState}
 use Rattle.fk_machine.proofs.Harts.{all_ended-harts_of}
-use Rattle.fk_machine.proofs.turns.have_all_ended.Goals as goal
+use Rattle.fk_machine.proofs.turns.have_ended.Goals as goal
 
 pub returns : goal.returns
 returns c = λ local.
