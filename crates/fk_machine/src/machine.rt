@@ -109,6 +109,7 @@ impl Machine {
 
     // Runs so many cycles, or fewer: none after one that prints or ends the machine. It answers how
     // many it has run.
+    #[inline(never)]
     fn run_quietly(&mut self, cycles: u32) -> u32
         requires running { self.old.stand ≡ Running }
         requires some { 1 ≤ cycles }

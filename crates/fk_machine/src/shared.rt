@@ -73,7 +73,10 @@ impl SharedState {
         self.output.extend_from_slice(bytes).unwrap();
     }
 
-    /// Prints the decimal of a word's signed value, and a newline.
+    /// Prints the decimal of a word's signed value, and a newline. Turns print seldom, so this is kept
+    /// out of their code.
+    #[cold]
+    #[inline(never)]
     #[tactic(auto, unfolding(fk_num::specs::Word::signed_line))]
     pub fn print_number(&mut self, word: u32)
         requires { LINE_BYTES ≤ room_of self.old }
