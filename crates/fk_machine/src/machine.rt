@@ -21,6 +21,7 @@ pub struct Machine {
     locals: Vec<u32>,
     shared: SharedState,
     stand: Stand,
+    ghost some: { 1 ≤ vec_len harts },
     ghost few: { vec_len harts ≤ 1024 },
     ghost counted: { setting.harts ≡ vec_len harts },
     ghost own: { vec_len locals ≡ 32784 * vec_len harts },
@@ -108,7 +109,7 @@ impl Machine {
     }
 
     // Runs so many cycles, or fewer: none after one that prints or ends the machine. It answers how
-    // many it has run.
+    // many it has run. As a function of its own, its code is the same whoever calls it.
     #[inline(never)]
     fn run_quietly(&mut self, cycles: u32) -> u32
         requires running { self.old.stand ≡ Running }

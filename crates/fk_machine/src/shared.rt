@@ -73,8 +73,8 @@ impl SharedState {
         self.output.extend_from_slice(bytes).unwrap();
     }
 
-    /// Prints the decimal of a word's signed value, and a newline. Turns print seldom, so this is kept
-    /// out of their code.
+    /// Prints the decimal of a word's signed value, and a newline. Turns print seldom, so printing is
+    /// kept out of their code.
     #[cold]
     #[inline(never)]
     #[tactic(auto, unfolding(fk_num::specs::Word::signed_line))]
@@ -88,6 +88,8 @@ impl SharedState {
     }
 
     /// Prints the low byte of a word.
+    #[cold]
+    #[inline(never)]
     pub fn print_byte(&mut self, word: u32)
         requires { LINE_BYTES ≤ room_of self.old }
         ensures byte { shared_of self.new ≡ record (shared_of self.old) { output = (shared_of self.old).output ++ word % 256 ∷ [] } }

@@ -19,6 +19,7 @@ pub const LOCAL_STRIDE: u32 = LOCAL_WORDS + 16;
 
 /// How the machine stands after its turns, of which one may have ended it.
 pub fn stand_after(stop: Option<Stand>, harts: &[Hart]) -> Stand
+    requires some { 1 ≤ length harts.now }
     ensures { (local : ℕ → Memory) → result ≡ stand_after stop (harts_of 0 harts.now local) }
 {
     match stop {
@@ -28,15 +29,13 @@ pub fn stand_after(stop: Option<Stand>, harts: &[Hart]) -> Stand
     }
 }
 
-// The first hart is asked first, since it mostly goes on.
+// The first hart mostly goes on, so that it is asked first, and here.
 #[inline(always)]
 fn have_all_ended(harts: &[Hart]) -> bool
+    requires some { 1 ≤ length harts.now }
     ensures { (local : ℕ → Memory) → result ≡ all_ended (harts_of 0 harts.now local) }
 {
-    match harts.first() {
-        Some(hart) if !hart.ended => false,
-        _ => have_ended(harts),
-    }
+    harts[0].ended && have_ended(harts)
 }
 
 #[inline(never)]
