@@ -22,7 +22,7 @@ FORK95 = os.path.join(TOP, "fork95")
 PROGRAM = os.path.join(TOP, "crates", "fork95", "out", "fork95")
 HARTS = (1, 64, 1024)
 # how many hart-instructions a run of the image has
-LOOPED = 2**24
+LOOPED = 2**26
 HEADER_WORDS = 6
 # sw zero, 12(t0), with the address of the devices in t0: the hart ends
 HALT = 0x0002A623
@@ -47,10 +47,11 @@ def bounds(harts, cycles):
 
 
 def rates(machines, harts, cycles, runs):
-    """Million hart-instructions per second of each machine, which gives the command for harts and cycles."""
+    """For each machine, which gives the command for harts and cycles: million hart-instructions per
+    second, and the milliseconds of a run that stops before the first cycle."""
     timed = least_times([machine(harts, bound) for machine in machines for bound in (cycles, 0)], runs)
     return [
-        int(report.split()[2]) * harts / max(whole - start, 1e-6) / 1e6
+        (int(report.split()[2]) * harts / max(whole - start, 1e-6) / 1e6, start * 1e3)
         for (whole, report), (start, _) in zip(timed[::2], timed[1::2])
     ]
 
@@ -125,7 +126,7 @@ def print_rates(folder, runs):
     base = None
     print("harts  million hart-instructions/s  ratio to 1 hart")
     for harts in HARTS:
-        [rate] = rates([lambda h, c: [PROGRAM, "run", text] + bounds(h, c)], harts, 10**7, runs)
+        [(rate, _)] = rates([lambda h, c: [PROGRAM, "run", text] + bounds(h, c)], harts, 10**7, runs)
         base = base or rate
         print("%5d  %27.1f  %15.2f" % (harts, rate, rate / base))
 
@@ -139,10 +140,10 @@ def print_ratios_to_c(folder, runs):
         lambda h, c: [PROGRAM, "exec", image] + bounds(h, c),
         lambda h, c: [baseline, image, str(h), str(c)],
     ]
-    print("harts  million hart-instructions/s  machine.c  ratio to machine.c")
+    print("harts  million hart-instructions/s  machine.c  ratio to machine.c  ms to start")
     for harts in HARTS:
-        ours, theirs = rates(machines, harts, LOOPED // harts, runs)
-        print("%5d  %27.1f  %9.1f  %18.3f" % (harts, ours, theirs, ours / theirs))
+        (ours, start), (theirs, _) = rates(machines, harts, LOOPED // harts, runs)
+        print("%5d  %27.1f  %9.1f  %18.3f  %11.1f" % (harts, ours, theirs, ours / theirs, start))
 
 
 def print_compiling(folder, runs):
