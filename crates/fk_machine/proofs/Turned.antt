@@ -1,8 +1,9 @@
 -- The turn of the first hart, and those of the others.
-use Rattle.std.proofs.Common.{◌≡◌, ℕ, zero, suc, ◌+◌, ◌-◌, ◌*◌, ◌≤◌, List, [], ◌∷◌, ◌++◌, length, take, drop, get_or, length-drop, add-one, Option, Some, None, true, false, refl, sym, ap, subst, ◌∙◌, arith, append-nil}
+use Rattle.std.proofs.Common.{◌≡◌, ℕ, suc, ◌+◌, ◌-◌, ◌*◌, ◌≤◌, List, [], ◌∷◌, ◌++◌, length, take, drop, get_or, length-drop, length-take-le, add-one, Option, Some, None, true, false, refl, sym, ap, subst, ◌∙◌, arith, append-nil}
 use Rattle.std.specs.Prelude.{slice_index, slice_set}
 use Rattle.std.proofs.Math.Path.{fun_ext}
-use Rattle.std.proofs.lemmas.List.{drop-drop, drop_all, take_all}
+use Rattle.std.proofs.lemmas.List.{drop-drop, drop_all, take_all, take-take, take-append-le}
+use Rattle.std.proofs.Math.Seq.{take-append_seam, drop-append_seam}
 use borrow.Rule.Slice.PartMut.{put_mid}
 use Rattle.fk_num.specs.Word.{Memory}
 use Rattle.fk_isa.specs.declared.hart.Hart.{Hart as HartState}
@@ -22,27 +23,15 @@ put_end a xs ys le =
     ap (λ l. take a xs ++ (ys ++ l)) none ∙ ap (λ l. take a xs ++ l) (append-nil ys)
 
 take-longer : {X : Type 0} (a b : ℕ) (xs ys : List X) → a ≤ b → b ≤ length xs → take a (take b xs ++ ys) ≡ take a xs
-take-longer zero b xs ys le in_xs = refl
-take-longer (suc a) zero xs ys le in_xs = absurd (omega (arith, le))
-take-longer (suc a) (suc b) [] ys le in_xs = absurd (omega (arith, in_xs))
-take-longer (suc a) (suc b) (x ∷ xs) ys le in_xs = ap (λ l. x ∷ l) (take-longer a b xs ys (omega (arith, le)) (omega (arith, in_xs)))
+take-longer a b xs ys le in_xs =
+    let len = length-take-le b xs in_xs in
+    take-append-le a (take b xs) ys (omega (arith, len, le)) ∙ take-take a b xs le
 
 take-front : {X : Type 0} (n : ℕ) (xs ys : List X) → length xs ≡ n → take n (xs ++ ys) ≡ xs
-take-front zero [] ys e = refl
-take-front (suc n) [] ys e = absurd (omega (arith, e))
-take-front zero (x ∷ xs) ys e = absurd (omega (arith, e))
-take-front (suc n) (x ∷ xs) ys e = ap (λ l. x ∷ l) (take-front n xs ys (omega (arith, e)))
+take-front n xs ys e = ap (λ k. take k (xs ++ ys)) (sym e) ∙ take-append_seam xs ys
 
 drop-front : {X : Type 0} (n : ℕ) (xs ys : List X) → length xs ≡ n → drop n (xs ++ ys) ≡ ys
-drop-front zero [] ys e = refl
-drop-front (suc n) [] ys e = absurd (omega (arith, e))
-drop-front zero (x ∷ xs) ys e = absurd (omega (arith, e))
-drop-front (suc n) (x ∷ xs) ys e = drop-front n xs ys (omega (arith, e))
-
-length-front : {X : Type 0} (n : ℕ) (xs : List X) → n ≤ length xs → length (take n xs) ≡ n
-length-front zero xs le = refl
-length-front (suc n) [] le = absurd (omega (arith, le))
-length-front (suc n) (x ∷ xs) le = ap suc (length-front n xs (omega (arith, le)))
+drop-front n xs ys e = ap (λ k. drop k (xs ++ ys)) (sym e) ∙ drop-append_seam xs ys
 
 -- Views
 
@@ -126,7 +115,7 @@ stops_first t n h h' others xs own s s' stand len live e same_hart same =
 pub joined : (t : Setting) (n : ℕ) (whole : Turns) (h : HartState) (others others' : List HartState) (xs ys : List ℕ) (s s' : Shared) (stop : Option Stand) → Turned t n whole h others xs s → 32784 ≤ length xs → TurnsGive (turns t (suc n) (above others xs) s) stop (harts_of 0 others' (local_of ys)) s' → TurnsGive whole stop (harts_of 0 (h ∷ others') (local_of (take 32784 xs ++ ys))) s'
 joined t n whole h others others' xs ys s s' stop turned long g =
     let front : local_of (take 32784 xs ++ ys) 0 ≡ local_of xs 0 = ap slice_index (take-longer 32768 32784 xs ys (omega arith) long) in
-    let back : drop 32784 (take 32784 xs ++ ys) ≡ ys = drop-front 32784 (take 32784 xs) ys (length-front 32784 xs long) in
+    let back : drop 32784 (take 32784 xs ++ ys) ≡ ys = drop-front 32784 (take 32784 xs) ys (length-take-le 32784 xs long) in
     let harts : harts_of 0 (h ∷ others') (local_of (take 32784 xs ++ ys)) ≡ hart_of h (local_of xs 0) ∷ harts_of 0 others' (local_of ys) =
     harts_of-cons h others' (take 32784 xs ++ ys)
     ∙ ap (λ m. hart_of h m ∷ above others' (take 32784 xs ++ ys)) front
