@@ -7,9 +7,12 @@ Hart-instructions per second, for 1, 64 and 1,024 harts: the least time of RUNS 
 text, less the least time of as many that stop before the first cycle, so that reading, compiling
 and taking memory don't count. The same of one image, for the proved machine and for machine.c,
 built by gcc -O2, with the ratio of the two. Bytes compiled per second, for texts of 1 KiB to 1 MiB:
-the time of runs that stop before the first cycle, less that of an empty `main`.
+the time of runs that stop before the first cycle, less that of an empty `main`. And where tcc is
+there (Debian: tcc), the time and memory of `fork95 build` over those of `tcc -c`, for a text of
+1 MiB of declarations and for one of sums, each with the same text in C.
 """
 import os
+import shutil
 import struct
 import subprocess
 import sys
@@ -159,6 +162,27 @@ def print_compiling(folder, runs):
         print("%5d  %27.1f  %15.2f   %s" % (kib, rate, rate / base, report))
 
 
+def peak_memory(command):
+    """The most memory that a run of it takes, in MiB."""
+    child = subprocess.Popen(command, stdin=subprocess.DEVNULL, stdout=subprocess.DEVNULL, stderr=subprocess.DEVNULL)
+    _, _, usage = os.wait4(child.pid, 0)
+    return usage.ru_maxrss / 1024
+
+
+def print_ratios_to_tcc(folder, runs):
+    if not shutil.which("tcc"):
+        print("tcc isn't there, so nothing is compared with it")
+        return
+    print("text          KiB  ms to build  ms of tcc  ratio to tcc  MiB  MiB of tcc")
+    for name, text in (("declarations", padded(2**20)), ("sums", sums(2280))):
+        ours = [PROGRAM, "build", write(folder, name + ".f95", text), "-o", os.path.join(folder, name + ".image")]
+        theirs = ["tcc", "-c", write(folder, name + ".c", text.replace("sh int", "int")), "-o", os.path.join(folder, name + ".o")]
+        (seconds, _), (seconds_of_tcc, _) = least_times([ours, theirs], runs)
+        ratio = seconds_of_tcc / seconds
+        row = (name, len(text) / 1024, seconds * 1e3, seconds_of_tcc * 1e3, ratio, peak_memory(ours), peak_memory(theirs))
+        print("%-12s %4d  %11.1f  %9.1f  %12.2f  %3d  %10d" % row)
+
+
 def main():
     runs = int(sys.argv[1]) if len(sys.argv) > 1 else 40
     subprocess.run([FORK95], stdout=subprocess.DEVNULL, stderr=subprocess.DEVNULL)
@@ -166,6 +190,7 @@ def main():
         print_rates(folder, runs)
         print_ratios_to_c(folder, runs)
         print_compiling(folder, runs)
+        print_ratios_to_tcc(folder, runs)
 
 
 main()
