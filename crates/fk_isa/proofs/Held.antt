@@ -4,6 +4,7 @@ use Rattle.std.proofs.lemmas.Bool.{eqb-true}
 use Rattle.fk_isa.specs.declared.instruction.Instruction.{Instruction}
 use Rattle.fk_isa.specs.declared.instruction.Instruction.TheVariants.{Lui, Auipc, Jal, Jalr, Beq, Bne, Blt, Bge, Bltu, Bgeu, Lb, Lh, Lw, Lbu, Lhu, Sb, Sh, Sw, Addi, Slti, Sltiu, Xori, Ori, Andi, Slli, Srli, Srai, Add, Sub, Sll, Slt, Sltu, Xor, Srl, Sra, Or, And, Mul, Mulh, Mulhsu, Mulhu, Div, Divu, Rem, Remu, Fence, Ecall, Ebreak, LrW, ScW, AmoSwapW, AmoAddW, AmoXorW, AmoAndW, AmoOrW, AmoMinW, AmoMaxW, AmoMinuW, AmoMaxuW}
 use Rattle.fk_isa.specs.Find.{row, jump_row, branch_row, load_row, store_row, left_shift_row, right_shift_row, immediate_row, base_row, other_row, product_row, operation_row, fence_row, system_row, reserved_row, word_row, atomic_row}
+use Rattle.fk_isa.specs.Found.{HasNoRow}
 use Rattle.fk_isa.specs.Row.{Row}
 use Rattle.fk_isa.proofs.Found.{found}
 use Rattle.fk_isa.specs.Bits.{bits, is_set, opcode, funct3, funct5, funct7, rd, rs1, rs2, i_immediate, s_immediate, b_immediate, u_immediate, j_immediate}
@@ -191,3 +192,10 @@ held w i e = (row_found w).row i e
 -- a table that answers what is found answers the rows
 pub table : (w : ℕ) (answer : Option Instruction) → answer ≡ row w → (i : Instruction) → (answer ≡ Some i) ↔ Row w i
 table w answer e i = (λ f. held w i (sym e ∙ f), λ r. e ∙ found w i r)
+
+lacks : (w : ℕ) (answer : Option Instruction) → row w ≡ answer → HasNoRow w → answer ≡ None
+lacks w None e h = refl
+lacks w (Some i) e h = absurd (h i (held w i e))
+
+pub none : (w : ℕ) → (row w ≡ None) ↔ HasNoRow w
+none w = (λ e i r. let f : Some i ≡ None = sym (found w i r) ∙ e in cc, λ h. lacks w (row w) refl h)

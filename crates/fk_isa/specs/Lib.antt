@@ -1,6 +1,7 @@
 pub mod Bits
 pub mod Row
 pub mod Find
+pub mod Found
 pub mod Fits
 pub mod FitsProp
 pub mod Tells

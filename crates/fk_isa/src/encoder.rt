@@ -14,6 +14,14 @@ pub fn encode(instruction: Instruction) -> u32
     ensures row { Row result instruction }
     ensures only { (word : ℕ) → word < 2 ^ 32 → Row word instruction → word ≡ result }
 {
+    placed(instruction)
+}
+
+// The fields of an instruction, each where its row has it.
+fn placed(instruction: Instruction) -> u32
+    requires { Fits instruction }
+    ensures { Row result instruction }
+{
     match instruction {
         Instruction::Lui(rd, upper) => u_format(LUI, rd, upper),
         Instruction::Auipc(rd, upper) => u_format(AUIPC, rd, upper),

@@ -3,10 +3,16 @@
 ghost use Rattle.std.specs.Prelude.{◌≡◌, ℕ, ◌<◌, ◌^◌};
 ghost use Rattle.fk_isa.specs.declared.instruction.Instruction.{Instruction};
 ghost use Rattle.fk_isa.specs.Row.{Row};
+ghost use Rattle.fk_isa.specs.Found.{FindsRow};
 ghost use Rattle.fk_isa.specs.Step.{HartState, After, step};
 ghost use Rattle.fk_isa.specs.declared.effect.Effect.TheVariants.{Trap};
 
 use crate::bus::Bus;
+
+/// What is found for a word is its row of the table, and nothing is found exactly where it has none.
+pub fn finds_row()
+    ensures { (word : ℕ) → FindsRow word }
+{}
 
 /// A word has at most one row.
 pub fn one_row()
