@@ -8,7 +8,7 @@ use crate::faults::Failed;
 
 /// A sink of bytes, as standard output.
 ///
-/// It counts its faults. The count never falls, and stands still at 2^64 - 1.
+/// It counts its faults. The count never falls: a fault raises it, or finds it at its end, 2^64 - 1.
 pub trait Sink {
     /// The faults so far.
     ghost faults: { Self → ℕ };

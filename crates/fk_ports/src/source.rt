@@ -9,7 +9,7 @@ use std::alloc::Global;
 
 /// A source of bytes, as standard input.
 ///
-/// It counts its faults. The count never falls, and stands still at 2^64 - 1.
+/// It counts its faults. The count never falls: a fault raises it, or finds it at its end, 2^64 - 1.
 pub trait Source {
     /// The faults so far.
     ghost faults: { Self → ℕ };
@@ -18,7 +18,9 @@ pub trait Source {
     ghost left: { Self → Option (List ℕ) };
 
     /// Moves the first bytes that are left to the front of `into`, and answers how many. They are
-    /// none exactly where nothing is left. It fails only by a fault, which is counted.
+    /// none exactly where nothing is left. It fails only by a fault, which is counted, and then
+    /// takes none; what `into` holds then is left open, since a reader of the system may have
+    /// written there before it failed.
     fn take(&mut self, into: &mut [u8]) -> Result<usize, Failed>
         requires { 0 < length into.old }
         ensures room { IfOk result (λ n. n ≤ length into.new) }

@@ -7,8 +7,8 @@ use crate::faults::StoreFault;
 
 /// A store of named files.
 ///
-/// It counts its faults, those of `fetch` and those of `put` apart. A count never falls, and stands
-/// still at 2^64 - 1.
+/// It counts its faults, those of `fetch` and those of `put` apart. A count never falls: a fault
+/// raises it, or finds it at its end, 2^64 - 1.
 pub trait Store {
     /// The faults of `fetch` so far.
     ghost fetch_faults: { Self → ℕ };

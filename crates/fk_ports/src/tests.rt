@@ -1,12 +1,21 @@
 //! Tests of the ports at each of their types.
 use crate::{
-    HostSink, HostSource, HostStore, MemSink, MemSource, MemStore, Sink, Source, Store, StoreFault,
-    SureSink, SureSource, SureStore, give_all, take_all,
+    Failed, HostSink, HostSource, HostStore, MemSink, MemSource, MemStore, Sink, Source, Store,
+    StoreFault, SureSink, SureSource, SureStore, give_all, take_all,
 };
 use std::alloc::{AllocError, Global};
-use std::io::Read;
+use std::io::{BufReader, Read, Write};
 use std::test::Fail;
 use std::{env, fs, io};
+
+// More bytes than go in one piece, each its place modulo 251.
+fn long_bytes(alloc: Global) -> Result<Vec<u8>, AllocError> {
+    let mut bytes = Vec::new(alloc);
+    for place in 0..200_000_u32 {
+        bytes.push((place % 251) as u8)?;
+    }
+    Ok(bytes)
+}
 
 // Whether a fetch gives these bytes.
 fn fetches<F: Store>(alloc: Global, files: &mut F, name: &str, most: usize, wanted: &[u8]) -> bool {
@@ -105,12 +114,15 @@ fn keeps_files_of_the_system(rt: HostRuntime) -> Result<(), Fail> {
     let alloc = rt.alloc();
     let mut path = env::temp_dir(&rt)?;
     path.push("fk_ports_keeps_files_of_the_system")?;
+    let bytes = long_bytes(alloc)?;
     let mut store = HostStore::make(&rt);
-    let put = store.put(path.as_str(), b"bytes");
-    let fetches = fetches(alloc, &mut store, path.as_str(), 3, b"byt");
+    let put = store.put(path.as_str(), &bytes);
+    let fetches_all = fetches(alloc, &mut store, path.as_str(), usize::MAX, &bytes);
+    let fetches_few = fetches(alloc, &mut store, path.as_str(), 3, &[0, 1, 2]);
     fs::remove_file(&rt, path.as_str())?;
     assert_eq!(rt; put, Ok(()));
-    assert!(rt; fetches);
+    assert!(rt; fetches_all);
+    assert!(rt; fetches_few);
     assert!(rt;
         fetch_faults(alloc, &mut store, path.as_str()),
         "no such file"
@@ -136,18 +148,68 @@ impl Read for BreaksOff {
 }
 
 #[test]
-fn takes_from_a_reader(rt: HostRuntime) {
+fn takes_from_a_reader(rt: HostRuntime) -> Result<(), Fail> {
     let alloc = rt.alloc();
-    let mut source = HostSource::make(b"abc".as_slice());
-    assert!(rt; takes(alloc, &mut source, 9, b"abc"));
+    let bytes = long_bytes(alloc)?;
+    // pieces of 4096 and of 904 bytes by turns
+    let reader = BufReader::with_capacity(alloc, 5000, bytes.as_slice())?;
+    let mut source = HostSource::make(reader);
+    assert!(rt; takes(alloc, &mut source, usize::MAX, &bytes));
     let mut broken = HostSource::make(BreaksOff { has_read: false });
     assert!(rt; take_faults(alloc, &mut broken, 9));
+    Ok(())
+}
+
+// Takes a thousand bytes at most at once.
+#[derive(Drop)]
+struct Narrow {
+    taken: Vec<u8>,
+}
+
+impl Write for Narrow {
+    fn write(&mut self, buf: &[u8]) -> io::Result<usize> {
+        let count = buf.len().min(1000);
+        self.taken.extend_from_slice(&buf[..count])?;
+        Ok(count)
+    }
+
+    fn flush(&mut self) -> io::Result<()> {
+        Ok(())
+    }
 }
 
 #[test]
-fn gives_to_a_writer(rt: HostRuntime) {
+fn gives_to_a_writer(rt: HostRuntime) -> Result<(), Fail> {
+    let alloc = rt.alloc();
+    let bytes = long_bytes(alloc)?;
+    let mut writer = Narrow {
+        taken: Vec::new(alloc),
+    };
+    assert!(rt; gives(&mut HostSink::make(&mut writer), &bytes));
+    assert_eq!(rt; writer.taken.as_slice(), bytes.as_slice());
     let mut room = [0; 4];
     let mut sink = HostSink::make(room.as_mut_slice());
     assert!(rt; gives(&mut sink, b"abc"));
     assert!(rt; !gives(&mut sink, b"def"), "a write that takes nothing");
+    Ok(())
+}
+
+#[test]
+fn says_why(rt: HostRuntime) -> Result<(), Fail> {
+    let alloc = rt.alloc();
+    let texts = [
+        (format!(in alloc; "{}", Failed)?, "the other side failed"),
+        (
+            format!(in alloc; "{}", StoreFault::Fault)?,
+            "the other side failed",
+        ),
+        (
+            format!(in alloc; "{}", StoreFault::Memory)?,
+            "out of memory",
+        ),
+    ];
+    for (text, wanted) in &texts {
+        assert_eq!(rt; text.as_str(), *wanted);
+    }
+    Ok(())
 }
