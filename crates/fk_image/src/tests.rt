@@ -50,6 +50,9 @@ fn all_tables_are_written_in_order(rt: HostRuntime) -> Result<(), Fail> {
     ];
     assert_eq!(rt; bytes.len(), 52);
     assert_eq!(rt; &bytes[24..], tables.as_slice());
+    let mut other_kind = bytes;
+    other_kind[32] = 0;
+    assert!(rt; matches!(read_image(alloc, &other_kind), Err(ImageFault::BadTable(0))));
     Ok(())
 }
 
@@ -74,5 +77,29 @@ fn the_first_refusal_is_answered(rt: HostRuntime) -> Result<(), Fail> {
     let mut commit = ONE_COMMIT;
     commit[36] = 0;
     assert!(rt; matches!(read_image(alloc, &commit), Err(ImageFault::BadTable(0))));
+    Ok(())
+}
+
+#[test]
+fn refusals_are_told_in_words(rt: HostRuntime) -> Result<(), Fail> {
+    let alloc = rt.alloc();
+    let texts = [
+        (ImageFault::Magic, "the bytes don't begin with FK95"),
+        (ImageFault::Version(3), "version 3 is not known"),
+        (ImageFault::Short(27, 28), "there are 27 bytes of 28"),
+        (ImageFault::LongTail(28), "bytes follow the 28 of the image"),
+        (
+            ImageFault::BadTable(0),
+            "entry 0 of the tables is past its limits",
+        ),
+        (
+            ImageFault::BadWord(2),
+            "word 2 of the header is past its limits",
+        ),
+    ];
+    for (fault, wanted) in &texts {
+        let text = format!(in alloc; "{fault}")?;
+        assert_eq!(rt; text.as_str(), *wanted);
+    }
     Ok(())
 }
