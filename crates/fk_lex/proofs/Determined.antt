@@ -1,4 +1,4 @@
--- A text has one list of tokens or one fault.
+-- Every text has exactly one list of tokens or exactly one fault.
 use Rattle.std.proofs.Common.{◌≡◌, ℕ, ◌+◌, ◌<◌, inl, inr, ⊎_elim, Option, Some, None, List, [], ◌∷◌, length, take, drop, refl, sym, ap, subst, ◌∙◌, arith}
 use Rattle.std.proofs.lemmas.Bool.{cases_lt}
 use Rattle.fk_lex.specs.declared.step.Beginning.{Beginning}
@@ -14,6 +14,7 @@ use Rattle.fk_lex.specs.Positions.{start, after, place_of}
 use Rattle.fk_lex.specs.Reading.{Spelled, fault_at, IsPiece, Cuts, tokens_in, Tokens, Faults, OneReading}
 use Rattle.fk_lex.specs.Sizes.{size_of}
 use Rattle.fk_lex.specs.Steps.{CommentTo, CommentStep, TokenStep, token_or_fault, StandsBy, Stands, beginning}
+use Rattle.fk_lex.proofs.Existence.{some_reading}
 
 -- neither of two numbers is below the other
 same_by : (m n : ℕ) → (m < n → ⊥) → (n < m → ⊥) → m ≡ n
@@ -111,4 +112,4 @@ tokens_or_fault : (text : List ℕ) (list : List Spelled) (found : LexFault) →
 tokens_or_fault text list found a b = none_found found (cut_once a.0 b.0 start text None (Some found) a.1 b.1).1
 
 pub one_reading : OneReading
-one_reading = record { tokens = tokens_once; faults = faults_once; apart = tokens_or_fault }
+one_reading = record { some = some_reading; tokens = tokens_once; faults = faults_once; apart = tokens_or_fault }

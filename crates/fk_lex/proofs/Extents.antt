@@ -39,7 +39,7 @@ Within (Token n kind) text = (0 < n) × (n ≤ length text)
 Within (Fault n kind) text = n < length text
 
 -- an index that has a byte other than 0 is inside the text
-byte_within : (text : List ℕ) (i c : ℕ) → get_or text i 0 ≡ c → 0 < c → i < length text
+pub byte_within : (text : List ℕ) (i c : ℕ) → get_or text i 0 ≡ c → 0 < c → i < length text
 byte_within text i c is some =
     ⊎_elim (λ inside. inside) (λ past. let none = get_or_past text i 0 past in absurd (omega arith)) (cases_lt i (length text))
 

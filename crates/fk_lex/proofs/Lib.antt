@@ -1,4 +1,6 @@
+pub mod Comments
 pub mod Determined
+pub mod Existence
 pub mod Extents
 pub mod Fronts
 pub mod Literals

@@ -1,4 +1,4 @@
--- Include lines and texts are made of what they should be.
+-- Comments, include lines and texts are made of what they should be.
 use Rattle.std.proofs.Common.{◌≡◌, ℕ, ◌+◌, ◌==◌, ◌&&◌, ◌||◌, ◌⊎◌, inl, inr, ⊎_elim, Bool, true, false, Option, Some, None, List, [], ◌∷◌, ◌++◌, length, take, drop, get_or, refl, sym, ap, subst, ◌∙◌, arith, if◌then◌else◌, take-append-drop, codes}
 use Rattle.std.specs.List.{prefix_len, list_all}
 use Rattle.std.specs.Str.{bytes_eq}
@@ -10,6 +10,7 @@ use Rattle.fk_lex.specs.declared.token.TokenKind.TheVariants.{Text}
 use Rattle.fk_lex.specs.Bytes.{is_blank, is_plain, escape_value}
 use Rattle.fk_lex.specs.Spellings.{AreBlank, IsInclude, Part, Plain, Escape, ArePartsOfText, bytes_of, IsTextBody, Spellings}
 use Rattle.fk_lex.specs.Steps.{is_named, is_header, is_include, is_escape, is_part, is_some_byte, part_length, farther, closing, first_bad, closed, text_of, text_step}
+use Rattle.fk_lex.proofs.Comments.{commented, comments, unclosed, opened, line_commented, line_comments}
 use Rattle.fk_lex.proofs.Fronts.{all_longest, length_more, length_none}
 use Rattle.fk_lex.proofs.Literals.{closing_step, bad_step, if_true, if_false}
 
@@ -212,4 +213,15 @@ ends body n is =
     ap (λ e. text_of e (first_bad body)) end ∙ ap (closed (length (bytes_of is.0))) good ∙ ap (λ k. Token k Text) size
 
 pub spellings : Spellings
-spellings = record { included = included; includes = includes; ended = ended; ends = ends }
+spellings = record {
+  commented = commented;
+  comments = comments;
+  unclosed = unclosed;
+  opened = opened;
+  line_commented = line_commented;
+  line_comments = line_comments;
+  included = included;
+  includes = includes;
+  ended = ended;
+  ends = ends;
+}

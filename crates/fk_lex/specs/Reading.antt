@@ -1,5 +1,5 @@
 -- The tokens of a text, or its first fault.
-use Rattle.std.specs.Prelude.{◌≡◌, ℕ, ◌<◌, Option, Some, None, List, [], ◌∷◌, ◌++◌, length, take, drop}
+use Rattle.std.specs.Prelude.{◌≡◌, ℕ, ◌<◌, ◌⊎◌, Option, Some, None, List, [], ◌∷◌, ◌++◌, length, take, drop}
 use Rattle.fk_syntax.specs.declared.place.Place.{Place}
 use Rattle.fk_lex.specs.declared.token.TokenKind.{TokenKind}
 use Rattle.fk_lex.specs.declared.token.LexFault.{LexFault}
@@ -60,8 +60,9 @@ Tokens text tokens = (pieces : List Step) × Cuts pieces start text None × (tok
 abbrev pub Faults : List ℕ → LexFault → Type 0
 Faults text found = (pieces : List Step) × Cuts pieces start text (Some found)
 
--- a text has one list of tokens or one fault
+-- every text has exactly one list of tokens or exactly one fault
 pub record OneReading : Type 0 where
+  pub some : (text : List ℕ) → ((list : List Spelled) × Tokens text list) ⊎ ((found : LexFault) × Faults text found)
   pub tokens : (text : List ℕ) (list other : List Spelled) → Tokens text list → Tokens text other → list ≡ other
   pub faults : (text : List ℕ) (found other : LexFault) → Faults text found → Faults text other → found ≡ other
   pub apart : (text : List ℕ) (list : List Spelled) (found : LexFault) → Tokens text list → Faults text found → ⊥

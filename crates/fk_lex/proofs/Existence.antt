@@ -1,0 +1,130 @@
+-- Something stands at every position of a text, and so the text has tokens or a fault.
+use Rattle.std.proofs.Common.{◌≡◌, ℕ, zero, suc, ◌+◌, ◌<◌, ◌≤◌, ◌⊎◌, inl, inr, ⊎_elim, Option, Some, None, List, [], ◌∷◌, length, take, drop, get_or, refl, subst, arith}
+use Rattle.std.proofs.lemmas.Bool.{cases_lt}
+use Rattle.fk_lex.specs.declared.step.Beginning.{Beginning}
+use Rattle.fk_lex.specs.declared.step.Beginning.TheVariants as begins
+use Rattle.fk_lex.specs.declared.step.FaultKind.TheVariants.{BadByte, OpenComment}
+use Rattle.fk_lex.specs.declared.step.Step.{Step}
+use Rattle.fk_lex.specs.declared.step.Step.TheVariants.{Gap, Token, Fault}
+use Rattle.fk_lex.specs.declared.token.TokenKind.{TokenKind}
+use Rattle.fk_lex.specs.declared.token.LexFault.{LexFault}
+use Rattle.fk_lex.specs.declared.position.Position.{Position}
+use Rattle.fk_lex.specs.Kinds.{kind_of}
+use Rattle.fk_lex.specs.Positions.{start, after, place_of}
+use Rattle.fk_lex.specs.Reading.{Spelled, fault_at, Cuts, tokens_in, Tokens, Faults}
+use Rattle.fk_lex.specs.Steps.{EndsAt, CommentTo, CommentStep, TokenStep, token_or_fault, line_length, directive_step, character_step, text_step, StandsBy, Stands, beginning}
+use Rattle.fk_lex.proofs.Extents.{byte_within}
+use Rattle.fk_lex.proofs.Reached.{reached_less, empty_list}
+
+-- comments
+
+same_or_not : (c d : ℕ) → (c ≡ d) ⊎ (c ≡ d → ⊥)
+same_or_not c d =
+    ⊎_elim (λ less. inr (λ same. absurd (omega arith))) (λ not_less. ⊎_elim (λ less. inr (λ same. absurd (omega arith))) (λ not_more. inl (omega arith)) (cases_lt d c)) (cases_lt c d)
+
+both_or_not : {P Q : Type 0} → P ⊎ (P → ⊥) → Q ⊎ (Q → ⊥) → (P × Q) ⊎ (P × Q → ⊥)
+both_or_not (inl p) (inl q) = inl (p, q)
+both_or_not (inl p) (inr never) = inr (λ both. never both.1)
+both_or_not (inr never) _ = inr (λ both. never both.0)
+
+ends_or_not : (text : List ℕ) (k : ℕ) → EndsAt text k ⊎ (EndsAt text k → ⊥)
+ends_or_not text k = both_or_not (same_or_not (get_or text k 0) 42) (same_or_not (get_or text (k + 1) 0) 47)
+
+-- the first end of a comment, or none before this index
+abbrev EndBefore : List ℕ → ℕ → Type 0
+EndBefore text k = ((n : ℕ) × CommentTo text n) ⊎ ((m : ℕ) → 2 ≤ m → m < k → EndsAt text m → ⊥)
+
+end_next : (text : List ℕ) (k : ℕ) → EndBefore text k → (k < 2) ⊎ (2 ≤ k) → EndsAt text k ⊎ (EndsAt text k → ⊥) → EndBefore text (suc k)
+end_next text k (inl found) size here = inl found
+end_next text k (inr none) (inl small) here = inr (λ m behind below ends. absurd (omega arith))
+end_next text k (inr none) (inr large) (inl here) = inl (k, record { behind = large; ends = here; next = none })
+end_next text k (inr none) (inr large) (inr other) =
+    inr (λ m behind below ends. ⊎_elim (λ less. none m behind less ends) (λ past. let same : m ≡ k = omega arith in other (subst (EndsAt text) same ends)) (cases_lt m k))
+
+end_before : (text : List ℕ) (k : ℕ) → EndBefore text k
+end_before text zero = inr (λ m behind below ends. absurd (omega arith))
+end_before text (suc k) = end_next text k (end_before text k) (cases_lt k 2) (ends_or_not text k)
+
+comment_by : (text : List ℕ) → EndBefore text (length text) → (s : Step) × CommentStep text s
+comment_by text (inl found) = (Gap (found.0 + 2), inl (found.0, found.1, refl))
+comment_by text (inr none) =
+    (Fault 0 OpenComment, inr (λ m behind ends. none m behind (byte_within text m 42 ends.0 (omega arith)) ends, refl))
+
+-- tokens
+
+-- the longest of the fronts below this length that spell a token, or none
+abbrev LongestBelow : List ℕ → ℕ → Type 0
+LongestBelow text k =
+    ((n : ℕ) × (kind : TokenKind) × (n < k) × (kind_of (take n text) ≡ Some kind) × ((m : ℕ) → n < m → m < k → kind_of (take m text) ≡ None))
+    ⊎ ((m : ℕ) → m < k → kind_of (take m text) ≡ None)
+
+none_at : (text : List ℕ) (k m : ℕ) → kind_of (take k text) ≡ None → m ≡ k → kind_of (take m text) ≡ None
+none_at text k m none same = let P : ℕ → Type 0 = λ i. kind_of (take i text) ≡ None in subst P (omega arith) none
+
+longest_next : (text : List ℕ) (k : ℕ) → LongestBelow text k → (found : Option TokenKind) → kind_of (take k text) ≡ found → LongestBelow text (suc k)
+longest_next text k before (Some kind) is = inl (k, kind, omega arith, is, λ m more below. absurd (omega arith))
+longest_next text k (inl before) None is =
+    let inside = before.2 in
+    inl (before.0, before.1, omega arith, before.3, λ m more below. ⊎_elim (λ less. before.4 m more less) (λ past. none_at text k m is (omega arith)) (cases_lt m k))
+longest_next text k (inr none) None is =
+    inr (λ m below. ⊎_elim (λ less. none m less) (λ past. none_at text k m is (omega arith)) (cases_lt m k))
+
+longest_below : (text : List ℕ) (k : ℕ) → LongestBelow text k
+longest_below text zero = inr (λ m below. absurd (omega arith))
+longest_below text (suc k) = longest_next text k (longest_below text k) (kind_of (take k text)) refl
+
+token_by : (text : List ℕ) → LongestBelow text (suc (length text)) → (s : Step) × TokenStep text s
+token_by text (inl found) =
+    let inside = found.2 in (
+      token_or_fault text found.0 found.1,
+      inl (found.0, found.1, record { within = omega arith; spells = found.3; longest = λ m more within. found.4 m more (omega arith) }, refl),
+    )
+token_by text (inr none) = (Fault 0 BadByte, inr (λ m within. none m (omega arith), refl))
+
+-- whatever a text begins with
+
+stands_by : (b : Beginning) (at : Position) (text : List ℕ) → (s : Step) × StandsBy b at text s
+stands_by begins.Blank at text = (Gap 1, refl)
+stands_by begins.Comment at text = comment_by text (end_before text (length text))
+stands_by begins.LineComment at text = (Gap (line_length text), refl)
+stands_by begins.Directive at text = (directive_step at.only_blanks text, refl)
+stands_by begins.Character at text = (character_step text, refl)
+stands_by begins.Text at text = (text_step text, refl)
+stands_by begins.Other at text = token_by text (longest_below text (suc (length text)))
+
+something_stands : (at : Position) (text : List ℕ) → (s : Step) × Stands at text s
+something_stands at text = stands_by (beginning text) at text
+
+-- a text is cut up to its end or up to a fault
+abbrev IsCut : Position → List ℕ → Type 0
+IsCut at text = (pieces : List Step) × (end : Option LexFault) × Cuts pieces at text end
+
+cut_on : (size : ℕ) (at : Position) (text : List ℕ) → 0 < length text → length text ≤ suc size → (step : Step) → Stands at text step → ((at : Position) (text : List ℕ) → length text ≤ size → IsCut at text) → IsCut at text
+cut_on size at text some small (Gap n) stands onward =
+    let less = reached_less at text (Gap n) some stands tt in
+    let rest = onward (after at (take n text)) (drop n text) (omega arith) in
+    (Gap n ∷ rest.0, rest.1, (some, stands, tt, rest.2))
+cut_on size at text some small (Token n kind) stands onward =
+    let less = reached_less at text (Token n kind) some stands tt in
+    let rest = onward (after at (take n text)) (drop n text) (omega arith) in
+    (Token n kind ∷ rest.0, rest.1, (some, stands, tt, rest.2))
+cut_on size at text some small (Fault n kind) stands onward =
+    ([], Some (fault_at kind (place_of (after at (take n text)))), (n, kind, some, stands, refl))
+
+cut_more : (size : ℕ) (at : Position) (text : List ℕ) → length text ≤ suc size → ((at : Position) (text : List ℕ) → length text ≤ size → IsCut at text) → IsCut at text
+cut_more size at [] small onward = ([], None, refl)
+cut_more size at (c ∷ cs) small onward =
+    let stands = something_stands at (c ∷ cs) in
+    cut_on size at (c ∷ cs) (omega arith) small stands.0 stands.1 onward
+
+cut : (size : ℕ) (at : Position) (text : List ℕ) → length text ≤ size → IsCut at text
+cut zero at text small = ([], None, empty_list text (omega arith))
+cut (suc size) at text small = cut_more size at text small (λ at text small. cut size at text small)
+
+reading_of : (text : List ℕ) (pieces : List Step) (end : Option LexFault) → Cuts pieces start text end → ((list : List Spelled) × Tokens text list) ⊎ ((found : LexFault) × Faults text found)
+reading_of text pieces None cuts = inl (tokens_in pieces start text, (pieces, cuts, refl))
+reading_of text pieces (Some found) cuts = inr (found, (pieces, cuts))
+
+-- a text has tokens or a fault
+pub some_reading : (text : List ℕ) → ((list : List Spelled) × Tokens text list) ⊎ ((found : LexFault) × Faults text found)
+some_reading text = let whole = cut (length text) start text (omega arith) in reading_of text whole.0 whole.1 whole.2
