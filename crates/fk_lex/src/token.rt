@@ -6,7 +6,7 @@ use thiserror::Error;
 
 /// What a token is: a word that is no keyword, a number with its value and whether its type is
 /// `unsigned`, a text, a keyword or a sign.
-#[derive(Clone, Copy, Debug)]
+#[derive(Clone, Copy, PartialEq, Eq, Debug)]
 pub enum TokenKind {
     Word,
     Number(u32, bool),
