@@ -1,3 +1,3 @@
-pub mod Soundness
+pub mod Visits
 pub mod Views
 pub mod ProgramViews

@@ -4,3 +4,4 @@ pub mod Program
 pub mod ProgramView
 pub mod Nodes
 pub mod WellFormed
+pub mod Visits

@@ -1,4 +1,4 @@
--- The indices of tokens that a program holds.
+-- The indices of tokens that a program holds, in the order in which the tokens stand in its text.
 use Rattle.std.specs.Prelude.{List, [], ◌∷◌, ◌++◌, Option, Some, None}
 use Rattle.fk_syntax.specs.declared.nodes.Index.{Index}
 use Rattle.fk_syntax.specs.declared.nodes.Index.TheVariants.{Node, StructName}
@@ -30,8 +30,8 @@ abbrev mutual
   tree_indices (t.Cast spot type operand) = Node spot.at ∷ type_indices type ++ tree_indices operand
   tree_indices (t.Chain first links) = tree_indices first ++ links_indices links
   tree_indices (t.Postfix whole suffixes) = tree_indices whole ++ suffixes_indices suffixes
-  tree_indices (t.Assign spot sign target value) = Node spot.at ∷ tree_indices target ++ tree_indices value
-  tree_indices (t.Choose spot condition first second) = Node spot.at ∷ tree_indices condition ++ tree_indices first ++ tree_indices second
+  tree_indices (t.Assign spot sign target value) = tree_indices target ++ (Node spot.at ∷ tree_indices value)
+  tree_indices (t.Choose spot condition first second) = tree_indices condition ++ (Node spot.at ∷ tree_indices first) ++ tree_indices second
 
   pub links_indices : Links → List Index
   links_indices t.no_links = []
