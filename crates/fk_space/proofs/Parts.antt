@@ -1,8 +1,7 @@
 -- Where the parts of a split lie.
-use Rattle.std.proofs.Common.{◌≡◌, ℕ, suc, ◌+◌, ◌-◌, ◌*◌, ◌/◌, ◌≤◌, ◌<◌, nat_lt, Option, Some, None, IsSome, if◌then◌else◌, arith, refl}
+use Rattle.std.proofs.Common.{◌≡◌, ℕ, suc, ◌+◌, ◌-◌, ◌*◌, ◌/◌, ◌≤◌, ◌<◌, Some, IsSome, arith}
 use Rattle.std.proofs.Math.Nat.{mul-div-le, mul-le-mul_right}
-use Rattle.fk_space.specs.Space.{Space, IsSpace, free, equal_part, share, child}
-use Rattle.fk_space.specs.Laws.{IsSplit, IsPart}
+use Rattle.fk_space.specs.Space.{Space, free, equal_part, share}
 
 -- the words kept back are free, and a share has at least 16
 pub record IsRoomy (s : Space) (k : ℕ) : Type 0 where

@@ -1,5 +1,5 @@
 -- What is so of every split of a space, and of every heap.
-use Rattle.std.specs.Prelude.{◌≡◌, ℕ, ◌+◌, ◌-◌, ◌*◌, ◌≤◌, ◌<◌, Some, None}
+use Rattle.std.specs.Prelude.{◌≡◌, ℕ, ◌+◌, ◌*◌, ◌≤◌, ◌<◌, Some, None}
 use Rattle.fk_space.specs.Space.{Space, IsSpace, share, child, heap}
 
 -- a split of a space into k parts, each of so many words

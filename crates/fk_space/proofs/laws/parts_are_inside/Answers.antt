@@ -1,5 +1,5 @@
 -- The last of the equal parts ends within the free words.
-use Rattle.std.proofs.Common.{ℕ, ◌<◌, IsSome, Some, subst, sym, arith}
+use Rattle.std.proofs.Common.{ℕ, ◌<◌, IsSome, arith}
 use Rattle.fk_space.specs.Space.{Space, share, child}
 use Rattle.fk_space.specs.Laws.{IsSplit, IsPart}
 use Rattle.fk_space.proofs.Parts.{roomy_of, equal_of, part_ends}
