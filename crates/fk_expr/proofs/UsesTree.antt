@@ -201,9 +201,9 @@ chosen_count : (C : Count) (condition : Tree) (o : Option (Placed × (Tree × (P
     → tree_count C (chosen condition o) k ≤ tree_count C condition k + if_some (both by_place (both (tree_count C) (both uncounted (tree_count C)))) o k
 chosen_count C condition None k = omega arith
 chosen_count C condition (Some x) k =
-    let a = more C x.0.at ((tree_indices condition ++ tree_indices x.1.0) ++ tree_indices x.1.1.1) k in
-    let b = C.append (tree_indices condition ++ tree_indices x.1.0) (tree_indices x.1.1.1) k in
-    let c = C.append (tree_indices condition) (tree_indices x.1.0) k in
+    let a = C.append (tree_indices condition ++ (Node x.0.at ∷ tree_indices x.1.0)) (tree_indices x.1.1.1) k in
+    let b = C.append (tree_indices condition) (Node x.0.at ∷ tree_indices x.1.0) k in
+    let c = more C x.0.at (tree_indices x.1.0) k in
     omega (arith, a, b, c)
 
 pub held_choice : (C : Count) (D : Deeper) → HeldDeeper C D → (l : ℕ) → Held (g.choice D l) (tree_count C)
@@ -218,7 +218,10 @@ held_choice C D H l =
 
 assigned_count : (C : Count) (target : Tree) (o : Option ((Placed × Sign) × Tree)) (k : ℕ) → tree_count C (assigned target o) k ≤ tree_count C target k + if_some (both by_first (tree_count C)) o k
 assigned_count C target None k = omega arith
-assigned_count C target (Some x) k = let a = more_two C x.0.0.at (tree_indices target) (tree_indices x.1) k in omega (arith, a)
+assigned_count C target (Some x) k =
+    let a = C.append (tree_indices target) (Node x.0.0.at ∷ tree_indices x.1) k in
+    let b = more C x.0.0.at (tree_indices x.1) k in
+    omega (arith, a, b)
 
 pub held_assignment : (C : Count) (D : Deeper) → HeldDeeper C D → (l : ℕ) → Held (g.assignment D l) (tree_count C)
 held_assignment C D H l =
