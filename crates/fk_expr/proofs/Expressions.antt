@@ -1,8 +1,7 @@
 -- Expressions are read as the grammar says, at each level and with each bound on repetitions.
 use Rattle.std.proofs.Common.{◌≡◌, ℕ, zero, suc, ◌+◌, ◌-◌, ◌≤◌, List, length, inl, inr, refl, arith}
-use Rattle.fk_syntax.specs.Tree.{Tree}
-use Rattle.fk_expr.specs.Languages.{Placed, Stretch, tokens_of, nothing}
-use Rattle.fk_expr.specs.Reads.{Reads, Spells, IsShallow, most_levels}
+use Rattle.fk_expr.specs.Languages.{Placed, nothing}
+use Rattle.fk_expr.specs.Reads.{Reads, most_levels}
 use Rattle.fk_expr.specs.Grammar.{deeper, Comma, Assignment}
 use Rattle.fk_expr.specs.Reading.{Reader, inner, begins_suffix, begins_expression, read_comma, read_assignment, read_choice, read_prefix}
 use Rattle.fk_expr.proofs.Sets.{Kinds}
@@ -13,7 +12,7 @@ use Rattle.fk_expr.proofs.Followers.{goes_choice, goes_assignment, goes_comma}
 use Rattle.fk_expr.proofs.Inner.{Inner}
 use Rattle.fk_expr.proofs.Prefixes.{reads_prefix}
 use Rattle.fk_expr.proofs.Operands.{reads_choice, reads_assignment_at, reads_comma_at}
-use Rattle.fk_expr.proofs.Longest.{Faithful, reads, one_value}
+use Rattle.fk_expr.proofs.Longest.{Faithful, reads}
 
 -- a language with no stretch, where there is no room
 reads_nothing : {room : Type 0} {A : Type 0} (P : ℕ → Reader A) (level : ℕ) (first goes_on : Kinds) → (room → ⊥) → IsRead nothing P level first goes_on room
@@ -108,13 +107,3 @@ reads_comma level most ts h fits = reads (faithful_comma level h) most ts fits
 pub reads_assignment : (level most : ℕ) (ts : List Placed) → level ≤ most_levels → length ts ≤ most
     → Reads (Assignment level) ts (read_assignment most (inner most (most_levels - level)) ts)
 reads_assignment level most ts h fits = reads (faithful_assignment level h) most ts fits
-
--- the same tokens, nested within the bound, spell one tree
-pub one_comma : (level : ℕ) → level ≤ most_levels → (s t : Stretch) (a b : Tree) → Spells (Comma level) s a → Spells (Comma level) t b
-    → tokens_of s ≡ tokens_of t → IsShallow s → IsShallow t → a ≡ b
-one_comma level h = one_value (faithful_comma level h)
-
--- and one assignment
-pub one_assignment : (level : ℕ) → level ≤ most_levels → (s t : Stretch) (a b : Tree) → Spells (Assignment level) s a → Spells (Assignment level) t b
-    → tokens_of s ≡ tokens_of t → IsShallow s → IsShallow t → a ≡ b
-one_assignment level h = one_value (faithful_assignment level h)

@@ -12,6 +12,7 @@ pub mod Shapes
 pub mod Many
 pub mod Opened
 pub mod Longest
+pub mod Determined
 pub mod EachKind
 pub mod Productions
 pub mod TypeNames

@@ -1,13 +1,12 @@
 -- What is read exactly is read as far as it goes: from exact readers to what their contracts say.
-use Rattle.std.proofs.Common.{◌≡◌, ℕ, ◌+◌, ◌≤◌, ◌<◌, List, [], ◌∷◌, ◌++◌, Ok, Err, length, refl, sym, ap, ◌∙◌, subst, append-nil, append_assoc, arith, length-append, le-leb}
+use Rattle.std.proofs.Common.{◌≡◌, ℕ, ◌+◌, ◌≤◌, ◌<◌, List, [], ◌∷◌, ◌++◌, Ok, Err, length, refl, sym, ap, ◌∙◌, subst, append-nil, append_assoc, arith, length-append}
 use Rattle.std.proofs.lemmas.List.{append_cancel_right}
-use Rattle.std.proofs.lemmas.List.Elements.{All-head, All-tail}
 use Rattle.fk_expr.specs.Languages.{Placed, Marked, Stretch, tokens_of}
-use Rattle.fk_expr.specs.Reads.{Unexpected, EndOfText, Nesting, Answer, Family, Spells, Spell, Begins, Begin, IsShallow, most_levels, ReadsValue, ReadsDeep, Reads}
+use Rattle.fk_expr.specs.Reads.{Unexpected, EndOfText, Nesting, Answer, Family, Spells, Spell, Begins, Begin, IsShallow, most_levels, Reads}
 use Rattle.fk_expr.specs.Reading.{Reader}
 use Rattle.fk_expr.proofs.Sets.{Kinds}
 use Rattle.fk_expr.proofs.Exact.{Goes, Sound, Stands, Local, Exact, from_deep, settled_by, settled}
-use Rattle.fk_expr.proofs.Stretches.{tokens-append, from_deep-shallow, from_deep-past, settled_read}
+use Rattle.fk_expr.proofs.Stretches.{tokens-append, from_deep-shallow, from_deep-past, from_deep-skip, settled_read}
 
 -- readers read each language of a family exactly, and one bound leaves room
 pub record Faithful {A : Type 0} (L : Family A) (P : ℕ → Reader A) (goes_on : Kinds) (room : ℕ → Type 0) : Type 0 where
@@ -37,7 +36,7 @@ not_ended {A} s a e = by (from_deep s) e
 
 -- ---- a stretch of any bound is read
 
-whole_read : {A : Type 0} (L : Family A) (P : ℕ → Reader A) (goes_on : Kinds) (room : ℕ → Type 0) → Faithful L P goes_on room
+pub whole_read : {A : Type 0} (L : Family A) (P : ℕ → Reader A) (goes_on : Kinds) (room : ℕ → Type 0) → Faithful L P goes_on room
     → (most bound : ℕ) (s : Stretch) (a : A) (ts : List Placed) → L bound s a → tokens_of s ≡ ts → length ts ≤ most → P most ts ≡ settled s a []
 whole_read L P goes_on room w most bound s a ts l e fits =
     let all : tokens_of s ++ [] ≡ ts = append-nil (tokens_of s) ∙ e in
@@ -186,39 +185,22 @@ not_unexpected {A} L s a front t others w e none =
     let c = cut_stretch s (front ++ t ∷ []) others (e ∙ sym (append_assoc front (t ∷ []) others)) in
     none (c.0, c.3, (c.1, a, subst (λ z. Spells L z a) c.2 w))
 
--- the first token past the bound on levels
-from_deep-behind : (s : Stretch) (m : Marked) (t : Stretch) → IsShallow s → most_levels < m.level → from_deep (s ++ m ∷ t) ≡ m ∷ t
-from_deep-behind [] m t h past = from_deep-past m t past
-from_deep-behind (n ∷ s) m t h past =
-    rw (le-leb n.level most_levels (All-head (λ m. m.level ≤ most_levels) n s h))
-    (from_deep-behind s m t (All-tail (λ m. m.level ≤ most_levels) n s h) past)
-
--- no token of a stretch that nests within the bound opens a level past it
-pub not_deep : {A : Type 0} {L : Family A} {P : ℕ → Reader A} {goes_on : Kinds} {room : ℕ → Type 0} → Faithful L P goes_on room
-    → (ts : List Placed) (a : A) (rest : List Placed) → ReadsValue L ts a [] → ReadsDeep L ts rest → ⊥
-not_deep {A} {L} {P} {goes_on} {room} w ts a rest v d = by d.begins.0 d.begins.1 d.begins.2.0 d.begins.2.1
-  where
-    front : List Placed
-    front = tokens_of d.stretch
-
-    all : tokens_of v.stretch ≡ front ++ d.deep.token ∷ d.others
-    all = sym (append-nil (tokens_of v.stretch)) ∙ sym v.longest.first ∙ d.first ∙ ap (λ z. front ++ z) d.next
-
-    by : (more : Stretch) (b : A) (bound : ℕ) → L bound ((d.stretch ++ d.deep ∷ []) ++ more) b → ⊥
-    by more b bound l =
-        let t : Placed = d.deep.token in
-        let tail : List Placed = tokens_of more in
-        let most : ℕ = length (front ++ t ∷ d.others) + length (front ++ t ∷ tail) in
-        let spelled : L bound (d.stretch ++ d.deep ∷ more) b = subst (λ s. L bound s b) (append_assoc d.stretch (d.deep ∷ []) more) l in
-        let deep : P most (front ++ t ∷ tail) ≡ Err (Nesting (t ∷ tail)) =
-        whole_read L P goes_on room w most bound (d.stretch ++ d.deep ∷ more) b (front ++ t ∷ tail) spelled (tokens-append d.stretch (d.deep ∷ more)) (omega arith)
-        ∙ ap (λ s. settled_by s b []) (from_deep-behind d.stretch d.deep more d.shallow d.past)
-        ∙ ap (λ z. Err (Nesting (t ∷ z))) (append-nil tail) in
-        let stands : Stands most (P most) (front ++ t ∷ tail) t tail (λ z. Err (Nesting z)) =
-        subst (λ z. Local most (P most) (front ++ t ∷ tail) z) deep (((w.exact w.enough).exact most).local w.has_room (front ++ t ∷ tail) (omega arith)) in
-        let same : stands.front ≡ front = append_cancel_right stands.front front (t ∷ tail) (sym stands.is) in
-        let stays : P most (front ++ t ∷ d.others) ≡ Err (Nesting (t ∷ d.others)) = rw same at (stands.stays d.others (rw same (omega arith))) in
-        let read : P most (front ++ t ∷ d.others) ≡ Ok (a, []) =
-        rw (from_deep-shallow v.stretch v.shallow) at
-        (whole_read L P goes_on room w most v.spelled.0 v.stretch a (front ++ t ∷ d.others) v.spelled.1 all (omega arith)) in
-        absurd (cc)
+-- where a token opens a level past the bound, and none before it does, that is answered, whatever comes behind it
+pub read_deep : {A : Type 0} {L : Family A} {P : ℕ → Reader A} {goes_on : Kinds} {room : ℕ → Type 0} → Faithful L P goes_on room
+    → (s : Stretch) (m : Marked) → Begins L (s ++ m ∷ []) → IsShallow s → most_levels < m.level
+    → (least : ℕ) (others : List Placed) → length (tokens_of s ++ m.token ∷ others) ≤ least → P least (tokens_of s ++ m.token ∷ others) ≡ Err (Nesting (m.token ∷ others))
+read_deep {A} {L} {P} {goes_on} {room} w s m b shallow past least others fits =
+    let front : List Placed = tokens_of s in
+    let t : Placed = m.token in
+    let tail : List Placed = tokens_of b.0 in
+    let most : ℕ = least + length (front ++ t ∷ tail) in
+    let spelled : L b.2.0 (s ++ m ∷ b.0) b.1 = subst (λ z. L b.2.0 z b.1) (append_assoc s (m ∷ []) b.0) b.2.1 in
+    let deep : P most (front ++ t ∷ tail) ≡ Err (Nesting (t ∷ tail)) =
+    whole_read L P goes_on room w most b.2.0 (s ++ m ∷ b.0) b.1 (front ++ t ∷ tail) spelled (tokens-append s (m ∷ b.0)) (omega arith)
+    ∙ ap (λ z. settled_by z b.1 []) (from_deep-skip s (m ∷ b.0) shallow ∙ from_deep-past m b.0 past)
+    ∙ ap (λ z. Err (Nesting (t ∷ z))) (append-nil tail) in
+    let stands : Stands most (P most) (front ++ t ∷ tail) t tail (λ z. Err (Nesting z)) =
+    subst (λ z. Local most (P most) (front ++ t ∷ tail) z) deep (((w.exact w.enough).exact most).local w.has_room (front ++ t ∷ tail) (omega arith)) in
+    let same : stands.front ≡ front = append_cancel_right stands.front front (t ∷ tail) (sym stands.is) in
+    let stays : P most (front ++ t ∷ others) ≡ Err (Nesting (t ∷ others)) = rw same at (stands.stays others (rw same (omega arith))) in
+    sym ((w.exact w.enough).same w.has_room least most (omega arith) (front ++ t ∷ others) fits) ∙ stays

@@ -1,5 +1,5 @@
 -- Stretches one after the other: their tokens, their levels, and what has to be answered of them.
-use Rattle.std.proofs.Common.{◌≡◌, ◌+◌, ◌≤◌, ◌<◌, List, [], ◌∷◌, ◌++◌, Bool, true, false, Ok, Err, length, nat_le, cond, ◌⊎◌, inl, inr, refl, ap, ◌∙◌, append_assoc, arith, length-append, le-leb}
+use Rattle.std.proofs.Common.{◌≡◌, ◌+◌, ◌≤◌, ◌<◌, List, [], ◌∷◌, ◌++◌, Bool, true, false, Ok, Err, length, nat_le, cond, ◌⊎◌, inl, inr, refl, ap, ◌∙◌, append_assoc, arith, length-append, le-leb, le_refl}
 use Rattle.std.proofs.lemmas.Bool.{lt-leb}
 use Rattle.std.proofs.lemmas.List.{map-append, length-map}
 use Rattle.std.proofs.lemmas.List.Elements.{All-append, All-nil, All-cons, All-head, All-tail}
@@ -80,6 +80,21 @@ pub from_deep-shallow : (s : Stretch) → IsShallow s → from_deep s ≡ []
 from_deep-shallow [] h = refl
 from_deep-shallow (m ∷ s) h =
     rw (le-leb m.level most_levels (All-head (λ m. m.level ≤ most_levels) m s h)) (from_deep-shallow s (All-tail (λ m. m.level ≤ most_levels) m s h))
+
+-- what is past the bound comes behind what is shallow
+pub from_deep-skip : (s t : Stretch) → IsShallow s → from_deep (s ++ t) ≡ from_deep t
+from_deep-skip [] t h = refl
+from_deep-skip (m ∷ s) t h =
+    rw (le-leb m.level most_levels (All-head (λ m. m.level ≤ most_levels) m s h)) (from_deep-skip s t (All-tail (λ m. m.level ≤ most_levels) m s h))
+
+-- it is no longer than the whole
+length-from_deep_step : (b : Bool) (m : Marked) (s : Stretch) → length (from_deep s) ≤ length s → length (cond b (from_deep s) (m ∷ s)) ≤ length (m ∷ s)
+length-from_deep_step true m s h = omega (arith, h)
+length-from_deep_step false m s h = le_refl (length (m ∷ s))
+
+pub length-from_deep : (s : Stretch) → length (from_deep s) ≤ length s
+length-from_deep [] = le_refl 0
+length-from_deep (m ∷ s) = length-from_deep_step (nat_le m.level most_levels) m s (length-from_deep s)
 
 -- a token past the bound comes first
 pub from_deep-past : (m : Marked) (s : Stretch) → most_levels < m.level → from_deep (m ∷ s) ≡ m ∷ s

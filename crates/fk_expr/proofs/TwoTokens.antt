@@ -1,5 +1,5 @@
 -- One language or another, told apart by the next two tokens.
-use Rattle.std.proofs.Common.{◌≡◌, ℕ, ◌≤◌, ◌<◌, List, [], ◌∷◌, ◌++◌, Bool, true, false, IsTrue, Ok, Err, length, ◌&&◌, ◌⊎◌, inl, inr, refl, sym, ap, ◌∙◌, subst, arith, le_refl, nat_le, cond, le-leb, append-nil}
+use Rattle.std.proofs.Common.{◌≡◌, ℕ, ◌≤◌, ◌<◌, List, [], ◌∷◌, ◌++◌, Bool, true, false, IsTrue, Ok, Err, length, ◌&&◌, ◌⊎◌, inl, inr, refl, sym, ap, ◌∙◌, subst, arith, le_refl, le-leb, append-nil}
 use Rattle.std.proofs.lemmas.Bool.{cases_lt}
 use Rattle.fk_lex.specs.declared.token.TokenKind.{TokenKind}
 use Rattle.fk_expr.specs.Languages.{Placed, Marked, Stretch, tokens_of, Language, token, making, ◌then◌, ◌or◌}
@@ -7,7 +7,7 @@ use Rattle.fk_expr.specs.Reads.{Unexpected, EndOfText, Nesting, Answer, most_lev
 use Rattle.fk_expr.specs.Reading.{Reader, next_is, either}
 use Rattle.fk_expr.proofs.Sets.{Kinds, ◌∪◌, Within, next-within, within_left, within_right}
 use Rattle.fk_expr.proofs.Exact.{Example, Shape, Sound, SoundValue, Closes, Stands, Local, IsSound, IsComplete, IsLocal, Exact, settled, settled_by, from_deep}
-use Rattle.fk_expr.proofs.Stretches.{nil_cut, from_deep-past, length-tokens}
+use Rattle.fk_expr.proofs.Stretches.{nil_cut, from_deep-past, length-from_deep, length-tokens}
 use Rattle.fk_expr.proofs.Token.{some_token}
 use Rattle.fk_expr.proofs.Or.{sound_more, IsWelcome, welcome, stays_anywhere, local_like}
 
@@ -43,14 +43,6 @@ pub starts_at_right : {A : Type 0} (L : Language A) {M : Language A} {level : �
 starts_at_right L w = record { others = w.others; value = w.value; spelled = inr w.spelled }
 
 -- ---- a token that begins a language nests too deep, or it doesn't
-
-length-from_deep_step : (b : Bool) (m : Marked) (s : Stretch) → length (from_deep s) ≤ length s → length (cond b (from_deep s) (m ∷ s)) ≤ length (m ∷ s)
-length-from_deep_step true m s h = omega (arith, h)
-length-from_deep_step false m s h = le_refl (length (m ∷ s))
-
-length-from_deep : (s : Stretch) → length (from_deep s) ≤ length s
-length-from_deep [] = le_refl 0
-length-from_deep (m ∷ s) = length-from_deep_step (nat_le m.level most_levels) m s (length-from_deep s)
 
 -- the tokens from the one that nests too deep on
 abbrev deep_of : {A : Type 0} → Answer A → List Placed

@@ -6,3 +6,4 @@ pub mod Reading
 pub mod Faults
 pub mod Ahead
 pub mod Gives
+pub mod Laws

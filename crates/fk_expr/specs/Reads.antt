@@ -77,3 +77,7 @@ Reads L tokens (Ok x) = ReadsValue L tokens x.0 x.1
 Reads L tokens (Err (Unexpected rest)) = ReadsNothing L tokens rest × (0 < length rest)
 Reads L tokens (Err EndOfText) = ReadsNothing L tokens []
 Reads L tokens (Err (Nesting rest)) = ReadsDeep L tokens rest
+
+-- a list of tokens has one answer
+abbrev pub HasOneAnswer : {A : Type 0} → Family A → Type 0
+HasOneAnswer {A} L = (tokens : List Placed) → (answer : Answer A) × Reads L tokens answer × ((other : Answer A) → Reads L tokens other → other ≡ answer)

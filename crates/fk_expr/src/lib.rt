@@ -8,6 +8,7 @@ pub mod cursor;
 mod entry;
 pub mod fault;
 pub mod kinds;
+pub mod laws;
 mod parts;
 pub mod production;
 pub mod told;
