@@ -2,7 +2,7 @@
 use Rattle.std.proofs.Common.{◌≡◌, ℕ, ◌+◌, ◌≤◌, ◌<◌, List, [], ◌∷◌, ◌++◌, Ok, Err, length, ◌⊎◌, inl, inr, refl, sym, ap, ◌∙◌, subst, append-nil, append_assoc, arith, length-append}
 use Rattle.std.proofs.lemmas.List.{append_cancel_right}
 use Rattle.fk_expr.specs.Languages.{Placed, Marked, Stretch, tokens_of}
-use Rattle.fk_expr.specs.Reads.{Unexpected, EndOfText, Nesting, Answer, Family, Begins, IsShallow, IsLongest, ReadsValue, ReadsNothing, ReadsDeep, Reads, HasOneAnswer}
+use Rattle.fk_expr.specs.Reads.{Unexpected, EndOfText, Nesting, Answer, Family, Begins, IsShallow, most_levels, IsLongest, ReadsValue, ReadsNothing, ReadsDeep, Reads, HasOneAnswer}
 use Rattle.fk_expr.specs.Reading.{Reader}
 use Rattle.fk_expr.proofs.Sets.{Kinds}
 use Rattle.fk_expr.proofs.Exact.{Stands, Local, from_deep, settled_by}
@@ -52,9 +52,9 @@ one_longest L tokens s t rest others v w =
 -- ---- the first token past the bound on levels
 
 -- no token of what begins and nests within the bound opens a level past it
-not_deep : {A : Type 0} {L : Family A} {P : ℕ → Reader A} {goes_on : Kinds} {room : ℕ → Type 0} → Faithful L P goes_on room
+not_deep : {A : Type 0} {L : Family A} {P : ℕ → Reader A} {goes_on : Kinds} {room : ℕ → Type 0} → Faithful most_levels L P goes_on room
     → (s : Stretch) (between ts rest : List Placed) → Begins L s → IsShallow s → (d : ReadsDeep L ts rest) → tokens_of s ≡ tokens_of d.stretch ++ d.deep.token ∷ between → ⊥
-not_deep {A} {L} {P} {goes_on} {room} w s between ts rest b shallow d all = by (from_deep more) (length-from_deep more) nested
+not_deep {A} {L} {P} {goes_on} {room} w s between ts rest b shallow d all = by (from_deep most_levels more) (length-from_deep most_levels more) nested
   where
     more : Stretch
     more = b.0
@@ -71,10 +71,10 @@ not_deep {A} {L} {P} {goes_on} {room} w s between ts rest b shallow d all = by (
     tokens : tokens_of (s ++ more) ≡ front ++ d.deep.token ∷ back
     tokens = tokens-append s more ∙ ap (λ z. z ++ tokens_of more) all ∙ append_assoc front (d.deep.token ∷ between) (tokens_of more)
 
-    read : P most (front ++ d.deep.token ∷ back) ≡ settled_by (from_deep more) b.1 []
-    read = whole_read L P goes_on room w most b.2.0 (s ++ more) b.1 (front ++ d.deep.token ∷ back) b.2.1 tokens (omega arith) ∙ ap (λ z. settled_by z b.1 []) (from_deep-skip s more shallow)
+    read : P most (front ++ d.deep.token ∷ back) ≡ settled_by (from_deep most_levels more) b.1 []
+    read = whole_read L P goes_on room w most b.2.0 (s ++ more) b.1 (front ++ d.deep.token ∷ back) b.2.1 tokens (omega arith) ∙ ap (λ z. settled_by z b.1 []) (from_deep-skip most_levels s more shallow)
 
-    nested : settled_by (from_deep more) b.1 [] ≡ Err (Nesting (d.deep.token ∷ back))
+    nested : settled_by (from_deep most_levels more) b.1 [] ≡ Err (Nesting (d.deep.token ∷ back))
     nested = sym read ∙ read_deep w d.stretch d.deep d.begins d.shallow d.past most back (omega arith)
 
     rest_of : Answer A → List Placed
@@ -87,7 +87,7 @@ not_deep {A} {L} {P} {goes_on} {room} w s between ts rest b shallow d all = by (
         omega (arith, ap length (ap rest_of e), length-tokens (m ∷ t) [], length-tokens more [], ap length (append-nil (tokens_of more)), length-append between (tokens_of more))
 
 -- the longest stretch nests within the bound, or a token of it opens a level past it
-pub longest_not_deep : {A : Type 0} {L : Family A} {P : ℕ → Reader A} {goes_on : Kinds} {room : ℕ → Type 0} → Faithful L P goes_on room
+pub longest_not_deep : {A : Type 0} {L : Family A} {P : ℕ → Reader A} {goes_on : Kinds} {room : ℕ → Type 0} → Faithful most_levels L P goes_on room
     → (ts : List Placed) (s : Stretch) (rest others : List Placed) → IsLongest L ts s rest → IsShallow s → ReadsDeep L ts others → ⊥
 longest_not_deep {L = L} w ts s rest others v shallow d =
     let front : Stretch = d.stretch ++ d.deep ∷ [] in
@@ -99,7 +99,7 @@ begins_front : {A : Type 0} (L : Family A) (s t : Stretch) → Begins L (s ++ t)
 begins_front L s t b = (t ++ b.0, b.1, (b.2.0, subst (λ z. L b.2.0 z b.1) (append_assoc s t b.0) b.2.1))
 
 -- the first token past the bound is one
-one_deep : {A : Type 0} {L : Family A} {P : ℕ → Reader A} {goes_on : Kinds} {room : ℕ → Type 0} → Faithful L P goes_on room
+one_deep : {A : Type 0} {L : Family A} {P : ℕ → Reader A} {goes_on : Kinds} {room : ℕ → Type 0} → Faithful most_levels L P goes_on room
     → (ts rest others : List Placed) → ReadsDeep L ts rest → ReadsDeep L ts others → rest ≡ others
 one_deep {L = L} w ts rest others v d =
     elim (twice (tokens_of v.stretch) rest (tokens_of d.stretch) others (sym v.first ∙ d.first)) [
@@ -117,7 +117,7 @@ one_deep {L = L} w ts rest others v d =
 -- ---- answers
 
 -- of tokens two answers are one
-pub one_answer : {A : Type 0} {L : Family A} {P : ℕ → Reader A} {goes_on : Kinds} {room : ℕ → Type 0} → Faithful L P goes_on room
+pub one_answer : {A : Type 0} {L : Family A} {P : ℕ → Reader A} {goes_on : Kinds} {room : ℕ → Type 0} → Faithful most_levels L P goes_on room
     → (ts : List Placed) (x y : Answer A) → Reads L ts x → Reads L ts y → x ≡ y
 one_answer {A} {L} w ts x y = by x y
   where
@@ -153,7 +153,7 @@ one_answer {A} {L} w ts x y = by x y
     by (Err (Nesting rest)) (Err (Nesting others)) v u = ap (λ z. Err (Nesting z)) (one_deep w ts rest others v u)
 
 -- tokens have one answer
-pub has_one_answer : {A : Type 0} {L : Family A} {P : ℕ → Reader A} {goes_on : Kinds} {room : ℕ → Type 0} → Faithful L P goes_on room → HasOneAnswer L
+pub has_one_answer : {A : Type 0} {L : Family A} {P : ℕ → Reader A} {goes_on : Kinds} {room : ℕ → Type 0} → Faithful most_levels L P goes_on room → HasOneAnswer L
 has_one_answer {P = P} w tokens =
     let answered = reads w (length tokens) tokens (omega arith) in
     (P (length tokens) tokens, answered, λ other r. one_answer w tokens other (P (length tokens) tokens) r answered)

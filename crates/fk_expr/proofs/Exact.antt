@@ -1,7 +1,7 @@
 -- What it means that a reader reads a language exactly, and what the stretches of a language look like.
-use Rattle.std.proofs.Common.{◌≡◌, ℕ, ◌≤◌, ◌<◌, List, [], ◌∷◌, ◌++◌, false, IsTrue, Ok, Err, length, nat_le, cond, ◌⊎◌}
+use Rattle.std.proofs.Common.{◌≡◌, ℕ, ◌≤◌, ◌<◌, List, [], ◌∷◌, ◌++◌, false, IsTrue, Ok, Err, All, length, nat_le, cond, ◌⊎◌}
 use Rattle.fk_expr.specs.Languages.{Placed, Marked, Stretch, tokens_of, Language}
-use Rattle.fk_expr.specs.Reads.{Stop, Unexpected, EndOfText, Nesting, Answer, IsShallow, most_levels}
+use Rattle.fk_expr.specs.Reads.{Stop, Unexpected, EndOfText, Nesting, Answer}
 use Rattle.fk_expr.specs.Reading.{Reader, next_is}
 use Rattle.fk_expr.proofs.Sets.{Kinds}
 
@@ -49,6 +49,10 @@ pub record LooseShape {A : Type 0} (L : Language A) (level : ℕ) (first : Kinds
 
 -- ---- what is answered is so
 
+-- the levels of a stretch are within a bound
+abbrev pub IsWithin : ℕ → Stretch → Type 0
+IsWithin levels s = All (λ m. m.level ≤ levels) s
+
 -- a stretch goes on to one of the language
 pub record Goes {A : Type 0} (L : Language A) (s : Stretch) : Type 0 where
   pub more : Stretch
@@ -56,47 +60,47 @@ pub record Goes {A : Type 0} (L : Language A) (s : Stretch) : Type 0 where
   pub spelled : L (s ++ more) value
 
 -- a stretch of the language comes first
-pub record SoundValue {A : Type 0} (L : Language A) (ts : List Placed) (a : A) (rest : List Placed) : Type 0 where
+pub record SoundValue (levels : ℕ) {A : Type 0} (L : Language A) (ts : List Placed) (a : A) (rest : List Placed) : Type 0 where
   pub stretch : Stretch
   pub is : ts ≡ tokens_of stretch ++ rest
   pub spelled : L stretch a
-  pub shallow : IsShallow stretch
+  pub shallow : IsWithin levels stretch
 
 -- a stretch comes first that goes on to one of the language
-pub record SoundStop {A : Type 0} (L : Language A) (ts : List Placed) (rest : List Placed) : Type 0 where
+pub record SoundStop (levels : ℕ) {A : Type 0} (L : Language A) (ts : List Placed) (rest : List Placed) : Type 0 where
   pub stretch : Stretch
   pub is : ts ≡ tokens_of stretch ++ rest
   pub goes : Goes L stretch
-  pub shallow : IsShallow stretch
+  pub shallow : IsWithin levels stretch
 
 -- such a stretch comes first, and its last token alone is past the bound on levels
-pub record SoundDeep {A : Type 0} (L : Language A) (ts : List Placed) (rest : List Placed) : Type 0 where
+pub record SoundDeep (levels : ℕ) {A : Type 0} (L : Language A) (ts : List Placed) (rest : List Placed) : Type 0 where
   pub stretch : Stretch
   pub deep : Marked
   pub others : List Placed
   pub is : ts ≡ tokens_of stretch ++ rest
   pub next : rest ≡ deep.token ∷ others
   pub goes : Goes L (stretch ++ deep ∷ [])
-  pub shallow : IsShallow stretch
-  pub past : most_levels < deep.level
+  pub shallow : IsWithin levels stretch
+  pub past : levels < deep.level
 
 -- what is answered of these tokens is so
-abbrev pub Sound : {A : Type 0} → Language A → List Placed → Answer A → Type 0
-Sound L ts (Ok x) = SoundValue L ts x.0 x.1
-Sound L ts (Err (Unexpected rest)) = SoundStop L ts rest × (0 < length rest)
-Sound L ts (Err EndOfText) = SoundStop L ts []
-Sound L ts (Err (Nesting rest)) = SoundDeep L ts rest
+abbrev pub Sound : (levels : ℕ) {A : Type 0} → Language A → List Placed → Answer A → Type 0
+Sound levels L ts (Ok x) = SoundValue levels L ts x.0 x.1
+Sound levels L ts (Err (Unexpected rest)) = SoundStop levels L ts rest × (0 < length rest)
+Sound levels L ts (Err EndOfText) = SoundStop levels L ts []
+Sound levels L ts (Err (Nesting rest)) = SoundDeep levels L ts rest
 
 -- of at most so many tokens each answer is so
-abbrev pub IsSound : {A : Type 0} → ℕ → Language A → Reader A → Type 0
-IsSound most L P = (ts : List Placed) → length ts ≤ most → Sound L ts (P ts)
+abbrev pub IsSound : (levels : ℕ) {A : Type 0} → ℕ → Language A → Reader A → Type 0
+IsSound levels most L P = (ts : List Placed) → length ts ≤ most → Sound levels L ts (P ts)
 
 -- ---- each stretch of the language is read
 
 -- a stretch from its first token past the bound on levels on
-abbrev pub from_deep : Stretch → Stretch
-from_deep [] = []
-from_deep (m ∷ s) = cond (nat_le m.level most_levels) (from_deep s) (m ∷ s)
+abbrev pub from_deep : (levels : ℕ) → Stretch → Stretch
+from_deep levels [] = []
+from_deep levels (m ∷ s) = cond (nat_le m.level levels) (from_deep levels s) (m ∷ s)
 
 -- what a reader has to answer of a stretch of its language, and tokens that don't go on with it
 abbrev pub settled_by : {A : Type 0} → Stretch → A → List Placed → Answer A
@@ -104,14 +108,14 @@ settled_by [] a rest = Ok (a, rest)
 settled_by (m ∷ s) a rest = Err (Nesting (tokens_of (m ∷ s) ++ rest))
 
 -- from the first token past the bound on, or where there is none, the whole
-abbrev pub settled : {A : Type 0} → Stretch → A → List Placed → Answer A
-settled s a rest = settled_by (from_deep s) a rest
+abbrev pub settled : (levels : ℕ) {A : Type 0} → Stretch → A → List Placed → Answer A
+settled levels s a rest = settled_by (from_deep levels s) a rest
 
 -- of at most so many tokens a stretch is read, where none of these kinds comes after it
-abbrev pub IsComplete : {A : Type 0} → ℕ → Language A → Reader A → Kinds → Type 0
-IsComplete {A} most L P goes_on =
+abbrev pub IsComplete : (levels : ℕ) {A : Type 0} → ℕ → Language A → Reader A → Kinds → Type 0
+IsComplete levels {A} most L P goes_on =
     (s : Stretch) (a : A) (rest : List Placed) → L s a → length (tokens_of s ++ rest) ≤ most → next_is goes_on rest ≡ false
-    → P (tokens_of s ++ rest) ≡ settled s a rest
+    → P (tokens_of s ++ rest) ≡ settled levels s a rest
 
 -- ---- an answer rests on the tokens up to the one that it names
 
@@ -154,12 +158,12 @@ IsSame most P Q = (ts : List Placed) → length ts ≤ most → Q ts ≡ P ts
 -- ---- a language is read exactly
 
 -- of at most so many tokens a reader reads a language exactly. A complete stretch goes on with these kinds alone
-pub record ExactAt {A : Type 0} (most : ℕ) (L : Language A) (P : Reader A) (goes_on : Kinds) (has_room : Type 0) : Type 0 where
-  pub sound : has_room → IsSound most L P
-  pub complete : IsComplete most L P goes_on
+pub record ExactAt (levels : ℕ) {A : Type 0} (most : ℕ) (L : Language A) (P : Reader A) (goes_on : Kinds) (has_room : Type 0) : Type 0 where
+  pub sound : has_room → IsSound levels most L P
+  pub complete : IsComplete levels most L P goes_on
   pub local : has_room → IsLocal most P
 
 -- readers, one for each bound on the tokens, read a language exactly, and the bound doesn't show
-pub record Exact {A : Type 0} (L : Language A) (P : ℕ → Reader A) (goes_on : Kinds) (has_room : Type 0) : Type 0 where
-  pub exact : (most : ℕ) → ExactAt most L (P most) goes_on has_room
+pub record Exact (levels : ℕ) {A : Type 0} (L : Language A) (P : ℕ → Reader A) (goes_on : Kinds) (has_room : Type 0) : Type 0 where
+  pub exact : (most : ℕ) → ExactAt levels most L (P most) goes_on has_room
   pub same : has_room → (most more : ℕ) → most ≤ more → IsSame most (P most) (P more)

@@ -15,7 +15,7 @@ use Rattle.fk_expr.proofs.Operands.{reads_choice, reads_assignment_at, reads_com
 use Rattle.fk_expr.proofs.Longest.{Faithful, reads}
 
 -- a language with no stretch, where there is no room
-reads_nothing : {room : Type 0} {A : Type 0} (P : ℕ → Reader A) (level : ℕ) (first goes_on : Kinds) → (room → ⊥) → IsRead nothing P level first goes_on room
+reads_nothing : {levels : ℕ} {room : Type 0} {A : Type 0} (P : ℕ → Reader A) (level : ℕ) (first goes_on : Kinds) → (room → ⊥) → IsRead levels nothing P level first goes_on room
 reads_nothing P level first goes_on no_room = record {
   shape = shape_nothing level first no_room;
   exact = record {
@@ -25,13 +25,13 @@ reads_nothing P level first goes_on no_room = record {
 }
 
 -- where so many levels are left, there are readers for the next level, or that is past the bound
-pub inner_at : {room : Type 0} (left l bound : ℕ) → left + l ≡ most_levels → (room → left + 2 ≤ bound) → Inner (deeper bound) l (λ most. inner most left) room
-inner_at zero l bound all enough = record {
+pub inner_at : {levels : ℕ} {room : Type 0} (left l bound : ℕ) → left + l ≡ levels → (room → left + 2 ≤ bound) → Inner levels (deeper bound) l (λ most. inner most left) room
+inner_at {levels} zero l bound all enough = record {
   level = omega arith;
   shapes = deeper_shapes bound (l + 1) (λ r. let h : 0 + 2 ≤ bound = enough r in omega arith);
   readers = inl (record { is = λ most. refl; past = omega arith });
 }
-inner_at {room} (suc left) l zero all enough = record {
+inner_at {levels} {room} (suc left) l zero all enough = record {
   level = omega arith;
   shapes = deeper_shapes zero (l + 1) (λ r. let h : suc left + 2 ≤ 0 = enough r in omega arith);
   readers = inr (record {
@@ -52,8 +52,8 @@ inner_at {room} (suc left) l zero all enough = record {
   where
     none : room → ⊥
     none r = let h : suc left + 2 ≤ 0 = enough r in omega arith
-inner_at {room} (suc left) l (suc bound) all enough =
-    let next : Inner (deeper bound) (l + 1) (λ most. inner most left) room =
+inner_at {levels} {room} (suc left) l (suc bound) all enough =
+    let next : Inner levels (deeper bound) (l + 1) (λ most. inner most left) room =
     inner_at left (l + 1) bound (omega arith) (λ r. let h : suc left + 2 ≤ suc bound = enough r in omega arith) in
     record {
       level = omega arith;
@@ -77,26 +77,26 @@ inner_at {room} (suc left) l (suc bound) all enough =
 -- ---- what the readers answer
 
 -- the bound on levels leaves room where so many are left
-abbrev room_at : ℕ → ℕ → Type 0
-room_at level bound = (most_levels - level) + 2 ≤ bound
+abbrev room_at : (levels : ℕ) → ℕ → ℕ → Type 0
+room_at levels level bound = (levels - level) + 2 ≤ bound
 
 -- expressions with commas are read exactly
-pub faithful_comma : (level : ℕ) → level ≤ most_levels → Faithful (Comma level) (λ most. read_comma most (inner most (most_levels - level))) goes_comma (room_at level)
-faithful_comma level h = record {
-  enough = (most_levels - level) + 2;
+pub faithful_comma : {levels : ℕ} (level : ℕ) → level ≤ levels → Faithful levels (Comma level) (λ most. read_comma most (inner most (levels - level))) goes_comma (room_at levels level)
+faithful_comma {levels} level h = record {
+  enough = (levels - level) + 2;
   has_room = omega arith;
-  exact = λ bound. (reads_comma_at (deeper bound) level (λ most. inner most (most_levels - level))
-      (inner_at (most_levels - level) level bound (omega arith) (λ r. r))).exact;
+  exact = λ bound. (reads_comma_at (deeper bound) level (λ most. inner most (levels - level))
+      (inner_at (levels - level) level bound (omega arith) (λ r. r))).exact;
 }
 
 -- assignments are read exactly
-pub faithful_assignment : (level : ℕ) → level ≤ most_levels
-    → Faithful (Assignment level) (λ most. read_assignment most (inner most (most_levels - level))) goes_assignment (room_at level)
-faithful_assignment level h = record {
-  enough = (most_levels - level) + 2;
+pub faithful_assignment : {levels : ℕ} (level : ℕ) → level ≤ levels
+    → Faithful levels (Assignment level) (λ most. read_assignment most (inner most (levels - level))) goes_assignment (room_at levels level)
+faithful_assignment {levels} level h = record {
+  enough = (levels - level) + 2;
   has_room = omega arith;
-  exact = λ bound. (reads_assignment_at (deeper bound) level (λ most. inner most (most_levels - level))
-      (inner_at (most_levels - level) level bound (omega arith) (λ r. r))).exact;
+  exact = λ bound. (reads_assignment_at (deeper bound) level (λ most. inner most (levels - level))
+      (inner_at (levels - level) level bound (omega arith) (λ r. r))).exact;
 }
 
 -- what is answered of an expression with commas

@@ -5,19 +5,19 @@ use Rattle.fk_expr.specs.Languages.{Placed, Marked, Stretch, tokens_of}
 use Rattle.fk_expr.specs.Reads.{Unexpected, EndOfText, Nesting, Answer, Family, Spells, Spell, Begins, Begin, IsShallow, most_levels, Reads}
 use Rattle.fk_expr.specs.Reading.{Reader}
 use Rattle.fk_expr.proofs.Sets.{Kinds}
-use Rattle.fk_expr.proofs.Exact.{Goes, Sound, Stands, Local, Exact, from_deep, settled_by, settled}
+use Rattle.fk_expr.proofs.Exact.{IsWithin, Goes, Sound, Stands, Local, Exact, from_deep, settled_by, settled}
 use Rattle.fk_expr.proofs.Stretches.{tokens-append, from_deep-shallow, from_deep-past, from_deep-skip, settled_read}
 
 -- readers read each language of a family exactly, and one bound leaves room
-pub record Faithful {A : Type 0} (L : Family A) (P : ℕ → Reader A) (goes_on : Kinds) (room : ℕ → Type 0) : Type 0 where
+pub record Faithful (levels : ℕ) {A : Type 0} (L : Family A) (P : ℕ → Reader A) (goes_on : Kinds) (room : ℕ → Type 0) : Type 0 where
   pub enough : ℕ
   pub has_room : room enough
-  pub exact : (bound : ℕ) → Exact (L bound) P goes_on (room bound)
+  pub exact : (bound : ℕ) → Exact levels (L bound) P goes_on (room bound)
 
 -- ---- what is not answered of a whole stretch
 
-not_more : {A : Type 0} (s : Stretch) (a b : A) (x : Placed) (rest : List Placed) → settled s a [] ≡ Ok (b, x ∷ rest) → ⊥
-not_more {A} s a b x rest e = by (from_deep s) e
+not_more : (levels : ℕ) {A : Type 0} (s : Stretch) (a b : A) (x : Placed) (rest : List Placed) → settled levels s a [] ≡ Ok (b, x ∷ rest) → ⊥
+not_more levels {A} s a b x rest e = by (from_deep levels s) e
   where
     left : Answer A → List Placed
     left (Ok y) = y.1
@@ -27,8 +27,8 @@ not_more {A} s a b x rest e = by (from_deep s) e
     by [] e = let d : [] ≡ x ∷ rest = ap left e in cc
     by (m ∷ t) e = cc
 
-not_ended : {A : Type 0} (s : Stretch) (a : A) → settled s a [] ≡ Err EndOfText → ⊥
-not_ended {A} s a e = by (from_deep s) e
+not_ended : (levels : ℕ) {A : Type 0} (s : Stretch) (a : A) → settled levels s a [] ≡ Err EndOfText → ⊥
+not_ended levels {A} s a e = by (from_deep levels s) e
   where
     by : (t : Stretch) → settled_by t a [] ≡ Err EndOfText → ⊥
     by [] e = cc
@@ -36,19 +36,19 @@ not_ended {A} s a e = by (from_deep s) e
 
 -- ---- a stretch of any bound is read
 
-pub whole_read : {A : Type 0} (L : Family A) (P : ℕ → Reader A) (goes_on : Kinds) (room : ℕ → Type 0) → Faithful L P goes_on room
-    → (most bound : ℕ) (s : Stretch) (a : A) (ts : List Placed) → L bound s a → tokens_of s ≡ ts → length ts ≤ most → P most ts ≡ settled s a []
+pub whole_read : {levels : ℕ} {A : Type 0} (L : Family A) (P : ℕ → Reader A) (goes_on : Kinds) (room : ℕ → Type 0) → Faithful levels L P goes_on room
+    → (most bound : ℕ) (s : Stretch) (a : A) (ts : List Placed) → L bound s a → tokens_of s ≡ ts → length ts ≤ most → P most ts ≡ settled levels s a []
 whole_read L P goes_on room w most bound s a ts l e fits =
     let all : tokens_of s ++ [] ≡ ts = append-nil (tokens_of s) ∙ e in
     rw (← all) (((w.exact bound).exact most).complete s a [] l (rw all fits) refl)
 
 -- with the token that is named no stretch goes on
-not_begun : {A : Type 0} (L : Family A) (P : ℕ → Reader A) (goes_on : Kinds) (room : ℕ → Type 0) → Faithful L P goes_on room
+not_begun : {levels : ℕ} {A : Type 0} (L : Family A) (P : ℕ → Reader A) (goes_on : Kinds) (room : ℕ → Type 0) → Faithful levels L P goes_on room
     → (most : ℕ) (front : List Placed) (t : Placed) (others : List Placed) (answer : List Placed → Answer A)
     → ((more : ℕ) → Local more (P more) (front ++ t ∷ others) (answer (t ∷ others)) → Stands more (P more) (front ++ t ∷ others) t others answer)
-    → ((s : Stretch) (a : A) (rest : List Placed) → settled s a [] ≡ answer (t ∷ rest) → ⊥)
+    → ((s : Stretch) (a : A) (rest : List Placed) → settled levels s a [] ≡ answer (t ∷ rest) → ⊥)
     → length (front ++ t ∷ others) ≤ most → P most (front ++ t ∷ others) ≡ answer (t ∷ others) → ¬ Begin L (front ++ t ∷ [])
-not_begun {A} L P goes_on room w most front t others answer stand clash fits e b = by b.0 b.1 b.2.0 b.2.1 b.2.2.0 b.2.2.1
+not_begun {levels} {A} L P goes_on room w most front t others answer stand clash fits e b = by b.0 b.1 b.2.0 b.2.1 b.2.2.0 b.2.2.1
   where
     by : (s : Stretch) → tokens_of s ≡ front ++ t ∷ [] → (more : Stretch) (a : A) (bound : ℕ) → L bound (s ++ more) a → ⊥
     by s d more a bound l =
@@ -60,17 +60,17 @@ not_begun {A} L P goes_on room w most front t others answer stand clash fits e b
         let same : stands.front ≡ front = append_cancel_right stands.front front (t ∷ others) (sym stands.is) in
         let stays : P big (front ++ t ∷ tail) ≡ answer (t ∷ tail) = rw same at (stands.stays tail (rw same (omega arith))) in
         let tokens : tokens_of (s ++ more) ≡ front ++ t ∷ tail = tokens-append s more ∙ ap (λ z. z ++ tail) d ∙ append_assoc front (t ∷ []) tail in
-        let read : P big (front ++ t ∷ tail) ≡ settled (s ++ more) a [] = whole_read L P goes_on room w big bound (s ++ more) a (front ++ t ∷ tail) l tokens (omega arith) in
+        let read : P big (front ++ t ∷ tail) ≡ settled levels (s ++ more) a [] = whole_read L P goes_on room w big bound (s ++ more) a (front ++ t ∷ tail) l tokens (omega arith) in
         clash (s ++ more) a tail (sym read ∙ stays)
 
 -- ---- what is answered of a whole stretch
 
 -- where a token is unexpected, what comes before it is no stretch
-not_spelled : {A : Type 0} (L : Family A) (P : ℕ → Reader A) (goes_on : Kinds) (room : ℕ → Type 0) → Faithful L P goes_on room
+not_spelled : {levels : ℕ} {A : Type 0} (L : Family A) (P : ℕ → Reader A) (goes_on : Kinds) (room : ℕ → Type 0) → Faithful levels L P goes_on room
     → (most : ℕ) (front : List Placed) (t : Placed) (others : List Placed) → length (front ++ t ∷ others) ≤ most
     → P most (front ++ t ∷ others) ≡ Err (Unexpected (t ∷ others)) → (a : A) → ¬ Spell L front a
-not_spelled {A} L P goes_on room w most front t others fits e a b =
-    by (from_deep b.0) (whole_read L P goes_on room w most b.2.0 b.0 a front b.2.1 b.1 small)
+not_spelled {levels} {A} L P goes_on room w most front t others fits e a b =
+    by (from_deep levels b.0) (whole_read L P goes_on room w most b.2.0 b.0 a front b.2.1 b.1 small)
   where
     small : length front ≤ most
     small = omega (arith, length-append front (t ∷ others))
@@ -92,7 +92,7 @@ not_spelled {A} L P goes_on room w most front t others fits e a b =
 -- ---- what is answered
 
 -- what exact readers answer
-pub reads : {A : Type 0} {L : Family A} {P : ℕ → Reader A} {goes_on : Kinds} {room : ℕ → Type 0} → Faithful L P goes_on room
+pub reads : {A : Type 0} {L : Family A} {P : ℕ → Reader A} {goes_on : Kinds} {room : ℕ → Type 0} → Faithful most_levels L P goes_on room
     → (most : ℕ) (ts : List Placed) → length ts ≤ most → Reads L ts (P most ts)
 reads {A} {L} {P} {goes_on} {room} w most ts fits = by (P most ts) refl (((w.exact w.enough).exact most).sound w.has_room ts fits)
   where
@@ -102,7 +102,7 @@ reads {A} {L} {P} {goes_on} {room} w most ts fits = by (P most ts) refl (((w.exa
     cut : (s : Stretch) (rest : List Placed) (t : Placed) (others : List Placed) → ts ≡ tokens_of s ++ rest → rest ≡ t ∷ others → ts ≡ tokens_of s ++ t ∷ others
     cut s rest t others is d = is ∙ ap (λ z. tokens_of s ++ z) d
 
-    by : (answer : Answer A) → P most ts ≡ answer → Sound (L w.enough) ts answer → Reads L ts answer
+    by : (answer : Answer A) → P most ts ≡ answer → Sound most_levels (L w.enough) ts answer → Reads L ts answer
     by (Ok (a, rest)) e v = record {
       stretch = v.stretch;
       longest = record {
@@ -110,7 +110,7 @@ reads {A} {L} {P} {goes_on} {room} w most ts fits = by (P most ts) refl (((w.exa
         begins = begins v.stretch (record { more = []; value = a; spelled = rw (append-nil v.stretch) v.spelled });
         longest = λ t others d.
             let is : ts ≡ tokens_of v.stretch ++ t ∷ others = cut v.stretch rest t others v.is d in
-            not_begun L P goes_on room w most (tokens_of v.stretch) t others (λ z. Ok (a, z)) (λ more z. z) (λ s b r. not_more s b a t r) (rw is at fits) (rw (is, d) at e);
+            not_begun L P goes_on room w most (tokens_of v.stretch) t others (λ z. Ok (a, z)) (λ more z. z) (λ s b r. not_more most_levels s b a t r) (rw is at fits) (rw (is, d) at e);
       };
       spelled = (w.enough, v.spelled);
       shallow = v.shallow;
@@ -124,7 +124,7 @@ reads {A} {L} {P} {goes_on} {room} w most ts fits = by (P most ts) refl (((w.exa
           begins = begins v.0.stretch v.0.goes;
           longest = λ x others d.
               let is : ts ≡ tokens_of v.0.stretch ++ x ∷ others = cut v.0.stretch (t ∷ rest) x others v.0.is d in
-              not_begun L P goes_on room w most (tokens_of v.0.stretch) x others (λ z. Err (Unexpected z)) (λ more z. z) (λ s b r. settled_read s b [] (x ∷ r)) (rw is at fits) (rw (is, d) at e);
+              not_begun L P goes_on room w most (tokens_of v.0.stretch) x others (λ z. Err (Unexpected z)) (λ more z. z) (λ s b r. settled_read most_levels s b [] (x ∷ r)) (rw is at fits) (rw (is, d) at e);
         };
         unspelled = not_spelled L P goes_on room w most (tokens_of v.0.stretch) t rest (rw v.0.is at fits) (rw v.0.is at e);
         shallow = v.0.shallow;
@@ -134,7 +134,7 @@ reads {A} {L} {P} {goes_on} {room} w most ts fits = by (P most ts) refl (((w.exa
     by (Err EndOfText) e v = record {
       stretch = v.stretch;
       longest = record { first = v.is; begins = begins v.stretch v.goes; longest = λ t others d. absurd (cc) };
-      unspelled = λ a b. not_ended b.0 a
+      unspelled = λ a b. not_ended most_levels b.0 a
           (sym (whole_read L P goes_on room w most b.2.0 b.0 a ts b.2.1 (b.1 ∙ sym (append-nil (tokens_of v.stretch)) ∙ sym v.is) fits) ∙ e);
       shallow = v.shallow;
     }
@@ -150,21 +150,21 @@ reads {A} {L} {P} {goes_on} {room} w most ts fits = by (P most ts) refl (((w.exa
     }
 
 -- the same tokens, nested within the bound, spell one value
-pub one_value : {A : Type 0} {L : Family A} {P : ℕ → Reader A} {goes_on : Kinds} {room : ℕ → Type 0} → Faithful L P goes_on room
-    → (s t : Stretch) (a b : A) → Spells L s a → Spells L t b → tokens_of s ≡ tokens_of t → IsShallow s → IsShallow t → a ≡ b
-one_value {A} {L} {P} {goes_on} {room} w s t a b l m same h k =
+pub one_value : {levels : ℕ} {A : Type 0} {L : Family A} {P : ℕ → Reader A} {goes_on : Kinds} {room : ℕ → Type 0} → Faithful levels L P goes_on room
+    → (s t : Stretch) (a b : A) → Spells L s a → Spells L t b → tokens_of s ≡ tokens_of t → IsWithin levels s → IsWithin levels t → a ≡ b
+one_value {levels} {A} {L} {P} {goes_on} {room} w s t a b l m same h k =
     let most : ℕ = length (tokens_of t) in
     let first : P most (tokens_of t) ≡ Ok (a, []) =
-    rw (from_deep-shallow s h) at (whole_read L P goes_on room w most l.0 s a (tokens_of t) l.1 same (omega arith)) in
+    rw (from_deep-shallow levels s h) at (whole_read L P goes_on room w most l.0 s a (tokens_of t) l.1 same (omega arith)) in
     let second : P most (tokens_of t) ≡ Ok (b, []) =
-    rw (from_deep-shallow t k) at (whole_read L P goes_on room w most m.0 t b (tokens_of t) m.1 refl (omega arith)) in
+    rw (from_deep-shallow levels t k) at (whole_read L P goes_on room w most m.0 t b (tokens_of t) m.1 refl (omega arith)) in
     value (sym first ∙ second)
   where
     value_or : A → Answer A → A
     value_or c (Ok x) = x.0
     value_or c (Err stop) = c
 
-    value : settled [] a [] ≡ settled [] b [] → a ≡ b
+    value : settled levels [] a [] ≡ settled levels [] b [] → a ≡ b
     value e = ap (value_or a) e
 
 -- ---- tokens that spell a value are not refused
@@ -186,7 +186,7 @@ not_unexpected {A} L s a front t others w e none =
     none (c.0, c.3, (c.1, a, subst (λ z. Spells L z a) c.2 w))
 
 -- where a token opens a level past the bound, and none before it does, that is answered, whatever comes behind it
-pub read_deep : {A : Type 0} {L : Family A} {P : ℕ → Reader A} {goes_on : Kinds} {room : ℕ → Type 0} → Faithful L P goes_on room
+pub read_deep : {A : Type 0} {L : Family A} {P : ℕ → Reader A} {goes_on : Kinds} {room : ℕ → Type 0} → Faithful most_levels L P goes_on room
     → (s : Stretch) (m : Marked) → Begins L (s ++ m ∷ []) → IsShallow s → most_levels < m.level
     → (least : ℕ) (others : List Placed) → length (tokens_of s ++ m.token ∷ others) ≤ least → P least (tokens_of s ++ m.token ∷ others) ≡ Err (Nesting (m.token ∷ others))
 read_deep {A} {L} {P} {goes_on} {room} w s m b shallow past least others fits =
@@ -197,7 +197,7 @@ read_deep {A} {L} {P} {goes_on} {room} w s m b shallow past least others fits =
     let spelled : L b.2.0 (s ++ m ∷ b.0) b.1 = subst (λ z. L b.2.0 z b.1) (append_assoc s (m ∷ []) b.0) b.2.1 in
     let deep : P most (front ++ t ∷ tail) ≡ Err (Nesting (t ∷ tail)) =
     whole_read L P goes_on room w most b.2.0 (s ++ m ∷ b.0) b.1 (front ++ t ∷ tail) spelled (tokens-append s (m ∷ b.0)) (omega arith)
-    ∙ ap (λ z. settled_by z b.1 []) (from_deep-skip s (m ∷ b.0) shallow ∙ from_deep-past m b.0 past)
+    ∙ ap (λ z. settled_by z b.1 []) (from_deep-skip most_levels s (m ∷ b.0) shallow ∙ from_deep-past most_levels m b.0 past)
     ∙ ap (λ z. Err (Nesting (t ∷ z))) (append-nil tail) in
     let stands : Stands most (P most) (front ++ t ∷ tail) t tail (λ z. Err (Nesting z)) =
     subst (λ z. Local most (P most) (front ++ t ∷ tail) z) deep (((w.exact w.enough).exact most).local w.has_room (front ++ t ∷ tail) (omega arith)) in

@@ -20,9 +20,9 @@ empty v s a = (s ≡ []) × (a ≡ v)
 abbrev pub stay : {A : Type 0} → A → Reader A
 stay v ts = Ok (v, ts)
 
-pub empty_at : {room : Type 0} {A : Type 0} (most : ℕ) (v : A) → ExactAt most (empty v) (stay v) none room
-empty_at {room} {A} most v = record {
-  sound = λ r ts fits. record { stretch = []; is = refl; spelled = (refl, refl); shallow = shallow-nil };
+pub empty_at : {levels : ℕ} {room : Type 0} {A : Type 0} (most : ℕ) (v : A) → ExactAt levels most (empty v) (stay v) none room
+empty_at {levels} {room} {A} most v = record {
+  sound = λ r ts fits. record { stretch = []; is = refl; spelled = (refl, refl); shallow = shallow-nil levels };
   complete = λ s a rest l fits ends. rw (l.0, l.1) refl;
   local = λ r. local;
 }
@@ -37,8 +37,8 @@ follows_empty v f is s a rest l ends = rw l.0 (next-union f is rest ends).1
 -- ---- one or nothing
 
 -- one or nothing is read exactly
-pub exact_maybe : {room : Type 0} {A : Type 0} {L : Language A} {level : ℕ} {is : Kinds} {P : ℕ → Reader A} {f : Kinds} → Exact L P f room → Shape L level is room
-    → Exact (maybe L) (λ most. optional is (P most)) (f ∪ is) room
+pub exact_maybe : {levels : ℕ} {room : Type 0} {A : Type 0} {L : Language A} {level : ℕ} {is : Kinds} {P : ℕ → Reader A} {f : Kinds} → Exact levels L P f room → Shape L level is room
+    → Exact levels (maybe L) (λ most. optional is (P most)) (f ∪ is) room
 exact_maybe {room} {A} {L} {level} {is} {P} {f} p shape =
     exact_same (maybe L) there back
     (exact_or_by (f ∪ is)
@@ -74,7 +74,7 @@ local_fewer {A} less most P below ts answer w = by answer w
     by (Err (Nesting (x ∷ rest))) v = stands x rest (λ z. Err (Nesting z)) v
 
 -- what is read exactly of so many tokens is of fewer
-pub fewer_at : {room : Type 0} {A : Type 0} (less most : ℕ) (L : Language A) (P : Reader A) (f : Kinds) → less ≤ most → ExactAt most L P f room → ExactAt less L P f room
+pub fewer_at : {levels : ℕ} {room : Type 0} {A : Type 0} (less most : ℕ) (L : Language A) (P : Reader A) (f : Kinds) → less ≤ most → ExactAt levels most L P f room → ExactAt levels less L P f room
 fewer_at less most L P f below p = record {
   sound = λ r ts fits. p.sound r ts (le_trans fits below);
   complete = λ s a rest l fits ends. p.complete s a rest l (le_trans fits below) ends;
@@ -85,11 +85,11 @@ spends_one : {room : Type 0} {A : Type 0} (L : Language A) (level : ℕ) (first 
 spends_one L level first shape n s a l = let w = shape.fronts s a l in omega (arith, ap length w.is)
 
 -- a token that begins the first of two isn't unexpected
-then_welcome : {room : Type 0} {A B : Type 0} (n : ℕ) (L : Language A) (level : ℕ) (first is : Kinds) (P : Reader A) (Q : Reader B)
-    → Shape L level first room → IsSound (suc n) L P → IsLocal n Q → IsWelcome (suc n) is P → IsWelcome (suc n) is (P and Q)
-then_welcome {room} {A} {B} n L level first is P Q shape p q welcomes x others h fits u = by (P (x ∷ others)) refl (p (x ∷ others) fits) u
+then_welcome : (levels : ℕ) {room : Type 0} {A B : Type 0} (n : ℕ) (L : Language A) (level : ℕ) (first is : Kinds) (P : Reader A) (Q : Reader B)
+    → Shape L level first room → IsSound levels (suc n) L P → IsLocal n Q → IsWelcome (suc n) is P → IsWelcome (suc n) is (P and Q)
+then_welcome levels {room} {A} {B} n L level first is P Q shape p q welcomes x others h fits u = by (P (x ∷ others)) refl (p (x ∷ others) fits) u
   where
-    by : (answer : Answer A) → P (x ∷ others) ≡ answer → Sound L (x ∷ others) answer
+    by : (answer : Answer A) → P (x ∷ others) ≡ answer → Sound levels L (x ∷ others) answer
         → after {B = A × B} answer (λ a rest. after (Q rest) (λ b more. Ok ((a, b), more))) ≡ Err (Unexpected (x ∷ others)) → ⊥
     by (Err stop) e w u = welcomes x others h fits cc
     by (Ok (a, rest)) e w u =
@@ -111,15 +111,15 @@ many_back : {A : Type 0} (L : Language A) → Includes (many L) (making joined_t
 many_back L s [] l = inr (l, refl)
 many_back L s (a ∷ list) l = inl ((a, list), l, refl)
 
-repeated_none : {room : Type 0} {A : Type 0} (L : Language A) (level : ℕ) (is : Kinds) (P : Reader A) (f : Kinds)
-    → Shape L level is room → ExactAt zero (many L) (repeated zero is P) (f ∪ is) room
-repeated_none {room} {A} L level is P f shape = record {
-  sound = λ r ts fits. record { stretch = []; is = refl; spelled = refl; shallow = shallow-nil };
+repeated_none : {levels : ℕ} {room : Type 0} {A : Type 0} (L : Language A) (level : ℕ) (is : Kinds) (P : Reader A) (f : Kinds)
+    → Shape L level is room → ExactAt levels zero (many L) (repeated zero is P) (f ∪ is) room
+repeated_none {levels} {room} {A} L level is P f shape = record {
+  sound = λ r ts fits. record { stretch = []; is = refl; spelled = refl; shallow = shallow-nil levels };
   complete = complete;
   local = λ r. local;
 }
   where
-    complete : IsComplete zero (many L) (repeated zero is P) (f ∪ is)
+    complete : IsComplete levels zero (many L) (repeated zero is P) (f ∪ is)
     complete s [] rest l fits ends = rw l refl
     complete s (a ∷ list) rest l fits ends =
         let w = shape.fronts l.0 a l.3 in
@@ -129,52 +129,52 @@ repeated_none {room} {A} L level is P f shape = record {
     local [] fits = λ x others h e. cc
     local (t ∷ ts) fits = absurd (omega arith)
 
-repeated_more : {room : Type 0} {A : Type 0} (n : ℕ) (L : Language A) (level : ℕ) (is : Kinds) (P : Reader A) (f : Kinds)
-    → ExactAt (suc n) L P f room → Shape L level is room → (room → IsWelcome (suc n) is P) → Apart f is → ExactAt n (many L) (repeated n is P) (f ∪ is) room
-    → ExactAt (suc n) (many L) (repeated (suc n) is P) (f ∪ is) room
-repeated_more {room} {A} n L level is P f p shape welcomes apart q =
+repeated_more : {levels : ℕ} {room : Type 0} {A : Type 0} (n : ℕ) (L : Language A) (level : ℕ) (is : Kinds) (P : Reader A) (f : Kinds)
+    → ExactAt levels (suc n) L P f room → Shape L level is room → (room → IsWelcome (suc n) is P) → Apart f is → ExactAt levels n (many L) (repeated n is P) (f ∪ is) room
+    → ExactAt levels (suc n) (many L) (repeated (suc n) is P) (f ∪ is) room
+repeated_more {levels} {room} {A} n L level is P f p shape welcomes apart q =
     same_at (suc n) (making joined_to (L then many L) or empty []) (many L) (repeated (suc n) is P) (f ∪ is) (many_there L) (many_back L)
     (or_at (suc n) (making joined_to (L then many L)) (empty []) level is (giving joined_to (P and repeated n is P)) (stay []) (f ∪ is) none (f ∪ is)
     (giving_at joined_to (suc n) (L then many L) (P and repeated n is P) (f ∪ is) both)
     (empty_at (suc n) [])
     (shape_making joined_to (shape_then shape (λ r. none_yet)))
-    (λ r x others h fits e. then_welcome n L level is is P (repeated n is P) shape (p.sound r) (q.local r) (welcomes r) x others h fits
+    (λ r x others h fits e. then_welcome levels n L level is is P (repeated n is P) shape (p.sound r) (q.local r) (welcomes r) x others h fits
     (after_err ((P and repeated n is P) (x ∷ others)) joined_to (Unexpected (x ∷ others)) e))
     (follows_empty [] f is) (within_itself (f ∪ is)) (λ k h. cc))
   where
     none_yet : Example (many L)
     none_yet = example_empty (empty_many L)
 
-    both : ExactAt (suc n) (L then many L) (P and repeated n is P) (f ∪ is) room
+    both : ExactAt levels (suc n) (L then many L) (P and repeated n is P) (f ∪ is) room
     both = then_at (suc n) n L (many L) P (repeated n is P) f (f ∪ is) (f ∪ is) p q (spends_one L level is shape n)
         (follows_loose f (f ∪ is) (loose_many shape) apart (within_left f is))
         (within_itself (f ∪ is)) (λ r. none_yet)
 
-repeated_at : {room : Type 0} {A : Type 0} (n most : ℕ) (L : Language A) (level : ℕ) (is : Kinds) (P : Reader A) (f : Kinds) → n ≤ most
-    → ExactAt most L P f room → Shape L level is room → (room → IsWelcome most is P) → Apart f is → ExactAt n (many L) (repeated n is P) (f ∪ is) room
+repeated_at : {levels : ℕ} {room : Type 0} {A : Type 0} (n most : ℕ) (L : Language A) (level : ℕ) (is : Kinds) (P : Reader A) (f : Kinds) → n ≤ most
+    → ExactAt levels most L P f room → Shape L level is room → (room → IsWelcome most is P) → Apart f is → ExactAt levels n (many L) (repeated n is P) (f ∪ is) room
 repeated_at zero most L level is P f below p shape welcomes apart = repeated_none L level is P f shape
 repeated_at (suc n) most L level is P f below p shape welcomes apart =
     repeated_more n L level is P f (fewer_at (suc n) most L P f below p) shape (λ r x others h fits e. welcomes r x others h (le_trans fits below) e) apart
     (repeated_at n most L level is P f (omega arith) p shape welcomes apart)
 
-repeated_same : {room : Type 0} {A : Type 0} (n m most : ℕ) (L : Language A) (level : ℕ) (is : Kinds) (P P' : Reader A) → n ≤ m → n ≤ most
-    → IsSound most L P → Shape L level is room → IsSame most P P' → IsSame n (repeated n is P) (repeated m is P')
-repeated_same zero zero most L level is P P' above below p shape same ts fits = refl
-repeated_same zero (suc m) most L level is P P' above below p shape same [] fits = refl
-repeated_same zero (suc m) most L level is P P' above below p shape same (t ∷ ts) fits = absurd (omega arith)
-repeated_same (suc n) zero most L level is P P' above below p shape same ts fits = absurd (omega arith)
-repeated_same (suc n) (suc m) most L level is P P' above below p shape same tokens small =
+repeated_same : (levels : ℕ) {room : Type 0} {A : Type 0} (n m most : ℕ) (L : Language A) (level : ℕ) (is : Kinds) (P P' : Reader A) → n ≤ m → n ≤ most
+    → IsSound levels most L P → Shape L level is room → IsSame most P P' → IsSame n (repeated n is P) (repeated m is P')
+repeated_same levels zero zero most L level is P P' above below p shape same ts fits = refl
+repeated_same levels zero (suc m) most L level is P P' above below p shape same [] fits = refl
+repeated_same levels zero (suc m) most L level is P P' above below p shape same (t ∷ ts) fits = absurd (omega arith)
+repeated_same levels (suc n) zero most L level is P P' above below p shape same ts fits = absurd (omega arith)
+repeated_same levels (suc n) (suc m) most L level is P P' above below p shape same tokens small =
     or_same (suc n) is (giving joined_to (P and repeated n is P)) (giving joined_to (P' and repeated m is P')) (stay []) (stay [])
     (giving_same joined_to (suc n) (P and repeated n is P) (P' and repeated m is P')
     (then_same (suc n) n P P' (repeated n is P) (repeated m is P') (λ ts fits. same ts (le_trans fits below))
-    (repeated_same n m most L level is P P' (omega arith) (omega arith) p shape same)
-    (leaves_by (suc n) n L P (spends_one L level is shape n) (λ ts fits. p ts (le_trans fits below)))))
+    (repeated_same levels n m most L level is P P' (omega arith) (omega arith) p shape same)
+    (leaves_by levels (suc n) n L P (spends_one L level is shape n) (λ ts fits. p ts (le_trans fits below)))))
     (λ ts fits. refl) tokens small
 
 -- any number is read exactly, if what goes on with one begins none
-pub exact_many : {room : Type 0} {A : Type 0} {L : Language A} {level : ℕ} {is : Kinds} {P : ℕ → Reader A} {f : Kinds} → Exact L P f room → Shape L level is room → Apart f is
-    → Exact (many L) (λ most. repeated most is (P most)) (f ∪ is) room
-exact_many {L} {level} {is} {P} {f} p shape apart = record {
+pub exact_many : {levels : ℕ} {room : Type 0} {A : Type 0} {L : Language A} {level : ℕ} {is : Kinds} {P : ℕ → Reader A} {f : Kinds} → Exact levels L P f room → Shape L level is room → Apart f is
+    → Exact levels (many L) (λ most. repeated most is (P most)) (f ∪ is) room
+exact_many {levels} {L} {level} {is} {P} {f} p shape apart = record {
   exact = λ most. repeated_at most most L level is (P most) f (le_refl most) (p.exact most) shape (λ r. welcome shape p r most) apart;
-  same = λ r most more above. repeated_same most more most L level is (P most) (P more) above (le_refl most) ((p.exact most).sound r) shape (p.same r most more above);
+  same = λ r most more above. repeated_same levels most more most L level is (P most) (P more) above (le_refl most) ((p.exact most).sound r) shape (p.same r most more above);
 }

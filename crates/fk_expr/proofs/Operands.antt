@@ -41,8 +41,8 @@ within_again : (f g : Kinds) → Within (f ∪ (f ∪ g)) (f ∪ g)
 within_again f g = union_within f (f ∪ g) (f ∪ g) (within_left f g) (λ k h. h)
 
 -- joined operands are read exactly
-pub reads_joined : {room : Type 0} (D : Deeper) (l : ℕ) (inner : ℕ → Option Readers) → Inner D l inner room → (looseness : ℕ) → looseness ≤ 10
-    → IsRead (joined D l looseness) (λ most. read_joined most (inner most) looseness) l begins_expression (goes_joined looseness) room
+pub reads_joined : {levels : ℕ} {room : Type 0} (D : Deeper) (l : ℕ) (inner : ℕ → Option Readers) → Inner levels D l inner room → (looseness : ℕ) → looseness ≤ 10
+    → IsRead levels (joined D l looseness) (λ most. read_joined most (inner most) looseness) l begins_expression (goes_joined looseness) room
 unfolding read_joined
 reads_joined D l inner w zero h = reads_prefix D l inner w
 reads_joined D l inner w (suc n) h =
@@ -57,8 +57,8 @@ reads_joined D l inner w (suc n) h =
 -- ---- choices
 
 -- a choice is read exactly
-pub reads_choice : {room : Type 0} (D : Deeper) (l : ℕ) (inner : ℕ → Option Readers) → Inner D l inner room
-    → IsRead (choice D l) (λ most. read_choice most (inner most)) l begins_expression goes_choice room
+pub reads_choice : {levels : ℕ} {room : Type 0} (D : Deeper) (l : ℕ) (inner : ℕ → Option Readers) → Inner levels D l inner room
+    → IsRead levels (choice D l) (λ most. read_choice most (inner most)) l begins_expression goes_choice room
 unfolding read_choice
 reads_choice D l inner w =
     reads_wider goes_choice
@@ -78,8 +78,8 @@ reads_choice D l inner w =
 -- ---- assignments
 
 -- an assignment is read exactly
-pub reads_assignment_at : {room : Type 0} (D : Deeper) (l : ℕ) (inner : ℕ → Option Readers) → Inner D l inner room
-    → IsRead (assignment D l) (λ most. read_assignment most (inner most)) l begins_expression goes_assignment room
+pub reads_assignment_at : {levels : ℕ} {room : Type 0} (D : Deeper) (l : ℕ) (inner : ℕ → Option Readers) → Inner levels D l inner room
+    → IsRead levels (assignment D l) (λ most. read_assignment most (inner most)) l begins_expression goes_assignment room
 unfolding read_assignment
 reads_assignment_at D l inner w =
     reads_wider goes_assignment
@@ -94,8 +94,8 @@ reads_assignment_at D l inner w =
 -- ---- expressions with commas
 
 -- an expression with commas is read exactly
-pub reads_comma_at : {room : Type 0} (D : Deeper) (l : ℕ) (inner : ℕ → Option Readers) → Inner D l inner room
-    → IsRead (comma D l) (λ most. read_comma most (inner most)) l begins_expression goes_comma room
+pub reads_comma_at : {levels : ℕ} {room : Type 0} (D : Deeper) (l : ℕ) (inner : ℕ → Option Readers) → Inner levels D l inner room
+    → IsRead levels (comma D l) (λ most. read_comma most (inner most)) l begins_expression goes_comma room
 unfolding read_comma
 reads_comma_at D l inner w =
     let apart : Apart goes_assignment is_comma = apart_by goes_assignment is_comma refl (λ v u. refl) in

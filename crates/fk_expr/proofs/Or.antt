@@ -15,13 +15,13 @@ abbrev pub Includes : {A : Type 0} → Language A → Language A → Type 0
 Includes {A} L M = (s : Stretch) (a : A) → L s a → M s a
 
 -- what is so of a language is so of a larger one
-pub sound_more : {A : Type 0} (L M : Language A) → Includes L M → (ts : List Placed) (answer : Answer A) → Sound L ts answer → Sound M ts answer
-sound_more {A} L M includes ts answer w = by answer w
+pub sound_more : (levels : ℕ) {A : Type 0} (L M : Language A) → Includes L M → (ts : List Placed) (answer : Answer A) → Sound levels L ts answer → Sound levels M ts answer
+sound_more levels {A} L M includes ts answer w = by answer w
   where
     goes : (s : Stretch) → Goes L s → Goes M s
     goes s g = record { more = g.more; value = g.value; spelled = includes (s ++ g.more) g.value g.spelled }
 
-    by : (answer : Answer A) → Sound L ts answer → Sound M ts answer
+    by : (answer : Answer A) → Sound levels L ts answer → Sound levels M ts answer
     by (Ok (a, rest)) w = record { stretch = w.stretch; is = w.is; spelled = includes w.stretch a w.spelled; shallow = w.shallow }
     by (Err (Unexpected rest)) w = (record { stretch = w.0.stretch; is = w.0.is; goes = goes w.0.stretch w.0.goes; shallow = w.0.shallow }, w.1)
     by (Err EndOfText) w = record { stretch = w.stretch; is = w.is; goes = goes w.stretch w.goes; shallow = w.shallow }
@@ -37,16 +37,16 @@ sound_more {A} L M includes ts answer w = by answer w
     }
 
 -- two languages with the same stretches
-pub same_at : {room : Type 0} {A : Type 0} (most : ℕ) (L M : Language A) (P : Reader A) (f : Kinds) → Includes L M → Includes M L
-    → ExactAt most L P f room → ExactAt most M P f room
-same_at most L M P f includes included p = record {
-  sound = λ r ts fits. sound_more L M includes ts (P ts) (p.sound r ts fits);
+pub same_at : {levels : ℕ} {room : Type 0} {A : Type 0} (most : ℕ) (L M : Language A) (P : Reader A) (f : Kinds) → Includes L M → Includes M L
+    → ExactAt levels most L P f room → ExactAt levels most M P f room
+same_at {levels} most L M P f includes included p = record {
+  sound = λ r ts fits. sound_more levels L M includes ts (P ts) (p.sound r ts fits);
   complete = λ s a rest m fits ends. p.complete s a rest (included s a m) fits ends;
   local = p.local;
 }
 
 -- a language with the same stretches is read as exactly
-pub exact_same : {room : Type 0} {A : Type 0} {L : Language A} (M : Language A) {P : ℕ → Reader A} {f : Kinds} → Includes L M → Includes M L → Exact L P f room → Exact M P f room
+pub exact_same : {levels : ℕ} {room : Type 0} {A : Type 0} {L : Language A} (M : Language A) {P : ℕ → Reader A} {f : Kinds} → Includes L M → Includes M L → Exact levels L P f room → Exact levels M P f room
 exact_same {L} M {P} {f} includes included p = record { exact = λ most. same_at most L M (P most) f includes included (p.exact most); same = p.same }
 
 -- ---- a token that begins a language isn't unexpected
@@ -61,7 +61,7 @@ no_front [] x rest others e = refl
 no_front (y ∷ front) x rest others e = absurd (omega (arith, ap length e, length-append front (x ∷ rest)))
 
 -- what is answered at the first token is answered whatever comes behind it
-pub stays_anywhere : {room : Type 0} {A : Type 0} {L : Language A} {P : ℕ → Reader A} {f : Kinds} → Exact L P f room → room
+pub stays_anywhere : {levels : ℕ} {room : Type 0} {A : Type 0} {L : Language A} {P : ℕ → Reader A} {f : Kinds} → Exact levels L P f room → room
     → (x : Placed) (others : List Placed) (stop : List Placed → Stop)
     → ((most : ℕ) → Local most (P most) (x ∷ others) (Err (stop (x ∷ others))) → Stands most (P most) (x ∷ others) x others (λ z. Err (stop z)))
     → (most : ℕ) → length (x ∷ others) ≤ most → P most (x ∷ others) ≡ Err (stop (x ∷ others))
@@ -76,17 +76,17 @@ stays_anywhere {room} {A} {L} {P} {f} p r x others stop stand most fits e much l
     sym (p.same r much more (omega arith) (x ∷ long) small) ∙ stays
 
 -- a token that begins a language is welcome
-pub welcome : {room : Type 0} {A : Type 0} {L : Language A} {level : ℕ} {is : Kinds} {P : ℕ → Reader A} {f : Kinds}
-    → Shape L level is room → Exact L P f room → room → (most : ℕ) → IsWelcome most is (P most)
-welcome {room} {A} {L} {level} {is} {P} {f} shape p r most x others h fits e =
+pub welcome : {levels : ℕ} {room : Type 0} {A : Type 0} {L : Language A} {level : ℕ} {is : Kinds} {P : ℕ → Reader A} {f : Kinds}
+    → Shape L level is room → Exact levels L P f room → room → (most : ℕ) → IsWelcome most is (P most)
+welcome {levels} {room} {A} {L} {level} {is} {P} {f} shape p r most x others h fits e =
     let w : Starts L level x = shape.starts r x h in
     let s : Stretch = record { token = x; level = w.at } ∷ w.others in
     let long : List Placed = tokens_of w.others ++ [] in
     let much : ℕ = length (x ∷ long) in
     let stays : P much (x ∷ long) ≡ Err (Unexpected (x ∷ long)) =
     stays_anywhere p r x others (λ z. Unexpected z) (λ more z. z) most fits e much long (le_refl much) in
-    let read : P much (x ∷ long) ≡ settled s w.value [] = (p.exact much).complete s w.value [] w.spelled (le_refl much) refl in
-    settled_read s w.value [] (x ∷ long) (sym read ∙ stays)
+    let read : P much (x ∷ long) ≡ settled levels s w.value [] = (p.exact much).complete s w.value [] w.spelled (le_refl much) refl in
+    settled_read levels s w.value [] (x ∷ long) (sym read ∙ stays)
 
 -- ---- one or the other
 
@@ -98,20 +98,20 @@ by_next-yes is P Q ts e = rw (e, either) refl
 pub by_next-no : {A : Type 0} (is : Kinds) (P Q : Reader A) (ts : List Placed) → next_is is ts ≡ false → by_next is P Q ts ≡ Q ts
 by_next-no is P Q ts e = rw (e, either) refl
 
-or_sound : {A : Type 0} (most : ℕ) (L M : Language A) (is : Kinds) (P Q : Reader A) → IsSound most L P → IsSound most M Q → IsSound most (L or M) (by_next is P Q)
-or_sound {A} most L M is P Q p q ts fits = by (next_is is ts)
+or_sound : (levels : ℕ) {A : Type 0} (most : ℕ) (L M : Language A) (is : Kinds) (P Q : Reader A) → IsSound levels most L P → IsSound levels most M Q → IsSound levels most (L or M) (by_next is P Q)
+or_sound levels {A} most L M is P Q p q ts fits = by (next_is is ts)
   where
-    by : (b : Bool) → Sound (L or M) ts (either b P Q ts)
-    by true = sound_more L (L or M) (λ s a l. inl l) ts (P ts) (p ts fits)
-    by false = sound_more M (L or M) (λ s a m. inr m) ts (Q ts) (q ts fits)
+    by : (b : Bool) → Sound levels (L or M) ts (either b P Q ts)
+    by true = sound_more levels L (L or M) (λ s a l. inl l) ts (P ts) (p ts fits)
+    by false = sound_more levels M (L or M) (λ s a m. inr m) ts (Q ts) (q ts fits)
 
-or_complete : {room : Type 0} {A : Type 0} (most : ℕ) (L M : Language A) (level : ℕ) (is : Kinds) (P Q : Reader A) (f g goes_on : Kinds)
-    → IsComplete most L P f → IsComplete most M Q g → Shape L level is room → Follows is M goes_on → Within f goes_on → Within g goes_on
-    → IsComplete most (L or M) (by_next is P Q) goes_on
-or_complete most L M level is P Q f g goes_on p q shape follows in_f in_g s a rest (inl l) fits ends =
+or_complete : (levels : ℕ) {room : Type 0} {A : Type 0} (most : ℕ) (L M : Language A) (level : ℕ) (is : Kinds) (P Q : Reader A) (f g goes_on : Kinds)
+    → IsComplete levels most L P f → IsComplete levels most M Q g → Shape L level is room → Follows is M goes_on → Within f goes_on → Within g goes_on
+    → IsComplete levels most (L or M) (by_next is P Q) goes_on
+or_complete levels most L M level is P Q f g goes_on p q shape follows in_f in_g s a rest (inl l) fits ends =
     let w : Fronts is level s = shape.fronts s a l in
     by_next-yes is P Q (tokens_of s ++ rest) (rw w.is w.kind) ∙ p s a rest l fits (next-within f goes_on in_f rest ends)
-or_complete most L M level is P Q f g goes_on p q shape follows in_f in_g s a rest (inr m) fits ends =
+or_complete levels most L M level is P Q f g goes_on p q shape follows in_f in_g s a rest (inr m) fits ends =
     by_next-no is P Q (tokens_of s ++ rest) (follows s a rest m ends) ∙ q s a rest m fits (next-within g goes_on in_g rest ends)
 
 -- of tokens that begin with this one two readers answer the same
@@ -170,19 +170,19 @@ or_same most is P P' Q Q' p q ts fits = by (next_is is ts)
     by false = q ts fits
 
 -- one or the other is read exactly, of so many tokens
-pub or_at : {room : Type 0} {A : Type 0} (most : ℕ) (L M : Language A) (level : ℕ) (is : Kinds) (P Q : Reader A) (f g goes_on : Kinds)
-    → ExactAt most L P f room → ExactAt most M Q g room → Shape L level is room → (room → IsWelcome most is P) → Follows is M goes_on → Within f goes_on → Within g goes_on
-    → ExactAt most (L or M) (by_next is P Q) goes_on room
-or_at most L M level is P Q f g goes_on p q shape welcomes follows in_f in_g = record {
-  sound = λ r. or_sound most L M is P Q (p.sound r) (q.sound r);
-  complete = or_complete most L M level is P Q f g goes_on p.complete q.complete shape follows in_f in_g;
+pub or_at : {levels : ℕ} {room : Type 0} {A : Type 0} (most : ℕ) (L M : Language A) (level : ℕ) (is : Kinds) (P Q : Reader A) (f g goes_on : Kinds)
+    → ExactAt levels most L P f room → ExactAt levels most M Q g room → Shape L level is room → (room → IsWelcome most is P) → Follows is M goes_on → Within f goes_on → Within g goes_on
+    → ExactAt levels most (L or M) (by_next is P Q) goes_on room
+or_at {levels} most L M level is P Q f g goes_on p q shape welcomes follows in_f in_g = record {
+  sound = λ r. or_sound levels most L M is P Q (p.sound r) (q.sound r);
+  complete = or_complete levels most L M level is P Q f g goes_on p.complete q.complete shape follows in_f in_g;
   local = λ r. or_local most is P Q (p.local r) (q.local r) (welcomes r);
 }
 
 -- one or the other is read exactly, if the first kinds of the one don't come first where the other is
-pub exact_or_by : {room : Type 0} {A : Type 0} {L M : Language A} {level : ℕ} {is : Kinds} {P Q : ℕ → Reader A} {f g : Kinds} (goes_on : Kinds)
-    → Exact L P f room → Exact M Q g room → Shape L level is room → Follows is M goes_on → Within f goes_on → Within g goes_on
-    → Exact (L or M) (λ most. by_next is (P most) (Q most)) goes_on room
+pub exact_or_by : {levels : ℕ} {room : Type 0} {A : Type 0} {L M : Language A} {level : ℕ} {is : Kinds} {P Q : ℕ → Reader A} {f g : Kinds} (goes_on : Kinds)
+    → Exact levels L P f room → Exact levels M Q g room → Shape L level is room → Follows is M goes_on → Within f goes_on → Within g goes_on
+    → Exact levels (L or M) (λ most. by_next is (P most) (Q most)) goes_on room
 exact_or_by {L} {M} {level} {is} {P} {Q} {f} {g} goes_on p q shape follows in_f in_g = record {
   exact = λ most. or_at most L M level is (P most) (Q most) f g goes_on (p.exact most) (q.exact most) shape
       (λ r. welcome shape p r most) follows in_f in_g;
@@ -190,8 +190,8 @@ exact_or_by {L} {M} {level} {is} {P} {Q} {f} {g} goes_on p q shape follows in_f 
 }
 
 -- two languages neither of which has the empty stretch, with no first kind in common
-pub exact_or : {room : Type 0} {A : Type 0} {L M : Language A} {level : ℕ} {is first : Kinds} {P Q : ℕ → Reader A} {f g : Kinds}
-    → Exact L P f room → Exact M Q g room → Shape L level is room → Shape M level first room → Apart is first
-    → Exact (L or M) (λ most. by_next is (P most) (Q most)) (f ∪ g) room
+pub exact_or : {levels : ℕ} {room : Type 0} {A : Type 0} {L M : Language A} {level : ℕ} {is first : Kinds} {P Q : ℕ → Reader A} {f g : Kinds}
+    → Exact levels L P f room → Exact levels M Q g room → Shape L level is room → Shape M level first room → Apart is first
+    → Exact levels (L or M) (λ most. by_next is (P most) (Q most)) (f ∪ g) room
 exact_or {L} {M} {level} {is} {first} {P} {Q} {f} {g} p q shape other apart =
     exact_or_by (f ∪ g) p q shape (follows_shape is (f ∪ g) other apart) (within_left f g) (within_right f g)

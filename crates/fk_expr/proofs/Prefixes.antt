@@ -23,8 +23,8 @@ use Rattle.fk_expr.proofs.Inner.{Inner, examples_of, reads_opened}
 use Rattle.fk_expr.proofs.Suffixes.{reads_postfix}
 
 -- a cast is read exactly
-pub reads_cast : {room : Type 0} (D : Deeper) (l : ℕ) (inner : ℕ → Option Readers) → Inner D l inner room
-    → IsRead (cast D l) (λ most. read_cast most (inner most)) (l + 1) is_open_parenthesis begins_suffix room
+pub reads_cast : {levels : ℕ} {room : Type 0} (D : Deeper) (l : ℕ) (inner : ℕ → Option Readers) → Inner levels D l inner room
+    → IsRead levels (cast D l) (λ most. read_cast most (inner most)) (l + 1) is_open_parenthesis begins_suffix room
 unfolding read_cast
 reads_cast D l inner w =
     reads_opened _ w (shape_cast D l (examples_of w)) (λ v.
@@ -35,8 +35,8 @@ reads_cast D l inner w =
     (none_apart begins_type))).exact)
 
 -- `sizeof` is read exactly
-pub reads_sizeof : {room : Type 0} (D : Deeper) (l : ℕ) (inner : ℕ → Option Readers) → Inner D l inner room
-    → IsRead (sizeof l) (λ most. read_sizeof most (inner most)) l is_sizeof none room
+pub reads_sizeof : {levels : ℕ} {room : Type 0} (D : Deeper) (l : ℕ) (inner : ℕ → Option Readers) → Inner levels D l inner room
+    → IsRead levels (sizeof l) (λ most. read_sizeof most (inner most)) l is_sizeof none room
 unfolding read_sizeof
 reads_sizeof D l inner w =
     reads_making _ (reads_then (reads_token l is_sizeof kind.Sizeof refl w.level)
@@ -48,8 +48,8 @@ reads_sizeof D l inner w =
 abbrev signed : Deeper → ℕ → Language Tree
 signed D l = making (λ x. Prefix (spot x.0.0) x.0.1 x.1) (telling (l + 1) prefix_told then D.prefix (l + 1))
 
-reads_signed : {room : Type 0} (D : Deeper) (l : ℕ) (inner : ℕ → Option Readers) → Inner D l inner room
-    → IsRead (signed D l) (λ most. read_signed (inner most)) (l + 1) (tells prefix_told) begins_suffix room
+reads_signed : {levels : ℕ} {room : Type 0} (D : Deeper) (l : ℕ) (inner : ℕ → Option Readers) → Inner levels D l inner room
+    → IsRead levels (signed D l) (λ most. read_signed (inner most)) (l + 1) (tells prefix_told) begins_suffix room
 unfolding read_signed
 reads_signed D l inner w =
     reads_opened _ w (shape_making _ (shape_signed D l (examples_of w))) (λ v.
@@ -135,8 +135,8 @@ starts_other D l x t h =
 -- ---- prefix expressions
 
 -- what is no cast and has no sign is read exactly
-reads_other : {room : Type 0} (D : Deeper) (l : ℕ) (inner : ℕ → Option Readers) → Inner D l inner room
-    → IsRead (sizeof l or postfix D l) (λ most. by_next is_sizeof (read_sizeof most (inner most)) (read_postfix most (inner most))) l (is_sizeof ∪ begins_primary) begins_suffix room
+reads_other : {levels : ℕ} {room : Type 0} (D : Deeper) (l : ℕ) (inner : ℕ → Option Readers) → Inner levels D l inner room
+    → IsRead levels (sizeof l or postfix D l) (λ most. by_next is_sizeof (read_sizeof most (inner most)) (read_postfix most (inner most))) l (is_sizeof ∪ begins_primary) begins_suffix room
 reads_other D l inner w =
     reads_wider begins_suffix (λ k h. h)
     (reads_or (reads_sizeof D l inner w) (reads_postfix D l inner w) (apart_by is_sizeof begins_primary refl (λ v u. refl)))
@@ -145,8 +145,8 @@ reads_other D l inner w =
 abbrev unsigned : Kinds
 unsigned = is_open_parenthesis ∪ (is_sizeof ∪ begins_primary)
 
-reads_unsigned : {room : Type 0} (D : Deeper) (l : ℕ) (inner : ℕ → Option Readers) → Inner D l inner room
-    → IsRead (cast D l or (sizeof l or postfix D l))
+reads_unsigned : {levels : ℕ} {room : Type 0} (D : Deeper) (l : ℕ) (inner : ℕ → Option Readers) → Inner levels D l inner room
+    → IsRead levels (cast D l or (sizeof l or postfix D l))
     (λ most ts. either (cast_is_next ts) (read_cast most (inner most)) (by_next is_sizeof (read_sizeof most (inner most)) (read_postfix most (inner most))) ts)
     l unsigned begins_suffix room
 reads_unsigned D l inner w =
@@ -166,8 +166,8 @@ abbrev prefixes : Kinds
 prefixes = tells prefix_told ∪ unsigned
 
 -- a prefix expression is read exactly
-pub reads_prefix : {room : Type 0} (D : Deeper) (l : ℕ) (inner : ℕ → Option Readers) → Inner D l inner room
-    → IsRead (prefix D l) (λ most. read_prefix most (inner most)) l begins_expression begins_suffix room
+pub reads_prefix : {levels : ℕ} {room : Type 0} (D : Deeper) (l : ℕ) (inner : ℕ → Option Readers) → Inner levels D l inner room
+    → IsRead levels (prefix D l) (λ most. read_prefix most (inner most)) l begins_expression begins_suffix room
 unfolding read_prefix
 reads_prefix D l inner w =
     reads_kinds begins_expression (within_by prefixes begins_expression refl (λ v u. refl)) (within_by begins_expression prefixes refl (λ v u. refl))

@@ -13,15 +13,15 @@ use Rattle.fk_expr.proofs.Followers.{goes_comma}
 use Rattle.fk_expr.proofs.Inner.{Inner, examples_of, reads_opened}
 
 -- an expression in parentheses is read exactly
-pub reads_parenthesized : {room : Type 0} (D : Deeper) (l : ℕ) (inner : ℕ → Option Readers) → Inner D l inner room
-    → IsRead (parenthesized D l) (λ most. read_parenthesized (inner most)) (l + 1) is_open_parenthesis none room
+pub reads_parenthesized : {levels : ℕ} {room : Type 0} (D : Deeper) (l : ℕ) (inner : ℕ → Option Readers) → Inner levels D l inner room
+    → IsRead levels (parenthesized D l) (λ most. read_parenthesized (inner most)) (l + 1) is_open_parenthesis none room
 reads_parenthesized D l inner w =
     reads_opened _ w (shape_parenthesized D l (examples_of w)) (λ v.
     (reads_making _ (reads_in_parentheses v.shallow v.comma (apart_by goes_comma is_close_parenthesis refl (λ v u. refl)))).exact)
 
 -- `puts` is read exactly
-pub reads_puts : {room : Type 0} (D : Deeper) (l : ℕ) (inner : ℕ → Option Readers) → Inner D l inner room
-    → IsRead (puts l) (λ most. read_puts (inner most)) l is_puts none room
+pub reads_puts : {levels : ℕ} {room : Type 0} (D : Deeper) (l : ℕ) (inner : ℕ → Option Readers) → Inner levels D l inner room
+    → IsRead levels (puts l) (λ most. read_puts (inner most)) l is_puts none room
 reads_puts D l inner w =
     reads_making _ (reads_then (reads_token l is_puts kind.Puts refl w.level)
     (reads_opened _ w (shape_in_parentheses (l + 1) (λ r. example_token (l + 1) is_text kind.Text refl)) (λ v.
@@ -45,8 +45,8 @@ abbrev from_number : Kinds
 from_number = tells number_told ∪ from_name
 
 -- a primary expression is read exactly
-pub reads_primary : {room : Type 0} (D : Deeper) (l : ℕ) (inner : ℕ → Option Readers) → Inner D l inner room
-    → IsRead (primary D l) (λ most. read_primary (inner most)) l begins_primary none room
+pub reads_primary : {levels : ℕ} {room : Type 0} (D : Deeper) (l : ℕ) (inner : ℕ → Option Readers) → Inner levels D l inner room
+    → IsRead levels (primary D l) (λ most. read_primary (inner most)) l begins_primary none room
 unfolding read_primary
 reads_primary D l inner w =
     reads_kinds begins_primary (within_by from_number begins_primary refl (λ v u. refl)) (within_by begins_primary from_number refl (λ v u. refl))

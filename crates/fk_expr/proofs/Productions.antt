@@ -4,7 +4,6 @@ use Rattle.fk_lex.specs.declared.token.TokenKind.{TokenKind}
 use Rattle.fk_lex.specs.declared.token.TokenKind.TheVariants as kind
 use Rattle.fk_expr.specs.Kinds.{is_open_parenthesis, is_close_parenthesis}
 use Rattle.fk_expr.specs.Languages.{Placed, Language, token, telling, ◌then◌, ◌or◌, making, many, maybe}
-use Rattle.fk_expr.specs.Reads.{most_levels}
 use Rattle.fk_expr.specs.Reading.{Reader, expect, expect_told, giving, ◌and◌, by_next, optional, repeated, tells}
 use Rattle.fk_expr.proofs.Sets.{Kinds, none, ◌∪◌, Apart, Within, none_apart}
 use Rattle.fk_expr.proofs.Exact.{Example, Shape, LooseShape, Exact}
@@ -15,85 +14,85 @@ use Rattle.fk_expr.proofs.Or.{exact_or}
 use Rattle.fk_expr.proofs.Many.{exact_maybe, exact_many}
 
 -- a language that isn't empty is read exactly: its stretches begin with the first kinds at this level or deeper, and go on with the last
-pub record IsRead {A : Type 0} (L : Language A) (P : ℕ → Reader A) (level : ℕ) (first goes_on : Kinds) (room : Type 0) : Type 0 where
+pub record IsRead (levels : ℕ) {A : Type 0} (L : Language A) (P : ℕ → Reader A) (level : ℕ) (first goes_on : Kinds) (room : Type 0) : Type 0 where
   pub shape : Shape L level first room
-  pub exact : Exact L P goes_on room
+  pub exact : Exact levels L P goes_on room
 
 -- a language that has the empty stretch too
-pub record IsLooselyRead {A : Type 0} (L : Language A) (P : ℕ → Reader A) (level : ℕ) (first goes_on : Kinds) (room : Type 0) : Type 0 where
+pub record IsLooselyRead (levels : ℕ) {A : Type 0} (L : Language A) (P : ℕ → Reader A) (level : ℕ) (first goes_on : Kinds) (room : Type 0) : Type 0 where
   pub shape : LooseShape L level first room
-  pub exact : Exact L P goes_on room
+  pub exact : Exact levels L P goes_on room
 
 -- a token of a kind: name a kind of the set
-pub reads_token : {room : Type 0} (level : ℕ) (is : Kinds) (k : TokenKind) → IsTrue (is k) → level ≤ most_levels
-    → IsRead (token level is) (λ most. expect is) level is none room
+pub reads_token : {levels : ℕ} {room : Type 0} (level : ℕ) (is : Kinds) (k : TokenKind) → IsTrue (is k) → level ≤ levels
+    → IsRead levels (token level is) (λ most. expect is) level is none room
 reads_token level is k e h = record { shape = shape_token level is k e; exact = exact_token level is k e h }
 
 -- a token whose kind tells something: name a kind, and what it tells
-pub reads_telling : {room : Type 0} {A : Type 0} (level : ℕ) (told : TokenKind → Option A) (k : TokenKind) (a : A) → told k ≡ Some a → level ≤ most_levels
-    → IsRead (telling level told) (λ most. expect_told told) level (tells told) none room
+pub reads_telling : {levels : ℕ} {room : Type 0} {A : Type 0} (level : ℕ) (told : TokenKind → Option A) (k : TokenKind) (a : A) → told k ≡ Some a → level ≤ levels
+    → IsRead levels (telling level told) (λ most. expect_told told) level (tells told) none room
 reads_telling level told k a e h = record { shape = shape_telling level told k a e; exact = exact_telling level told k a e h }
 
 -- what is made of a language
-pub reads_making : {room : Type 0} {A B : Type 0} (f : A → B) {L : Language A} {P : ℕ → Reader A} {level : ℕ} {first goes_on : Kinds}
-    → IsRead L P level first goes_on room → IsRead (making f L) (λ most. giving f (P most)) level first goes_on room
+pub reads_making : {levels : ℕ} {room : Type 0} {A B : Type 0} (f : A → B) {L : Language A} {P : ℕ → Reader A} {level : ℕ} {first goes_on : Kinds}
+    → IsRead levels L P level first goes_on room → IsRead levels (making f L) (λ most. giving f (P most)) level first goes_on room
 reads_making f w = record { shape = shape_making f w.shape; exact = exact_making f w.exact }
 
 -- what is made of a language that may be empty
-pub loosely_making : {room : Type 0} {A B : Type 0} (f : A → B) {L : Language A} {P : ℕ → Reader A} {level : ℕ} {first goes_on : Kinds}
-    → IsLooselyRead L P level first goes_on room → IsLooselyRead (making f L) (λ most. giving f (P most)) level first goes_on room
+pub loosely_making : {levels : ℕ} {room : Type 0} {A B : Type 0} (f : A → B) {L : Language A} {P : ℕ → Reader A} {level : ℕ} {first goes_on : Kinds}
+    → IsLooselyRead levels L P level first goes_on room → IsLooselyRead levels (making f L) (λ most. giving f (P most)) level first goes_on room
 loosely_making f w = record { shape = loose_making f w.shape; exact = exact_making f w.exact }
 
 -- one after another
-pub reads_then : {room : Type 0} {A B : Type 0} {L : Language A} {M : Language B} {P : ℕ → Reader A} {Q : ℕ → Reader B} {level lower : ℕ} {first second f g : Kinds}
-    → IsRead L P level first f room → IsRead M Q lower second g room → Apart f second
-    → IsRead (L then M) (λ most. P most and Q most) level first g room
+pub reads_then : {levels : ℕ} {room : Type 0} {A B : Type 0} {L : Language A} {M : Language B} {P : ℕ → Reader A} {Q : ℕ → Reader B} {level lower : ℕ} {first second f g : Kinds}
+    → IsRead levels L P level first f room → IsRead levels M Q lower second g room → Apart f second
+    → IsRead levels (L then M) (λ most. P most and Q most) level first g room
 reads_then v w apart = record { shape = shape_then v.shape w.shape.example; exact = exact_then v.exact w.exact w.shape apart }
 
 -- the second may be empty
-pub reads_then_loose : {room : Type 0} {A B : Type 0} {L : Language A} {M : Language B} {P : ℕ → Reader A} {Q : ℕ → Reader B} {level lower : ℕ} {first second f g : Kinds}
-    → IsRead L P level first f room → IsLooselyRead M Q lower second g room → Apart f second
-    → IsRead (L then M) (λ most. P most and Q most) level first (f ∪ g) room
+pub reads_then_loose : {levels : ℕ} {room : Type 0} {A B : Type 0} {L : Language A} {M : Language B} {P : ℕ → Reader A} {Q : ℕ → Reader B} {level lower : ℕ} {first second f g : Kinds}
+    → IsRead levels L P level first f room → IsLooselyRead levels M Q lower second g room → Apart f second
+    → IsRead levels (L then M) (λ most. P most and Q most) level first (f ∪ g) room
 reads_then_loose v w apart = record {
   shape = shape_then v.shape (λ r. example_empty (w.shape.empty r));
   exact = exact_then_loose v.exact w.exact w.shape apart;
 }
 
 -- the first may be empty
-pub reads_loose_then : {room : Type 0} {A B : Type 0} {L : Language A} {M : Language B} {P : ℕ → Reader A} {Q : ℕ → Reader B} {level : ℕ} {first second f g : Kinds}
-    → IsLooselyRead L P level first f room → IsRead M Q level second g room → Apart f second
-    → IsRead (L then M) (λ most. P most and Q most) level (first ∪ second) g room
+pub reads_loose_then : {levels : ℕ} {room : Type 0} {A B : Type 0} {L : Language A} {M : Language B} {P : ℕ → Reader A} {Q : ℕ → Reader B} {level : ℕ} {first second f g : Kinds}
+    → IsLooselyRead levels L P level first f room → IsRead levels M Q level second g room → Apart f second
+    → IsRead levels (L then M) (λ most. P most and Q most) level (first ∪ second) g room
 reads_loose_then v w apart = record { shape = shape_loose_then v.shape w.shape; exact = exact_then v.exact w.exact w.shape apart }
 
 -- one or another
-pub reads_or : {room : Type 0} {A : Type 0} {L M : Language A} {P Q : ℕ → Reader A} {level : ℕ} {first second f g : Kinds}
-    → IsRead L P level first f room → IsRead M Q level second g room → Apart first second
-    → IsRead (L or M) (λ most. by_next first (P most) (Q most)) level (first ∪ second) (f ∪ g) room
+pub reads_or : {levels : ℕ} {room : Type 0} {A : Type 0} {L M : Language A} {P Q : ℕ → Reader A} {level : ℕ} {first second f g : Kinds}
+    → IsRead levels L P level first f room → IsRead levels M Q level second g room → Apart first second
+    → IsRead levels (L or M) (λ most. by_next first (P most) (Q most)) level (first ∪ second) (f ∪ g) room
 reads_or v w apart = record { shape = shape_or v.shape w.shape; exact = exact_or v.exact w.exact v.shape w.shape apart }
 
 -- one or nothing
-pub reads_maybe : {room : Type 0} {A : Type 0} {L : Language A} {P : ℕ → Reader A} {level : ℕ} {first f : Kinds}
-    → IsRead L P level first f room → IsLooselyRead (maybe L) (λ most. optional first (P most)) level first (f ∪ first) room
+pub reads_maybe : {levels : ℕ} {room : Type 0} {A : Type 0} {L : Language A} {P : ℕ → Reader A} {level : ℕ} {first f : Kinds}
+    → IsRead levels L P level first f room → IsLooselyRead levels (maybe L) (λ most. optional first (P most)) level first (f ∪ first) room
 reads_maybe w = record { shape = loose_maybe w.shape; exact = exact_maybe w.exact w.shape }
 
 -- any number
-pub reads_many : {room : Type 0} {A : Type 0} {L : Language A} {P : ℕ → Reader A} {level : ℕ} {first f : Kinds}
-    → IsRead L P level first f room → Apart f first → IsLooselyRead (many L) (λ most. repeated most first (P most)) level first (f ∪ first) room
+pub reads_many : {levels : ℕ} {room : Type 0} {A : Type 0} {L : Language A} {P : ℕ → Reader A} {level : ℕ} {first f : Kinds}
+    → IsRead levels L P level first f room → Apart f first → IsLooselyRead levels (many L) (λ most. repeated most first (P most)) level first (f ∪ first) room
 reads_many w apart = record { shape = loose_many w.shape; exact = exact_many w.exact w.shape apart }
 
 -- at a lower level
-pub reads_lower : {room : Type 0} {A : Type 0} {L : Language A} {P : ℕ → Reader A} {level lower : ℕ} {first f : Kinds}
-    → lower ≤ level → IsRead L P level first f room → IsRead L P lower first f room
+pub reads_lower : {levels : ℕ} {room : Type 0} {A : Type 0} {L : Language A} {P : ℕ → Reader A} {level lower : ℕ} {first f : Kinds}
+    → lower ≤ level → IsRead levels L P level first f room → IsRead levels L P lower first f room
 reads_lower below w = record { shape = shape_lower below w.shape; exact = w.exact }
 
 -- two sets of the same first kinds
-pub reads_kinds : {room : Type 0} {A : Type 0} {L : Language A} {P : ℕ → Reader A} {level : ℕ} {first f : Kinds} (other : Kinds) → Within first other → Within other first
-    → IsRead L P level first f room → IsRead L P level other f room
+pub reads_kinds : {levels : ℕ} {room : Type 0} {A : Type 0} {L : Language A} {P : ℕ → Reader A} {level : ℕ} {first f : Kinds} (other : Kinds) → Within first other → Within other first
+    → IsRead levels L P level first f room → IsRead levels L P level other f room
 reads_kinds other there back w = record { shape = shape_kinds other there back w.shape; exact = w.exact }
 
 -- more kinds may go on
-pub reads_wider : {room : Type 0} {A : Type 0} {L : Language A} {P : ℕ → Reader A} {level : ℕ} {first f : Kinds} (g : Kinds) → Within f g
-    → IsRead L P level first f room → IsRead L P level first g room
+pub reads_wider : {levels : ℕ} {room : Type 0} {A : Type 0} {L : Language A} {P : ℕ → Reader A} {level : ℕ} {first f : Kinds} (g : Kinds) → Within f g
+    → IsRead levels L P level first f room → IsRead levels L P level first g room
 reads_wider g within w = record { shape = w.shape; exact = exact_wider g within w.exact }
 
 -- ---- in parentheses
@@ -115,9 +114,9 @@ shape_in_parentheses level x =
     (λ r. example_then (x r) (example_token level is_close_parenthesis kind.CloseParenthesis refl))
 
 -- it is read exactly, if a closing parenthesis doesn't go on with what stands there
-pub reads_in_parentheses : {room : Type 0} {A : Type 0} {L : Language A} {P : ℕ → Reader A} {level lower : ℕ} {first f : Kinds}
-    → level ≤ most_levels → IsRead L P lower first f room → Apart f is_close_parenthesis
-    → IsRead (in_parentheses level L) (λ most. expect is_open_parenthesis and P most and expect is_close_parenthesis) level is_open_parenthesis none room
+pub reads_in_parentheses : {levels : ℕ} {room : Type 0} {A : Type 0} {L : Language A} {P : ℕ → Reader A} {level lower : ℕ} {first f : Kinds}
+    → level ≤ levels → IsRead levels L P lower first f room → Apart f is_close_parenthesis
+    → IsRead levels (in_parentheses level L) (λ most. expect is_open_parenthesis and P most and expect is_close_parenthesis) level is_open_parenthesis none room
 reads_in_parentheses {level = level} {first = first} h w apart =
     reads_then (reads_token level is_open_parenthesis kind.OpenParenthesis refl h)
     (reads_then w (reads_token level is_close_parenthesis kind.CloseParenthesis refl h) apart)

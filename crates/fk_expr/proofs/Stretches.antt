@@ -1,12 +1,12 @@
 -- Stretches one after the other: their tokens, their levels, and what has to be answered of them.
-use Rattle.std.proofs.Common.{◌≡◌, ◌+◌, ◌≤◌, ◌<◌, List, [], ◌∷◌, ◌++◌, Bool, true, false, Ok, Err, length, nat_le, cond, ◌⊎◌, inl, inr, refl, ap, ◌∙◌, append_assoc, arith, length-append, le-leb, le_refl}
+use Rattle.std.proofs.Common.{ℕ, ◌≡◌, ◌+◌, ◌≤◌, ◌<◌, List, [], ◌∷◌, ◌++◌, Bool, true, false, Ok, Err, length, nat_le, cond, ◌⊎◌, inl, inr, refl, ap, ◌∙◌, append_assoc, arith, length-append, le-leb, le_refl}
 use Rattle.std.proofs.lemmas.Bool.{lt-leb}
 use Rattle.std.proofs.lemmas.List.{map-append, length-map}
 use Rattle.std.proofs.lemmas.List.Elements.{All-append, All-nil, All-cons, All-head, All-tail}
 use Rattle.fk_expr.specs.Languages.{Placed, Marked, Stretch, tokens_of}
-use Rattle.fk_expr.specs.Reads.{Answer, Unexpected, IsShallow, most_levels}
+use Rattle.fk_expr.specs.Reads.{Answer, Unexpected}
 use Rattle.fk_expr.specs.Reading.{Reader, after}
-use Rattle.fk_expr.proofs.Exact.{from_deep, settled_by, settled}
+use Rattle.fk_expr.proofs.Exact.{IsWithin, from_deep, settled_by, settled}
 
 -- ---- tokens
 
@@ -66,68 +66,77 @@ same_head x r (z ∷ front) y rest e others = (front ++ y ∷ others, cc)
 -- ---- levels
 
 -- stretches that are shallow
-pub shallow-append : (s t : Stretch) → IsShallow s → IsShallow t → IsShallow (s ++ t)
-shallow-append s t h k = All-append (λ m. m.level ≤ most_levels) s t h k
+pub shallow-append : (levels : ℕ) (s t : Stretch) → IsWithin levels s → IsWithin levels t → IsWithin levels (s ++ t)
+shallow-append levels s t h k = All-append (λ m. m.level ≤ levels) s t h k
 
-pub shallow-nil : IsShallow []
-shallow-nil = All-nil (λ m. m.level ≤ most_levels)
+pub shallow-nil : (levels : ℕ) → IsWithin levels []
+shallow-nil levels = All-nil (λ m. m.level ≤ levels)
 
-pub shallow-one : (m : Marked) → m.level ≤ most_levels → IsShallow (m ∷ [])
-shallow-one m h = All-cons (λ m. m.level ≤ most_levels) m [] h shallow-nil
+pub shallow-one : (levels : ℕ) (m : Marked) → m.level ≤ levels → IsWithin levels (m ∷ [])
+shallow-one levels m h = All-cons (λ m. m.level ≤ levels) m [] h (shallow-nil levels)
 
 -- no token of a shallow stretch is past the bound
-pub from_deep-shallow : (s : Stretch) → IsShallow s → from_deep s ≡ []
-from_deep-shallow [] h = refl
-from_deep-shallow (m ∷ s) h =
-    rw (le-leb m.level most_levels (All-head (λ m. m.level ≤ most_levels) m s h)) (from_deep-shallow s (All-tail (λ m. m.level ≤ most_levels) m s h))
+pub from_deep-shallow : (levels : ℕ) (s : Stretch) → IsWithin levels s → from_deep levels s ≡ []
+from_deep-shallow levels [] h = refl
+from_deep-shallow levels (m ∷ s) h =
+    rw (le-leb m.level levels (All-head (λ m. m.level ≤ levels) m s h)) (from_deep-shallow levels s (All-tail (λ m. m.level ≤ levels) m s h))
 
 -- what is past the bound comes behind what is shallow
-pub from_deep-skip : (s t : Stretch) → IsShallow s → from_deep (s ++ t) ≡ from_deep t
-from_deep-skip [] t h = refl
-from_deep-skip (m ∷ s) t h =
-    rw (le-leb m.level most_levels (All-head (λ m. m.level ≤ most_levels) m s h)) (from_deep-skip s t (All-tail (λ m. m.level ≤ most_levels) m s h))
+pub from_deep-skip : (levels : ℕ) (s t : Stretch) → IsWithin levels s → from_deep levels (s ++ t) ≡ from_deep levels t
+from_deep-skip levels [] t h = refl
+from_deep-skip levels (m ∷ s) t h =
+    rw (le-leb m.level levels (All-head (λ m. m.level ≤ levels) m s h)) (from_deep-skip levels s t (All-tail (λ m. m.level ≤ levels) m s h))
 
 -- it is no longer than the whole
-length-from_deep_step : (b : Bool) (m : Marked) (s : Stretch) → length (from_deep s) ≤ length s → length (cond b (from_deep s) (m ∷ s)) ≤ length (m ∷ s)
-length-from_deep_step true m s h = omega (arith, h)
-length-from_deep_step false m s h = le_refl (length (m ∷ s))
+length-from_deep_step : (levels : ℕ) (b : Bool) (m : Marked) (s : Stretch) → length (from_deep levels s) ≤ length s → length (cond b (from_deep levels s) (m ∷ s)) ≤ length (m ∷ s)
+length-from_deep_step levels true m s h = omega (arith, h)
+length-from_deep_step levels false m s h = le_refl (length (m ∷ s))
 
-pub length-from_deep : (s : Stretch) → length (from_deep s) ≤ length s
-length-from_deep [] = le_refl 0
-length-from_deep (m ∷ s) = length-from_deep_step (nat_le m.level most_levels) m s (length-from_deep s)
+pub length-from_deep : (levels : ℕ) (s : Stretch) → length (from_deep levels s) ≤ length s
+length-from_deep levels [] = le_refl 0
+length-from_deep levels (m ∷ s) = length-from_deep_step levels (nat_le m.level levels) m s (length-from_deep levels s)
 
 -- a token past the bound comes first
-pub from_deep-past : (m : Marked) (s : Stretch) → most_levels < m.level → from_deep (m ∷ s) ≡ m ∷ s
-from_deep-past m s past = rw (lt-leb m.level most_levels past) refl
+pub from_deep-past : (levels : ℕ) (m : Marked) (s : Stretch) → levels < m.level → from_deep levels (m ∷ s) ≡ m ∷ s
+from_deep-past levels m s past = rw (lt-leb m.level levels past) refl
+
+-- a bound on the levels of a stretch
+abbrev pub sum_of_levels : Stretch → ℕ
+sum_of_levels [] = 0
+sum_of_levels (m ∷ s) = m.level + sum_of_levels s
+
+pub within_sum : (levels : ℕ) (s : Stretch) → sum_of_levels s ≤ levels → IsWithin levels s
+within_sum levels [] h = shallow-nil levels
+within_sum levels (m ∷ s) h = All-cons (λ m. m.level ≤ levels) m s (omega arith) (within_sum levels s (omega arith))
 
 -- ---- what has to be answered
 
 -- what is made of an answer
-pub settled_giving : {A B : Type 0} (f : A → B) (s : Stretch) (a : A) (rest : List Placed) (answer : Answer A)
-    → answer ≡ settled s a rest → after {B = B} answer (λ v others. Ok (f v, others)) ≡ settled s (f a) rest
-settled_giving {A} {B} f s a rest answer e = rw e (by (from_deep s))
+pub settled_giving : (levels : ℕ) {A B : Type 0} (f : A → B) (s : Stretch) (a : A) (rest : List Placed) (answer : Answer A)
+    → answer ≡ settled levels s a rest → after {B = B} answer (λ v others. Ok (f v, others)) ≡ settled levels s (f a) rest
+settled_giving levels {A} {B} f s a rest answer e = rw e (by (from_deep levels s))
   where
     by : (t : Stretch) → after {B = B} (settled_by t a rest) (λ v others. Ok (f v, others)) ≡ settled_by t (f a) rest
     by [] = refl
     by (m ∷ t) = refl
 
 -- one stretch after another
-settled_step : {A B : Type 0} (is_shallow : Bool) (m : Marked) (s t : Stretch) (a : A) (b : B) (rest : List Placed) (Q : Reader B)
-    → after {B = A × B} (settled s a (tokens_of t ++ rest)) (λ v others. after (Q others) (λ w more. Ok ((v, w), more))) ≡ settled (s ++ t) (a, b) rest
-    → after {B = A × B} (settled_by (cond is_shallow (from_deep s) (m ∷ s)) a (tokens_of t ++ rest)) (λ v others. after (Q others) (λ w more. Ok ((v, w), more)))
-    ≡ settled_by (cond is_shallow (from_deep (s ++ t)) (m ∷ (s ++ t))) (a, b) rest
-settled_step true m s t a b rest Q e = e
-settled_step false m s t a b rest Q e = rw (tokens_regroup s t rest) refl
+settled_step : (levels : ℕ) {A B : Type 0} (is_shallow : Bool) (m : Marked) (s t : Stretch) (a : A) (b : B) (rest : List Placed) (Q : Reader B)
+    → after {B = A × B} (settled levels s a (tokens_of t ++ rest)) (λ v others. after (Q others) (λ w more. Ok ((v, w), more))) ≡ settled levels (s ++ t) (a, b) rest
+    → after {B = A × B} (settled_by (cond is_shallow (from_deep levels s) (m ∷ s)) a (tokens_of t ++ rest)) (λ v others. after (Q others) (λ w more. Ok ((v, w), more)))
+    ≡ settled_by (cond is_shallow (from_deep levels (s ++ t)) (m ∷ (s ++ t))) (a, b) rest
+settled_step levels true m s t a b rest Q e = e
+settled_step levels false m s t a b rest Q e = rw (tokens_regroup s t rest) refl
 
 -- of one stretch after another both are answered, or the first token that nests too deep
-pub settled_then : {A B : Type 0} (s t : Stretch) (a : A) (b : B) (rest : List Placed) (Q : Reader B) → Q (tokens_of t ++ rest) ≡ settled t b rest
-    → after {B = A × B} (settled s a (tokens_of t ++ rest)) (λ v others. after (Q others) (λ w more. Ok ((v, w), more))) ≡ settled (s ++ t) (a, b) rest
-settled_then [] t a b rest Q e = settled_giving (λ w. (a, w)) t b rest (Q (tokens_of t ++ rest)) e
-settled_then (m ∷ s) t a b rest Q e = settled_step (nat_le m.level most_levels) m s t a b rest Q (settled_then s t a b rest Q e)
+pub settled_then : (levels : ℕ) {A B : Type 0} (s t : Stretch) (a : A) (b : B) (rest : List Placed) (Q : Reader B) → Q (tokens_of t ++ rest) ≡ settled levels t b rest
+    → after {B = A × B} (settled levels s a (tokens_of t ++ rest)) (λ v others. after (Q others) (λ w more. Ok ((v, w), more))) ≡ settled levels (s ++ t) (a, b) rest
+settled_then levels [] t a b rest Q e = settled_giving levels (λ w. (a, w)) t b rest (Q (tokens_of t ++ rest)) e
+settled_then levels (m ∷ s) t a b rest Q e = settled_step levels (nat_le m.level levels) m s t a b rest Q (settled_then levels s t a b rest Q e)
 
 -- a token of a stretch that is read is never unexpected
-pub settled_read : {A : Type 0} (s : Stretch) (a : A) (rest others : List Placed) → settled s a rest ≡ Err (Unexpected others) → ⊥
-settled_read {A} s a rest others e = by (from_deep s) e
+pub settled_read : (levels : ℕ) {A : Type 0} (s : Stretch) (a : A) (rest others : List Placed) → settled levels s a rest ≡ Err (Unexpected others) → ⊥
+settled_read levels {A} s a rest others e = by (from_deep levels s) e
   where
     by : (t : Stretch) → settled_by t a rest ≡ Err (Unexpected others) → ⊥
     by [] e = cc

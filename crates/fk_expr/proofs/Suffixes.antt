@@ -4,7 +4,6 @@ use Rattle.fk_syntax.specs.Tree.{SuffixTree, Index, Call, trees_of}
 use Rattle.fk_lex.specs.declared.token.TokenKind.{TokenKind}
 use Rattle.fk_lex.specs.declared.token.TokenKind.TheVariants as kind
 use Rattle.fk_expr.specs.Languages.{Language, token, ◌then◌, making}
-use Rattle.fk_expr.specs.Reads.{most_levels}
 use Rattle.fk_expr.specs.Kinds.{is_name, is_comma, is_open_parenthesis, is_close_parenthesis, is_open_bracket, is_close_bracket, is_dot, is_arrow, is_increment, is_decrement}
 use Rattle.fk_expr.specs.Grammar.{spot, Deeper, arguments, suffix, postfix}
 use Rattle.fk_expr.specs.Reading.{Reader, Readers, expect, giving, ◌and◌, opened, begins_primary, begins_suffix, begins_expression, read_arguments, read_suffix, read_postfix}
@@ -21,8 +20,8 @@ use Rattle.fk_expr.proofs.Primary.{reads_primary}
 abbrev goes_arguments : Kinds
 goes_arguments = (goes_assignment ∪ (goes_assignment ∪ is_comma)) ∪ begins_expression
 
-reads_arguments : {room : Type 0} (D : Deeper) (l : ℕ) (inner : ℕ → Option Readers) → (v : Below D l inner room)
-    → IsLooselyRead (arguments D (l + 1)) (λ most. read_arguments most (v.readers most)) (l + 1) begins_expression goes_arguments room
+reads_arguments : {levels : ℕ} {room : Type 0} (D : Deeper) (l : ℕ) (inner : ℕ → Option Readers) → (v : Below levels D l inner room)
+    → IsLooselyRead levels (arguments D (l + 1)) (λ most. read_arguments most (v.readers most)) (l + 1) begins_expression goes_arguments room
 unfolding read_arguments
 reads_arguments D l inner v =
     loosely_making _ (reads_maybe (reads_then_loose v.assignment
@@ -37,8 +36,8 @@ index D l = making (λ x. Index (spot x.0) x.1.0) (token (l + 1) is_open_bracket
 abbrev read_index : Option Readers → Reader SuffixTree
 read_index inner = opened is_open_bracket inner (λ R. giving (λ x. Index (spot x.0) x.1.0) (expect is_open_bracket and R.comma and expect is_close_bracket))
 
-reads_index : {room : Type 0} (D : Deeper) (l : ℕ) (inner : ℕ → Option Readers) → Inner D l inner room
-    → IsRead (index D l) (λ most. read_index (inner most)) (l + 1) is_open_bracket none room
+reads_index : {levels : ℕ} {room : Type 0} (D : Deeper) (l : ℕ) (inner : ℕ → Option Readers) → Inner levels D l inner room
+    → IsRead levels (index D l) (λ most. read_index (inner most)) (l + 1) is_open_bracket none room
 reads_index D l inner w =
     reads_opened _ w
     (shape_making _ (shape_then (shape_token (l + 1) is_open_bracket kind.OpenBracket refl)
@@ -56,8 +55,8 @@ read_call most inner =
     opened is_open_parenthesis inner (λ R.
     giving (λ x. Call (spot x.0) (trees_of x.1.0)) (expect is_open_parenthesis and read_arguments most R and expect is_close_parenthesis))
 
-reads_call : {room : Type 0} (D : Deeper) (l : ℕ) (inner : ℕ → Option Readers) → Inner D l inner room
-    → IsRead (call D l) (λ most. read_call most (inner most)) (l + 1) is_open_parenthesis none room
+reads_call : {levels : ℕ} {room : Type 0} (D : Deeper) (l : ℕ) (inner : ℕ → Option Readers) → Inner levels D l inner room
+    → IsRead levels (call D l) (λ most. read_call most (inner most)) (l + 1) is_open_parenthesis none room
 reads_call D l inner w =
     reads_opened _ w (shape_making _ (shape_in_parentheses (l + 1) (λ r. example_empty (empty_making _ (empty_maybe _))))) (λ v.
     (reads_making _ (reads_then (reads_token (l + 1) is_open_parenthesis kind.OpenParenthesis refl v.shallow)
@@ -66,8 +65,8 @@ reads_call D l inner w =
     (none_apart (begins_expression ∪ is_close_parenthesis)))).exact)
 
 -- a name behind a sign
-reads_member : {room : Type 0} (l : ℕ) (is : Kinds) (k : TokenKind) → IsTrue (is k) → l ≤ most_levels
-    → IsRead (token l is then token l is_name) (λ most. expect is and expect is_name) l is none room
+reads_member : {levels : ℕ} {room : Type 0} (l : ℕ) (is : Kinds) (k : TokenKind) → IsTrue (is k) → l ≤ levels
+    → IsRead levels (token l is then token l is_name) (λ most. expect is and expect is_name) l is none room
 reads_member l is k e h = reads_then (reads_token l is k e h) (reads_token l is_name kind.Word refl h) (none_apart is_name)
 
 -- the kinds that begin the productions of a suffix, from each on
@@ -87,8 +86,8 @@ abbrev from_bracket : Kinds
 from_bracket = is_open_bracket ∪ from_parenthesis
 
 -- a suffix is read exactly
-pub reads_suffix : {room : Type 0} (D : Deeper) (l : ℕ) (inner : ℕ → Option Readers) → Inner D l inner room
-    → IsRead (suffix D l) (λ most. read_suffix most (inner most)) l begins_suffix none room
+pub reads_suffix : {levels : ℕ} {room : Type 0} (D : Deeper) (l : ℕ) (inner : ℕ → Option Readers) → Inner levels D l inner room
+    → IsRead levels (suffix D l) (λ most. read_suffix most (inner most)) l begins_suffix none room
 unfolding read_suffix
 reads_suffix D l inner w =
     reads_kinds begins_suffix (within_by from_bracket begins_suffix refl (λ v u. refl)) (within_by begins_suffix from_bracket refl (λ v u. refl))
@@ -105,8 +104,8 @@ reads_suffix D l inner w =
     (apart_by is_open_bracket from_parenthesis refl (λ v u. refl))))
 
 -- a primary expression with its suffixes is read exactly
-pub reads_postfix : {room : Type 0} (D : Deeper) (l : ℕ) (inner : ℕ → Option Readers) → Inner D l inner room
-    → IsRead (postfix D l) (λ most. read_postfix most (inner most)) l begins_primary begins_suffix room
+pub reads_postfix : {levels : ℕ} {room : Type 0} (D : Deeper) (l : ℕ) (inner : ℕ → Option Readers) → Inner levels D l inner room
+    → IsRead levels (postfix D l) (λ most. read_postfix most (inner most)) l begins_primary begins_suffix room
 unfolding read_postfix
 reads_postfix D l inner w =
     reads_wider begins_suffix (λ k h. h)

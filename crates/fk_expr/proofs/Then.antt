@@ -13,10 +13,10 @@ use Rattle.fk_expr.proofs.Stretches.{tokens_regroup, length-tokens, cuts, nil_cu
 pub goes_making : {A B : Type 0} (f : A → B) (L : Language A) (s : Stretch) → Goes L s → Goes (making f L) s
 goes_making f L s g = record { more = g.more; value = f g.value; spelled = (g.value, g.spelled, refl) }
 
-giving_sound : {A B : Type 0} (f : A → B) (most : ℕ) (L : Language A) (P : Reader A) → IsSound most L P → IsSound most (making f L) (giving f P)
-giving_sound {A} {B} f most L P p ts fits = by (P ts) (p ts fits)
+giving_sound : (levels : ℕ) {A B : Type 0} (f : A → B) (most : ℕ) (L : Language A) (P : Reader A) → IsSound levels most L P → IsSound levels most (making f L) (giving f P)
+giving_sound levels {A} {B} f most L P p ts fits = by (P ts) (p ts fits)
   where
-    by : (answer : Answer A) → Sound L ts answer → Sound (making f L) ts (after answer (λ a rest. Ok (f a, rest)))
+    by : (answer : Answer A) → Sound levels L ts answer → Sound levels (making f L) ts (after answer (λ a rest. Ok (f a, rest)))
     by (Ok (a, rest)) w = record { stretch = w.stretch; is = w.is; spelled = (a, w.spelled, refl); shallow = w.shallow }
     by (Err (Unexpected rest)) w = (record { stretch = w.0.stretch; is = w.0.is; goes = goes_making f L w.0.stretch w.0.goes; shallow = w.0.shallow }, w.1)
     by (Err EndOfText) w = record { stretch = w.stretch; is = w.is; goes = goes_making f L w.stretch w.goes; shallow = w.shallow }
@@ -31,10 +31,10 @@ giving_sound {A} {B} f most L P p ts fits = by (P ts) (p ts fits)
       past = w.past;
     }
 
-giving_complete : {A B : Type 0} (f : A → B) (most : ℕ) (L : Language A) (P : Reader A) (goes_on : Kinds)
-    → IsComplete most L P goes_on → IsComplete most (making f L) (giving f P) goes_on
-giving_complete f most L P goes_on p s b rest l fits ends =
-    rw l.2 (settled_giving f s l.0 rest (P (tokens_of s ++ rest)) (p s l.0 rest l.1 fits ends))
+giving_complete : (levels : ℕ) {A B : Type 0} (f : A → B) (most : ℕ) (L : Language A) (P : Reader A) (goes_on : Kinds)
+    → IsComplete levels most L P goes_on → IsComplete levels most (making f L) (giving f P) goes_on
+giving_complete levels f most L P goes_on p s b rest l fits ends =
+    rw l.2 (settled_giving levels f s l.0 rest (P (tokens_of s ++ rest)) (p s l.0 rest l.1 fits ends))
 
 -- what is left where something is made of an answer is left where it isn't
 pub after_err : {A B : Type 0} (answer : Answer A) (f : A → B) (stop : Stop) → after {B = B} answer (λ a rest. Ok (f a, rest)) ≡ Err stop → answer ≡ Err stop
@@ -58,17 +58,17 @@ pub giving_same : {A B : Type 0} (f : A → B) (most : ℕ) (P P' : Reader A) �
 giving_same f most P P' same ts fits = ap (λ answer. after answer (λ a rest. Ok (f a, rest))) (same ts fits)
 
 -- what is made of a language is read exactly, of so many tokens
-pub giving_at : {room : Type 0} {A B : Type 0} (f : A → B) (most : ℕ) (L : Language A) (P : Reader A) (goes_on : Kinds)
-    → ExactAt most L P goes_on room → ExactAt most (making f L) (giving f P) goes_on room
-giving_at f most L P goes_on p = record {
-  sound = λ r. giving_sound f most L P (p.sound r);
-  complete = giving_complete f most L P goes_on p.complete;
+pub giving_at : {levels : ℕ} {room : Type 0} {A B : Type 0} (f : A → B) (most : ℕ) (L : Language A) (P : Reader A) (goes_on : Kinds)
+    → ExactAt levels most L P goes_on room → ExactAt levels most (making f L) (giving f P) goes_on room
+giving_at {levels} f most L P goes_on p = record {
+  sound = λ r. giving_sound levels f most L P (p.sound r);
+  complete = giving_complete levels f most L P goes_on p.complete;
   local = λ r. giving_local f most P (p.local r);
 }
 
 -- what is made of a language is read exactly
-pub exact_making : {room : Type 0} {A B : Type 0} (f : A → B) {L : Language A} {P : ℕ → Reader A} {goes_on : Kinds}
-    → Exact L P goes_on room → Exact (making f L) (λ most. giving f (P most)) goes_on room
+pub exact_making : {levels : ℕ} {room : Type 0} {A B : Type 0} (f : A → B) {L : Language A} {P : ℕ → Reader A} {goes_on : Kinds}
+    → Exact levels L P goes_on room → Exact levels (making f L) (λ most. giving f (P most)) goes_on room
 exact_making f {L} {P} {goes_on} p = record {
   exact = λ most. giving_at f most L (P most) goes_on (p.exact most);
   same = λ r most more above. giving_same f most (P most) (P more) (p.same r most more above);
@@ -110,10 +110,10 @@ abbrev pub Leaves : {A : Type 0} → ℕ → Reader A → ℕ → Type 0
 Leaves {A} most P less = (ts : List Placed) → length ts ≤ most → (a : A) (rest : List Placed) → P ts ≡ Ok (a, rest) → length rest ≤ less
 
 -- a sound reader leaves what a stretch of its language leaves
-pub leaves_by : {A : Type 0} (most less : ℕ) (L : Language A) (P : Reader A) → Spends L most less → IsSound most L P → Leaves most P less
-leaves_by {A} most less L P spends p ts fits a rest e = by (subst (λ answer. Sound L ts answer) e (p ts fits))
+pub leaves_by : (levels : ℕ) {A : Type 0} (most less : ℕ) (L : Language A) (P : Reader A) → Spends L most less → IsSound levels most L P → Leaves most P less
+leaves_by levels {A} most less L P spends p ts fits a rest e = by (subst (λ answer. Sound levels L ts answer) e (p ts fits))
   where
-    by : SoundValue L ts a rest → length rest ≤ less
+    by : SoundValue levels L ts a rest → length rest ≤ less
     by w = omega (arith, spends w.stretch a w.spelled, ap length w.is, length-tokens w.stretch rest)
 
 goes_before : {A B : Type 0} (L : Language A) (M : Language B) (s : Stretch) → Goes L s → Example M → Goes (L then M) s
@@ -134,47 +134,47 @@ goes_behind L M s t a l g = record {
 tokens_behind : (s t : Stretch) (ts r rest : List Placed) → ts ≡ tokens_of s ++ r → r ≡ tokens_of t ++ rest → ts ≡ tokens_of (s ++ t) ++ rest
 tokens_behind s t ts r rest e d = rw (e, d) (sym (tokens_regroup s t rest))
 
-pub then_sound_second : {A B : Type 0} (L : Language A) (M : Language B) (ts r : List Placed) (a : A) → SoundValue L ts a r
-    → (answer : Answer B) → Sound M r answer → Sound (L then M) ts (after answer (λ b others. Ok ((a, b), others)))
-then_sound_second L M ts r a v (Ok (b, rest)) w = record {
+pub then_sound_second : (levels : ℕ) {A B : Type 0} (L : Language A) (M : Language B) (ts r : List Placed) (a : A) → SoundValue levels L ts a r
+    → (answer : Answer B) → Sound levels M r answer → Sound levels (L then M) ts (after answer (λ b others. Ok ((a, b), others)))
+then_sound_second levels L M ts r a v (Ok (b, rest)) w = record {
   stretch = v.stretch ++ w.stretch;
   is = tokens_behind v.stretch w.stretch ts r rest v.is w.is;
   spelled = (v.stretch, w.stretch, refl, v.spelled, w.spelled);
-  shallow = shallow-append v.stretch w.stretch v.shallow w.shallow;
+  shallow = shallow-append levels v.stretch w.stretch v.shallow w.shallow;
 }
-then_sound_second L M ts r a v (Err (Unexpected rest)) w = (
+then_sound_second levels L M ts r a v (Err (Unexpected rest)) w = (
   record {
     stretch = v.stretch ++ w.0.stretch;
     is = tokens_behind v.stretch w.0.stretch ts r rest v.is w.0.is;
     goes = goes_behind L M v.stretch w.0.stretch a v.spelled w.0.goes;
-    shallow = shallow-append v.stretch w.0.stretch v.shallow w.0.shallow;
+    shallow = shallow-append levels v.stretch w.0.stretch v.shallow w.0.shallow;
   },
   w.1,
 )
-then_sound_second L M ts r a v (Err EndOfText) w = record {
+then_sound_second levels L M ts r a v (Err EndOfText) w = record {
   stretch = v.stretch ++ w.stretch;
   is = tokens_behind v.stretch w.stretch ts r [] v.is w.is;
   goes = goes_behind L M v.stretch w.stretch a v.spelled w.goes;
-  shallow = shallow-append v.stretch w.stretch v.shallow w.shallow;
+  shallow = shallow-append levels v.stretch w.stretch v.shallow w.shallow;
 }
-then_sound_second L M ts r a v (Err (Nesting rest)) w = record {
+then_sound_second levels L M ts r a v (Err (Nesting rest)) w = record {
   stretch = v.stretch ++ w.stretch;
   deep = w.deep;
   others = w.others;
   is = tokens_behind v.stretch w.stretch ts r rest v.is w.is;
   next = w.next;
   goes = rw (append_assoc v.stretch w.stretch (w.deep ∷ [])) (goes_behind L M v.stretch (w.stretch ++ w.deep ∷ []) a v.spelled w.goes);
-  shallow = shallow-append v.stretch w.stretch v.shallow w.shallow;
+  shallow = shallow-append levels v.stretch w.stretch v.shallow w.shallow;
   past = w.past;
 }
 
-then_sound : {A B : Type 0} (most less : ℕ) (L : Language A) (M : Language B) (P : Reader A) (Q : Reader B)
-    → IsSound most L P → IsSound less M Q → Leaves most P less → Example M → IsSound most (L then M) (P and Q)
-then_sound {A} {B} most less L M P Q p q leaves x ts fits = by (P ts) refl (p ts fits)
+then_sound : (levels : ℕ) {A B : Type 0} (most less : ℕ) (L : Language A) (M : Language B) (P : Reader A) (Q : Reader B)
+    → IsSound levels most L P → IsSound levels less M Q → Leaves most P less → Example M → IsSound levels most (L then M) (P and Q)
+then_sound levels {A} {B} most less L M P Q p q leaves x ts fits = by (P ts) refl (p ts fits)
   where
-    by : (answer : Answer A) → P ts ≡ answer → Sound L ts answer
-        → Sound (L then M) ts (after answer (λ a rest. after (Q rest) (λ b others. Ok ((a, b), others))))
-    by (Ok (a, rest)) e w = then_sound_second L M ts rest a w (Q rest) (q rest (leaves ts fits a rest e))
+    by : (answer : Answer A) → P ts ≡ answer → Sound levels L ts answer
+        → Sound levels (L then M) ts (after answer (λ a rest. after (Q rest) (λ b others. Ok ((a, b), others))))
+    by (Ok (a, rest)) e w = then_sound_second levels L M ts rest a w (Q rest) (q rest (leaves ts fits a rest e))
     by (Err (Unexpected rest)) e w = (record { stretch = w.0.stretch; is = w.0.is; goes = goes_before L M w.0.stretch w.0.goes x; shallow = w.0.shallow }, w.1)
     by (Err EndOfText) e w = record { stretch = w.stretch; is = w.is; goes = goes_before L M w.stretch w.goes x; shallow = w.shallow }
     by (Err (Nesting rest)) e w = record {
@@ -188,21 +188,21 @@ then_sound {A} {B} most less L M P Q p q leaves x ts fits = by (P ts) refl (p ts
       past = w.past;
     }
 
-pub then_complete : {A B : Type 0} (most less : ℕ) (L : Language A) (M : Language B) (P : Reader A) (Q : Reader B) (f g goes_on : Kinds)
-    → IsComplete most L P f → IsComplete less M Q g → Spends L most less → Follows f M goes_on → Within g goes_on
-    → IsComplete most (L then M) (P and Q) goes_on
-then_complete {A} {B} most less L M P Q f g goes_on p q spends follows within s x rest l fits ends = by l.0 l.1 l.2 l.3 l.4
+pub then_complete : (levels : ℕ) {A B : Type 0} (most less : ℕ) (L : Language A) (M : Language B) (P : Reader A) (Q : Reader B) (f g goes_on : Kinds)
+    → IsComplete levels most L P f → IsComplete levels less M Q g → Spends L most less → Follows f M goes_on → Within g goes_on
+    → IsComplete levels most (L then M) (P and Q) goes_on
+then_complete levels {A} {B} most less L M P Q f g goes_on p q spends follows within s x rest l fits ends = by l.0 l.1 l.2 l.3 l.4
   where
-    by : (front back : Stretch) → s ≡ front ++ back → L front x.0 → M back x.1 → (P and Q) (tokens_of s ++ rest) ≡ settled s x rest
+    by : (front back : Stretch) → s ≡ front ++ back → L front x.0 → M back x.1 → (P and Q) (tokens_of s ++ rest) ≡ settled levels s x rest
     by front back e m n =
         let whole : length (tokens_of (front ++ back) ++ rest) ≤ most = subst (λ z. length (tokens_of z ++ rest) ≤ most) e fits in
         let split : tokens_of (front ++ back) ++ rest ≡ tokens_of front ++ (tokens_of back ++ rest) = tokens_regroup front back rest in
         let first_fits : length (tokens_of front ++ (tokens_of back ++ rest)) ≤ most = rw split at whole in
         let back_fits : length (tokens_of back ++ rest) ≤ less = omega (arith, spends front x.0 m, length-tokens front (tokens_of back ++ rest)) in
-        let first : P (tokens_of front ++ (tokens_of back ++ rest)) ≡ settled front x.0 (tokens_of back ++ rest) =
+        let first : P (tokens_of front ++ (tokens_of back ++ rest)) ≡ settled levels front x.0 (tokens_of back ++ rest) =
         p front x.0 (tokens_of back ++ rest) m first_fits (follows back x.1 rest n ends) in
-        let second : Q (tokens_of back ++ rest) ≡ settled back x.1 rest = q back x.1 rest n back_fits (next-within g goes_on within rest ends) in
-        rw (e, split, first) (settled_then front back x.0 x.1 rest Q second)
+        let second : Q (tokens_of back ++ rest) ≡ settled levels back x.1 rest = q back x.1 rest n back_fits (next-within g goes_on within rest ends) in
+        rw (e, split, first) (settled_then levels front back x.0 x.1 rest Q second)
 
 -- ---- an answer of the second rests on the tokens of both
 
@@ -321,42 +321,42 @@ then_same {A} {B} most less P P' Q Q' p q leaves ts fits = rw (p ts fits) (by (P
     by (Err stop) e = refl
 
 -- one after the other is read exactly, of so many tokens
-pub then_at : {room : Type 0} {A B : Type 0} (most less : ℕ) (L : Language A) (M : Language B) (P : Reader A) (Q : Reader B) (f g goes_on : Kinds)
-    → ExactAt most L P f room → ExactAt less M Q g room → Spends L most less → Follows f M goes_on → Within g goes_on → (room → Example M)
-    → ExactAt most (L then M) (P and Q) goes_on room
-then_at most less L M P Q f g goes_on p q spends follows within x = record {
-  sound = λ r. then_sound most less L M P Q (p.sound r) (q.sound r) (leaves_by most less L P spends (p.sound r)) (x r);
-  complete = then_complete most less L M P Q f g goes_on p.complete q.complete spends follows within;
-  local = λ r. then_local most less P Q (p.local r) (q.local r) (leaves_by most less L P spends (p.sound r));
+pub then_at : {levels : ℕ} {room : Type 0} {A B : Type 0} (most less : ℕ) (L : Language A) (M : Language B) (P : Reader A) (Q : Reader B) (f g goes_on : Kinds)
+    → ExactAt levels most L P f room → ExactAt levels less M Q g room → Spends L most less → Follows f M goes_on → Within g goes_on → (room → Example M)
+    → ExactAt levels most (L then M) (P and Q) goes_on room
+then_at {levels} most less L M P Q f g goes_on p q spends follows within x = record {
+  sound = λ r. then_sound levels most less L M P Q (p.sound r) (q.sound r) (leaves_by levels most less L P spends (p.sound r)) (x r);
+  complete = then_complete levels most less L M P Q f g goes_on p.complete q.complete spends follows within;
+  local = λ r. then_local most less P Q (p.local r) (q.local r) (leaves_by levels most less L P spends (p.sound r));
 }
 
 -- one after the other is read exactly, if what follows the first doesn't go on with it
-pub exact_then_by : {room : Type 0} {A B : Type 0} {L : Language A} {M : Language B} {P : ℕ → Reader A} {Q : ℕ → Reader B} {f g : Kinds} (goes_on : Kinds)
-    → Exact L P f room → Exact M Q g room → Follows f M goes_on → Within g goes_on → (room → Example M)
-    → Exact (L then M) (λ most. P most and Q most) goes_on room
-exact_then_by {L} {M} {P} {Q} {f} {g} goes_on p q follows within x = record {
+pub exact_then_by : {levels : ℕ} {room : Type 0} {A B : Type 0} {L : Language A} {M : Language B} {P : ℕ → Reader A} {Q : ℕ → Reader B} {f g : Kinds} (goes_on : Kinds)
+    → Exact levels L P f room → Exact levels M Q g room → Follows f M goes_on → Within g goes_on → (room → Example M)
+    → Exact levels (L then M) (λ most. P most and Q most) goes_on room
+exact_then_by {levels} {L} {M} {P} {Q} {f} {g} goes_on p q follows within x = record {
   exact = λ most. then_at most most L M (P most) (Q most) f g goes_on (p.exact most) (q.exact most) (spends_any L most) follows within x;
   same = λ r most more above. then_same most most (P most) (P more) (Q most) (Q more) (p.same r most more above) (q.same r most more above)
-      (leaves_by most most L (P most) (spends_any L most) ((p.exact most).sound r));
+      (leaves_by levels most most L (P most) (spends_any L most) ((p.exact most).sound r));
 }
 
 -- where the second isn't empty, and none of its first kinds goes on with the first
-pub exact_then : {room : Type 0} {A B : Type 0} {L : Language A} {M : Language B} {P : ℕ → Reader A} {Q : ℕ → Reader B} {f g : Kinds} {level : ℕ} {first : Kinds}
-    → Exact L P f room → Exact M Q g room → Shape M level first room → Apart f first
-    → Exact (L then M) (λ most. P most and Q most) g room
+pub exact_then : {levels : ℕ} {room : Type 0} {A B : Type 0} {L : Language A} {M : Language B} {P : ℕ → Reader A} {Q : ℕ → Reader B} {f g : Kinds} {level : ℕ} {first : Kinds}
+    → Exact levels L P f room → Exact levels M Q g room → Shape M level first room → Apart f first
+    → Exact levels (L then M) (λ most. P most and Q most) g room
 exact_then {L} {M} {P} {Q} {f} {g} {level} {first} p q shape apart =
     exact_then_by g p q (follows_shape f g shape apart) (λ k h. h) shape.example
 
 -- where the second may be empty
-pub exact_then_loose : {room : Type 0} {A B : Type 0} {L : Language A} {M : Language B} {P : ℕ → Reader A} {Q : ℕ → Reader B} {f g : Kinds} {level : ℕ} {first : Kinds}
-    → Exact L P f room → Exact M Q g room → LooseShape M level first room → Apart f first
-    → Exact (L then M) (λ most. P most and Q most) (f ∪ g) room
+pub exact_then_loose : {levels : ℕ} {room : Type 0} {A B : Type 0} {L : Language A} {M : Language B} {P : ℕ → Reader A} {Q : ℕ → Reader B} {f g : Kinds} {level : ℕ} {first : Kinds}
+    → Exact levels L P f room → Exact levels M Q g room → LooseShape M level first room → Apart f first
+    → Exact levels (L then M) (λ most. P most and Q most) (f ∪ g) room
 exact_then_loose {L} {M} {P} {Q} {f} {g} {level} {first} p q shape apart =
     exact_then_by (f ∪ g) p q (follows_loose f (f ∪ g) shape apart (within_left f g)) (within_right f g)
     (λ r. let e = shape.empty r in record { stretch = []; value = e.value; spelled = e.spelled })
 
 -- more kinds may go on
-pub exact_wider : {room : Type 0} {A : Type 0} {L : Language A} {P : ℕ → Reader A} {f : Kinds} (g : Kinds) → Within f g → Exact L P f room → Exact L P g room
+pub exact_wider : {levels : ℕ} {room : Type 0} {A : Type 0} {L : Language A} {P : ℕ → Reader A} {f : Kinds} (g : Kinds) → Within f g → Exact levels L P f room → Exact levels L P g room
 exact_wider {L} {P} {f} g within p = record {
   exact = λ most. record {
     sound = (p.exact most).sound;
@@ -367,7 +367,7 @@ exact_wider {L} {P} {f} g within p = record {
 }
 
 -- less room
-pub exact_room : {small large : Type 0} {A : Type 0} {L : Language A} {P : ℕ → Reader A} {f : Kinds} → (small → large) → Exact L P f large → Exact L P f small
+pub exact_room : {levels : ℕ} {small large : Type 0} {A : Type 0} {L : Language A} {P : ℕ → Reader A} {f : Kinds} → (small → large) → Exact levels L P f large → Exact levels L P f small
 exact_room {L} {P} {f} enough p = record {
   exact = λ most. record {
     sound = λ r. (p.exact most).sound (enough r);

@@ -2,7 +2,7 @@
 use Rattle.std.proofs.Common.{◌≡◌, ℕ, ◌≤◌, List, [], ◌∷◌, Option, Some, None, Bool, true, false, IsTrue, Ok, Err, ◌⊎◌, inl, inr, refl, le_refl, suc-le-suc, zero-le}
 use Rattle.fk_lex.specs.declared.token.TokenKind.{TokenKind}
 use Rattle.fk_expr.specs.Languages.{Placed, Stretch, Language, token, telling}
-use Rattle.fk_expr.specs.Reads.{Unexpected, EndOfText, most_levels}
+use Rattle.fk_expr.specs.Reads.{Unexpected, EndOfText}
 use Rattle.fk_expr.specs.Reading.{Reader, expect, expect_told, tells, does_tell}
 use Rattle.fk_expr.proofs.Sets.{Kinds, none}
 use Rattle.fk_expr.proofs.Exact.{Example, Goes, Shape, Sound, SoundStop, IsSound, IsComplete, IsLocal, Exact}
@@ -53,12 +53,12 @@ pub example_goes : {A : Type 0} (L : Language A) → Example L → Goes L []
 example_goes L x = record { more = x.stretch; value = x.value; spelled = x.spelled }
 
 -- at the end of the tokens
-pub sound_end : {A : Type 0} (L : Language A) → Example L → SoundStop L [] []
-sound_end L x = record { stretch = []; is = refl; goes = example_goes L x; shallow = shallow-nil }
+pub sound_end : (levels : ℕ) {A : Type 0} (L : Language A) → Example L → SoundStop levels L [] []
+sound_end levels L x = record { stretch = []; is = refl; goes = example_goes L x; shallow = shallow-nil levels }
 
 -- at a token
-pub sound_unexpected : {A : Type 0} (L : Language A) (t : Placed) (ts : List Placed) → Example L → Sound L (t ∷ ts) (Err (Unexpected (t ∷ ts)))
-sound_unexpected L t ts x = (record { stretch = []; is = refl; goes = example_goes L x; shallow = shallow-nil }, suc-le-suc zero-le)
+pub sound_unexpected : (levels : ℕ) {A : Type 0} (L : Language A) (t : Placed) (ts : List Placed) → Example L → Sound levels L (t ∷ ts) (Err (Unexpected (t ∷ ts)))
+sound_unexpected levels L t ts x = (record { stretch = []; is = refl; goes = example_goes L x; shallow = shallow-nil levels }, suc-le-suc zero-le)
 
 -- ---- readers of one token
 
@@ -75,18 +75,18 @@ pub record TakesOne {A : Type 0} (L : Language A) (level : ℕ) (P : Reader A) :
   pub spelled : (s : Stretch) (a : A) → L s a
       → (t : Placed) × (s ≡ record { token = t; level = level } ∷ []) × ((ts : List Placed) → P (t ∷ ts) ≡ Ok (a, ts))
 
-sound_one : {A : Type 0} (most : ℕ) (L : Language A) (level : ℕ) (P : Reader A) → level ≤ most_levels → TakesOne L level P → Example L → IsSound most L P
-sound_one most L level P h one x [] fits = rw one.at_end (sound_end L x)
-sound_one most L level P h one x (t ∷ ts) fits =
+sound_one : (levels : ℕ) {A : Type 0} (most : ℕ) (L : Language A) (level : ℕ) (P : Reader A) → level ≤ levels → TakesOne L level P → Example L → IsSound levels most L P
+sound_one levels most L level P h one x [] fits = rw one.at_end (sound_end levels L x)
+sound_one levels most L level P h one x (t ∷ ts) fits =
     elim (one.takes t) [
-      | inl w ↦ rw (w.answer ts) (record { stretch = record { token = t; level = level } ∷ []; is = refl; spelled = w.spelled; shallow = shallow-one (record { token = t; level = level }) h })
-      | inr e ↦ rw (e ts) (sound_unexpected L t ts x)
+      | inl w ↦ rw (w.answer ts) (record { stretch = record { token = t; level = level } ∷ []; is = refl; spelled = w.spelled; shallow = shallow-one levels (record { token = t; level = level }) h })
+      | inr e ↦ rw (e ts) (sound_unexpected levels L t ts x)
     ]
 
-complete_one : {A : Type 0} (most : ℕ) (L : Language A) (level : ℕ) (P : Reader A) → level ≤ most_levels → TakesOne L level P → IsComplete most L P none
-complete_one most L level P h one s a rest l fits ends =
+complete_one : (levels : ℕ) {A : Type 0} (most : ℕ) (L : Language A) (level : ℕ) (P : Reader A) → level ≤ levels → TakesOne L level P → IsComplete levels most L P none
+complete_one levels most L level P h one s a rest l fits ends =
     let w = one.spelled s a l in
-    rw w.1 (rw (from_deep-shallow (record { token = w.0; level = level } ∷ []) (shallow-one (record { token = w.0; level = level }) h)) (w.2 rest))
+    rw w.1 (rw (from_deep-shallow levels (record { token = w.0; level = level } ∷ []) (shallow-one levels (record { token = w.0; level = level }) h)) (w.2 rest))
 
 local_one : {A : Type 0} (most : ℕ) (L : Language A) (level : ℕ) (P : Reader A) → TakesOne L level P → IsLocal most P
 local_one most L level P one [] fits = rw one.at_end tt
@@ -102,12 +102,12 @@ local_one most L level P one (t ∷ u ∷ ts) fits =
     ]
 
 -- such a reader reads the language exactly
-pub exact_one : {room : Type 0} {A : Type 0} (L : Language A) (level : ℕ) (P : Reader A) → level ≤ most_levels → TakesOne L level P → (room → Example L)
-    → Exact L (λ most. P) none room
-exact_one L level P h one x = record {
+pub exact_one : {levels : ℕ} {room : Type 0} {A : Type 0} (L : Language A) (level : ℕ) (P : Reader A) → level ≤ levels → TakesOne L level P → (room → Example L)
+    → Exact levels L (λ most. P) none room
+exact_one {levels} L level P h one x = record {
   exact = λ most. record {
-    sound = λ r. sound_one most L level P h one (x r);
-    complete = complete_one most L level P h one;
+    sound = λ r. sound_one levels most L level P h one (x r);
+    complete = complete_one levels most L level P h one;
     local = λ r. local_one most L level P one;
   };
   same = λ r most more above ts fits. refl;
@@ -128,7 +128,7 @@ expect_takes level is = record {
     by t false e = inr (λ ts. rw (e, expect) refl)
 
 -- a token of a kind is read exactly: name a kind of the set
-pub exact_token : {room : Type 0} (level : ℕ) (is : Kinds) (k : TokenKind) → IsTrue (is k) → level ≤ most_levels → Exact (token level is) (λ most. expect is) none room
+pub exact_token : {levels : ℕ} {room : Type 0} (level : ℕ) (is : Kinds) (k : TokenKind) → IsTrue (is k) → level ≤ levels → Exact levels (token level is) (λ most. expect is) none room
 exact_token level is k e h = exact_one (token level is) level (expect is) h (expect_takes level is) (λ r. example_token level is k e)
 
 -- ---- a token whose kind tells something
@@ -146,6 +146,6 @@ expect_told_takes {A} level told = record {
     by t None e = inr (λ ts. rw e refl)
 
 -- a token whose kind tells something is read exactly: name a kind, and what it tells
-pub exact_telling : {room : Type 0} {A : Type 0} (level : ℕ) (told : TokenKind → Option A) (k : TokenKind) (a : A) → told k ≡ Some a → level ≤ most_levels
-    → Exact (telling level told) (λ most. expect_told told) none room
+pub exact_telling : {levels : ℕ} {room : Type 0} {A : Type 0} (level : ℕ) (told : TokenKind → Option A) (k : TokenKind) (a : A) → told k ≡ Some a → level ≤ levels
+    → Exact levels (telling level told) (λ most. expect_told told) none room
 exact_telling level told k a e h = exact_one (telling level told) level (expect_told told) h (expect_told_takes level told) (λ r. example_telling level told k a e)

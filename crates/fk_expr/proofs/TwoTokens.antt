@@ -3,7 +3,7 @@ use Rattle.std.proofs.Common.{◌≡◌, ℕ, ◌≤◌, ◌<◌, List, [], ◌�
 use Rattle.std.proofs.lemmas.Bool.{cases_lt}
 use Rattle.fk_lex.specs.declared.token.TokenKind.{TokenKind}
 use Rattle.fk_expr.specs.Languages.{Placed, Marked, Stretch, tokens_of, Language, token, making, ◌then◌, ◌or◌}
-use Rattle.fk_expr.specs.Reads.{Unexpected, EndOfText, Nesting, Answer, most_levels}
+use Rattle.fk_expr.specs.Reads.{Unexpected, EndOfText, Nesting, Answer}
 use Rattle.fk_expr.specs.Reading.{Reader, next_is, either}
 use Rattle.fk_expr.proofs.Sets.{Kinds, ◌∪◌, Within, next-within, within_left, within_right}
 use Rattle.fk_expr.proofs.Exact.{Example, Shape, Sound, SoundValue, Closes, Stands, Local, IsSound, IsComplete, IsLocal, Exact, settled, settled_by, from_deep}
@@ -49,37 +49,37 @@ abbrev deep_of : {A : Type 0} → Answer A → List Placed
 deep_of (Err (Nesting rest)) = rest
 deep_of answer = []
 
-settled_later : {A : Type 0} (x : Placed) (level : ℕ) (s : Stretch) (a : A) → level ≤ most_levels
-    → settled (record { token = x; level = level } ∷ s) a [] ≡ Err (Nesting (x ∷ (tokens_of s ++ []))) → ⊥
-settled_later {A} x level s a shallow e = by (from_deep s) (length-from_deep s) (rw (le-leb level most_levels shallow) at e)
+settled_later : (levels : ℕ) {A : Type 0} (x : Placed) (level : ℕ) (s : Stretch) (a : A) → level ≤ levels
+    → settled levels (record { token = x; level = level } ∷ s) a [] ≡ Err (Nesting (x ∷ (tokens_of s ++ []))) → ⊥
+settled_later levels {A} x level s a shallow e = by (from_deep levels s) (length-from_deep levels s) (rw (le-leb level levels shallow) at e)
   where
     by : (t : Stretch) → length t ≤ length s → settled_by t a [] ≡ Err (Nesting (x ∷ (tokens_of s ++ []))) → ⊥
     by [] h d = cc
     by (m ∷ t) h d = omega (arith, ap length (ap deep_of d), length-tokens (m ∷ t) [], length-tokens s [])
 
 -- at a level past the bound a token that begins a language nests too deep, whatever comes behind it
-pub nests : {room : Type 0} {A : Type 0} {L : Language A} {P : ℕ → Reader A} {f : Kinds} → Exact L P f room → room
-    → (x : Placed) (level : ℕ) → StartsAt L level x → most_levels < level
+pub nests : {levels : ℕ} {room : Type 0} {A : Type 0} {L : Language A} {P : ℕ → Reader A} {f : Kinds} → Exact levels L P f room → room
+    → (x : Placed) (level : ℕ) → StartsAt L level x → levels < level
     → (most : ℕ) (others : List Placed) → length (x ∷ others) ≤ most → P most (x ∷ others) ≡ Err (Nesting (x ∷ others))
-nests {room} {A} {L} {P} {f} p r x level w past most others fits =
+nests {levels} {room} {A} {L} {P} {f} p r x level w past most others fits =
     let m : Marked = record { token = x; level = level } in
     let long : List Placed = tokens_of w.others ++ [] in
     let much : ℕ = length (x ∷ long) in
-    let read : P much (x ∷ long) ≡ settled (m ∷ w.others) w.value [] = (p.exact much).complete (m ∷ w.others) w.value [] w.spelled (le_refl much) refl in
-    let deep : P much (x ∷ long) ≡ Err (Nesting (x ∷ long)) = rw (from_deep-past m w.others past) at read in
+    let read : P much (x ∷ long) ≡ settled levels (m ∷ w.others) w.value [] = (p.exact much).complete (m ∷ w.others) w.value [] w.spelled (le_refl much) refl in
+    let deep : P much (x ∷ long) ≡ Err (Nesting (x ∷ long)) = rw (from_deep-past levels m w.others past) at read in
     stays_anywhere p r x long (λ z. Nesting z) (λ more z. z) much (le_refl much) deep most others fits
 
 -- at a level within the bound it doesn't
-pub not_nests : {room : Type 0} {A : Type 0} {L : Language A} {P : ℕ → Reader A} {f : Kinds} → Exact L P f room → room
-    → (x : Placed) (level : ℕ) → StartsAt L level x → level ≤ most_levels
+pub not_nests : {levels : ℕ} {room : Type 0} {A : Type 0} {L : Language A} {P : ℕ → Reader A} {f : Kinds} → Exact levels L P f room → room
+    → (x : Placed) (level : ℕ) → StartsAt L level x → level ≤ levels
     → (most : ℕ) (others : List Placed) → length (x ∷ others) ≤ most → P most (x ∷ others) ≡ Err (Nesting (x ∷ others)) → ⊥
-not_nests {room} {A} {L} {P} {f} p r x level w shallow most others fits e =
+not_nests {levels} {room} {A} {L} {P} {f} p r x level w shallow most others fits e =
     let m : Marked = record { token = x; level = level } in
     let long : List Placed = tokens_of w.others ++ [] in
     let much : ℕ = length (x ∷ long) in
-    let read : P much (x ∷ long) ≡ settled (m ∷ w.others) w.value [] = (p.exact much).complete (m ∷ w.others) w.value [] w.spelled (le_refl much) refl in
+    let read : P much (x ∷ long) ≡ settled levels (m ∷ w.others) w.value [] = (p.exact much).complete (m ∷ w.others) w.value [] w.spelled (le_refl much) refl in
     let stays : P much (x ∷ long) ≡ Err (Nesting (x ∷ long)) = stays_anywhere p r x others (λ z. Nesting z) (λ more z. z) most fits e much long (le_refl much) in
-    settled_later x level w.others w.value shallow (sym read ∙ stays)
+    settled_later levels x level w.others w.value shallow (sym read ∙ stays)
 
 -- ---- the two readers
 
@@ -87,11 +87,11 @@ not_nests {room} {A} {L} {P} {f} p r x level w shallow most others fits e =
 abbrev TakesSome : {A : Type 0} → ℕ → Reader A → Type 0
 TakesSome {A} most P = (ts : List Placed) → length ts ≤ most → (a : A) (rest : List Placed) → P ts ≡ Ok (a, rest) → length rest < length ts
 
-takes_some : {room : Type 0} {A : Type 0} (most : ℕ) {L : Language A} {level : ℕ} {first : Kinds} (P : Reader A)
-    → Shape L level first room → IsSound most L P → TakesSome most P
-takes_some {room} {A} most {L} {level} {first} P shape p ts fits a rest e = by (subst (λ answer. Sound L ts answer) e (p ts fits))
+takes_some : (levels : ℕ) {room : Type 0} {A : Type 0} (most : ℕ) {L : Language A} {level : ℕ} {first : Kinds} (P : Reader A)
+    → Shape L level first room → IsSound levels most L P → TakesSome most P
+takes_some levels {room} {A} most {L} {level} {first} P shape p ts fits a rest e = by (subst (λ answer. Sound levels L ts answer) e (p ts fits))
   where
-    by : SoundValue L ts a rest → length rest < length ts
+    by : SoundValue levels L ts a rest → length rest < length ts
     by w = let v = shape.fronts w.stretch a w.spelled in omega (arith, ap length w.is, length-tokens w.stretch rest, ap length v.is)
 
 -- both readers find that a token nests too deep, or neither does
@@ -219,45 +219,45 @@ two_local {A} most f g P Q p q takes_p takes_q welcomes_p welcomes_q alone agree
 
 -- ---- one or the other
 
-agree_by : {room : Type 0} {A : Type 0} {L M : Language A} {P Q : ℕ → Reader A} {a b : Kinds} → Exact L P a room → Exact M Q b room → room
+agree_by : {levels : ℕ} {room : Type 0} {A : Type 0} {L M : Language A} {P Q : ℕ → Reader A} {a b : Kinds} → Exact levels L P a room → Exact levels M Q b room → room
     → (t : Placed) (n : ℕ) → StartsAt L n t → StartsAt M n t → (most : ℕ) → Agree most (P most) (Q most) t
-agree_by p q r t n v w most =
-    elim (cases_lt most_levels n) [
+agree_by {levels} p q r t n v w most =
+    elim (cases_lt levels n) [
       | inl past ↦ inl (λ others h. (nests p r t n v past most others h, nests q r t n w past most others h))
       | inr shallow ↦ inr (λ others h. (not_nests p r t n v shallow most others h, not_nests q r t n w shallow most others h))
     ]
 
 -- the two tokens tell the stretches of two languages apart, and where the first alone doesn't, both nest it alike
-pub exact_two : {room : Type 0} {A : Type 0} {L M : Language A} {P Q : ℕ → Reader A} {level lower : ℕ} {first second a b : Kinds} (f g : Kinds) (k : TokenKind) → IsTrue (g k)
-    → Exact L P a room → Exact M Q b room → Shape L level first room → Shape M lower second room → Within f first → Within f second
+pub exact_two : {levels : ℕ} {room : Type 0} {A : Type 0} {L M : Language A} {P Q : ℕ → Reader A} {level lower : ℕ} {first second a b : Kinds} (f g : Kinds) (k : TokenKind) → IsTrue (g k)
+    → Exact levels L P a room → Exact levels M Q b room → Shape L level first room → Shape M lower second room → Within f first → Within f second
     → ((s : Stretch) (v : A) (rest : List Placed) → L s v → IsTrue (two f g (tokens_of s ++ rest)))
     → ((s : Stretch) (v : A) (rest : List Placed) → M s v → two f g (tokens_of s ++ rest) ≡ false)
     → (n : ℕ) → (room → (t : Placed) → IsTrue (f t.kind) → StartsAt L n t × StartsAt M n t)
-    → Exact (L or M) (λ most. by_two f g (P most) (Q most)) (a ∪ b) room
-exact_two {room} {A} {L} {M} {P} {Q} {level} {lower} {first} {second} {a} {b} f g k has p q shape other in_first in_second chooses clears n starts = record {
+    → Exact levels (L or M) (λ most. by_two f g (P most) (Q most)) (a ∪ b) room
+exact_two {levels} {room} {A} {L} {M} {P} {Q} {level} {lower} {first} {second} {a} {b} f g k has p q shape other in_first in_second chooses clears n starts = record {
   exact = λ most. record {
     sound = λ r ts fits. sound most r ts fits (two f g ts);
     complete = complete most;
     local = λ r. two_local most f g (P most) (Q most) ((p.exact most).local r) ((q.exact most).local r)
-        (takes_some most (P most) shape ((p.exact most).sound r)) (takes_some most (Q most) other ((q.exact most).sound r))
+        (takes_some levels most (P most) shape ((p.exact most).sound r)) (takes_some levels most (Q most) other ((q.exact most).sound r))
         (λ x others h. welcome shape p r most x others (in_first x.kind h)) (λ x others h. welcome other q r most x others (in_second x.kind h))
-        (λ t h v e fits. alone most r t h v (subst (λ answer. Sound M (t ∷ []) answer) e ((q.exact most).sound r (t ∷ []) fits)))
+        (λ t h v e fits. alone most r t h v (subst (λ answer. Sound levels M (t ∷ []) answer) e ((q.exact most).sound r (t ∷ []) fits)))
         (λ t h. agree_by p q r t n (starts r t h).0 (starts r t h).1 most);
   };
   same = λ r most more above ts fits. same r most more above ts fits (two f g ts);
 }
   where
-    sound : (most : ℕ) → room → (ts : List Placed) → length ts ≤ most → (choice : Bool) → Sound (L or M) ts (either choice (P most) (Q most) ts)
-    sound most r ts fits true = sound_more L (L or M) (λ s v l. inl l) ts (P most ts) ((p.exact most).sound r ts fits)
-    sound most r ts fits false = sound_more M (L or M) (λ s v m. inr m) ts (Q most ts) ((q.exact most).sound r ts fits)
+    sound : (most : ℕ) → room → (ts : List Placed) → length ts ≤ most → (choice : Bool) → Sound levels (L or M) ts (either choice (P most) (Q most) ts)
+    sound most r ts fits true = sound_more levels L (L or M) (λ s v l. inl l) ts (P most ts) ((p.exact most).sound r ts fits)
+    sound most r ts fits false = sound_more levels M (L or M) (λ s v m. inr m) ts (Q most ts) ((q.exact most).sound r ts fits)
 
-    complete : (most : ℕ) → IsComplete most (L or M) (by_two f g (P most) (Q most)) (a ∪ b)
+    complete : (most : ℕ) → IsComplete levels most (L or M) (by_two f g (P most) (Q most)) (a ∪ b)
     complete most s v rest (inl l) fits ends =
         rw (chooses s v rest l) ((p.exact most).complete s v rest l fits (next-within a (a ∪ b) (within_left a b) rest ends))
     complete most s v rest (inr m) fits ends =
         rw (clears s v rest m) ((q.exact most).complete s v rest m fits (next-within b (a ∪ b) (within_right a b) rest ends))
 
-    alone : (most : ℕ) → room → (t : Placed) → IsTrue (f t.kind) → (v : A) → SoundValue M (t ∷ []) v [] → ⊥
+    alone : (most : ℕ) → room → (t : Placed) → IsTrue (f t.kind) → (v : A) → SoundValue levels M (t ∷ []) v [] → ⊥
     alone most r t h v w =
         let tokens : tokens_of w.stretch ≡ t ∷ [] = sym (append-nil (tokens_of w.stretch)) ∙ sym w.is in
         let clear : two f g (tokens_of w.stretch ++ some_token k ∷ []) ≡ false = clears w.stretch v (some_token k ∷ []) w.spelled in

@@ -3,7 +3,6 @@ use Rattle.std.proofs.Common.{ℕ, ◌≤◌, refl}
 use Rattle.fk_lex.specs.declared.token.TokenKind.TheVariants as kind
 use Rattle.fk_expr.specs.Languages.{token}
 use Rattle.fk_expr.specs.Kinds.{is_name, is_int, is_unsigned, is_void, is_struct, is_star}
-use Rattle.fk_expr.specs.Reads.{most_levels}
 use Rattle.fk_expr.specs.Grammar.{base, type_name}
 use Rattle.fk_expr.specs.Reading.{begins_type, read_base, read_type_name}
 use Rattle.fk_expr.proofs.Sets.{Kinds, ◌∪◌, none, none_apart}
@@ -33,7 +32,7 @@ abbrev after_base : Kinds
 after_base = none ∪ ((none ∪ (none ∪ is_int)) ∪ (none ∪ none))
 
 -- a type without its stars is read exactly
-pub reads_base : {room : Type 0} (l : ℕ) → l ≤ most_levels → IsRead (base l) (λ most. read_base) l begins_type is_int room
+pub reads_base : {levels : ℕ} {room : Type 0} (l : ℕ) → l ≤ levels → IsRead levels (base l) (λ most. read_base) l begins_type is_int room
 reads_base l h =
     reads_kinds begins_type (within_by bases begins_type refl (λ v u. refl)) (within_by begins_type bases refl (λ v u. refl))
     (reads_wider is_int (within_by after_base is_int refl (λ v u. refl))
@@ -50,7 +49,7 @@ abbrev pub goes_type : Kinds
 goes_type = is_int ∪ (none ∪ is_star)
 
 -- a type is read exactly
-pub reads_type_name : {room : Type 0} (l : ℕ) → l ≤ most_levels → IsRead (type_name l) (λ most. read_type_name most) l begins_type goes_type room
+pub reads_type_name : {levels : ℕ} {room : Type 0} (l : ℕ) → l ≤ levels → IsRead levels (type_name l) (λ most. read_type_name most) l begins_type goes_type room
 reads_type_name l h =
     reads_making _ (reads_then_loose (reads_base l h) (reads_many (reads_token l is_star kind.Star refl h) (none_apart is_star)) (apart_by is_int is_star refl (λ v u. refl)))
 
