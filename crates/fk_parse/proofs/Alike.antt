@@ -19,8 +19,8 @@ shape_same {L} M {level} includes included w = record {
 }
 
 -- the same stretches
-pub reads_same : {room : Type 0} {A : Type 0} {L : Language A} (M : Language A) {P : ℕ → Reader A} {level : ℕ} {first f : Kinds} → Includes L M → Includes M L
-    → IsRead L P level first f room → IsRead M P level first f room
+pub reads_same : {levels : ℕ} {room : Type 0} {A : Type 0} {L : Language A} (M : Language A) {P : ℕ → Reader A} {level : ℕ} {first f : Kinds} → Includes L M → Includes M L
+    → IsRead levels L P level first f room → IsRead levels M P level first f room
 reads_same M includes included w = record { shape = shape_same M includes included w.shape; exact = exact_same M includes included w.exact }
 
 -- the same answers
@@ -28,9 +28,9 @@ pub readers_same : {A : Type 0} (P Q : ℕ → Reader A) → ((most : ℕ) (ts :
 readers_same P Q e = fun_ext (λ most. fun_ext (λ ts. e most ts))
 
 -- so one reader may stand for another
-pub reads_like : {room : Type 0} {A : Type 0} {L : Language A} {P : ℕ → Reader A} (Q : ℕ → Reader A) {level : ℕ} {first f : Kinds}
-    → ((most : ℕ) (ts : List Placed) → P most ts ≡ Q most ts) → IsRead L P level first f room → IsRead L Q level first f room
-reads_like {room} {L} {P} Q {level} {first} {f} e w = subst (λ R. IsRead L R level first f room) (readers_same P Q e) w
+pub reads_like : {levels : ℕ} {room : Type 0} {A : Type 0} {L : Language A} {P : ℕ → Reader A} (Q : ℕ → Reader A) {level : ℕ} {first f : Kinds}
+    → ((most : ℕ) (ts : List Placed) → P most ts ≡ Q most ts) → IsRead levels L P level first f room → IsRead levels L Q level first f room
+reads_like {levels} {room} {L} {P} Q {level} {first} {f} e w = subst (λ R. IsRead levels L R level first f room) (readers_same P Q e) w
 
 -- what is read behind one reader or another is read behind either
 pub either_and : {A B : Type 0} (b : Bool) (P Q : Reader A) (R : Reader B) (ts : List Placed)

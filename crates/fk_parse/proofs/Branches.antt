@@ -6,7 +6,7 @@ use Rattle.fk_syntax.specs.Program.{Statement, branch}
 use Rattle.fk_lex.specs.declared.token.TokenKind.TheVariants as kind
 use Rattle.fk_expr.specs.Languages.{Placed, Stretch, tokens_of, Language, token, ◌then◌, ◌or◌, making, maybe}
 use Rattle.fk_expr.specs.Kinds.{is_open_parenthesis}
-use Rattle.fk_expr.specs.Reads.{Answer, most_levels}
+use Rattle.fk_expr.specs.Reads.{Answer}
 use Rattle.fk_expr.specs.Grammar.{spot}
 use Rattle.fk_expr.specs.Reading.{Reader, after, giving, ◌and◌, next_is, expect, either, optional}
 use Rattle.fk_expr.proofs.Sets.{Kinds, none, ◌∪◌, none_apart, within_itself}
@@ -35,9 +35,9 @@ last None = false
 last (Some s) = is_closed s
 
 -- it is closed where the statement is
-closing_otherwise : {room : Type 0} {S : Language Statement} {P : ℕ → Reader Statement} {lower : ℕ} {first : Kinds} (l : ℕ) → l ≤ most_levels
-    → IsClosing S is_closed P lower first room
-    → IsClosing (otherwise l S) last (λ most. giving Some (giving (λ x. x.1) (expect is_else and P most))) l is_else room
+closing_otherwise : {levels : ℕ} {room : Type 0} {S : Language Statement} {P : ℕ → Reader Statement} {lower : ℕ} {first : Kinds} (l : ℕ) → l ≤ levels
+    → IsClosing levels S is_closed P lower first room
+    → IsClosing levels (otherwise l S) last (λ most. giving Some (giving (λ x. x.1) (expect is_else and P most))) l is_else room
 closing_otherwise {first = first} l h w =
     closing_making Some (λ a. refl) (closing_making (λ x. x.1) {closed = is_closed} (λ a. refl) (closing_then (reads_token l is_else kind.Else refl h) w (none_apart first)))
 
@@ -52,8 +52,8 @@ abbrev read_else : Reader Statement → Reader (Option Statement)
 read_else P = giving Some (giving (λ x. x.1) (expect is_else and P))
 
 -- they begin as statements do
-shape_branches : {room : Type 0} {S : Language Statement} {P : ℕ → Reader Statement} {lower : ℕ} {first : Kinds} (l : ℕ) → l ≤ most_levels
-    → IsClosing S is_closed P lower first room → Shape (branches l S) lower first room
+shape_branches : {levels : ℕ} {room : Type 0} {S : Language Statement} {P : ℕ → Reader Statement} {lower : ℕ} {first : Kinds} (l : ℕ) → l ≤ levels
+    → IsClosing levels S is_closed P lower first room → Shape (branches l S) lower first room
 shape_branches {room} {S} {P} {lower} {first} l h w = record { fronts = fronts; starts = starts; example = λ r. let x = alone.example r in record { stretch = x.stretch; value = x.value; spelled = inl x.spelled } }
   where
     alone : Shape (S then empty {A = Option Statement} None) lower first room
@@ -79,20 +79,20 @@ some_read : (P : Reader Statement) (ts : List Placed) → IsTrue (next_is is_els
 some_read P ts e = by_next-yes is_else (read_else P) (stay None) ts e
 
 -- what is answered is so: a statement before an `else` is closed
-sound_branches : {room : Type 0} {S : Language Statement} {P : ℕ → Reader Statement} {lower : ℕ} {first : Kinds} (l : ℕ) → l ≤ most_levels
-    → IsClosing S is_closed P lower first room → room → (most : ℕ) (ts : List Placed) → length ts ≤ most
-    → Sound (branches l S) ts ((P most and read_otherwise (P most)) ts)
-sound_branches {room} {S} {P} {lower} {first} l h w r most ts fits = by (P most ts) refl (sound ts fits)
+sound_branches : {levels : ℕ} {room : Type 0} {S : Language Statement} {P : ℕ → Reader Statement} {lower : ℕ} {first : Kinds} (l : ℕ) → l ≤ levels
+    → IsClosing levels S is_closed P lower first room → room → (most : ℕ) (ts : List Placed) → length ts ≤ most
+    → Sound levels (branches l S) ts ((P most and read_otherwise (P most)) ts)
+sound_branches {levels} {room} {S} {P} {lower} {first} l h w r most ts fits = by (P most ts) refl (sound ts fits)
   where
-    sound : (us : List Placed) → length us ≤ most → Sound S us (P most us)
+    sound : (us : List Placed) → length us ≤ most → Sound levels S us (P most us)
     sound = (w.exact.exact most).sound r
 
-    alone : Sound (S then empty {A = Option Statement} None) ts ((P most and stay None) ts)
-    alone = ((exact_then_loose w.exact (reads_nothing None lower).exact (reads_nothing {room = room} None lower).shape (λ k i j. cc)).exact most).sound r ts fits
+    alone : Sound levels (S then empty {A = Option Statement} None) ts ((P most and stay None) ts)
+    alone = ((exact_then_loose w.exact (reads_nothing None lower).exact (reads_nothing {levels = levels} {room = room} None lower).shape (λ k i j. cc)).exact most).sound r ts fits
 
     -- what stands behind a statement
-    behind : (a : Statement) (rest : List Placed) → P most ts ≡ Ok (a, rest) → SoundValue S ts a rest → (b : Bool) → next_is is_else rest ≡ b
-        → Sound (branches l S) ts (after (read_otherwise (P most) rest) (λ o others. Ok ((a, o), others)))
+    behind : (a : Statement) (rest : List Placed) → P most ts ≡ Ok (a, rest) → SoundValue levels S ts a rest → (b : Bool) → next_is is_else rest ≡ b
+        → Sound levels (branches l S) ts (after (read_otherwise (P most) rest) (λ o others. Ok ((a, o), others)))
     behind a rest e v false k = rw (none_read (P most) rest k) (record {
       stretch = v.stretch ++ [];
       is = rw (append-nil v.stretch) v.is;
@@ -101,40 +101,40 @@ sound_branches {room} {S} {P} {lower} {first} l h w r most ts fits = by (P most 
     })
     behind a rest e v true k =
         let closed : IsTrue (is_closed a) = w.ends r most ts a rest e k in
-        let less : length rest ≤ most = leaves_by most most S (P most) (spends_any S most) sound ts fits a rest e in
+        let less : length rest ≤ most = leaves_by levels most most S (P most) (spends_any S most) sound ts fits a rest e in
         rw (some_read (P most) rest k)
-        (sound_more (accepted is_closed S then otherwise l S) (branches l S) (λ s x m. inr m) ts (after (read_else (P most) rest) (λ o others. Ok ((a, o), others)))
-        (then_sound_second (accepted is_closed S) (otherwise l S) ts rest a
+        (sound_more levels (accepted is_closed S then otherwise l S) (branches l S) (λ s x m. inr m) ts (after (read_else (P most) rest) (λ o others. Ok ((a, o), others)))
+        (then_sound_second levels (accepted is_closed S) (otherwise l S) ts rest a
         (record { stretch = v.stretch; is = v.is; spelled = (v.spelled, closed); shallow = v.shallow })
         (read_else (P most) rest) (((closing_otherwise l h w).exact.exact most).sound r rest less)))
 
-    by : (answer : Answer Statement) → P most ts ≡ answer → Sound S ts answer
-        → Sound (branches l S) ts (after answer (λ a rest. after (read_otherwise (P most) rest) (λ o others. Ok ((a, o), others))))
+    by : (answer : Answer Statement) → P most ts ≡ answer → Sound levels S ts answer
+        → Sound levels (branches l S) ts (after answer (λ a rest. after (read_otherwise (P most) rest) (λ o others. Ok ((a, o), others))))
     by (Ok (a, rest)) e v = behind a rest e v (next_is is_else rest) refl
-    by (Err stop) e v = sound_more (S then empty {A = Option Statement} None) (branches l S) (λ s x m. inl m) ts (Err stop) (rw e at alone)
+    by (Err stop) e v = sound_more levels (S then empty {A = Option Statement} None) (branches l S) (λ s x m. inl m) ts (Err stop) (rw e at alone)
 
 -- each stretch is read where no `else` comes behind it
-complete_branches : {room : Type 0} {S : Language Statement} {P : ℕ → Reader Statement} {lower : ℕ} {first : Kinds} (l : ℕ) → l ≤ most_levels
-    → IsClosing S is_closed P lower first room → (most : ℕ) → IsComplete most (branches l S) (P most and read_otherwise (P most)) is_else
-complete_branches {room} {S} {P} l h w most s x rest (inl m) fits ends =
-    then_complete most most S (empty None) (P most) (read_otherwise (P most)) is_else is_else is_else (w.exact.exact most).complete
+complete_branches : {levels : ℕ} {room : Type 0} {S : Language Statement} {P : ℕ → Reader Statement} {lower : ℕ} {first : Kinds} (l : ℕ) → l ≤ levels
+    → IsClosing levels S is_closed P lower first room → (most : ℕ) → IsComplete levels most (branches l S) (P most and read_otherwise (P most)) is_else
+complete_branches {levels} {room} {S} {P} l h w most s x rest (inl m) fits ends =
+    then_complete levels most most S (empty None) (P most) (read_otherwise (P most)) is_else is_else is_else (w.exact.exact most).complete
     (λ s o rest e fits ends. rw (e.0, e.1) (none_read (P most) rest ends))
     (spends_any S most) (λ s o rest e ends. rw e.0 ends) (within_itself is_else) s x rest m fits ends
-complete_branches {room} {S} {P} l h w most s x rest (inr m) fits ends =
+complete_branches {levels} {room} {S} {P} l h w most s x rest (inr m) fits ends =
     let o = closing_otherwise l h w in
-    then_complete most most (accepted is_closed S) (otherwise l S) (P most) (read_otherwise (P most)) none is_else is_else (w.firm most)
+    then_complete levels most most (accepted is_closed S) (otherwise l S) (P most) (read_otherwise (P most)) none is_else is_else (w.firm most)
     (λ s v rest e fits ends.
     let front : Fronts is_else l s = o.shape.fronts s v e in
     some_read (P most) (tokens_of s ++ rest) (rw front.is front.kind) ∙ (o.exact.exact most).complete s v rest e fits ends)
     (spends_any (accepted is_closed S) most) (λ s v rest e ends. next_none (tokens_of s ++ rest)) (within_itself is_else) s x rest m fits ends
 
 -- and whatever comes where what stands last is closed
-firm_branches : {room : Type 0} {S : Language Statement} {P : ℕ → Reader Statement} {lower : ℕ} {first : Kinds} (l : ℕ) → l ≤ most_levels
-    → IsClosing S is_closed P lower first room → (most : ℕ) → IsComplete most (accepted (λ x. last x.1) (branches l S)) (P most and read_otherwise (P most)) none
-firm_branches l h w most s x rest (inl m, k) fits ends = let open_end : IsTrue (last None) = rw m.4.1 at k in absurd (cc)
-firm_branches {room} {S} {P} l h w most s x rest (inr m, k) fits ends =
+firm_branches : {levels : ℕ} {room : Type 0} {S : Language Statement} {P : ℕ → Reader Statement} {lower : ℕ} {first : Kinds} (l : ℕ) → l ≤ levels
+    → IsClosing levels S is_closed P lower first room → (most : ℕ) → IsComplete levels most (accepted (λ x. last x.1) (branches l S)) (P most and read_otherwise (P most)) none
+firm_branches {levels} l h w most s x rest (inl m, k) fits ends = let open_end : IsTrue (last None) = rw m.4.1 at k in absurd (cc)
+firm_branches {levels} {room} {S} {P} l h w most s x rest (inr m, k) fits ends =
     let o = closing_otherwise l h w in
-    then_complete most most (accepted is_closed S) (accepted last (otherwise l S)) (P most) (read_otherwise (P most)) none none none (w.firm most)
+    then_complete levels most most (accepted is_closed S) (accepted last (otherwise l S)) (P most) (read_otherwise (P most)) none none none (w.firm most)
     (λ s v rest e fits ends.
     let front : Fronts is_else l s = o.shape.fronts s v e.0 in
     some_read (P most) (tokens_of s ++ rest) (rw front.is front.kind) ∙ o.firm most s v rest e fits ends)
@@ -142,8 +142,8 @@ firm_branches {room} {S} {P} l h w most s x rest (inr m, k) fits ends =
     s x rest (m.0, m.1, m.2, m.3, (m.4, k)) fits ends
 
 -- what is left before an `else` has one of its own
-ends_otherwise : {room : Type 0} {S : Language Statement} {P : ℕ → Reader Statement} {lower : ℕ} {first : Kinds} (l : ℕ) → l ≤ most_levels
-    → IsClosing S is_closed P lower first room → room → (most : ℕ) → Ends last (read_otherwise (P most))
+ends_otherwise : {levels : ℕ} {room : Type 0} {S : Language Statement} {P : ℕ → Reader Statement} {lower : ℕ} {first : Kinds} (l : ℕ) → l ≤ levels
+    → IsClosing levels S is_closed P lower first room → room → (most : ℕ) → Ends last (read_otherwise (P most))
 ends_otherwise {P = P} l h w r most ts o rest e k = by (next_is is_else ts) refl e
   where
     by : (b : Bool) → next_is is_else ts ≡ b → either b (read_else (P most)) (stay None) ts ≡ Ok (o, rest) → IsTrue (last o)
@@ -154,10 +154,10 @@ ends_otherwise {P = P} l h w r most ts o rest e k = by (next_is is_else ts) refl
         absurd (cc)
 
 -- a statement with or without an `else` is read exactly
-pub closing_branches : {room : Type 0} {S : Language Statement} {P : ℕ → Reader Statement} {lower : ℕ} {first : Kinds} (l : ℕ) → l ≤ most_levels
-    → IsClosing S is_closed P lower first room
-    → IsClosing (branches l S) (λ x. last x.1) (λ most. P most and read_otherwise (P most)) lower first room
-closing_branches {room} {S} {P} {lower} {first} l h w = record {
+pub closing_branches : {levels : ℕ} {room : Type 0} {S : Language Statement} {P : ℕ → Reader Statement} {lower : ℕ} {first : Kinds} (l : ℕ) → l ≤ levels
+    → IsClosing levels S is_closed P lower first room
+    → IsClosing levels (branches l S) (λ x. last x.1) (λ most. P most and read_otherwise (P most)) lower first room
+closing_branches {levels} {room} {S} {P} {lower} {first} l h w = record {
   shape = shape_branches l h w;
   exact = record {
     exact = λ most. record {
@@ -172,14 +172,14 @@ closing_branches {room} {S} {P} {lower} {first} l h w = record {
   ends = λ r most. ends_then last (P most) (read_otherwise (P most)) (ends_otherwise l h w r most);
 }
   where
-    one : IsClosing (making (λ x. x.1) (token l is_else then S)) is_closed (λ most. giving (λ x. x.1) (expect is_else and P most)) l is_else room
+    one : IsClosing levels (making (λ x. x.1) (token l is_else then S)) is_closed (λ most. giving (λ x. x.1) (expect is_else and P most)) l is_else room
     one = closing_making (λ x. x.1) (λ a. refl) (closing_then (reads_token l is_else kind.Else refl h) w (none_apart first))
 
-    tail : Exact (maybe (making (λ x. x.1) (token l is_else then S))) (λ most. read_otherwise (P most)) (is_else ∪ is_else) room
+    tail : Exact levels (maybe (making (λ x. x.1) (token l is_else then S))) (λ most. read_otherwise (P most)) (is_else ∪ is_else) room
     tail = exact_maybe one.exact one.shape
 
     leaves : room → (most : ℕ) → Leaves most (P most) most
-    leaves r most = leaves_by most most S (P most) (spends_any S most) ((w.exact.exact most).sound r)
+    leaves r most = leaves_by levels most most S (P most) (spends_any S most) ((w.exact.exact most).sound r)
 
 -- ---- "if" "(" comma ")" stmt [ "else" stmt ]
 
@@ -219,9 +219,9 @@ branch_closed at c s None = refl
 branch_closed at c s (Some t) = refl
 
 -- it is read exactly, if its condition and its statements are
-pub closing_if : {room : Type 0} (bound l : ℕ) (S : ℕ → Language Statement) {P : ℕ → Reader Statement} {C : ℕ → Reader Tree} {first : Kinds} → l ≤ most_levels
-    → IsRead (condition bound l) C l is_open_parenthesis none room → IsClosing (S (l + 1)) is_closed P (l + 1) first room
-    → IsClosing (if_statement bound S l) is_closed (λ most. giving chosen_by (expect is_if and C most and P most and read_otherwise (P most))) l is_if room
+pub closing_if : {levels : ℕ} {room : Type 0} (bound l : ℕ) (S : ℕ → Language Statement) {P : ℕ → Reader Statement} {C : ℕ → Reader Tree} {first : Kinds} → l ≤ levels
+    → IsRead levels (condition bound l) C l is_open_parenthesis none room → IsClosing levels (S (l + 1)) is_closed P (l + 1) first room
+    → IsClosing levels (if_statement bound S l) is_closed (λ most. giving chosen_by (expect is_if and C most and P most and read_otherwise (P most))) l is_if room
 closing_if bound l S {first = first} h c w =
     closing_same (if_statement bound S l) (if_there bound S l) (if_back bound S l)
     (closing_making chosen_by (λ x. branch_closed (spot x.0) x.1.0 x.1.1.0 x.1.1.1)

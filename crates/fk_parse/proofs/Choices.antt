@@ -15,10 +15,10 @@ TellsApart {A} is L M N = (s : Stretch) (a : A) → N s a
     → (L s a × ((rest : List Placed) → IsTrue (next_is is (tokens_of s ++ rest)))) ⊎ (M s a × ((rest : List Placed) → next_is is (tokens_of s ++ rest) ≡ false))
 
 -- where the first language may have stretches that begin otherwise
-pub exact_choice : {room : Type 0} {A : Type 0} {L M : Language A} (N : Language A) {P Q : ℕ → Reader A} {f g : Kinds} {level : ℕ} {first : Kinds} (is : Kinds)
-    → Exact L P f room → Exact M Q g room → Shape L level first room → Within is first → Includes L N → Includes M N → TellsApart is L M N
-    → Exact N (λ most. by_next is (P most) (Q most)) (f ∪ g) room
-exact_choice {room} {A} {L} {M} N {P} {Q} {f} {g} is p q shape within in_l in_m tells = record {
+pub exact_choice : {levels : ℕ} {room : Type 0} {A : Type 0} {L M : Language A} (N : Language A) {P Q : ℕ → Reader A} {f g : Kinds} {level : ℕ} {first : Kinds} (is : Kinds)
+    → Exact levels L P f room → Exact levels M Q g room → Shape L level first room → Within is first → Includes L N → Includes M N → TellsApart is L M N
+    → Exact levels N (λ most. by_next is (P most) (Q most)) (f ∪ g) room
+exact_choice {levels} {room} {A} {L} {M} N {P} {Q} {f} {g} is p q shape within in_l in_m tells = record {
   exact = λ most. record {
     sound = λ r ts fits. sound most r ts fits (next_is is ts);
     complete = λ s a rest n fits ends. complete most s a rest (tells s a n) fits ends;
@@ -28,26 +28,26 @@ exact_choice {room} {A} {L} {M} N {P} {Q} {f} {g} is p q shape within in_l in_m 
   same = λ r most more above. or_same most is (P most) (P more) (Q most) (Q more) (p.same r most more above) (q.same r most more above);
 }
   where
-    sound : (most : ℕ) → room → (ts : List Placed) → length ts ≤ most → (b : Bool) → Sound N ts (either b (P most) (Q most) ts)
-    sound most r ts fits true = sound_more L N in_l ts (P most ts) ((p.exact most).sound r ts fits)
-    sound most r ts fits false = sound_more M N in_m ts (Q most ts) ((q.exact most).sound r ts fits)
+    sound : (most : ℕ) → room → (ts : List Placed) → length ts ≤ most → (b : Bool) → Sound levels N ts (either b (P most) (Q most) ts)
+    sound most r ts fits true = sound_more levels L N in_l ts (P most ts) ((p.exact most).sound r ts fits)
+    sound most r ts fits false = sound_more levels M N in_m ts (Q most ts) ((q.exact most).sound r ts fits)
 
     complete : (most : ℕ) (s : Stretch) (a : A) (rest : List Placed)
         → (L s a × ((rest : List Placed) → IsTrue (next_is is (tokens_of s ++ rest)))) ⊎ (M s a × ((rest : List Placed) → next_is is (tokens_of s ++ rest) ≡ false))
-        → length (tokens_of s ++ rest) ≤ most → next_is (f ∪ g) rest ≡ false → by_next is (P most) (Q most) (tokens_of s ++ rest) ≡ settled s a rest
+        → length (tokens_of s ++ rest) ≤ most → next_is (f ∪ g) rest ≡ false → by_next is (P most) (Q most) (tokens_of s ++ rest) ≡ settled levels s a rest
     complete most s a rest (inl w) fits ends = rw (w.1 rest) ((p.exact most).complete s a rest w.0 fits (next-within f (f ∪ g) (within_left f g) rest ends))
     complete most s a rest (inr w) fits ends = rw (w.1 rest) ((q.exact most).complete s a rest w.0 fits (next-within g (f ∪ g) (within_right f g) rest ends))
 
 -- ---- by several tokens
 
 -- one language or another, by a test of the tokens, if the answers rest on the tokens up to the one that they name
-pub exact_test : {room : Type 0} {A : Type 0} {L M : Language A} {P Q : ℕ → Reader A} {f g : Kinds} (test : List Placed → Bool)
-    → Exact L P f room → Exact M Q g room
+pub exact_test : {levels : ℕ} {room : Type 0} {A : Type 0} {L M : Language A} {P Q : ℕ → Reader A} {f g : Kinds} (test : List Placed → Bool)
+    → Exact levels L P f room → Exact levels M Q g room
     → ((s : Stretch) (a : A) (rest : List Placed) → L s a → IsTrue (test (tokens_of s ++ rest)))
     → ((s : Stretch) (a : A) (rest : List Placed) → M s a → test (tokens_of s ++ rest) ≡ false)
     → (room → (most : ℕ) → IsLocal most (λ ts. either (test ts) (P most) (Q most) ts))
-    → Exact (L or M) (λ most ts. either (test ts) (P most) (Q most) ts) (f ∪ g) room
-exact_test {room} {A} {L} {M} {P} {Q} {f} {g} test p q chooses clears local = record {
+    → Exact levels (L or M) (λ most ts. either (test ts) (P most) (Q most) ts) (f ∪ g) room
+exact_test {levels} {room} {A} {L} {M} {P} {Q} {f} {g} test p q chooses clears local = record {
   exact = λ most. record {
     sound = λ r ts fits. sound most r ts fits (test ts);
     complete = complete most;
@@ -56,11 +56,11 @@ exact_test {room} {A} {L} {M} {P} {Q} {f} {g} test p q chooses clears local = re
   same = λ r most more above ts fits. same r most more above ts fits (test ts);
 }
   where
-    sound : (most : ℕ) → room → (ts : List Placed) → length ts ≤ most → (b : Bool) → Sound (L or M) ts (either b (P most) (Q most) ts)
-    sound most r ts fits true = sound_more L (L or M) (λ s a l. inl l) ts (P most ts) ((p.exact most).sound r ts fits)
-    sound most r ts fits false = sound_more M (L or M) (λ s a m. inr m) ts (Q most ts) ((q.exact most).sound r ts fits)
+    sound : (most : ℕ) → room → (ts : List Placed) → length ts ≤ most → (b : Bool) → Sound levels (L or M) ts (either b (P most) (Q most) ts)
+    sound most r ts fits true = sound_more levels L (L or M) (λ s a l. inl l) ts (P most ts) ((p.exact most).sound r ts fits)
+    sound most r ts fits false = sound_more levels M (L or M) (λ s a m. inr m) ts (Q most ts) ((q.exact most).sound r ts fits)
 
-    complete : (most : ℕ) → IsComplete most (L or M) (λ ts. either (test ts) (P most) (Q most) ts) (f ∪ g)
+    complete : (most : ℕ) → IsComplete levels most (L or M) (λ ts. either (test ts) (P most) (Q most) ts) (f ∪ g)
     complete most s a rest (inl l) fits ends = rw (chooses s a rest l) ((p.exact most).complete s a rest l fits (next-within f (f ∪ g) (within_left f g) rest ends))
     complete most s a rest (inr m) fits ends = rw (clears s a rest m) ((q.exact most).complete s a rest m fits (next-within g (f ∪ g) (within_right f g) rest ends))
 

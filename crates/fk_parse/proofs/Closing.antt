@@ -2,7 +2,7 @@
 -- what is read before an `else` is closed.
 use Rattle.std.proofs.Common.{◌≡◌, ℕ, ◌<◌, List, [], ◌∷◌, ◌++◌, Some, None, Bool, true, false, IsTrue, Ok, Err, inl, inr, refl, sym, ap, ◌∙◌}
 use Rattle.fk_expr.specs.Languages.{Placed, tokens_of, Language, nothing, ◌then◌, ◌or◌, making}
-use Rattle.fk_expr.specs.Reads.{Answer, Nesting, most_levels}
+use Rattle.fk_expr.specs.Reads.{Answer, Nesting}
 use Rattle.fk_expr.specs.Reading.{Reader, after, giving, ◌and◌, next_is, either, by_next, unexpected, opened}
 use Rattle.fk_expr.proofs.Sets.{Kinds, none, ◌∪◌, Apart, Within, within_itself}
 use Rattle.fk_expr.proofs.Exact.{Fronts, Shape, IsComplete, Exact}
@@ -21,15 +21,15 @@ abbrev pub Ends : {A : Type 0} → (A → Bool) → Reader A → Type 0
 Ends {A} closed P = (ts : List Placed) (a : A) (rest : List Placed) → P ts ≡ Ok (a, rest) → IsTrue (next_is is_else rest) → IsTrue (closed a)
 
 -- a language is read exactly where no `else` comes behind it, and its closed values whatever comes
-pub record IsClosing {A : Type 0} (L : Language A) (closed : A → Bool) (P : ℕ → Reader A) (level : ℕ) (first : Kinds) (room : Type 0) : Type 0 where
+pub record IsClosing (levels : ℕ) {A : Type 0} (L : Language A) (closed : A → Bool) (P : ℕ → Reader A) (level : ℕ) (first : Kinds) (room : Type 0) : Type 0 where
   pub shape : Shape L level first room
-  pub exact : Exact L P is_else room
-  pub firm : (most : ℕ) → IsComplete most (accepted closed L) (P most) none
+  pub exact : Exact levels L P is_else room
+  pub firm : (most : ℕ) → IsComplete levels most (accepted closed L) (P most) none
   pub ends : room → (most : ℕ) → Ends closed (P most)
 
 -- a language all of whose values are closed
-pub closing_any : {room : Type 0} {A : Type 0} {L : Language A} {P : ℕ → Reader A} {level : ℕ} {first : Kinds}
-    → IsRead L P level first none room → IsClosing L (λ a. true) P level first room
+pub closing_any : {levels : ℕ} {room : Type 0} {A : Type 0} {L : Language A} {P : ℕ → Reader A} {level : ℕ} {first : Kinds}
+    → IsRead levels L P level first none room → IsClosing levels L (λ a. true) P level first room
 closing_any w = record {
   shape = w.shape;
   exact = exact_wider is_else (λ k h. cc) w.exact;
@@ -55,20 +55,20 @@ ends_making {A} {B} f closed c same P p ts b rest e h = by (P ts) refl e
     by (Err stop) d e = absurd (cc)
 
 -- and is read whatever comes where it is closed
-firm_making : {A B : Type 0} (f : A → B) (closed : B → Bool) (c : A → Bool) → ((a : A) → closed (f a) ≡ c a)
-    → (most : ℕ) (L : Language A) (P : Reader A) → IsComplete most (accepted c L) P none → IsComplete most (accepted closed (making f L)) (giving f P) none
-firm_making f closed c same most L P p s b rest l fits ends =
+firm_making : (levels : ℕ) {A B : Type 0} (f : A → B) (closed : B → Bool) (c : A → Bool) → ((a : A) → closed (f a) ≡ c a)
+    → (most : ℕ) (L : Language A) (P : Reader A) → IsComplete levels most (accepted c L) P none → IsComplete levels most (accepted closed (making f L)) (giving f P) none
+firm_making levels f closed c same most L P p s b rest l fits ends =
     let a = l.0.0 in
     let is : IsTrue (closed (f a)) = rw l.0.2 at l.1 in
-    rw l.0.2 (settled_giving f s a rest (P (tokens_of s ++ rest)) (p s a rest (l.0.1, sym (same a) ∙ is) fits ends))
+    rw l.0.2 (settled_giving levels f s a rest (P (tokens_of s ++ rest)) (p s a rest (l.0.1, sym (same a) ∙ is) fits ends))
 
 -- what is made of a language is closed where its value is
-pub closing_making : {room : Type 0} {A B : Type 0} (f : A → B) {closed : B → Bool} {c : A → Bool} {L : Language A} {P : ℕ → Reader A} {level : ℕ} {first : Kinds}
-    → ((a : A) → closed (f a) ≡ c a) → IsClosing L c P level first room → IsClosing (making f L) closed (λ most. giving f (P most)) level first room
-closing_making f {closed} {c} {L} {P} same w = record {
+pub closing_making : {levels : ℕ} {room : Type 0} {A B : Type 0} (f : A → B) {closed : B → Bool} {c : A → Bool} {L : Language A} {P : ℕ → Reader A} {level : ℕ} {first : Kinds}
+    → ((a : A) → closed (f a) ≡ c a) → IsClosing levels L c P level first room → IsClosing levels (making f L) closed (λ most. giving f (P most)) level first room
+closing_making {levels} f {closed} {c} {L} {P} same w = record {
   shape = shape_making f w.shape;
   exact = exact_making f w.exact;
-  firm = λ most. firm_making f closed c same most L (P most) (w.firm most);
+  firm = λ most. firm_making levels f closed c same most L (P most) (w.firm most);
   ends = λ r most. ends_making f closed c same (P most) (w.ends r most);
 }
 
@@ -90,33 +90,33 @@ ends_then {A} {B} c P Q q ts x rest e h = by (P ts) e
     by (Err stop) e = absurd (cc)
 
 -- what is closed by its second part is read whatever comes
-firm_then : {room : Type 0} {A B : Type 0} (c : B → Bool) (most : ℕ) (L : Language A) (M : Language B) (P : Reader A) (Q : Reader B) (f : Kinds) {lower : ℕ} {second : Kinds}
-    → IsComplete most L P f → IsComplete most (accepted c M) Q none → Shape M lower second room → Apart f second
-    → IsComplete most (accepted (λ x. c x.1) (L then M)) (P and Q) none
-firm_then c most L M P Q f p q shape apart s x rest l fits ends =
-    then_complete most most L (accepted c M) P Q f none none p q (spends_any L most)
+firm_then : (levels : ℕ) {room : Type 0} {A B : Type 0} (c : B → Bool) (most : ℕ) (L : Language A) (M : Language B) (P : Reader A) (Q : Reader B) (f : Kinds) {lower : ℕ} {second : Kinds}
+    → IsComplete levels most L P f → IsComplete levels most (accepted c M) Q none → Shape M lower second room → Apart f second
+    → IsComplete levels most (accepted (λ x. c x.1) (L then M)) (P and Q) none
+firm_then levels c most L M P Q f p q shape apart s x rest l fits ends =
+    then_complete levels most most L (accepted c M) P Q f none none p q (spends_any L most)
     (λ s b rest m ends. follows_shape f none shape apart s b rest m.0 ends) (within_itself none)
     s x rest (l.0.0, l.0.1, l.0.2, l.0.3, (l.0.4, l.1)) fits ends
 
 -- two languages are closed where the second is
-pub closing_then : {room : Type 0} {A B : Type 0} {c : B → Bool} {L : Language A} {M : Language B} {P : ℕ → Reader A} {Q : ℕ → Reader B} {level lower : ℕ} {first second f : Kinds}
-    → IsRead L P level first f room → IsClosing M c Q lower second room → Apart f second
-    → IsClosing (L then M) (λ x. c x.1) (λ most. P most and Q most) level first room
-closing_then {c} {L} {M} {P} {Q} {f} v w apart = record {
+pub closing_then : {levels : ℕ} {room : Type 0} {A B : Type 0} {c : B → Bool} {L : Language A} {M : Language B} {P : ℕ → Reader A} {Q : ℕ → Reader B} {level lower : ℕ} {first second f : Kinds}
+    → IsRead levels L P level first f room → IsClosing levels M c Q lower second room → Apart f second
+    → IsClosing levels (L then M) (λ x. c x.1) (λ most. P most and Q most) level first room
+closing_then {levels} {c} {L} {M} {P} {Q} {f} v w apart = record {
   shape = shape_then v.shape w.shape.example;
   exact = exact_then v.exact w.exact w.shape apart;
-  firm = λ most. firm_then c most L M (P most) (Q most) f (v.exact.exact most).complete (w.firm most) w.shape apart;
+  firm = λ most. firm_then levels c most L M (P most) (Q most) f (v.exact.exact most).complete (w.firm most) w.shape apart;
   ends = λ r most. ends_then c (P most) (Q most) (w.ends r most);
 }
 
 -- the first may be empty
-pub closing_loose_then : {room : Type 0} {A B : Type 0} {c : B → Bool} {L : Language A} {M : Language B} {P : ℕ → Reader A} {Q : ℕ → Reader B} {level : ℕ} {first second f : Kinds}
-    → IsLooselyRead L P level first f room → IsClosing M c Q level second room → Apart f second
-    → IsClosing (L then M) (λ x. c x.1) (λ most. P most and Q most) level (first ∪ second) room
-closing_loose_then {c} {L} {M} {P} {Q} {f} v w apart = record {
+pub closing_loose_then : {levels : ℕ} {room : Type 0} {A B : Type 0} {c : B → Bool} {L : Language A} {M : Language B} {P : ℕ → Reader A} {Q : ℕ → Reader B} {level : ℕ} {first second f : Kinds}
+    → IsLooselyRead levels L P level first f room → IsClosing levels M c Q level second room → Apart f second
+    → IsClosing levels (L then M) (λ x. c x.1) (λ most. P most and Q most) level (first ∪ second) room
+closing_loose_then {levels} {c} {L} {M} {P} {Q} {f} v w apart = record {
   shape = shape_loose_then v.shape w.shape;
   exact = exact_then v.exact w.exact w.shape apart;
-  firm = λ most. firm_then c most L M (P most) (Q most) f (v.exact.exact most).complete (w.firm most) w.shape apart;
+  firm = λ most. firm_then levels c most L M (P most) (Q most) f (v.exact.exact most).complete (w.firm most) w.shape apart;
   ends = λ r most. ends_then c (P most) (Q most) (w.ends r most);
 }
 
@@ -131,34 +131,34 @@ ends_either {A} closed is P Q p q ts a rest e h = by (next_is is ts) e
     by false e = q ts a rest e h
 
 -- either language is read whatever comes where it is closed
-firm_or : {room : Type 0} {A : Type 0} (closed : A → Bool) (most : ℕ) (L M : Language A) (level lower : ℕ) (is second : Kinds) (P Q : Reader A)
-    → IsComplete most (accepted closed L) P none → IsComplete most (accepted closed M) Q none → Shape L level is room → Shape M lower second room → Apart is second
-    → IsComplete most (accepted closed (L or M)) (by_next is P Q) none
-firm_or closed most L M level lower is second P Q p q shape other apart s a rest (inl l, h) fits ends =
+firm_or : (levels : ℕ) {room : Type 0} {A : Type 0} (closed : A → Bool) (most : ℕ) (L M : Language A) (level lower : ℕ) (is second : Kinds) (P Q : Reader A)
+    → IsComplete levels most (accepted closed L) P none → IsComplete levels most (accepted closed M) Q none → Shape L level is room → Shape M lower second room → Apart is second
+    → IsComplete levels most (accepted closed (L or M)) (by_next is P Q) none
+firm_or levels closed most L M level lower is second P Q p q shape other apart s a rest (inl l, h) fits ends =
     let w : Fronts is level s = shape.fronts s a l in
     by_next-yes is P Q (tokens_of s ++ rest) (rw w.is w.kind) ∙ p s a rest (l, h) fits ends
-firm_or closed most L M level lower is second P Q p q shape other apart s a rest (inr m, h) fits ends =
+firm_or levels closed most L M level lower is second P Q p q shape other apart s a rest (inr m, h) fits ends =
     by_next-no is P Q (tokens_of s ++ rest) (follows_shape is none other apart s a rest m ends) ∙ q s a rest (m, h) fits ends
 
 -- one language or another, told apart by the next token
-pub closing_or : {room : Type 0} {A : Type 0} {closed : A → Bool} {L M : Language A} {P Q : ℕ → Reader A} {level : ℕ} {first second : Kinds}
-    → IsClosing L closed P level first room → IsClosing M closed Q level second room → Apart first second
-    → IsClosing (L or M) closed (λ most. by_next first (P most) (Q most)) level (first ∪ second) room
-closing_or {closed} {L} {M} {P} {Q} {level} {first} {second} v w apart = record {
+pub closing_or : {levels : ℕ} {room : Type 0} {A : Type 0} {closed : A → Bool} {L M : Language A} {P Q : ℕ → Reader A} {level : ℕ} {first second : Kinds}
+    → IsClosing levels L closed P level first room → IsClosing levels M closed Q level second room → Apart first second
+    → IsClosing levels (L or M) closed (λ most. by_next first (P most) (Q most)) level (first ∪ second) room
+closing_or {levels} {closed} {L} {M} {P} {Q} {level} {first} {second} v w apart = record {
   shape = shape_or v.shape w.shape;
   exact = exact_or_by is_else v.exact w.exact v.shape (follows_shape first is_else w.shape apart) (within_itself is_else) (within_itself is_else);
-  firm = λ most. firm_or closed most L M level level first second (P most) (Q most) (v.firm most) (w.firm most) v.shape w.shape apart;
+  firm = λ most. firm_or levels closed most L M level level first second (P most) (Q most) (v.firm most) (w.firm most) v.shape w.shape apart;
   ends = λ r most. ends_either closed first (P most) (Q most) (v.ends r most) (w.ends r most);
 }
 
 -- two sets of the same first kinds
-pub closing_kinds : {room : Type 0} {A : Type 0} {closed : A → Bool} {L : Language A} {P : ℕ → Reader A} {level : ℕ} {first : Kinds} (other : Kinds) → Within first other → Within other first
-    → IsClosing L closed P level first room → IsClosing L closed P level other room
+pub closing_kinds : {levels : ℕ} {room : Type 0} {A : Type 0} {closed : A → Bool} {L : Language A} {P : ℕ → Reader A} {level : ℕ} {first : Kinds} (other : Kinds) → Within first other → Within other first
+    → IsClosing levels L closed P level first room → IsClosing levels L closed P level other room
 closing_kinds other there back w = record { shape = shape_kinds other there back w.shape; exact = w.exact; firm = w.firm; ends = w.ends }
 
 -- the same stretches
-pub closing_same : {room : Type 0} {A : Type 0} {closed : A → Bool} {L : Language A} (M : Language A) {P : ℕ → Reader A} {level : ℕ} {first : Kinds} → Includes L M → Includes M L
-    → IsClosing L closed P level first room → IsClosing M closed P level first room
+pub closing_same : {levels : ℕ} {room : Type 0} {A : Type 0} {closed : A → Bool} {L : Language A} (M : Language A) {P : ℕ → Reader A} {level : ℕ} {first : Kinds} → Includes L M → Includes M L
+    → IsClosing levels L closed P level first room → IsClosing levels M closed P level first room
 closing_same M includes included w = record {
   shape = shape_same M includes included w.shape;
   exact = exact_same M includes included w.exact;
@@ -167,13 +167,13 @@ closing_same M includes included w = record {
 }
 
 -- less room
-pub closing_room : {small large : Type 0} {A : Type 0} {closed : A → Bool} {L : Language A} {P : ℕ → Reader A} {level : ℕ} {first : Kinds} → (small → large)
-    → IsClosing L closed P level first large → IsClosing L closed P level first small
+pub closing_room : {levels : ℕ} {small large : Type 0} {A : Type 0} {closed : A → Bool} {L : Language A} {P : ℕ → Reader A} {level : ℕ} {first : Kinds} → (small → large)
+    → IsClosing levels L closed P level first large → IsClosing levels L closed P level first small
 closing_room enough w = record { shape = shape_room enough w.shape; exact = exact_room enough w.exact; firm = w.firm; ends = λ r. w.ends (enough r) }
 
 -- no stretch, where there is no room
-pub closing_nothing : {room : Type 0} {A : Type 0} (closed : A → Bool) (P : ℕ → Reader A) (level : ℕ) (first : Kinds) → (room → ⊥)
-    → IsClosing nothing closed P level first room
+pub closing_nothing : {levels : ℕ} {room : Type 0} {A : Type 0} (closed : A → Bool) (P : ℕ → Reader A) (level : ℕ) (first : Kinds) → (room → ⊥)
+    → IsClosing levels nothing closed P level first room
 closing_nothing closed P level first no_room = record {
   shape = shape_nothing level first no_room;
   exact = record {
@@ -185,15 +185,15 @@ closing_nothing closed P level first no_room = record {
 }
 
 -- as a language that something goes on with
-pub read_of : {room : Type 0} {A : Type 0} {closed : A → Bool} {L : Language A} {P : ℕ → Reader A} {level : ℕ} {first : Kinds}
-    → IsClosing L closed P level first room → IsRead L P level first is_else room
+pub read_of : {levels : ℕ} {room : Type 0} {A : Type 0} {closed : A → Bool} {L : Language A} {P : ℕ → Reader A} {level : ℕ} {first : Kinds}
+    → IsClosing levels L closed P level first room → IsRead levels L P level first is_else room
 read_of w = record { shape = w.shape; exact = w.exact }
 
 -- ---- one level deeper
 
 -- where no level is left
-pub closing_bottom : {room : Type 0} {A : Type 0} (closed : A → Bool) {L : Language A} {level : ℕ} {first : Kinds} → most_levels < level → Shape L level first room
-    → IsClosing L closed (λ most. opened {R = Reader A} first None (λ P. P)) level first room
+pub closing_bottom : {levels : ℕ} {room : Type 0} {A : Type 0} (closed : A → Bool) {L : Language A} {level : ℕ} {first : Kinds} → levels < level → Shape L level first room
+    → IsClosing levels L closed (λ most. opened {R = Reader A} first None (λ P. P)) level first room
 closing_bottom {room} {A} closed {L} {level} {first} past shape = record {
   shape = shape;
   exact = exact_too_deep is_else past shape;
@@ -207,8 +207,8 @@ closing_bottom {room} {A} closed {L} {level} {first} past shape = record {
     by (t ∷ ts) false e = absurd (cc)
 
 -- where one is left
-pub closing_deeper : {room : Type 0} {A : Type 0} {closed : A → Bool} {L : Language A} {P : ℕ → Reader A} {level : ℕ} {first : Kinds}
-    → IsClosing L closed P level first room → IsClosing L closed (λ most. opened first (Some (P most)) (λ P. P)) level first room
+pub closing_deeper : {levels : ℕ} {room : Type 0} {A : Type 0} {closed : A → Bool} {L : Language A} {P : ℕ → Reader A} {level : ℕ} {first : Kinds}
+    → IsClosing levels L closed P level first room → IsClosing levels L closed (λ most. opened first (Some (P most)) (λ P. P)) level first room
 closing_deeper {room} {A} {closed} {L} {P} {level} {first} w = record {
   shape = w.shape;
   exact = exact_expected w.exact w.shape;

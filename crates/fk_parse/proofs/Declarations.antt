@@ -4,7 +4,6 @@ use Rattle.fk_syntax.specs.Tree.{Tree}
 use Rattle.fk_lex.specs.declared.token.TokenKind.TheVariants as kind
 use Rattle.fk_expr.specs.Languages.{Language, token, ◌then◌, making, many, maybe}
 use Rattle.fk_expr.specs.Kinds.{is_name, number_told, is_int, is_star, is_comma, is_question, is_open_bracket, is_close_bracket, operator_told, assignment_told}
-use Rattle.fk_expr.specs.Reads.{most_levels}
 use Rattle.fk_expr.specs.Grammar.{deeper, Comma, Assignment}
 use Rattle.fk_expr.specs.Reading.{Reader, ◌and◌, tells, expect, repeated, begins_type, begins_expression, begins_suffix, inner, read_comma, read_assignment}
 use Rattle.fk_expr.proofs.Sets.{Kinds, none, ◌∪◌, none_apart, Apart, within_left, within_itself, union_within}
@@ -21,9 +20,9 @@ use Rattle.fk_parse.specs.Statements.{separated, length_of, variable, member_nam
 use Rattle.fk_parse.specs.Reading.{read_separated, read_length, read_rest, read_variable, read_member_name, read_variables, read_member, read_parameter, begins_parameter}
 
 -- two languages one after the other, that may both be empty
-loosely_then : {room : Type 0} {A B : Type 0} {L : Language A} {M : Language B} {P : ℕ → Reader A} {Q : ℕ → Reader B} {level : ℕ} {first second f g : Kinds}
-    → IsLooselyRead L P level first f room → IsLooselyRead M Q level second g room → Apart f second
-    → IsLooselyRead (L then M) (λ most. P most and Q most) level (first ∪ second) (f ∪ g) room
+loosely_then : {levels : ℕ} {room : Type 0} {A B : Type 0} {L : Language A} {M : Language B} {P : ℕ → Reader A} {Q : ℕ → Reader B} {level : ℕ} {first second f g : Kinds}
+    → IsLooselyRead levels L P level first f room → IsLooselyRead levels M Q level second g room → Apart f second
+    → IsLooselyRead levels (L then M) (λ most. P most and Q most) level (first ∪ second) (f ∪ g) room
 loosely_then v w apart = record { shape = loose_then v.shape w.shape; exact = exact_then_loose v.exact w.exact w.shape apart }
 
 -- ---- expressions
@@ -37,12 +36,12 @@ abbrev pub after_comma : Kinds
 after_comma = after_assignment ∪ is_comma
 
 -- expressions are read exactly, where so many levels are open and so many are left
-pub record Expressions (level left bound : ℕ) (room : Type 0) : Type 0 where
-  pub comma : IsRead (Comma level bound) (λ most. read_comma most (inner most left)) level begins_expression after_comma room
-  pub assignment : IsRead (Assignment level bound) (λ most. read_assignment most (inner most left)) level begins_expression after_assignment room
+pub record Expressions (levels : ℕ) (level left bound : ℕ) (room : Type 0) : Type 0 where
+  pub comma : IsRead levels (Comma level bound) (λ most. read_comma most (inner most left)) level begins_expression after_comma room
+  pub assignment : IsRead levels (Assignment level bound) (λ most. read_assignment most (inner most left)) level begins_expression after_assignment room
 
 -- they are, where the bound has room for the levels that are left
-pub expressions : {room : Type 0} (left l bound : ℕ) → left + l ≡ most_levels → (room → left + 2 ≤ bound) → Expressions l left bound room
+pub expressions : {levels : ℕ} {room : Type 0} (left l bound : ℕ) → left + l ≡ levels → (room → left + 2 ≤ bound) → Expressions levels l left bound room
 expressions left l bound all enough =
     let next = inner_at left l bound all enough in
     record {
@@ -53,15 +52,15 @@ expressions left l bound all enough =
 -- ---- lists
 
 -- a list is read exactly, if its elements are and no comma goes on with one
-pub reads_separated : {room : Type 0} {A : Type 0} {L : Language A} {P : ℕ → Reader A} {level : ℕ} {first f : Kinds} → level ≤ most_levels
-    → IsRead L P level first f room → Apart f is_comma → IsRead (separated level L) (λ most. read_separated most (P most)) level first (f ∪ is_comma) room
+pub reads_separated : {levels : ℕ} {room : Type 0} {A : Type 0} {L : Language A} {P : ℕ → Reader A} {level : ℕ} {first f : Kinds} → level ≤ levels
+    → IsRead levels L P level first f room → Apart f is_comma → IsRead levels (separated level L) (λ most. read_separated most (P most)) level first (f ∪ is_comma) room
 unfolding read_separated
 reads_separated {level} {first} {f} h w apart =
     reads_wider (f ∪ is_comma) (union_within f (f ∪ is_comma) (f ∪ is_comma) (within_left f is_comma) (within_itself (f ∪ is_comma)))
     (reads_making _ (reads_then_loose w (reads_many (reads_making _ (reads_then (reads_token level is_comma kind.Comma refl h) w (none_apart first))) apart) apart))
 
 -- a length is read exactly
-pub reads_length : {room : Type 0} (l : ℕ) → l ≤ most_levels → IsRead (length_of l) (λ most. read_length) l is_open_bracket none room
+pub reads_length : {levels : ℕ} {room : Type 0} (l : ℕ) → l ≤ levels → IsRead levels (length_of l) (λ most. read_length) l is_open_bracket none room
 unfolding read_length
 reads_length l h =
     reads_making _ (reads_then (reads_token l is_open_bracket kind.OpenBracket refl h)
@@ -80,8 +79,8 @@ abbrev pub after_variable : Kinds
 after_variable = is_open_bracket ∪ is_equals ∪ after_assignment
 
 -- stars are read exactly
-pub reads_stars : {room : Type 0} (l : ℕ) → l ≤ most_levels
-    → IsLooselyRead (many (token l is_star)) (λ most. repeated most is_star (expect is_star)) l is_star (none ∪ is_star) room
+pub reads_stars : {levels : ℕ} {room : Type 0} (l : ℕ) → l ≤ levels
+    → IsLooselyRead levels (many (token l is_star)) (λ most. repeated most is_star (expect is_star)) l is_star (none ∪ is_star) room
 reads_stars l h = reads_many (reads_token l is_star kind.Star refl h) (none_apart is_star)
 
 -- what is declared behind the name
@@ -93,8 +92,8 @@ abbrev pub after_rest : Kinds
 after_rest = (none ∪ is_open_bracket) ∪ (after_assignment ∪ is_equals)
 
 -- it is read exactly
-pub reads_rest : {room : Type 0} {l left bound : ℕ} → Expressions l left bound room → l ≤ most_levels
-    → IsLooselyRead (rest_of bound l) (λ most. read_rest most (inner most left)) l (is_open_bracket ∪ is_equals) after_rest room
+pub reads_rest : {levels : ℕ} {room : Type 0} {l left bound : ℕ} → Expressions levels l left bound room → l ≤ levels
+    → IsLooselyRead levels (rest_of bound l) (λ most. read_rest most (inner most left)) l (is_open_bracket ∪ is_equals) after_rest room
 unfolding read_rest
 reads_rest {l = l} E h =
     loosely_then (reads_maybe (reads_length l h))
@@ -102,8 +101,8 @@ reads_rest {l = l} E h =
     (apart_by (none ∪ is_open_bracket) is_equals refl (λ v u. refl))
 
 -- a variable is read exactly
-pub reads_variable : {room : Type 0} {l left bound : ℕ} → Expressions l left bound room → l ≤ most_levels
-    → IsRead (variable bound l) (λ most. read_variable most (inner most left)) l starred after_variable room
+pub reads_variable : {levels : ℕ} {room : Type 0} {l left bound : ℕ} → Expressions levels l left bound room → l ≤ levels
+    → IsRead levels (variable bound l) (λ most. read_variable most (inner most left)) l starred after_variable room
 unfolding read_variable read_rest
 reads_variable {l = l} E h =
     reads_wider after_variable (within_by (none ∪ after_rest) after_variable refl (λ v u. refl))
@@ -116,8 +115,8 @@ abbrev declaring : Kinds
 declaring = tells sharing_told ∪ begins_type
 
 -- variables are read exactly
-pub reads_variables : {room : Type 0} {l left bound : ℕ} → Expressions l left bound room → l ≤ most_levels
-    → IsRead (variables bound l) (λ most. read_variables most (inner most left)) l begins_parameter none room
+pub reads_variables : {levels : ℕ} {room : Type 0} {l left bound : ℕ} → Expressions levels l left bound room → l ≤ levels
+    → IsRead levels (variables bound l) (λ most. read_variables most (inner most left)) l begins_parameter none room
 unfolding read_variables
 reads_variables {l = l} E h =
     reads_kinds begins_parameter (within_by declaring begins_parameter refl (λ v u. refl)) (within_by begins_parameter declaring refl (λ v u. refl))
@@ -132,7 +131,7 @@ reads_variables {l = l} E h =
 -- ---- members
 
 -- a member's name is read exactly
-pub reads_member_name : {room : Type 0} (l : ℕ) → l ≤ most_levels → IsRead (member_name l) (λ most. read_member_name most) l starred is_open_bracket room
+pub reads_member_name : {levels : ℕ} {room : Type 0} (l : ℕ) → l ≤ levels → IsRead levels (member_name l) (λ most. read_member_name most) l starred is_open_bracket room
 unfolding read_member_name
 reads_member_name l h =
     reads_wider is_open_bracket (within_by (none ∪ (none ∪ is_open_bracket)) is_open_bracket refl (λ v u. refl))
@@ -141,7 +140,7 @@ reads_member_name l h =
     (apart_by (none ∪ is_star) is_name refl (λ v u. refl))))
 
 -- members are read exactly
-pub reads_member : {room : Type 0} (l : ℕ) → l ≤ most_levels → IsRead (member l) (λ most. read_member most) l begins_type none room
+pub reads_member : {levels : ℕ} {room : Type 0} (l : ℕ) → l ≤ levels → IsRead levels (member l) (λ most. read_member most) l begins_type none room
 unfolding read_member
 reads_member l h =
     reads_making _ (reads_then (reads_base l h)
@@ -153,7 +152,7 @@ reads_member l h =
 -- ---- parameters
 
 -- a parameter is read exactly
-pub reads_parameter : {room : Type 0} (l : ℕ) → l ≤ most_levels → IsRead (parameter l) (λ most. read_parameter most) l begins_parameter none room
+pub reads_parameter : {levels : ℕ} {room : Type 0} (l : ℕ) → l ≤ levels → IsRead levels (parameter l) (λ most. read_parameter most) l begins_parameter none room
 unfolding read_parameter
 reads_parameter l h =
     reads_kinds begins_parameter (within_by declaring begins_parameter refl (λ v u. refl)) (within_by begins_parameter declaring refl (λ v u. refl))

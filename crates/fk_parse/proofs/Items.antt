@@ -1,11 +1,11 @@
 -- Items are read exactly: a struct is told apart from the others by three tokens.
-use Rattle.std.proofs.Common.{◌≡◌, ℕ, List, [], ◌∷◌, ◌++◌, Bool, true, false, ◌&&◌, IsTrue, Ok, Err, length, ◌⊎◌, inl, inr, refl, sym, ◌∙◌, arith}
+use Rattle.std.proofs.Common.{◌≡◌, ℕ, suc, ◌+◌, List, [], ◌∷◌, ◌++◌, Bool, true, false, ◌&&◌, IsTrue, Ok, Err, length, ◌⊎◌, inl, inr, refl, sym, ◌∙◌, arith}
 use Rattle.fk_syntax.specs.Tree.{BaseType, Struct}
 use Rattle.fk_syntax.specs.Program.{DeclaredTree, ItemTree, StructItem, VariablesItem}
 use Rattle.fk_lex.specs.declared.token.TokenKind.TheVariants as kind
 use Rattle.fk_expr.specs.Languages.{Placed, Stretch, tokens_of, Language, token, ◌then◌, ◌or◌, making, many}
 use Rattle.fk_expr.specs.Kinds.{is_name, is_int, is_unsigned, is_void, is_struct, is_star}
-use Rattle.fk_expr.specs.Reads.{Unexpected, Answer}
+use Rattle.fk_expr.specs.Reads.{Unexpected, Answer, most_levels}
 use Rattle.fk_expr.specs.Grammar.{base, name}
 use Rattle.fk_expr.specs.Reading.{Reader, after, giving, ◌and◌, next_is, either, by_next, expect, read_base, repeated, tells, begins_type, inner}
 use Rattle.fk_expr.proofs.Sets.{Kinds, none, ◌∪◌, none_apart, Apart, apart-false}
@@ -19,11 +19,11 @@ use Rattle.fk_expr.proofs.Productions.{IsRead, reads_token, reads_making, reads_
 use Rattle.fk_expr.proofs.Longest.{Faithful}
 use Rattle.fk_parse.specs.Kinds.{is_semicolon, is_open_brace, is_close_brace, sharing_told, mode_told}
 use Rattle.fk_parse.specs.Statements.{member, struct_item, item, Items, joined_lists}
-use Rattle.fk_parse.specs.Reading.{read_member, read_struct, read_variables, read_moded, read_bare, read_tail, read_body, read_item, read_items, begins_item, levels, struct_is_next, made_of, Tail}
+use Rattle.fk_parse.specs.Reading.{read_member, read_struct, read_variables, read_moded, read_bare, read_tail, read_item, read_items, begins_item, struct_is_next, made_of, Tail}
 use Rattle.fk_parse.proofs.Declarations.{starred, reads_member}
 use Rattle.fk_parse.proofs.Parameters.{next_none}
 use Rattle.fk_parse.proofs.Choices.{exact_test, local_behind}
-use Rattle.fk_parse.proofs.Tails.{has_room, named, reads_named, tail, reads_tail, bare, moded}
+use Rattle.fk_parse.proofs.Tails.{has_room, body_within, named, reads_named, tail, reads_tail, bare, moded}
 use Rattle.fk_parse.proofs.Words.{words, words_cases, read_typed, read_words, reads_words}
 
 -- ---- structs
@@ -42,7 +42,7 @@ read_members most =
     expect is_open_brace and read_member most and repeated most begins_type (read_member most) and expect is_close_brace and expect is_semicolon
 
 -- they are read exactly
-reads_members : {room : Type 0} → IsRead members read_members 0 is_open_brace none room
+reads_members : {levels : ℕ} {room : Type 0} → IsRead levels members read_members 0 is_open_brace none room
 reads_members =
     reads_then (reads_token 0 is_open_brace kind.OpenBrace refl (omega arith))
     (reads_then (reads_member 0 (omega arith))
@@ -53,7 +53,7 @@ reads_members =
     (none_apart begins_type)
 
 -- a struct is read exactly
-reads_struct : {room : Type 0} → IsRead struct_item (λ most. read_struct most) 0 is_struct none room
+reads_struct : {levels : ℕ} {room : Type 0} → IsRead levels struct_item (λ most. read_struct most) 0 is_struct none room
 unfolding read_struct
 reads_struct =
     reads_making _ (reads_then (reads_token 0 is_struct kind.Struct refl (omega arith))
@@ -107,9 +107,9 @@ base_three s b rest (inr (inr (inl x))) ends = rw x.1.0 (not_struct x.0 rest (ap
 base_three s b rest (inr (inr (inr x))) ends = rw (x.1.2, x.1.3.0, x.1.4.0) (not_brace x.0.0 x.0.1 rest ends)
 
 -- of an item without a word before it they tell no struct
-bare_three : (bound : ℕ) (s : Stretch) (a : ItemTree) (rest : List Placed) → bare bound s a → struct_is_next (tokens_of s ++ rest) ≡ false
-bare_three bound s a rest (x, m, e) =
-    let ends = follows_shape is_open_brace none (reads_named (reads_tail bound)).shape (apart_by is_open_brace starred refl (λ v u. refl)) m.1 x.1 rest m.4 (next_none rest) in
+bare_three : (left : ℕ) (bound : ℕ) (s : Stretch) (a : ItemTree) (rest : List Placed) → bare bound s a → struct_is_next (tokens_of s ++ rest) ≡ false
+bare_three left bound s a rest (x, m, e) =
+    let ends = follows_shape is_open_brace none (reads_named (reads_tail left bound)).shape (apart_by is_open_brace starred refl (λ v u. refl)) m.1 x.1 rest m.4 (next_none rest) in
     rw (m.2, tokens_regroup m.0 m.1 rest) (base_three m.0 x.0 (tokens_of m.1 ++ rest) m.3 ends)
 
 -- nor of a function with one
@@ -118,11 +118,11 @@ moded_three bound s a rest (x, m, e) =
     rw (m.2, m.3.0) (not_struct x.0.0 (tokens_of m.1 ++ rest) (apart-false is_struct (tells mode_told) (apart_by is_struct (tells mode_told) refl (λ v u. refl)) x.0.0.kind (rw m.3.1 refl)))
 
 -- of the others they tell none
-clears : (bound : ℕ) (s : Stretch) (a : ItemTree) (rest : List Placed) → words bound s a → struct_is_next (tokens_of s ++ rest) ≡ false
-clears bound s a rest n = elim (words_cases bound s a n) [
+clears : (left : ℕ) (bound : ℕ) (s : Stretch) (a : ItemTree) (rest : List Placed) → words bound s a → struct_is_next (tokens_of s ++ rest) ≡ false
+clears left bound s a rest n = elim (words_cases bound s a n) [
   | inl w ↦ not_next (tells sharing_told) (apart_by is_struct (tells sharing_told) refl (λ v u. refl)) (tokens_of s ++ rest) (w.1 rest)
   | inr (inl m) ↦ moded_three bound s a rest m
-  | inr (inr m) ↦ bare_three bound s a rest m
+  | inr (inr m) ↦ bare_three left bound s a rest m
 ]
 
 -- ---- behind `struct` and a name
@@ -132,8 +132,8 @@ abbrev Behind : Type 0
 Behind = List Placed × (Placed × Tail)
 
 -- how that is read
-abbrev read_behind : ℕ → Reader Behind
-read_behind most = repeated most is_star (expect is_star) and expect is_name and read_tail most (inner most 128) (read_body most)
+abbrev read_behind : (left : ℕ) → ℕ → Reader Behind
+read_behind left most = repeated most is_star (expect is_star) and expect is_name and read_tail most (inner most (suc (suc left))) (body_within left most)
 
 -- an item that begins with `struct` and a name
 abbrev item_by : Placed → Members ⊎ Behind → ItemTree
@@ -141,21 +141,21 @@ item_by n (inl k) = StructItem (name n) (joined_lists (k.1.0 ∷ k.1.1.0))
 item_by n (inr w) = made_of (Struct (name n)) (length w.0) (name w.1.0) w.1.1
 
 -- what stands behind them
-abbrev read_either : ℕ → Reader (Members ⊎ Behind)
-read_either most = by_next is_open_brace (giving (λ k. inl k) (read_members most)) (giving (λ w. inr w) (read_behind most))
+abbrev read_either : (left : ℕ) → ℕ → Reader (Members ⊎ Behind)
+read_either left most = by_next is_open_brace (giving (λ k. inl k) (read_members most)) (giving (λ w. inr w) (read_behind left most))
 
 -- from the name on
-abbrev read_from_name : ℕ → Reader ItemTree
-read_from_name most = giving (λ x. item_by x.0 x.1) (expect is_name and read_either most)
+abbrev read_from_name : (left : ℕ) → ℕ → Reader ItemTree
+read_from_name left most = giving (λ x. item_by x.0 x.1) (expect is_name and read_either left most)
 
 -- it is read exactly from the name on
-reads_from_name : (bound : ℕ)
-    → IsRead (making (λ x. item_by x.0 x.1) (token 0 is_name then (making {B = Members ⊎ Behind} (λ k. inl k) members or making (λ w. inr w) (named (tail bound)))))
-    read_from_name 0 is_name none (has_room bound)
-reads_from_name bound =
+reads_from_name : (left : ℕ) (bound : ℕ)
+    → IsRead (suc (suc left)) (making (λ x. item_by x.0 x.1) (token 0 is_name then (making {B = Members ⊎ Behind} (λ k. inl k) members or making (λ w. inr w) (named (tail bound)))))
+    (read_from_name left) 0 is_name none (has_room left bound)
+reads_from_name left bound =
     reads_making _ (reads_then (reads_token 0 is_name kind.Word refl (omega arith))
     (reads_wider none (λ k h. h)
-    (reads_or (reads_making _ reads_members) (reads_making _ (reads_named (reads_tail bound))) (apart_by is_open_brace starred refl (λ v u. refl))))
+    (reads_or (reads_making _ reads_members) (reads_making _ (reads_named (reads_tail left bound))) (apart_by is_open_brace starred refl (λ v u. refl))))
     (none_apart (is_open_brace ∪ starred)))
 
 -- a name, and what another reader reads behind it
@@ -221,35 +221,35 @@ unfolding read_struct
 struct_read most t ts h = struct_then (read_members most) (λ x. StructItem (name x.1.0) (joined_lists (x.1.1.1.0 ∷ x.1.1.1.1.0))) t ts h
 
 -- an item that is no struct
-words_read : (most : ℕ) (t : Placed) (ts : List Placed) → IsTrue (is_struct t.kind)
-    → read_words most (t ∷ ts) ≡ name_then (read_behind most) (λ n w. item_by n (inr w)) ts
+words_read : (left : ℕ) (most : ℕ) (t : Placed) (ts : List Placed) → IsTrue (is_struct t.kind)
+    → read_words left most (t ∷ ts) ≡ name_then (read_behind left most) (λ n w. item_by n (inr w)) ts
 unfolding read_bare
-words_read most t ts h =
-    by_next-no (tells sharing_told) (giving VariablesItem (read_variables most (inner most 128))) (read_typed most) (t ∷ ts) (no_other (tells sharing_told) (apart_by is_struct (tells sharing_told) refl (λ v u. refl)) t h)
-    ∙ by_next-no (tells mode_told) (read_moded most (read_body most)) (read_bare most (inner most 128) (read_body most)) (t ∷ ts) (no_other (tells mode_told) (apart_by is_struct (tells mode_told) refl (λ v u. refl)) t h)
-    ∙ base_then (read_behind most) (λ x. made_of x.0 (length x.1.0) (name x.1.1.0) x.1.1.1) t ts h
+words_read left most t ts h =
+    by_next-no (tells sharing_told) (giving VariablesItem (read_variables most (inner most (suc (suc left))))) (read_typed left most) (t ∷ ts) (no_other (tells sharing_told) (apart_by is_struct (tells sharing_told) refl (λ v u. refl)) t h)
+    ∙ by_next-no (tells mode_told) (read_moded most (body_within left most)) (read_bare most (inner most (suc (suc left))) (body_within left most)) (t ∷ ts) (no_other (tells mode_told) (apart_by is_struct (tells mode_told) refl (λ v u. refl)) t h)
+    ∙ base_then (read_behind left most) (λ x. made_of x.0 (length x.1.0) (name x.1.1.0) x.1.1.1) t ts h
 
 -- what is read from the name on, where what stands behind it is known
-from_name : {A : Type 0} (most : ℕ) (K : Reader A) (f : A → Members ⊎ Behind) (n : Placed) (ts : List Placed) → IsTrue (is_name n.kind)
-    → read_either most ts ≡ giving f K ts → read_from_name most (n ∷ ts) ≡ name_then K (λ n k. item_by n (f k)) (n ∷ ts)
-from_name {A} most K f n ts h e = rw (h, expect) (by (K ts) refl)
+from_name : (left : ℕ) {A : Type 0} (most : ℕ) (K : Reader A) (f : A → Members ⊎ Behind) (n : Placed) (ts : List Placed) → IsTrue (is_name n.kind)
+    → read_either left most ts ≡ giving f K ts → read_from_name left most (n ∷ ts) ≡ name_then K (λ n k. item_by n (f k)) (n ∷ ts)
+from_name left {A} most K f n ts h e = rw (h, expect) (by (K ts) refl)
   where
     whole : Answer (Members ⊎ Behind) → Answer ItemTree
     whole answer =
         let both : Answer (Placed × (Members ⊎ Behind)) = after answer (λ k more. Ok ((n, k), more)) in
         after both (λ x more. Ok (item_by x.0 x.1, more))
 
-    by : (answer : Answer A) → K ts ≡ answer → whole (read_either most ts) ≡ after (K ts) (λ k more. Ok (item_by n (f k), more))
+    by : (answer : Answer A) → K ts ≡ answer → whole (read_either left most ts) ≡ after (K ts) (λ k more. Ok (item_by n (f k), more))
     by (Ok x) d = rw (e, d) refl
     by (Err stop) d = rw (e, d) refl
 
 -- where no name comes
-no_name : (most : ℕ) (n : Placed) (ts : List Placed) → is_name n.kind ≡ false → read_from_name most (n ∷ ts) ≡ Err (Unexpected (n ∷ ts))
-no_name most n ts e = rw (e, expect) refl
+no_name : (left : ℕ) (most : ℕ) (n : Placed) (ts : List Placed) → is_name n.kind ≡ false → read_from_name left most (n ∷ ts) ≡ Err (Unexpected (n ∷ ts))
+no_name left most n ts e = rw (e, expect) refl
 
 -- a struct, or an item that is none
-read_any : ℕ → Reader ItemTree
-read_any most ts = either (struct_is_next ts) (read_struct most) (read_words most) ts
+read_any : (left : ℕ) → ℕ → Reader ItemTree
+read_any left most ts = either (struct_is_next ts) (read_struct most) (read_words left most) ts
 
 -- where three tokens say that a struct comes
 three_true : (t n : Placed) (ts : List Placed) → IsTrue (is_struct t.kind) → IsTrue (is_name n.kind) → IsTrue (next_is is_open_brace ts) → IsTrue (struct_is_next (t ∷ n ∷ ts))
@@ -257,34 +257,34 @@ three_true t n [] h i j = cc
 three_true t n (u ∷ ts) h i j = rw (h, i, j) refl
 
 -- from `struct` on items are read by what stands behind the name
-from_struct : (most : ℕ) (t : Placed) → IsTrue (is_struct t.kind) → (ts : List Placed) → read_any most (t ∷ ts) ≡ read_from_name most ts
+from_struct : (left : ℕ) (most : ℕ) (t : Placed) → IsTrue (is_struct t.kind) → (ts : List Placed) → read_any left most (t ∷ ts) ≡ read_from_name left most ts
 unfolding read_any
-from_struct most t h [] = words_read most t [] h
-from_struct most t h (n ∷ ts) = by_name (is_name n.kind) refl
+from_struct left most t h [] = words_read left most t [] h
+from_struct left most t h (n ∷ ts) = by_name (is_name n.kind) refl
   where
-    by_brace : IsTrue (is_name n.kind) → (b : Bool) → next_is is_open_brace ts ≡ b → read_any most (t ∷ n ∷ ts) ≡ read_from_name most (n ∷ ts)
+    by_brace : IsTrue (is_name n.kind) → (b : Bool) → next_is is_open_brace ts ≡ b → read_any left most (t ∷ n ∷ ts) ≡ read_from_name left most (n ∷ ts)
     by_brace i true j =
         rw (three_true t n ts h i j) (struct_read most t (n ∷ ts) h
-        ∙ sym (from_name most (read_members most) (λ k. inl k) n ts i (by_next-yes is_open_brace (giving (λ k. inl k) (read_members most)) (giving (λ w. inr w) (read_behind most)) ts j)))
+        ∙ sym (from_name left most (read_members most) (λ k. inl k) n ts i (by_next-yes is_open_brace (giving (λ k. inl k) (read_members most)) (giving (λ w. inr w) (read_behind left most)) ts j)))
     by_brace i false j =
-        rw (not_brace t n ts j) (words_read most t (n ∷ ts) h
-        ∙ sym (from_name most (read_behind most) (λ w. inr w) n ts i (by_next-no is_open_brace (giving (λ k. inl k) (read_members most)) (giving (λ w. inr w) (read_behind most)) ts j)))
+        rw (not_brace t n ts j) (words_read left most t (n ∷ ts) h
+        ∙ sym (from_name left most (read_behind left most) (λ w. inr w) n ts i (by_next-no is_open_brace (giving (λ k. inl k) (read_members most)) (giving (λ w. inr w) (read_behind left most)) ts j)))
 
-    by_name : (b : Bool) → is_name n.kind ≡ b → read_any most (t ∷ n ∷ ts) ≡ read_from_name most (n ∷ ts)
+    by_name : (b : Bool) → is_name n.kind ≡ b → read_any left most (t ∷ n ∷ ts) ≡ read_from_name left most (n ∷ ts)
     by_name true i = by_brace i (next_is is_open_brace ts) refl
-    by_name false i = rw (not_named t n ts i) (words_read most t (n ∷ ts) h ∙ rw (i, expect) refl)
+    by_name false i = rw (not_named t n ts i) (words_read left most t (n ∷ ts) h ∙ rw (i, expect) refl)
 
 -- each answer rests on the tokens up to the one that it names
-any_local : (bound : ℕ) → has_room bound → (most : ℕ) → IsLocal most (read_any most)
+any_local : (left : ℕ) (bound : ℕ) → has_room left bound → (most : ℕ) → IsLocal most (read_any left most)
 unfolding read_any read_bare
-any_local bound r most [] fits = tt
-any_local bound r most (t ∷ ts) fits = by (is_struct t.kind) refl
+any_local left bound r most [] fits = tt
+any_local left bound r most (t ∷ ts) fits = by (is_struct t.kind) refl
   where
-    by : (b : Bool) → is_struct t.kind ≡ b → Local most (read_any most) (t ∷ ts) (read_any most (t ∷ ts))
-    by true h = local_behind most (t ∷ []) (read_any most) (read_from_name most) (from_struct most t h) (((reads_from_name bound).exact.exact most).local r) ts fits
+    by : (b : Bool) → is_struct t.kind ≡ b → Local most (read_any left most) (t ∷ ts) (read_any left most (t ∷ ts))
+    by true h = local_behind most (t ∷ []) (read_any left most) (read_from_name left most) (from_struct left most t h) (((reads_from_name left bound).exact.exact most).local r) ts fits
     by false h =
-        let other : (others : List Placed) → read_any most (t ∷ others) ≡ read_words most (t ∷ others) = λ others. rw (not_struct t others h) refl in
-        rw (other ts) (local_like most (read_words most) (read_any most) t ts (read_words most (t ∷ ts)) other (((reads_words bound).exact.exact most).local r (t ∷ ts) fits))
+        let other : (others : List Placed) → read_any left most (t ∷ others) ≡ read_words left most (t ∷ others) = λ others. rw (not_struct t others h) refl in
+        rw (other ts) (local_like most (read_words left most) (read_any left most) t ts (read_words left most (t ∷ ts)) other (((reads_words left bound).exact.exact most).local r (t ∷ ts) fits))
 
 -- ---- items
 
@@ -293,25 +293,33 @@ abbrev begins_any : Kinds
 begins_any = is_struct ∪ begins_item
 
 -- an item is read exactly
-pub reads_item : (bound : ℕ) → IsRead (item bound) (λ most. read_item most (inner most levels) (read_body most)) 0 begins_item none (has_room bound)
+pub reads_item : (left : ℕ) (bound : ℕ) → IsRead (suc (suc left)) (item bound) (λ most. read_item most (inner most (suc (suc left))) (body_within left most)) 0 begins_item none (has_room left bound)
 unfolding read_item read_any
-reads_item bound =
+reads_item left bound =
     let v = reads_struct in
-    let w = reads_words bound in
+    let w = reads_words left bound in
     reads_kinds begins_item (within_by begins_any begins_item refl (λ v u. refl)) (within_by begins_item begins_any refl (λ v u. refl))
     (reads_wider none (λ k h. h)
     (record {
       shape = shape_or v.shape w.shape;
-      exact = exact_test struct_is_next v.exact w.exact chooses (clears bound) (any_local bound);
+      exact = exact_test struct_is_next v.exact w.exact chooses (clears left bound) (any_local left bound);
     }))
 
 -- ---- any number of them
 
--- items are read exactly, and a bound of 130 levels leaves room for all that may be open
-pub faithful_items : Faithful Items read_items begins_item has_room
-unfolding read_items
-faithful_items = record {
-  enough = 130;
+-- how items are read where so many levels and two more may be open
+abbrev pub items_within : ℕ → ℕ → Reader (List ItemTree)
+items_within left most = repeated most begins_item (read_item most (inner most (suc (suc left))) (body_within left most))
+
+-- they are read exactly, however many that are
+pub faithful_within : (left : ℕ) → Faithful (suc (suc left)) Items (items_within left) begins_item (has_room left)
+faithful_within left = record {
+  enough = left + 4;
   has_room = omega arith;
-  exact = λ bound. exact_wider begins_item (λ k h. h) (reads_many (reads_item bound) (none_apart begins_item)).exact;
+  exact = λ bound. exact_wider begins_item (λ k h. h) (reads_many (reads_item left bound) (none_apart begins_item)).exact;
 }
+
+-- in a text 128 may be
+pub faithful_items : Faithful most_levels Items read_items begins_item (has_room 126)
+unfolding read_items
+faithful_items = faithful_within 126

@@ -5,7 +5,6 @@ use Rattle.fk_syntax.specs.Program.{DeclaredTree}
 use Rattle.fk_lex.specs.declared.token.TokenKind.TheVariants as kind
 use Rattle.fk_expr.specs.Languages.{Placed, Marked, Stretch, tokens_of, Language, token, telling, ◌then◌, ◌or◌, making, many, maybe}
 use Rattle.fk_expr.specs.Kinds.{is_name, is_int, is_unsigned, is_void, is_struct, is_star, is_comma, is_close_parenthesis}
-use Rattle.fk_expr.specs.Reads.{most_levels}
 use Rattle.fk_expr.specs.Grammar.{base}
 use Rattle.fk_expr.specs.Reading.{Reader, after, giving, ◌and◌, next_is, tells, either, by_next, expect}
 use Rattle.fk_expr.proofs.Sets.{Kinds, none, ◌∪◌, none_apart, Apart, apart-false, within_itself, union_within}
@@ -28,7 +27,7 @@ use Rattle.fk_parse.proofs.Declarations.{reads_separated, reads_parameter, starr
 -- ---- nothing
 
 -- nothing is read exactly by what reads nothing
-pub reads_nothing : {room : Type 0} {A : Type 0} (v : A) (l : ℕ) → IsLooselyRead (empty v) (λ most. stay v) l none none room
+pub reads_nothing : {levels : ℕ} {room : Type 0} {A : Type 0} (v : A) (l : ℕ) → IsLooselyRead levels (empty v) (λ most. stay v) l none none room
 reads_nothing v l = record {
   shape = record {
     fronts = λ s a e. inl e.0;
@@ -65,8 +64,8 @@ abbrev pub starred_name : ℕ → Language (List Placed × Placed)
 starred_name l = many (token l is_star) then token l is_name
 
 -- they begin with a star or the name
-shape_starred : (l : ℕ) → l ≤ most_levels → Shape (starred_name l) l starred (Unit {0})
-shape_starred l h = (reads_loose_then (reads_stars l h) (reads_token l is_name kind.Word refl h) (apart_by (none ∪ is_star) is_name refl (λ v u. refl))).shape
+shape_starred : (levels : ℕ) (l : ℕ) → l ≤ levels → Shape (starred_name l) l starred (Unit {0})
+shape_starred levels l h = (reads_loose_then (reads_stars l h) (reads_token l is_name kind.Word refl h) (apart_by (none ∪ is_star) is_name refl (λ v u. refl))).shape
 
 -- no kind comes next
 pub next_none : (ts : List Placed) → next_is none ts ≡ false
@@ -74,29 +73,29 @@ next_none [] = refl
 next_none (t ∷ ts) = refl
 
 -- nor is what begins with the first words of a type, its stars and a name
-typed_two : (l : ℕ) → l ≤ most_levels → (s : Stretch) (x : BaseType × (List Placed × Placed)) (rest : List Placed) → (base l then starred_name l) s x
+typed_two : (levels : ℕ) (l : ℕ) → l ≤ levels → (s : Stretch) (x : BaseType × (List Placed × Placed)) (rest : List Placed) → (base l then starred_name l) s x
     → two is_void is_close_parenthesis (tokens_of s ++ rest) ≡ false
-typed_two l h s x rest m =
-    let ends = follows_shape is_close_parenthesis none (shape_starred l h) (apart_by is_close_parenthesis starred refl (λ v u. refl)) m.1 x.1 rest m.4 (next_none rest) in
+typed_two levels l h s x rest m =
+    let ends = follows_shape is_close_parenthesis none (shape_starred levels l h) (apart_by is_close_parenthesis starred refl (λ v u. refl)) m.1 x.1 rest m.4 (next_none rest) in
     rw (m.2, tokens_regroup m.0 m.1 rest) (base_two l m.0 x.0 (tokens_of m.1 ++ rest) m.3 ends)
 
 -- nor is a parameter
-parameter_two : (l : ℕ) → l ≤ most_levels → (s : Stretch) (d : DeclaredTree) (rest : List Placed) → parameter l s d
+parameter_two : (levels : ℕ) (l : ℕ) → l ≤ levels → (s : Stretch) (d : DeclaredTree) (rest : List Placed) → parameter l s d
     → two is_void is_close_parenthesis (tokens_of s ++ rest) ≡ false
-parameter_two l h s d rest p = by p.0.0 p.1.0 p.1.1 p.1.2 p.1.3 p.1.4
+parameter_two levels l h s d rest p = by p.0.0 p.1.0 p.1.1 p.1.2 p.1.3 p.1.4
   where
     by : (o : Option (Placed × Bool)) (front back : Stretch) → s ≡ front ++ back → maybe (telling l sharing_told) front o → (base l then starred_name l) back p.0.1
         → two is_void is_close_parenthesis (tokens_of s ++ rest) ≡ false
-    by None front back is none m = rw (is, none) (typed_two l h back p.0.1 rest m)
+    by None front back is none m = rw (is, none) (typed_two levels l h back p.0.1 rest m)
     by (Some x) front back is one m =
         rw (is, one.0, apart-false is_void (tells sharing_told) (apart_by is_void (tells sharing_told) refl (λ v u. refl)) x.0.kind (rw one.1 refl)) refl
 
 -- nor is a list of them
-separated_two : (l : ℕ) → l ≤ most_levels → (s : Stretch) (list : List DeclaredTree) (rest : List Placed) → separated l (parameter l) s list
+separated_two : (levels : ℕ) (l : ℕ) → l ≤ levels → (s : Stretch) (list : List DeclaredTree) (rest : List Placed) → separated l (parameter l) s list
     → two is_void is_close_parenthesis (tokens_of s ++ rest) ≡ false
-separated_two l h s list rest p =
+separated_two levels l h s list rest p =
     let m = p.1 in
-    rw (m.2, tokens_regroup m.0 m.1 rest) (parameter_two l h m.0 p.0.0 (tokens_of m.1 ++ rest) m.3)
+    rw (m.2, tokens_regroup m.0 m.1 rest) (parameter_two levels l h m.0 p.0.0 (tokens_of m.1 ++ rest) m.3)
 
 -- ---- `void`, parameters or nothing, before a closing parenthesis
 
@@ -154,8 +153,8 @@ void_starts l M t h x = (
     )
 
 -- the first is read exactly
-reads_voids : {room : Type 0} {B : Type 0} {M : Language B} {Q : ℕ → Reader B} {l : ℕ} {g : Kinds} → l ≤ most_levels → IsRead M Q l is_close_parenthesis g room
-    → IsRead (voids l then M) (λ most. giving (λ t. []) (expect is_void) and Q most) l is_void g room
+reads_voids : {levels : ℕ} {room : Type 0} {B : Type 0} {M : Language B} {Q : ℕ → Reader B} {l : ℕ} {g : Kinds} → l ≤ levels → IsRead levels M Q l is_close_parenthesis g room
+    → IsRead levels (voids l then M) (λ most. giving (λ t. []) (expect is_void) and Q most) l is_void g room
 reads_voids {l = l} h w = reads_then (reads_making _ (reads_token l is_void kind.Void refl h)) w (none_apart is_close_parenthesis)
 
 -- what begins parameters, or a closing parenthesis
@@ -163,8 +162,8 @@ abbrev pub begins_parameters : Kinds
 begins_parameters = begins_parameter ∪ is_close_parenthesis
 
 -- the second and the third are read exactly
-reads_others : {room : Type 0} {B : Type 0} {M : Language B} {Q : ℕ → Reader B} {l : ℕ} {g : Kinds} → l ≤ most_levels → IsRead M Q l is_close_parenthesis g room
-    → IsRead (separated l (parameter l) then M or empty [] then M)
+reads_others : {levels : ℕ} {room : Type 0} {B : Type 0} {M : Language B} {Q : ℕ → Reader B} {l : ℕ} {g : Kinds} → l ≤ levels → IsRead levels M Q l is_close_parenthesis g room
+    → IsRead levels (separated l (parameter l) then M or empty [] then M)
     (λ most. by_next begins_parameter (read_separated most (read_parameter most) and Q most) (stay [] and Q most)) l begins_parameters g room
 reads_others {l = l} {g = g} h w =
     reads_kinds begins_parameters (within_by (begins_parameter ∪ (none ∪ is_close_parenthesis)) begins_parameters refl (λ v u. refl))
@@ -182,11 +181,11 @@ chooses shape s x rest m =
     rw (m.2, m.3.1.0, m.3.1.1, back.is, back.kind) refl
 
 -- of the others they say no
-clears : {room : Type 0} {B : Type 0} {M : Language B} {l : ℕ} → l ≤ most_levels → Shape M l is_close_parenthesis room
+clears : (levels : ℕ) {room : Type 0} {B : Type 0} {M : Language B} {l : ℕ} → l ≤ levels → Shape M l is_close_parenthesis room
     → (s : Stretch) (x : List DeclaredTree × B) (rest : List Placed) → (separated l (parameter l) then M or empty [] then M) s x
     → two is_void is_close_parenthesis (tokens_of s ++ rest) ≡ false
-clears {l = l} h shape s x rest (inl m) = rw (m.2, tokens_regroup m.0 m.1 rest) (separated_two l h m.0 x.0 (tokens_of m.1 ++ rest) m.3)
-clears h shape s x rest (inr m) =
+clears levels {l = l} h shape s x rest (inl m) = rw (m.2, tokens_regroup m.0 m.1 rest) (separated_two levels l h m.0 x.0 (tokens_of m.1 ++ rest) m.3)
+clears levels h shape s x rest (inr m) =
     rw (m.2, m.3.0) (no_void m.1 rest (shape.fronts m.1 x.1 m.4) (apart_by is_void is_close_parenthesis refl (λ v u. refl)))
 
 -- what is read behind parameters is read behind each of the three
@@ -197,10 +196,10 @@ parameters_and true V P N Q ts = refl
 parameters_and false V P N Q ts = either_and (next_is begins_parameter ts) P N Q ts
 
 -- parameters are read exactly, up to what begins with a closing parenthesis
-pub reads_parameters : {room : Type 0} {B : Type 0} {M : Language B} {Q : ℕ → Reader B} {l : ℕ} {g : Kinds} → l ≤ most_levels → IsRead M Q l is_close_parenthesis g room
-    → IsRead (parameters l then M) (λ most. read_parameters most and Q most) l begins_parameters g room
+pub reads_parameters : {levels : ℕ} {room : Type 0} {B : Type 0} {M : Language B} {Q : ℕ → Reader B} {l : ℕ} {g : Kinds} → l ≤ levels → IsRead levels M Q l is_close_parenthesis g room
+    → IsRead levels (parameters l then M) (λ most. read_parameters most and Q most) l begins_parameters g room
 unfolding read_parameters
-reads_parameters {M = M} {Q = Q} {l = l} {g = g} h w =
+reads_parameters {levels} {M = M} {Q = Q} {l = l} {g = g} h w =
     let v = reads_voids h w in
     let q = reads_others h w in
     reads_like (λ most. read_parameters most and Q most)
@@ -213,5 +212,5 @@ reads_parameters {M = M} {Q = Q} {l = l} {g = g} h w =
       shape = shape_or v.shape q.shape;
       exact = exact_two is_void is_close_parenthesis kind.CloseParenthesis refl v.exact q.exact v.shape q.shape
           (within_itself is_void) (within_by is_void begins_parameters refl (λ v u. refl))
-          (chooses w.shape) (clears h w.shape) l (λ r t k. void_starts l M t k (w.shape.example r));
+          (chooses w.shape) (clears levels h w.shape) l (λ r t k. void_starts l M t k (w.shape.example r));
     }))))

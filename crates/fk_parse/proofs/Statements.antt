@@ -5,7 +5,6 @@ use Rattle.fk_lex.specs.declared.token.TokenKind.{TokenKind}
 use Rattle.fk_lex.specs.declared.token.TokenKind.TheVariants as kind
 use Rattle.fk_expr.specs.Languages.{Language, token, ◌then◌, making, maybe}
 use Rattle.fk_expr.specs.Kinds.{is_at, is_dollar, is_open_parenthesis, is_close_parenthesis}
-use Rattle.fk_expr.specs.Reads.{most_levels}
 use Rattle.fk_expr.specs.Grammar.{spot, Comma}
 use Rattle.fk_expr.specs.Reading.{Reader, ◌and◌, giving, expect, begins_expression, inner}
 use Rattle.fk_expr.proofs.Sets.{Kinds, none, ◌∪◌, none_apart}
@@ -22,34 +21,34 @@ use Rattle.fk_parse.proofs.Counted.{closing_start}
 use Rattle.fk_parse.proofs.StatementShapes.{from_return, from_start, from_if, from_block, example_past, shape_within}
 
 -- what is made of a language all of whose values are closed
-closing_made : {room : Type 0} {A : Type 0} (f : A → Statement) {L : Language A} {P : ℕ → Reader A} {level : ℕ} {first : Kinds}
-    → ((a : A) → IsTrue (is_closed (f a))) → IsRead L P level first none room → IsClosing (making f L) is_closed (λ most. giving f (P most)) level first room
+closing_made : {levels : ℕ} {room : Type 0} {A : Type 0} (f : A → Statement) {L : Language A} {P : ℕ → Reader A} {level : ℕ} {first : Kinds}
+    → ((a : A) → IsTrue (is_closed (f a))) → IsRead levels L P level first none room → IsClosing levels (making f L) is_closed (λ most. giving f (P most)) level first room
 closing_made f closed w = closing_making f closed (closing_any w)
 
 -- what stands in a statement is read exactly: expressions at its level, where so many are left, and statements one level deeper
-pub record Parts (S : ℕ → Language Statement) (P : ℕ → Option (Reader Statement)) (l left bound : ℕ) (room : Type 0) : Type 0 where
-  pub shallow : l ≤ most_levels
-  pub expressions : Expressions l left bound room
-  pub statements : IsClosing (S (l + 1)) is_closed (λ most. nested (P most)) (l + 1) begins_statement room
+pub record Parts (levels : ℕ) (S : ℕ → Language Statement) (P : ℕ → Option (Reader Statement)) (l left bound : ℕ) (room : Type 0) : Type 0 where
+  pub shallow : l ≤ levels
+  pub expressions : Expressions levels l left bound room
+  pub statements : IsClosing levels (S (l + 1)) is_closed (λ most. nested (P most)) (l + 1) begins_statement room
   pub past : room → Example (not_before is_open_parenthesis (S (l + 1)))
 
 -- ---- what statements are made of
 
 -- one token at the level of a statement
-reads_word : {room : Type 0} {S : ℕ → Language Statement} {P : ℕ → Option (Reader Statement)} {l left bound : ℕ} → Parts S P l left bound room
-    → (is : Kinds) (k : TokenKind) → IsTrue (is k) → IsRead (token l is) (λ most. expect is) l is none room
+reads_word : {levels : ℕ} {room : Type 0} {S : ℕ → Language Statement} {P : ℕ → Option (Reader Statement)} {l left bound : ℕ} → Parts levels S P l left bound room
+    → (is : Kinds) (k : TokenKind) → IsTrue (is k) → IsRead levels (token l is) (λ most. expect is) l is none room
 reads_word {l = l} w is k e = reads_token l is k e w.shallow
 
 -- a condition is read exactly
-pub reads_condition : {room : Type 0} {l left bound : ℕ} → Expressions l left bound room → l ≤ most_levels
-    → IsRead (condition bound l) (λ most. read_condition most (inner most left)) l is_open_parenthesis none room
+pub reads_condition : {levels : ℕ} {room : Type 0} {l left bound : ℕ} → Expressions levels l left bound room → l ≤ levels
+    → IsRead levels (condition bound l) (λ most. read_condition most (inner most left)) l is_open_parenthesis none room
 unfolding read_condition
 reads_condition E h = reads_making _ (reads_in_parentheses h E.comma (apart_by after_comma is_close_parenthesis refl (λ v u. refl)))
 
 -- a block is read exactly, if its statements are
-pub reads_block : {room : Type 0} (S : ℕ → Language Statement) (P : ℕ → Option (Reader Statement)) {l : ℕ} → l ≤ most_levels
-    → IsClosing (S (l + 1)) is_closed (λ most. nested (P most)) (l + 1) begins_statement room
-    → IsRead (block S l) (λ most. read_block most (P most)) l is_open_brace none room
+pub reads_block : {levels : ℕ} {room : Type 0} (S : ℕ → Language Statement) (P : ℕ → Option (Reader Statement)) {l : ℕ} → l ≤ levels
+    → IsClosing levels (S (l + 1)) is_closed (λ most. nested (P most)) (l + 1) begins_statement room
+    → IsRead levels (block S l) (λ most. read_block most (P most)) l is_open_brace none room
 unfolding read_block
 reads_block S P {l} h w =
     reads_making _ (reads_then (reads_token l is_open_brace kind.OpenBrace refl h)
@@ -62,28 +61,28 @@ abbrev after_some : Kinds
 after_some = after_comma ∪ begins_expression
 
 -- it is read exactly
-reads_some : {room : Type 0} {l left bound : ℕ} → Expressions l left bound room
-    → IsLooselyRead (maybe (Comma l bound)) (λ most. read_some most (inner most left)) l begins_expression after_some room
+reads_some : {levels : ℕ} {room : Type 0} {l left bound : ℕ} → Expressions levels l left bound room
+    → IsLooselyRead levels (maybe (Comma l bound)) (λ most. read_some most (inner most left)) l begins_expression after_some room
 reads_some E = reads_maybe E.comma
 
 -- ---- the statements that end in one
 
 -- `while`
-closing_while : {room : Type 0} {S : ℕ → Language Statement} {P : ℕ → Option (Reader Statement)} {l left bound : ℕ} → Parts S P l left bound room
-    → IsClosing (while_statement bound S l) is_closed (λ most. read_while most (inner most left) (P most)) l is_while room
+closing_while : {levels : ℕ} {room : Type 0} {S : ℕ → Language Statement} {P : ℕ → Option (Reader Statement)} {l left bound : ℕ} → Parts levels S P l left bound room
+    → IsClosing levels (while_statement bound S l) is_closed (λ most. read_while most (inner most left) (P most)) l is_while room
 unfolding read_while
 closing_while w =
     closing_making _ (λ a. refl) (closing_then (reads_word w is_while kind.While refl)
     (closing_then (reads_condition w.expressions w.shallow) w.statements (none_apart begins_statement)) (none_apart is_open_parenthesis))
 
 -- the last of a `for`
-closing_last : {room : Type 0} {S : ℕ → Language Statement} {P : ℕ → Option (Reader Statement)} {l left bound : ℕ} → Parts S P l left bound room
-    → IsClosing (token l is_close_parenthesis then S (l + 1)) (λ x. is_closed x.1) (λ most. expect is_close_parenthesis and nested (P most)) l is_close_parenthesis room
+closing_last : {levels : ℕ} {room : Type 0} {S : ℕ → Language Statement} {P : ℕ → Option (Reader Statement)} {l left bound : ℕ} → Parts levels S P l left bound room
+    → IsClosing levels (token l is_close_parenthesis then S (l + 1)) (λ x. is_closed x.1) (λ most. expect is_close_parenthesis and nested (P most)) l is_close_parenthesis room
 closing_last w = closing_then (reads_word w is_close_parenthesis kind.CloseParenthesis refl) w.statements (none_apart begins_statement)
 
 -- `for`
-closing_for : {room : Type 0} {S : ℕ → Language Statement} {P : ℕ → Option (Reader Statement)} {l left bound : ℕ} → Parts S P l left bound room
-    → IsClosing (for_statement bound S l) is_closed (λ most. read_for most (inner most left) (P most)) l is_for room
+closing_for : {levels : ℕ} {room : Type 0} {S : ℕ → Language Statement} {P : ℕ → Option (Reader Statement)} {l left bound : ℕ} → Parts levels S P l left bound room
+    → IsClosing levels (for_statement bound S l) is_closed (λ most. read_for most (inner most left) (P most)) l is_for room
 unfolding read_for
 closing_for w =
     let some = reads_some w.expressions in
@@ -102,8 +101,8 @@ closing_for w =
     (none_apart is_open_parenthesis))
 
 -- the rank of a `fork`
-reads_rank : {room : Type 0} {S : ℕ → Language Statement} {P : ℕ → Option (Reader Statement)} {l left bound : ℕ} → Parts S P l left bound room
-    → IsRead (making (λ x. x.1.1.1) (token l is_semicolon then token l is_dollar then token l is_equals then Comma l bound)) (λ most. read_rank most (inner most left)) l is_semicolon after_comma room
+reads_rank : {levels : ℕ} {room : Type 0} {S : ℕ → Language Statement} {P : ℕ → Option (Reader Statement)} {l left bound : ℕ} → Parts levels S P l left bound room
+    → IsRead levels (making (λ x. x.1.1.1) (token l is_semicolon then token l is_dollar then token l is_equals then Comma l bound)) (λ most. read_rank most (inner most left)) l is_semicolon after_comma room
 unfolding read_rank
 reads_rank w =
     reads_making _ (reads_then (reads_word w is_semicolon kind.Semicolon refl)
@@ -111,8 +110,8 @@ reads_rank w =
     (reads_then (reads_word w is_equals kind.Assign refl) w.expressions.comma (none_apart begins_expression)) (none_apart is_equals)) (none_apart is_dollar))
 
 -- `fork`
-closing_fork : {room : Type 0} {S : ℕ → Language Statement} {P : ℕ → Option (Reader Statement)} {l left bound : ℕ} → Parts S P l left bound room
-    → IsClosing (fork_statement bound S l) is_closed (λ most. read_fork most (inner most left) (P most)) l is_fork room
+closing_fork : {levels : ℕ} {room : Type 0} {S : ℕ → Language Statement} {P : ℕ → Option (Reader Statement)} {l left bound : ℕ} → Parts levels S P l left bound room
+    → IsClosing levels (fork_statement bound S l) is_closed (λ most. read_fork most (inner most left) (P most)) l is_fork room
 unfolding read_fork
 closing_fork w =
     closing_making _ (λ a. refl) (closing_then (reads_word w is_fork kind.Fork refl)
@@ -129,8 +128,8 @@ closing_fork w =
 -- ---- the statements that end in a token
 
 -- `do`
-closing_do : {room : Type 0} {S : ℕ → Language Statement} {P : ℕ → Option (Reader Statement)} {l left bound : ℕ} → Parts S P l left bound room
-    → IsClosing (do_statement bound S l) is_closed (λ most. read_do most (inner most left) (P most)) l is_do room
+closing_do : {levels : ℕ} {room : Type 0} {S : ℕ → Language Statement} {P : ℕ → Option (Reader Statement)} {l left bound : ℕ} → Parts levels S P l left bound room
+    → IsClosing levels (do_statement bound S l) is_closed (λ most. read_do most (inner most left) (P most)) l is_do room
 unfolding read_do
 closing_do w =
     closing_made _ (λ a. refl) (reads_then (reads_word w is_do kind.Do refl)
@@ -139,13 +138,13 @@ closing_do w =
     (none_apart is_open_parenthesis)) (apart_by is_else is_while refl (λ v u. refl))) (none_apart begins_statement))
 
 -- a word and a semicolon
-reads_plain : {room : Type 0} {S : ℕ → Language Statement} {P : ℕ → Option (Reader Statement)} {l left bound : ℕ} → Parts S P l left bound room
-    → (is : Kinds) (k : TokenKind) → IsTrue (is k) → IsRead (plain l is) (λ most. read_plain is) l is none room
+reads_plain : {levels : ℕ} {room : Type 0} {S : ℕ → Language Statement} {P : ℕ → Option (Reader Statement)} {l left bound : ℕ} → Parts levels S P l left bound room
+    → (is : Kinds) (k : TokenKind) → IsTrue (is k) → IsRead levels (plain l is) (λ most. read_plain is) l is none room
 reads_plain w is k e = reads_making _ (reads_then (reads_word w is k e) (reads_word w is_semicolon kind.Semicolon refl) (none_apart is_semicolon))
 
 -- `return`
-closing_return : {room : Type 0} {S : ℕ → Language Statement} {P : ℕ → Option (Reader Statement)} {l left bound : ℕ} → Parts S P l left bound room
-    → IsClosing (making (λ x. Return (spot x.0) x.1.0) (token l is_return then maybe (Comma l bound) then token l is_semicolon)) is_closed
+closing_return : {levels : ℕ} {room : Type 0} {S : ℕ → Language Statement} {P : ℕ → Option (Reader Statement)} {l left bound : ℕ} → Parts levels S P l left bound room
+    → IsClosing levels (making (λ x. Return (spot x.0) x.1.0) (token l is_return then maybe (Comma l bound) then token l is_semicolon)) is_closed
     (λ most. read_return most (inner most left)) l is_return room
 unfolding read_return
 closing_return w =
@@ -154,8 +153,8 @@ closing_return w =
     (none_apart (begins_expression ∪ is_semicolon)))
 
 -- an expression and a semicolon
-closing_expression : {room : Type 0} {S : ℕ → Language Statement} {P : ℕ → Option (Reader Statement)} {l left bound : ℕ} → Parts S P l left bound room
-    → IsClosing (making (λ x. Expression x.0) (Comma l bound then token l is_semicolon)) is_closed (λ most. read_expression most (inner most left)) l begins_expression room
+closing_expression : {levels : ℕ} {room : Type 0} {S : ℕ → Language Statement} {P : ℕ → Option (Reader Statement)} {l left bound : ℕ} → Parts levels S P l left bound room
+    → IsClosing levels (making (λ x. Expression x.0) (Comma l bound then token l is_semicolon)) is_closed (λ most. read_expression most (inner most left)) l begins_expression room
 unfolding read_expression
 closing_expression w =
     closing_made _ (λ a. refl) (reads_then w.expressions.comma (reads_word w is_semicolon kind.Semicolon refl) (apart_by after_comma is_semicolon refl (λ v u. refl)))
@@ -163,8 +162,8 @@ closing_expression w =
 -- ---- statements
 
 -- a statement is read exactly, if what stands in it is
-pub closing_statement : {room : Type 0} {S : ℕ → Language Statement} {P : ℕ → Option (Reader Statement)} {l left bound : ℕ} → Parts S P l left bound room
-    → IsClosing (statement bound S l) is_closed (λ most. read_statement most (inner most left) (P most)) l begins_statement room
+pub closing_statement : {levels : ℕ} {room : Type 0} {S : ℕ → Language Statement} {P : ℕ → Option (Reader Statement)} {l left bound : ℕ} → Parts levels S P l left bound room
+    → IsClosing levels (statement bound S l) is_closed (λ most. read_statement most (inner most left) (P most)) l begins_statement room
 unfolding read_statement read_if read_start
 closing_statement {S = S} {P = P} {l = l} {bound = bound} w =
     let condition = reads_condition w.expressions w.shallow in
@@ -204,20 +203,20 @@ closing_statement {S = S} {P = P} {l = l} {bound = bound} w =
 -- ---- so many levels deeper
 
 -- those that stand in a statement where no level is left
-nested_bottom : (l bound : ℕ) → 0 + l ≡ most_levels
-    → IsClosing (statement_within bound (l + 1)) is_closed (λ most. nested (statements_with most 0)) (l + 1) begins_statement (0 + 2 ≤ bound)
+nested_bottom : {levels : ℕ} (l bound : ℕ) → 0 + l ≡ levels
+    → IsClosing levels (statement_within bound (l + 1)) is_closed (λ most. nested (statements_with most 0)) (l + 1) begins_statement (0 + 2 ≤ bound)
 nested_bottom l bound all = closing_bottom is_closed (omega arith) (shape_within bound (l + 1) (λ r. omega arith))
 
 -- and where one is
-pub nested_deeper : (left l bound : ℕ)
-    → IsClosing (statement_within bound (l + 1)) is_closed (λ most. read_statement most (inner most left) (statements_with most left)) (l + 1) begins_statement (left + 3 ≤ bound)
-    → IsClosing (statement_within bound (l + 1)) is_closed (λ most. nested (statements_with most (suc left))) (l + 1) begins_statement (suc left + 2 ≤ bound)
+pub nested_deeper : {levels : ℕ} (left l bound : ℕ)
+    → IsClosing levels (statement_within bound (l + 1)) is_closed (λ most. read_statement most (inner most left) (statements_with most left)) (l + 1) begins_statement (left + 3 ≤ bound)
+    → IsClosing levels (statement_within bound (l + 1)) is_closed (λ most. nested (statements_with most (suc left))) (l + 1) begins_statement (suc left + 2 ≤ bound)
 nested_deeper left l bound w = closing_room (λ r. omega arith) (closing_deeper w)
 
 -- statements whose parts are read are read
-one_level : (left l bound : ℕ) → left + l ≡ most_levels
-    → IsClosing (statement_within bound (l + 1)) is_closed (λ most. nested (statements_with most left)) (l + 1) begins_statement (left + 2 ≤ bound)
-    → IsClosing (statement_within (suc bound) l) is_closed (λ most. read_statement most (inner most left) (statements_with most left)) l begins_statement (left + 3 ≤ suc bound)
+one_level : {levels : ℕ} (left l bound : ℕ) → left + l ≡ levels
+    → IsClosing levels (statement_within bound (l + 1)) is_closed (λ most. nested (statements_with most left)) (l + 1) begins_statement (left + 2 ≤ bound)
+    → IsClosing levels (statement_within (suc bound) l) is_closed (λ most. read_statement most (inner most left) (statements_with most left)) l begins_statement (left + 3 ≤ suc bound)
 one_level left l bound all w = closing_room {large = left + 2 ≤ bound} (λ r. omega arith) (closing_statement {S = statement_within bound} (record {
   shallow = omega arith;
   expressions = expressions left l bound all (λ r. r);
@@ -226,12 +225,12 @@ one_level left l bound all w = closing_room {large = left + 2 ≤ bound} (λ r. 
 }))
 
 -- where the bound is zero there are none
-no_levels : (left l : ℕ) → IsClosing (statement_within 0 l) is_closed (λ most. read_statement most (inner most left) (statements_with most left)) l begins_statement (left + 3 ≤ 0)
+no_levels : {levels : ℕ} (left l : ℕ) → IsClosing levels (statement_within 0 l) is_closed (λ most. read_statement most (inner most left) (statements_with most left)) l begins_statement (left + 3 ≤ 0)
 no_levels left l = closing_nothing is_closed _ l begins_statement (λ r. omega arith)
 
 -- statements at a level where so many are left, for each bound on the levels that they open
-pub closing_within : (left l bound : ℕ) → left + l ≡ most_levels
-    → IsClosing (statement_within bound l) is_closed (λ most. read_statement most (inner most left) (statements_with most left)) l begins_statement (left + 3 ≤ bound)
+pub closing_within : {levels : ℕ} (left l bound : ℕ) → left + l ≡ levels
+    → IsClosing levels (statement_within bound l) is_closed (λ most. read_statement most (inner most left) (statements_with most left)) l begins_statement (left + 3 ≤ bound)
 closing_within zero l zero all = no_levels 0 l
 closing_within zero l (suc bound) all = one_level 0 l bound all (nested_bottom l bound all)
 closing_within (suc left) l zero all = no_levels (suc left) l

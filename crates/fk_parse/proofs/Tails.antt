@@ -6,7 +6,6 @@ use Rattle.fk_syntax.specs.Program.{DeclaredTree, Statements, ItemTree, Function
 use Rattle.fk_lex.specs.declared.token.TokenKind.TheVariants as kind
 use Rattle.fk_expr.specs.Languages.{Placed, Language, token, telling, ◌then◌, ◌or◌, making, many}
 use Rattle.fk_expr.specs.Kinds.{is_name, is_int, is_star, is_comma, is_open_parenthesis, is_close_parenthesis, is_open_bracket}
-use Rattle.fk_expr.specs.Reads.{most_levels}
 use Rattle.fk_expr.specs.Grammar.{base, name}
 use Rattle.fk_expr.specs.Reading.{Reader, ◌and◌, giving, expect, by_next, repeated, tells, begins_type, inner}
 use Rattle.fk_expr.proofs.Sets.{Kinds, none, ◌∪◌, none_apart}
@@ -16,33 +15,37 @@ use Rattle.fk_expr.proofs.Or.{Includes}
 use Rattle.fk_expr.proofs.Productions.{IsRead, reads_token, reads_telling, reads_making, reads_then, reads_loose_then, reads_or, reads_many, reads_lower, reads_wider}
 use Rattle.fk_parse.specs.Kinds.{is_semicolon, is_open_brace, is_equals, mode_told}
 use Rattle.fk_parse.specs.Statements.{variable, parameters, block, body, statement_within, Declarator}
-use Rattle.fk_parse.specs.Reading.{read_function_tail, read_variables_tail, read_tail, read_bare, read_moded, read_block, statements_with, read_body, Tail, OfFunction, OfVariables, made_of}
+use Rattle.fk_parse.specs.Reading.{read_function_tail, read_variables_tail, read_tail, read_bare, read_moded, read_block, statements_with, Tail, OfFunction, OfVariables, made_of}
 use Rattle.fk_parse.proofs.Alike.{reads_same}
 use Rattle.fk_parse.proofs.Closing.{closing_room}
 use Rattle.fk_parse.proofs.Declarations.{Expressions, expressions, after_variable, after_rest, starred, rest_of, reads_stars, reads_rest, reads_variable}
 use Rattle.fk_parse.proofs.Parameters.{begins_parameters, reads_parameters}
 use Rattle.fk_parse.proofs.Statements.{reads_block, nested_deeper, closing_within}
 
--- the grammar's bound on levels leaves room for those that may be open in a text
-abbrev pub has_room : ℕ → Type 0
-has_room bound = 130 ≤ bound
+-- the grammar's bound on levels leaves room for those that may be open in a text: a body is the first, and so many may be open in its statements
+abbrev pub has_room : (left : ℕ) → ℕ → Type 0
+has_room left bound = left + 4 ≤ bound
+
+-- a body, where two levels more than so many may be open in a text
+abbrev pub body_within : ℕ → ℕ → Reader Statements
+body_within left most = read_block most (statements_with most (suc left))
 
 -- expressions where no level is open
-pub outer : (bound : ℕ) → Expressions 0 128 bound (has_room bound)
-outer bound = expressions 128 0 bound refl (λ r. r)
+pub outer : (left : ℕ) (bound : ℕ) → Expressions (suc (suc left)) 0 (suc (suc left)) bound (has_room left bound)
+outer left bound = expressions (suc (suc left)) 0 bound (omega arith) (λ r. omega arith)
 
 -- ---- a function's body
 
 -- a body is level 1, and the statements in it open level 2, where so many are left
-body_at : {room : Type 0} (left bound : ℕ) → left + 2 ≡ most_levels → (room → left + 3 ≤ bound)
-    → IsRead (block (statement_within bound) 1) (λ most. read_block most (statements_with most (suc left))) 1 is_open_brace none room
+body_at : {levels : ℕ} {room : Type 0} (left bound : ℕ) → left + 2 ≡ levels → (room → left + 3 ≤ bound)
+    → IsRead levels (block (statement_within bound) 1) (λ most. read_block most (statements_with most (suc left))) 1 is_open_brace none room
 body_at left bound all enough =
     reads_block (statement_within bound) (λ most. statements_with most (suc left)) (omega arith)
     (closing_room (λ r. let h : left + 3 ≤ bound = enough r in omega arith) (nested_deeper left 1 bound (closing_within left 2 bound all)))
 
 -- in a text, where all levels are left
-reads_body_block : (bound : ℕ) → IsRead (block (statement_within bound) 1) (λ most. read_body most) 0 is_open_brace none (has_room bound)
-reads_body_block bound = reads_lower (omega arith) (body_at 126 bound refl (λ r. omega arith))
+reads_body_block : (left : ℕ) (bound : ℕ) → IsRead (suc (suc left)) (block (statement_within bound) 1) (λ most. body_within left most) 0 is_open_brace none (has_room left bound)
+reads_body_block left bound = reads_lower (omega arith) (body_at left bound (omega arith) (λ r. omega arith))
 
 -- block | ";", in the order of the reader
 body_there : (bound : ℕ) → Includes (making {B = Option Statements} Some (block (statement_within bound) 1) or making (λ t. None) (token 0 is_semicolon)) (body bound)
@@ -59,11 +62,11 @@ abbrev begins_body : Kinds
 begins_body = is_open_brace ∪ is_semicolon
 
 -- a body is read exactly
-reads_body : (bound : ℕ) → IsRead (body bound) (λ most. by_next is_open_brace (giving Some (read_body most)) (giving (λ t. None) (expect is_semicolon))) 0 begins_body none (has_room bound)
-reads_body bound =
+reads_body : (left : ℕ) (bound : ℕ) → IsRead (suc (suc left)) (body bound) (λ most. by_next is_open_brace (giving Some (body_within left most)) (giving (λ t. None) (expect is_semicolon))) 0 begins_body none (has_room left bound)
+reads_body left bound =
     reads_same (body bound) (body_there bound) (body_back bound)
     (reads_wider none (λ k h. h)
-    (reads_or (reads_making Some (reads_body_block bound)) (reads_making _ (reads_token 0 is_semicolon kind.Semicolon refl (omega arith)))
+    (reads_or (reads_making Some (reads_body_block left bound)) (reads_making _ (reads_token 0 is_semicolon kind.Semicolon refl (omega arith)))
     (apart_by is_open_brace is_semicolon refl (λ v u. refl))))
 
 -- ---- "(" params ")" ( ";" | block )
@@ -74,11 +77,11 @@ function_tail bound =
     making (λ x. (x.1.0, x.1.1.1)) (token 0 is_open_parenthesis then parameters 0 then token 0 is_close_parenthesis then body bound)
 
 -- it is read exactly
-pub reads_function_tail : (bound : ℕ) → IsRead (function_tail bound) (λ most. read_function_tail most (read_body most)) 0 is_open_parenthesis none (has_room bound)
+pub reads_function_tail : (left : ℕ) (bound : ℕ) → IsRead (suc (suc left)) (function_tail bound) (λ most. read_function_tail most (body_within left most)) 0 is_open_parenthesis none (has_room left bound)
 unfolding read_function_tail
-reads_function_tail bound =
+reads_function_tail left bound =
     reads_making _ (reads_then (reads_token 0 is_open_parenthesis kind.OpenParenthesis refl (omega arith))
-    (reads_parameters (omega arith) (reads_then (reads_token 0 is_close_parenthesis kind.CloseParenthesis refl (omega arith)) (reads_body bound) (none_apart begins_body)))
+    (reads_parameters (omega arith) (reads_then (reads_token 0 is_close_parenthesis kind.CloseParenthesis refl (omega arith)) (reads_body left bound) (none_apart begins_body)))
     (none_apart begins_parameters))
 
 -- ---- what belongs to the first variable, and the others
@@ -100,11 +103,11 @@ abbrev begins_variables_tail : Kinds
 begins_variables_tail = (is_open_bracket ∪ is_equals) ∪ begins_others
 
 -- they are read exactly
-pub reads_variables_tail : (bound : ℕ) → IsRead (variables_tail bound) (λ most. read_variables_tail most (inner most 128)) 0 begins_variables_tail none (has_room bound)
+pub reads_variables_tail : (left : ℕ) (bound : ℕ) → IsRead (suc (suc left)) (variables_tail bound) (λ most. read_variables_tail most (inner most (suc (suc left)))) 0 begins_variables_tail none (has_room left bound)
 unfolding read_variables_tail
-reads_variables_tail bound =
-    reads_making _ (reads_loose_then (reads_rest (outer bound) (omega arith))
-    (reads_loose_then (reads_many (reads_making _ (reads_then (reads_token 0 is_comma kind.Comma refl (omega arith)) (reads_variable (outer bound) (omega arith)) (none_apart starred)))
+reads_variables_tail left bound =
+    reads_making _ (reads_loose_then (reads_rest (outer left bound) (omega arith))
+    (reads_loose_then (reads_many (reads_making _ (reads_then (reads_token 0 is_comma kind.Comma refl (omega arith)) (reads_variable (outer left bound) (omega arith)) (none_apart starred)))
     (apart_by after_variable is_comma refl (λ v u. refl)))
     (reads_token 0 is_semicolon kind.Semicolon refl (omega arith))
     (apart_by (after_variable ∪ is_comma) is_semicolon refl (λ v u. refl)))
@@ -121,19 +124,19 @@ abbrev begins_tail : Kinds
 begins_tail = is_open_parenthesis ∪ begins_variables_tail
 
 -- a parenthesis tells them apart
-pub reads_tail : (bound : ℕ) → IsRead (tail bound) (λ most. read_tail most (inner most 128) (read_body most)) 0 begins_tail none (has_room bound)
+pub reads_tail : (left : ℕ) (bound : ℕ) → IsRead (suc (suc left)) (tail bound) (λ most. read_tail most (inner most (suc (suc left))) (body_within left most)) 0 begins_tail none (has_room left bound)
 unfolding read_tail
-reads_tail bound =
+reads_tail left bound =
     reads_wider none (λ k h. h)
-    (reads_or (reads_making _ (reads_function_tail bound)) (reads_making _ (reads_variables_tail bound)) (apart_by is_open_parenthesis begins_variables_tail refl (λ v u. refl)))
+    (reads_or (reads_making _ (reads_function_tail left bound)) (reads_making _ (reads_variables_tail left bound)) (apart_by is_open_parenthesis begins_variables_tail refl (λ v u. refl)))
 
 -- stars, a name, and what stands behind it
 abbrev pub named : {A : Type 0} → Language A → Language (List Placed × (Placed × A))
 named L = many (token 0 is_star) then token 0 is_name then L
 
 -- they are read exactly, if what stands behind the name is
-pub reads_named : {room : Type 0} {A : Type 0} {L : Language A} {P : ℕ → Reader A} {level : ℕ} {first f : Kinds} → IsRead L P level first f room
-    → IsRead (named L) (λ most. repeated most is_star (expect is_star) and expect is_name and P most) 0 starred f room
+pub reads_named : {levels : ℕ} {room : Type 0} {A : Type 0} {L : Language A} {P : ℕ → Reader A} {level : ℕ} {first f : Kinds} → IsRead levels L P level first f room
+    → IsRead levels (named L) (λ most. repeated most is_star (expect is_star) and expect is_name and P most) 0 starred f room
 reads_named {first = first} w =
     reads_loose_then (reads_stars 0 (omega arith)) (reads_then (reads_token 0 is_name kind.Word refl (omega arith)) w (none_apart first))
     (apart_by (none ∪ is_star) is_name refl (λ v u. refl))
@@ -145,9 +148,9 @@ abbrev pub bare : ℕ → Language ItemTree
 bare bound = making (λ x. made_of x.0 (length x.1.0) (name x.1.1.0) x.1.1.1) (base 0 then named (tail bound))
 
 -- an item without a word before its type is read exactly
-pub reads_bare : (bound : ℕ) → IsRead (bare bound) (λ most. read_bare most (inner most 128) (read_body most)) 0 begins_type none (has_room bound)
+pub reads_bare : (left : ℕ) (bound : ℕ) → IsRead (suc (suc left)) (bare bound) (λ most. read_bare most (inner most (suc (suc left))) (body_within left most)) 0 begins_type none (has_room left bound)
 unfolding read_bare
-reads_bare bound = reads_making _ (reads_then (reads_base 0 (omega arith)) (reads_named (reads_tail bound)) (apart_by is_int starred refl (λ v u. refl)))
+reads_bare left bound = reads_making _ (reads_then (reads_base 0 (omega arith)) (reads_named (reads_tail left bound)) (apart_by is_int starred refl (λ v u. refl)))
 
 -- a function with its mode
 abbrev pub moded : ℕ → Language ItemTree
@@ -162,9 +165,9 @@ moded bound =
     (telling 0 mode_told then base 0 then named (function_tail bound))
 
 -- a function with a word before its type is read exactly
-pub reads_moded : (bound : ℕ) → IsRead (moded bound) (λ most. read_moded most (read_body most)) 0 (tells mode_told) none (has_room bound)
+pub reads_moded : (left : ℕ) (bound : ℕ) → IsRead (suc (suc left)) (moded bound) (λ most. read_moded most (body_within left most)) 0 (tells mode_told) none (has_room left bound)
 unfolding read_moded
-reads_moded bound =
+reads_moded left bound =
     reads_making _ (reads_then (reads_telling 0 mode_told kind.Sync mode.Sync refl (omega arith))
-    (reads_then (reads_base 0 (omega arith)) (reads_named (reads_function_tail bound)) (apart_by is_int starred refl (λ v u. refl)))
+    (reads_then (reads_base 0 (omega arith)) (reads_named (reads_function_tail left bound)) (apart_by is_int starred refl (λ v u. refl)))
     (none_apart begins_type))

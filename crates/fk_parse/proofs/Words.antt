@@ -1,6 +1,6 @@
 -- Items other than structs are read exactly. Without a word before its type one is told apart behind its name: a parenthesis says that
 -- it is a function.
-use Rattle.std.proofs.Common.{◌≡◌, ℕ, List, [], ◌∷◌, ◌++◌, map, Option, Some, None, Bool, false, IsTrue, length, ◌⊎◌, inl, inr, refl, sym, ap, ◌∙◌, arith, append_assoc}
+use Rattle.std.proofs.Common.{◌≡◌, ℕ, suc, List, [], ◌∷◌, ◌++◌, map, Option, Some, None, Bool, false, IsTrue, length, ◌⊎◌, inl, inr, refl, sym, ap, ◌∙◌, arith, append_assoc}
 use Rattle.fk_syntax.specs.declared.program.Mode.{Mode}
 use Rattle.fk_syntax.specs.Tree.{BaseType, Tree}
 use Rattle.fk_syntax.specs.Program.{DeclaredTree, Statements, ItemTree, VariablesItem, FunctionItem}
@@ -16,12 +16,12 @@ use Rattle.fk_expr.proofs.Or.{Includes}
 use Rattle.fk_expr.proofs.Productions.{IsRead, reads_making, reads_or, reads_kinds, reads_wider}
 use Rattle.fk_parse.specs.Kinds.{is_semicolon, sharing_told, mode_told}
 use Rattle.fk_parse.specs.Statements.{separated, Declarator, variable, variables, declared, is_shared, parameters, body, mode_of, function_item}
-use Rattle.fk_parse.specs.Reading.{read_variables, read_moded, read_bare, read_body, begins_parameter, begins_item, OfFunction, OfVariables}
+use Rattle.fk_parse.specs.Reading.{read_variables, read_moded, read_bare, begins_parameter, begins_item, OfFunction, OfVariables}
 use Rattle.fk_parse.proofs.Alike.{shape_same}
 use Rattle.fk_parse.proofs.Declarations.{rest_of, reads_variables}
 use Rattle.fk_parse.proofs.Parameters.{next_none}
 use Rattle.fk_parse.proofs.Choices.{TellsApart, exact_choice}
-use Rattle.fk_parse.proofs.Tails.{has_room, outer, others_of, named, bare, reads_bare, moded, reads_moded, tail}
+use Rattle.fk_parse.proofs.Tails.{has_room, body_within, outer, others_of, named, bare, reads_bare, moded, reads_moded, tail}
 
 -- ---- variables, by what stands before their commas and by what stands behind the first name
 
@@ -225,21 +225,21 @@ abbrev begins_typed : Kinds
 begins_typed = tells mode_told ∪ begins_type
 
 -- either of them
-abbrev pub read_typed : ℕ → Reader ItemTree
-read_typed most = by_next (tells mode_told) (read_moded most (read_body most)) (read_bare most (inner most 128) (read_body most))
+abbrev pub read_typed : (left : ℕ) → ℕ → Reader ItemTree
+read_typed left most = by_next (tells mode_told) (read_moded most (body_within left most)) (read_bare most (inner most (suc (suc left))) (body_within left most))
 
 -- variables with a word of sharing, or either of them
-abbrev pub read_words : ℕ → Reader ItemTree
-read_words most = by_next (tells sharing_told) (giving VariablesItem (read_variables most (inner most 128))) (read_typed most)
+abbrev pub read_words : (left : ℕ) → ℕ → Reader ItemTree
+read_words left most = by_next (tells sharing_told) (giving VariablesItem (read_variables most (inner most (suc (suc left))))) (read_typed left most)
 
 -- the word tells them apart
-reads_typed : (bound : ℕ) → IsRead (moded bound or bare bound) read_typed 0 begins_typed none (has_room bound)
-reads_typed bound =
-    reads_wider none (λ k h. h) (reads_or (reads_moded bound) (reads_bare bound) (apart_by (tells mode_told) begins_type refl (λ v u. refl)))
+reads_typed : (left : ℕ) (bound : ℕ) → IsRead (suc (suc left)) (moded bound or bare bound) (read_typed left) 0 begins_typed none (has_room left bound)
+reads_typed left bound =
+    reads_wider none (λ k h. h) (reads_or (reads_moded left bound) (reads_bare left bound) (apart_by (tells mode_told) begins_type refl (λ v u. refl)))
 
 -- variables as an item
-reads_variables_item : (bound : ℕ) → IsRead (making VariablesItem (variables bound 0)) (λ most. giving VariablesItem (read_variables most (inner most 128))) 0 begins_parameter none (has_room bound)
-reads_variables_item bound = reads_making VariablesItem (reads_variables (outer bound) (omega arith))
+reads_variables_item : (left : ℕ) (bound : ℕ) → IsRead (suc (suc left)) (making VariablesItem (variables bound 0)) (λ most. giving VariablesItem (read_variables most (inner most (suc (suc left))))) 0 begins_parameter none (has_room left bound)
+reads_variables_item left bound = reads_making VariablesItem (reads_variables (outer left bound) (omega arith))
 
 -- both are items
 typed_there : (bound : ℕ) → Includes (moded bound or bare bound) (words bound)
@@ -247,10 +247,10 @@ typed_there bound s a (inl m) = moded_there bound s a m
 typed_there bound s a (inr m) = bare_there bound s a m
 
 -- a word of sharing tells the variables apart
-words_tell : (bound : ℕ) → TellsApart (tells sharing_told) (making VariablesItem (variables bound 0)) (moded bound or bare bound) (words bound)
-words_tell bound s a n = elim (words_cases bound s a n) [
+words_tell : (left : ℕ) (bound : ℕ) → TellsApart (tells sharing_told) (making VariablesItem (variables bound 0)) (moded bound or bare bound) (words bound)
+words_tell left bound s a n = elim (words_cases bound s a n) [
   | inl w ↦ inl w
-  | inr m ↦ inr (m, λ rest. follows_shape (tells sharing_told) none (reads_typed bound).shape (apart_by (tells sharing_told) begins_typed refl (λ v u. refl)) s a rest m (next_none rest))
+  | inr m ↦ inr (m, λ rest. follows_shape (tells sharing_told) none (reads_typed left bound).shape (apart_by (tells sharing_told) begins_typed refl (λ v u. refl)) s a rest m (next_none rest))
 ]
 
 -- each item is one of them
@@ -263,14 +263,14 @@ words_there bound s a (inl m) = inl m
 words_there bound s a (inr m) = typed_there bound s a m
 
 -- items other than structs are read exactly
-pub reads_words : (bound : ℕ) → IsRead (words bound) read_words 0 begins_item none (has_room bound)
-reads_words bound =
-    let v = reads_variables_item bound in
-    let w = reads_typed bound in
+pub reads_words : (left : ℕ) (bound : ℕ) → IsRead (suc (suc left)) (words bound) (read_words left) 0 begins_item none (has_room left bound)
+reads_words left bound =
+    let v = reads_variables_item left bound in
+    let w = reads_typed left bound in
     reads_kinds begins_item (within_by (begins_parameter ∪ begins_typed) begins_item refl (λ v u. refl)) (within_by begins_item (begins_parameter ∪ begins_typed) refl (λ v u. refl))
     (reads_wider none (λ k h. h)
     (record {
       shape = shape_same (words bound) (words_there bound) (words_back bound) (shape_or v.shape w.shape);
       exact = exact_choice (words bound) (tells sharing_told) v.exact w.exact v.shape (within_by (tells sharing_told) begins_parameter refl (λ v u. refl))
-          (λ s a m. inl m) (typed_there bound) (words_tell bound);
+          (λ s a m. inl m) (typed_there bound) (words_tell left bound);
     }))

@@ -1,10 +1,10 @@
 -- What a text is read as.
-use Rattle.std.specs.Prelude.{◌≡◌, ℕ, ◌+◌, ◌<◌, List, [], ◌∷◌, Result, Ok, Err, length}
+use Rattle.std.specs.Prelude.{◌≡◌, ◌+◌, ◌<◌, List, [], ◌∷◌, Result, Ok, Err, length}
 use Rattle.fk_syntax.specs.declared.place.Place.{Place}
 use Rattle.fk_syntax.specs.Program.{ItemTree, ProgramTree}
 use Rattle.fk_lex.specs.Reading.{Spelled}
 use Rattle.fk_expr.specs.Languages.{Placed, Stretch, numbered}
-use Rattle.fk_expr.specs.Reads.{Stop, Unexpected, EndOfText, Nesting, IsShallow, IsLongest, ReadsValue, ReadsNothing, ReadsDeep}
+use Rattle.fk_expr.specs.Reads.{Stop, Unexpected, EndOfText, Nesting, Spell, IsShallow, IsLongest, ReadsValue, ReadsNothing, ReadsDeep}
 use Rattle.fk_parse.specs.Statements.{Items}
 
 -- the longest stretch that begins a text ends before a token, and nests within the bound
@@ -36,6 +36,14 @@ pub record Derives (tokens : List Spelled) (program : ProgramTree) : Type 0 wher
   pub end : program.end ≡ end_of beginning tokens
   pub count : program.tokens ≡ length tokens
 
--- a list of tokens is that of at most one program
+-- tokens have one answer as a text
+abbrev pub OneText : Type 0
+OneText = (tokens : List Placed) → (answer : Result (List ItemTree) Stop) × ReadsText tokens answer × ((other : Result (List ItemTree) Stop) → ReadsText tokens other → other ≡ answer)
+
+-- tokens spell at most one list of items, however deep they nest
 abbrev pub OneTree : Type 0
-OneTree = (tokens : List Spelled) (p q : ProgramTree) → Derives tokens p → Derives tokens q → p ≡ q
+OneTree = (tokens : List Placed) (a b : List ItemTree) → Spell Items tokens a → Spell Items tokens b → a ≡ b
+
+-- tokens are those of at most one program
+abbrev pub OneProgram : Type 0
+OneProgram = (tokens : List Spelled) (p q : ProgramTree) → Derives tokens p → Derives tokens q → p ≡ q

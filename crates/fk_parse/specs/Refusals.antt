@@ -1,5 +1,5 @@
 -- What the faults of a text say.
-use Rattle.std.specs.Prelude.{List, Err}
+use Rattle.std.specs.Prelude.{◌≡◌, List, Err, ◌⊎◌}
 use Rattle.fk_lex.specs.Reading.{Spelled}
 use Rattle.fk_expr.specs.declared.fault.SyntaxFault.{SyntaxFault}
 use Rattle.fk_expr.specs.Languages.{numbered}
@@ -11,6 +11,18 @@ use Rattle.fk_parse.specs.Parses.{ReadsText, Derives}
 abbrev pub IsRefused : List Spelled → SyntaxFault → Type 0
 IsRefused tokens = Tells (λ stop. ReadsText (numbered 0 tokens) (Err stop))
 
--- tokens that are those of a program are refused for want of memory alone
+-- these are tokens of a program, and refused for want of memory alone
+abbrev pub HasTree : List Spelled → Type 0
+HasTree tokens = (program : ProgramTree) × Derives tokens program × ((fault : SyntaxFault) → IsRefused tokens fault → IsMemory fault)
+
+-- these are refused, not for want of memory, and tokens of no program
+abbrev pub HasFault : List Spelled → Type 0
+HasFault tokens = (fault : SyntaxFault) × IsRefused tokens fault × (¬ IsMemory fault) × ((program : ProgramTree) → ¬ Derives tokens program)
+
+-- any tokens are the one or the other
 abbrev pub TreeOrFault : Type 0
-TreeOrFault = (tokens : List Spelled) (program : ProgramTree) (fault : SyntaxFault) → Derives tokens program → IsRefused tokens fault → IsMemory fault
+TreeOrFault = (tokens : List Spelled) → HasTree tokens ⊎ HasFault tokens
+
+-- but for want of memory, tokens are refused by at most one fault
+abbrev pub OneFault : Type 0
+OneFault = (tokens : List Spelled) (f g : SyntaxFault) → IsRefused tokens f → IsRefused tokens g → ¬ IsMemory f → ¬ IsMemory g → f ≡ g

@@ -2,4 +2,4 @@ use Rattle.fk_parse.proofs.Texts as texts
 use Rattle.fk_parse.proofs.laws.one_tree.Goals as goal
 
 pub returns : goal.returns
-returns c = texts.one_tree
+returns c = texts.one_list

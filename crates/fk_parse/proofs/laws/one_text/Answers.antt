@@ -1,0 +1,5 @@
+use Rattle.fk_parse.proofs.Texts as texts
+use Rattle.fk_parse.proofs.laws.one_text.Goals as goal
+
+pub returns : goal.returns
+returns c = texts.one_text
