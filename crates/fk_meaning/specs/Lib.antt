@@ -4,3 +4,4 @@ pub mod Sites
 pub mod Serve
 pub mod Round
 pub mod Schedule
+pub mod Laws

@@ -4,5 +4,6 @@
 //! rounds and lawful schedules. Nothing here knows of instructions or addresses of code.
 #![tactic(auto)]
 
+pub mod laws;
 pub mod operations;
 pub mod syntax;
