@@ -18,6 +18,8 @@ pub mod Runs
 pub mod Pace
 -- an image with the blocks of a program follows it
 pub mod Theorem
+-- so it never faults and never traps
+pub mod Unfaulted
 -- the operations of a program find their values
 pub mod Ready
 -- the blocks stand in the image that is made of them

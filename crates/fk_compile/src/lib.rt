@@ -8,6 +8,7 @@ mod assemble;
 mod compiler;
 mod emit;
 pub mod generate;
+pub mod laws;
 mod lower;
 pub mod refusal;
 #[cfg(test)]
