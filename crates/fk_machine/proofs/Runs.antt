@@ -1,5 +1,5 @@
 -- Whole runs.
-use Rattle.std.proofs.Common.{◌≡◌, ◌≢◌, ℕ, zero, suc, ◌+◌, ◌≤◌, List, [], ◌∷◌, ◌++◌, Bool, true, false, cond, refl, ap, ◌∙◌, sym, arith, append-nil, append_assoc, ◌⊎◌, inl, inr}
+use Rattle.std.proofs.Common.{◌≡◌, ◌≢◌, ℕ, zero, suc, ◌+◌, ◌-◌, ◌≤◌, List, [], ◌∷◌, ◌++◌, Bool, true, false, cond, refl, ap, ◌∙◌, sym, arith, append-nil, append_assoc, ◌⊎◌, inl, inr}
 use Rattle.fk_image.specs.declared.Image.{Image}
 use Rattle.fk_machine.specs.declared.stand.Stand.{Stand}
 use Rattle.fk_machine.specs.declared.stand.Stand.TheVariants.{Running, Finished, Faulted, Trapped}
@@ -136,15 +136,27 @@ after-quiet m zero some e = absurd (omega (arith, some))
 after-quiet m (suc zero) some e = cycle-quiet m e
 after-quiet m (suc (suc k)) some e = ap cycle (after-quiet m (suc k) (omega arith) e)
 
-pub output_in-quiet : (m : Machine) (k : ℕ) → 1 ≤ k → is_running m.stand ≡ true → output_in k (quiet m) ≡ output_in k m
-output_in-quiet m zero some e = absurd (omega (arith, some))
-output_in-quiet m (suc zero) some e = ap (λ (l : Machine). cond (is_running m.stand) ([] ++ l.shared.output) []) (cycle-quiet m e)
-output_in-quiet m (suc (suc k)) some e =
+pub output_in-quiet : (m : Machine) (k : ℕ) → is_running m.stand ≡ true → output_in k (quiet m) ≡ output_in k m
+output_in-quiet m zero e = refl
+output_in-quiet m (suc zero) e = ap (λ (l : Machine). cond (is_running m.stand) ([] ++ l.shared.output) []) (cycle-quiet m e)
+output_in-quiet m (suc (suc k)) e =
     let before = output_in (suc k) (quiet m) in
     ap (λ (l : Machine). cond (is_running l.stand) (before ++ (cycle l).shared.output) before) (after-quiet m (suc k) (omega arith) e)
-    ∙ ap (λ o. cond (is_running (after (suc k) m).stand) (o ++ (after (suc (suc k)) m).shared.output) o) (output_in-quiet m (suc k) (omega arith) e)
+    ∙ ap (λ o. cond (is_running (after (suc k) m).stand) (o ++ (after (suc (suc k)) m).shared.output) o) (output_in-quiet m (suc k) e)
 
 -- the first cycle that prints
 pub output_in-first : (m : Machine) (k : ℕ) → is_running (after k m).stand ≡ true → output_in k m ≡ [] → output_in (suc k) m ≡ (cycle (after k m)).shared.output
 output_in-first m k running none =
     ap (λ b. cond b (output_in k m ++ (cycle (after k m)).shared.output) (output_in k m)) running ∙ ap (λ o. o ++ (cycle (after k m)).shared.output) none
+
+none_before : (b : Bool) (xs ys : List ℕ) → cond b (xs ++ ys) xs ≡ [] → xs ≡ []
+none_before true [] ys e = refl
+none_before true (x ∷ xs) ys e = absurd (cc)
+none_before false xs ys e = e
+
+-- where nothing is printed, nothing is printed in one cycle less
+pub output_in-none : (m : Machine) (k : ℕ) → output_in k m ≡ [] → output_in (k - 1) m ≡ []
+output_in-none m zero e = let z : zero - 1 ≡ zero = omega arith in ap (λ i. output_in i m) z ∙ e
+output_in-none m (suc k) e =
+    let p : suc k - 1 ≡ k = omega arith in
+    ap (λ i. output_in i m) p ∙ none_before (is_running (after k m).stand) (output_in k m) (after (suc k) m).shared.output e

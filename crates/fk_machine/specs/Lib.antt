@@ -4,6 +4,7 @@ pub mod Reach
 pub mod Step
 pub mod Cycle
 pub mod Run
+pub mod Early
 pub mod Fits
 pub mod View
 pub mod Does

@@ -32,11 +32,12 @@ pub struct Machine {
 
 #[tactic(auto, unfolding(crate::specs::View::machine_of))]
 impl Machine {
-    ghost use Rattle.std.specs.Prelude.{◌-◌, ◌<◌, ◌^◌, ◌++◌, [], length, IfOk, OnOk};
+    ghost use Rattle.std.specs.Prelude.{◌-◌, ◌<◌, ◌^◌, ◌++◌, [], length, IfOk, OnOk, OnErr};
     ghost use Rattle.fk_image.specs.Limits.{IsWithinLimits};
     ghost use Rattle.fk_machine.specs.declared.stand.Stand.TheVariants.{Running};
     ghost use Rattle.fk_machine.specs.Cycle.{opening, cycle};
     ghost use Rattle.fk_machine.specs.Run.{after, output_in};
+    ghost use Rattle.fk_machine.specs.Early.{StoppedEarly};
     ghost use Rattle.fk_machine.specs.View.{machine_of};
 
     /// A machine before its first cycle, with so many harts. Shared data begins with the globals of
@@ -117,6 +118,7 @@ impl Machine {
         requires count { (machine_of self.old).begun + cycles < 2 ^ 32 }
         ensures machine { machine_of self.new ≡ after result (machine_of self.old) }
         ensures output { output_in result (machine_of self.old) ≡ self.new.shared.output.items }
+        ensures quiet { output_in (result - 1) (machine_of self.old) ≡ [] }
         ensures some { 1 ≤ result }
         ensures few { result ≤ cycles }
     {
@@ -131,12 +133,15 @@ impl Machine {
     }
 
     /// Runs so many cycles, or fewer where the machine ends before, and appends what each prints to
-    /// `output`, in order. No other memory is taken: where there is none for the output it answers
-    /// [`AllocError`], and the machine has run some of the cycles.
+    /// `output`, in order. No other memory is taken.
+    ///
+    /// Where there is none for what a cycle has printed it answers [`AllocError`]: that cycle is the last
+    /// that the machine has run, and its bytes alone were not appended. They stand in [`Machine::output`].
     pub fn run(&mut self, cycles: u32, output: &mut Vec<u8>) -> Result<(), AllocError>
         requires { (machine_of self.old).begun + cycles < 2 ^ 32 }
         ensures machine { OnOk result (machine_of self.new ≡ after cycles (machine_of self.old)) }
         ensures output { OnOk result (output.new.items ≡ output.old.items ++ output_in cycles (machine_of self.old)) }
+        ensures early { OnErr result (StoppedEarly cycles (machine_of self.old) output.old.items (machine_of self.new) output.new.items) }
     {
         let mut left = cycles;
         while left > 0 && self.stand == Stand::Running {
