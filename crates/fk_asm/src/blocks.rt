@@ -5,9 +5,9 @@ use std::alloc::AllocError;
 
 /// The blocks of a kind of operations: the lines that do each of them.
 pub trait Blocks<O> {
-    ghost use Rattle.std.specs.Prelude.{◌≡◌, ◌+◌, ◌^◌, ◌<◌, List, All, OnOk, length};
+    ghost use Rattle.std.specs.Prelude.{◌≡◌, ◌+◌, ◌^◌, ◌<◌, List, All, OnOk, OnErr, length};
     ghost use Rattle.fk_asm.specs.Assembly.{AreFollowed};
-    ghost use Rattle.fk_asm.specs.Block.{MarkedLine, GoesToMade, with_block};
+    ghost use Rattle.fk_asm.specs.Block.{MarkedLine, GoesToMade, HasBegun, with_block};
 
     /// Which operations it has a block for.
     ghost has_block: { O → Type 0 };
@@ -15,11 +15,12 @@ pub trait Blocks<O> {
     /// The block of an operation.
     ghost block: { O → List MarkedLine };
 
-    /// Adds the block of an operation. After an error nothing is promised of the assembler.
+    /// Adds the block of an operation. After an error only its first lines were added, or none.
     fn emit_op(&self, op: &O, into: &mut Assembler) -> Result<(), AllocError>
         requires known { has_block op.now }
         requires labels { All (GoesToMade into.old.bound) (block op.now) }
         requires room { length into.old.lines + length (block op.now) < 2 ^ 30 }
         requires free { AreFollowed into.old }
-        ensures added { OnOk result (into.new ≡ with_block into.old (block op.now)) };
+        ensures added { OnOk result (into.new ≡ with_block into.old (block op.now)) }
+        ensures begun { OnErr result (HasBegun (block op.now) into.old into.new) };
 }

@@ -1,7 +1,7 @@
 //! Tests of the assembler.
-ghost use Rattle.std.specs.Prelude.{◌≡◌, ◌+◌, ◌^◌, ◌<◌, All, OnOk, length};
+ghost use Rattle.std.specs.Prelude.{◌≡◌, ◌+◌, ◌^◌, ◌<◌, All, OnOk, OnErr, length};
 ghost use Rattle.fk_asm.specs.Assembly.{AreFollowed};
-ghost use Rattle.fk_asm.specs.Block.{GoesToMade, with_block};
+ghost use Rattle.fk_asm.specs.Block.{GoesToMade, HasBegun, with_block};
 
 use crate::{AsmFault, Assembler, Blocks};
 use fk_isa::Instruction;
@@ -75,7 +75,8 @@ fn add<B: Blocks<u8>>(blocks: &B, op: u8, into: &mut Assembler) -> Result<(), Al
     requires labels { All (GoesToMade into.old.bound) (B.block op) }
     requires room { length into.old.lines + length (B.block op) < 2 ^ 30 }
     requires free { AreFollowed into.old }
-    ensures { OnOk result (into.new ≡ with_block into.old (B.block op)) }
+    ensures added { OnOk result (into.new ≡ with_block into.old (B.block op)) }
+    ensures begun { OnErr result (HasBegun (B.block op) into.old into.new) }
 {
     blocks.emit_op(&op, into)
 }
