@@ -1,6 +1,6 @@
 //! The whole compiler.
 
-ghost use Rattle.std.specs.Prelude.{◌≡◌, ◌≤◌, ℕ, List, IfOk, IfErr, OnOk, length};
+ghost use Rattle.std.specs.Prelude.{◌≡◌, ◌↔◌, ◌≤◌, ℕ, List, IfOk, IfErr, OnOk, length};
 ghost use Rattle.fk_lex.specs.View.{IsFault};
 ghost use Rattle.fk_compile.specs.Faithful.{IsFaithful};
 ghost use Rattle.fk_compile.specs.Refusal.{IsRefused};
@@ -43,7 +43,8 @@ pub fn compile(alloc: Global, source: &[u8]) -> Result<Image, Refusal>
 
 // The refusal of a text by its lexical fault.
 fn lexical(fault: LexFault) -> Refusal
-    ensures { (source : List ℕ) → length source ≤ 1048576 → IsFault source fault → IsRefused source result }
+    ensures memory { (e : AllocError) → (result ≡ Refusal.Memory e) ↔ (fault ≡ LexFault.Memory e) }
+    ensures refused { (source : List ℕ) → length source ≤ 1048576 → IsFault source fault → IsRefused source result }
 {
     match fault {
         LexFault::BadByte(place) => Refusal::BadByte(place),
@@ -56,7 +57,8 @@ fn lexical(fault: LexFault) -> Refusal
 
 // The refusal of a text by the fault of its tokens.
 fn syntactic(fault: SyntaxFault) -> Refusal
-    ensures { (source : List ℕ) → length source ≤ 1048576 → HasSyntaxFault source fault → IsRefused source result }
+    ensures memory { (e : AllocError) → (result ≡ Refusal.Memory e) ↔ (fault ≡ SyntaxFault.Memory e) }
+    ensures refused { (source : List ℕ) → length source ≤ 1048576 → HasSyntaxFault source fault → IsRefused source result }
 {
     match fault {
         SyntaxFault::Unexpected(place) => Refusal::Unexpected(place),
@@ -68,7 +70,8 @@ fn syntactic(fault: SyntaxFault) -> Refusal
 
 // The refusal of a text by the fault of its tree.
 fn not_built(fault: StraightFault) -> Refusal
-    ensures { (source : List ℕ) → length source ≤ 1048576
+    ensures memory { (e : AllocError) → (result ≡ Refusal.Memory e) ↔ (fault ≡ StraightFault.Memory e) }
+    ensures refused { (source : List ℕ) → length source ≤ 1048576
         → (fault ≡ StraightFault.NotStraight → IsNotStraight source) → IsRefused source result }
 {
     match fault {

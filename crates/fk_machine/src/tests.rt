@@ -264,3 +264,22 @@ fn devices_answer_loads(rt: HostRuntime) -> Result<(), Fail> {
     assert_eq!(rt; machine.word(7), 0);
     Ok(())
 }
+
+#[test]
+fn as_many_harts_as_there_may_be(rt: HostRuntime) -> Result<(), Fail> {
+    let alloc = rt.alloc();
+    let code = [
+        0x300002b7, // lui t0, 0x30000
+        0x10000337, // lui t1, 0x10000
+        0x00100393, // addi t2, zero, 1
+        0x0073202f, // amoadd.w zero, t2, (t1)
+        0x0002a623, // sw zero, 12(t0)
+    ];
+    let made = Machine::make(alloc, &image_of(alloc, &code, &[])?, &[], 1024);
+    assert!(rt; made.is_ok());
+    let mut machine = made?;
+    machine.run(10, &mut Vec::new(alloc))?;
+    assert_eq!(rt; machine.stand(), Stand::Finished);
+    assert_eq!(rt; machine.word(0), 1024);
+    Ok(())
+}
