@@ -18,15 +18,16 @@ use std::alloc::{AllocError, Global};
 /// How many bytes a text may have.
 const MOST_BYTES: usize = 1_048_576;
 
-/// The image of a text. Every run of it, whatever the input and the number of harts, is a run of the
-/// text's program by a lawful schedule: it prints the same bytes, and shared data and its stand are the same.
+/// The image of a text. Every run of it, of up to 2^32 - 1 cycles, with 1 to 1,024 harts and an input of
+/// at most 65,536 words that leaves it within 524,288 words of globals and input, is a run of the text's
+/// program by a lawful schedule: it prints the same bytes, and shared data and its stand are the same.
 ///
 /// # Errors
 /// `SourceTooLong` for a text of more than 1,048,576 bytes; `BadByte`, `OpenComment`, `OpenString` or
 /// `WideNumber` for one that has no tokens, by the fault at the least place; `Unexpected`, `EndOfText`
 /// or `Nesting` for one whose tokens have no tree by the grammar of Fork95, by the first token that fits
 /// nowhere, by the end, or by the first token that opens level 129; `NotBuilt` for one whose tree is that
-/// of no straight-line program; `Memory` where memory is refused.
+/// of no straight-line program; `Memory` where memory is refused, which no clause can say.
 pub fn compile(alloc: Global, source: &[u8]) -> Result<Image, Refusal>
     ensures faithful { IfOk result (IsFaithful source.now) }
     ensures short { OnOk result (length source.now ≤ 1048576) }

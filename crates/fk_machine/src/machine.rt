@@ -43,7 +43,7 @@ impl Machine {
     /// A machine before its first cycle, with so many harts. Shared data begins with the globals of
     /// the image, then the input numbers, then zeros.
     ///
-    /// It takes all the memory that a run needs, 8 MiB for what is shared and 128 KiB for each hart
+    /// It takes all the memory that cycles need, 8 MiB for what is shared and 128 KiB for each hart
     /// beside its code. Where that is not there it answers [`AllocError`].
     pub fn make(
         alloc: Global,
@@ -151,7 +151,7 @@ impl Machine {
         Ok(())
     }
 
-    /// The bytes printed in the last cycle, at most 12 for each hart. Before the first cycle there are none.
+    /// The bytes printed in the last cycle, at most 12,288. Before the first cycle there are none.
     pub fn output(&self) -> &[u8]
         ensures output { result.now ≡ (machine_of self.now).shared.output }
         ensures few { length result.now ≤ 12288 }

@@ -20,7 +20,8 @@ pub struct SharedState {
     pub output: Vec<u8>,
     /// The address of the word that each hart has reserved, in the order of their numbers.
     pub reserved: Vec<Option<u32>>,
-    /// Whether some hart may have reserved a word.
+    /// Whether some hart may have reserved a word. It stays where a reservation is lost, until a store to
+    /// what is shared finds none left.
     pub has_reserved: bool,
     ghost sized: { vec_len words ≡ 2 ^ 20 },
     ghost control_sized: { vec_len control ≡ 2 ^ 20 + 64 },
