@@ -1,28 +1,31 @@
 -- From the ending of a call to its answer.
-use Rattle.std.proofs.Common.{◌≡◌, ℕ, List, Option, Some, None, refl, sym, ap, subst, ◌∙◌, inl, inr}
+use Rattle.std.proofs.Common.{◌≡◌, ◌≢◌, ℕ, List, Option, Some, None, refl, sym, ap, subst, ◌∙◌, ◌⊎◌, inl, inr}
 use Rattle.std.specs.Option.{option_map}
 use Rattle.fk_ports.specs.Files.{Files}
+use Rattle.fk_top.specs.declared.ending.Ending.{Ending}
 use Rattle.fk_top.specs.declared.ending.PutFile.{PutFile}
+use Rattle.fk_top.specs.declared.report.Report.TheVariants as reports
 use Rattle.fk_top.specs.declared.status.Status.{Status}
+use Rattle.fk_top.specs.declared.status.Status.TheVariants.{ReadFault, WriteFault}
 use Rattle.fk_top.specs.Words.{Command, Run, Build, Exec, ListCode, Reads, IsBuild}
-use Rattle.fk_top.specs.Ending.{put_of}
-use Rattle.fk_top.specs.Outcome.{Outcome, ComesTo}
-use Rattle.fk_top.specs.Call.{Request, Sunk, call_of, Ends, IsAnswered}
+use Rattle.fk_top.specs.Ending.{outcome_of, put_of}
+use Rattle.fk_top.specs.Outcome.{Outcome, ComesTo, silent}
+use Rattle.fk_top.specs.Call.{Request, Sunk, call_of, Ends, HasCause}
 
 -- the same request, with an equal count of faults
 pub same_ends : (words : List (List ℕ)) (files : Option Files) (before after last : ℕ) (outcome : Outcome) → last ≡ after
-    → Ends (record { words = words; files = files; fetch_faults_before = before; fetch_faults_after = after }) outcome
-    → Ends (record { words = words; files = files; fetch_faults_before = before; fetch_faults_after = last }) outcome
+    → Ends (record { words = words; files = files; faults = record { before = before; after = after } }) outcome
+    → Ends (record { words = words; files = files; faults = record { before = before; after = last } }) outcome
 same_ends words files before after last outcome same ends =
-    subst (λ n. Ends (record { words = words; files = files; fetch_faults_before = before; fetch_faults_after = n }) outcome) (sym same) ends
+    subst (λ n. Ends (record { words = words; files = files; faults = record { before = before; after = n } }) outcome) (sym same) ends
 
--- the same store, with equal faults and files before
-pub same_answer : (request : Request) (faults first after : ℕ) (files old new : Option Files) (out err : Sunk) (status : Status) → faults ≡ first → files ≡ old
-    → IsAnswered (call_of request (record { faults_before = faults; faults_after = after; before = files; after = new }) out err) status
-    → IsAnswered (call_of request (record { faults_before = first; faults_after = after; before = old; after = new }) out err) status
-same_answer request faults first after files old new out err status e d answered =
-    subst (λ n. IsAnswered (call_of request (record { faults_before = n; faults_after = after; before = old; after = new }) out err) status) e
-    (subst (λ f. IsAnswered (call_of request (record { faults_before = faults; faults_after = after; before = f; after = new }) out err) status) d answered)
+-- the same store, with equal files and faults before
+pub same_cause : (request : Request) (files old new : Option Files) (faults first after : ℕ) (out err : Sunk) (status : Status) → files ≡ old → faults ≡ first
+    → HasCause (call_of request (record { files = record { before = files; after = new }; faults = record { before = faults; after = after } }) out err) status
+    → HasCause (call_of request (record { files = record { before = old; after = new }; faults = record { before = first; after = after } }) out err) status
+same_cause request files old new faults first after out err status d e cause =
+    subst (λ n. HasCause (call_of request (record { files = record { before = old; after = new }; faults = record { before = n; after = after } }) out err) status) e
+    (subst (λ f. HasCause (call_of request (record { files = record { before = f; after = new }; faults = record { before = faults; after = after } }) out err) status) d cause)
 
 -- a command that is no build puts nothing
 nothing_by : (words : List (List ℕ)) (command : Command) (bytes : List ℕ) (outcome : Outcome) → Reads words command → ComesTo command bytes outcome → ¬ IsBuild words → outcome.put ≡ None
@@ -39,10 +42,20 @@ no_file None e = refl
 no_file (Some file) e = absurd (cc)
 
 -- nor does a call with other words
-nothing_of : (request : Request) (outcome : Outcome) → Ends request outcome → ¬ IsBuild request.words → outcome.put ≡ None
+pub nothing_of : (request : Request) (outcome : Outcome) → Ends request outcome → ¬ IsBuild request.words → outcome.put ≡ None
 nothing_of request outcome (inl none) not = ap (λ (o : Outcome). o.put) none.1
 nothing_of request outcome (inr (inl unread)) not = ap (λ (o : Outcome). o.put) unread.1
 nothing_of request outcome (inr (inr read)) not = nothing_by request.words read.command read.bytes outcome read.reads read.comes_to not
 
 pub nothing_put : (request : Request) (outcome : Outcome) (put : Option PutFile) → outcome.put ≡ option_map put_of put → Ends request outcome → ¬ IsBuild request.words → put ≡ None
 nothing_put request outcome put same ends not = no_file put (sym same ∙ nothing_of request outcome ends not)
+
+-- the faults of `fetch` are told: they are as before where the answer is neither a write fault nor a read fault
+pub steady_fetch : (ending : Ending) (status : Status) (old middle new : ℕ) → (outcome_of ending ≡ silent ReadFault reports.ReadFault) ⊎ (middle ≡ old) → new ≡ middle
+    → (ending.put ≡ None → (status ≡ ending.status) ⊎ (status ≡ WriteFault))
+    → status ≢ WriteFault → status ≢ ReadFault → new ≡ old
+steady_fetch ending status old middle new (inl silent) same is no_write no_read =
+    let none = no_file ending.put (ap (λ (o : Outcome). o.put) silent) in
+    let read : ending.status ≡ ReadFault = ap (λ (o : Outcome). o.status) silent in
+    elim (is none) [ inl of ↦ absurd (no_read (of ∙ read)) | inr write ↦ absurd (no_write write) ]
+steady_fetch ending status old middle new (inr steady) same is no_write no_read = same ∙ steady

@@ -5,16 +5,16 @@ use Rattle.std.proofs.lemmas.List.{take_all}
 use Rattle.fk_ports.specs.Files.{Files, AppendsFile, FetchFaults, LacksFile, file}
 use Rattle.fk_top.specs.declared.status.Status.{Status}
 use Rattle.fk_top.specs.declared.status.Status.TheVariants.{Done, Refused, Usage, ReadFault, WriteFault, Memory, SourceFault, CycleBound, Trap, ImageRefused, InputRefused}
-use Rattle.fk_top.specs.Words.{Command, Run, Build, Exec, ListCode, Reads, file_of, most_bytes}
+use Rattle.fk_top.specs.Words.{Command, Run, Build, Exec, ListCode, Reads, IsBuild, file_of, most_bytes}
 use Rattle.fk_image.specs.declared.Image.{Image}
 use Rattle.fk_image.specs.Spelling.{IsImageOf}
 use Rattle.fk_top.specs.Outcome.{Outcome, ComesTo, RefusesSource, RefusesImage, IsBuiltFrom}
 use Rattle.fk_top.specs.Refused.{IsRefusedAs, IsNoImageAs}
-use Rattle.fk_top.specs.Call.{Call, Ends, IsUnread, IsCut, IsAnswered, IsInOrder, IsReadable, IsOfReadable, IsOfUnreadable, IsText, IsImage, Puts, AreCut}
+use Rattle.fk_top.specs.Call.{Call, Request, Ends, IsUnread, IsCut, IsOutOfMemory, HasEnded, HasCause, IsInOrder, IsReadable, IsOfReadable, IsOfUnreadable, IsText, IsImage, Puts, AreCut}
 use Rattle.fk_top.proofs.Readable.{whole, text_accepted, image_accepted, image_short}
 
 -- words are one command
-one_command : (words : List (List ℕ)) (a b : Command) → Reads words a → Reads words b → a ≡ b
+pub one_command : (words : List (List ℕ)) (a b : Command) → Reads words a → Reads words b → a ≡ b
 one_command words (Run f p n) (Run g q m) ra rb = let e = sym ra.words_are ∙ rb.words_are in cc
 one_command words (Build f i) (Build g j) ra rb = let e = sym ra ∙ rb in cc
 one_command words (Exec f p n) (Exec g q m) ra rb = let e = sym ra.words_are ∙ rb.words_are in cc
@@ -49,7 +49,7 @@ not_lacked known files name bytes told held lacks =
 not_unread : (call : Call) (command : Command) (bytes : List ℕ) → IsInOrder call command bytes → IsUnread call.request → ⊥
 not_unread call command bytes order unread = go (one_command _ _ _ unread.reads order.reads) unread.fault
   where
-    go : unread.command ≡ command → FetchFaults call.request.files (file_of unread.command) call.request.fetch_faults_before call.request.fetch_faults_after → ⊥
+    go : unread.command ≡ command → FetchFaults call.request.files (file_of unread.command) call.request.faults.before call.request.faults.after → ⊥
     go same (inl rose) = order.fetch_steady rose
     go same (inr lacks) =
         not_lacked call.request.files order.files (file_of command) bytes order.told order.held
@@ -80,6 +80,18 @@ put_by (Exec f p n) bytes outcome (inr r) some = nothing_put outcome _ r.is refl
 put_by (ListCode f) bytes outcome (inl r) some = nothing_put outcome _ r.is refl some
 put_by (ListCode f) bytes outcome (inr r) some = nothing_put outcome _ r.is refl some
 
+-- a call that puts is a build
+build_by : (words : List (List ℕ)) (command : Command) → Reads words command → Puts command → IsBuild words
+build_by words (Run f p n) reads puts = absurd puts
+build_by words (Build f i) reads puts = (f, i, reads)
+build_by words (Exec f p n) reads puts = absurd puts
+build_by words (ListCode f) reads puts = absurd puts
+
+pub puts_by : (request : Request) (outcome : Outcome) → Ends request outcome → IsSome outcome.put → IsBuild request.words
+puts_by request outcome (inl none) some = absurd (nothing_put outcome _ none.1 refl some)
+puts_by request outcome (inr (inl unread)) some = absurd (nothing_put outcome _ unread.1 refl some)
+puts_by request outcome (inr (inr read)) some = build_by request.words read.command read.reads (put_by read.command read.bytes outcome read.comes_to some)
+
 not_cut : (call : Call) (command : Command) (bytes : List ℕ) → IsInOrder call command bytes → IsCut call → ⊥
 not_cut call command bytes order cut = go cut.cut
   where
@@ -93,20 +105,32 @@ not_cut call command bytes order cut = go cut.cut
 
 -- ---- the answers
 
+-- a write fault, want of memory, or an answer that an outcome has
+abbrev pub ByAnswer : Call → Status → Type 0
+ByAnswer call status = ((status ≡ WriteFault) × IsCut call) ⊎ ((status ≡ Memory) × IsOutOfMemory call) ⊎ HasEnded call status
+
+pub by_answer : (call : Call) (status : Status) → HasCause call status → ByAnswer call status
+by_answer call WriteFault cause = inl (refl, cause)
+by_answer call Memory cause = inr (inl (refl, cause))
+by_answer call Done cause = inr (inr cause)
+by_answer call Refused cause = inr (inr cause)
+by_answer call Usage cause = inr (inr cause)
+by_answer call ReadFault cause = inr (inr cause)
+by_answer call SourceFault cause = inr (inr cause)
+by_answer call CycleBound cause = inr (inr cause)
+by_answer call Trap cause = inr (inr cause)
+by_answer call ImageRefused cause = inr (inr cause)
+by_answer call InputRefused cause = inr (inr cause)
+
 -- an answer where no fault rose
-answers : (call : Call) (status : Status) (command : Command) (bytes : List ℕ) → IsInOrder call command bytes → IsAnswered call status
+answers : (call : Call) (status : Status) (command : Command) (bytes : List ℕ) → IsInOrder call command bytes → HasCause call status
     → (status ≡ Memory) ⊎ ((outcome : Outcome) × (outcome.status ≡ status) × ComesTo command (take (most_bytes command) bytes) outcome)
-answers call WriteFault command bytes order cut = absurd (not_cut call command bytes order cut)
-answers call Memory command bytes order none = inl refl
-answers call Done command bytes order ended = inr (ended.outcome, ended.status_is, come call command bytes ended.outcome order ended.cause)
-answers call Refused command bytes order ended = inr (ended.outcome, ended.status_is, come call command bytes ended.outcome order ended.cause)
-answers call Usage command bytes order ended = inr (ended.outcome, ended.status_is, come call command bytes ended.outcome order ended.cause)
-answers call ReadFault command bytes order ended = inr (ended.outcome, ended.status_is, come call command bytes ended.outcome order ended.cause)
-answers call SourceFault command bytes order ended = inr (ended.outcome, ended.status_is, come call command bytes ended.outcome order ended.cause)
-answers call CycleBound command bytes order ended = inr (ended.outcome, ended.status_is, come call command bytes ended.outcome order ended.cause)
-answers call Trap command bytes order ended = inr (ended.outcome, ended.status_is, come call command bytes ended.outcome order ended.cause)
-answers call ImageRefused command bytes order ended = inr (ended.outcome, ended.status_is, come call command bytes ended.outcome order ended.cause)
-answers call InputRefused command bytes order ended = inr (ended.outcome, ended.status_is, come call command bytes ended.outcome order ended.cause)
+answers call status command bytes order cause = go (by_answer call status cause)
+  where
+    go : ByAnswer call status → (status ≡ Memory) ⊎ ((outcome : Outcome) × (outcome.status ≡ status) × ComesTo command (take (most_bytes command) bytes) outcome)
+    go (inl cut) = absurd (not_cut call command bytes order cut.1)
+    go (inr (inl memory)) = inl memory.0
+    go (inr (inr ended)) = inr (ended.outcome, ended.status_is, come call command bytes ended.outcome order ended.cause)
 
 -- the status of an outcome
 status-of : (outcome other : Outcome) (status : Status) → outcome ≡ other → outcome.status ≡ status → status ≡ other.status
@@ -174,14 +198,14 @@ memory_unreadable (Build f i) status is = inl is
 memory_unreadable (Exec f p n) status is = inl is
 memory_unreadable (ListCode f) status is = inl is
 
-pub readable : (call : Call) (status : Status) (command : Command) (bytes : List ℕ) → IsInOrder call command bytes → IsReadable command bytes → IsAnswered call status → IsOfReadable command bytes status
+pub readable : (call : Call) (status : Status) (command : Command) (bytes : List ℕ) → IsInOrder call command bytes → IsReadable command bytes → HasCause call status → IsOfReadable command bytes status
 readable call status command bytes order is answered = go (answers call status command bytes order answered)
   where
     go : (status ≡ Memory) ⊎ ((outcome : Outcome) × (outcome.status ≡ status) × ComesTo command (take (most_bytes command) bytes) outcome) → IsOfReadable command bytes status
     go (inl memory) = memory_readable command bytes status memory
     go (inr ended) = readable_ends command bytes ended.0 status is ended.1 ended.2
 
-pub unreadable : (call : Call) (status : Status) (command : Command) (bytes : List ℕ) → IsInOrder call command bytes → ¬ IsReadable command bytes → IsAnswered call status → IsOfUnreadable command status
+pub unreadable : (call : Call) (status : Status) (command : Command) (bytes : List ℕ) → IsInOrder call command bytes → ¬ IsReadable command bytes → HasCause call status → IsOfUnreadable command status
 unreadable call status command bytes order not answered = go (answers call status command bytes order answered)
   where
     go : (status ≡ Memory) ⊎ ((outcome : Outcome) × (outcome.status ≡ status) × ComesTo command (take (most_bytes command) bytes) outcome) → IsOfUnreadable command status

@@ -1,6 +1,6 @@
 -- A source that is refused ends a call with the report of why.
 use Rattle.std.proofs.Common.{◌≡◌, ℕ, List, Result, Ok, Err, IfOk, Option, Some, None, sym, ◌⊎◌, inl}
-use Rattle.std.specs.Prelude.{IsSomeAnd}
+use Rattle.std.specs.Prelude.{IsErr, IsOkAnd, MatchOption}
 use Rattle.std.specs.declared.alloc.AllocError.{AllocError}
 use Rattle.fk_compile.specs.declared.refusal.Refusal.{Refusal}
 use Rattle.fk_compile.specs.Refusal.{IsRefused}
@@ -12,9 +12,9 @@ use Rattle.fk_top.specs.Outcome.{silent, RefusesSource}
 use Rattle.fk_top.specs.Refused.{report_of}
 
 pub refusing : (source : List ℕ) (refusal : Refusal) (report : Option Report) (r : Result Ending AllocError) (Q : Ending → Type 0)
-    → IsRefused source refusal → report ≡ report_of refusal → IfOk r (λ e. IsSomeAnd report (λ x. outcome_of e ≡ silent Refused x))
+    → IsRefused source refusal → report ≡ report_of refusal → MatchOption report (IsErr r) (λ x. IsOkAnd r (λ e. outcome_of e ≡ silent Refused x))
     → IfOk r (λ e. RefusesSource source (outcome_of e) ⊎ Q e)
 refusing source refusal (Some x) (Ok e) Q refused says is =
     inl (record { report = x; refused = record { refusal = refusal; refused = refused; says = sym says }; is = is })
-refusing source refusal None (Ok e) Q refused says is = absurd is
+refusing source refusal None (Ok e) Q refused says is = absurd (cc)
 refusing source refusal report (Err error) Q refused says is = tt

@@ -1,9 +1,9 @@
 -- Whole calls: why each ends as it does, and what the store and the sinks then have.
-use Rattle.std.specs.Prelude.{◌≡◌, ℕ, ◌≤◌, ◌⊎◌, List, [], length, Option, Some, None, IsSome}
+use Rattle.std.specs.Prelude.{◌≡◌, ◌≢◌, ℕ, ◌≤◌, ◌⊎◌, List, [], length, Option, Some, None, IsSome}
 use Rattle.std.specs.Io.KnownBytes.{append_known}
 use Rattle.fk_ports.specs.Faults.{HasRisen}
 use Rattle.fk_ports.specs.Known.{TakesPrefix}
-use Rattle.fk_ports.specs.Files.{Files, file, with_file_known, AppendsFile, FetchFaults}
+use Rattle.fk_ports.specs.Files.{Files, file, with_file_known, AppendsFile, FetchFaults, LacksFile}
 use Rattle.fk_meaning.specs.declared.syntax.Program.{Program}
 use Rattle.fk_image.specs.declared.Image.{Image}
 use Rattle.fk_image.specs.Spelling.{IsImageOf}
@@ -11,46 +11,54 @@ use Rattle.fk_machine.specs.Run.{machine}
 use Rattle.fk_compile.specs.Text.{IsStraight}
 use Rattle.fk_top.specs.declared.report.Report.TheVariants as reports
 use Rattle.fk_top.specs.declared.status.Status.{Status}
-use Rattle.fk_top.specs.declared.status.Status.TheVariants.{Done, Refused, Usage, ReadFault, WriteFault, Memory, ImageRefused}
-use Rattle.fk_top.specs.Words.{Command, Run, Build, Exec, ListCode, Reads, IsBuild, file_of, most_bytes}
+use Rattle.fk_top.specs.declared.status.Status.TheVariants.{Done, Refused, Usage, ReadFault, WriteFault, Memory, SourceFault, Trap, ImageRefused, InputRefused}
+use Rattle.fk_top.specs.Words.{Command, Run, Build, Exec, ListCode, Reads, IsBuild, IsExec, file_of, most_bytes}
 use Rattle.fk_top.specs.Report.{line_of}
 use Rattle.fk_top.specs.Outcome.{Put, Outcome, silent, status_of, IsBuiltFrom, ComesTo}
 
 -- ---- the outside, before and after a call
 
+-- what something tells of itself before a call and after it
+pub record Change (A : Type 0) : Type 0 where
+  pub before : A
+  pub after : A
+
+abbrev pub change_of : {S A : Type 0} → (S → A) → S → S → Change A
+change_of tells old new = record { before = tells old; after = tells new }
+
+abbrev pub IsSame : {A : Type 0} → Change A → Type 0
+IsSame change = change.after ≡ change.before
+
+-- a count of faults rose
+abbrev pub Rose : Change ℕ → Type 0
+Rose count = HasRisen count.before count.after
+
 -- the words of a call, what the store has before it, where it tells that, and its faults of `fetch`
 pub record Request : Type 0 where
   pub words : List (List ℕ)
   pub files : Option Files
-  pub fetch_faults_before : ℕ
-  pub fetch_faults_after : ℕ
+  pub faults : Change ℕ
 
 -- the request of these words over a store, by the words in which a store tells of itself
 abbrev pub request_of : {S : Type 0} → (S → Option Files) → (S → ℕ) → List (List ℕ) → S → S → Request
 request_of files fetch_faults words old new =
-    record { words = words; files = files old; fetch_faults_before = fetch_faults old; fetch_faults_after = fetch_faults new }
+    record { words = words; files = files old; faults = change_of fetch_faults old new }
 
 -- what a store has, where it tells that, and its faults of `put`
 pub record Stored : Type 0 where
-  pub faults_before : ℕ
-  pub faults_after : ℕ
-  pub before : Option Files
-  pub after : Option Files
+  pub files : Change (Option Files)
+  pub faults : Change ℕ
 
-abbrev pub stored_of : {S : Type 0} → (S → ℕ) → (S → Option Files) → S → S → Stored
-stored_of put_faults files old new =
-    record { faults_before = put_faults old; faults_after = put_faults new; before = files old; after = files new }
+abbrev pub stored_of : {S : Type 0} → (S → Option Files) → (S → ℕ) → S → S → Stored
+stored_of files put_faults old new = record { files = change_of files old new; faults = change_of put_faults old new }
 
 -- what a sink took, where it tells that, and its faults
 pub record Sunk : Type 0 where
-  pub faults_before : ℕ
-  pub faults_after : ℕ
-  pub before : Option (List ℕ)
-  pub after : Option (List ℕ)
+  pub taken : Change (Option (List ℕ))
+  pub faults : Change ℕ
 
-abbrev pub sunk_of : {S : Type 0} → (S → ℕ) → (S → Option (List ℕ)) → S → S → Sunk
-sunk_of faults taken old new =
-    record { faults_before = faults old; faults_after = faults new; before = taken old; after = taken new }
+abbrev pub sunk_of : {S : Type 0} → (S → Option (List ℕ)) → (S → ℕ) → S → S → Sunk
+sunk_of taken faults old new = record { taken = change_of taken old new; faults = change_of faults old new }
 
 pub record Call : Type 0 where
   pub request : Request
@@ -63,22 +71,22 @@ call_of request store out err = record { request = request; store = store; out =
 
 -- the name of what is put has its bytes, and every other name has what it had
 abbrev pub HasPut : Stored → Option Put → Type 0
-HasPut store None = store.after ≡ store.before
-HasPut store (Some put) = store.after ≡ with_file_known store.before put.name put.bytes
+HasPut store None = IsSame store.files
+HasPut store (Some put) = store.files.after ≡ with_file_known store.files.before put.name put.bytes
 
 -- the put failed, and the files are as they were
 pub record FailedToPut (store : Stored) (put : Option Put) : Type 0 where
   pub some : IsSome put
-  pub rose : HasRisen store.faults_before store.faults_after
-  pub same : store.after ≡ store.before
+  pub rose : Rose store.faults
+  pub same : IsSame store.files
 
 abbrev pub Took : Sunk → List ℕ → Type 0
-Took sink bytes = sink.after ≡ append_known sink.before bytes
+Took sink bytes = sink.taken.after ≡ append_known sink.taken.before bytes
 
 -- a sink failed, and what it took is the beginning of the bytes
 pub record FailedIn (sink : Sunk) (bytes : List ℕ) : Type 0 where
-  pub rose : HasRisen sink.faults_before sink.faults_after
-  pub prefix : TakesPrefix sink.before sink.after bytes
+  pub rose : Rose sink.faults
+  pub prefix : TakesPrefix sink.taken.before sink.taken.after bytes
 
 -- ---- why a call ends as it does
 
@@ -89,7 +97,7 @@ IsNoCommand words = (command : Command) → ¬ Reads words command
 pub record IsUnread (request : Request) : Type 0 where
   pub command : Command
   pub reads : Reads request.words command
-  pub fault : FetchFaults request.files (file_of command) request.fetch_faults_before request.fetch_faults_after
+  pub fault : FetchFaults request.files (file_of command) request.faults.before request.faults.after
 
 -- the words are a command, and its file was read: its first bytes, where the store tells them
 pub record HasRead (request : Request) (outcome : Outcome) : Type 0 where
@@ -137,19 +145,35 @@ pub record IsOutOfMemory (call : Call) : Type 0 where
   pub err_took : Took call.err []
 
 -- an answer has its cause
-abbrev pub IsAnswered : Call → Status → Type 0
-IsAnswered call WriteFault = IsCut call
-IsAnswered call Memory = IsOutOfMemory call
-IsAnswered call status = HasEnded call status
+abbrev pub HasCause : Call → Status → Type 0
+HasCause call WriteFault = IsCut call
+HasCause call Memory = IsOutOfMemory call
+HasCause call status = HasEnded call status
 
 -- ---- when answers come
 
 -- the store failed in the put of a build, or a sink failed
 abbrev pub FailsToWrite : Call → Type 0
 FailsToWrite call =
-    (IsBuild call.request.words × HasRisen call.store.faults_before call.store.faults_after)
-    ⊎ HasRisen call.out.faults_before call.out.faults_after
-    ⊎ HasRisen call.err.faults_before call.err.faults_after
+    (IsBuild call.request.words × Rose call.store.faults) ⊎ Rose call.out.faults ⊎ Rose call.err.faults
+
+-- what failed is told: where the answer isn't WriteFault no count of `put`, `out` or `err` rose, and where it is neither
+-- that nor ReadFault, that of `fetch` didn't either
+pub record TellsFaults (call : Call) (status : Status) : Type 0 where
+  pub fetch : status ≢ WriteFault → status ≢ ReadFault → IsSame call.request.faults
+  pub put : status ≢ WriteFault → IsSame call.store.faults
+  pub out : status ≢ WriteFault → IsSame call.out.faults
+  pub err : status ≢ WriteFault → IsSame call.err.faults
+
+-- the words are a command, and the store tells its files and doesn't hold the one that it reads
+pub record IsAbsent (request : Request) : Type 0 where
+  pub command : Command
+  pub reads : Reads request.words command
+  pub lacks : LacksFile request.files (file_of command)
+
+-- the answers where it is absent
+abbrev pub IsOfAbsent : Status → Type 0
+IsOfAbsent status = (status ≡ ReadFault) ⊎ (status ≡ WriteFault) ⊎ (status ≡ Memory)
 
 -- the answers to words that are no command
 abbrev pub IsOfNoCommand : Status → Type 0
@@ -166,10 +190,10 @@ pub record IsInOrder (call : Call) (command : Command) (bytes : List ℕ) : Type
   pub files : Files
   pub told : call.request.files ≡ Some files
   pub held : file files (file_of command) ≡ Some bytes
-  pub fetch_steady : ¬ HasRisen call.request.fetch_faults_before call.request.fetch_faults_after
-  pub put_steady : Puts command → ¬ HasRisen call.store.faults_before call.store.faults_after
-  pub out_steady : ¬ HasRisen call.out.faults_before call.out.faults_after
-  pub err_steady : ¬ HasRisen call.err.faults_before call.err.faults_after
+  pub fetch_steady : ¬ Rose call.request.faults
+  pub put_steady : Puts command → ¬ Rose call.store.faults
+  pub out_steady : ¬ Rose call.out.faults
+  pub err_steady : ¬ Rose call.err.faults
 
 -- the text of a straight-line program, of at most 1,048,576 bytes
 pub record IsText (source : List ℕ) : Type 0 where
@@ -207,3 +231,30 @@ IsOfUnreadable (Run file harts cycles) status = (status ≡ Memory) ⊎ (status 
 IsOfUnreadable (Build file image) status = (status ≡ Memory) ⊎ (status ≡ Refused)
 IsOfUnreadable (Exec image harts cycles) status = (status ≡ Memory) ⊎ (status ≡ ImageRefused)
 IsOfUnreadable (ListCode image) status = (status ≡ Memory) ⊎ (status ≡ ImageRefused)
+
+-- ---- what holds of a call and its answer
+
+pub record IsAnswer (call : Call) (status : Status) : Type 0 where
+  -- each answer has its cause; the status, the bytes that were put and those that `out` and `err` got are those of one
+  -- image, faithful to the bytes that were fetched, or which those bytes spell
+  pub answer : HasCause call status
+  -- words that are no command
+  pub usage : status ≡ Usage → IsNoCommand call.request.words
+  pub no_command : IsNoCommand call.request.words → IsOfNoCommand status
+  -- a file that can't be read, and a write that fails
+  pub read_fault : status ≡ ReadFault → IsUnread call.request
+  pub absent : IsAbsent call.request → IsOfAbsent status
+  pub write_fault : status ≡ WriteFault → FailsToWrite call
+  pub told : TellsFaults call status
+  -- no image of a text faults or traps
+  pub source_fault : status ≡ SourceFault → IsExec call.request.words
+  pub trap : status ≡ Trap → IsExec call.request.words
+  pub input_refused : status ≢ InputRefused
+  -- what is in order is not refused, and what isn't is
+  pub complete : (command : Command) (bytes : List ℕ) → IsInOrder call command bytes → IsReadable command bytes
+      → IsOfReadable command bytes status
+  pub refused : (command : Command) (bytes : List ℕ) → IsInOrder call command bytes → ¬ IsReadable command bytes
+      → IsOfUnreadable command status
+  -- only a build puts
+  pub files : ¬ IsBuild call.request.words → IsSame call.store.files
+  pub put_faults : ¬ IsBuild call.request.words → IsSame call.store.faults

@@ -1,6 +1,6 @@
 //! What a call comes to, before anything is put or given.
 
-ghost use Rattle.std.specs.Prelude.{◌≡◌, ◌⊎◌, ◌≤◌, [], length, map, string_bytes, IfOk, IsSomeAnd};
+ghost use Rattle.std.specs.Prelude.{◌≡◌, ◌⊎◌, ◌≤◌, [], length, map, string_bytes, IfOk, IsErr, IsOkAnd, MatchOption, OnErr};
 ghost use Rattle.fk_image.specs.Limits.{IsWithinLimits};
 ghost use Rattle.fk_top.specs.Words.{command_of};
 ghost use Rattle.fk_top.specs.Outcome.{ComesTo, ListsImage, PutsImage, RefusesImage, RefusesSource, RunsImage, RunsSource, listed, listing, ran, silent};
@@ -38,12 +38,15 @@ pub struct Ending<'a> {
 }
 
 /// What the words come to over a store, which changes nothing there and gives nothing to anybody.
+/// A file that could not be read is an ending too, and no want of memory.
 pub fn find_ending<'a, F: Store>(
     alloc: Global,
     words: &'a [String],
     files: &mut F,
 ) -> Result<Ending<'a>, AllocError>
     ensures ends { IfOk result (λ e. Ends (request_of F.files F.fetch_faults (map string_bytes words.now) files.old files.new) (outcome_of e)) }
+    ensures steady { IfOk result (λ e. (outcome_of e ≡ silent Status.ReadFault Report.ReadFault) ⊎ (F.fetch_faults files.new ≡ F.fetch_faults files.old)) }
+    ensures unread { OnErr result (F.fetch_faults files.new ≡ F.fetch_faults files.old) }
     ensures files { F.files files.new ≡ F.files files.old }
     ensures put_faults { F.put_faults files.new ≡ F.put_faults files.old }
 {
@@ -53,8 +56,18 @@ pub fn find_ending<'a, F: Store>(
     let mut bytes = Vec::new(alloc);
     match files.fetch(command.file(), command.most_bytes(), &mut bytes) {
         Ok(()) => command_ending(alloc, command, bytes.as_slice()),
-        Err(StoreFault::Fault) => Ok(silent(alloc, Status::ReadFault, Report::ReadFault)),
-        Err(StoreFault::Memory) => Err(AllocError),
+        Err(fault) => unread(alloc, fault),
+    }
+}
+
+// The ending where the file could not be read. Want of memory has none.
+fn unread<'a>(alloc: Global, fault: StoreFault) -> Result<Ending<'a>, AllocError>
+    ensures fault { fault ≡ StoreFault.Fault → IsOkAnd result (λ e. outcome_of e ≡ silent Status.ReadFault Report.ReadFault) }
+    ensures memory { fault ≡ StoreFault.Memory → IsErr result }
+{
+    match fault {
+        StoreFault::Fault => Ok(silent(alloc, Status::ReadFault, Report::ReadFault)),
+        StoreFault::Memory => Err(AllocError),
     }
 }
 
@@ -159,7 +172,7 @@ fn refused<'a>(
     status: Status,
     report: Option<Report>,
 ) -> Result<Ending<'a>, AllocError>
-    ensures { IfOk result (λ e. IsSomeAnd report (λ r. outcome_of e ≡ silent status r)) }
+    ensures { MatchOption report (IsErr result) (λ r. IsOkAnd result (λ e. outcome_of e ≡ silent status r)) }
 {
     match report {
         Some(report) => Ok(silent(alloc, status, report)),

@@ -284,10 +284,18 @@ fn a_store_that_fails_is_a_read_fault(rt: HostRuntime) -> Result<(), Fail> {
 
 #[test]
 fn an_absent_file_is_a_read_fault(rt: HostRuntime) -> Result<(), Fail> {
-    let words = ["run", "other.f95", "--harts", "1", "--cycles", "1"];
-    let got = call(rt.alloc(), SUMS.as_bytes(), words.as_slice(), NONE)?;
-    assert_eq!(rt; got.status, Status::ReadFault);
-    assert_eq!(rt; got.err.as_slice(), b"read fault\n".as_slice());
+    let commands: [&[&str]; 4] = [
+        &["run", "other.f95", "--harts", "1", "--cycles", "1"],
+        &["build", "other.f95", "-o", "image"],
+        &["exec", "other.image", "--harts", "1", "--cycles", "1"],
+        &["list", "other.image"],
+    ];
+    for words in commands {
+        let got = call(rt.alloc(), SUMS.as_bytes(), words, NONE)?;
+        assert_eq!(rt; got.status, Status::ReadFault);
+        assert_eq!(rt; got.out.as_slice(), b"".as_slice());
+        assert_eq!(rt; got.err.as_slice(), b"read fault\n".as_slice());
+    }
     Ok(())
 }
 

@@ -1,0 +1,141 @@
+-- From the cause of an answer to all that holds of it.
+use Rattle.std.proofs.Common.{◌≡◌, ◌≢◌, ℕ, List, [], Option, Some, None, IsSome, take, refl, sym, ap, subst, ◌∙◌, ◌⊎◌, inl, inr}
+use Rattle.std.specs.Prelude.{IsSomeAnd}
+use Rattle.fk_ports.specs.Files.{Files, AppendsFile, LacksFile, file}
+use Rattle.fk_top.specs.declared.status.Status.{Status}
+use Rattle.fk_top.specs.declared.status.Status.TheVariants.{Usage, ReadFault, WriteFault, Memory, SourceFault, Trap, InputRefused}
+use Rattle.fk_top.specs.Words.{Command, Reads, IsBuild, IsExec, file_of, most_bytes}
+use Rattle.fk_top.specs.Outcome.{Outcome, Put, ComesTo}
+use Rattle.fk_top.specs.Call.{Call, Request, Stored, HasPut, IsSame, Ends, IsNoCommand, IsUnread, HasRead, HasEnded, HasCause, IsCut, IsOutOfMemory, AreCut, FailsToWrite, TellsFaults, IsAbsent, IsOfAbsent, IsOfNoCommand, IsAnswer}
+use Rattle.fk_top.proofs.Answered.{nothing_of}
+use Rattle.fk_top.proofs.Causes.{ByAnswer, by_answer, one_command, puts_by, readable, unreadable}
+use Rattle.fk_top.proofs.Statuses.{IsOf, outcome_is_of, is_exec}
+
+-- the status of an outcome that a command came to
+status_of_read : (request : Request) (outcome : Outcome) (status : Status) (read : HasRead request outcome) → outcome.status ≡ status → IsOf status read.command
+status_of_read request outcome status read same =
+    subst (λ s. IsOf s read.command) same (outcome_is_of request.words read.command read.bytes outcome read.reads read.comes_to)
+
+-- ---- words that are no command
+
+usage : (call : Call) → HasEnded call Usage → IsNoCommand call.request.words
+usage call ended = go ended.cause
+  where
+    go : Ends call.request ended.outcome → IsNoCommand call.request.words
+    go (inl none) = none.0
+    go (inr (inl unread)) = let e = sym ended.status_is ∙ ap (λ (o : Outcome). o.status) unread.1 in absurd (cc)
+    go (inr (inr read)) = absurd (status_of_read call.request ended.outcome Usage read ended.status_is)
+
+no_command : (call : Call) (status : Status) → HasCause call status → IsNoCommand call.request.words → IsOfNoCommand status
+no_command call status cause none = go (by_answer call status cause)
+  where
+    of : (ended : HasEnded call status) → Ends call.request ended.outcome → IsOfNoCommand status
+    of ended (inl wrong) = inl (sym ended.status_is ∙ ap (λ (o : Outcome). o.status) wrong.1)
+    of ended (inr (inl unread)) = absurd (none unread.0.command unread.0.reads)
+    of ended (inr (inr read)) = absurd (none read.command read.reads)
+
+    go : ByAnswer call status → IsOfNoCommand status
+    go (inl cut) = inr (inl cut.0)
+    go (inr (inl memory)) = inr (inr memory.0)
+    go (inr (inr ended)) = of ended ended.cause
+
+-- ---- a file that can't be read
+
+read_fault : (call : Call) → HasEnded call ReadFault → IsUnread call.request
+read_fault call ended = go ended.cause
+  where
+    go : Ends call.request ended.outcome → IsUnread call.request
+    go (inl none) = let e = sym ended.status_is ∙ ap (λ (o : Outcome). o.status) none.1 in absurd (cc)
+    go (inr (inl unread)) = unread.0
+    go (inr (inr read)) = absurd (status_of_read call.request ended.outcome ReadFault read ended.status_is)
+
+-- a file that is absent is not read
+not_read : (known : Option Files) (name bytes : List ℕ) (most : ℕ) → LacksFile known name → AppendsFile known name most [] bytes → ⊥
+not_read None name bytes most lacks read = lacks
+not_read (Some files) name bytes most lacks read = subst (λ (o : Option (List ℕ)). IsSomeAnd o (λ b. bytes ≡ take most b)) lacks read
+
+absent : (call : Call) (status : Status) → HasCause call status → IsAbsent call.request → IsOfAbsent status
+absent call status cause lost = go (by_answer call status cause)
+  where
+    of : (ended : HasEnded call status) → Ends call.request ended.outcome → IsOfAbsent status
+    of ended (inl none) = absurd (none.0 lost.command lost.reads)
+    of ended (inr (inl unread)) = inl (sym ended.status_is ∙ ap (λ (o : Outcome). o.status) unread.1)
+    of ended (inr (inr read)) =
+        let same = one_command call.request.words lost.command read.command lost.reads read.reads in
+        absurd (not_read call.request.files (file_of read.command) read.bytes (most_bytes read.command)
+        (subst (λ (c : Command). LacksFile call.request.files (file_of c)) same lost.lacks) read.first_bytes)
+
+    go : ByAnswer call status → IsOfAbsent status
+    go (inl cut) = inr (inl cut.0)
+    go (inr (inl memory)) = inr (inr memory.0)
+    go (inr (inr ended)) = of ended ended.cause
+
+-- ---- a write that fails
+
+write_fault : (call : Call) → IsCut call → FailsToWrite call
+write_fault call cut = go cut.cut
+  where
+    go : AreCut call.store call.out call.err cut.outcome → FailsToWrite call
+    go (inl f) = inl (puts_by call.request cut.outcome cut.cause f.0.some, f.0.rose)
+    go (inr (inl f)) = inr (inl f.1.rose)
+    go (inr (inr f)) = inr (inr f.2.rose)
+
+-- ---- a run that fails
+
+only_exec : (call : Call) (status : Status) (ended : HasEnded call status) → ((words : List (List ℕ)) (command : Command) → Reads words command → IsOf status command → IsExec words)
+    → status ≢ Usage → status ≢ ReadFault → IsExec call.request.words
+only_exec call status ended of_command no_usage no_fault = go ended.cause
+  where
+    go : Ends call.request ended.outcome → IsExec call.request.words
+    go (inl none) = absurd (no_usage (sym ended.status_is ∙ ap (λ (o : Outcome). o.status) none.1))
+    go (inr (inl unread)) = absurd (no_fault (sym ended.status_is ∙ ap (λ (o : Outcome). o.status) unread.1))
+    go (inr (inr read)) = of_command call.request.words read.command read.reads (status_of_read call.request ended.outcome status read ended.status_is)
+
+input_refused : (call : Call) → HasEnded call InputRefused → ⊥
+input_refused call ended = go ended.cause
+  where
+    go : Ends call.request ended.outcome → ⊥
+    go (inl none) = let e = sym ended.status_is ∙ ap (λ (o : Outcome). o.status) none.1 in absurd (cc)
+    go (inr (inl unread)) = let e = sym ended.status_is ∙ ap (λ (o : Outcome). o.status) unread.1 in absurd (cc)
+    go (inr (inr read)) = status_of_read call.request ended.outcome InputRefused read ended.status_is
+
+-- ---- only a build puts
+
+same_files : (store : Stored) (put : Option Put) → put ≡ None → HasPut store put → IsSame store.files
+same_files store put none has = subst (λ (p : Option Put). HasPut store p) none has
+
+files : (call : Call) (status : Status) → HasCause call status → ¬ IsBuild call.request.words → IsSame call.store.files
+files call status cause not = go (by_answer call status cause)
+  where
+    of : (outcome : Outcome) → Ends call.request outcome → HasPut call.store outcome.put → IsSame call.store.files
+    of outcome ends has = same_files call.store outcome.put (nothing_of call.request outcome ends not) has
+
+    cut-of : (cut : IsCut call) → AreCut call.store call.out call.err cut.outcome → IsSame call.store.files
+    cut-of cut (inl f) = f.0.same
+    cut-of cut (inr (inl f)) = of cut.outcome cut.cause f.0
+    cut-of cut (inr (inr f)) = of cut.outcome cut.cause f.0
+
+    go : ByAnswer call status → IsSame call.store.files
+    go (inl cut) = cut-of cut.1 cut.1.cut
+    go (inr (inl memory)) = memory.1.put
+    go (inr (inr ended)) = of ended.outcome ended.cause ended.put
+
+-- ---- all of it
+
+pub answer_of : (call : Call) (status : Status) → HasCause call status → TellsFaults call status → (¬ IsBuild call.request.words → IsSame call.store.faults) → IsAnswer call status
+answer_of call status cause told steady = record {
+  answer = cause;
+  usage = λ is. usage call (subst (HasCause call) is cause);
+  no_command = no_command call status cause;
+  read_fault = λ is. read_fault call (subst (HasCause call) is cause);
+  absent = absent call status cause;
+  write_fault = λ is. write_fault call (subst (HasCause call) is cause);
+  told = told;
+  source_fault = λ is. only_exec call SourceFault (subst (HasCause call) is cause) is_exec (λ e. cc) (λ e. cc);
+  trap = λ is. only_exec call Trap (subst (HasCause call) is cause) is_exec (λ e. cc) (λ e. cc);
+  input_refused = λ is. input_refused call (subst (HasCause call) is cause);
+  complete = λ command bytes order is. readable call status command bytes order is cause;
+  refused = λ command bytes order not. unreadable call status command bytes order not cause;
+  files = files call status cause;
+  put_faults = steady;
+}
