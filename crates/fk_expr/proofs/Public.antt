@@ -1,5 +1,5 @@
 -- What was read of tokens, by their indices.
-use Rattle.std.proofs.Common.{◌≡◌, ℕ, ◌+◌, ◌-◌, ◌≤◌, ◌<◌, ◌^◌, List, [], ◌∷◌, ◌++◌, Some, Result, Ok, Err, length, map, drop, ap, sym, ◌∙◌, subst, arith}
+use Rattle.std.proofs.Common.{◌≡◌, ℕ, ◌+◌, ◌-◌, ◌≤◌, ◌<◌, ◌^◌, List, [], ◌∷◌, ◌++◌, Some, Result, Ok, Err, IfOk, length, map, drop, ap, sym, ◌∙◌, subst, arith}
 use Rattle.std.proofs.lemmas.List.{drop-drop, length-append, length-drop}
 use Rattle.fk_lex.specs.declared.token.Token.{Token}
 use Rattle.fk_lex.specs.View.{spelled}
@@ -9,11 +9,14 @@ use Rattle.fk_expr.specs.Languages.{Placed, numbered, tokens_of}
 use Rattle.fk_expr.specs.Reads.{Stop, Answer, Family, Reads}
 use Rattle.fk_expr.specs.Reads as stop
 use Rattle.fk_expr.specs.Faults.{Tells, tokens_from}
-use Rattle.fk_expr.specs.Gives.{Halts, next_place}
-use Rattle.fk_expr.specs.Grammar.{Comma, Assignment}
-use Rattle.fk_expr.specs.Reading.{inner, read_comma, read_assignment}
+use Rattle.fk_expr.specs.Gives.{Halts, Gives, next_place}
+use Rattle.fk_expr.specs.Grammar.{base, Comma, Assignment}
+use Rattle.fk_expr.specs.Reading.{inner, read_base, read_comma, read_assignment}
 use Rattle.fk_expr.specs.Ahead.{plenty}
 use Rattle.fk_expr.proofs.Cursors.{length-numbered}
+use Rattle.fk_expr.specs.Kinds.{is_int}
+use Rattle.fk_expr.proofs.TypeNames.{reads_base}
+use Rattle.fk_expr.proofs.Longest.{reads}
 use Rattle.fk_expr.proofs.Expressions.{reads_comma, reads_assignment}
 use Rattle.std.specs.Result.{IsErrAnd, IfErr}
 
@@ -77,3 +80,38 @@ pub assignment_from : (at level : ℕ) (ts : List Token) → length ts < 2 ^ 32 
     → Reads (Assignment level) (tokens_from at ts) (read_assignment plenty (inner plenty (128 - level)) (tokens_from at ts))
 unfolding plenty
 assignment_from at level ts few h = reads_assignment level plenty (tokens_from at ts) h (omega (arith, short_from at ts))
+
+-- ---- at a cursor
+
+-- what holds of an answer holds of the value that was read
+pub given : {A X : Type 0} (view : X → A) (r : Result X SyntaxFault) (now : List Placed) (answer : Answer A) (R : Answer A → Type 0)
+    → Gives view r now answer → R answer → IfOk r (λ x. R (Ok (view x, now)))
+given view (Ok x) now answer R g h = subst R g h
+given view (Err fault) now answer R g h = tt
+
+-- and of the reason that a fault tells
+pub not_given : {A X : Type 0} (view : X → A) (r : Result X SyntaxFault) (now : List Placed) (answer : Answer A) (R : Answer A → Type 0)
+    → Gives view r now answer → R answer → IfErr r (Tells (λ stop. R (Err stop)))
+not_given view (Ok x) now answer R g h = tt
+not_given view (Err fault) now answer R g h = halts_tells (λ stop. R (Err stop)) answer fault now (λ s e. subst R e h) g
+
+-- tokens are read so, where so many levels are left
+pub comma_where : (left : ℕ) (ts : List Placed) → length ts < 2 ^ 32 → left ≤ 128 → Reads (Comma (128 - left)) ts (read_comma plenty (inner plenty left) ts)
+unfolding plenty
+comma_where left ts few h =
+    let same : 128 - (128 - left) ≡ left = omega arith in
+    subst (λ n. Reads (Comma (128 - left)) ts (read_comma plenty (inner plenty n) ts)) same (reads_comma (128 - left) plenty ts (omega arith) (omega arith))
+
+pub assignment_where : (left : ℕ) (ts : List Placed) → length ts < 2 ^ 32 → left ≤ 128
+    → Reads (Assignment (128 - left)) ts (read_assignment plenty (inner plenty left) ts)
+unfolding plenty
+assignment_where left ts few h =
+    let same : 128 - (128 - left) ≡ left = omega arith in
+    subst (λ n. Reads (Assignment (128 - left)) ts (read_assignment plenty (inner plenty n) ts)) same
+    (reads_assignment (128 - left) plenty ts (omega arith) (omega arith))
+
+-- and the first words of a type
+pub base_where : (ts : List Placed) → Reads (λ bound. base 0) ts (read_base ts)
+base_where ts =
+    reads {L = λ bound. base 0} {P = λ most. read_base} {goes_on = is_int} {room = λ bound. Unit {0}}
+    (record { enough = 0; has_room = tt; exact = λ bound. (reads_base 0 (omega arith)).exact }) (length ts) ts (omega arith)

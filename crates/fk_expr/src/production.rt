@@ -1,7 +1,8 @@
 //! The productions of expressions.
 //!
-//! The next token, or the next two, say which alternative comes, so each token is read once, and
-//! only a level of nesting is read by a call inside a call.
+//! The next token, or the next two, say which alternative comes. So no token is read twice, and calls
+//! stand in calls as levels of nesting and the ten kinds of operators do: that is seen in the code,
+//! and no clause says it.
 
 ghost use Rattle.std.specs.Prelude.{◌≤◌, ◌<◌, ◌-◌, ◌^◌, length, map, IfOk};
 ghost use Rattle.fk_syntax.specs.View.{tree_of, suffix_of};

@@ -14,12 +14,12 @@ ghost use Rattle.fk_parse.specs.View.{declarator_of};
 
 use crate::kinds::{Equals, ParameterStart, Semicolon, SharingWord};
 use crate::told::expect_sharing;
+use fk_expr::at_cursor::{assignment, base};
 use fk_expr::cursor::Cursor;
 use fk_expr::fault::SyntaxFault;
 use fk_expr::kinds::{CloseBracket, CloseParenthesis, Comma, OpenBracket, TypeStart, Void, Word};
-use fk_expr::production::assignment;
 use fk_expr::told::expect_number;
-use fk_expr::types::{base, stars};
+use fk_expr::types::stars;
 use fk_syntax::expression::{Base, Expr, TypeName};
 use fk_syntax::place::Name;
 use fk_syntax::program::Declared;

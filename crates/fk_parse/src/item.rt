@@ -19,10 +19,11 @@ use crate::declaration::{
 use crate::kinds::{CloseBrace, ItemStart, ModeWord, OpenBrace, Semicolon, SharingWord};
 use crate::statement::block;
 use crate::told::expect_mode;
+use fk_expr::at_cursor::base;
 use fk_expr::cursor::Cursor;
 use fk_expr::fault::SyntaxFault;
 use fk_expr::kinds::{CloseParenthesis, OpenParenthesis, Struct, Word};
-use fk_expr::types::{base, stars};
+use fk_expr::types::stars;
 use fk_syntax::expression::{Base, TypeName};
 use fk_syntax::place::Name;
 use fk_syntax::program::{Function, Item, Mode, Stmt};

@@ -1,7 +1,7 @@
 //! Statements.
 //!
-//! The next token says which statement comes, so each token is read once, and only a level of
-//! nesting is read by a call inside a call.
+//! The next token says which statement comes. So no token is read twice, and calls stand in calls as
+//! levels of nesting do: that is seen in the code, and no clause says it.
 
 ghost use Rattle.std.specs.Prelude.{map, IfOk};
 ghost use Rattle.std.specs.Option.{option_map};
@@ -28,10 +28,10 @@ use crate::kinds::{
     Barrier, Break, CloseBrace, Continue, Do, Else, Equals, Farm, For, Fork, If, OpenBrace,
     ParameterStart, Return, Semicolon, Seq, Start, StatementStart, While,
 };
+use fk_expr::at_cursor::comma;
 use fk_expr::cursor::Cursor;
 use fk_expr::fault::SyntaxFault;
 use fk_expr::kinds::{At, CloseParenthesis, Dollar, ExpressionStart, OpenParenthesis, Terminal};
-use fk_expr::production::comma;
 use fk_syntax::expression::Expr;
 use fk_syntax::place::Spot;
 use fk_syntax::program::Stmt;
