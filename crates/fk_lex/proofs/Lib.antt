@@ -3,6 +3,7 @@ pub mod Determined
 pub mod Existence
 pub mod Extents
 pub mod Fronts
+pub mod Lines
 pub mod Literals
 pub mod Numerals
 pub mod Reached

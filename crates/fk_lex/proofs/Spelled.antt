@@ -140,7 +140,7 @@ text_found n None bad is = absurd cc
 text_found n (Some k) None is = (k, refl, refl, cc)
 text_found n (Some k) (Some b) is = absurd cc
 
-ended : (body : List ℕ) (n : ℕ) → text_step (34 ∷ body) ≡ Token (n + 1) Text → IsTextBody body n
+pub ended : (body : List ℕ) (n : ℕ) → text_step (34 ∷ body) ≡ Token (n + 1) Text → IsTextBody body n
 unfolding text_step
 ended body n is =
     let found = text_found n (closing body) (first_bad body) is in

@@ -28,7 +28,7 @@ pub fn lex<'a>(alloc: Global, source: &'a [u8]) -> Result<Vec<Token<'a>>, LexFau
     while !rest.is_empty() {
         let step = step_at(at, rest);
         let (bytes, others) = rest.split_at(step.size());
-        let behind = at.after(bytes);
+        let behind = at.past(step, bytes);
         match step {
             Step::Gap(_) => {}
             Step::Token(_, kind) => {

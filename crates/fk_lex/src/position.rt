@@ -1,10 +1,13 @@
 //! Positions in a source text.
 
-ghost use Rattle.std.specs.Prelude.{◌≡◌, ◌+◌, ◌<◌, ◌^◌, length};
+ghost use Rattle.std.specs.Prelude.{◌≡◌, ℕ, ◌+◌, ◌<◌, ◌^◌, length, true};
 ghost use Rattle.fk_lex.specs.Positions;
-ghost use Rattle.fk_lex.specs.Positions.{start, after, place_of};
+ghost use Rattle.fk_lex.specs.Positions.{start, after, place_of, is_solid};
+ghost use Rattle.fk_lex.specs.declared.token.TokenKind.{TokenKind};
+ghost use Rattle.fk_lex.specs.declared.step.Step.TheVariants.{Token};
 
 use crate::bytes::is_blank;
+use crate::step::Step;
 use fk_syntax::Place;
 
 /// How many lines end before a position, how many bytes stand before it in its line, and whether
@@ -28,8 +31,26 @@ impl Position {
         }
     }
 
+    /// The position behind what stands here, which these bytes are.
+    pub fn past(self, step: Step, passed: &[u8]) -> Position
+        requires lines { self.lines + length passed.now < 2 ^ 64 }
+        requires bytes { self.bytes + length passed.now < 2 ^ 64 }
+        // A token stands in one line, and begins with no blank.
+        requires solid { (n : ℕ) (kind : TokenKind) → step ≡ Token n kind → is_solid passed.now ≡ true }
+        ensures { result ≡ after self passed.now }
+    {
+        match step {
+            Step::Token(_, _) => Position {
+                lines: self.lines,
+                bytes: self.bytes + passed.len(),
+                only_blanks: false,
+            },
+            Step::Gap(_) | Step::Fault(_, _) => self.after(passed),
+        }
+    }
+
     /// The position behind these bytes.
-    pub fn after(self, passed: &[u8]) -> Position
+    fn after(self, passed: &[u8]) -> Position
         requires lines { self.lines + length passed.now < 2 ^ 64 }
         requires bytes { self.bytes + length passed.now < 2 ^ 64 }
         ensures { result ≡ after self passed.now }

@@ -1,6 +1,6 @@
 //! Words, keywords and signs.
 
-ghost use Rattle.std.specs.Prelude.{◌≡◌, ℕ, ◌≤◌, ◌<◌, ◌==◌, ◌&&◌, length, drop, take, map, slice_index, nat_le, true, false, if◌then◌else◌};
+ghost use Rattle.std.specs.Prelude.{◌≡◌, ℕ, ◌≤◌, ◌<◌, ◌==◌, ◌&&◌, length, drop, take, map, slice_index, nat_le, true, false, List, ◌∷◌, if◌then◌else◌};
 ghost use Rattle.std.specs.List.{prefix_len};
 ghost use Rattle.fk_lex.specs.Bytes;
 ghost use Rattle.fk_lex.specs.Kinds;
@@ -10,86 +10,6 @@ ghost use Rattle.fk_lex.specs.View.{entry_of};
 use crate::bytes::is_word_byte;
 use crate::step::{FaultKind, Step};
 use crate::token::TokenKind;
-
-/// The keywords.
-const KEYWORDS: [(&[u8], TokenKind); 25] = [
-    (b"int", TokenKind::Int),
-    (b"unsigned", TokenKind::Unsigned),
-    (b"void", TokenKind::Void),
-    (b"struct", TokenKind::Struct),
-    (b"sh", TokenKind::Sh),
-    (b"pr", TokenKind::Pr),
-    (b"sync", TokenKind::Sync),
-    (b"async", TokenKind::Async),
-    (b"straight", TokenKind::Straight),
-    (b"if", TokenKind::If),
-    (b"else", TokenKind::Else),
-    (b"while", TokenKind::While),
-    (b"do", TokenKind::Do),
-    (b"for", TokenKind::For),
-    (b"start", TokenKind::Start),
-    (b"farm", TokenKind::Farm),
-    (b"seq", TokenKind::Seq),
-    (b"fork", TokenKind::Fork),
-    (b"join", TokenKind::Join),
-    (b"barrier", TokenKind::Barrier),
-    (b"break", TokenKind::Break),
-    (b"continue", TokenKind::Continue),
-    (b"return", TokenKind::Return),
-    (b"sizeof", TokenKind::Sizeof),
-    (b"puts", TokenKind::Puts),
-];
-
-/// The signs.
-const SIGNS: [(&[u8], TokenKind); 47] = [
-    (b"<<=", TokenKind::ShiftLeftAssign),
-    (b">>=", TokenKind::ShiftRightAssign),
-    (b"<<", TokenKind::ShiftLeft),
-    (b">>", TokenKind::ShiftRight),
-    (b"<=", TokenKind::LessOrEqual),
-    (b">=", TokenKind::GreaterOrEqual),
-    (b"==", TokenKind::EqualTo),
-    (b"!=", TokenKind::NotEqualTo),
-    (b"&&", TokenKind::AndAnd),
-    (b"||", TokenKind::OrOr),
-    (b"+=", TokenKind::PlusAssign),
-    (b"-=", TokenKind::MinusAssign),
-    (b"*=", TokenKind::StarAssign),
-    (b"/=", TokenKind::SlashAssign),
-    (b"%=", TokenKind::PercentAssign),
-    (b"&=", TokenKind::AmpersandAssign),
-    (b"|=", TokenKind::BarAssign),
-    (b"^=", TokenKind::CaretAssign),
-    (b"++", TokenKind::Increment),
-    (b"--", TokenKind::Decrement),
-    (b"->", TokenKind::Arrow),
-    (b"+", TokenKind::Plus),
-    (b"-", TokenKind::Minus),
-    (b"*", TokenKind::Star),
-    (b"/", TokenKind::Slash),
-    (b"%", TokenKind::Percent),
-    (b"&", TokenKind::Ampersand),
-    (b"|", TokenKind::Bar),
-    (b"^", TokenKind::Caret),
-    (b"~", TokenKind::Tilde),
-    (b"!", TokenKind::Exclamation),
-    (b"<", TokenKind::LessThan),
-    (b">", TokenKind::GreaterThan),
-    (b"=", TokenKind::Assign),
-    (b"?", TokenKind::Question),
-    (b":", TokenKind::Colon),
-    (b",", TokenKind::Comma),
-    (b";", TokenKind::Semicolon),
-    (b"(", TokenKind::OpenParenthesis),
-    (b")", TokenKind::CloseParenthesis),
-    (b"{", TokenKind::OpenBrace),
-    (b"}", TokenKind::CloseBrace),
-    (b"[", TokenKind::OpenBracket),
-    (b"]", TokenKind::CloseBracket),
-    (b".", TokenKind::Dot),
-    (b"@", TokenKind::At),
-    (b"$", TokenKind::Dollar),
-];
 
 /// The word or keyword that a text begins with.
 pub fn word_step(text: &[u8]) -> Step
@@ -111,9 +31,58 @@ fn word_length(text: &[u8]) -> usize
 
 /// The keyword that this word is, or else a word.
 fn word_kind(word: &[u8]) -> TokenKind
+    requires { 0 < length word.now }
     ensures { result ≡ Kinds.or_word (Kinds.lookup Kinds.keywords word.now) }
 {
-    lookup(&KEYWORDS, word).unwrap_or(TokenKind::Word)
+    keyword_of(word[0], word).unwrap_or(TokenKind::Word)
+}
+
+/// The keyword that a word of this first letter is.
+fn keyword_of(first: u8, word: &[u8]) -> Option<TokenKind>
+    requires { (cs : List ℕ) × (word.now ≡ first ∷ cs) }
+    ensures { result ≡ Kinds.lookup Kinds.keywords word.now }
+{
+    match first {
+        b'a' => lookup(&[(b"async", TokenKind::Async)], word),
+        b'b' => lookup(
+            &[
+                (b"barrier", TokenKind::Barrier),
+                (b"break", TokenKind::Break),
+            ],
+            word,
+        ),
+        b'c' => lookup(&[(b"continue", TokenKind::Continue)], word),
+        b'd' => lookup(&[(b"do", TokenKind::Do)], word),
+        b'e' => lookup(&[(b"else", TokenKind::Else)], word),
+        b'f' => lookup(
+            &[
+                (b"for", TokenKind::For),
+                (b"farm", TokenKind::Farm),
+                (b"fork", TokenKind::Fork),
+            ],
+            word,
+        ),
+        b'i' => lookup(&[(b"int", TokenKind::Int), (b"if", TokenKind::If)], word),
+        b'j' => lookup(&[(b"join", TokenKind::Join)], word),
+        b'p' => lookup(&[(b"pr", TokenKind::Pr), (b"puts", TokenKind::Puts)], word),
+        b'r' => lookup(&[(b"return", TokenKind::Return)], word),
+        b's' => lookup(
+            &[
+                (b"struct", TokenKind::Struct),
+                (b"sh", TokenKind::Sh),
+                (b"sync", TokenKind::Sync),
+                (b"straight", TokenKind::Straight),
+                (b"start", TokenKind::Start),
+                (b"seq", TokenKind::Seq),
+                (b"sizeof", TokenKind::Sizeof),
+            ],
+            word,
+        ),
+        b'u' => lookup(&[(b"unsigned", TokenKind::Unsigned)], word),
+        b'v' => lookup(&[(b"void", TokenKind::Void)], word),
+        b'w' => lookup(&[(b"while", TokenKind::While)], word),
+        _ => None,
+    }
 }
 
 /// The sign that a text begins with.
@@ -139,15 +108,122 @@ pub fn sign_step(text: &[u8]) -> Step
 
 /// The sign that these many first bytes of a text are.
 fn sign_of(text: &[u8], size: usize) -> Option<TokenKind>
+    requires { 0 < size }
     ensures { result ≡ (if nat_le size (length text.now) then Kinds.lookup Kinds.signs (take size text.now) else None) }
 {
     if size > text.len() {
         return None;
     }
-    lookup(&SIGNS, text.split_at(size).0)
+    sign_from(text[0], text.split_at(size).0)
+}
+
+/// The sign that bytes of this first byte are.
+fn sign_from(first: u8, sign: &[u8]) -> Option<TokenKind>
+    requires { (cs : List ℕ) × (sign.now ≡ first ∷ cs) }
+    ensures { result ≡ Kinds.lookup Kinds.signs sign.now }
+{
+    match first {
+        b'<' => lookup(
+            &[
+                (b"<<=", TokenKind::ShiftLeftAssign),
+                (b"<<", TokenKind::ShiftLeft),
+                (b"<=", TokenKind::LessOrEqual),
+                (b"<", TokenKind::LessThan),
+            ],
+            sign,
+        ),
+        b'>' => lookup(
+            &[
+                (b">>=", TokenKind::ShiftRightAssign),
+                (b">>", TokenKind::ShiftRight),
+                (b">=", TokenKind::GreaterOrEqual),
+                (b">", TokenKind::GreaterThan),
+            ],
+            sign,
+        ),
+        b'=' => lookup(
+            &[(b"==", TokenKind::EqualTo), (b"=", TokenKind::Assign)],
+            sign,
+        ),
+        b'!' => lookup(
+            &[
+                (b"!=", TokenKind::NotEqualTo),
+                (b"!", TokenKind::Exclamation),
+            ],
+            sign,
+        ),
+        b'&' => lookup(
+            &[
+                (b"&&", TokenKind::AndAnd),
+                (b"&=", TokenKind::AmpersandAssign),
+                (b"&", TokenKind::Ampersand),
+            ],
+            sign,
+        ),
+        b'|' => lookup(
+            &[
+                (b"||", TokenKind::OrOr),
+                (b"|=", TokenKind::BarAssign),
+                (b"|", TokenKind::Bar),
+            ],
+            sign,
+        ),
+        b'+' => lookup(
+            &[
+                (b"+=", TokenKind::PlusAssign),
+                (b"++", TokenKind::Increment),
+                (b"+", TokenKind::Plus),
+            ],
+            sign,
+        ),
+        b'-' => lookup(
+            &[
+                (b"-=", TokenKind::MinusAssign),
+                (b"--", TokenKind::Decrement),
+                (b"->", TokenKind::Arrow),
+                (b"-", TokenKind::Minus),
+            ],
+            sign,
+        ),
+        b'*' => lookup(
+            &[(b"*=", TokenKind::StarAssign), (b"*", TokenKind::Star)],
+            sign,
+        ),
+        b'/' => lookup(
+            &[(b"/=", TokenKind::SlashAssign), (b"/", TokenKind::Slash)],
+            sign,
+        ),
+        b'%' => lookup(
+            &[
+                (b"%=", TokenKind::PercentAssign),
+                (b"%", TokenKind::Percent),
+            ],
+            sign,
+        ),
+        b'^' => lookup(
+            &[(b"^=", TokenKind::CaretAssign), (b"^", TokenKind::Caret)],
+            sign,
+        ),
+        b'~' => lookup(&[(b"~", TokenKind::Tilde)], sign),
+        b'?' => lookup(&[(b"?", TokenKind::Question)], sign),
+        b':' => lookup(&[(b":", TokenKind::Colon)], sign),
+        b',' => lookup(&[(b",", TokenKind::Comma)], sign),
+        b';' => lookup(&[(b";", TokenKind::Semicolon)], sign),
+        b'(' => lookup(&[(b"(", TokenKind::OpenParenthesis)], sign),
+        b')' => lookup(&[(b")", TokenKind::CloseParenthesis)], sign),
+        b'{' => lookup(&[(b"{", TokenKind::OpenBrace)], sign),
+        b'}' => lookup(&[(b"}", TokenKind::CloseBrace)], sign),
+        b'[' => lookup(&[(b"[", TokenKind::OpenBracket)], sign),
+        b']' => lookup(&[(b"]", TokenKind::CloseBracket)], sign),
+        b'.' => lookup(&[(b".", TokenKind::Dot)], sign),
+        b'@' => lookup(&[(b"@", TokenKind::At)], sign),
+        b'$' => lookup(&[(b"$", TokenKind::Dollar)], sign),
+        _ => None,
+    }
 }
 
 /// What a table has for these bytes.
+#[inline(always)]
 fn lookup(table: &[(&[u8], TokenKind)], bytes: &[u8]) -> Option<TokenKind>
     ensures { result ≡ Kinds.lookup (map entry_of table.now) bytes.now }
 {

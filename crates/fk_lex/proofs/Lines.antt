@@ -1,0 +1,318 @@
+-- A token stands in one line, and begins with no blank.
+use Rattle.std.proofs.Common.{◌≡◌, ℕ, zero, suc, ◌+◌, ◌<◌, ◌≤◌, ◌==◌, ◌&&◌, ◌||◌, not, inl, inr, ⊎_elim, Bool, true, false, nat_lt, Option, Some, None, List, [], ◌∷◌, ◌++◌, length, take, drop, get_or, refl, sym, ap, subst, ◌∙◌, arith, if◌then◌else◌, append_assoc, length-append, add-zero}
+use Rattle.std.specs.List.{list_all}
+use Rattle.std.specs.Str.{bytes_eq}
+use Rattle.std.proofs.lemmas.Bool.{both_ways, or_cases}
+use Rattle.std.proofs.lemmas.Bool.Decides.{nat_tests}
+use Rattle.std.proofs.lemmas.List.{take_at}
+use Rattle.std.proofs.lemmas.Slice.Eq.{bytes_eq-Decides}
+use Rattle.fk_lex.specs.declared.position.Position.{Position}
+use Rattle.fk_lex.specs.declared.step.Beginning.{Beginning}
+use Rattle.fk_lex.specs.declared.step.Beginning.TheVariants as begins
+use Rattle.fk_lex.specs.declared.step.FaultKind.TheVariants.{BadByte, OpenComment, WideNumber}
+use Rattle.fk_lex.specs.declared.step.Step.{Step}
+use Rattle.fk_lex.specs.declared.step.Step.TheVariants.{Gap, Token, Fault}
+use Rattle.fk_lex.specs.declared.token.TokenKind.{TokenKind}
+use Rattle.fk_lex.specs.declared.token.TokenKind.TheVariants.{Number, Text}
+use Rattle.fk_lex.specs.Bytes.{is_blank, is_letter, is_digit, is_word_byte, digit_value, is_suffix, is_x, is_plain, escape_value}
+use Rattle.fk_lex.specs.Kinds.{kind_of, Longest, lookup, signs, keywords, or_word, is_numeral, is_hexadecimal, is_tail, is_empty, numeral_value, is_unsigned}
+use Rattle.fk_lex.specs.Positions.{after, in_line, is_solid}
+use Rattle.fk_lex.specs.Spellings.{Part, Plain, Escape, ArePartsOfText, bytes_of, IsTextBody}
+use Rattle.fk_lex.specs.Steps.{CommentStep, TokenStep, token_or_fault, beginning, is_include, line_length, is_some_byte, directive_step, character_step, escaped, closed, text_of, closing, first_bad, text_step, StandsBy, Stands}
+use Rattle.fk_lex.proofs.Literals.{if_true, if_false}
+use Rattle.fk_lex.proofs.Spelled.{ended}
+
+both_true : (a b : Bool) → (a && b) ≡ true → (a ≡ true) × (b ≡ true)
+both_true true b both = (refl, both)
+both_true false b both = cc
+
+and_true : (a b : Bool) → a ≡ true → b ≡ true → (a && b) ≡ true
+and_true a b is also = ap (λ a. a && b) is ∙ also
+
+not_true : (b : Bool) → not b ≡ true → b ≡ false
+not_true true is = cc
+not_true false is = refl
+
+not_false : (b : Bool) → b ≡ false → not b ≡ true
+not_false b is = ap not is
+
+-- positions
+
+along : (lines bytes : ℕ) (cs : List ℕ) → list_all in_line cs ≡ true → after (record { lines = lines; bytes = bytes; only_blanks = false }) cs ≡ record { lines = lines; bytes = bytes + length cs; only_blanks = false }
+along lines bytes [] all = ap (λ n. record { lines = lines; bytes = n; only_blanks = false }) (sym (add-zero bytes))
+along lines bytes (c ∷ cs) all =
+    let both = both_true (in_line c) (list_all in_line cs) all in
+    let size : bytes + 1 + length cs ≡ bytes + length (c ∷ cs) = omega arith in
+    let P : Position = record { lines = lines; bytes = bytes + length (c ∷ cs); only_blanks = false } in
+    ap (λ at. after at cs) (if_false (c == 10) (record { lines = lines + 1; bytes = 0; only_blanks = true }) (record { lines = lines; bytes = bytes + 1; only_blanks = false }) (not_true (c == 10) both.0))
+    ∙ along lines (bytes + 1) cs both.1
+    ∙ ap (λ n. record { lines = lines; bytes = n; only_blanks = false }) size
+
+no_blanks : (a b : Bool) → b ≡ false → (a && b) ≡ false
+no_blanks true b is = is
+no_blanks false b is = refl
+
+blank_line : (c : ℕ) → is_blank c ≡ false → (c == 10) ≡ false
+blank_line c is = grind (arith, nat_tests)
+
+-- the position behind bytes of one line that begin with no blank
+pub solid_after : (at : Position) (bytes : List ℕ) → is_solid bytes ≡ true → after at bytes ≡ record { lines = at.lines; bytes = at.bytes + length bytes; only_blanks = false }
+solid_after at [] solid = absurd cc
+solid_after at (c ∷ cs) solid =
+    let both = both_true (not (is_blank c)) (list_all in_line cs) solid in
+    let other = not_true (is_blank c) both.0 in
+    let size : at.bytes + 1 + length cs ≡ at.bytes + length (c ∷ cs) = omega arith in
+    ap (λ at. after at cs) (if_false (c == 10) (record { lines = at.lines + 1; bytes = 0; only_blanks = true }) (record { lines = at.lines; bytes = at.bytes + 1; only_blanks = at.only_blanks && is_blank c }) (blank_line c other))
+    ∙ ap (λ b. after (record { lines = at.lines; bytes = at.bytes + 1; only_blanks = b }) cs) (no_blanks at.only_blanks (is_blank c) other)
+    ∙ along at.lines (at.bytes + 1) cs both.1
+    ∙ ap (λ n. record { lines = at.lines; bytes = n; only_blanks = false }) size
+
+-- tests that no newline passes
+
+same_byte : (c d : ℕ) → (c == d) ≡ true → c ≡ d
+same_byte c d is = grind (arith, nat_tests)
+
+line_by : (p : ℕ → Bool) → p 10 ≡ false → (c : ℕ) → p c ≡ true → (b : Bool) → (c == 10) ≡ b → not b ≡ true
+line_by p none c is true ten = absurd (both_ways (p 10) none (subst (λ c. p c ≡ true) (same_byte c 10 ten) is))
+line_by p none c is false ten = refl
+
+passes_in_line : (p : ℕ → Bool) → p 10 ≡ false → (c : ℕ) → p c ≡ true → in_line c ≡ true
+passes_in_line p none c is = line_by p none c is (c == 10) refl
+
+all_in_line : (p : ℕ → Bool) → p 10 ≡ false → (cs : List ℕ) → list_all p cs ≡ true → list_all in_line cs ≡ true
+all_in_line p none [] all = refl
+all_in_line p none (c ∷ cs) all =
+    let both = both_true (p c) (list_all p cs) all in
+    and_true (in_line c) (list_all in_line cs) (passes_in_line p none c both.0) (all_in_line p none cs both.1)
+
+-- numbers
+
+empty_in_line : (cs : List ℕ) → is_empty cs ≡ true → list_all in_line cs ≡ true
+empty_in_line [] is = refl
+empty_in_line (c ∷ cs) is = cc
+
+wide_digit : (base : ℕ) → base ≤ 16 → nat_lt 16 base ≡ false
+wide_digit base small = grind (arith, nat_tests)
+
+tail_by : (base c : ℕ) (cs : List ℕ) → base ≤ 16 → (is_tail base cs ≡ true → list_all in_line cs ≡ true) → (b : Bool) → nat_lt (digit_value c) base ≡ b → (if b then is_tail base cs else (is_suffix c && is_empty cs)) ≡ true → (in_line c && list_all in_line cs) ≡ true
+tail_by base c cs small behind true is all =
+    and_true (in_line c) (list_all in_line cs) (passes_in_line (λ c. nat_lt (digit_value c) base) (wide_digit base small) c is) (behind all)
+tail_by base c cs small behind false is all =
+    let both = both_true (is_suffix c) (is_empty cs) all in
+    and_true (in_line c) (list_all in_line cs) (passes_in_line is_suffix refl c both.0) (empty_in_line cs both.1)
+
+tail_in_line : (base : ℕ) (cs : List ℕ) → base ≤ 16 → is_tail base cs ≡ true → list_all in_line cs ≡ true
+tail_in_line base [] small all = refl
+tail_in_line base (c ∷ cs) small all = tail_by base c cs small (λ all. tail_in_line base cs small all) (nat_lt (digit_value c) base) refl all
+
+hexadecimal_in_line : (cs : List ℕ) → is_hexadecimal cs ≡ true → list_all in_line cs ≡ true
+hexadecimal_in_line [] is = cc
+hexadecimal_in_line (x ∷ []) is = cc
+hexadecimal_in_line (x ∷ d ∷ ds) is =
+    let both = both_true (is_x x && nat_lt (digit_value d) 16) (is_tail 16 ds) is in
+    let head = both_true (is_x x) (nat_lt (digit_value d) 16) both.0 in
+    and_true (in_line x) (in_line d && list_all in_line ds) (passes_in_line is_x refl x head.0)
+    (and_true (in_line d) (list_all in_line ds) (passes_in_line (λ c. nat_lt (digit_value c) 16) refl d head.1) (tail_in_line 16 ds (omega arith) both.1))
+
+numeral_by : (c : ℕ) (cs : List ℕ) (b : Bool) → (if b then is_hexadecimal cs || is_tail 8 cs else is_digit c && is_tail 10 cs) ≡ true → list_all in_line cs ≡ true
+numeral_by c cs true is = ⊎_elim (λ is. hexadecimal_in_line cs is) (λ is. tail_in_line 8 cs (omega arith) is) (or_cases (is_hexadecimal cs) (is_tail 8 cs) is)
+numeral_by c cs false is = tail_in_line 10 cs (omega arith) (both_true (is_digit c) (is_tail 10 cs) is).1
+
+-- words, numbers and signs
+
+abbrev rows_pass : (List ℕ → Bool) → List (List ℕ × TokenKind) → Bool
+rows_pass test [] = true
+rows_pass test (entry ∷ others) = test entry.0 && rows_pass test others
+
+row_passes : (test : List ℕ → Bool) (row bytes : List ℕ) (here kind : TokenKind) (other : Option TokenKind) → test row ≡ true → (other ≡ Some kind → test bytes ≡ true) → (b : Bool) → bytes_eq row bytes ≡ b → (if b then Some here else other) ≡ Some kind → test bytes ≡ true
+row_passes test row bytes here kind other passes behind true same is = subst (λ l. test l ≡ true) ((bytes_eq-Decides row bytes).0 same) passes
+row_passes test row bytes here kind other passes behind false same is = behind is
+
+lookup_passes : (test : List ℕ → Bool) (table : List (List ℕ × TokenKind)) (bytes : List ℕ) (kind : TokenKind) → rows_pass test table ≡ true → lookup table bytes ≡ Some kind → test bytes ≡ true
+lookup_passes test [] bytes kind all is = absurd cc
+lookup_passes test (entry ∷ others) bytes kind all is =
+    let both = both_true (test entry.0) (rows_pass test others) all in
+    row_passes test entry.0 bytes entry.1 kind (lookup others bytes) both.0 (λ is. lookup_passes test others bytes kind both.1 is) (bytes_eq entry.0 bytes) refl is
+
+letter_no_blank : (c : ℕ) → is_letter c ≡ true → is_blank c ≡ false
+letter_no_blank c is = grind (arith, nat_tests)
+
+digit_no_blank : (c : ℕ) → is_digit c ≡ true → is_blank c ≡ false
+digit_no_blank c is = grind (arith, nat_tests)
+
+solid_from : (c : ℕ) (cs : List ℕ) → is_blank c ≡ false → list_all in_line cs ≡ true → is_solid (c ∷ cs) ≡ true
+solid_from c cs other all = and_true (not (is_blank c)) (list_all in_line cs) (not_false (is_blank c) other) all
+
+spelled_by : (c : ℕ) (cs : List ℕ) (kind word number : TokenKind) (letter digit words numeral : Bool) → is_letter c ≡ letter → is_digit c ≡ digit → list_all is_word_byte cs ≡ words → is_numeral (c ∷ cs) ≡ numeral →
+    (if letter then (if words then Some word else None) else (if digit then (if numeral then Some number else None) else lookup signs (c ∷ cs))) ≡ Some kind → is_solid (c ∷ cs) ≡ true
+spelled_by c cs kind word number true digit true numeral l d w n is = solid_from c cs (letter_no_blank c l) (all_in_line is_word_byte refl cs w)
+spelled_by c cs kind word number true digit false numeral l d w n is = absurd cc
+spelled_by c cs kind word number false true words true l d w n is = solid_from c cs (digit_no_blank c d) (numeral_by c cs (c == 48) n)
+spelled_by c cs kind word number false true words false l d w n is = absurd cc
+spelled_by c cs kind word number false false words numeral l d w n is = lookup_passes is_solid signs (c ∷ cs) kind refl is
+
+spelled_solid : (bytes : List ℕ) (kind : TokenKind) → kind_of bytes ≡ Some kind → is_solid bytes ≡ true
+unfolding kind_of
+spelled_solid [] kind is = absurd cc
+spelled_solid (c ∷ cs) kind is =
+    spelled_by c cs kind (or_word (lookup keywords (c ∷ cs))) (Number (numeral_value (c ∷ cs)) (is_unsigned (c ∷ cs))) (is_letter c) (is_digit c) (list_all is_word_byte cs) (is_numeral (c ∷ cs)) refl refl refl refl is
+
+number_size : (narrow goes_on : Bool) (m n : ℕ) (kind number : TokenKind) → Token n kind ≡ (if narrow then (if goes_on then Fault m BadByte else Token m number) else Fault 0 WideNumber) → n ≡ m
+number_size true true m n kind number is = absurd cc
+number_size true false m n kind number is = cc
+number_size false goes_on m n kind number is = absurd cc
+
+token_size : (text : List ℕ) (m n : ℕ) (kind found : TokenKind) → Token n kind ≡ token_or_fault text m found → n ≡ m
+unfolding token_or_fault
+token_size text m n kind (Number value unsigned) is = number_size _ _ m n kind (Number value unsigned) is
+token_size text m n kind _ is = cc
+
+token_solid_by : (text : List ℕ) (n : ℕ) (kind : TokenKind) → TokenStep text (Token n kind) → is_solid (take n text) ≡ true
+token_solid_by text n kind (inl a) =
+    subst (λ m. is_solid (take m text) ≡ true) (sym (token_size text a.0 n kind a.1 a.3)) (spelled_solid (take a.0 text) a.1 a.2.spells)
+token_solid_by text n kind (inr a) = absurd cc
+
+-- character constants
+
+-- bytes of which the first so many are in line, and 0 where there are none
+indexed_in_line : (n : ℕ) (text : List ℕ) → ((i : ℕ) → i < n → in_line (get_or text i 0) ≡ true) → list_all in_line (take n text) ≡ true
+indexed_in_line zero text each = refl
+indexed_in_line (suc n) [] each = refl
+indexed_in_line (suc n) (c ∷ cs) each =
+    and_true (in_line c) (list_all in_line (take n cs)) (each 0 (omega arith)) (indexed_in_line n cs (λ i small. each (suc i) (omega arith)))
+
+escape_in_line : (d : ℕ) → is_some_byte (escape_value d) ≡ true → in_line d ≡ true
+escape_in_line d is = passes_in_line (λ d. is_some_byte (escape_value d)) refl d is
+
+escaped_token : (found : Option ℕ) (n : ℕ) (kind : TokenKind) → Token n kind ≡ escaped found → (n ≡ 4) × (is_some_byte found ≡ true)
+escaped_token None n kind is = absurd cc
+escaped_token (Some value) n kind is = (cc, refl)
+
+plain_in_line : (c : ℕ) → is_plain 39 c ≡ true → in_line c ≡ true
+plain_in_line c is = passes_in_line (is_plain 39) refl c is
+
+byte_in_line : (c d : ℕ) → (c == d) ≡ true → in_line d ≡ true → in_line c ≡ true
+byte_in_line c d is good = subst (λ c. in_line c ≡ true) (sym (same_byte c d is)) good
+
+-- bytes behind a quote, one by one
+quoted_three : (c d : ℕ) (cs : List ℕ) → get_or cs 0 0 ≡ c → get_or cs 1 0 ≡ d → in_line c ≡ true → in_line d ≡ true → list_all in_line (take 2 cs) ≡ true
+quoted_three c d cs first second a b = indexed_in_line 2 cs each
+  where
+    each : (i : ℕ) → i < 2 → in_line (get_or cs i 0) ≡ true
+    each zero small = ap in_line first ∙ a
+    each (suc zero) small = ap in_line second ∙ b
+    each (suc (suc i)) small = absurd (omega arith)
+
+quoted_four : (cs : List ℕ) → in_line (get_or cs 0 0) ≡ true → in_line (get_or cs 1 0) ≡ true → in_line (get_or cs 2 0) ≡ true → list_all in_line (take 3 cs) ≡ true
+quoted_four cs a b e = indexed_in_line 3 cs each
+  where
+    each : (i : ℕ) → i < 3 → in_line (get_or cs i 0) ≡ true
+    each zero small = a
+    each (suc zero) small = b
+    each (suc (suc zero)) small = e
+    each (suc (suc (suc i))) small = absurd (omega arith)
+
+character_by : (cs : List ℕ) (n : ℕ) (kind : TokenKind) (one two : Bool) → let c = get_or cs 0 0 in let d = get_or cs 1 0 in let e = get_or cs 2 0 in
+    (is_plain 39 c && (d == 39)) ≡ one → ((c == 92) && (e == 39)) ≡ two →
+    Token n kind ≡ (if one then Token 3 (Number c false) else (if two then escaped (escape_value d) else Fault 0 BadByte)) → is_solid (take n (39 ∷ cs)) ≡ true
+character_by cs n kind true two first second is =
+    let both = both_true (is_plain 39 (get_or cs 0 0)) (get_or cs 1 0 == 39) first in
+    let size : 3 ≡ n = cc in
+    subst (λ n. is_solid (take n (39 ∷ cs)) ≡ true) size
+    (quoted_three (get_or cs 0 0) (get_or cs 1 0) cs refl refl (plain_in_line (get_or cs 0 0) both.0) (byte_in_line (get_or cs 1 0) 39 both.1 refl))
+character_by cs n kind false true first second is =
+    let both = both_true (get_or cs 0 0 == 92) (get_or cs 2 0 == 39) second in
+    let found = escaped_token (escape_value (get_or cs 1 0)) n kind is in
+    subst (λ n. is_solid (take n (39 ∷ cs)) ≡ true) (sym found.0)
+    (quoted_four cs (byte_in_line (get_or cs 0 0) 92 both.0 refl) (escape_in_line (get_or cs 1 0) found.1) (byte_in_line (get_or cs 2 0) 39 both.1 refl))
+character_by cs n kind false false first second is = absurd cc
+
+character_solid : (cs : List ℕ) (n : ℕ) (kind : TokenKind) → Token n kind ≡ character_step (39 ∷ cs) → is_solid (take n (39 ∷ cs)) ≡ true
+unfolding character_step
+character_solid cs n kind is =
+    character_by cs n kind (is_plain 39 (get_or cs 0 0) && (get_or cs 1 0 == 39)) ((get_or cs 0 0 == 92) && (get_or cs 2 0 == 39)) refl refl is
+
+-- texts
+
+parts_in_line : (parts : List Part) → ArePartsOfText parts → list_all in_line (bytes_of parts ++ 34 ∷ []) ≡ true
+parts_in_line [] good = refl
+parts_in_line (Plain c ∷ parts) good =
+    and_true (in_line c) (list_all in_line (bytes_of parts ++ 34 ∷ [])) (passes_in_line (is_plain 34) refl c good.0) (parts_in_line parts good.1)
+parts_in_line (Escape c ∷ parts) good =
+    and_true (in_line c) (list_all in_line (bytes_of parts ++ 34 ∷ [])) (escape_in_line c good.0) (parts_in_line parts good.1)
+
+body_in_line : (body : List ℕ) (n : ℕ) → IsTextBody body n → list_all in_line (take n body) ≡ true
+body_in_line body n is =
+    let whole : body ≡ (bytes_of is.0 ++ 34 ∷ []) ++ is.1 = is.3 ∙ sym (append_assoc (bytes_of is.0) (34 ∷ []) is.1) in
+    let counted = is.4 in
+    let size : length (bytes_of is.0 ++ 34 ∷ []) ≡ n = omega (arith, length-append (bytes_of is.0) (34 ∷ [])) in
+    ap (λ body. list_all in_line (take n body)) whole ∙ ap (list_all in_line) (take_at (bytes_of is.0 ++ 34 ∷ []) is.1 n size) ∙ parts_in_line is.0 is.2
+
+text_token : (end bad : Option ℕ) (n : ℕ) (kind : TokenKind) → Token n kind ≡ text_of end bad → (k : ℕ) × (n ≡ suc k) × (kind ≡ Text)
+text_token None bad n kind is = absurd cc
+text_token (Some k) None n kind is = let size : n ≡ k + 2 = cc in (k + 1, omega arith, cc)
+text_token (Some k) (Some b) n kind is = absurd cc
+
+text_found : (body : List ℕ) (n : ℕ) (kind : TokenKind) → Token n kind ≡ text_step (34 ∷ body) → (k : ℕ) × (n ≡ suc k) × (kind ≡ Text)
+unfolding text_step
+text_found body n kind is = text_token (closing body) (first_bad body) n kind is
+
+text_solid : (body : List ℕ) (n : ℕ) (kind : TokenKind) → Token n kind ≡ text_step (34 ∷ body) → is_solid (take n (34 ∷ body)) ≡ true
+text_solid body n kind is =
+    let found = text_found body n kind is in
+    let size : n ≡ found.0 + 1 = let same = found.1 in omega arith in
+    let step : text_step (34 ∷ body) ≡ Token (found.0 + 1) Text = sym is ∙ ap (λ n. Token n kind) size ∙ ap (Token (found.0 + 1)) found.2 in
+    subst (λ n. is_solid (take n (34 ∷ body)) ≡ true) (sym found.1) (body_in_line body found.0 (ended body found.0 step))
+
+-- whatever stands there
+
+character_begins : (a b l d e t : Bool) → begins.Character ≡ (if a then begins.Blank else (if b then begins.Comment else (if l then begins.LineComment else (if d then begins.Directive else (if e then begins.Character else (if t then begins.Text else begins.Other)))))) → e ≡ true
+character_begins true b l d e t is = absurd cc
+character_begins false true l d e t is = absurd cc
+character_begins false false true d e t is = absurd cc
+character_begins false false false true e t is = absurd cc
+character_begins false false false false true t is = refl
+character_begins false false false false false true is = absurd cc
+character_begins false false false false false false is = absurd cc
+
+text_begins : (a b l d e t : Bool) → begins.Text ≡ (if a then begins.Blank else (if b then begins.Comment else (if l then begins.LineComment else (if d then begins.Directive else (if e then begins.Character else (if t then begins.Text else begins.Other)))))) → t ≡ true
+text_begins true b l d e t is = absurd cc
+text_begins false true l d e t is = absurd cc
+text_begins false false true d e t is = absurd cc
+text_begins false false false true e t is = absurd cc
+text_begins false false false false true t is = absurd cc
+text_begins false false false false false true is = refl
+text_begins false false false false false false is = absurd cc
+
+directive_by : (b : Bool) (m n : ℕ) (kind : TokenKind) → Token n kind ≡ (if b then Gap m else Fault 0 BadByte) → ⊥
+directive_by true m n kind is = cc
+directive_by false m n kind is = cc
+
+directive_no_token : (only_blanks : Bool) (text : List ℕ) (n : ℕ) (kind : TokenKind) → Token n kind ≡ directive_step only_blanks text → ⊥
+unfolding directive_step
+directive_no_token only_blanks text n kind is = directive_by (only_blanks && is_include (take (line_length text) text)) (line_length text) n kind is
+
+comment_no_token : (text : List ℕ) (n : ℕ) (kind : TokenKind) → CommentStep text (Token n kind) → ⊥
+comment_no_token text n kind (inl a) = let same = a.2 in cc
+comment_no_token text n kind (inr a) = let same = a.1 in cc
+
+gap_no_token : (m n : ℕ) (kind : TokenKind) → Token n kind ≡ Gap m → ⊥
+gap_no_token m n kind is = cc
+
+solid_by : (b : Beginning) (at : Position) (c : ℕ) (cs : List ℕ) (n : ℕ) (kind : TokenKind) → b ≡ beginning (c ∷ cs) → StandsBy b at (c ∷ cs) (Token n kind) → is_solid (take n (c ∷ cs)) ≡ true
+solid_by begins.Blank at c cs n kind is stands = absurd (gap_no_token 1 n kind stands)
+solid_by begins.Comment at c cs n kind is stands = absurd (comment_no_token (c ∷ cs) n kind stands)
+solid_by begins.LineComment at c cs n kind is stands = absurd (gap_no_token (line_length (c ∷ cs)) n kind stands)
+solid_by begins.Directive at c cs n kind is stands = absurd (directive_no_token at.only_blanks (c ∷ cs) n kind stands)
+solid_by begins.Character at c cs n kind is stands =
+    let quote = same_byte c 39 (character_begins (is_blank c) _ _ (c == 35) (c == 39) (c == 34) is) in
+    subst (λ c. is_solid (take n (c ∷ cs)) ≡ true) (sym quote) (character_solid cs n kind (subst (λ c. Token n kind ≡ character_step (c ∷ cs)) quote stands))
+solid_by begins.Text at c cs n kind is stands =
+    let quote = same_byte c 34 (text_begins (is_blank c) _ _ (c == 35) (c == 39) (c == 34) is) in
+    subst (λ c. is_solid (take n (c ∷ cs)) ≡ true) (sym quote) (text_solid cs n kind (subst (λ c. Token n kind ≡ text_step (c ∷ cs)) quote stands))
+solid_by begins.Other at c cs n kind is stands = token_solid_by (c ∷ cs) n kind stands
+
+-- the bytes of a token are of one line, and begin with no blank
+pub token_solid : (at : Position) (text : List ℕ) (n : ℕ) (kind : TokenKind) → 0 < length text → Stands at text (Token n kind) → is_solid (take n text) ≡ true
+token_solid at [] n kind some stands = absurd (omega arith)
+token_solid at (c ∷ cs) n kind some stands = solid_by (beginning (c ∷ cs)) at c cs n kind refl stands
