@@ -7,6 +7,7 @@ pub mod Lines
 pub mod Literals
 pub mod Numerals
 pub mod Reached
+pub mod Seconds
 pub mod Spelled
 pub mod TokenSteps
 pub mod Words

@@ -120,7 +120,7 @@ numeral_by c cs false is = tail_in_line 10 cs (omega arith) (both_true (is_digit
 
 -- words, numbers and signs
 
-abbrev rows_pass : (List ℕ → Bool) → List (List ℕ × TokenKind) → Bool
+abbrev pub rows_pass : (List ℕ → Bool) → List (List ℕ × TokenKind) → Bool
 rows_pass test [] = true
 rows_pass test (entry ∷ others) = test entry.0 && rows_pass test others
 
@@ -128,7 +128,7 @@ row_passes : (test : List ℕ → Bool) (row bytes : List ℕ) (here kind : Toke
 row_passes test row bytes here kind other passes behind true same is = subst (λ l. test l ≡ true) ((bytes_eq-Decides row bytes).0 same) passes
 row_passes test row bytes here kind other passes behind false same is = behind is
 
-lookup_passes : (test : List ℕ → Bool) (table : List (List ℕ × TokenKind)) (bytes : List ℕ) (kind : TokenKind) → rows_pass test table ≡ true → lookup table bytes ≡ Some kind → test bytes ≡ true
+pub lookup_passes : (test : List ℕ → Bool) (table : List (List ℕ × TokenKind)) (bytes : List ℕ) (kind : TokenKind) → rows_pass test table ≡ true → lookup table bytes ≡ Some kind → test bytes ≡ true
 lookup_passes test [] bytes kind all is = absurd cc
 lookup_passes test (entry ∷ others) bytes kind all is =
     let both = both_true (test entry.0) (rows_pass test others) all in

@@ -7,7 +7,7 @@ ghost use Rattle.fk_lex.specs.Kinds;
 ghost use Rattle.fk_lex.specs.Steps.{TokenStep, beginning};
 ghost use Rattle.fk_lex.specs.View.{entry_of};
 
-use crate::bytes::is_word_byte;
+use crate::bytes::{continues_sign, is_word_byte};
 use crate::step::{FaultKind, Step};
 use crate::token::TokenKind;
 
@@ -112,6 +112,9 @@ fn sign_of(text: &[u8], size: usize) -> Option<TokenKind>
     ensures { result ≡ (if nat_le size (length text.now) then Kinds.lookup Kinds.signs (take size text.now) else None) }
 {
     if size > text.len() {
+        return None;
+    }
+    if size > 1 && !continues_sign(text[1]) {
         return None;
     }
     sign_from(text[0], text.split_at(size).0)
