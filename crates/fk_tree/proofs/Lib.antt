@@ -1,0 +1,4 @@
+pub mod Lists
+pub mod Shapes
+
+pub mod SplitSound

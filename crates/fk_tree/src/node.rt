@@ -1,0 +1,24 @@
+//! The nodes of a tree.
+
+/// What a node does.
+#[derive(Clone, Copy, PartialEq, Eq, Debug)]
+pub enum Kind {
+    /// A group: its members go on together.
+    Lockstep,
+    /// It goes on when its parts have ended: so many, with the numbers from a first one on.
+    Waiting(u64, u32),
+    /// The root, or a body that its members run by themselves, or that the lowest runs alone.
+    Asynchronous(bool),
+}
+
+/// A node that has not ended.
+#[derive(Drop)]
+pub(crate) struct LiveNode {
+    /// In ascending order. Those of a node that waits are among them.
+    pub(crate) members: Vec<u32>,
+    /// The node that it is a part of.
+    pub(crate) parent: u64,
+    pub(crate) kind: Kind,
+    /// How many of its parts have not ended.
+    pub(crate) living: u32,
+}
