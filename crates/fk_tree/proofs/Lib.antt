@@ -1,4 +1,14 @@
 pub mod Lists
 pub mod Shapes
-
+pub mod Trees
+pub mod RootSound
 pub mod SplitSound
+pub mod ShrinkSound
+pub mod KindSound
+pub mod Counts
+pub mod Turns
+pub mod Ready
+pub mod Roots
+pub mod Divide
+pub mod Places
+pub mod Forget

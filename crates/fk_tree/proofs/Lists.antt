@@ -12,15 +12,15 @@ member_kept p [] h is pass = is
 member_kept p (x ∷ xs) h is pass =
     ⊎_elim
     (λ e.
-        let same : h ≡ x = eqb-true h x e in
-        let px : p x ≡ true = subst (λ (y : ℕ). p y ≡ true) same pass in
-        ap (is_member h) (cond-true (p x) (x ∷ filter p xs) (filter p xs) px) ∙ or_left (h == x) (is_member h (filter p xs)) e)
+    let same : h ≡ x = eqb-true h x e in
+    let px : p x ≡ true = subst (λ (y : ℕ). p y ≡ true) same pass in
+    ap (is_member h) (cond-true (p x) (x ∷ filter p xs) (filter p xs) px) ∙ or_left (h == x) (is_member h (filter p xs)) e)
     (λ e.
-        let rest = member_kept p xs h e pass in
-        ⊎_elim
-        (λ px. ap (is_member h) (cond-true (p x) (x ∷ filter p xs) (filter p xs) px) ∙ or_right (h == x) (is_member h (filter p xs)) rest)
-        (λ px. ap (is_member h) (cond-false (p x) (x ∷ filter p xs) (filter p xs) px) ∙ rest)
-        (cases_Bool (p x)))
+    let rest = member_kept p xs h e pass in
+    ⊎_elim
+    (λ px. ap (is_member h) (cond-true (p x) (x ∷ filter p xs) (filter p xs) px) ∙ or_right (h == x) (is_member h (filter p xs)) rest)
+    (λ px. ap (is_member h) (cond-false (p x) (x ∷ filter p xs) (filter p xs) px) ∙ rest)
+    (cases_Bool (p x)))
     (or_cases (h == x) (is_member h xs) is)
 
 pub kept_member : (p : ℕ → Bool) (xs : List ℕ) (h : ℕ) → is_member h (filter p xs) ≡ true → (is_member h xs ≡ true) × (p h ≡ true)
@@ -28,14 +28,14 @@ kept_member p [] h is = absurd (false≢true is)
 kept_member p (x ∷ xs) h is =
     ⊎_elim
     (λ px.
-        let is' : is_member h (x ∷ filter p xs) ≡ true = sym (ap (is_member h) (cond-true (p x) (x ∷ filter p xs) (filter p xs) px)) ∙ is in
-        ⊎_elim
-        (λ e. (or_left (h == x) (is_member h xs) e, subst (λ (y : ℕ). p y ≡ true) (sym (eqb-true h x e)) px))
-        (λ e. let r = kept_member p xs h e in (or_right (h == x) (is_member h xs) r.0, r.1))
-        (or_cases (h == x) (is_member h (filter p xs)) is'))
+    let is' : is_member h (x ∷ filter p xs) ≡ true = sym (ap (is_member h) (cond-true (p x) (x ∷ filter p xs) (filter p xs) px)) ∙ is in
+    ⊎_elim
+    (λ e. (or_left (h == x) (is_member h xs) e, subst (λ (y : ℕ). p y ≡ true) (sym (eqb-true h x e)) px))
+    (λ e. let r = kept_member p xs h e in (or_right (h == x) (is_member h xs) r.0, r.1))
+    (or_cases (h == x) (is_member h (filter p xs)) is'))
     (λ px.
-        let r = kept_member p xs h (sym (ap (is_member h) (cond-false (p x) (x ∷ filter p xs) (filter p xs) px)) ∙ is) in
-        (or_right (h == x) (is_member h xs) r.0, r.1))
+    let r = kept_member p xs h (sym (ap (is_member h) (cond-false (p x) (x ∷ filter p xs) (filter p xs) px)) ∙ is) in
+    (or_right (h == x) (is_member h xs) r.0, r.1))
     (cases_Bool (p x))
 
 pub below_all_kept : (p : ℕ → Bool) (h : ℕ) (xs : List ℕ) → is_below_all h xs ≡ true → is_below_all h (filter p xs) ≡ true
@@ -55,7 +55,7 @@ ascending_kept p (x ∷ xs) is =
     let rest = ascending_kept p xs parts.1 in
     ⊎_elim
     (λ px. ap is_ascending (cond-true (p x) (x ∷ filter p xs) (filter p xs) px)
-        ∙ and_from (is_below_all x (filter p xs)) (is_ascending (filter p xs)) (below_all_kept p x xs parts.0) rest)
+    ∙ and_from (is_below_all x (filter p xs)) (is_ascending (filter p xs)) (below_all_kept p x xs parts.0) rest)
     (λ px. ap is_ascending (cond-false (p x) (x ∷ filter p xs) (filter p xs) px) ∙ rest)
     (cases_Bool (p x))
 

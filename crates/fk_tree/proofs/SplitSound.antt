@@ -144,9 +144,9 @@ module _ (p n k : ℕ) (part : ℕ → Option ℕ) (t : Tree) (s : IsSound p t) 
         ⊎_elim
         (λ new. let same : n ≡ t.given + j = sym (new_parent m new (has_some after m h has')) ∙ up in absurd (omega (arith, n-given)))
         (λ old.
-            let some = old_child m ne old (has_some after m h has') in
-            let up' : parent t m ≡ t.given + j = sym (old_parent m old) ∙ up in
-            some (ap t.nodes up' ∙ new_fresh (t.given + j) (new_number h j e)))
+        let some = old_child m ne old (has_some after m h has') in
+        let up' : parent t m ≡ t.given + j = sym (old_parent m old) ∙ up in
+        some (ap t.nodes up' ∙ new_fresh (t.given + j) (new_number h j e)))
         (cases_Bool (is_new m));
   }
 
@@ -177,10 +177,10 @@ module _ (p n k : ℕ) (part : ℕ → Option ℕ) (t : Tree) (s : IsSound p t) 
   placed h lt =
       ⊎_elim
       (λ has.
-          ⊎_elim
-          (λ out. at_along h (after.places h) n (places_out h has out) (at_waiting h has out))
-          (λ some. at_along h (after.places h) (t.given + some.0) (places_in h some.0 has some.1) (at_new h some.0 has some.1))
-          (cases_part (part h)))
+      ⊎_elim
+      (λ out. at_along h (after.places h) n (places_out h has out) (at_waiting h has out))
+      (λ some. at_along h (after.places h) (t.given + some.0) (places_in h some.0 has some.1) (at_new h some.0 has some.1))
+      (cases_part (part h)))
       (λ out. at_along h (after.places h) (t.places h) (places_other h out) (at_other h (t.places h) out (s.placed h lt)))
       (cases_Bool (is_member h (members t n)))
 
@@ -191,9 +191,9 @@ module _ (p n k : ℕ) (part : ℕ → Option ℕ) (t : Tree) (s : IsSound p t) 
       ⊎_elim
       (λ out. sym (places_out h has out))
       (λ some.
-          let j = some.0 in
-          let has' = has_new h j has some.1 in
-          absurd (at.own (t.given + j) (omega (arith, n-given)) (new_parent (t.given + j) (new_number h j some.1) (has_some after (t.given + j) h has')) has'))
+      let j = some.0 in
+      let has' = has_new h j has some.1 in
+      absurd (at.own (t.given + j) (omega (arith, n-given)) (new_parent (t.given + j) (new_number h j some.1) (has_some after (t.given + j) h has')) has'))
       (cases_part (part h))
 
   only-new : (h q : ℕ) → is_new q ≡ true → IsAt after h q → q ≡ after.places h
@@ -220,9 +220,9 @@ module _ (p n k : ℕ) (part : ℕ → Option ℕ) (t : Tree) (s : IsSound p t) 
       ⊎_elim
       (λ new. only-new h q new at)
       (λ old. ⊎_elim
-          (λ e. e ∙ only-n h (subst (λ (i : ℕ). IsAt after h i) e at))
-          (λ ne. only-other h q old ne at)
-          (cases_eq q n))
+      (λ e. e ∙ only-n h (subst (λ (i : ℕ). IsAt after h i) e at))
+      (λ ne. only-other h q old ne at)
+      (cases_eq q n))
       (cases_Bool (is_new q))
 
   among : (m h : ℕ) → m ≢ 0 → Has after m h → Has after (parent after m) h
@@ -241,15 +241,15 @@ module _ (p n k : ℕ) (part : ℕ → Option ℕ) (t : Tree) (s : IsSound p t) 
   apart m q h ne ne' e has has' =
       ⊎_elim
       (λ new. ⊎_elim
-          (λ new'.
-              let same = part_apart h (m - t.given) (q - t.given) (new_has m h new has).1 (new_has q h new' has').1 in
-              omega (arith, (from_parts t.given k m new).0, (from_parts t.given k q new').0))
-          (λ old'. apart_mixed m q h ne' new old' e has has')
-          (cases_Bool (is_new q)))
+      (λ new'.
+      let same = part_apart h (m - t.given) (q - t.given) (new_has m h new has).1 (new_has q h new' has').1 in
+      omega (arith, (from_parts t.given k m new).0, (from_parts t.given k q new').0))
+      (λ old'. apart_mixed m q h ne' new old' e has has')
+      (cases_Bool (is_new q)))
       (λ old. ⊎_elim
-          (λ new'. apart_mixed q m h ne new' old (sym e) has' has)
-          (λ old'. s.apart m q h ne ne' (sym (old_parent m old) ∙ e ∙ old_parent q old') (old_has m h old has) (old_has q h old' has'))
-          (cases_Bool (is_new q)))
+      (λ new'. apart_mixed q m h ne new' old (sym e) has' has)
+      (λ old'. s.apart m q h ne ne' (sym (old_parent m old) ∙ e ∙ old_parent q old') (old_has m h old has) (old_has q h old' has'))
+      (cases_Bool (is_new q)))
       (cases_Bool (is_new m))
 
   within : (i h : ℕ) → Has after i h → h < p
@@ -283,10 +283,10 @@ module _ (p n k : ℕ) (part : ℕ → Option ℕ) (t : Tree) (s : IsSound p t) 
       ⊎_elim
       (λ new. ap (λ (i : ℕ). awaits (kind after i) m) (new_parent m new some) ∙ n-awaits m ∙ new)
       (λ old.
-          let was = s.awaited m ne (old_some m old some) in
-          let up-old = given_old (parent t m) (awaits-some t (parent t m) m was) in
-          let up-other : parent t m ≢ n = λ e. c.leaf m ne (old_some m old some) e in
-          ap (λ (i : ℕ). awaits (kind after i) m) (old_parent m old) ∙ ap (λ (o : Option Kind). awaits o m) (old_kind (parent t m) up-old up-other) ∙ was)
+      let was = s.awaited m ne (old_some m old some) in
+      let up-old = given_old (parent t m) (awaits-some t (parent t m) m was) in
+      let up-other : parent t m ≢ n = λ e. c.leaf m ne (old_some m old some) e in
+      ap (λ (i : ℕ). awaits (kind after i) m) (old_parent m old) ∙ ap (λ (o : Option Kind). awaits o m) (old_kind (parent t m) up-old up-other) ∙ was)
       (cases_Bool (is_new m))
 
   -- what an old node other than the one that is split waits for
@@ -305,9 +305,9 @@ module _ (p n k : ℕ) (part : ℕ → Option ℕ) (t : Tree) (s : IsSound p t) 
       ⊎_elim
       (λ e. new_parent m (awaited-new q m e w) some ∙ sym e)
       (λ ne.
-          let was = was_awaited q m ne w in
-          let old = from_below t.given k m (s.former q m was) in
-          old_parent m old ∙ s.children q m was (old_some m old some))
+      let was = was_awaited q m ne w in
+      let old = from_below t.given k m (s.former q m was) in
+      old_parent m old ∙ s.children q m was (old_some m old some))
       (cases_eq q n)
 
   former : (q m : ℕ) → awaits (kind after q) m ≡ true → m < t.given + k

@@ -1,3 +1,4 @@
 pub mod Tree
 pub mod Sound
 pub mod Seen
+pub mod View

@@ -1,12 +1,12 @@
 -- What is seen of the nodes that are held.
-use Rattle.std.specs.Prelude.{◌≡◌, ℕ, zero, suc, ◌+◌, ◌==◌, nat_eq, slice_index, is_none, List, [], ◌∷◌, ◌++◌, Option, Some, None, if◌then◌else◌}
+use Rattle.std.specs.Prelude.{◌≡◌, ℕ, zero, suc, ◌+◌, ◌-◌, ◌==◌, ◌&&◌, nat_eq, slice_index, filter, is_none, Bool, List, [], ◌∷◌, ◌++◌, Option, Some, None, if◌then◌else◌}
 use Rattle.std.specs.declared.hash.FoldHasher.{FoldHasher}
 use Rattle.std.specs.declared.hash.BuildHasherDefault.{BuildHasherDefault}
 use Rattle.std.specs.HashMap.{get, HashMap}
 use Rattle.fk_tree.specs.declared.node.Kind.{Kind}
 use Rattle.fk_tree.specs.declared.node.Kind.TheVariants.{Lockstep, Waiting, Asynchronous}
 use Rattle.fk_tree.specs.declared.node.LiveNode.{LiveNode}
-use Rattle.fk_tree.specs.Tree.{Node, Tree, kind_of, node_of}
+use Rattle.fk_tree.specs.Tree.{Node, Tree, kind_of, node_of, is_waiting, is_from, is_in, is_member, place_in}
 
 abbrev pub Held : Type 0
 Held = HashMap ℕ LiveNode (BuildHasherDefault FoldHasher)
@@ -29,7 +29,32 @@ living_seen held n = count_seen (get nat_eq held n)
 abbrev pub tree_seen : (given : ℕ) (places : List ℕ) → Held → Tree
 tree_seen given places held = record { nodes = nodes_seen held; given = given; places = λ h. slice_index places h }
 
+abbrev pub is_ready_node : LiveNode → Bool
+is_ready_node node = is_waiting (Some node.kind) && (node.living == 0)
+
 -- a part that one more processor joins, which is made where it isn't there yet
 abbrev pub with_member : (parent h : ℕ) → Option Node → Option Node
 with_member parent h None = node_of (h ∷ []) parent Lockstep
 with_member parent h (Some node) = Some (record node { members = node.members ++ h ∷ [] })
+
+-- how many of k parts have not ended
+abbrev pub living_parts : (nodes : ℕ → Option Node) (first k : ℕ) → ℕ
+living_parts nodes first zero = 0
+living_parts nodes first (suc k) = (if is_none (nodes (first + k)) then 0 else 1) + living_parts nodes first k
+
+abbrev pub count_of : (nodes : ℕ → Option Node) → Option Kind → ℕ
+count_of nodes (Some (Waiting first k)) = living_parts nodes first k
+count_of nodes _ = 0
+
+-- each node has a count of its parts that have not ended
+abbrev pub AreCounted : (nodes : ℕ → Option Node) (counts : ℕ → ℕ) → Type 0
+AreCounted nodes counts = (n : ℕ) → counts n ≡ count_of nodes (kind_of (nodes n))
+
+-- the nodes with those parts of a node that have members
+abbrev pub divided : (first parent k : ℕ) → (part : ℕ → Option ℕ) → (members : List ℕ) → (nodes : ℕ → Option Node) → ℕ → Option Node
+divided first parent k part members nodes i =
+    if is_from first k i then node_of (filter (λ h. is_in (i - first) (part h)) members) parent Lockstep else nodes i
+
+-- the places of the processors after those members have joined their parts
+abbrev pub placed_by : (first : ℕ) (part : ℕ → Option ℕ) (members : List ℕ) (places : ℕ → ℕ) → ℕ → ℕ
+placed_by first part members places h = if is_member h members then place_in (places h) first (part h) else places h

@@ -128,6 +128,17 @@ single n tree = with_kind n (Asynchronous true) tree
 abbrev pub meet : ℕ → Tree → Tree
 meet n tree = with_kind n Lockstep tree
 
+-- whether a kind waits for parts
+abbrev pub is_waiting : Option Kind → Bool
+is_waiting (Some (Waiting first parts)) = true
+is_waiting _ = false
+
+-- a node with a body. The root is none
+pub record HasBody (tree : Tree) (n : ℕ) : Type 0 where
+  pub alone : Bool
+  pub part : n ≢ 0
+  pub body : kind tree n ≡ Some (Asynchronous alone)
+
 -- those who run the body of an asynchronous node
 abbrev pub runs : Kind → List ℕ → List ℕ
 runs (Asynchronous true) (h ∷ hs) = h ∷ []

@@ -7,6 +7,7 @@
 
 mod node;
 mod nodes;
+mod tree;
 
 pub use node::Kind;
-
+pub use tree::Tree;

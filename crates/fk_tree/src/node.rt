@@ -1,5 +1,7 @@
 //! The nodes of a tree.
 
+ghost use Rattle.std.specs.Prelude.{◌≡◌};
+
 /// What a node does.
 #[derive(Clone, Copy, PartialEq, Eq, Debug)]
 pub enum Kind {
@@ -21,4 +23,15 @@ pub(crate) struct LiveNode {
     pub(crate) kind: Kind,
     /// How many of its parts have not ended.
     pub(crate) living: u32,
+}
+
+impl LiveNode {
+    ghost use Rattle.fk_tree.specs.Seen.{is_ready_node};
+
+    /// Whether it waits and all its parts have ended.
+    pub(crate) fn is_ready(&self) -> bool
+        ensures { result ≡ is_ready_node self.now }
+    {
+        matches!(self.kind, Kind::Waiting(..)) && self.living == 0
+    }
 }

@@ -1,8 +1,9 @@
 //! Steps on the nodes that have not ended, by their numbers.
 
-ghost use Rattle.std.specs.Prelude.{◌≡◌, ◌≢◌, ℕ, ◌==◌, is_none, if◌then◌else◌, OnErr, IfOk};
-ghost use Rattle.fk_tree.specs.Tree.{with_node, turned};
-ghost use Rattle.fk_tree.specs.Seen.{nodes_seen, living_seen, with_member};
+ghost use Rattle.std.specs.Prelude.{◌≡◌, ◌≢◌, ℕ, ◌+◌, ◌^◌, ◌<◌, ◌≤◌, ◌==◌, true, length, slice_index, [], is_none, if◌then◌else◌, OnErr, IfOk};
+ghost use Rattle.fk_tree.specs.Tree.{with_node, turned, below, root, kind_after as going_on, parts_by, is_member};
+ghost use Rattle.fk_tree.specs.Sound.{is_ascending};
+ghost use Rattle.fk_tree.specs.Seen.{nodes_seen, living_seen, living_parts, with_member, divided, placed_by};
 
 use crate::node::{Kind, LiveNode};
 use std::alloc::{AllocError, Global};
@@ -10,6 +11,45 @@ use std::collections::HashMap;
 
 /// The nodes that have not ended, by their numbers.
 pub(crate) type Nodes = HashMap<u64, LiveNode>;
+
+// The processors below a number.
+#[tactic(auto, using(crate::proofs::Lists::below_more))]
+fn processors_below(alloc: Global, count: u32) -> Result<Vec<u32>, AllocError>
+    ensures { IfOk result (λ members. members.items ≡ below count []) }
+{
+    let mut members = Vec::new(alloc);
+    for processor in 0..count {
+        members.push(processor)?;
+    }
+    Ok(members)
+}
+
+/// The root alone, in which the processors below a number run by themselves.
+pub(crate) fn root_alone(alloc: Global, count: u32) -> Result<Nodes, AllocError>
+    requires { 1 ≤ count }
+    ensures nodes { IfOk result (λ nodes. (i : ℕ) → nodes_seen nodes i ≡ (root count).nodes i) }
+    ensures living { IfOk result (λ nodes. (i : ℕ) → living_seen nodes i ≡ 0) }
+{
+    let node = LiveNode {
+        members: processors_below(alloc, count)?,
+        parent: 0,
+        kind: Kind::Asynchronous(false),
+        living: 0,
+    };
+    let mut nodes = HashMap::new(alloc);
+    nodes.insert(0, node)?;
+    Ok(nodes)
+}
+
+/// The kind of a node that goes on after it waited.
+pub(crate) fn kind_after(number: u64) -> Kind
+    ensures { result ≡ going_on number }
+{
+    match number {
+        0 => Kind::Asynchronous(false),
+        _ => Kind::Lockstep,
+    }
+}
 
 /// Gives a node another kind, and so many parts that have not ended.
 pub(crate) fn turn(nodes: &mut Nodes, number: u64, kind: Kind, living: u32)
@@ -51,4 +91,63 @@ pub(crate) fn join(
     };
     nodes.insert(number, node)?;
     Ok(true)
+}
+
+/// Makes the parts of a node: each member joins the one that `of` names, if there is such a one of
+/// so many from `first` on. The number of those that were made, which are those with members.
+pub(crate) fn divide(
+    alloc: Global,
+    nodes: &mut Nodes,
+    parent: u64,
+    first: u64,
+    parts: u32,
+    members: &[u32],
+    of: &[u32],
+) -> Result<u32, AllocError>
+    requires length { length of.now ≡ length members.now }
+    requires few { length members.now < 2 ^ 32 }
+    requires ascending { is_ascending members.now ≡ true }
+    requires numbers { first + parts < 2 ^ 63 }
+    requires fresh { (i : ℕ) → first ≤ i → nodes_seen nodes.old i ≡ None }
+    ensures nodes { IfOk result (λ living. (i : ℕ) → nodes_seen nodes.new i
+        ≡ divided first parent parts (parts_by parts members.now of.now) members.now (nodes_seen nodes.old) i) }
+    ensures count { IfOk result (λ living. living ≡ living_parts (nodes_seen nodes.new) first parts) }
+    ensures living { (i : ℕ) → living_seen nodes.new i ≡ living_seen nodes.old i }
+    ensures err { OnErr result ((i : ℕ) → i < first → nodes_seen nodes.new i ≡ nodes_seen nodes.old i) }
+{
+    let mut living = 0;
+    for (index, member) in members.iter().enumerate() {
+        let part = of[index];
+        if part < parts {
+            let made = join(alloc, nodes, first + u64::from(part), parent, *member)?;
+            living += u32::from(made);
+        }
+    }
+    Ok(living)
+}
+
+/// Removes the nodes from a number on.
+pub(crate) fn forget(nodes: &mut Nodes, first: u64)
+    ensures before { (i : ℕ) → i < first → nodes_seen nodes.new i ≡ nodes_seen nodes.old i }
+    ensures living { (i : ℕ) → i < first → living_seen nodes.new i ≡ living_seen nodes.old i }
+    ensures after { (i : ℕ) → first ≤ i → nodes_seen nodes.new i ≡ None }
+{
+    nodes.retain(|number, _| *number < first);
+}
+
+/// Each member that joins a part is in it from now on.
+pub(crate) fn place(places: &mut [u64], first: u64, parts: u32, members: &[u32], of: &[u32])
+    requires length { length of.now ≡ length members.now }
+    requires ascending { is_ascending members.now ≡ true }
+    requires numbers { first + parts < 2 ^ 63 }
+    requires within { (h : ℕ) → is_member h members.now ≡ true → h < length places.old }
+    ensures { (h : ℕ) → slice_index places.new h
+        ≡ placed_by first (parts_by parts members.now of.now) members.now (slice_index places.old) h }
+{
+    for (index, member) in members.iter().enumerate() {
+        let part = of[index];
+        if part < parts {
+            places[*member as usize] = first + u64::from(part);
+        }
+    }
 }

@@ -1,0 +1,115 @@
+//! The tree of groups.
+
+ghost use Rattle.std.specs.Prelude.{◌≤◌, vec_len};
+ghost use Rattle.fk_tree.specs.Sound.{IsSound};
+ghost use Rattle.fk_tree.specs.Seen.{nodes_seen, living_seen, tree_seen, AreCounted};
+
+use crate::node::Kind;
+use crate::nodes::{Nodes, kind_after, root_alone, turn};
+use std::alloc::{AllocError, Global};
+
+/// The tree of groups of up to 1,024 processors. A node is named by its number, and the root by 0.
+///
+/// Each processor is at exactly one node: the leaf in which it acts, or the node at which it waits.
+#[derive(Drop)]
+pub struct Tree {
+    given: u64,
+    places: Vec<u64>,
+    nodes: Nodes,
+    ghost few: { vec_len places ≤ 1024 },
+    ghost sound: { IsSound (vec_len places) (tree_seen given places.items nodes) },
+    ghost counted: { AreCounted (nodes_seen nodes) (living_seen nodes) },
+}
+
+impl Tree {
+    ghost use Rattle.std.specs.Prelude.{◌≡◌, ◌≢◌, ℕ, ◌+◌, ◌^◌, ◌<◌, ◌⊎◌, length, Some, true, OnErr, IfOk};
+    ghost use Rattle.fk_tree.specs.Tree as t;
+    ghost use Rattle.fk_tree.specs.declared.node.Kind.TheVariants.{Lockstep, Waiting, Asynchronous};
+    ghost use Rattle.fk_tree.specs.View.{tree_of, processors};
+
+    /// The tree of `p` processors at the beginning: the root alone, in which each runs by itself.
+    pub fn root(alloc: Global, p: u32) -> Result<Tree, AllocError>
+        requires some { 1 ≤ p }
+        requires few { p ≤ 1024 }
+        ensures tree { IfOk result (λ tree. tree_of tree ≡ t.root p) }
+        ensures processors { IfOk result (λ tree. processors tree ≡ p) }
+    {
+        Ok(Tree {
+            given: 1,
+            places: vec![in alloc; 0; p as usize]?,
+            nodes: root_alone(alloc, p)?,
+        })
+    }
+
+    /// How many numbers were given.
+    pub fn given(&self) -> u64
+        ensures { result ≡ (tree_of self.now).given }
+    {
+        self.given
+    }
+
+    /// The members of a node in ascending order, those of its parts and its body among them. None
+    /// where it has ended or was never made.
+    pub fn members(&self, node: u64) -> &[u32]
+        ensures { result.now ≡ t.members (tree_of self.now) node }
+    {
+        match self.nodes.get(&node) {
+            Some(node) => &node.members,
+            None => &[],
+        }
+    }
+
+    /// Whether a node waits and all its parts have ended.
+    pub fn ready(&self, node: u64) -> bool
+        ensures { result ≡ t.ready (tree_of self.now) node }
+    {
+        match self.nodes.get(&node) {
+            Some(node) => node.is_ready(),
+            None => false,
+        }
+    }
+
+    /// The leaf of which a processor is a member, or the node at which it waits.
+    pub fn node_of(&self, processor: u32) -> u64
+        requires { processor < processors self.now }
+        ensures { result ≡ (tree_of self.now).places processor }
+    {
+        self.places[processor as usize]
+    }
+
+    /// Gives a group in lockstep a body that all its members run by themselves.
+    pub fn farm(&mut self, node: u64)
+        requires { t.kind (tree_of self.old) node ≡ Some Lockstep }
+        ensures tree { tree_of self.new ≡ t.farm node (tree_of self.old) }
+        ensures processors { processors self.new ≡ processors self.old }
+    {
+        turn(&mut self.nodes, node, Kind::Asynchronous(false), 0);
+    }
+
+    /// Gives a group in lockstep a body that its lowest member runs alone.
+    pub fn single(&mut self, node: u64)
+        requires { t.kind (tree_of self.old) node ≡ Some Lockstep }
+        ensures tree { tree_of self.new ≡ t.single node (tree_of self.old) }
+        ensures processors { processors self.new ≡ processors self.old }
+    {
+        turn(&mut self.nodes, node, Kind::Asynchronous(true), 0);
+    }
+
+    /// Ends the body of a group, which goes on in lockstep.
+    pub fn meet(&mut self, node: u64)
+        requires { t.HasBody (tree_of self.old) node }
+        ensures tree { tree_of self.new ≡ t.meet node (tree_of self.old) }
+        ensures processors { processors self.new ≡ processors self.old }
+    {
+        turn(&mut self.nodes, node, Kind::Lockstep, 0);
+    }
+
+    /// Lets a node that waits go on, all of whose parts have ended.
+    pub fn resume(&mut self, node: u64)
+        requires { t.ready (tree_of self.old) node ≡ true }
+        ensures tree { tree_of self.new ≡ t.resume node (tree_of self.old) }
+        ensures processors { processors self.new ≡ processors self.old }
+    {
+        turn(&mut self.nodes, node, kind_after(node), 0);
+    }
+}
