@@ -2,6 +2,7 @@
 use Rattle.std.proofs.Common.{◌≡◌, ◌≢◌, ⊎_elim, ℕ, Bool, true, false, List, [], Option, Some, None, refl, sym, ap, ◌∙◌, subst}
 use Rattle.std.proofs.lemmas.Bool.{cases_eq, false≢true}
 use Rattle.fk_tree.specs.declared.node.Kind.{Kind}
+use Rattle.fk_tree.specs.declared.node.Kind.TheVariants.{Lockstep}
 use Rattle.fk_tree.specs.Tree.{Node, Tree, kind_of, members, parent, kind, turned, with_kind}
 use Rattle.fk_tree.specs.Sound.{Has, IsAt, awaits, is_ascending, IsSound}
 use Rattle.fk_tree.proofs.Lists.{impossible}
@@ -11,7 +12,7 @@ awaits-turned : (k : Kind) (o : Option Node) (m : ℕ) → awaits (Some k) m ≡
 awaits-turned k None m e = refl
 awaits-turned k (Some a) m e = e
 
-module _ (p n : ℕ) (k : Kind) (t : Tree) (s : IsSound p t) (leaf : (m : ℕ) → m ≢ 0 → t.nodes m ≢ None → parent t m ≡ n → ⊥) (idle : (m : ℕ) → awaits (Some k) m ≡ false) where
+module _ (p n : ℕ) (k : Kind) (t : Tree) (s : IsSound p t) (leaf : (m : ℕ) → m ≢ 0 → t.nodes m ≢ None → parent t m ≡ n → ⊥) (idle : (m : ℕ) → awaits (Some k) m ≡ false) (free : n ≡ 0 → k ≢ Lockstep) where
   abbrev after : Tree
   after = with_kind n k t
 
@@ -43,10 +44,22 @@ module _ (p n : ℕ) (k : Kind) (t : Tree) (s : IsSound p t) (leaf : (m : ℕ) �
       ∙ ap (λ (o : Option Kind). awaits o m) (kind_other n k t (parent t m) (leaf m ne some'))
       ∙ s.awaited m ne some'
 
+  turned-free : (o : Option Node) → k ≢ Lockstep → kind_of (turned k o) ≢ Some Lockstep
+  turned-free None ne e = cc
+  turned-free (Some a) ne e = ne (cc)
+
+  still_free : kind after 0 ≢ Some Lockstep
+  still_free e =
+      ⊎_elim
+      (λ same. turned-free (t.nodes n) (free (sym same)) (sym (ap kind_of (with_same n (turned k (t.nodes n)) t.nodes 0 same)) ∙ e))
+      (λ other. s.free (sym (kind_other n k t 0 other) ∙ e))
+      (cases_eq 0 n)
+
   pub kind_sound : IsSound p (with_kind n k t)
   kind_sound = record {
     root = kind_members n k t 0 ∙ s.root;
     some = s.some;
+    free = still_free;
     placed = λ h lt. at_after h (t.places h) (s.placed h lt);
     only = λ h q at. s.only h q (at_before h q at);
     among = λ m h ne has'. subst (λ (i : ℕ). Has after i h) (sym (kind_parent n k t m)) (has (parent t m) h (s.among m h ne (had m h has')));

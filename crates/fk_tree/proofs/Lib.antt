@@ -12,3 +12,4 @@ pub mod Roots
 pub mod Divide
 pub mod Places
 pub mod Forget
+pub mod Splits

@@ -12,6 +12,10 @@ awaits-alone : (ms : List ℕ) (q m : ℕ) (alone : Bool) → awaits (kind_of (n
 awaits-alone [] q m alone = refl
 awaits-alone (h ∷ hs) q m alone = refl
 
+not_lockstep : (ms : List ℕ) (q : ℕ) → kind_of (node_of ms q (Asynchronous false)) ≢ Some Lockstep
+not_lockstep [] q e = cc
+not_lockstep (h ∷ hs) q e = cc
+
 module _ (p : ℕ) (some : 1 ≤ p) where
   abbrev first : Option Node
   first = node_of (below p []) 0 (Asynchronous false)
@@ -62,6 +66,7 @@ module _ (p : ℕ) (some : 1 ≤ p) where
   root_sound = record {
     root = root_members 0 refl;
     some = some;
+    free = λ e. not_lockstep (below p []) 0 (sym (ap kind_of (root_nodes 0 refl)) ∙ e);
     placed = λ h lt. record { member = has_along h (below p []) (members (root p) 0) (sym (root_members 0 refl)) (below-has p h [] lt); own = λ m ne up has. no_other m h ne has };
     only = λ h n at. is_root n h at.member;
     among = λ m h ne has. no_other m h ne has;

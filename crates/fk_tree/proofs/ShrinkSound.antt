@@ -241,6 +241,7 @@ module _ (p n : ℕ) (stays : ℕ → Bool) (t : Tree) (s : IsSound p t) (c : Ca
   shrink_sound = record {
     root = other_members 0 (λ e. c.lower (sym e)) ∙ s.root;
     some = s.some;
+    free = λ e. s.free (sym (ap kind_of (other_nodes 0 (λ zero. c.lower (sym zero)))) ∙ e);
     placed = placed;
     only = only;
     among = among;

@@ -327,10 +327,18 @@ module _ (p n k : ℕ) (part : ℕ → Option ℕ) (t : Tree) (s : IsSound p t) 
   root_there : t.nodes 0 ≢ None
   root_there = has_some t 0 0 (has_along 0 (below p []) (members t 0) (sym s.root) (below-has p 0 [] s.some))
 
+  still_free : kind after 0 ≢ Some Lockstep
+  still_free e =
+      ⊎_elim
+      (λ same. let waits : kind after 0 ≡ Some (Waiting t.given k) = ap (kind after) same ∙ n-kind in cc)
+      (λ other. s.free (sym (old_kind 0 (given_old 0 root_there) other) ∙ e))
+      (cases_eq 0 n)
+
   pub split_sound : IsSound p (split n k part t)
   split_sound = record {
     root = old_members 0 (given_old 0 root_there) ∙ s.root;
     some = s.some;
+    free = still_free;
     placed = placed;
     only = only;
     among = among;

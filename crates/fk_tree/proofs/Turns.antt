@@ -29,6 +29,13 @@ pub idle-after : (n : ℕ) → IsIdle (kind_after n)
 idle-after zero = idle-asynchronous false
 idle-after (suc n) = idle-lockstep
 
+pub free-asynchronous : (alone : Bool) → Asynchronous alone ≢ Lockstep
+free-asynchronous alone e = cc
+
+pub free-after : (n : ℕ) → n ≡ 0 → kind_after n ≢ Lockstep
+free-after zero e same = cc
+free-after (suc n) e same = omega arith
+
 pub leaf_of : (p n : ℕ) (t : Tree) → IsSound p t → ((m : ℕ) → awaits (kind t n) m ≡ false) → IsLeaf t n
 leaf_of p n t s none m ne some up = false≢true (sym (none m) ∙ ap (λ (i : ℕ). awaits (kind t i) m) (sym up) ∙ s.awaited m ne some)
 
@@ -89,8 +96,8 @@ module _ (given : ℕ) (places : List ℕ) (old new : Held) (n : ℕ) (k : Kind)
   pub turn_tree : tree_seen given places new ≡ with_kind n k before
   turn_tree = tree_same (tree_seen given places new) (with_kind n k before) turn refl (λ h. refl)
 
-  pub turn_sound : (p : ℕ) → IsSound p before → IsLeaf before n → IsIdle k → IsSound p (tree_seen given places new)
-  turn_sound p s leaf idle = subst (λ (t : Tree). IsSound p t) (sym turn_tree) (kind_sound p n k before s leaf idle.awaits_none)
+  pub turn_sound : (p : ℕ) → IsSound p before → IsLeaf before n → IsIdle k → (n ≡ 0 → k ≢ Lockstep) → IsSound p (tree_seen given places new)
+  turn_sound p s leaf idle free = subst (λ (t : Tree). IsSound p t) (sym turn_tree) (kind_sound p n k before s leaf idle.awaits_none free)
 
   pub turn_counted : (living : ℕ) → before.nodes n ≢ None → living ≡ count_of before.nodes (Some k) → AreCounted (nodes_seen old) (living_seen old)
       → ((i : ℕ) → living_seen new i ≡ (if i == n then living else living_seen old i)) → AreCounted (nodes_seen new) (living_seen new)

@@ -30,6 +30,7 @@ is_ascending (h ∷ hs) = is_below_all h hs && is_ascending hs
 pub record IsSound (p : ℕ) (tree : Tree) : Type 0 where
   pub root : members tree 0 ≡ below p []
   pub some : 1 ≤ p
+  pub free : kind tree 0 ≢ Some Lockstep
   pub placed : (h : ℕ) → h < p → IsAt tree h (tree.places h)
   pub only : (h n : ℕ) → IsAt tree h n → n ≡ tree.places h
   -- the members of a child are among those of its parent, and apart from those of its other children

@@ -22,7 +22,7 @@ pub struct Tree {
 }
 
 impl Tree {
-    ghost use Rattle.std.specs.Prelude.{◌≡◌, ◌≢◌, ℕ, ◌+◌, ◌^◌, ◌<◌, ◌⊎◌, length, Some, true, OnErr, IfOk};
+    ghost use Rattle.std.specs.Prelude.{◌≡◌, ◌≢◌, ℕ, ◌+◌, ◌^◌, ◌<◌, ◌⊎◌, length, Some, true, false, OnOk, OnErr, IfOk};
     ghost use Rattle.fk_tree.specs.Tree as t;
     ghost use Rattle.fk_tree.specs.declared.node.Kind.TheVariants.{Lockstep, Waiting, Asynchronous};
     ghost use Rattle.fk_tree.specs.View.{tree_of, processors};

@@ -14,7 +14,7 @@ invariant_of-self c =
     let leaf = leaf_by _ c.args.node body (tree_of tree) tree.sound (idle-asynchronous c.requires.alone) c.requires.body in
     record {
       few = tree.few;
-      sound = turn_sound tree.given tree.places.items tree.nodes c.turn.new.nodes c.args.node Lockstep c.turn.ensures.nodes _ tree.sound leaf idle-lockstep;
+      sound = turn_sound tree.given tree.places.items tree.nodes c.turn.new.nodes c.args.node Lockstep c.turn.ensures.nodes _ tree.sound leaf idle-lockstep (λ e. absurd (c.requires.part e));
       counted = turn_counted tree.given tree.places.items tree.nodes c.turn.new.nodes c.args.node Lockstep c.turn.ensures.nodes 0
           (there_by (tree_of tree) c.args.node body c.requires.body) refl tree.counted c.turn.ensures.living;
     }

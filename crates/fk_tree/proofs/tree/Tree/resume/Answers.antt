@@ -3,7 +3,7 @@ use Rattle.fk_tree.specs.declared.node.Kind.{Kind}
 use Rattle.fk_tree.specs.Tree.{with_node, turned, kind_after}
 use Rattle.fk_tree.specs.Seen.{Held, nodes_seen}
 use Rattle.fk_tree.specs.View.{tree_of}
-use Rattle.fk_tree.proofs.Turns.{idle-after, leaf_ready, there_ready, turn_tree, turn_sound, turn_counted}
+use Rattle.fk_tree.proofs.Turns.{idle-after, free-after, leaf_ready, there_ready, turn_tree, turn_sound, turn_counted}
 use Rattle.fk_tree.proofs.tree.Tree.resume.Goals as goal
 
 turned-after : (old new : Held) (n : ℕ) (k : Kind) → k ≡ kind_after n → ((i : ℕ) → nodes_seen new i ≡ with_node n (turned k (nodes_seen old n)) (nodes_seen old) i)
@@ -21,7 +21,7 @@ invariant_of-self c =
     let turn = turned-after tree.nodes c.turn.new.nodes c.args.node c.kind_after.result c.kind_after.ensures c.turn.ensures.nodes in
     record {
       few = tree.few;
-      sound = turn_sound tree.given tree.places.items tree.nodes c.turn.new.nodes c.args.node (kind_after c.args.node) turn _ tree.sound leaf idle;
+      sound = turn_sound tree.given tree.places.items tree.nodes c.turn.new.nodes c.args.node (kind_after c.args.node) turn _ tree.sound leaf idle (free-after c.args.node);
       counted = turn_counted tree.given tree.places.items tree.nodes c.turn.new.nodes c.args.node (kind_after c.args.node) turn 0
           (there_ready (tree_of tree) c.args.node c.requires) (sym (idle.counts_none (nodes_seen tree.nodes))) tree.counted c.turn.ensures.living;
     }
