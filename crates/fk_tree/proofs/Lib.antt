@@ -13,3 +13,7 @@ pub mod Divide
 pub mod Places
 pub mod Forget
 pub mod Splits
+pub mod Made
+pub mod Begins
+pub mod Ends
+pub mod Finishes

@@ -1,5 +1,5 @@
 -- Members of lists, and lists in ascending order.
-use Rattle.std.proofs.Common.{◌≡◌, ◌≢◌, ◌⊎◌, inl, inr, ⊎_elim, ℕ, zero, suc, ◌+◌, ◌≤◌, ◌<◌, ◌==◌, nat_lt, Bool, true, false, ◌&&◌, ◌||◌, cond, List, [], ◌∷◌, ◌++◌, length, get_or, Option, Some, None, refl, sym, ap, ◌∙◌, subst, arith, filter, if◌then◌else◌}
+use Rattle.std.proofs.Common.{◌≡◌, ◌≢◌, ◌⊎◌, inl, inr, ⊎_elim, ℕ, zero, suc, ◌+◌, ◌-◌, ◌≤◌, ◌<◌, ◌==◌, nat_lt, Bool, true, false, ◌&&◌, ◌||◌, cond, List, [], ◌∷◌, ◌++◌, length, get_or, Option, Some, None, refl, sym, ap, ◌∙◌, subst, arith, filter, if◌then◌else◌}
 use Rattle.std.proofs.lemmas.Bool.{cases_Bool, cases_eq, and_parts, and_from, or_cases, or_left, or_right, cond-true, cond-false, eqb-true, eqb-false, eq-eqb, ne_eqb, ltb-true, lt-ltb, false≢true, both_ways}
 use Rattle.fk_tree.specs.Tree.{is_member, below, told}
 use Rattle.fk_tree.specs.Sound.{is_below_all, is_ascending}
@@ -132,3 +132,14 @@ ascending-below (suc p) more up all =
     let here : is_below_all p more ≡ true = all p (omega arith) in
     ascending-below p (p ∷ more) (and_from (is_below_all p more) (is_ascending more) here up)
     (λ q lt. and_from (nat_lt q p) (is_below_all q more) (lt-ltb q p lt) (below_all-from q p more (omega arith) here))
+
+-- numbers in ascending order from q on and below p are at most p - q
+pub length-between : (q p : ℕ) (xs : List ℕ) → is_ascending xs ≡ true → ((h : ℕ) → is_member h xs ≡ true → (q ≤ h) × (h < p)) → length xs ≤ p - q
+length-between q p [] up all = omega arith
+length-between q p (x ∷ xs) up all =
+    let parts = and_parts (is_below_all x xs) (is_ascending xs) up in
+    let here = all x (or_left (x == x) (is_member x xs) (eq-eqb x x refl)) in
+    let rest : length xs ≤ p - (x + 1) =
+    length-between (x + 1) p xs parts.1
+    (λ h is. let above = below_all-member x xs h parts.0 is in let was = all h (or_right (h == x) (is_member h xs) is) in (omega arith, was.1)) in
+    omega (arith, here.0, here.1)

@@ -70,3 +70,20 @@ module _ (first parts : ℕ) (members of : List ℕ) (old : ℕ → ℕ) (up : i
       (λ ne.
       get_or-set_other now (get_or members j 0) h (first + k) 0 ne ∙ before h ∙ same_other j h lt ne)
       (cases_eq h (get_or members j 0))
+
+-- one processor more waits at a node
+pub settles : (node : ℕ) (ms : List ℕ) (old : ℕ → ℕ) (j : ℕ) → j < length ms → (now : List ℕ) → get_or ms j 0 < length now
+    → ((h : ℕ) → get_or now h 0 ≡ cond (is_member h (take j ms)) node (old h))
+    → (h : ℕ) → get_or (set now (get_or ms j 0) node) h 0 ≡ cond (is_member h (take (j + 1) ms)) node (old h)
+settles node ms old j lt now within before h =
+    let more : is_member h (take (j + 1) ms) ≡ (is_member h (take j ms) || (h == get_or ms j 0)) =
+    ap (is_member h) (take_more ms j 0 lt) ∙ member-append h (take j ms) (get_or ms j 0) in
+    ⊎_elim
+    (λ e.
+    let is : is_member h (take (j + 1) ms) ≡ true = more ∙ or_right (is_member h (take j ms)) (h == get_or ms j 0) (eq-eqb h (get_or ms j 0) e) in
+    ap (λ (i : ℕ). get_or (set now (get_or ms j 0) node) i 0) e ∙ get_or-set_same now (get_or ms j 0) node 0 within
+    ∙ sym (cond-true (is_member h (take (j + 1) ms)) node (old h) is))
+    (λ ne.
+    get_or-set_other now (get_or ms j 0) h node 0 ne ∙ before h
+    ∙ ap (λ (b : Bool). cond b node (old h)) (sym (more ∙ or-same (is_member h (take j ms)) (h == get_or ms j 0) (ne_eqb h (get_or ms j 0) ne))))
+    (cases_eq h (get_or ms j 0))

@@ -16,10 +16,10 @@ part-below : (k i j : ℕ) → part_of k i ≡ Some j → j < k
 part-below k i j e =
     ⊎_elim
     (λ in_part.
-        let same : Some i ≡ Some j = sym (cond-true (nat_lt i k) (Some i) None in_part) ∙ e in
-        let equal : i ≡ j = cc in
-        let lt = ltb-true i k in_part in
-        omega arith)
+    let same : Some i ≡ Some j = sym (cond-true (nat_lt i k) (Some i) None in_part) ∙ e in
+    let equal : i ≡ j = cc in
+    let lt = ltb-true i k in_part in
+    omega arith)
     (λ out. let none : None ≡ Some j = sym (cond-false (nat_lt i k) (Some i) None out) ∙ e in absurd (cc))
     (cases_Bool (nat_lt i k))
 
@@ -30,8 +30,9 @@ count-new : (nodes : ℕ → Option Node) (ms : List ℕ) (q : ℕ) → count_of
 count-new nodes [] q = refl
 count-new nodes (m ∷ ms) q = refl
 
-module _ (n k : ℕ) (part : ℕ → Option ℕ) (given : ℕ) (places places' : List ℕ) (old mid new : Held)
+module _ (n k : ℕ) (part : ℕ → Option ℕ) (given given' : ℕ) (places places' : List ℕ) (old mid new : Held)
     (lower : n < given)
+    (more : given' ≡ given + k)
     (parted : (i : ℕ) → nodes_seen mid i ≡ divided given n k part (members (tree_seen given places old) n) (nodes_seen old) i)
     (turn : (i : ℕ) → nodes_seen new i ≡ with_node n (turned (Waiting given k) (nodes_seen mid n)) (nodes_seen mid) i)
     (placed : (h : ℕ) → slice_index places' h ≡ placed_by given part (members (tree_seen given places old) n) (slice_index places) h) where
@@ -54,30 +55,30 @@ module _ (n k : ℕ) (part : ℕ → Option ℕ) (given : ℕ) (places places' :
   nodes i =
       ⊎_elim
       (λ is_new.
-          let ne : i ≢ n = let low = (from_parts given k i is_new).0 in omega arith in
-          turn i ∙ with_other n (turned (Waiting given k) (nodes_seen mid n)) (nodes_seen mid) i ne ∙ mid_new i is_new
-          ∙ sym (cond-true (is_from given k i) (node_of (group i) n Lockstep) ((with_kind n (Waiting given k) before).nodes i) is_new))
+      let ne : i ≢ n = let low = (from_parts given k i is_new).0 in omega arith in
+      turn i ∙ with_other n (turned (Waiting given k) (nodes_seen mid n)) (nodes_seen mid) i ne ∙ mid_new i is_new
+      ∙ sym (cond-true (is_from given k i) (node_of (group i) n Lockstep) ((with_kind n (Waiting given k) before).nodes i) is_new))
       (λ is_old.
-          ⊎_elim
-          (λ e.
-              turn i ∙ with_same n (turned (Waiting given k) (nodes_seen mid n)) (nodes_seen mid) i e
-              ∙ ap (turned (Waiting given k)) n-old
-              ∙ sym (with_same n (turned (Waiting given k) (nodes_seen old n)) (nodes_seen old) i e)
-              ∙ sym (cond-false (is_from given k i) (node_of (group i) n Lockstep) ((with_kind n (Waiting given k) before).nodes i) is_old))
-          (λ ne.
-              turn i ∙ with_other n (turned (Waiting given k) (nodes_seen mid n)) (nodes_seen mid) i ne ∙ mid_old i is_old
-              ∙ sym (with_other n (turned (Waiting given k) (nodes_seen old n)) (nodes_seen old) i ne)
-              ∙ sym (cond-false (is_from given k i) (node_of (group i) n Lockstep) ((with_kind n (Waiting given k) before).nodes i) is_old))
-          (cases_eq i n))
+      ⊎_elim
+      (λ e.
+      turn i ∙ with_same n (turned (Waiting given k) (nodes_seen mid n)) (nodes_seen mid) i e
+      ∙ ap (turned (Waiting given k)) n-old
+      ∙ sym (with_same n (turned (Waiting given k) (nodes_seen old n)) (nodes_seen old) i e)
+      ∙ sym (cond-false (is_from given k i) (node_of (group i) n Lockstep) ((with_kind n (Waiting given k) before).nodes i) is_old))
+      (λ ne.
+      turn i ∙ with_other n (turned (Waiting given k) (nodes_seen mid n)) (nodes_seen mid) i ne ∙ mid_old i is_old
+      ∙ sym (with_other n (turned (Waiting given k) (nodes_seen old n)) (nodes_seen old) i ne)
+      ∙ sym (cond-false (is_from given k i) (node_of (group i) n Lockstep) ((with_kind n (Waiting given k) before).nodes i) is_old))
+      (cases_eq i n))
       (cases_Bool (is_from given k i))
 
-  pub split_tree : tree_seen (given + k) places' new ≡ split n k part before
-  split_tree = tree_same (tree_seen (given + k) places' new) (split n k part before) nodes refl placed
+  pub split_tree : tree_seen given' places' new ≡ split n k part before
+  split_tree = tree_same (tree_seen given' places' new) (split n k part before) nodes more placed
 
-  pub split_tree_sound : (p q : ℕ) → p ≡ q → IsSound q before → CanSplit n k part before → IsSound p (tree_seen (given + k) places' new)
+  pub split_tree_sound : (p q : ℕ) → p ≡ q → IsSound q before → CanSplit n k part before → IsSound p (tree_seen given' places' new)
   split_tree_sound p q e s c =
-      let s' : IsSound q (tree_seen (given + k) places' new) = subst (λ (t : Tree). IsSound q t) (sym split_tree) (split_sound q n k part before s c) in
-      subst (λ (m : ℕ). IsSound m (tree_seen (given + k) places' new)) (sym e) s'
+      let s' : IsSound q (tree_seen given' places' new) = subst (λ (t : Tree). IsSound q t) (sym split_tree) (split_sound q n k part before s c) in
+      subst (λ (m : ℕ). IsSound m (tree_seen given' places' new)) (sym e) s'
 
   -- the counts
   is_none_new : (i : ℕ) → is_none (nodes_seen new i) ≡ is_none (nodes_seen mid i)
@@ -95,23 +96,23 @@ module _ (n k : ℕ) (part : ℕ → Option ℕ) (given : ℕ) (places places' :
   split_counted p living s there counted count kept changed i =
       ⊎_elim
       (λ e.
-          changed i ∙ cond-true (i == n) living (living_seen mid i) (eq-eqb i n e) ∙ count
-          ∙ count_along (nodes_seen mid) (nodes_seen new) (Some (Waiting given k)) (λ m w. sym (is_none_new m))
-          ∙ ap (count_of (nodes_seen new)) (sym (ap kind_of (turn i ∙ with_same n (turned (Waiting given k) (nodes_seen mid n)) (nodes_seen mid) i e)
-            ∙ kind-turned (Waiting given k) (nodes_seen mid n) (λ none. there (sym n-old ∙ none)))))
+      changed i ∙ cond-true (i == n) living (living_seen mid i) (eq-eqb i n e) ∙ count
+      ∙ count_along (nodes_seen mid) (nodes_seen new) (Some (Waiting given k)) (λ m w. sym (is_none_new m))
+      ∙ ap (count_of (nodes_seen new)) (sym (ap kind_of (turn i ∙ with_same n (turned (Waiting given k) (nodes_seen mid n)) (nodes_seen mid) i e)
+      ∙ kind-turned (Waiting given k) (nodes_seen mid n) (λ none. there (sym n-old ∙ none)))))
       (λ ne.
-          let here = changed i ∙ cond-false (i == n) living (living_seen mid i) (ne_eqb i n ne) ∙ kept i ∙ counted i in
-          let now : nodes_seen new i ≡ nodes_seen mid i = turn i ∙ with_other n (turned (Waiting given k) (nodes_seen mid n)) (nodes_seen mid) i ne in
-          ⊎_elim
-          (λ is_new.
-              here
-              ∙ ap (λ (o : Option Node). count_of (nodes_seen old) (kind_of o)) (s.numbered i (from_parts given k i is_new).0)
-              ∙ sym (ap (λ (o : Option Node). count_of (nodes_seen new) (kind_of o)) (now ∙ mid_new i is_new) ∙ count-new (nodes_seen new) (group i) n))
-          (λ is_old.
-              here
-              ∙ count_along (nodes_seen old) (nodes_seen new) (kind_of (nodes_seen old i)) (λ m w. old_is_none m (s.former i m w))
-              ∙ ap (λ (o : Option Node). count_of (nodes_seen new) (kind_of o)) (sym (now ∙ mid_old i is_old)))
-          (cases_Bool (is_from given k i)))
+      let here = changed i ∙ cond-false (i == n) living (living_seen mid i) (ne_eqb i n ne) ∙ kept i ∙ counted i in
+      let now : nodes_seen new i ≡ nodes_seen mid i = turn i ∙ with_other n (turned (Waiting given k) (nodes_seen mid n)) (nodes_seen mid) i ne in
+      ⊎_elim
+      (λ is_new.
+      here
+      ∙ ap (λ (o : Option Node). count_of (nodes_seen old) (kind_of o)) (s.numbered i (from_parts given k i is_new).0)
+      ∙ sym (ap (λ (o : Option Node). count_of (nodes_seen new) (kind_of o)) (now ∙ mid_new i is_new) ∙ count-new (nodes_seen new) (group i) n))
+      (λ is_old.
+      here
+      ∙ count_along (nodes_seen old) (nodes_seen new) (kind_of (nodes_seen old i)) (λ m w. old_is_none m (s.former i m w))
+      ∙ ap (λ (o : Option Node). count_of (nodes_seen new) (kind_of o)) (sym (now ∙ mid_old i is_old)))
+      (cases_Bool (is_from given k i)))
       (cases_eq i n)
 
 -- where a split had no memory
@@ -124,3 +125,23 @@ module _ (given : ℕ) (places : List ℕ) (old mid new : Held)
 
   pub unsplit_tree : (p : ℕ) → IsSound p (tree_seen given places old) → tree_seen given places new ≡ tree_seen given places old
   unsplit_tree p s = tree_same (tree_seen given places new) (tree_seen given places old) (same_nodes p s) refl (λ h. refl)
+
+  pub unsplit_sound : (p : ℕ) → IsSound p (tree_seen given places old) → IsSound p (tree_seen given places new)
+  unsplit_sound p s = subst (λ (t : Tree). IsSound p t) (sym (unsplit_tree p s)) s
+
+  unsplit_living : (p : ℕ) → IsSound p (tree_seen given places old) → AreCounted (nodes_seen old) (living_seen old)
+      → ((i : ℕ) → living_seen mid i ≡ living_seen old i) → ((i : ℕ) → i < given → living_seen new i ≡ living_seen mid i)
+      → ((i : ℕ) → given ≤ i → living_seen new i ≡ 0) → (i : ℕ) → living_seen new i ≡ living_seen old i
+  unsplit_living p s counted kept before' gone' i =
+      ⊎_elim
+      (λ lt. before' i lt ∙ kept i)
+      (λ le. gone' i le ∙ sym (counted i ∙ ap (λ (o : Option Node). count_of (nodes_seen old) (kind_of o)) (s.numbered i le)))
+      (cases_lt i given)
+
+  pub unsplit_counted : (p : ℕ) → IsSound p (tree_seen given places old) → AreCounted (nodes_seen old) (living_seen old)
+      → ((i : ℕ) → living_seen mid i ≡ living_seen old i) → ((i : ℕ) → i < given → living_seen new i ≡ living_seen mid i)
+      → ((i : ℕ) → given ≤ i → living_seen new i ≡ 0) → AreCounted (nodes_seen new) (living_seen new)
+  unsplit_counted p s counted kept before' gone' i =
+      unsplit_living p s counted kept before' gone' i ∙ counted i
+      ∙ count_along (nodes_seen old) (nodes_seen new) (kind_of (nodes_seen old i)) (λ m w. ap is_none (sym (same_nodes p s m)))
+      ∙ ap (λ (o : Option Node). count_of (nodes_seen new) (kind_of o)) (sym (same_nodes p s i))

@@ -1,6 +1,6 @@
 //! Steps on the nodes that have not ended, by their numbers.
 
-ghost use Rattle.std.specs.Prelude.{◌≡◌, ◌≢◌, ℕ, ◌+◌, ◌^◌, ◌<◌, ◌≤◌, ◌==◌, true, length, slice_index, [], is_none, if◌then◌else◌, OnErr, IfOk};
+ghost use Rattle.std.specs.Prelude.{◌≡◌, ◌≢◌, ℕ, ◌+◌, ◌^◌, ◌<◌, ◌≤◌, ◌==◌, ◌-◌, nat_lt, true, length, slice_index, [], is_none, if◌then◌else◌, OnErr, IfOk};
 ghost use Rattle.fk_tree.specs.Tree.{with_node, turned, below, root, kind_after as going_on, parts_by, is_member};
 ghost use Rattle.fk_tree.specs.Sound.{is_ascending};
 ghost use Rattle.fk_tree.specs.Seen.{nodes_seen, living_seen, living_parts, with_member, divided, placed_by};
@@ -93,6 +93,13 @@ pub(crate) fn join(
     Ok(true)
 }
 
+/// The same processors once more.
+pub(crate) fn copy_of(alloc: Global, processors: &[u32]) -> Result<Vec<u32>, AllocError>
+    ensures { IfOk result (λ copy. copy.items ≡ processors.now) }
+{
+    processors.iter().copied().collect(alloc)
+}
+
 /// Makes the parts of a node: each member joins the one that `of` names, if there is such a one of
 /// so many from `first` on. The number of those that were made, which are those with members.
 pub(crate) fn divide(
@@ -131,6 +138,7 @@ pub(crate) fn forget(nodes: &mut Nodes, first: u64)
     ensures before { (i : ℕ) → i < first → nodes_seen nodes.new i ≡ nodes_seen nodes.old i }
     ensures living { (i : ℕ) → i < first → living_seen nodes.new i ≡ living_seen nodes.old i }
     ensures after { (i : ℕ) → first ≤ i → nodes_seen nodes.new i ≡ None }
+    ensures idle { (i : ℕ) → first ≤ i → living_seen nodes.new i ≡ 0 }
 {
     nodes.retain(|number, _| *number < first);
 }
@@ -149,5 +157,46 @@ pub(crate) fn place(places: &mut [u64], first: u64, parts: u32, members: &[u32],
         if part < parts {
             places[*member as usize] = first + u64::from(part);
         }
+    }
+}
+
+/// For each of so many processors part 0 where it is below a count, and no part of one elsewhere.
+pub(crate) fn below_count(
+    alloc: Global,
+    processors: u32,
+    count: u32,
+) -> Result<Vec<u32>, AllocError>
+    ensures length { IfOk result (λ of. length of.items ≡ processors) }
+    ensures each { IfOk result (λ of. (h : ℕ) → h < processors
+        → slice_index of.items h ≡ (if nat_lt h count then 0 else 1)) }
+{
+    let mut of = Vec::new(alloc);
+    for processor in 0..processors {
+        of.push(if processor < count { 0 } else { 1 })?;
+    }
+    Ok(of)
+}
+
+/// A part of a node has ended, which it counts.
+pub(crate) fn lose(nodes: &mut Nodes, number: u64)
+    requires there { nodes_seen nodes.old number ≢ None }
+    requires counted { 1 ≤ living_seen nodes.old number }
+    ensures nodes { (i : ℕ) → nodes_seen nodes.new i ≡ nodes_seen nodes.old i }
+    ensures living { (i : ℕ) → living_seen nodes.new i
+        ≡ (if i == number then living_seen nodes.old number - 1 else living_seen nodes.old i) }
+{
+    if let Some(node) = nodes.get_mut(&number) {
+        node.living -= 1;
+    }
+}
+
+/// Processors wait at a node.
+pub(crate) fn settle(places: &mut [u64], node: u64, processors: &[u32])
+    requires { (h : ℕ) → is_member h processors.now ≡ true → h < length places.old }
+    ensures { (h : ℕ) → slice_index places.new h
+        ≡ (if is_member h processors.now then node else slice_index places.old h) }
+{
+    for processor in processors {
+        places[*processor as usize] = node;
     }
 }

@@ -5,7 +5,9 @@ ghost use Rattle.fk_tree.specs.Sound.{IsSound};
 ghost use Rattle.fk_tree.specs.Seen.{nodes_seen, living_seen, tree_seen, AreCounted};
 
 use crate::node::Kind;
-use crate::nodes::{Nodes, kind_after, root_alone, turn};
+use crate::nodes::{
+    Nodes, below_count, copy_of, divide, forget, kind_after, lose, place, root_alone, settle, turn,
+};
 use std::alloc::{AllocError, Global};
 
 /// The tree of groups of up to 1,024 processors. A node is named by its number, and the root by 0.
@@ -75,6 +77,94 @@ impl Tree {
         ensures { result ≡ (tree_of self.now).places processor }
     {
         self.places[processor as usize]
+    }
+
+    // Makes a node without children wait for parts of its members.
+    fn make_parts(
+        &mut self,
+        alloc: Global,
+        node: u64,
+        parts: u32,
+        of: &[u32],
+    ) -> Result<u64, AllocError>
+        requires there { (tree_of self.old).nodes node ≢ None }
+        requires idle { t.is_waiting (t.kind (tree_of self.old) node) ≡ false }
+        requires length { length of.now ≡ length (t.members (tree_of self.old) node) }
+        requires numbers { (tree_of self.old).given + parts < 2 ^ 63 }
+        ensures tree { OnOk result (tree_of self.new
+            ≡ t.split node parts (t.parts_by parts (t.members (tree_of self.old) node) of.now) (tree_of self.old)) }
+        ensures first { IfOk result (λ first. first ≡ (tree_of self.old).given) }
+        ensures err { OnErr result (tree_of self.new ≡ tree_of self.old) }
+        ensures processors { processors self.new ≡ processors self.old }
+    {
+        let copied = copy_of(alloc, self.members(node))?;
+        let members = copied.as_slice();
+        let first = self.given;
+        match divide(alloc, &mut self.nodes, node, first, parts, members, of) {
+            Ok(living) => {
+                turn(&mut self.nodes, node, Kind::Waiting(first, parts), living);
+                place(&mut self.places, first, parts, members, of);
+                self.given += u64::from(parts);
+                Ok(first)
+            }
+            Err(refused) => {
+                forget(&mut self.nodes, first);
+                Err(refused)
+            }
+        }
+    }
+
+    /// Makes the root wait for one group in lockstep, that of the processors below a count, and
+    /// answers its number. With the count 0 it has ended at once. The tree is as before where there
+    /// is no memory.
+    pub fn begin(&mut self, alloc: Global, count: u32) -> Result<u64, AllocError>
+        requires idle { t.is_waiting (t.kind (tree_of self.old) 0) ≡ false }
+        requires count { count ≤ processors self.old }
+        requires numbers { (tree_of self.old).given + 1 < 2 ^ 63 }
+        ensures tree { OnOk result (tree_of self.new ≡ t.begin count (tree_of self.old)) }
+        ensures first { IfOk result (λ first. first ≡ (tree_of self.old).given) }
+        ensures err { OnErr result (tree_of self.new ≡ tree_of self.old) }
+        ensures processors { processors self.new ≡ processors self.old }
+    {
+        let of = below_count(alloc, self.places.len() as u32, count)?;
+        self.make_parts(alloc, 0, 1, of.as_slice())
+    }
+
+    /// Ends a group in lockstep: its members wait at its parent.
+    pub fn finish(&mut self, node: u64)
+        requires { t.kind (tree_of self.old) node ≡ Some Lockstep }
+        ensures tree { tree_of self.new ≡ t.finish node (tree_of self.old) }
+        ensures processors { processors self.new ≡ processors self.old }
+    {
+        if let Some(part) = self.nodes.remove(&node) {
+            lose(&mut self.nodes, part.parent);
+            settle(&mut self.places, part.parent, part.members.as_slice());
+        }
+    }
+
+    /// Splits a group in lockstep into so many parts, each of the members for which `of` has its
+    /// number, and answers the node of the first part. The others have the numbers after it. A
+    /// member with another number waits, and a part without members has ended.
+    ///
+    /// `of` has a number for each member, in their order. The tree is as before where there is no
+    /// memory.
+    pub fn split(
+        &mut self,
+        alloc: Global,
+        node: u64,
+        parts: u32,
+        of: &[u32],
+    ) -> Result<u64, AllocError>
+        requires lockstep { t.kind (tree_of self.old) node ≡ Some Lockstep }
+        requires length { length of.now ≡ length (t.members (tree_of self.old) node) }
+        requires numbers { (tree_of self.old).given + parts < 2 ^ 63 }
+        ensures tree { OnOk result (tree_of self.new
+            ≡ t.split node parts (t.parts_by parts (t.members (tree_of self.old) node) of.now) (tree_of self.old)) }
+        ensures first { IfOk result (λ first. first ≡ (tree_of self.old).given) }
+        ensures err { OnErr result (tree_of self.new ≡ tree_of self.old) }
+        ensures processors { processors self.new ≡ processors self.old }
+    {
+        self.make_parts(alloc, node, parts, of)
     }
 
     /// Gives a group in lockstep a body that all its members run by themselves.

@@ -19,3 +19,7 @@ returns-clause-living c = λ i lt.
 pub returns-clause-after : goal.returns-clause-after
 returns-clause-after c = λ i le.
     ap node_seen (ap (λ (es : Entries). lookup (nat_eq i) es) (kept c) ∙ lookup-dropped c.args.first i c.args.nodes.now.entries le)
+
+pub returns-clause-idle : goal.returns-clause-idle
+returns-clause-idle c = λ i le.
+    ap count_seen (ap (λ (es : Entries). lookup (nat_eq i) es) (kept c) ∙ lookup-dropped c.args.first i c.args.nodes.now.entries le)
