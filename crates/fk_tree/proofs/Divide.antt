@@ -13,7 +13,7 @@ use Rattle.fk_tree.proofs.Lists.{told_at}
 use Rattle.fk_tree.proofs.Shapes.{with_same, with_other, from_parts, from_within}
 use Rattle.fk_tree.proofs.Counts.{living_same, living_added}
 
-get_or-default : (xs : List ℕ) (i d e : ℕ) → i < length xs → get_or xs i d ≡ get_or xs i e
+pub get_or-default : (xs : List ℕ) (i d e : ℕ) → i < length xs → get_or xs i d ≡ get_or xs i e
 get_or-default [] i d e lt = absurd (omega arith)
 get_or-default (x ∷ xs) zero d e lt = refl
 get_or-default (x ∷ xs) (suc i) d e lt = get_or-default xs i d e (omega arith)

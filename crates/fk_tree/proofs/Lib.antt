@@ -17,3 +17,5 @@ pub mod Made
 pub mod Begins
 pub mod Ends
 pub mod Finishes
+pub mod Leaves
+pub mod Shrinks

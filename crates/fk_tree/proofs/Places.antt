@@ -8,11 +8,11 @@ use Rattle.fk_tree.specs.Sound.{is_ascending}
 use Rattle.fk_tree.specs.Seen.{placed_by}
 use Rattle.fk_tree.proofs.Divide.{enters_at, waits_at}
 
-or-same : (a b : Bool) → b ≡ false → (a || b) ≡ a
+pub or-same : (a b : Bool) → b ≡ false → (a || b) ≡ a
 or-same false b e = e
 or-same true b e = refl
 
-member-append : (h : ℕ) (xs : List ℕ) (m : ℕ) → is_member h (xs ++ m ∷ []) ≡ (is_member h xs || (h == m))
+pub member-append : (h : ℕ) (xs : List ℕ) (m : ℕ) → is_member h (xs ++ m ∷ []) ≡ (is_member h xs || (h == m))
 member-append h [] m = or-same (h == m) false refl
 member-append h (x ∷ xs) m = ap (λ (b : Bool). (h == x) || b) (member-append h xs m) ∙ or_assoc (h == x) (is_member h xs) (h == m)
   where

@@ -29,7 +29,7 @@ awaits-left_by : (stays : ℕ → Bool) (o : Option Node) (m : ℕ) → awaits (
 awaits-left_by stays None m e = e
 awaits-left_by stays (Some a) m e = awaits-node (filter stays a.members) a.parent a.kind m e
 
-left_by-none : (stays : ℕ → Bool) (o : Option Node) → filter stays (members_of o) ≡ [] → left_by stays o ≡ None
+pub left_by-none : (stays : ℕ → Bool) (o : Option Node) → filter stays (members_of o) ≡ [] → left_by stays o ≡ None
 left_by-none stays None e = refl
 left_by-none stays (Some a) e = none-node_of (filter stays a.members) a.parent a.kind e
 

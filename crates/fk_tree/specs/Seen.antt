@@ -1,5 +1,5 @@
 -- What is seen of the nodes that are held.
-use Rattle.std.specs.Prelude.{◌≡◌, ℕ, zero, suc, ◌+◌, ◌-◌, ◌==◌, ◌&&◌, nat_eq, slice_index, filter, is_none, Bool, List, [], ◌∷◌, ◌++◌, Option, Some, None, if◌then◌else◌}
+use Rattle.std.specs.Prelude.{◌≡◌, ℕ, zero, suc, ◌+◌, ◌-◌, ◌==◌, ◌&&◌, nat_eq, slice_index, filter, is_none, not, Bool, List, [], ◌∷◌, ◌++◌, Option, Some, None, if◌then◌else◌}
 use Rattle.std.specs.declared.hash.FoldHasher.{FoldHasher}
 use Rattle.std.specs.declared.hash.BuildHasherDefault.{BuildHasherDefault}
 use Rattle.std.specs.HashMap.{get, HashMap}
@@ -58,3 +58,7 @@ divided first parent k part members nodes i =
 -- the places of the processors after those members have joined their parts
 abbrev pub placed_by : (first : ℕ) (part : ℕ → Option ℕ) (members : List ℕ) (places : ℕ → ℕ) → ℕ → ℕ
 placed_by first part members places h = if is_member h members then place_in (places h) first (part h) else places h
+
+-- the places of the processors after those members that don't stay have left for a node
+abbrev pub left_to : (node : ℕ) (stays : ℕ → Bool) (members : List ℕ) (places : ℕ → ℕ) → ℕ → ℕ
+left_to node stays members places h = if is_member h members && not (stays h) then node else places h

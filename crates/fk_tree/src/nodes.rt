@@ -1,9 +1,9 @@
 //! Steps on the nodes that have not ended, by their numbers.
 
-ghost use Rattle.std.specs.Prelude.{◌≡◌, ◌≢◌, ℕ, ◌+◌, ◌^◌, ◌<◌, ◌≤◌, ◌==◌, ◌-◌, nat_lt, true, length, slice_index, [], is_none, if◌then◌else◌, OnErr, IfOk};
-ghost use Rattle.fk_tree.specs.Tree.{with_node, turned, below, root, kind_after as going_on, parts_by, is_member};
+ghost use Rattle.std.specs.Prelude.{◌≡◌, ◌≢◌, ℕ, ◌+◌, ◌^◌, ◌<◌, ◌≤◌, ◌==◌, ◌-◌, nat_lt, true, length, vec_len, ◌↔◌, IsTrue, filter, slice_index, [], is_none, if◌then◌else◌, OnErr, IfOk};
+ghost use Rattle.fk_tree.specs.Tree.{with_node, turned, below, root, kind_after as going_on, parts_by, stays_by, is_member, members_of, parent_of, kind_of};
 ghost use Rattle.fk_tree.specs.Sound.{is_ascending};
-ghost use Rattle.fk_tree.specs.Seen.{nodes_seen, living_seen, living_parts, with_member, divided, placed_by};
+ghost use Rattle.fk_tree.specs.Seen.{nodes_seen, living_seen, living_parts, with_member, divided, placed_by, left_to};
 
 use crate::node::{Kind, LiveNode};
 use std::alloc::{AllocError, Global};
@@ -199,4 +199,50 @@ pub(crate) fn settle(places: &mut [u64], node: u64, processors: &[u32])
     for processor in processors {
         places[*processor as usize] = node;
     }
+}
+
+// Members that don't stay leave a list, and wait at a node.
+fn leave(members: &mut Vec<u32>, places: &mut [u64], node: u64, stay: &[bool])
+    requires length { length stay.now ≡ length members.old.items }
+    requires ascending { is_ascending members.old.items ≡ true }
+    requires within { (h : ℕ) → is_member h members.old.items ≡ true → h < length places.old }
+    ensures members { members.new.items ≡ filter (stays_by members.old.items stay.now) members.old.items }
+    ensures places { (h : ℕ) → slice_index places.new h
+        ≡ left_to node (stays_by members.old.items stay.now) members.old.items (slice_index places.old) h }
+{
+    let mut kept = 0;
+    for (index, stays) in stay.iter().enumerate() {
+        let member = members[index];
+        if *stays {
+            members[kept] = member;
+            kept += 1;
+        } else {
+            places[member as usize] = node;
+        }
+    }
+    members.truncate(kept);
+}
+
+/// Lets the members of a part that don't stay wait at its parent. Answers whether any stay.
+pub(crate) fn shrink(nodes: &mut Nodes, places: &mut [u64], number: u64, stay: &[bool]) -> bool
+    requires length { length stay.now ≡ length (members_of (nodes_seen nodes.old number)) }
+    requires ascending { is_ascending (members_of (nodes_seen nodes.old number)) ≡ true }
+    requires within { (h : ℕ) → is_member h (members_of (nodes_seen nodes.old number)) ≡ true → h < length places.old }
+    requires there { nodes_seen nodes.old number ≢ None }
+    ensures members { members_of (nodes_seen nodes.new number)
+        ≡ filter (stays_by (members_of (nodes_seen nodes.old number)) stay.now) (members_of (nodes_seen nodes.old number)) }
+    ensures parent { parent_of (nodes_seen nodes.new number) ≡ parent_of (nodes_seen nodes.old number) }
+    ensures kind { kind_of (nodes_seen nodes.new number) ≡ kind_of (nodes_seen nodes.old number) }
+    ensures others { (i : ℕ) → i ≢ number → nodes_seen nodes.new i ≡ nodes_seen nodes.old i }
+    ensures living { (i : ℕ) → living_seen nodes.new i ≡ living_seen nodes.old i }
+    ensures places { (h : ℕ) → slice_index places.new h
+        ≡ left_to (parent_of (nodes_seen nodes.old number)) (stays_by (members_of (nodes_seen nodes.old number)) stay.now)
+        (members_of (nodes_seen nodes.old number)) (slice_index places.old) h }
+    ensures stay { IsTrue result ↔ (members_of (nodes_seen nodes.new number) ≢ []) }
+{
+    let Some(node) = nodes.get_mut(&number) else {
+        return false;
+    };
+    leave(&mut node.members, places, node.parent, stay);
+    !node.members.is_empty()
 }

@@ -6,7 +6,8 @@ ghost use Rattle.fk_tree.specs.Seen.{nodes_seen, living_seen, tree_seen, AreCoun
 
 use crate::node::Kind;
 use crate::nodes::{
-    Nodes, below_count, copy_of, divide, forget, kind_after, lose, place, root_alone, settle, turn,
+    Nodes, below_count, copy_of, divide, forget, kind_after, lose, place, root_alone, settle,
+    shrink, turn,
 };
 use std::alloc::{AllocError, Global};
 
@@ -128,6 +129,23 @@ impl Tree {
     {
         let of = below_count(alloc, self.places.len() as u32, count)?;
         self.make_parts(alloc, 0, 1, of.as_slice())
+    }
+
+    /// Lets the members of a part that don't stay wait at its parent. `stay` tells it of each
+    /// member, in their order. Where nobody stays, the part has ended.
+    pub fn shrink(&mut self, node: u64, stay: &[bool])
+        requires lockstep { t.kind (tree_of self.old) node ≡ Some Lockstep }
+        requires length { length stay.now ≡ length (t.members (tree_of self.old) node) }
+        ensures tree { tree_of self.new
+            ≡ t.shrink node (t.stays_by (t.members (tree_of self.old) node) stay.now) (tree_of self.old) }
+        ensures processors { processors self.new ≡ processors self.old }
+    {
+        if shrink(&mut self.nodes, &mut self.places, node, stay) {
+            return;
+        }
+        if let Some(part) = self.nodes.remove(&node) {
+            lose(&mut self.nodes, part.parent);
+        }
     }
 
     /// Ends a group in lockstep: its members wait at its parent.
