@@ -1,9 +1,9 @@
 -- The group of `start` is a split of the root into one part.
-use Rattle.std.proofs.Common.{◌≡◌, ◌≢◌, ⊎_elim, ℕ, zero, suc, ◌+◌, ◌-◌, ◌≤◌, ◌<◌, ◌==◌, ◌||◌, nat_lt, Bool, true, false, cond, List, [], ◌∷◌, length, get_or, Option, Some, None, refl, sym, ap, ◌∙◌, arith, filter}
+use Rattle.std.proofs.Common.{◌≡◌, ◌≢◌, ⊎_elim, ℕ, zero, suc, ◌+◌, ◌-◌, ◌<◌, ◌==◌, nat_lt, Bool, true, false, cond, List, [], ◌∷◌, length, get_or, Option, Some, None, refl, sym, ap, ◌∙◌, arith, filter}
 use Rattle.std.proofs.lemmas.Bool.{cases_Bool, cases_eq, cond-true, cond-false, eq-eqb, or_left, or_right}
 use Rattle.fk_tree.specs.declared.node.Kind.TheVariants.{Lockstep, Waiting}
 use Rattle.fk_tree.specs.Tree.{Tree, members, is_member, node_of, with_kind, is_from, is_in, place_in, split, begin, first_part, told, part_of, parts_by, below}
-use Rattle.fk_tree.specs.Sound.{Has, IsSound, is_ascending}
+use Rattle.fk_tree.specs.Sound.{Has, IsSound}
 use Rattle.fk_tree.proofs.Lists.{told_at, length-below, ascending-below, below-has}
 use Rattle.fk_tree.proofs.Shapes.{has_some, has_along}
 use Rattle.fk_tree.proofs.Trees.{tree_same}

@@ -1,10 +1,10 @@
 -- How many parts of a node have not ended.
-use Rattle.std.proofs.Common.{◌≡◌, ◌≢◌, ⊎_elim, ℕ, zero, suc, ◌+◌, ◌≤◌, ◌<◌, ◌==◌, Bool, true, false, ◌&&◌, cond, List, [], ◌∷◌, Option, Some, None, is_none, refl, sym, ap, ◌∙◌, subst, arith}
-use Rattle.std.proofs.lemmas.Bool.{cases_Bool, cases_eq, cond-true, cond-false, eq-eqb, ne_eqb, false≢true}
+use Rattle.std.proofs.Common.{◌≡◌, ◌≢◌, ⊎_elim, ℕ, zero, suc, ◌+◌, ◌≤◌, ◌<◌, ◌==◌, Bool, true, false, ◌&&◌, cond, Option, Some, None, is_none, refl, sym, ap, ◌∙◌, arith}
+use Rattle.std.proofs.lemmas.Bool.{cases_Bool, cases_eq, cond-true, cond-false, eq-eqb, ne_eqb}
 use Rattle.fk_tree.specs.declared.node.Kind.{Kind}
 use Rattle.fk_tree.specs.declared.node.Kind.TheVariants.{Lockstep, Waiting, Asynchronous}
-use Rattle.fk_tree.specs.Tree.{Node, Tree, kind_of, kind, parent, node_of, with_node, turned, with_kind, left_by, split, shrink, has_ended, have_ended}
-use Rattle.fk_tree.specs.Sound.{awaits, IsSound}
+use Rattle.fk_tree.specs.Tree.{Node, Tree, kind_of, kind, turned, with_kind, have_ended}
+use Rattle.fk_tree.specs.Sound.{awaits}
 use Rattle.fk_tree.specs.Seen.{living_parts, count_of, AreCounted}
 use Rattle.fk_tree.proofs.Shapes.{from_within, with_same, with_other, kind-turned}
 

@@ -19,3 +19,4 @@ pub mod Ends
 pub mod Finishes
 pub mod Leaves
 pub mod Shrinks
+pub mod Rows

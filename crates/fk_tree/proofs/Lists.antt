@@ -1,6 +1,6 @@
 -- Members of lists, and lists in ascending order.
-use Rattle.std.proofs.Common.{◌≡◌, ◌≢◌, ◌⊎◌, inl, inr, ⊎_elim, ℕ, zero, suc, ◌+◌, ◌-◌, ◌≤◌, ◌<◌, ◌==◌, nat_lt, Bool, true, false, ◌&&◌, ◌||◌, cond, List, [], ◌∷◌, ◌++◌, length, get_or, Option, Some, None, refl, sym, ap, ◌∙◌, subst, arith, filter, if◌then◌else◌}
-use Rattle.std.proofs.lemmas.Bool.{cases_Bool, cases_eq, and_parts, and_from, or_cases, or_left, or_right, cond-true, cond-false, eqb-true, eqb-false, eq-eqb, ne_eqb, ltb-true, lt-ltb, false≢true, both_ways}
+use Rattle.std.proofs.Common.{◌≡◌, ◌≢◌, ◌⊎◌, inl, inr, ⊎_elim, ℕ, zero, suc, ◌+◌, ◌-◌, ◌≤◌, ◌<◌, ◌==◌, nat_lt, Bool, true, false, List, [], ◌∷◌, ◌++◌, length, get_or, refl, sym, ap, ◌∙◌, subst, arith, filter}
+use Rattle.std.proofs.lemmas.Bool.{cases_Bool, cases_eq, and_parts, and_from, or_cases, or_left, or_right, cond-true, cond-false, eqb-true, eq-eqb, ne_eqb, ltb-true, lt-ltb, false≢true}
 use Rattle.fk_tree.specs.Tree.{is_member, below, told}
 use Rattle.fk_tree.specs.Sound.{is_below_all, is_ascending}
 

@@ -1,6 +1,5 @@
 -- The parts that are made of a copy of the members are those of the split.
-use Rattle.std.proofs.Common.{◌≡◌, ◌≢◌, ℕ, ◌+◌, ◌<◌, ◌==◌, List, Option, None, slice_index, refl, sym, ap, ◌∙◌, subst, if◌then◌else◌}
-use Rattle.fk_tree.specs.declared.node.Kind.{Kind}
+use Rattle.std.proofs.Common.{◌≡◌, ◌≢◌, ℕ, ◌+◌, ◌<◌, ◌==◌, List, Option, None, slice_index, ap, ◌∙◌, if◌then◌else◌}
 use Rattle.fk_tree.specs.declared.node.Kind.TheVariants.{Waiting}
 use Rattle.fk_tree.specs.Tree.{Tree, members, with_node, turned, split, parts_by}
 use Rattle.fk_tree.specs.Sound.{IsSound}

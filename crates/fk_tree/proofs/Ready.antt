@@ -1,12 +1,12 @@
 -- A node is ready where it waits and counts no part that has not ended.
-use Rattle.std.proofs.Common.{◌≡◌, ◌≢◌, ℕ, zero, suc, ◌≤◌, ◌==◌, ◌&&◌, Bool, true, false, cond, List, [], ◌∷◌, length, Option, Some, None, refl, sym, ap, ◌∙◌, ⊎_elim, arith, nat_eq}
+use Rattle.std.proofs.Common.{◌≡◌, ◌≢◌, ℕ, ◌≤◌, ◌==◌, ◌&&◌, false, cond, List, [], ◌∷◌, length, Option, Some, None, refl, sym, ap, ◌∙◌, ⊎_elim, arith, nat_eq}
 use Rattle.std.specs.HashMap.{get}
 use Rattle.std.specs.Map.{lookup}
 use Rattle.std.proofs.lemmas.Bool.{cases_eq, cond-true, cond-false, eq-eqb, ne_eqb}
 use Rattle.fk_tree.specs.declared.node.Kind.{Kind}
 use Rattle.fk_tree.specs.declared.node.Kind.TheVariants.{Lockstep, Waiting, Asynchronous}
 use Rattle.fk_tree.specs.declared.node.LiveNode.{LiveNode}
-use Rattle.fk_tree.specs.Tree.{Node, Tree, kind_of, is_waiting, is_ready, node_of, with_node, below}
+use Rattle.fk_tree.specs.Tree.{Tree, kind_of, is_waiting, is_ready, node_of, with_node, below}
 use Rattle.fk_tree.specs.Seen.{Held, node_seen, nodes_seen, count_seen, count_of, is_ready_node}
 use Rattle.fk_tree.proofs.Lists.{length-below}
 use Rattle.fk_tree.proofs.Counts.{have_ended-living}

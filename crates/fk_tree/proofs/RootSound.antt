@@ -1,10 +1,9 @@
 -- The tree of the beginning.
-use Rattle.std.proofs.Common.{◌≡◌, ◌≢◌, ⊎_elim, ℕ, zero, suc, ◌+◌, ◌≤◌, ◌<◌, Bool, true, false, List, [], ◌∷◌, Option, Some, None, refl, sym, ap, ◌∙◌, subst, arith}
+use Rattle.std.proofs.Common.{◌≡◌, ◌≢◌, ⊎_elim, ℕ, ◌≤◌, ◌<◌, Bool, true, false, List, [], ◌∷◌, Option, Some, None, refl, sym, ap, ◌∙◌, arith}
 use Rattle.std.proofs.lemmas.Bool.{cases_eq, false≢true}
-use Rattle.fk_tree.specs.declared.node.Kind.{Kind}
-use Rattle.fk_tree.specs.declared.node.Kind.TheVariants.{Lockstep, Waiting, Asynchronous}
-use Rattle.fk_tree.specs.Tree.{Node, Tree, members_of, kind_of, members, kind, parent, is_member, node_of, with_node, below, root}
-use Rattle.fk_tree.specs.Sound.{Has, IsAt, awaits, is_ascending, IsSound}
+use Rattle.fk_tree.specs.declared.node.Kind.TheVariants.{Lockstep, Asynchronous}
+use Rattle.fk_tree.specs.Tree.{Node, members_of, kind_of, members, kind, is_member, node_of, below, root}
+use Rattle.fk_tree.specs.Sound.{Has, awaits, is_ascending, IsSound}
 use Rattle.fk_tree.proofs.Lists.{below-has, has-below, ascending-below}
 use Rattle.fk_tree.proofs.Shapes.{with_same, with_other, members-node_of, none-node_of, has_some, has_along}
 

@@ -1,13 +1,12 @@
 -- The tree that `root` makes.
-use Rattle.std.proofs.Common.{◌≡◌, ◌≢◌, ℕ, zero, suc, ◌≤◌, Bool, false, List, [], ◌∷◌, Option, Some, None, replicate, slice_index, refl, sym, ap, ◌∙◌, subst, ⊎_elim, arith}
+use Rattle.std.proofs.Common.{◌≡◌, ℕ, zero, suc, ◌≤◌, false, List, [], ◌∷◌, Option, None, replicate, slice_index, refl, sym, ap, ◌∙◌, subst, ⊎_elim}
 use Rattle.std.proofs.lemmas.Bool.{cases_eq}
-use Rattle.fk_tree.specs.declared.node.Kind.{Kind}
 use Rattle.fk_tree.specs.declared.node.Kind.TheVariants.{Asynchronous}
 use Rattle.fk_tree.specs.Tree.{Node, Tree, kind_of, node_of, below, root}
 use Rattle.fk_tree.specs.Sound.{IsSound}
 use Rattle.fk_tree.specs.Seen.{Held, nodes_seen, living_seen, tree_seen, count_of, AreCounted}
 use Rattle.fk_tree.proofs.Shapes.{with_same, with_other}
-use Rattle.fk_tree.proofs.Trees.{tree_same, nodes_same}
+use Rattle.fk_tree.proofs.Trees.{tree_same}
 use Rattle.fk_tree.proofs.RootSound.{root_sound}
 
 zeros : (p h : ℕ) → slice_index (replicate p 0) h ≡ 0

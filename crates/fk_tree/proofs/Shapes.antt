@@ -1,11 +1,10 @@
 -- What the steps make of the node of each number.
-use Rattle.std.proofs.Common.{◌≡◌, ◌≢◌, ◌⊎◌, inl, inr, ⊎_elim, ℕ, zero, suc, ◌+◌, ◌-◌, ◌≤◌, ◌<◌, ◌==◌, nat_lt, nat_le, Bool, true, false, ◌&&◌, cond, List, [], ◌∷◌, Option, Some, None, refl, sym, ap, ◌∙◌, subst, arith, filter, if◌then◌else◌}
-use Rattle.std.proofs.lemmas.Bool.{cases_Bool, cases_eq, cases_lt, and_parts, and_from, and_left, cond-true, cond-false, eqb-true, eqb-false, eq-eqb, ne_eqb, ltb-true, leb-true, lt-ltb, le-leb, lt-leb, le-ltb, false≢true}
+use Rattle.std.proofs.Common.{◌≡◌, ◌≢◌, ⊎_elim, ℕ, ◌+◌, ◌≤◌, ◌<◌, ◌==◌, nat_lt, nat_le, true, false, List, [], ◌∷◌, Option, Some, None, refl, sym, ap, ◌∙◌, arith}
+use Rattle.std.proofs.lemmas.Bool.{cases_Bool, cases_eq, cases_lt, and_parts, and_from, and_left, cond-true, cond-false, eq-eqb, ne_eqb, ltb-true, leb-true, lt-ltb, le-leb, lt-leb, false≢true}
 use Rattle.fk_tree.specs.declared.node.Kind.{Kind}
-use Rattle.fk_tree.specs.declared.node.Kind.TheVariants.{Lockstep, Waiting, Asynchronous}
+use Rattle.fk_tree.specs.declared.node.Kind.TheVariants.{Lockstep}
 use Rattle.fk_tree.specs.Tree.{Node, Tree, members_of, parent_of, kind_of, members, parent, kind, is_member, node_of, with_node, turned, with_kind, is_from}
 use Rattle.fk_tree.specs.Sound.{Has, awaits, IsSound}
-use Rattle.fk_tree.proofs.Lists.{impossible}
 
 pub with_same : (n : ℕ) (x : Option Node) (nodes : ℕ → Option Node) (i : ℕ) → i ≡ n → with_node n x nodes i ≡ x
 with_same n x nodes i e = cond-true (i == n) x (nodes i) (eq-eqb i n e)

@@ -1,11 +1,11 @@
 -- Members that leave a part, and a part that ends, keep each processor at exactly one node.
-use Rattle.std.proofs.Common.{◌≡◌, ◌≢◌, ◌⊎◌, inl, inr, ⊎_elim, ℕ, zero, suc, ◌≤◌, ◌<◌, ◌==◌, Bool, true, false, not, ◌&&◌, cond, List, [], ◌∷◌, Option, Some, None, refl, sym, ap, ◌∙◌, subst, arith, filter}
+use Rattle.std.proofs.Common.{◌≡◌, ◌≢◌, ⊎_elim, ℕ, ◌≤◌, ◌<◌, Bool, true, false, not, ◌&&◌, List, [], ◌∷◌, Option, Some, None, refl, sym, ap, ◌∙◌, subst, filter}
 use Rattle.std.proofs.lemmas.Bool.{cases_Bool, cases_eq, cond-true, cond-false, and_from, and_left, and_right, not_from_true, not_from_false, false≢true}
 use Rattle.fk_tree.specs.declared.node.Kind.{Kind}
-use Rattle.fk_tree.specs.Tree.{Node, Tree, members_of, parent_of, kind_of, members, parent, kind, is_member, node_of, with_node, left_by, shrink}
+use Rattle.fk_tree.specs.Tree.{Node, Tree, members_of, parent_of, kind_of, members, parent, kind, is_member, node_of, left_by, shrink}
 use Rattle.fk_tree.specs.Sound.{Has, IsAt, awaits, is_ascending, IsSound}
 use Rattle.fk_tree.proofs.Lists.{impossible, member_kept, kept_member, ascending_kept}
-use Rattle.fk_tree.proofs.Shapes.{with_same, with_other, members-node_of, parent-node_of, kind-node_of, none-node_of, has_some, has_along}
+use Rattle.fk_tree.proofs.Shapes.{with_same, with_other, members-node_of, parent-node_of, none-node_of, has_some, has_along}
 
 -- a part without children
 pub record CanShrink (n : ℕ) (t : Tree) : Type 0 where

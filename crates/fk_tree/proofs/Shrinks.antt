@@ -1,11 +1,10 @@
 -- The tree after members have left a part.
-use Rattle.std.proofs.Common.{◌≡◌, ◌≢◌, ⊎_elim, ℕ, zero, suc, ◌+◌, ◌-◌, ◌≤◌, ◌<◌, ◌==◌, ◌&&◌, not, nat_eq, Bool, true, false, cond, List, [], ◌∷◌, Option, Some, None, is_none, slice_index, refl, sym, ap, ◌∙◌, subst, arith, filter, if◌then◌else◌}
+use Rattle.std.proofs.Common.{◌≡◌, ◌≢◌, ⊎_elim, ℕ, ◌-◌, ◌≤◌, ◌==◌, nat_eq, Bool, cond, List, [], ◌∷◌, Option, Some, None, is_none, slice_index, refl, sym, ap, ◌∙◌, subst, arith, filter, if◌then◌else◌}
 use Rattle.std.specs.HashMap.{get}
-use Rattle.std.proofs.lemmas.Bool.{cases_eq, cond-true, cond-false, eq-eqb, ne_eqb, false≢true}
+use Rattle.std.proofs.lemmas.Bool.{cases_eq, cond-true, cond-false, eq-eqb, ne_eqb}
 use Rattle.fk_tree.specs.declared.node.Kind.{Kind}
-use Rattle.fk_tree.specs.declared.node.Kind.TheVariants.{Lockstep}
 use Rattle.fk_tree.specs.declared.node.LiveNode.{LiveNode}
-use Rattle.fk_tree.specs.Tree.{Node, Tree, members_of, parent_of, kind_of, members, parent, kind, is_member, node_of, with_node, left_by, shrink}
+use Rattle.fk_tree.specs.Tree.{Node, Tree, members_of, parent_of, kind_of, members, parent, kind, node_of, with_node, left_by, shrink}
 use Rattle.fk_tree.specs.Sound.{IsSound}
 use Rattle.fk_tree.specs.Seen.{Held, node_seen, nodes_seen, count_seen, living_seen, tree_seen, count_of, AreCounted, left_to}
 use Rattle.fk_tree.proofs.Shapes.{with_same, with_other, awaits-some}

@@ -1,12 +1,12 @@
 -- A split keeps each processor at exactly one node.
-use Rattle.std.proofs.Common.{◌≡◌, ◌≢◌, ◌⊎◌, inl, inr, ⊎_elim, ℕ, zero, suc, ◌+◌, ◌-◌, ◌≤◌, ◌<◌, ◌==◌, Bool, true, false, cond, List, [], ◌∷◌, Option, Some, None, refl, sym, ap, ◌∙◌, subst, arith, filter}
+use Rattle.std.proofs.Common.{◌≡◌, ◌≢◌, ◌⊎◌, inl, inr, ⊎_elim, ℕ, ◌+◌, ◌-◌, ◌≤◌, ◌<◌, Bool, true, false, List, [], Option, Some, None, refl, sym, ap, ◌∙◌, subst, arith, filter}
 use Rattle.std.proofs.lemmas.Bool.{cases_Bool, cases_eq, cond-true, cond-false, eqb-true, eq-eqb, false≢true}
 use Rattle.fk_tree.specs.declared.node.Kind.{Kind}
-use Rattle.fk_tree.specs.declared.node.Kind.TheVariants.{Lockstep, Waiting, Asynchronous}
-use Rattle.fk_tree.specs.Tree.{Node, Tree, members_of, parent_of, kind_of, members, parent, kind, is_member, node_of, with_node, turned, with_kind, is_from, is_in, place_in, split, below}
+use Rattle.fk_tree.specs.declared.node.Kind.TheVariants.{Lockstep, Waiting}
+use Rattle.fk_tree.specs.Tree.{Node, Tree, members_of, parent_of, kind_of, members, parent, kind, is_member, node_of, with_kind, is_from, is_in, place_in, split, below}
 use Rattle.fk_tree.specs.Sound.{Has, IsAt, awaits, is_ascending, IsSound}
 use Rattle.fk_tree.proofs.Lists.{impossible, member_kept, kept_member, ascending_kept, below-has}
-use Rattle.fk_tree.proofs.Shapes.{members-node_of, parent-node_of, awaits-node_of, none-node_of, kind_members, kind_parent, kind_none, kind_some, kind_same, kind_other, from_parts, from_within, from_below, from_above, has_some, has_along, some-given, awaits-some}
+use Rattle.fk_tree.proofs.Shapes.{members-node_of, parent-node_of, awaits-node_of, none-node_of, kind_members, kind_parent, kind_none, kind_same, kind_other, from_parts, from_within, from_below, from_above, has_some, has_along, some-given, awaits-some}
 
 -- a node without children, and a choice of k parts for its members
 pub record CanSplit (n k : ℕ) (part : ℕ → Option ℕ) (t : Tree) : Type 0 where

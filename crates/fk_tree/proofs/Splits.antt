@@ -1,12 +1,11 @@
 -- The tree after a split.
-use Rattle.std.proofs.Common.{◌≡◌, ◌≢◌, ⊎_elim, ℕ, zero, suc, ◌+◌, ◌-◌, ◌≤◌, ◌<◌, ◌==◌, nat_lt, Bool, true, false, cond, List, [], ◌∷◌, length, Option, Some, None, is_none, slice_index, refl, sym, ap, ◌∙◌, subst, arith, filter, if◌then◌else◌}
-use Rattle.std.proofs.lemmas.Bool.{cases_Bool, cases_eq, cases_lt, cond-true, cond-false, ltb-true, eq-eqb, ne_eqb, false≢true}
-use Rattle.fk_tree.specs.declared.node.Kind.{Kind}
-use Rattle.fk_tree.specs.declared.node.Kind.TheVariants.{Lockstep, Waiting, Asynchronous}
-use Rattle.fk_tree.specs.Tree.{Node, Tree, kind_of, members, kind, parent, is_member, node_of, with_node, turned, with_kind, is_from, is_in, place_in, split, told, part_of, parts_by}
-use Rattle.fk_tree.specs.Sound.{Has, awaits, IsSound}
+use Rattle.std.proofs.Common.{◌≡◌, ◌≢◌, ⊎_elim, ℕ, ◌+◌, ◌-◌, ◌≤◌, ◌<◌, ◌==◌, nat_lt, true, false, List, [], ◌∷◌, Option, Some, None, is_none, slice_index, refl, sym, ap, ◌∙◌, subst, arith, filter, if◌then◌else◌}
+use Rattle.std.proofs.lemmas.Bool.{cases_Bool, cases_eq, cases_lt, cond-true, cond-false, ltb-true, eq-eqb, ne_eqb}
+use Rattle.fk_tree.specs.declared.node.Kind.TheVariants.{Lockstep, Waiting}
+use Rattle.fk_tree.specs.Tree.{Node, Tree, kind_of, members, node_of, with_node, turned, with_kind, is_from, is_in, split, told, part_of, parts_by}
+use Rattle.fk_tree.specs.Sound.{IsSound}
 use Rattle.fk_tree.specs.Seen.{Held, nodes_seen, living_seen, tree_seen, living_parts, count_of, AreCounted, divided, placed_by}
-use Rattle.fk_tree.proofs.Shapes.{with_same, with_other, from_below, from_parts, some-given, kind-turned}
+use Rattle.fk_tree.proofs.Shapes.{with_same, with_other, from_below, from_parts, kind-turned}
 use Rattle.fk_tree.proofs.Trees.{tree_same}
 use Rattle.fk_tree.proofs.Counts.{count_along, kind_is_none}
 use Rattle.fk_tree.proofs.Turns.{IsLeaf}

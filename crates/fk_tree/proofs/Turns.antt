@@ -1,9 +1,9 @@
 -- A node without children gets a kind that waits for nobody.
-use Rattle.std.proofs.Common.{◌≡◌, ◌≢◌, ⊎_elim, ℕ, zero, suc, ◌+◌, ◌≤◌, ◌<◌, ◌==◌, Bool, true, false, ◌&&◌, cond, List, [], ◌∷◌, Option, Some, None, is_none, refl, sym, ap, ◌∙◌, subst, arith, slice_index, if◌then◌else◌}
+use Rattle.std.proofs.Common.{◌≡◌, ◌≢◌, ⊎_elim, ℕ, zero, suc, ◌+◌, ◌≤◌, ◌<◌, ◌==◌, Bool, true, false, List, Option, Some, None, is_none, refl, sym, ap, ◌∙◌, subst, arith, if◌then◌else◌}
 use Rattle.std.proofs.lemmas.Bool.{cases_eq, and_parts, false≢true}
 use Rattle.fk_tree.specs.declared.node.Kind.{Kind}
 use Rattle.fk_tree.specs.declared.node.Kind.TheVariants.{Lockstep, Waiting, Asynchronous}
-use Rattle.fk_tree.specs.Tree.{Node, Tree, kind_of, kind, parent, with_node, turned, with_kind, HasBody, is_waiting, is_ready, ready, have_ended, kind_after}
+use Rattle.fk_tree.specs.Tree.{Node, Tree, kind_of, kind, parent, with_node, turned, with_kind, is_waiting, is_ready, ready, have_ended, kind_after}
 use Rattle.fk_tree.specs.Sound.{awaits, IsSound}
 use Rattle.fk_tree.specs.Seen.{Held, nodes_seen, living_seen, tree_seen, count_of, AreCounted}
 use Rattle.fk_tree.proofs.Shapes.{from_parts}

@@ -4,7 +4,7 @@ use Rattle.std.specs.declared.hash.FoldHasher.{FoldHasher}
 use Rattle.std.specs.declared.hash.BuildHasherDefault.{BuildHasherDefault}
 use Rattle.std.specs.HashMap.{get, HashMap}
 use Rattle.fk_tree.specs.declared.node.Kind.{Kind}
-use Rattle.fk_tree.specs.declared.node.Kind.TheVariants.{Lockstep, Waiting, Asynchronous}
+use Rattle.fk_tree.specs.declared.node.Kind.TheVariants.{Lockstep, Waiting}
 use Rattle.fk_tree.specs.declared.node.LiveNode.{LiveNode}
 use Rattle.fk_tree.specs.Tree.{Node, Tree, kind_of, node_of, is_waiting, is_from, is_in, is_member, place_in}
 

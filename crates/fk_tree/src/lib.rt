@@ -11,3 +11,6 @@ mod tree;
 
 pub use node::Kind;
 pub use tree::Tree;
+
+#[cfg(test)]
+mod tests;

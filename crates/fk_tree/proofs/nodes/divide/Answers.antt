@@ -1,4 +1,4 @@
-use Rattle.std.proofs.Common.{◌≡◌, ◌+◌, ◌<◌, ◌≤◌, arith, refl, sym, ap, ◌∙◌}
+use Rattle.std.proofs.Common.{◌≡◌, ◌+◌, ◌<◌, arith, refl, sym, ap, ◌∙◌}
 use Rattle.fk_tree.specs.Seen.{nodes_seen, living_parts}
 use Rattle.fk_tree.proofs.Divide.{none_yet, skips, joins, joined_count, none_living, one_if, byte_is, one_if_small}
 use Rattle.fk_tree.proofs.nodes.divide.Goals as goal

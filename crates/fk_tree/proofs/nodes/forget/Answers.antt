@@ -1,4 +1,4 @@
-use Rattle.std.proofs.Common.{◌≡◌, ◌∙◌, ap, refl, rules, nat_eq, filter, None}
+use Rattle.std.proofs.Common.{◌≡◌, ◌∙◌, ap, rules, nat_eq, filter}
 use Rattle.std.specs.Map.{lookup}
 use Rattle.std.proofs.lemmas.Map.Made.{filter_same_pairs}
 use Rattle.fk_tree.specs.Seen.{node_seen, count_seen}

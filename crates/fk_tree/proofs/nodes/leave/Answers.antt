@@ -1,4 +1,4 @@
-use Rattle.std.proofs.Common.{◌≡◌, ◌<◌, length, get_or, arith, slice_index, ◌∙◌}
+use Rattle.std.proofs.Common.{◌<◌, length, arith, slice_index, ◌∙◌}
 use Rattle.std.proofs.lemmas.List.Filters.{FiltersInPlace-more_set, FiltersInPlace-more_no}
 use Rattle.fk_tree.proofs.Leaves.{member_is, stays_at, one_stays, one_leaves, member_within}
 use Rattle.fk_tree.proofs.nodes.leave.Goals as goal

@@ -1,4 +1,4 @@
-use Rattle.std.proofs.Common.{true, false, refl, sym}
+use Rattle.std.proofs.Common.{false, refl}
 use Rattle.fk_tree.specs.declared.node.Kind.TheVariants.{Lockstep, Asynchronous}
 use Rattle.fk_tree.specs.View.{tree_of}
 use Rattle.fk_tree.proofs.Turns.{idle-lockstep, idle-asynchronous, free-asynchronous, leaf_by, there_by, turn_tree, turn_sound, turn_counted}

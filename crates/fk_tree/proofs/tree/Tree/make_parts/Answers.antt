@@ -1,6 +1,5 @@
-use Rattle.std.proofs.Common.{◌≡◌, ◌+◌, ◌≤◌, ◌<◌, ℕ, length, drop, refl, sym, ap, ◌∙◌, arith}
+use Rattle.std.proofs.Common.{◌≡◌, ◌+◌, ℕ, length, drop, refl, sym, ap, ◌∙◌, arith}
 use Rattle.std.proofs.lemmas.List.{take_at}
-use Rattle.std.specs.Vec.{with_items}
 use Rattle.fk_tree.specs.Tree.{members}
 use Rattle.fk_tree.specs.View.{tree_of}
 use Rattle.fk_tree.proofs.Lists.{length-between}

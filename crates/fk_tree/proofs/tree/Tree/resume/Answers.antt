@@ -1,4 +1,4 @@
-use Rattle.std.proofs.Common.{◌≡◌, ap, sym, subst, ℕ, Option, ◌∙◌}
+use Rattle.std.proofs.Common.{◌≡◌, ap, sym, ℕ, ◌∙◌}
 use Rattle.fk_tree.specs.declared.node.Kind.{Kind}
 use Rattle.fk_tree.specs.Tree.{with_node, turned, kind_after}
 use Rattle.fk_tree.specs.Seen.{Held, nodes_seen}

@@ -1,5 +1,5 @@
 -- Those who stay are the part's members, and where nobody does, the part ends.
-use Rattle.std.proofs.Common.{◌≡◌, ℕ, List, length, drop, slice_index, refl, arith}
+use Rattle.std.proofs.Common.{◌≡◌, length, drop, refl, arith}
 use Rattle.std.proofs.lemmas.List.{take_at}
 use Rattle.std.proofs.lemmas.Bool.{false≢true}
 use Rattle.fk_tree.specs.Tree.{members, stays_by}
