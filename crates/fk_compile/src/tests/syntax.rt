@@ -190,7 +190,7 @@ fn each_production_breaks_at_its_mark(rt: HostRuntime) -> Result<(), Fail> {
 
 /// What opens a level, behind `void f() {`: what is repeated, what stands behind the last of it,
 /// how often it is within the bound, and the column of the token that is past it, once more.
-const OPENERS: &[(&[u8], &[u8], usize, u32)] = &[
+const OPENERS: &[(&[u8], &[u8], u8, u32)] = &[
     (b"{", b"", 127, 138),
     (b"(", b"", 126, 137),
     (b"!", b"", 126, 137),
@@ -244,10 +244,11 @@ fn opened(alloc: Global, unit: &[u8], tail: &[u8], times: usize) -> Result<Vec<u
 #[test]
 fn each_opener_opens_128_levels_and_no_more(rt: HostRuntime) -> Result<(), Fail> {
     for (unit, tail, most, column) in OPENERS {
-        let deepest = opened(rt.alloc(), unit, tail, *most)?;
+        let most = usize::from(*most);
+        let deepest = opened(rt.alloc(), unit, tail, most)?;
         let answer = compile(rt.alloc(), deepest.as_slice());
         assert!(rt; matches!(&answer, Err(Refusal::EndOfText)));
-        let deeper = opened(rt.alloc(), unit, tail, *most + 1)?;
+        let deeper = opened(rt.alloc(), unit, tail, most + 1)?;
         let answer = compile(rt.alloc(), deeper.as_slice());
         assert!(rt; matches!(&answer, Err(Refusal::Nesting(place)) if place.column == *column));
     }
