@@ -54,7 +54,9 @@ impl Tree {
     /// The members of a node in ascending order, those of its parts and its body among them. None
     /// where it has ended or was never made.
     pub fn members(&self, node: u64) -> &[u32]
-        ensures { result.now ≡ t.members (tree_of self.now) node }
+        ensures members { result.now ≡ t.members (tree_of self.now) node }
+        // So it is of every tree: each processor is at exactly one node.
+        ensures sound { IsSound (processors self.now) (tree_of self.now) }
     {
         match self.nodes.get(&node) {
             Some(node) => &node.members,

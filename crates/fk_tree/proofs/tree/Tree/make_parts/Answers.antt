@@ -11,18 +11,18 @@ use Rattle.fk_tree.proofs.tree.Tree.make_parts.Goals as goal
 pub divide-requires-clause-few : goal.divide-requires-clause-few
 divide-requires-clause-few c =
     let tree = c.args.self.now in
-    let copy = c.as_slice-members.ensures.value ∙ c.in_ok-copied.ensures ∙ c.members.ensures in
+    let copy = c.as_slice-members.ensures.value ∙ c.in_ok-copied.ensures ∙ c.members.ensures.members in
     let short = length-between 0 _ (members (tree_of tree) c.args.node) (tree.sound.ascending c.args.node) (λ h is. (omega arith, tree.sound.within c.args.node h is)) in
     omega (arith, ap length copy, short, tree.few)
 
 pub divide-requires-clause-length : goal.divide-requires-clause-length
 divide-requires-clause-length c =
-    c.requires.length ∙ ap length (sym (c.as_slice-members.ensures.value ∙ c.in_ok-copied.ensures ∙ c.members.ensures))
+    c.requires.length ∙ ap length (sym (c.as_slice-members.ensures.value ∙ c.in_ok-copied.ensures ∙ c.members.ensures.members))
 
 pub invariant_of-self : goal.invariant_of-self
 invariant_of-self c =
     let tree = c.args.self.now in
-    let copy = c.as_slice-members.ensures.value ∙ c.in_ok-copied.ensures ∙ c.members.ensures in
+    let copy = c.as_slice-members.ensures.value ∙ c.in_ok-copied.ensures ∙ c.members.ensures.members in
     let leaf = leaf_not_waiting _ c.args.node (tree_of tree) tree.sound c.requires.idle in
     let size : length c.place.new.places ≡ tree.places.len = omega (arith, c.place.auto.places, c.deref_mut.ensures.len) in
     let out = take_at c.place.new.places (drop (length c.place.new.places) tree.places.items) tree.places.len size in
@@ -41,7 +41,7 @@ invariant_of-self c =
 pub returns-in-Ok-clause-tree : goal.returns-in-Ok-clause-tree
 returns-in-Ok-clause-tree c =
     let tree = c.args.self.now in
-    let copy = c.as_slice-members.ensures.value ∙ c.in_ok-copied.ensures ∙ c.members.ensures in
+    let copy = c.as_slice-members.ensures.value ∙ c.in_ok-copied.ensures ∙ c.members.ensures.members in
     let leaf = leaf_not_waiting _ c.args.node (tree_of tree) tree.sound c.requires.idle in
     let size : length c.place.new.places ≡ tree.places.len = omega (arith, c.place.auto.places, c.deref_mut.ensures.len) in
     let out = take_at c.place.new.places (drop (length c.place.new.places) tree.places.items) tree.places.len size in
