@@ -1,15 +1,13 @@
 -- How far the tokens of a text reach, and how few items they make.
-use Rattle.std.proofs.Common.{◌≡◌, ℕ, suc, ◌+◌, ◌*◌, ◌<◌, ◌≤◌, inl, inr, None, Bool, List, [], ◌∷◌, length, take, drop, refl, sym, ap, subst, ◌∙◌, arith, length-append, append-nil}
+use Rattle.std.proofs.Common.{◌≡◌, ℕ, suc, ◌+◌, ◌*◌, ◌<◌, ◌≤◌, inl, inr, None, Bool, List, [], ◌∷◌, ◌++◌, length, take, drop, refl, sym, ap, subst, ◌∙◌, arith, length-append, append-nil}
 use Rattle.std.proofs.lemmas.List.{take-append-drop, length-map}
 use Rattle.fk_syntax.specs.declared.place.Place.{Place}
 use Rattle.fk_syntax.specs.Program.{ProgramTree}
 use Rattle.fk_lex.specs.declared.step.Step.{Step}
 use Rattle.fk_lex.specs.declared.step.Step.TheVariants.{Gap, Token, Fault}
 use Rattle.fk_lex.specs.declared.token.TokenKind.{TokenKind}
-use Rattle.fk_lex.specs.declared.position.Position.{Position}
-use Rattle.fk_lex.specs.Positions.{start, after}
 use Rattle.fk_lex.specs.Reading.{Spelled, Cuts, tokens_in, Tokens}
-use Rattle.fk_lex.proofs.Extents.{after_bounds}
+use Rattle.fk_lex.proofs.Extents.{short_line}
 use Rattle.fk_expr.specs.Languages.{Stretch, Language, tokens_of, numbered, token, many}
 use Rattle.fk_expr.specs.Grammar.{base}
 use Rattle.fk_expr.specs.Kinds.{is_int, is_unsigned, is_void, is_struct, is_name}
@@ -23,21 +21,20 @@ halves : (n : ℕ) (text : List ℕ) → length (take n text) + length (drop n t
 halves n text = sym (length-append (take n text) (drop n text)) ∙ ap length (take-append-drop n text)
 
 -- the place behind the last token of a text is at most one column behind its bytes
-within_by : (pieces : List Step) (at : Position) (text : List ℕ) (end : Place) (most : ℕ) → Cuts pieces at text None
-    → at.bytes + length text < most → end.column ≤ most → (end_of end (tokens_in pieces at text)).column ≤ most
-within_by [] at text end most cuts fits low = low
-within_by (Gap n ∷ pieces) at text end most cuts fits low =
-    let moved = (after_bounds at (take n text)).1 in
-    within_by pieces (after at (take n text)) (drop n text) end most cuts.3 (omega (arith, moved, halves n text, fits)) low
-within_by (Token n kind ∷ pieces) at text end most cuts fits low =
-    let moved = (after_bounds at (take n text)).1 in
-    within_by pieces (after at (take n text)) (drop n text) _ most cuts.3 (omega (arith, moved, halves n text, fits)) (omega (arith, halves n text, fits))
-within_by (Fault n kind ∷ pieces) at text end most cuts fits low = absurd cuts.2
+within_by : (pieces : List Step) (before text : List ℕ) (end : Place) (most : ℕ) → Cuts pieces before text None
+    → length before + length text < most → end.column ≤ most → (end_of end (tokens_in pieces before text)).column ≤ most
+within_by [] before text end most cuts fits low = low
+within_by (Gap n ∷ pieces) before text end most cuts fits low =
+    within_by pieces (before ++ take n text) (drop n text) end most cuts.3 (omega (arith, length-append before (take n text), halves n text, fits)) low
+within_by (Token n kind ∷ pieces) before text end most cuts fits low =
+    within_by pieces (before ++ take n text) (drop n text) _ most cuts.3 (omega (arith, length-append before (take n text), halves n text, fits))
+    (omega (arith, short_line before, halves n text, fits))
+within_by (Fault n kind ∷ pieces) before text end most cuts fits low = absurd cuts.2
 
 pub narrow : (source : List ℕ) (tokens : List Spelled) → Tokens source tokens → (end_of beginning tokens).column ≤ length source + 1
 narrow source tokens t =
     subst (λ list. (end_of beginning list).column ≤ length source + 1) (sym t.2)
-    (within_by t.0 start source beginning (length source + 1) t.1 (omega arith) (omega arith))
+    (within_by t.0 [] source beginning (length source + 1) t.1 (omega arith) (omega arith))
 
 -- ---- items
 

@@ -1,5 +1,5 @@
 -- Every text has exactly one list of tokens or exactly one fault.
-use Rattle.std.proofs.Common.{◌≡◌, ℕ, ◌+◌, ◌<◌, inl, inr, ⊎_elim, Option, Some, None, List, [], ◌∷◌, length, take, drop, refl, sym, ap, subst, ◌∙◌, arith}
+use Rattle.std.proofs.Common.{◌≡◌, ℕ, ◌+◌, ◌<◌, inl, inr, ⊎_elim, Option, Some, None, List, [], ◌∷◌, ◌++◌, length, take, drop, refl, sym, ap, subst, ◌∙◌, arith}
 use Rattle.std.proofs.lemmas.Bool.{cases_lt}
 use Rattle.fk_lex.specs.declared.step.Beginning.{Beginning}
 use Rattle.fk_lex.specs.declared.step.Beginning.TheVariants as begins
@@ -8,13 +8,13 @@ use Rattle.fk_lex.specs.declared.step.Step.{Step}
 use Rattle.fk_lex.specs.declared.step.Step.TheVariants.{Gap, Fault}
 use Rattle.fk_lex.specs.declared.token.TokenKind.{TokenKind}
 use Rattle.fk_lex.specs.declared.token.LexFault.{LexFault}
-use Rattle.fk_lex.specs.declared.position.Position.{Position}
 use Rattle.fk_lex.specs.Kinds.{kind_of, Longest}
-use Rattle.fk_lex.specs.Positions.{start, after, place_of}
+use Rattle.fk_lex.specs.Positions.{place_behind}
 use Rattle.fk_lex.specs.Reading.{Spelled, fault_at, IsPiece, Cuts, tokens_in, Tokens, Faults, OneReading}
 use Rattle.fk_lex.specs.Sizes.{size_of}
 use Rattle.fk_lex.specs.Steps.{CommentTo, CommentStep, TokenStep, token_or_fault, StandsBy, Stands, beginning}
 use Rattle.fk_lex.proofs.Existence.{some_reading}
+use Rattle.fk_lex.proofs.Parts.{text_once}
 
 -- neither of two numbers is below the other
 same_by : (m n : ℕ) → (m < n → ⊥) → (n < m → ⊥) → m ≡ n
@@ -52,18 +52,18 @@ token_once text s t (inl a) (inr b) = absurd (not_both a.1 _ a.2.spells (b.0 a.0
 token_once text s t (inr a) (inl b) = absurd (not_both b.1 _ b.2.spells (a.0 b.0 b.2.within))
 token_once text s t (inr a) (inr b) = a.1 ∙ sym b.1
 
-by_beginning : (b : Beginning) (at : Position) (text : List ℕ) (s t : Step) → StandsBy b at text s → StandsBy b at text t → s ≡ t
-by_beginning begins.Blank at text s t a b = a ∙ sym b
-by_beginning begins.Comment at text s t a b = comment_once text s t a b
-by_beginning begins.LineComment at text s t a b = a ∙ sym b
-by_beginning begins.Directive at text s t a b = a ∙ sym b
-by_beginning begins.Character at text s t a b = a ∙ sym b
-by_beginning begins.Text at text s t a b = a ∙ sym b
-by_beginning begins.Other at text s t a b = token_once text s t a b
+by_beginning : (b : Beginning) (before text : List ℕ) (s t : Step) → StandsBy b before text s → StandsBy b before text t → s ≡ t
+by_beginning begins.Blank before text s t a b = a ∙ sym b
+by_beginning begins.Comment before text s t a b = comment_once text s t a b
+by_beginning begins.LineComment before text s t a b = a ∙ sym b
+by_beginning begins.Directive before text s t a b = a ∙ sym b
+by_beginning begins.Character before text s t a b = a ∙ sym b
+by_beginning begins.Text before text s t a b = text_once text s t a b
+by_beginning begins.Other before text s t a b = token_once text s t a b
 
 -- one thing stands at a position
-pub stands_once : (at : Position) (text : List ℕ) (s t : Step) → Stands at text s → Stands at text t → s ≡ t
-stands_once at text s t a b = by_beginning (beginning text) at text s t a b
+pub stands_once : (before text : List ℕ) (s t : Step) → Stands before text s → Stands before text t → s ≡ t
+stands_once before text s t a b = by_beginning (beginning text) before text s t a b
 
 not_empty : (text : List ℕ) → text ≡ [] → 0 < length text → ⊥
 not_empty text is some = let none = ap length is in omega arith
@@ -75,41 +75,41 @@ fault_sizes : (m n : ℕ) (k l : FaultKind) → Fault m k ≡ Fault n l → (m �
 fault_sizes m n k l same = (cc, cc)
 
 -- a text is cut in one way
-cut_once : (ps qs : List Step) (at : Position) (text : List ℕ) (e f : Option LexFault) → Cuts ps at text e → Cuts qs at text f → (ps ≡ qs) × (e ≡ f)
-cut_once [] [] at text None None a b = (refl, refl)
-cut_once [] [] at text None (Some y) a b = absurd (not_empty text a b.2)
-cut_once [] [] at text (Some x) None a b = absurd (not_empty text b a.2)
-cut_once [] [] at text (Some x) (Some y) a b =
-    let same = fault_sizes a.0 b.0 a.1 b.1 (stands_once at text (Fault a.0 a.1) (Fault b.0 b.1) a.3 b.3) in
-    let found = a.4 ∙ ap (λ n. fault_at a.1 (place_of (after at (take n text)))) same.0 ∙ ap (λ k. fault_at k (place_of (after at (take b.0 text)))) same.1 ∙ sym b.4 in
+cut_once : (ps qs : List Step) (before text : List ℕ) (e f : Option LexFault) → Cuts ps before text e → Cuts qs before text f → (ps ≡ qs) × (e ≡ f)
+cut_once [] [] before text None None a b = (refl, refl)
+cut_once [] [] before text None (Some y) a b = absurd (not_empty text a b.2)
+cut_once [] [] before text (Some x) None a b = absurd (not_empty text b a.2)
+cut_once [] [] before text (Some x) (Some y) a b =
+    let same = fault_sizes a.0 b.0 a.1 b.1 (stands_once before text (Fault a.0 a.1) (Fault b.0 b.1) a.3 b.3) in
+    let found = a.4 ∙ ap (λ n. fault_at a.1 (place_behind (before ++ take n text))) same.0 ∙ ap (λ k. fault_at k (place_behind (before ++ take b.0 text))) same.1 ∙ sym b.4 in
     (refl, ap Some found)
-cut_once [] (q ∷ qs) at text None f a b = absurd (not_empty text a b.0)
-cut_once (p ∷ ps) [] at text e None a b = absurd (not_empty text b a.0)
-cut_once [] (q ∷ qs) at text (Some x) f a b = absurd (fault_no_piece a.0 a.1 q (stands_once at text (Fault a.0 a.1) q a.3 b.1) b.2)
-cut_once (p ∷ ps) [] at text e (Some y) a b = absurd (fault_no_piece b.0 b.1 p (stands_once at text (Fault b.0 b.1) p b.3 a.1) a.2)
-cut_once (p ∷ ps) (q ∷ qs) at text e f a b =
-    let same = stands_once at text q p b.1 a.1 in
-    let others = subst (λ s. Cuts qs (after at (take (size_of s) text)) (drop (size_of s) text) f) same b.3 in
-    let rest = cut_once ps qs (after at (take (size_of p) text)) (drop (size_of p) text) e f a.3 others in
+cut_once [] (q ∷ qs) before text None f a b = absurd (not_empty text a b.0)
+cut_once (p ∷ ps) [] before text e None a b = absurd (not_empty text b a.0)
+cut_once [] (q ∷ qs) before text (Some x) f a b = absurd (fault_no_piece a.0 a.1 q (stands_once before text (Fault a.0 a.1) q a.3 b.1) b.2)
+cut_once (p ∷ ps) [] before text e (Some y) a b = absurd (fault_no_piece b.0 b.1 p (stands_once before text (Fault b.0 b.1) p b.3 a.1) a.2)
+cut_once (p ∷ ps) (q ∷ qs) before text e f a b =
+    let same = stands_once before text q p b.1 a.1 in
+    let others = subst (λ s. Cuts qs (before ++ take (size_of s) text) (drop (size_of s) text) f) same b.3 in
+    let rest = cut_once ps qs (before ++ take (size_of p) text) (drop (size_of p) text) e f a.3 others in
     (ap (λ l. p ∷ l) rest.0 ∙ ap (λ s. s ∷ qs) (sym same), rest.1)
 
 tokens_once : (text : List ℕ) (list other : List Spelled) → Tokens text list → Tokens text other → list ≡ other
 tokens_once text list other a b =
-    let same = cut_once a.0 b.0 start text None None a.1 b.1 in
-    a.2 ∙ ap (λ pieces. tokens_in pieces start text) same.0 ∙ sym b.2
+    let same = cut_once a.0 b.0 [] text None None a.1 b.1 in
+    a.2 ∙ ap (λ pieces. tokens_in pieces [] text) same.0 ∙ sym b.2
 
 found_once : (x y : LexFault) → Some x ≡ Some y → x ≡ y
 found_once x y same = cc
 
 faults_once : (text : List ℕ) (found other : LexFault) → Faults text found → Faults text other → found ≡ other
 faults_once text found other a b =
-    found_once found other (cut_once a.0 b.0 start text (Some found) (Some other) a.1 b.1).1
+    found_once found other (cut_once a.0 b.0 [] text (Some found) (Some other) a.1 b.1).1
 
 none_found : (x : LexFault) → None ≡ Some x → ⊥
 none_found x same = cc
 
 tokens_or_fault : (text : List ℕ) (list : List Spelled) (found : LexFault) → Tokens text list → Faults text found → ⊥
-tokens_or_fault text list found a b = none_found found (cut_once a.0 b.0 start text None (Some found) a.1 b.1).1
+tokens_or_fault text list found a b = none_found found (cut_once a.0 b.0 [] text None (Some found) a.1 b.1).1
 
 pub one_reading : OneReading
 one_reading = record { some = some_reading; tokens = tokens_once; faults = faults_once; apart = tokens_or_fault }

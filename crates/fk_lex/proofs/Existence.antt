@@ -1,5 +1,5 @@
 -- Something stands at every position of a text, and so the text has tokens or a fault.
-use Rattle.std.proofs.Common.{◌≡◌, ℕ, zero, suc, ◌+◌, ◌<◌, ◌≤◌, ◌⊎◌, inl, inr, ⊎_elim, Option, Some, None, List, [], ◌∷◌, length, take, drop, get_or, refl, subst, arith}
+use Rattle.std.proofs.Common.{◌≡◌, ℕ, zero, suc, ◌+◌, ◌<◌, ◌≤◌, ◌⊎◌, inl, inr, ⊎_elim, Option, Some, None, List, [], ◌∷◌, ◌++◌, length, take, drop, get_or, refl, sym, subst, arith}
 use Rattle.std.proofs.lemmas.Bool.{cases_lt}
 use Rattle.fk_lex.specs.declared.step.Beginning.{Beginning}
 use Rattle.fk_lex.specs.declared.step.Beginning.TheVariants as begins
@@ -8,12 +8,13 @@ use Rattle.fk_lex.specs.declared.step.Step.{Step}
 use Rattle.fk_lex.specs.declared.step.Step.TheVariants.{Gap, Token, Fault}
 use Rattle.fk_lex.specs.declared.token.TokenKind.{TokenKind}
 use Rattle.fk_lex.specs.declared.token.LexFault.{LexFault}
-use Rattle.fk_lex.specs.declared.position.Position.{Position}
 use Rattle.fk_lex.specs.Kinds.{kind_of}
-use Rattle.fk_lex.specs.Positions.{start, after, place_of}
+use Rattle.fk_lex.specs.Positions.{place_behind, only_blanks}
 use Rattle.fk_lex.specs.Reading.{Spelled, fault_at, Cuts, tokens_in, Tokens, Faults}
-use Rattle.fk_lex.specs.Steps.{EndsAt, CommentTo, CommentStep, TokenStep, token_or_fault, line_length, directive_step, character_step, text_step, StandsBy, Stands, beginning}
+use Rattle.fk_lex.specs.Steps.{EndsAt, CommentTo, CommentStep, TokenStep, token_or_fault, line_length, directive_step, character_step, StandsBy, Stands, beginning}
+use Rattle.fk_lex.specs.Texts.{TextStep}
 use Rattle.fk_lex.proofs.Extents.{byte_within}
+use Rattle.fk_lex.proofs.Parts.{some_text, text_begins}
 use Rattle.fk_lex.proofs.Reached.{reached_less, empty_list}
 
 -- comments
@@ -81,50 +82,56 @@ token_by text (inl found) =
     )
 token_by text (inr none) = (Fault 0 BadByte, inr (λ m within. none m (omega arith), refl))
 
+-- texts in quotes
+
+quoted : (text : List ℕ) → 0 < length text → get_or text 0 0 ≡ 34 → (s : Step) × TextStep text s
+quoted [] some quote = absurd (omega arith)
+quoted (c ∷ cs) some quote = subst (λ c. (s : Step) × TextStep (c ∷ cs) s) (sym quote) (some_text cs)
+
 -- whatever a text begins with
 
-stands_by : (b : Beginning) (at : Position) (text : List ℕ) → (s : Step) × StandsBy b at text s
-stands_by begins.Blank at text = (Gap 1, refl)
-stands_by begins.Comment at text = comment_by text (end_before text (length text))
-stands_by begins.LineComment at text = (Gap (line_length text), refl)
-stands_by begins.Directive at text = (directive_step at.only_blanks text, refl)
-stands_by begins.Character at text = (character_step text, refl)
-stands_by begins.Text at text = (text_step text, refl)
-stands_by begins.Other at text = token_by text (longest_below text (suc (length text)))
+stands_by : (b : Beginning) (before text : List ℕ) → 0 < length text → b ≡ beginning text → (s : Step) × StandsBy b before text s
+stands_by begins.Blank before text some is = (Gap 1, refl)
+stands_by begins.Comment before text some is = comment_by text (end_before text (length text))
+stands_by begins.LineComment before text some is = (Gap (line_length text), refl)
+stands_by begins.Directive before text some is = (directive_step (only_blanks before) text, refl)
+stands_by begins.Character before text some is = (character_step text, refl)
+stands_by begins.Text before text some is = quoted text some (text_begins text is)
+stands_by begins.Other before text some is = token_by text (longest_below text (suc (length text)))
 
-something_stands : (at : Position) (text : List ℕ) → (s : Step) × Stands at text s
-something_stands at text = stands_by (beginning text) at text
+something_stands : (before text : List ℕ) → 0 < length text → (s : Step) × Stands before text s
+something_stands before text some = stands_by (beginning text) before text some refl
 
 -- a text is cut up to its end or up to a fault
-abbrev IsCut : Position → List ℕ → Type 0
-IsCut at text = (pieces : List Step) × (end : Option LexFault) × Cuts pieces at text end
+abbrev IsCut : List ℕ → List ℕ → Type 0
+IsCut before text = (pieces : List Step) × (end : Option LexFault) × Cuts pieces before text end
 
-cut_on : (size : ℕ) (at : Position) (text : List ℕ) → 0 < length text → length text ≤ suc size → (step : Step) → Stands at text step → ((at : Position) (text : List ℕ) → length text ≤ size → IsCut at text) → IsCut at text
-cut_on size at text some small (Gap n) stands onward =
-    let less = reached_less at text (Gap n) some stands tt in
-    let rest = onward (after at (take n text)) (drop n text) (omega arith) in
+cut_on : (size : ℕ) (before text : List ℕ) → 0 < length text → length text ≤ suc size → (step : Step) → Stands before text step → ((before text : List ℕ) → length text ≤ size → IsCut before text) → IsCut before text
+cut_on size before text some small (Gap n) stands onward =
+    let less = reached_less before text (Gap n) some stands tt in
+    let rest = onward (before ++ take n text) (drop n text) (omega arith) in
     (Gap n ∷ rest.0, rest.1, (some, stands, tt, rest.2))
-cut_on size at text some small (Token n kind) stands onward =
-    let less = reached_less at text (Token n kind) some stands tt in
-    let rest = onward (after at (take n text)) (drop n text) (omega arith) in
+cut_on size before text some small (Token n kind) stands onward =
+    let less = reached_less before text (Token n kind) some stands tt in
+    let rest = onward (before ++ take n text) (drop n text) (omega arith) in
     (Token n kind ∷ rest.0, rest.1, (some, stands, tt, rest.2))
-cut_on size at text some small (Fault n kind) stands onward =
-    ([], Some (fault_at kind (place_of (after at (take n text)))), (n, kind, some, stands, refl))
+cut_on size before text some small (Fault n kind) stands onward =
+    ([], Some (fault_at kind (place_behind (before ++ take n text))), (n, kind, some, stands, refl))
 
-cut_more : (size : ℕ) (at : Position) (text : List ℕ) → length text ≤ suc size → ((at : Position) (text : List ℕ) → length text ≤ size → IsCut at text) → IsCut at text
-cut_more size at [] small onward = ([], None, refl)
-cut_more size at (c ∷ cs) small onward =
-    let stands = something_stands at (c ∷ cs) in
-    cut_on size at (c ∷ cs) (omega arith) small stands.0 stands.1 onward
+cut_more : (size : ℕ) (before text : List ℕ) → length text ≤ suc size → ((before text : List ℕ) → length text ≤ size → IsCut before text) → IsCut before text
+cut_more size before [] small onward = ([], None, refl)
+cut_more size before (c ∷ cs) small onward =
+    let stands = something_stands before (c ∷ cs) (omega arith) in
+    cut_on size before (c ∷ cs) (omega arith) small stands.0 stands.1 onward
 
-cut : (size : ℕ) (at : Position) (text : List ℕ) → length text ≤ size → IsCut at text
-cut zero at text small = ([], None, empty_list text (omega arith))
-cut (suc size) at text small = cut_more size at text small (λ at text small. cut size at text small)
+cut : (size : ℕ) (before text : List ℕ) → length text ≤ size → IsCut before text
+cut zero before text small = ([], None, empty_list text (omega arith))
+cut (suc size) before text small = cut_more size before text small (λ before text small. cut size before text small)
 
-reading_of : (text : List ℕ) (pieces : List Step) (end : Option LexFault) → Cuts pieces start text end → ((list : List Spelled) × Tokens text list) ⊎ ((found : LexFault) × Faults text found)
-reading_of text pieces None cuts = inl (tokens_in pieces start text, (pieces, cuts, refl))
+reading_of : (text : List ℕ) (pieces : List Step) (end : Option LexFault) → Cuts pieces [] text end → ((list : List Spelled) × Tokens text list) ⊎ ((found : LexFault) × Faults text found)
+reading_of text pieces None cuts = inl (tokens_in pieces [] text, (pieces, cuts, refl))
 reading_of text pieces (Some found) cuts = inr (found, (pieces, cuts))
 
 -- a text has tokens or a fault
 pub some_reading : (text : List ℕ) → ((list : List Spelled) × Tokens text list) ⊎ ((found : LexFault) × Faults text found)
-some_reading text = let whole = cut (length text) start text (omega arith) in reading_of text whole.0 whole.1 whole.2
+some_reading text = let whole = cut (length text) [] text (omega arith) in reading_of text whole.0 whole.1 whole.2

@@ -1,36 +1,40 @@
 -- How far what stands at a position goes, and where the next position is.
-use Rattle.std.proofs.Common.{◌≡◌, ℕ, ◌+◌, ◌<◌, ◌≤◌, ◌==◌, ◌&&◌, ◌||◌, not, inl, inr, ⊎_elim, Bool, true, false, Option, Some, None, List, [], ◌∷◌, length, take, drop, get_or, refl, sym, ap, subst, ◌∙◌, arith, if◌then◌else◌, length-drop}
+use Rattle.std.proofs.Common.{◌≡◌, ℕ, ◌+◌, ◌<◌, ◌≤◌, ◌==◌, ◌&&◌, inl, inr, ⊎_elim, Bool, true, false, Option, Some, None, List, [], ◌∷◌, ◌++◌, length, take, get_or, refl, sym, ap, subst, ◌∙◌, arith, if◌then◌else◌, length-append}
+use Rattle.std.specs.List.{list_all}
 use Rattle.std.proofs.lemmas.Bool.{cases_lt, both_ways}
 use Rattle.std.proofs.lemmas.Bool.Decides.{nat_tests}
 use Rattle.std.proofs.lemmas.Grind.{common_steps}
 use Rattle.std.proofs.lemmas.List.{get_or_past}
-use Rattle.std.proofs.lemmas.List.Sums.{prefix_len-le-length}
+use Rattle.std.proofs.lemmas.List.Sums.{prefix_len-le-length, count_by-le-length}
 use Rattle.fk_lex.specs.declared.step.Beginning.{Beginning}
 use Rattle.fk_lex.specs.declared.step.Beginning.TheVariants as begins
-use Rattle.fk_lex.specs.declared.step.FaultKind.TheVariants.{BadByte, OpenComment, WideNumber}
+use Rattle.fk_lex.specs.declared.step.FaultKind.TheVariants.{BadByte, OpenComment, OpenString, WideNumber}
 use Rattle.fk_lex.specs.declared.step.Step.{Step}
 use Rattle.fk_lex.specs.declared.step.Step.TheVariants.{Gap, Token, Fault}
 use Rattle.fk_lex.specs.declared.token.TokenKind.{TokenKind}
-use Rattle.fk_lex.specs.declared.token.TokenKind.TheVariants.{Number}
-use Rattle.fk_lex.specs.declared.position.Position.{Position}
-use Rattle.fk_lex.specs.Bytes.{is_blank, is_word_byte, is_plain, escape_value}
+use Rattle.fk_lex.specs.declared.token.TokenKind.TheVariants.{Number, Text as TextKind}
+use Rattle.fk_lex.specs.Bytes.{is_word_byte, is_plain, escape_value}
 use Rattle.fk_lex.specs.Kinds.{kind_of, Longest}
-use Rattle.fk_lex.specs.Positions.{next, after}
+use Rattle.fk_lex.specs.Positions.{in_line, newlines, last_line, only_blanks}
 use Rattle.fk_lex.specs.Steps
+use Rattle.fk_lex.specs.Texts.{Part, Bad, bytes_of, ClosedStep, TextStep}
+use Rattle.fk_lex.proofs.Parts.{bytes-append}
+use Rattle.fk_lex.proofs.Tests.{same_byte}
 
 -- positions
 
-next_bounds : (b blank : Bool) (at : Position) → let there : Position = if b then record { lines = at.lines + 1; bytes = 0; only_blanks = true } else record { lines = at.lines; bytes = at.bytes + 1; only_blanks = blank } in (there.lines ≤ at.lines + 1) × (there.bytes ≤ at.bytes + 1)
-next_bounds true blank at = (omega arith, omega arith)
-next_bounds false blank at = (omega arith, omega arith)
+-- a line is not longer than its text
+pub short_line : (before : List ℕ) → length (last_line before) ≤ length before
+short_line [] = omega arith
+short_line (c ∷ cs) = short_if (list_all in_line (c ∷ cs)) c cs (last_line cs) (short_line cs)
+  where
+    short_if : (b : Bool) (c : ℕ) (cs line : List ℕ) → length line ≤ length cs → length (if b then c ∷ cs else line) ≤ length (c ∷ cs)
+    short_if true c cs line short = omega arith
+    short_if false c cs line short = omega arith
 
--- a position moves at most as far as the bytes that are passed
-pub after_bounds : (at : Position) (bytes : List ℕ) → ((after at bytes).lines ≤ at.lines + length bytes) × ((after at bytes).bytes ≤ at.bytes + length bytes)
-after_bounds at [] = (omega arith, omega arith)
-after_bounds at (c ∷ cs) =
-    let here = next_bounds (c == 10) (at.only_blanks && is_blank c) at in
-    let rest = after_bounds (next at c) cs in
-    (omega arith, omega arith)
+-- nor has it more lines than bytes
+pub few_newlines : (before : List ℕ) → newlines before ≤ length before
+few_newlines before = count_by-le-length (λ c. c == 10) before
 
 -- what stands at a position is inside the text, and a piece takes a byte at least
 abbrev pub Within : Step → List ℕ → Type 0
@@ -48,7 +52,7 @@ line_some [] some other = absurd (omega arith)
 line_some (c ∷ cs) some other = grind (arith, nat_tests, common_steps)
 
 line_within : (text : List ℕ) → Steps.line_length text ≤ length text
-line_within text = prefix_len-le-length (λ c. not (c == 10)) text
+line_within text = prefix_len-le-length in_line text
 
 newline_is_blank : (c d : ℕ) → c ≡ 10 → Steps.beginning_of c d ≡ begins.Blank
 newline_is_blank c d is = subst (λ c. Steps.beginning_of c d ≡ begins.Blank) (sym is) refl
@@ -83,9 +87,6 @@ escaped_within : (found : Option ℕ) (text : List ℕ) → 3 < length text → 
 escaped_within None text more = omega arith
 escaped_within (Some value) text more = (omega arith, omega arith)
 
-same_byte : (c d : ℕ) → (c == d) ≡ true → c ≡ d
-same_byte c d is = grind (arith, nat_tests)
-
 escape_by : (b : Bool) (found : Option ℕ) (text : List ℕ) → 0 < length text → (b ≡ true → 3 < length text) → Within (if b then Steps.escaped found else Fault 0 BadByte) text
 escape_by true found text some more = escaped_within found text (more refl)
 escape_by false found text some more = some
@@ -109,52 +110,24 @@ character_within text some =
     (escape_by ((c == 92) && (e == 39)) (escape_value d) text some
     (λ both. byte_within text 3 39 (same_byte e 39 (second_of (c == 92) (e == 39) both)) (omega arith)))
 
--- an index of a list, if there is one, is inside it
-abbrev InList : Option ℕ → ℕ → Type 0
-InList None size = Unit {0}
-InList (Some n) size = n < size
+-- texts
 
-farther_in : (k : ℕ) (found : Option ℕ) (size : ℕ) → InList found size → InList (Steps.farther k found) (k + size)
-farther_in k None size inside = tt
-farther_in k (Some n) size inside = omega arith
+closed_within : (parts : List Part) (rest text : List ℕ) (s : Step) → text ≡ 34 ∷ (bytes_of parts ++ 34 ∷ rest) → ClosedStep parts s → Within s text
+closed_within parts rest text s is (inl a) =
+    let size = ap length is in
+    let all = length-append (bytes_of parts) (34 ∷ rest) in
+    within_by s (Token (length (bytes_of parts) + 2) TextKind) text a.1 (omega arith, omega arith)
+closed_within parts rest text s is (inr a) =
+    let first = a.1 in
+    let size = ap length is in
+    let all = length-append (bytes_of parts) (34 ∷ rest) in
+    let split =
+    ap (λ l. length (bytes_of l)) first.3 ∙ ap length (bytes-append a.0 (Bad first.0 ∷ first.1)) ∙ length-append (bytes_of a.0) (bytes_of (Bad first.0 ∷ first.1)) in
+    within_by s (Fault (length (bytes_of a.0) + 1) BadByte) text a.2 (omega arith)
 
-in_more : (found : Option ℕ) (m n : ℕ) → m ≡ n → InList found m → InList found n
-in_more found m n is inside = subst (InList found) is inside
-
-choose_in : (b : Bool) (x y : Option ℕ) (size : ℕ) → InList x size → InList y size → InList (if b then x else y) size
-choose_in true x y size a b = a
-choose_in false x y size a b = b
-
-closing_in : (body : List ℕ) → InList (Steps.closing body) (length body)
-closing_in [] = tt
-closing_in (c ∷ []) = choose_in (c == 34) (Some 0) None (length (c ∷ [])) (omega arith) tt
-closing_in (c ∷ d ∷ more) =
-    let size = length (c ∷ d ∷ more) in
-    choose_in (c == 34) _ _ size (omega arith) (choose_in (c == 10) _ _ size tt (choose_in (Steps.is_escape c d) _ _ size
-    (in_more _ (2 + length more) size (omega arith) (farther_in 2 (Steps.closing more) (length more) (closing_in more)))
-    (in_more _ (1 + length (d ∷ more)) size (omega arith) (farther_in 1 (Steps.closing (d ∷ more)) (length (d ∷ more)) (closing_in (d ∷ more))))))
-
-first_bad_in : (body : List ℕ) → InList (Steps.first_bad body) (length body)
-first_bad_in [] = tt
-first_bad_in (c ∷ []) = choose_in ((c == 34) || is_plain 34 c) None (Some 0) (length (c ∷ [])) tt (omega arith)
-first_bad_in (c ∷ d ∷ more) =
-    let size = length (c ∷ d ∷ more) in
-    choose_in (c == 34) _ _ size tt (choose_in (Steps.is_escape c d) _ _ size
-    (in_more _ (2 + length more) size (omega arith) (farther_in 2 (Steps.first_bad more) (length more) (first_bad_in more)))
-    (choose_in (is_plain 34 c) _ _ size
-    (in_more _ (1 + length (d ∷ more)) size (omega arith) (farther_in 1 (Steps.first_bad (d ∷ more)) (length (d ∷ more)) (first_bad_in (d ∷ more))))
-    (omega arith)))
-
-text_by : (end bad : Option ℕ) (text : List ℕ) (size : ℕ) → length text ≡ 1 + size → InList end size → InList bad size → Within (Steps.text_of end bad) text
-text_by None bad text size is in_end in_bad = omega arith
-text_by (Some n) None text size is in_end in_bad = (omega arith, omega arith)
-text_by (Some n) (Some bad) text size is in_end in_bad = omega arith
-
-text_within : (text : List ℕ) → 0 < length text → Within (Steps.text_step text) text
-unfolding Steps.text_step
-text_within text some =
-    let body = drop 1 text in
-    text_by (Steps.closing body) (Steps.first_bad body) text (length body) (omega (arith, length-drop 1 text)) (closing_in body) (first_bad_in body)
+text_within : (text : List ℕ) (s : Step) → 0 < length text → TextStep text s → Within s text
+text_within text s some (parts, rest, inl a) = closed_within parts rest text s a.0 a.2
+text_within text s some (parts, rest, inr a) = within_by s (Fault 0 OpenString) text a.3 some
 
 none_spelled_by_nothing : (kind : TokenKind) → kind_of [] ≡ Some kind → ⊥
 unfolding kind_of
@@ -187,15 +160,15 @@ token_within text s some (inl a) =
     within_by s _ text a.3 (token_or_fault_within text a.0 a.1 some (longest_some text a.0 a.1 a.2) a.2.within)
 token_within text s some (inr a) = within_by s (Fault 0 BadByte) text a.1 some
 
-stands_by_within : (b : Beginning) (at : Position) (text : List ℕ) (s : Step) → b ≡ Steps.beginning text → 0 < length text → Steps.StandsBy b at text s → Within s text
-stands_by_within begins.Blank at text s is some a = within_by s (Gap 1) text a (omega arith, omega arith)
-stands_by_within begins.Comment at text s is some a = comment_within text s some a
-stands_by_within begins.LineComment at text s is some a =
+stands_by_within : (b : Beginning) (before text : List ℕ) (s : Step) → b ≡ Steps.beginning text → 0 < length text → Steps.StandsBy b before text s → Within s text
+stands_by_within begins.Blank before text s is some a = within_by s (Gap 1) text a (omega arith, omega arith)
+stands_by_within begins.Comment before text s is some a = comment_within text s some a
+stands_by_within begins.LineComment before text s is some a =
     within_by s _ text a (line_some text some (comment_no_newline text is), line_within text)
-stands_by_within begins.Directive at text s is some a = within_by s _ text a (directive_within at.only_blanks text some is)
-stands_by_within begins.Character at text s is some a = within_by s _ text a (character_within text some)
-stands_by_within begins.Text at text s is some a = within_by s _ text a (text_within text some)
-stands_by_within begins.Other at text s is some a = token_within text s some a
+stands_by_within begins.Directive before text s is some a = within_by s _ text a (directive_within (only_blanks before) text some is)
+stands_by_within begins.Character before text s is some a = within_by s _ text a (character_within text some)
+stands_by_within begins.Text before text s is some a = text_within text s some a
+stands_by_within begins.Other before text s is some a = token_within text s some a
 
-pub stands_within : (at : Position) (text : List ℕ) (s : Step) → 0 < length text → Steps.Stands at text s → Within s text
-stands_within at text s some a = stands_by_within (Steps.beginning text) at text s refl some a
+pub stands_within : (before text : List ℕ) (s : Step) → 0 < length text → Steps.Stands before text s → Within s text
+stands_within before text s some a = stands_by_within (Steps.beginning text) before text s refl some a

@@ -4,10 +4,11 @@ pub mod Existence
 pub mod Extents
 pub mod Fronts
 pub mod Lines
-pub mod Literals
 pub mod Numerals
+pub mod Parts
 pub mod Reached
 pub mod Seconds
 pub mod Spelled
+pub mod Tests
 pub mod TokenSteps
 pub mod Words

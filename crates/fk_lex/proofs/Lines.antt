@@ -1,30 +1,27 @@
 -- A token stands in one line, and begins with no blank.
-use Rattle.std.proofs.Common.{◌≡◌, ℕ, zero, suc, ◌+◌, ◌<◌, ◌≤◌, ◌==◌, ◌&&◌, ◌||◌, not, inl, inr, ⊎_elim, Bool, true, false, nat_lt, Option, Some, None, List, [], ◌∷◌, ◌++◌, length, take, drop, get_or, refl, sym, ap, subst, ◌∙◌, arith, if◌then◌else◌, append_assoc, length-append, add-zero}
+use Rattle.std.proofs.Common.{◌≡◌, ℕ, zero, suc, ◌+◌, ◌<◌, ◌≤◌, ◌==◌, ◌&&◌, ◌||◌, not, inl, inr, ⊎_elim, Bool, true, false, nat_lt, Option, Some, None, List, [], ◌∷◌, ◌++◌, length, take, get_or, refl, sym, ap, subst, ◌∙◌, arith, if◌then◌else◌, append_assoc, append-nil, length-append, add-zero}
 use Rattle.std.specs.List.{list_all}
 use Rattle.std.specs.Str.{bytes_eq}
 use Rattle.std.proofs.lemmas.Bool.{both_ways, or_cases}
 use Rattle.std.proofs.lemmas.Bool.Decides.{nat_tests}
 use Rattle.std.proofs.lemmas.List.{take_at}
+use Rattle.std.proofs.lemmas.List.Folds.{list_all-append}
+use Rattle.std.proofs.lemmas.List.Sums.{sum_by-append}
 use Rattle.std.proofs.lemmas.Slice.Eq.{bytes_eq-Decides}
 use Rattle.fk_lex.specs.declared.position.Position.{Position}
 use Rattle.fk_lex.specs.declared.step.Beginning.{Beginning}
 use Rattle.fk_lex.specs.declared.step.Beginning.TheVariants as begins
-use Rattle.fk_lex.specs.declared.step.FaultKind.TheVariants.{BadByte, OpenComment, WideNumber}
-use Rattle.fk_lex.specs.declared.step.Step.{Step}
+use Rattle.fk_lex.specs.declared.step.FaultKind.TheVariants.{BadByte, WideNumber}
 use Rattle.fk_lex.specs.declared.step.Step.TheVariants.{Gap, Token, Fault}
 use Rattle.fk_lex.specs.declared.token.TokenKind.{TokenKind}
-use Rattle.fk_lex.specs.declared.token.TokenKind.TheVariants.{Number, Text}
+use Rattle.fk_lex.specs.declared.token.TokenKind.TheVariants.{Number}
 use Rattle.fk_lex.specs.Bytes.{is_blank, is_letter, is_digit, is_word_byte, digit_value, is_suffix, is_x, is_plain, escape_value}
-use Rattle.fk_lex.specs.Kinds.{kind_of, Longest, lookup, signs, keywords, or_word, is_numeral, is_hexadecimal, is_tail, is_empty, numeral_value, is_unsigned}
-use Rattle.fk_lex.specs.Positions.{after, in_line, is_solid}
-use Rattle.fk_lex.specs.Spellings.{Part, Plain, Escape, ArePartsOfText, bytes_of, IsTextBody}
-use Rattle.fk_lex.specs.Steps.{CommentStep, TokenStep, token_or_fault, beginning, is_include, line_length, is_some_byte, directive_step, character_step, escaped, closed, text_of, closing, first_bad, text_step, StandsBy, Stands}
-use Rattle.fk_lex.proofs.Literals.{if_true, if_false}
-use Rattle.fk_lex.proofs.Spelled.{ended}
-
-both_true : (a b : Bool) → (a && b) ≡ true → (a ≡ true) × (b ≡ true)
-both_true true b both = (refl, both)
-both_true false b both = cc
+use Rattle.fk_lex.specs.Kinds.{kind_of, lookup, signs, keywords, or_word, is_numeral, is_hexadecimal, is_tail, is_empty, numeral_value, is_unsigned}
+use Rattle.fk_lex.specs.Moves.{position_of, after, is_solid}
+use Rattle.fk_lex.specs.Positions.{in_line, newlines, last_line, only_blanks}
+use Rattle.fk_lex.specs.Steps.{CommentStep, TokenStep, token_or_fault, beginning, is_include, line_length, directive_step, character_step, escaped, StandsBy, Stands}
+use Rattle.fk_lex.specs.Texts.{Part, Plain, Escape, Bad, bytes_of, is_some_byte, AreParts, AreGood, ClosedStep, TextStep}
+use Rattle.fk_lex.proofs.Tests.{if_false, same_byte, both_true}
 
 and_true : (a b : Bool) → a ≡ true → b ≡ true → (a && b) ≡ true
 and_true a b is also = ap (λ a. a && b) is ∙ also
@@ -67,10 +64,59 @@ solid_after at (c ∷ cs) solid =
     ∙ along at.lines (at.bytes + 1) cs both.1
     ∙ ap (λ n. record { lines = at.lines; bytes = n; only_blanks = false }) size
 
--- tests that no newline passes
+-- the position behind a byte more
 
-same_byte : (c d : ℕ) → (c == d) ≡ true → c ≡ d
-same_byte c d is = grind (arith, nat_tests)
+newline_all : (before : List ℕ) (c : ℕ) → c ≡ 10 → list_all in_line (before ++ c ∷ []) ≡ false
+newline_all [] c is = ap (λ c. in_line c && true) is
+newline_all (b ∷ before) c is = no_blanks (in_line b) (list_all in_line (before ++ c ∷ [])) (newline_all before c is)
+
+newline_line : (before : List ℕ) (c : ℕ) → c ≡ 10 → last_line (before ++ c ∷ []) ≡ []
+newline_line [] c is = ap (λ c. last_line (c ∷ [])) is
+newline_line (b ∷ before) c is =
+    if_false (list_all in_line (b ∷ (before ++ c ∷ []))) (b ∷ (before ++ c ∷ [])) (last_line (before ++ c ∷ [])) (newline_all (b ∷ before) c is) ∙ newline_line before c is
+
+and_one : (a : Bool) → (a && true) ≡ a
+and_one true = refl
+and_one false = refl
+
+other_all : (before : List ℕ) (c : ℕ) → in_line c ≡ true → list_all in_line (before ++ c ∷ []) ≡ list_all in_line before
+other_all before c is = list_all-append in_line before (c ∷ []) ∙ ap (λ b. list_all in_line before && (b && true)) is ∙ and_one (list_all in_line before)
+
+other_by : (before : List ℕ) (b c : ℕ) (all : Bool) → last_line (before ++ c ∷ []) ≡ last_line before ++ c ∷ [] → (if all then b ∷ (before ++ c ∷ []) else last_line (before ++ c ∷ [])) ≡ (if all then b ∷ before else last_line before) ++ c ∷ []
+other_by before b c true behind = refl
+other_by before b c false behind = behind
+
+other_line : (before : List ℕ) (c : ℕ) → in_line c ≡ true → last_line (before ++ c ∷ []) ≡ last_line before ++ c ∷ []
+other_line [] c is = ap (λ b. if b && true then c ∷ [] else []) is
+other_line (b ∷ before) c is =
+    ap (λ all. if all then b ∷ (before ++ c ∷ []) else last_line (before ++ c ∷ [])) (other_all (b ∷ before) c is)
+    ∙ other_by before b c (list_all in_line (b ∷ before)) (other_line before c is)
+
+newlines_more : (before : List ℕ) (c : ℕ) (b : Bool) → (c == 10) ≡ b → newlines (before ++ c ∷ []) ≡ newlines before + (if b then 1 else 0)
+newlines_more before c b is =
+    sum_by-append (λ c. if c == 10 then 1 else 0) before (c ∷ []) ∙ ap (λ b. newlines before + (0 + (if b then 1 else 0))) is ∙ omega arith
+
+next_by : (before : List ℕ) (c : ℕ) (b : Bool) → (c == 10) ≡ b → position_of (before ++ c ∷ []) ≡ (if b then record { lines = newlines before + 1; bytes = 0; only_blanks = true } else record { lines = newlines before; bytes = length (last_line before) + 1; only_blanks = only_blanks before && is_blank c })
+next_by before c true is =
+    let line = newline_line before c (same_byte c 10 is) in
+    ap (λ n. record { lines = n; bytes = length (last_line (before ++ c ∷ [])); only_blanks = only_blanks (before ++ c ∷ []) }) (newlines_more before c true is)
+    ∙ ap (λ l. record { lines = newlines before + 1; bytes = length l; only_blanks = list_all is_blank l }) line
+next_by before c false is =
+    let line = other_line before c (not_false (c == 10) is) in
+    let none : newlines before + 0 ≡ newlines before = omega arith in
+    ap (λ n. record { lines = n; bytes = length (last_line (before ++ c ∷ [])); only_blanks = only_blanks (before ++ c ∷ []) }) (newlines_more before c false is ∙ none)
+    ∙ ap (λ l. record { lines = newlines before; bytes = length l; only_blanks = list_all is_blank l }) line
+    ∙ ap (λ n. record { lines = newlines before; bytes = n; only_blanks = list_all is_blank (last_line before ++ c ∷ []) }) (length-append (last_line before) (c ∷ []))
+    ∙ ap (λ b. record { lines = newlines before; bytes = length (last_line before) + 1; only_blanks = b })
+    (list_all-append is_blank (last_line before) (c ∷ []) ∙ ap (λ b. only_blanks before && b) (and_one (is_blank c)))
+
+-- the position behind more bytes
+pub position_more : (before bytes : List ℕ) → position_of (before ++ bytes) ≡ after (position_of before) bytes
+position_more before [] = ap position_of (append-nil before)
+position_more before (c ∷ cs) =
+    ap position_of (sym (append_assoc before (c ∷ []) cs)) ∙ position_more (before ++ c ∷ []) cs ∙ ap (λ at. after at cs) (next_by before c (c == 10) refl)
+
+-- tests that no newline passes
 
 line_by : (p : ℕ → Bool) → p 10 ≡ false → (c : ℕ) → p c ≡ true → (b : Bool) → (c == 10) ≡ b → not b ≡ true
 line_by p none c is true ten = absurd (both_ways (p 10) none (subst (λ c. p c ≡ true) (same_byte c 10 ten) is))
@@ -234,35 +280,31 @@ character_solid cs n kind is =
 
 -- texts
 
-parts_in_line : (parts : List Part) → ArePartsOfText parts → list_all in_line (bytes_of parts ++ 34 ∷ []) ≡ true
-parts_in_line [] good = refl
-parts_in_line (Plain c ∷ parts) good =
-    and_true (in_line c) (list_all in_line (bytes_of parts ++ 34 ∷ [])) (passes_in_line (is_plain 34) refl c good.0) (parts_in_line parts good.1)
-parts_in_line (Escape c ∷ parts) good =
-    and_true (in_line c) (list_all in_line (bytes_of parts ++ 34 ∷ [])) (escape_in_line c good.0) (parts_in_line parts good.1)
+parts_in_line : (parts : List Part) (behind : List ℕ) → AreGood parts → AreParts parts behind → list_all in_line (bytes_of parts ++ 34 ∷ []) ≡ true
+parts_in_line [] behind good are = refl
+parts_in_line (Plain c ∷ parts) behind good are =
+    and_true (in_line c) (list_all in_line (bytes_of parts ++ 34 ∷ [])) (passes_in_line (is_plain 34) refl c are.0) (parts_in_line parts behind good are.1)
+parts_in_line (Escape c ∷ parts) behind good are =
+    and_true (in_line c) (list_all in_line (bytes_of parts ++ 34 ∷ [])) (escape_in_line c are.0) (parts_in_line parts behind good are.1)
+parts_in_line (Bad c ∷ parts) behind good are = absurd good
 
-body_in_line : (body : List ℕ) (n : ℕ) → IsTextBody body n → list_all in_line (take n body) ≡ true
-body_in_line body n is =
-    let whole : body ≡ (bytes_of is.0 ++ 34 ∷ []) ++ is.1 = is.3 ∙ sym (append_assoc (bytes_of is.0) (34 ∷ []) is.1) in
-    let counted = is.4 in
-    let size : length (bytes_of is.0 ++ 34 ∷ []) ≡ n = omega (arith, length-append (bytes_of is.0) (34 ∷ [])) in
-    ap (λ body. list_all in_line (take n body)) whole ∙ ap (list_all in_line) (take_at (bytes_of is.0 ++ 34 ∷ []) is.1 n size) ∙ parts_in_line is.0 is.2
+body_in_line : (parts : List Part) (rest : List ℕ) → AreGood parts → AreParts parts (34 ∷ rest) → list_all in_line (take (length (bytes_of parts) + 1) (bytes_of parts ++ 34 ∷ rest)) ≡ true
+body_in_line parts rest good are =
+    let whole : bytes_of parts ++ 34 ∷ rest ≡ (bytes_of parts ++ 34 ∷ []) ++ rest = sym (append_assoc (bytes_of parts) (34 ∷ []) rest) in
+    ap (λ body. list_all in_line (take (length (bytes_of parts) + 1) body)) whole
+    ∙ ap (list_all in_line) (take_at (bytes_of parts ++ 34 ∷ []) rest (length (bytes_of parts) + 1) (length-append (bytes_of parts) (34 ∷ [])))
+    ∙ parts_in_line parts (34 ∷ rest) good are
 
-text_token : (end bad : Option ℕ) (n : ℕ) (kind : TokenKind) → Token n kind ≡ text_of end bad → (k : ℕ) × (n ≡ suc k) × (kind ≡ Text)
-text_token None bad n kind is = absurd cc
-text_token (Some k) None n kind is = let size : n ≡ k + 2 = cc in (k + 1, omega arith, cc)
-text_token (Some k) (Some b) n kind is = absurd cc
+closed_solid : (parts : List Part) (rest : List ℕ) (n : ℕ) (kind : TokenKind) → AreParts parts (34 ∷ rest) → ClosedStep parts (Token n kind) → is_solid (take n (34 ∷ (bytes_of parts ++ 34 ∷ rest))) ≡ true
+closed_solid parts rest n kind are (inl a) =
+    let size : n ≡ length (bytes_of parts) + 2 = cc in
+    let next : length (bytes_of parts) + 2 ≡ suc (length (bytes_of parts) + 1) = omega arith in
+    subst (λ n. is_solid (take n (34 ∷ (bytes_of parts ++ 34 ∷ rest))) ≡ true) (sym (size ∙ next)) (body_in_line parts rest a.0 are)
+closed_solid parts rest n kind are (inr a) = absurd cc
 
-text_found : (body : List ℕ) (n : ℕ) (kind : TokenKind) → Token n kind ≡ text_step (34 ∷ body) → (k : ℕ) × (n ≡ suc k) × (kind ≡ Text)
-unfolding text_step
-text_found body n kind is = text_token (closing body) (first_bad body) n kind is
-
-text_solid : (body : List ℕ) (n : ℕ) (kind : TokenKind) → Token n kind ≡ text_step (34 ∷ body) → is_solid (take n (34 ∷ body)) ≡ true
-text_solid body n kind is =
-    let found = text_found body n kind is in
-    let size : n ≡ found.0 + 1 = let same = found.1 in omega arith in
-    let step : text_step (34 ∷ body) ≡ Token (found.0 + 1) Text = sym is ∙ ap (λ n. Token n kind) size ∙ ap (Token (found.0 + 1)) found.2 in
-    subst (λ n. is_solid (take n (34 ∷ body)) ≡ true) (sym found.1) (body_in_line body found.0 (ended body found.0 step))
+text_solid : (text : List ℕ) (n : ℕ) (kind : TokenKind) → TextStep text (Token n kind) → is_solid (take n text) ≡ true
+text_solid text n kind (parts, rest, inl a) = subst (λ text. is_solid (take n text) ≡ true) (sym a.0) (closed_solid parts rest n kind a.1 a.2)
+text_solid text n kind (parts, rest, inr a) = let same = a.3 in absurd cc
 
 -- whatever stands there
 
@@ -274,15 +316,6 @@ character_begins false false false true e t is = absurd cc
 character_begins false false false false true t is = refl
 character_begins false false false false false true is = absurd cc
 character_begins false false false false false false is = absurd cc
-
-text_begins : (a b l d e t : Bool) → begins.Text ≡ (if a then begins.Blank else (if b then begins.Comment else (if l then begins.LineComment else (if d then begins.Directive else (if e then begins.Character else (if t then begins.Text else begins.Other)))))) → t ≡ true
-text_begins true b l d e t is = absurd cc
-text_begins false true l d e t is = absurd cc
-text_begins false false true d e t is = absurd cc
-text_begins false false false true e t is = absurd cc
-text_begins false false false false true t is = absurd cc
-text_begins false false false false false true is = refl
-text_begins false false false false false false is = absurd cc
 
 directive_by : (b : Bool) (m n : ℕ) (kind : TokenKind) → Token n kind ≡ (if b then Gap m else Fault 0 BadByte) → ⊥
 directive_by true m n kind is = cc
@@ -299,20 +332,18 @@ comment_no_token text n kind (inr a) = let same = a.1 in cc
 gap_no_token : (m n : ℕ) (kind : TokenKind) → Token n kind ≡ Gap m → ⊥
 gap_no_token m n kind is = cc
 
-solid_by : (b : Beginning) (at : Position) (c : ℕ) (cs : List ℕ) (n : ℕ) (kind : TokenKind) → b ≡ beginning (c ∷ cs) → StandsBy b at (c ∷ cs) (Token n kind) → is_solid (take n (c ∷ cs)) ≡ true
-solid_by begins.Blank at c cs n kind is stands = absurd (gap_no_token 1 n kind stands)
-solid_by begins.Comment at c cs n kind is stands = absurd (comment_no_token (c ∷ cs) n kind stands)
-solid_by begins.LineComment at c cs n kind is stands = absurd (gap_no_token (line_length (c ∷ cs)) n kind stands)
-solid_by begins.Directive at c cs n kind is stands = absurd (directive_no_token at.only_blanks (c ∷ cs) n kind stands)
-solid_by begins.Character at c cs n kind is stands =
+solid_by : (b : Beginning) (before : List ℕ) (c : ℕ) (cs : List ℕ) (n : ℕ) (kind : TokenKind) → b ≡ beginning (c ∷ cs) → StandsBy b before (c ∷ cs) (Token n kind) → is_solid (take n (c ∷ cs)) ≡ true
+solid_by begins.Blank before c cs n kind is stands = absurd (gap_no_token 1 n kind stands)
+solid_by begins.Comment before c cs n kind is stands = absurd (comment_no_token (c ∷ cs) n kind stands)
+solid_by begins.LineComment before c cs n kind is stands = absurd (gap_no_token (line_length (c ∷ cs)) n kind stands)
+solid_by begins.Directive before c cs n kind is stands = absurd (directive_no_token (only_blanks before) (c ∷ cs) n kind stands)
+solid_by begins.Character before c cs n kind is stands =
     let quote = same_byte c 39 (character_begins (is_blank c) _ _ (c == 35) (c == 39) (c == 34) is) in
     subst (λ c. is_solid (take n (c ∷ cs)) ≡ true) (sym quote) (character_solid cs n kind (subst (λ c. Token n kind ≡ character_step (c ∷ cs)) quote stands))
-solid_by begins.Text at c cs n kind is stands =
-    let quote = same_byte c 34 (text_begins (is_blank c) _ _ (c == 35) (c == 39) (c == 34) is) in
-    subst (λ c. is_solid (take n (c ∷ cs)) ≡ true) (sym quote) (text_solid cs n kind (subst (λ c. Token n kind ≡ text_step (c ∷ cs)) quote stands))
-solid_by begins.Other at c cs n kind is stands = token_solid_by (c ∷ cs) n kind stands
+solid_by begins.Text before c cs n kind is stands = text_solid (c ∷ cs) n kind stands
+solid_by begins.Other before c cs n kind is stands = token_solid_by (c ∷ cs) n kind stands
 
 -- the bytes of a token are of one line, and begin with no blank
-pub token_solid : (at : Position) (text : List ℕ) (n : ℕ) (kind : TokenKind) → 0 < length text → Stands at text (Token n kind) → is_solid (take n text) ≡ true
-token_solid at [] n kind some stands = absurd (omega arith)
-token_solid at (c ∷ cs) n kind some stands = solid_by (beginning (c ∷ cs)) at c cs n kind refl stands
+pub token_solid : (before text : List ℕ) (n : ℕ) (kind : TokenKind) → 0 < length text → Stands before text (Token n kind) → is_solid (take n text) ≡ true
+token_solid before [] n kind some stands = absurd (omega arith)
+token_solid before (c ∷ cs) n kind some stands = solid_by (beginning (c ∷ cs)) before c cs n kind refl stands

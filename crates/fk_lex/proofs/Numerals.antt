@@ -5,7 +5,7 @@ use Rattle.fk_lex.specs.declared.token.TokenKind.TheVariants.{Number}
 use Rattle.fk_lex.specs.Bytes.{is_letter, is_digit, digit_value, is_suffix, is_x}
 use Rattle.fk_lex.specs.Kinds.{LongestNumeral, LongestTail, is_numeral, is_hexadecimal, is_tail, kind_of, Longest, numeral_value, is_unsigned}
 use Rattle.fk_lex.proofs.Fronts.{longest_more, longest_at, longest_spelled, is_digit_of, tail_other}
-use Rattle.fk_lex.proofs.Literals.{same_is, other_is, if_true, if_false}
+use Rattle.fk_lex.proofs.Tests.{same_is, other_is, if_true, if_false}
 
 -- decimal digits
 

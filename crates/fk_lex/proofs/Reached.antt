@@ -10,68 +10,77 @@ use Rattle.fk_lex.specs.declared.token.TokenKind.{TokenKind}
 use Rattle.fk_syntax.specs.declared.place.Place.{Place}
 use Rattle.fk_lex.specs.View.{IsFault}
 use Rattle.fk_lex.specs.declared.position.Position.{Position}
-use Rattle.fk_lex.specs.Positions.{start, after, place_of}
+use Rattle.fk_lex.specs.Moves.{position_of, after, place_of}
+use Rattle.fk_lex.specs.Positions.{place_behind}
 use Rattle.fk_lex.specs.Reading.{Spelled, fault_at, IsPiece, Cuts, spelled_by, tokens_in, Tokens, Faults}
 use Rattle.fk_lex.specs.Sizes.{size_of}
 use Rattle.fk_lex.specs.Steps.{Stands}
-use Rattle.fk_lex.proofs.Extents.{Within, after_bounds, stands_within}
+use Rattle.fk_lex.proofs.Extents.{Within, few_newlines, short_line, stands_within}
+use Rattle.fk_lex.proofs.Lines.{position_more}
 
 -- a source is read up to this position, with these tokens so far
 pub record Reached (source : List ℕ) (tokens : List Spelled) (at : Position) (rest : List ℕ) : Type 0 where
+  pub before : List ℕ
   pub pieces : List Step
-  pub onward : (more : List Step) (end : Option LexFault) → Cuts more at rest end → Cuts (pieces ++ more) start source end
-  pub listed : (more : List Step) → tokens_in (pieces ++ more) start source ≡ tokens ++ tokens_in more at rest
+  pub here : at ≡ position_of before
+  pub whole : length before + length rest ≡ length source
+  pub onward : (more : List Step) (end : Option LexFault) → Cuts more before rest end → Cuts (pieces ++ more) [] source end
+  pub listed : (more : List Step) → tokens_in (pieces ++ more) [] source ≡ tokens ++ tokens_in more before rest
   pub few : length tokens + length rest ≤ length source
-  pub lines : at.lines + length rest ≤ length source
-  pub bytes : at.bytes + length rest ≤ length source
 
-pub reached_start : (source : List ℕ) → Reached source [] start source
+pub reached_start : (source : List ℕ) → Reached source [] (position_of []) source
 reached_start source = record {
+  before = [];
   pieces = [];
+  here = refl;
+  whole = omega arith;
   onward = λ more end cuts. cuts;
   listed = λ more. refl;
   few = omega arith;
-  lines = omega arith;
-  bytes = omega arith;
 }
 
-one_token : (step : Step) (at : Position) (text : List ℕ) → length (spelled_by step at text) ≤ 1
-one_token (Gap n) at text = omega arith
-one_token (Token n kind) at text = omega arith
-one_token (Fault n kind) at text = omega arith
+one_token : (step : Step) (before text : List ℕ) → length (spelled_by step before text) ≤ 1
+one_token (Gap n) before text = omega arith
+one_token (Token n kind) before text = omega arith
+one_token (Fault n kind) before text = omega arith
 
 piece_within : (step : Step) (text : List ℕ) → IsPiece step → Within step text → (0 < size_of step) × (size_of step ≤ length text)
 piece_within (Gap n) text piece within = within
 piece_within (Token n kind) text piece within = within
 piece_within (Fault n kind) text piece within = absurd piece
 
--- a piece is passed
-pub reached_next : (source : List ℕ) (tokens : List Spelled) (at : Position) (rest : List ℕ) (step : Step) → Reached source tokens at rest → 0 < length rest → Stands at rest step → IsPiece step → Reached source (tokens ++ spelled_by step at rest) (after at (take (size_of step) rest)) (drop (size_of step) rest)
-reached_next source tokens at rest step reached some stands piece =
-    let within = piece_within step rest piece (stands_within at rest step some stands) in
-    let there = after_bounds at (take (size_of step) rest) in
-    let passed : length (take (size_of step) rest) ≡ size_of step = length-take-le (size_of step) rest within.1 in
+-- a piece is passed, with this token or none
+passed : (source : List ℕ) (tokens list : List Spelled) (at behind : Position) (rest : List ℕ) (step : Step) (reached : Reached source tokens at rest) → 0 < length rest → Stands reached.before rest step → IsPiece step → behind ≡ after at (take (size_of step) rest) → list ≡ tokens ++ spelled_by step reached.before rest → Reached source list behind (drop (size_of step) rest)
+passed source tokens list at behind rest step reached some stands piece behind_is list_is =
+    let before = reached.before in
+    let now = before ++ take (size_of step) rest in
+    let within = piece_within step rest piece (stands_within before rest step some stands) in
+    let size : length (take (size_of step) rest) ≡ size_of step = length-take-le (size_of step) rest within.1 in
     let left : length (drop (size_of step) rest) + size_of step ≡ length rest = omega (arith, length-drop (size_of step) rest) in
-    let before = reached.few in
-    let lines_before = reached.lines in
-    let bytes_before = reached.bytes in
+    let were_few = reached.few in
+    let were_whole = reached.whole in
     record {
+      before = now;
       pieces = reached.pieces ++ step ∷ [];
+      here = behind_is ∙ ap (λ at. after at (take (size_of step) rest)) reached.here ∙ sym (position_more before (take (size_of step) rest));
+      whole = omega (arith, length-append before (take (size_of step) rest));
       onward = λ more end cuts.
-          subst (λ pieces. Cuts pieces start source end) (sym (append_assoc reached.pieces (step ∷ []) more)) (reached.onward (step ∷ more) end (some, stands, piece, cuts));
+          subst (λ pieces. Cuts pieces [] source end) (sym (append_assoc reached.pieces (step ∷ []) more)) (reached.onward (step ∷ more) end (some, stands, piece, cuts));
       listed = λ more.
-          ap (λ pieces. tokens_in pieces start source) (append_assoc reached.pieces (step ∷ []) more)
+          ap (λ pieces. tokens_in pieces [] source) (append_assoc reached.pieces (step ∷ []) more)
           ∙ reached.listed (step ∷ more)
-          ∙ sym (append_assoc tokens (spelled_by step at rest) (tokens_in more (after at (take (size_of step) rest)) (drop (size_of step) rest)));
-      few = let one = one_token step at rest in omega (arith, length-append tokens (spelled_by step at rest));
-      lines = omega arith;
-      bytes = omega arith;
+          ∙ sym (append_assoc tokens (spelled_by step before rest) (tokens_in more now (drop (size_of step) rest)))
+          ∙ ap (λ list. list ++ tokens_in more now (drop (size_of step) rest)) (sym list_is);
+      few =
+          let one = one_token step before rest in
+          let longer = ap length list_is ∙ length-append tokens (spelled_by step before rest) in
+          omega arith;
     }
 
 -- a piece leaves less
-pub reached_less : (at : Position) (rest : List ℕ) (step : Step) → 0 < length rest → Stands at rest step → IsPiece step → length (drop (size_of step) rest) < length rest
-reached_less at rest step some stands piece =
-    let within = piece_within step rest piece (stands_within at rest step some stands) in
+pub reached_less : (before rest : List ℕ) (step : Step) → 0 < length rest → Stands before rest step → IsPiece step → length (drop (size_of step) rest) < length rest
+reached_less before rest step some stands piece =
+    let within = piece_within step rest piece (stands_within before rest step some stands) in
     omega (arith, length-drop (size_of step) rest)
 
 -- nothing is left
@@ -80,36 +89,29 @@ reached_end source tokens at rest reached empty =
     let whole = reached.onward [] None empty in
     (reached.pieces ++ [], whole, sym (append-nil tokens) ∙ sym (reached.listed []))
 
--- a fault stands there
-pub reached_fault : (source : List ℕ) (tokens : List Spelled) (at : Position) (rest : List ℕ) (n : ℕ) (kind : FaultKind) → Reached source tokens at rest → 0 < length rest → Stands at rest (Fault n kind) → Faults source (fault_at kind (place_of (after at (take n rest))))
-reached_fault source tokens at rest n kind reached some stands =
-    (reached.pieces ++ [], reached.onward [] (Some (fault_at kind (place_of (after at (take n rest))))) (n, kind, some, stands, refl))
-
 within_size : (step : Step) (text : List ℕ) → Within step text → size_of step ≤ length text
 within_size (Gap n) text within = within.1
 within_size (Token n kind) text within = within.1
 within_size (Fault n kind) text within = omega arith
 
 -- what stands there is not longer than what is left
-pub stands_size : (at : Position) (rest : List ℕ) (step : Step) → 0 < length rest → Stands at rest step → size_of step ≤ length rest
-stands_size at rest step some stands = within_size step rest (stands_within at rest step some stands)
+pub stands_size : (before rest : List ℕ) (step : Step) → 0 < length rest → Stands before rest step → size_of step ≤ length rest
+stands_size before rest step some stands = within_size step rest (stands_within before rest step some stands)
 
 -- a gap
-pub reached_gap : (source : List ℕ) (tokens : List Spelled) (at : Position) (rest : List ℕ) (step : Step) (n : ℕ) → step ≡ Gap n → Reached source tokens at rest → 0 < length rest → Stands at rest step → Reached source tokens (after at (take (size_of step) rest)) (drop (size_of step) rest)
-reached_gap source tokens at rest step n is reached some stands =
-    let none : tokens ++ spelled_by step at rest ≡ tokens = ap (λ s. tokens ++ spelled_by s at rest) is ∙ append-nil tokens in
-    subst (λ tokens. Reached source tokens (after at (take (size_of step) rest)) (drop (size_of step) rest)) none
-    (reached_next source tokens at rest step reached some stands (subst IsPiece (sym is) tt))
+pub reached_gap : (source : List ℕ) (tokens : List Spelled) (at behind : Position) (rest : List ℕ) (step : Step) (n : ℕ) (reached : Reached source tokens at rest) → step ≡ Gap n → behind ≡ after at (take (size_of step) rest) → 0 < length rest → Stands reached.before rest step → Reached source tokens behind (drop (size_of step) rest)
+reached_gap source tokens at behind rest step n reached is behind_is some stands =
+    passed source tokens tokens at behind rest step reached some stands (subst IsPiece (sym is) tt) behind_is
+    (sym (ap (λ s. tokens ++ spelled_by s reached.before rest) is ∙ append-nil tokens))
 
 -- a token
-pub reached_token : (source : List ℕ) (tokens : List Spelled) (at : Position) (rest : List ℕ) (step : Step) (n : ℕ) (kind : TokenKind) (token : Spelled) → step ≡ Token n kind → token ≡ record { kind = kind; bytes = take (size_of step) rest; place = place_of at } → Reached source tokens at rest → 0 < length rest → Stands at rest step → Reached source (tokens ++ token ∷ []) (after at (take (size_of step) rest)) (drop (size_of step) rest)
-reached_token source tokens at rest step n kind token is token_is reached some stands =
-    let known : token ≡ record { kind = kind; bytes = take n rest; place = place_of at } =
-    token_is ∙ ap (λ s. record { kind = kind; bytes = take (size_of s) rest; place = place_of at }) is in
-    let one : tokens ++ spelled_by step at rest ≡ tokens ++ token ∷ [] =
-    ap (λ s. tokens ++ spelled_by s at rest) is ∙ ap (λ t. tokens ++ t ∷ []) (sym known) in
-    subst (λ tokens. Reached source tokens (after at (take (size_of step) rest)) (drop (size_of step) rest)) one
-    (reached_next source tokens at rest step reached some stands (subst IsPiece (sym is) tt))
+pub reached_token : (source : List ℕ) (tokens list : List Spelled) (at behind : Position) (rest : List ℕ) (step : Step) (n : ℕ) (kind : TokenKind) (reached : Reached source tokens at rest) → step ≡ Token n kind → behind ≡ after at (take (size_of step) rest) → list ≡ tokens ++ record { kind = kind; bytes = take (size_of step) rest; place = place_of at } ∷ [] → 0 < length rest → Stands reached.before rest step → Reached source list behind (drop (size_of step) rest)
+reached_token source tokens list at behind rest step n kind reached is behind_is list_is some stands =
+    let one : spelled_by step reached.before rest ≡ record { kind = kind; bytes = take (size_of step) rest; place = place_of at } ∷ [] =
+    ap (λ s. spelled_by s reached.before rest) is
+    ∙ ap (λ n. record { kind = kind; bytes = take n rest; place = place_behind reached.before } ∷ []) (sym (ap size_of is))
+    ∙ ap (λ at. record { kind = kind; bytes = take (size_of step) rest; place = place_of at } ∷ []) (sym reached.here) in
+    passed source tokens list at behind rest step reached some stands (subst IsPiece (sym is) tt) behind_is (list_is ∙ ap (λ l. tokens ++ l) (sym one))
 
 pub gap_is_piece : (step : Step) (n : ℕ) → step ≡ Gap n → IsPiece step
 gap_is_piece step n is = subst IsPiece (sym is) tt
@@ -117,16 +119,27 @@ gap_is_piece step n is = subst IsPiece (sym is) tt
 pub token_is_piece : (step : Step) (n : ℕ) (kind : TokenKind) → step ≡ Token n kind → IsPiece step
 token_is_piece step n kind is = subst IsPiece (sym is) tt
 
+-- a position is no farther than the bytes before it
+pub position_small : (source : List ℕ) (tokens : List Spelled) (at : Position) (rest : List ℕ) → Reached source tokens at rest → (at.lines + length rest ≤ length source) × (at.bytes + length rest ≤ length source)
+position_small source tokens at rest reached =
+    let lines = ap (λ at. at.lines) reached.here in
+    let bytes = ap (λ at. at.bytes) reached.here in
+    let whole = reached.whole in
+    (omega (arith, few_newlines reached.before), omega (arith, short_line reached.before))
+
 -- the place of a fault is that of a byte
-pub fault_small : (source : List ℕ) (tokens : List Spelled) (at : Position) (rest : List ℕ) (step : Step) (n : ℕ) (kind : FaultKind) → step ≡ Fault n kind → Reached source tokens at rest → 0 < length rest → Stands at rest step → let behind = after at (take (size_of step) rest) in (behind.lines + 1 ≤ length source) × (behind.bytes + 1 ≤ length source)
-fault_small source tokens at rest step n kind is reached some stands =
-    let inside : n < length rest = subst (λ s. Within s rest) is (stands_within at rest step some stands) in
+pub fault_small : (source : List ℕ) (tokens : List Spelled) (at behind : Position) (rest : List ℕ) (step : Step) (n : ℕ) (kind : FaultKind) (reached : Reached source tokens at rest) → step ≡ Fault n kind → behind ≡ after at (take (size_of step) rest) → 0 < length rest → Stands reached.before rest step → (behind.lines + 1 ≤ length source) × (behind.bytes + 1 ≤ length source)
+fault_small source tokens at behind rest step n kind reached is behind_is some stands =
+    let now = reached.before ++ take (size_of step) rest in
+    let inside : n < length rest = subst (λ s. Within s rest) is (stands_within reached.before rest step some stands) in
     let size : size_of step ≡ n = ap size_of is in
-    let there = after_bounds at (take (size_of step) rest) in
+    let here = behind_is ∙ ap (λ at. after at (take (size_of step) rest)) reached.here ∙ sym (position_more reached.before (take (size_of step) rest)) in
+    let lines = ap (λ at. at.lines) here in
+    let bytes = ap (λ at. at.bytes) here in
     let passed : length (take (size_of step) rest) ≡ size_of step = length-take-le (size_of step) rest (omega arith) in
-    let lines_before = reached.lines in
-    let bytes_before = reached.bytes in
-    (omega arith, omega arith)
+    let all = length-append reached.before (take (size_of step) rest) in
+    let whole = reached.whole in
+    (omega (arith, few_newlines now), omega (arith, short_line now))
 
 own_fault : (text : List ℕ) (kind : FaultKind) (place : Place) → Faults text (fault_at kind place) → IsFault text (fault_at kind place)
 own_fault text kinds.BadByte place faults = faults
@@ -135,12 +148,17 @@ own_fault text kinds.OpenString place faults = faults
 own_fault text kinds.WideNumber place faults = faults
 
 -- the fault that is answered is the text's own
-pub reached_own_fault : (source : List ℕ) (tokens : List Spelled) (at : Position) (rest : List ℕ) (step : Step) (n : ℕ) (kind : FaultKind) (behind : Position) (found : LexFault) → step ≡ Fault n kind → behind ≡ after at (take (size_of step) rest) → found ≡ fault_at kind (place_of behind) → Reached source tokens at rest → 0 < length rest → Stands at rest step → IsFault source found
-reached_own_fault source tokens at rest step n kind behind found is behind_is found_is reached some stands =
-    let there : behind ≡ after at (take n rest) = behind_is ∙ ap (λ s. after at (take (size_of s) rest)) is in
-    let known : found ≡ fault_at kind (place_of (after at (take n rest))) = found_is ∙ ap (λ p. fault_at kind (place_of p)) there in
-    subst (IsFault source) (sym known)
-    (own_fault source kind (place_of (after at (take n rest))) (reached_fault source tokens at rest n kind reached some (subst (Stands at rest) is stands)))
+pub reached_own_fault : (source : List ℕ) (tokens : List Spelled) (at behind : Position) (rest : List ℕ) (step : Step) (n : ℕ) (kind : FaultKind) (found : LexFault) (reached : Reached source tokens at rest) → step ≡ Fault n kind → behind ≡ after at (take (size_of step) rest) → found ≡ fault_at kind (place_of behind) → 0 < length rest → Stands reached.before rest step → IsFault source found
+reached_own_fault source tokens at behind rest step n kind found reached is behind_is found_is some stands =
+    let before = reached.before in
+    let place : place_of behind ≡ place_behind (before ++ take n rest) =
+    ap place_of (behind_is ∙ ap (λ at. after at (take (size_of step) rest)) reached.here ∙ sym (position_more before (take (size_of step) rest)))
+    ∙ ap (λ s. place_behind (before ++ take (size_of s) rest)) is in
+    let known : found ≡ fault_at kind (place_behind (before ++ take n rest)) = found_is ∙ ap (fault_at kind) place in
+    subst (IsFault source) (sym known) (own_fault source kind (place_behind (before ++ take n rest)) (
+      reached.pieces ++ [],
+      reached.onward [] (Some (fault_at kind (place_behind (before ++ take n rest)))) (n, kind, some, subst (Stands before rest) is stands, refl),
+    ))
 
 pub empty_list : (rest : List ℕ) → length rest ≡ 0 → rest ≡ []
 empty_list [] none = refl

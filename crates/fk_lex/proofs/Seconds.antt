@@ -1,9 +1,9 @@
 -- A sign of several bytes has a second one of few.
-use Rattle.std.proofs.Common.{◌≡◌, ℕ, suc, zero, ◌<◌, ◌≤◌, Bool, true, false, nat_le, Option, Some, None, List, [], ◌∷◌, length, take, get_or, refl, sym, ap, ◌∙◌, arith, if◌then◌else◌}
+use Rattle.std.proofs.Common.{◌≡◌, ℕ, suc, zero, ◌<◌, ◌≤◌, Bool, true, false, nat_le, Option, Some, None, List, [], ◌∷◌, length, take, get_or, refl, arith, if◌then◌else◌}
 use Rattle.fk_lex.specs.declared.token.TokenKind.{TokenKind}
 use Rattle.fk_lex.specs.Bytes.{continues_sign}
 use Rattle.fk_lex.specs.Kinds.{lookup, signs}
-use Rattle.fk_lex.proofs.Lines.{rows_pass, lookup_passes}
+use Rattle.fk_lex.proofs.Lines.{lookup_passes}
 use Rattle.fk_lex.proofs.Words.{sign_in}
 
 abbrev goes_on : List ℕ → Bool

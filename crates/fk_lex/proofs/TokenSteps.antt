@@ -11,7 +11,7 @@ use Rattle.fk_lex.specs.declared.token.TokenKind.TheVariants.{Number}
 use Rattle.fk_lex.specs.Bytes.{is_letter, is_digit, is_word_byte, digit_value, is_suffix, is_x}
 use Rattle.fk_lex.specs.Kinds.{LongestNumeral, Longest, lookup, keywords, signs, or_word, numeral_value, is_unsigned, number_of, value_in}
 use Rattle.fk_lex.specs.Steps.{TokenStep, token_or_fault}
-use Rattle.fk_lex.proofs.Literals.{if_true, if_false, same_is, other_is}
+use Rattle.fk_lex.proofs.Tests.{if_true, if_false, same_is, other_is}
 use Rattle.fk_lex.proofs.Numerals.{number_longest}
 use Rattle.fk_lex.proofs.Words.{word_longest, sign_in, sign_longest, sign_none}
 

@@ -10,7 +10,7 @@ use Rattle.fk_lex.specs.declared.token.TokenKind.{TokenKind}
 use Rattle.fk_lex.specs.Bytes.{is_letter, is_digit, is_word_byte}
 use Rattle.fk_lex.specs.Kinds.{LongestBy, kind_of, Longest, SpellsNone, lookup, keywords, signs, or_word}
 use Rattle.fk_lex.proofs.Fronts.{longest_more, longest_at, longest_spelled, all_longest, length_more}
-use Rattle.fk_lex.proofs.Literals.{if_true, if_false}
+use Rattle.fk_lex.proofs.Tests.{if_true, if_false}
 
 -- words
 

@@ -1,8 +1,10 @@
 pub mod Bytes
 pub mod Kinds
+pub mod Moves
 pub mod Positions
 pub mod Reading
 pub mod Sizes
 pub mod Spellings
 pub mod Steps
+pub mod Texts
 pub mod View

@@ -1,32 +1,31 @@
--- Lines and columns.
-use Rattle.std.specs.Prelude.{ℕ, ◌+◌, ◌==◌, ◌&&◌, not, Bool, true, false, List, [], ◌∷◌, if◌then◌else◌}
+-- Lines and columns, told by the bytes before them.
+use Rattle.std.specs.Prelude.{◌≡◌, ℕ, ◌+◌, ◌==◌, not, Bool, List, [], ◌∷◌, length, count_by, if◌then◌else◌}
 use Rattle.std.specs.List.{list_all}
 use Rattle.fk_syntax.specs.declared.place.Place.{Place}
-use Rattle.fk_lex.specs.declared.position.Position.{Position}
 use Rattle.fk_lex.specs.Bytes.{is_blank}
-
-abbrev pub start : Position
-start = record { lines = 0; bytes = 0; only_blanks = true }
-
--- the position behind a byte; a newline ends a line
-abbrev pub next : Position → ℕ → Position
-next at c =
-    if c == 10 then record { lines = at.lines + 1; bytes = 0; only_blanks = true }
-    else record { lines = at.lines; bytes = at.bytes + 1; only_blanks = at.only_blanks && is_blank c }
-
-abbrev pub after : Position → List ℕ → Position
-after at [] = at
-after at (c ∷ cs) = after (next at c) cs
-
--- lines and columns count from 1
-abbrev pub place_of : Position → Place
-place_of at = record { line = at.lines + 1; column = at.bytes + 1 }
 
 -- no newline
 abbrev pub in_line : ℕ → Bool
 in_line c = not (c == 10)
 
--- bytes of one line, of which the first is no blank
-abbrev pub is_solid : List ℕ → Bool
-is_solid [] = false
-is_solid (c ∷ cs) = not (is_blank c) && list_all in_line cs
+-- nothing, or a newline and more
+abbrev pub EndsLine : List ℕ → Type 0
+EndsLine [] = Unit {0}
+EndsLine (c ∷ cs) = c ≡ 10
+
+-- how many newlines stand in these bytes
+abbrev pub newlines : List ℕ → ℕ
+newlines bytes = count_by (λ c. c == 10) bytes
+
+-- the bytes behind the last newline
+abbrev pub last_line : List ℕ → List ℕ
+last_line [] = []
+last_line (c ∷ cs) = if list_all in_line (c ∷ cs) then c ∷ cs else last_line cs
+
+-- the place behind these bytes; lines and columns count from 1
+abbrev pub place_behind : List ℕ → Place
+place_behind before = record { line = newlines before + 1; column = length (last_line before) + 1 }
+
+-- only blanks stand behind the last newline
+abbrev pub only_blanks : List ℕ → Bool
+only_blanks before = list_all is_blank (last_line before)

@@ -8,8 +8,7 @@ use Rattle.fk_lex.specs.declared.step.FaultKind.{FaultKind}
 use Rattle.fk_lex.specs.declared.step.FaultKind.TheVariants as kinds
 use Rattle.fk_lex.specs.declared.step.Step.{Step}
 use Rattle.fk_lex.specs.declared.step.Step.TheVariants.{Gap, Token, Fault}
-use Rattle.fk_lex.specs.declared.position.Position.{Position}
-use Rattle.fk_lex.specs.Positions.{start, after, place_of}
+use Rattle.fk_lex.specs.Positions.{place_behind}
 use Rattle.fk_lex.specs.Sizes.{size_of}
 use Rattle.fk_lex.specs.Steps.{Stands}
 
@@ -31,34 +30,34 @@ IsPiece (Gap n) = Unit {0}
 IsPiece (Token n kind) = Unit {0}
 IsPiece (Fault n kind) = ⊥
 
--- a text, from this position on, is cut into these pieces up to its end or up to a fault
-abbrev pub Cuts : List Step → Position → List ℕ → Option LexFault → Type 0
-Cuts [] at text None = text ≡ []
-Cuts [] at text (Some fault) =
-    (n : ℕ) × (kind : FaultKind) × (0 < length text) × Stands at text (Fault n kind)
-    × (fault ≡ fault_at kind (place_of (after at (take n text))))
-Cuts (piece ∷ pieces) at text end =
-    (0 < length text) × Stands at text piece × IsPiece piece
-    × Cuts pieces (after at (take (size_of piece) text)) (drop (size_of piece) text) end
+-- a text, behind these bytes, is cut into these pieces up to its end or up to a fault
+abbrev pub Cuts : List Step → List ℕ → List ℕ → Option LexFault → Type 0
+Cuts [] before text None = text ≡ []
+Cuts [] before text (Some fault) =
+    (n : ℕ) × (kind : FaultKind) × (0 < length text) × Stands before text (Fault n kind)
+    × (fault ≡ fault_at kind (place_behind (before ++ take n text)))
+Cuts (piece ∷ pieces) before text end =
+    (0 < length text) × Stands before text piece × IsPiece piece
+    × Cuts pieces (before ++ take (size_of piece) text) (drop (size_of piece) text) end
 
-abbrev pub spelled_by : Step → Position → List ℕ → List Spelled
-spelled_by (Token n kind) at text = record { kind = kind; bytes = take n text; place = place_of at } ∷ []
-spelled_by (Gap n) at text = []
-spelled_by (Fault n kind) at text = []
+abbrev pub spelled_by : Step → List ℕ → List ℕ → List Spelled
+spelled_by (Token n kind) before text = record { kind = kind; bytes = take n text; place = place_behind before } ∷ []
+spelled_by (Gap n) before text = []
+spelled_by (Fault n kind) before text = []
 
 -- the tokens among pieces
-abbrev pub tokens_in : List Step → Position → List ℕ → List Spelled
-tokens_in [] at text = []
-tokens_in (piece ∷ pieces) at text =
-    spelled_by piece at text ++ tokens_in pieces (after at (take (size_of piece) text)) (drop (size_of piece) text)
+abbrev pub tokens_in : List Step → List ℕ → List ℕ → List Spelled
+tokens_in [] before text = []
+tokens_in (piece ∷ pieces) before text =
+    spelled_by piece before text ++ tokens_in pieces (before ++ take (size_of piece) text) (drop (size_of piece) text)
 
 -- a text has these tokens, with gaps between them
 abbrev pub Tokens : List ℕ → List Spelled → Type 0
-Tokens text tokens = (pieces : List Step) × Cuts pieces start text None × (tokens ≡ tokens_in pieces start text)
+Tokens text tokens = (pieces : List Step) × Cuts pieces [] text None × (tokens ≡ tokens_in pieces [] text)
 
 -- a text has this fault, and gaps and tokens before it
 abbrev pub Faults : List ℕ → LexFault → Type 0
-Faults text found = (pieces : List Step) × Cuts pieces start text (Some found)
+Faults text found = (pieces : List Step) × Cuts pieces [] text (Some found)
 
 -- every text has exactly one list of tokens or exactly one fault
 pub record OneReading : Type 0 where

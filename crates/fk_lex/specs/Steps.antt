@@ -1,17 +1,18 @@
 -- What stands at a point of a text: a blank, a comment, an include line, a token or a fault.
-use Rattle.std.specs.Prelude.{◌≡◌, ℕ, ◌+◌, ◌<◌, ◌≤◌, ◌^◌, ◌==◌, ◌&&◌, ◌||◌, ◌⊎◌, nat_lt, not, Bool, true, false, Option, Some, None, List, [], ◌∷◌, length, take, drop, slice_index, codes, if◌then◌else◌}
+use Rattle.std.specs.Prelude.{◌≡◌, ℕ, ◌+◌, ◌<◌, ◌≤◌, ◌^◌, ◌==◌, ◌&&◌, ◌||◌, ◌⊎◌, nat_lt, Bool, false, Option, Some, None, List, length, take, drop, slice_index, codes, if◌then◌else◌}
 use Rattle.std.specs.List.{list_all, prefix_len}
 use Rattle.std.specs.Str.{bytes_eq}
 use Rattle.fk_lex.specs.declared.step.Beginning.{Beginning}
 use Rattle.fk_lex.specs.declared.step.Beginning.TheVariants as begins
 use Rattle.fk_lex.specs.declared.step.Step.{Step}
 use Rattle.fk_lex.specs.declared.step.Step.TheVariants.{Gap, Token, Fault}
-use Rattle.fk_lex.specs.declared.step.FaultKind.TheVariants.{BadByte, OpenComment, OpenString, WideNumber}
-use Rattle.fk_lex.specs.declared.position.Position.{Position}
+use Rattle.fk_lex.specs.declared.step.FaultKind.TheVariants.{BadByte, OpenComment, WideNumber}
 use Rattle.fk_lex.specs.declared.token.TokenKind.{TokenKind}
-use Rattle.fk_lex.specs.declared.token.TokenKind.TheVariants.{Number, Text}
+use Rattle.fk_lex.specs.declared.token.TokenKind.TheVariants.{Number}
 use Rattle.fk_lex.specs.Bytes.{is_blank, is_word_byte, is_plain, escape_value}
 use Rattle.fk_lex.specs.Kinds.{Longest, SpellsNone}
+use Rattle.fk_lex.specs.Positions.{in_line, only_blanks}
+use Rattle.fk_lex.specs.Texts.{TextStep}
 
 -- what the first two bytes say
 abbrev pub beginning_of : ℕ → ℕ → Beginning
@@ -28,7 +29,7 @@ beginning text = beginning_of (slice_index text 0) (slice_index text 1)
 
 -- how many bytes stand before the end of the line
 abbrev pub line_length : List ℕ → ℕ
-line_length text = prefix_len (λ c. not (c == 10)) text
+line_length text = prefix_len in_line text
 
 -- `*/`
 abbrev pub EndsAt : List ℕ → ℕ → Type 0
@@ -60,8 +61,8 @@ is_include line =
 
 -- an include line has only blanks before its `#`; every other `#` is a bad byte
 unfoldable pub directive_step : Bool → List ℕ → Step
-directive_step only_blanks text =
-    if only_blanks && is_include (take (line_length text) text) then Gap (line_length text) else Fault 0 BadByte
+directive_step blanks_before text =
+    if blanks_before && is_include (take (line_length text) text) then Gap (line_length text) else Fault 0 BadByte
 
 abbrev pub escaped : Option ℕ → Step
 escaped None = Fault 0 BadByte
@@ -75,56 +76,6 @@ character_of c d e =
 
 unfoldable pub character_step : List ℕ → Step
 character_step text = character_of (slice_index text 1) (slice_index text 2) (slice_index text 3)
-
-abbrev pub is_some_byte : Option ℕ → Bool
-is_some_byte None = false
-is_some_byte (Some byte) = true
-
--- a backslash and one of the bytes that it takes
-abbrev pub is_escape : ℕ → ℕ → Bool
-is_escape c d = (c == 92) && is_some_byte (escape_value d)
-
-abbrev pub part_length : ℕ → ℕ → ℕ
-part_length c d = if is_escape c d then 2 else 1
-
--- an escape, or a byte of a text that stands for itself
-abbrev pub is_part : ℕ → ℕ → Bool
-is_part c d = is_escape c d || is_plain 34 c
-
--- so many bytes farther
-abbrev pub farther : ℕ → Option ℕ → Option ℕ
-farther k None = None
-farther k (Some n) = Some (k + n)
-
--- how many bytes stand before the closing quote, where the line has one
-abbrev pub closing : List ℕ → Option ℕ
-closing [] = None
-closing (c ∷ []) = if c == 34 then Some 0 else None
-closing (c ∷ d ∷ more) =
-    if c == 34 then Some 0
-    else (if c == 10 then None
-    else (if is_escape c d then farther 2 (closing more) else farther 1 (closing (d ∷ more))))
-
--- the first byte before the closing quote that no text has there
-abbrev pub first_bad : List ℕ → Option ℕ
-first_bad [] = None
-first_bad (c ∷ []) = if (c == 34) || is_plain 34 c then None else Some 0
-first_bad (c ∷ d ∷ more) =
-    if c == 34 then None
-    else (if is_escape c d then farther 2 (first_bad more)
-    else (if is_plain 34 c then farther 1 (first_bad (d ∷ more)) else Some 0))
-
-abbrev pub closed : ℕ → Option ℕ → Step
-closed n None = Token (n + 2) Text
-closed n (Some bad) = Fault (bad + 1) BadByte
-
-abbrev pub text_of : Option ℕ → Option ℕ → Step
-text_of None bad = Fault 0 OpenString
-text_of (Some n) bad = closed n bad
-
--- a text goes to its closing quote, in its line
-unfoldable pub text_step : List ℕ → Step
-text_step text = text_of (closing (drop 1 text)) (first_bad (drop 1 text))
 
 -- a number is below 2^32, and neither letter, digit nor `_` follows it
 unfoldable pub token_or_fault : List ℕ → ℕ → TokenKind → Step
@@ -140,15 +91,15 @@ TokenStep text step =
     ((n : ℕ) × (kind : TokenKind) × Longest text n kind × (step ≡ token_or_fault text n kind))
     ⊎ (SpellsNone text × (step ≡ Fault 0 BadByte))
 
-abbrev pub StandsBy : Beginning → Position → List ℕ → Step → Type 0
-StandsBy begins.Blank at text step = step ≡ Gap 1
-StandsBy begins.Comment at text step = CommentStep text step
-StandsBy begins.LineComment at text step = step ≡ Gap (line_length text)
-StandsBy begins.Directive at text step = step ≡ directive_step at.only_blanks text
-StandsBy begins.Character at text step = step ≡ character_step text
-StandsBy begins.Text at text step = step ≡ text_step text
-StandsBy begins.Other at text step = TokenStep text step
+abbrev pub StandsBy : Beginning → List ℕ → List ℕ → Step → Type 0
+StandsBy begins.Blank before text step = step ≡ Gap 1
+StandsBy begins.Comment before text step = CommentStep text step
+StandsBy begins.LineComment before text step = step ≡ Gap (line_length text)
+StandsBy begins.Directive before text step = step ≡ directive_step (only_blanks before) text
+StandsBy begins.Character before text step = step ≡ character_step text
+StandsBy begins.Text before text step = TextStep text step
+StandsBy begins.Other before text step = TokenStep text step
 
--- what stands at this position, where this text goes on
-abbrev pub Stands : Position → List ℕ → Step → Type 0
-Stands at text step = StandsBy (beginning text) at text step
+-- what stands behind these bytes, where this text goes on
+abbrev pub Stands : List ℕ → List ℕ → Step → Type 0
+Stands before text step = StandsBy (beginning text) before text step

@@ -1,8 +1,13 @@
 //! Character constants and texts.
 
-ghost use Rattle.std.specs.Prelude.{◌≡◌, ℕ, ◌+◌, ◌≤◌, ◌<◌, drop, length, slice_index, IfSome};
+ghost use Rattle.std.specs.Prelude.{◌≡◌, ℕ, ◌+◌, ◌<◌, ◌^◌, length, slice_index, IfSome, IfNone};
 ghost use Rattle.fk_lex.specs.Bytes;
+ghost use Rattle.fk_lex.specs.Moves;
 ghost use Rattle.fk_lex.specs.Steps;
+ghost use Rattle.fk_lex.specs.Texts.{TextStep};
+ghost use Rattle.fk_lex.specs.declared.step.FaultKind.TheVariants.{BadByte};
+ghost use Rattle.fk_lex.specs.declared.step.Step.TheVariants.{Token, Fault};
+ghost use Rattle.fk_lex.specs.declared.token.TokenKind.TheVariants.{Text};
 
 use crate::bytes::{byte_at, escape_value, is_plain};
 use crate::step::{FaultKind, Step};
@@ -40,74 +45,51 @@ fn escaped(byte: u8) -> Step
 
 /// The text in quotes that a source text begins with.
 pub fn text_step(text: &[u8]) -> Step
-    requires { 0 < length text.now }
-    ensures { result ≡ Steps.text_step text.now }
+    requires some { 0 < length text.now }
+    requires quote { slice_index text.now 0 ≡ 34 }
+    ensures { TextStep text.now result }
 {
     let (_, body) = text.split_at(1);
-    match closing(body) {
-        None => Step::Fault(0, FaultKind::OpenString),
-        Some(end) => match first_bad(body) {
-            None => Step::Token(end + 2, TokenKind::Text),
-            Some(bad) => Step::Fault(bad + 1, FaultKind::BadByte),
-        },
-    }
-}
-
-/// How many bytes stand before the closing quote, where the line has one.
-fn closing(body: &[u8]) -> Option<usize>
-    ensures value { result ≡ Steps.closing body.now }
-    ensures within { IfSome result (λ n. n < length body.now) }
-{
     let mut at = 0;
-    while at < body.len() {
+    let mut bad = None;
+    while at < body.len() && body[at] != b'\n' {
         if body[at] == b'"' {
-            return Some(at);
+            return closed(at, bad);
         }
-        if body[at] == b'\n' {
-            return None;
+        match part_size(body[at], byte_at(body, at + 1)) {
+            Some(size) => at += size,
+            None => {
+                bad = bad.or(Some(at));
+                at += 1;
+            }
         }
-        at += part_length(body, at);
     }
-    None
+    Step::Fault(0, FaultKind::OpenString)
 }
 
-/// Where the first byte before the closing quote stands that no text has there.
-fn first_bad(body: &[u8]) -> Option<usize>
-    ensures value { result ≡ Steps.first_bad body.now }
-    ensures within { IfSome result (λ n. n < length body.now) }
+/// A text with so many bytes between its quotes, of which the first bad one is here.
+fn closed(size: usize, bad: Option<usize>) -> Step
+    requires size { size + 2 < 2 ^ 64 }
+    requires bad { IfSome bad (λ n. n < size) }
+    ensures good { IfNone bad (result ≡ Token (size + 2) Text) }
+    ensures bad { IfSome bad (λ n. result ≡ Fault (n + 1) BadByte) }
 {
-    let mut at = 0;
-    while at < body.len() && body[at] != b'"' {
-        if !is_part(body[at], byte_at(body, at + 1)) {
-            return Some(at);
-        }
-        at += part_length(body, at);
-    }
-    None
-}
-
-/// How many bytes an escape at this index has, or else 1.
-fn part_length(body: &[u8], at: usize) -> usize
-    requires { at < length body.now }
-    ensures { result ≡ Steps.part_length (slice_index body.now at) (slice_index body.now (at + 1)) }
-{
-    if is_escape(body[at], byte_at(body, at + 1)) {
-        2
-    } else {
-        1
+    match bad {
+        None => Step::Token(size + 2, TokenKind::Text),
+        Some(bad) => Step::Fault(bad + 1, FaultKind::BadByte),
     }
 }
 
-/// A byte of a text that stands for itself, or an escape.
-fn is_part(first: u8, second: u8) -> bool
-    ensures { result ≡ Steps.is_part first second }
+/// How many bytes the escape or the byte that stands for itself has that these two bytes begin.
+fn part_size(first: u8, second: u8) -> Option<usize>
+    ensures { result ≡ Moves.part_size first second }
 {
-    is_escape(first, second) || is_plain(b'"', first)
-}
-
-/// A backslash and a byte that it takes.
-fn is_escape(first: u8, second: u8) -> bool
-    ensures { result ≡ Steps.is_escape first second }
-{
-    first == b'\\' && escape_value(second).is_some()
+    if first == b'\\' {
+        return if escape_value(second).is_some() {
+            Some(2)
+        } else {
+            None
+        };
+    }
+    if is_plain(b'"', first) { Some(1) } else { None }
 }

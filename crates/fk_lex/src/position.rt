@@ -1,8 +1,8 @@
 //! Positions in a source text.
 
-ghost use Rattle.std.specs.Prelude.{◌≡◌, ℕ, ◌+◌, ◌<◌, ◌^◌, length, true};
-ghost use Rattle.fk_lex.specs.Positions;
-ghost use Rattle.fk_lex.specs.Positions.{start, after, place_of, is_solid};
+ghost use Rattle.std.specs.Prelude.{◌≡◌, ℕ, ◌+◌, ◌<◌, ◌^◌, [], length, true};
+ghost use Rattle.fk_lex.specs.Moves;
+ghost use Rattle.fk_lex.specs.Moves.{position_of, after, place_of, is_solid};
 ghost use Rattle.fk_lex.specs.declared.token.TokenKind.{TokenKind};
 ghost use Rattle.fk_lex.specs.declared.step.Step.TheVariants.{Token};
 
@@ -22,7 +22,7 @@ pub struct Position {
 impl Position {
     /// The beginning of a text.
     pub fn start() -> Position
-        ensures { result ≡ start }
+        ensures { result ≡ position_of [] }
     {
         Position {
             lines: 0,
@@ -66,7 +66,7 @@ impl Position {
     fn next(self, byte: u8) -> Position
         requires lines { self.lines + 1 < 2 ^ 64 }
         requires bytes { self.bytes + 1 < 2 ^ 64 }
-        ensures { result ≡ Positions.next self byte }
+        ensures { result ≡ Moves.next self byte }
     {
         if byte == b'\n' {
             Position {

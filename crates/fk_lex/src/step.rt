@@ -1,7 +1,8 @@
 //! What stands at a point of a source text.
 
-ghost use Rattle.std.specs.Prelude.{◌≡◌, ◌<◌, length};
+ghost use Rattle.std.specs.Prelude.{◌≡◌, ℕ, ◌<◌, List, length};
 ghost use Rattle.fk_lex.specs.Steps.{Stands, TokenStep};
+ghost use Rattle.fk_lex.specs.Moves.{position_of};
 ghost use Rattle.fk_lex.specs.Sizes;
 
 use crate::bytes::{is_digit, is_letter};
@@ -56,7 +57,7 @@ impl Step {
 /// What stands at this position, where this text goes on.
 pub fn step_at(at: Position, text: &[u8]) -> Step
     requires { 0 < length text.now }
-    ensures { Stands at text.now result }
+    ensures { (before : List ℕ) → at ≡ position_of before → Stands before text.now result }
 {
     match beginning(text) {
         Beginning::Blank => Step::Gap(1),

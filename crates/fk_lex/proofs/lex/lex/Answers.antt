@@ -1,89 +1,131 @@
-use Rattle.std.proofs.Common.{true, ◌≡◌, ◌<◌, [], ◌∷◌, ◌++◌, length, map, take, drop, is_ok, sym, ap, subst, subst₂, ◌∙◌, arith, false-eqb, true-eqb}
+use Rattle.std.proofs.Common.{true, ◌≡◌, ◌<◌, [], ◌∷◌, ◌++◌, length, map, take, drop, is_ok, sym, ap, subst, ◌∙◌, arith, false-eqb, true-eqb}
 use Rattle.std.proofs.lemmas.List.{map-append}
 use Rattle.std.proofs.ResultArms.{chosen}
-use Rattle.fk_lex.specs.Positions.{after, place_of, is_solid}
-use Rattle.fk_lex.specs.Reading.{Spelled, fault_at}
+use Rattle.fk_lex.specs.Moves.{after, is_solid}
+use Rattle.fk_lex.specs.Reading.{fault_at}
 use Rattle.fk_lex.specs.Sizes.{size_of}
 use Rattle.fk_lex.specs.Steps.{Stands}
 use Rattle.fk_lex.specs.View.{spelled}
 use Rattle.fk_lex.proofs.Lines.{token_solid}
-use Rattle.fk_lex.proofs.Reached.{Reached, reached_gap, reached_token, reached_end, reached_less, reached_own_fault, stands_size, fault_small, gap_is_piece, token_is_piece, empty_list}
+use Rattle.fk_lex.proofs.Reached.{Reached, reached_gap, reached_token, reached_end, reached_less, reached_own_fault, stands_size, fault_small, position_small, gap_is_piece, token_is_piece, empty_list}
 use Rattle.fk_lex.proofs.lex.lex.Goals as goal
 
 pub split_at-requires : goal.split_at-requires
 split_at-requires c =
     let some : 0 < length c.loop-rest.rest.now = omega (arith, false-eqb _ 0 c.loop-rest-test.ensures) in
-    let size = stands_size c.loop-rest.at c.loop-rest.rest.now c.step_at-step.result some c.step_at-step.ensures in
+    let reached = c.loop-rest.invariant in
+    let size = stands_size reached.before c.loop-rest.rest.now c.step_at-step.result some (c.step_at-step.ensures reached.before reached.here) in
     omega arith
+
+pub past-behind-requires-clause-lines : goal.past-behind-requires-clause-lines
+past-behind-requires-clause-lines c =
+    let some : 0 < length c.loop-rest.rest.now = omega (arith, false-eqb _ 0 c.loop-rest-test.ensures) in
+    let reached = c.loop-rest.invariant in
+    let size = stands_size reached.before c.loop-rest.rest.now c.step_at-step.result some (c.step_at-step.ensures reached.before reached.here) in
+    let small = position_small c.args.source.now _ c.loop-rest.at c.loop-rest.rest.now reached in
+    let passed = c.split_at.ensures.front_len in
+    let source = c.requires in
+    omega (arith, c.size.ensures)
+
+pub past-behind-requires-clause-bytes : goal.past-behind-requires-clause-bytes
+past-behind-requires-clause-bytes c =
+    let some : 0 < length c.loop-rest.rest.now = omega (arith, false-eqb _ 0 c.loop-rest-test.ensures) in
+    let reached = c.loop-rest.invariant in
+    let size = stands_size reached.before c.loop-rest.rest.now c.step_at-step.result some (c.step_at-step.ensures reached.before reached.here) in
+    let small = position_small c.args.source.now _ c.loop-rest.at c.loop-rest.rest.now reached in
+    let passed = c.split_at.ensures.front_len in
+    let source = c.requires in
+    omega (arith, c.size.ensures)
 
 pub past-behind-requires-clause-solid : goal.past-behind-requires-clause-solid
 past-behind-requires-clause-solid c = λ n kind is.
     let some : 0 < length c.loop-rest.rest.now = omega (arith, false-eqb _ 0 c.loop-rest-test.ensures) in
+    let reached = c.loop-rest.invariant in
     let bytes = c.split_at.ensures.front ∙ ap (λ n. take n c.loop-rest.rest.now) (c.size.ensures ∙ ap size_of is) in
-    subst (λ bytes. is_solid bytes ≡ true) (sym bytes) (token_solid c.loop-rest.at c.loop-rest.rest.now n kind some (subst (Stands c.loop-rest.at c.loop-rest.rest.now) is c.step_at-step.ensures))
+    subst (λ bytes. is_solid bytes ≡ true) (sym bytes)
+    (token_solid reached.before c.loop-rest.rest.now n kind some (subst (Stands reached.before c.loop-rest.rest.now) is (c.step_at-step.ensures reached.before reached.here)))
 
 pub place-requires-clause-lines : goal.place-requires-clause-lines
 place-requires-clause-lines c =
     let some : 0 < length c.loop-rest.rest.now = omega (arith, false-eqb _ 0 c.loop-rest-test.ensures) in
+    let reached = c.loop-rest.invariant in
     let behind = c.past-behind.ensures ∙ ap (after c.loop-rest.at) (c.split_at.ensures.front ∙ ap (λ n. take n c.loop-rest.rest.now) c.size.ensures) in
-    let small = fault_small c.args.source.now _ c.loop-rest.at c.loop-rest.rest.now c.step_at-step.result _ _ c.in-Fault.is c.loop-rest.invariant some c.step_at-step.ensures in
-    let lines = ap (λ p. p.lines) behind in
+    let small = fault_small c.args.source.now _ c.loop-rest.at c.past-behind.result c.loop-rest.rest.now c.step_at-step.result _ _ reached c.in-Fault.is behind some (c.step_at-step.ensures reached.before reached.here) in
     let source = c.requires in
     omega arith
 
 pub place-requires-clause-bytes : goal.place-requires-clause-bytes
 place-requires-clause-bytes c =
     let some : 0 < length c.loop-rest.rest.now = omega (arith, false-eqb _ 0 c.loop-rest-test.ensures) in
+    let reached = c.loop-rest.invariant in
     let behind = c.past-behind.ensures ∙ ap (after c.loop-rest.at) (c.split_at.ensures.front ∙ ap (λ n. take n c.loop-rest.rest.now) c.size.ensures) in
-    let small = fault_small c.args.source.now _ c.loop-rest.at c.loop-rest.rest.now c.step_at-step.result _ _ c.in-Fault.is c.loop-rest.invariant some c.step_at-step.ensures in
-    let bytes = ap (λ p. p.bytes) behind in
+    let small = fault_small c.args.source.now _ c.loop-rest.at c.past-behind.result c.loop-rest.rest.now c.step_at-step.result _ _ reached c.in-Fault.is behind some (c.step_at-step.ensures reached.before reached.here) in
+    let source = c.requires in
+    omega arith
+
+pub place-place-requires-clause-lines : goal.place-place-requires-clause-lines
+place-place-requires-clause-lines c =
+    let some : 0 < length c.loop-rest.rest.now = omega (arith, false-eqb _ 0 c.loop-rest-test.ensures) in
+    let small = position_small c.args.source.now _ c.loop-rest.at c.loop-rest.rest.now c.loop-rest.invariant in
+    let source = c.requires in
+    omega arith
+
+pub place-place-requires-clause-bytes : goal.place-place-requires-clause-bytes
+place-place-requires-clause-bytes c =
+    let some : 0 < length c.loop-rest.rest.now = omega (arith, false-eqb _ 0 c.loop-rest-test.ensures) in
+    let small = position_small c.args.source.now _ c.loop-rest.at c.loop-rest.rest.now c.loop-rest.invariant in
     let source = c.requires in
     omega arith
 
 pub returns-in-Fault-clause-fault : goal.returns-in-Fault-clause-fault
 returns-in-Fault-clause-fault c =
     let some : 0 < length c.loop-rest.rest.now = omega (arith, false-eqb _ 0 c.loop-rest-test.ensures) in
+    let reached = c.loop-rest.invariant in
     let behind = c.past-behind.ensures ∙ ap (after c.loop-rest.at) (c.split_at.ensures.front ∙ ap (λ n. take n c.loop-rest.rest.now) c.size.ensures) in
-    reached_own_fault c.args.source.now _ c.loop-rest.at c.loop-rest.rest.now c.step_at-step.result c.in-Fault.field-0 c.in-Fault.kind c.past-behind.result c.fault_at.result
-    c.in-Fault.is behind (c.fault_at.ensures ∙ ap (fault_at c.in-Fault.kind) c.place.ensures) c.loop-rest.invariant some c.step_at-step.ensures
+    reached_own_fault c.args.source.now _ c.loop-rest.at c.past-behind.result c.loop-rest.rest.now c.step_at-step.result c.in-Fault.field-0 c.in-Fault.kind c.fault_at.result
+    reached c.in-Fault.is behind (c.fault_at.ensures ∙ ap (fault_at c.in-Fault.kind) c.place.ensures) some (c.step_at-step.ensures reached.before reached.here)
 
 pub loop-rest-smaller-in-Gap : goal.loop-rest-smaller-in-Gap
 loop-rest-smaller-in-Gap c =
     let some : 0 < length c.loop-rest.rest.now = omega (arith, false-eqb _ 0 c.loop-rest-test.ensures) in
+    let reached = c.loop-rest.invariant in
     let rest = c.split_at.ensures.back ∙ ap (λ n. drop n c.loop-rest.rest.now) c.size.ensures in
     let piece = gap_is_piece c.step_at-step.result _ c.in-Gap.is in
-    subst (λ rest. length rest < length c.loop-rest.rest.now) (sym rest) (reached_less c.loop-rest.at c.loop-rest.rest.now c.step_at-step.result some c.step_at-step.ensures piece)
+    subst (λ rest. length rest < length c.loop-rest.rest.now) (sym rest)
+    (reached_less reached.before c.loop-rest.rest.now c.step_at-step.result some (c.step_at-step.ensures reached.before reached.here) piece)
 
 pub loop-rest-preserved-in-Gap : goal.loop-rest-preserved-in-Gap
 loop-rest-preserved-in-Gap c =
     let some : 0 < length c.loop-rest.rest.now = omega (arith, false-eqb _ 0 c.loop-rest-test.ensures) in
+    let reached = c.loop-rest.invariant in
     let behind = c.past-behind.ensures ∙ ap (after c.loop-rest.at) (c.split_at.ensures.front ∙ ap (λ n. take n c.loop-rest.rest.now) c.size.ensures) in
     let rest = c.split_at.ensures.back ∙ ap (λ n. drop n c.loop-rest.rest.now) c.size.ensures in
-    subst₂ (Reached c.args.source.now (map spelled c.loop-rest.tokens.items)) (sym behind) (sym rest)
-    (reached_gap c.args.source.now _ c.loop-rest.at c.loop-rest.rest.now c.step_at-step.result _ c.in-Gap.is c.loop-rest.invariant some c.step_at-step.ensures)
+    subst (Reached c.args.source.now (map spelled c.loop-rest.tokens.items) c.past-behind.result) (sym rest)
+    (reached_gap c.args.source.now _ c.loop-rest.at c.past-behind.result c.loop-rest.rest.now c.step_at-step.result _ reached c.in-Gap.is behind some (c.step_at-step.ensures reached.before reached.here))
 
 pub loop-rest-smaller : goal.loop-rest-smaller
 loop-rest-smaller c =
     let some : 0 < length c.loop-rest.rest.now = omega (arith, false-eqb _ 0 c.loop-rest-test.ensures) in
+    let reached = c.loop-rest.invariant in
     let rest = c.split_at.ensures.back ∙ ap (λ n. drop n c.loop-rest.rest.now) c.size.ensures in
     let piece = token_is_piece c.step_at-step.result _ _ c.in-Token.is in
-    subst (λ rest. length rest < length c.loop-rest.rest.now) (sym rest) (reached_less c.loop-rest.at c.loop-rest.rest.now c.step_at-step.result some c.step_at-step.ensures piece)
+    subst (λ rest. length rest < length c.loop-rest.rest.now) (sym rest)
+    (reached_less reached.before c.loop-rest.rest.now c.step_at-step.result some (c.step_at-step.ensures reached.before reached.here) piece)
 
 pub loop-rest-preserved : goal.loop-rest-preserved
 loop-rest-preserved c =
     let some : 0 < length c.loop-rest.rest.now = omega (arith, false-eqb _ 0 c.loop-rest-test.ensures) in
+    let reached = c.loop-rest.invariant in
     let bytes = c.split_at.ensures.front ∙ ap (λ n. take n c.loop-rest.rest.now) c.size.ensures in
     let behind = c.past-behind.ensures ∙ ap (after c.loop-rest.at) bytes in
     let rest = c.split_at.ensures.back ∙ ap (λ n. drop n c.loop-rest.rest.now) c.size.ensures in
     let pushed = chosen _ _ _ _ c.push.ensures.items (sym c.map_err.ensures.variant ∙ ap is_ok c.in_ok-map_err-in-Token.was) in
-    let token : Spelled = record { kind = c.in-Token.kind; bytes = c.split_at.result.0.now; place = c.place-place.result } in
-    let tokens = ap (map spelled) pushed ∙ map-append spelled c.loop-rest.tokens.items _ in
-    let is : token ≡ record { kind = c.in-Token.kind; bytes = take (size_of c.step_at-step.result) c.loop-rest.rest.now; place = place_of c.loop-rest.at } =
-    ap (λ b. record { kind = c.in-Token.kind; bytes = b; place = c.place-place.result }) bytes
-    ∙ ap (λ p. record { kind = c.in-Token.kind; bytes = take (size_of c.step_at-step.result) c.loop-rest.rest.now; place = p }) c.place-place.ensures in
-    let there = reached_token c.args.source.now (map spelled c.loop-rest.tokens.items) c.loop-rest.at c.loop-rest.rest.now c.step_at-step.result _ c.in-Token.kind token c.in-Token.is is c.loop-rest.invariant some c.step_at-step.ensures in
-    let moved = subst₂ (Reached c.args.source.now (map spelled c.loop-rest.tokens.items ++ token ∷ [])) (sym behind) (sym rest) there in
-    subst (λ tokens. Reached c.args.source.now tokens c.past-behind.result c.split_at.result.1.now) (sym tokens) moved
+    let tokens =
+    ap (map spelled) pushed ∙ map-append spelled c.loop-rest.tokens.items _
+    ∙ ap (λ b. map spelled c.loop-rest.tokens.items ++ record { kind = c.in-Token.kind; bytes = b; place = c.place-place.result } ∷ []) bytes
+    ∙ ap (λ p. map spelled c.loop-rest.tokens.items ++ record { kind = c.in-Token.kind; bytes = take (size_of c.step_at-step.result) c.loop-rest.rest.now; place = p } ∷ []) c.place-place.ensures in
+    subst (Reached c.args.source.now _ c.past-behind.result) (sym rest)
+    (reached_token c.args.source.now (map spelled c.loop-rest.tokens.items) _ c.loop-rest.at c.past-behind.result c.loop-rest.rest.now c.step_at-step.result _ c.in-Token.kind reached c.in-Token.is behind tokens some (c.step_at-step.ensures reached.before reached.here))
 
 pub returns-clause-tokens : goal.returns-clause-tokens
 returns-clause-tokens c =

@@ -1,23 +1,19 @@
-use Rattle.std.proofs.Common.{◌≡◌, ◌∙◌, Some, None, sym, ap, drop}
-use Rattle.fk_lex.specs.Steps.{first_bad, closing, closed, text_of, text_step}
+use Rattle.std.proofs.Common.{◌+◌, get_or, sym, ap, subst, ◌∙◌, arith}
+use Rattle.fk_lex.specs.Moves.{part_size}
+use Rattle.fk_lex.proofs.Parts.{Walked, walked_good, walked_bad, bad_within}
 use Rattle.fk_lex.proofs.literal.text_step.Goals as goal
 
-pub returns-in-None : goal.returns-in-None
-unfolding text_step
-returns-in-None c =
-    let end : None ≡ closing (drop 1 c.args.text.now) = sym c.in-None.is ∙ c.closing.ensures.value ∙ ap closing c.split_at.ensures.back in
-    ap (λ end. text_of end (first_bad (drop 1 c.args.text.now))) end
+pub closed-requires-clause-bad : goal.closed-requires-clause-bad
+closed-requires-clause-bad c = bad_within _ c.loop-at.at c.loop-at.bad c.loop-at.invariant
 
-pub returns-in-None-first_bad : goal.returns-in-None-first_bad
-unfolding text_step
-returns-in-None-first_bad c =
-    let end : Some c.in-Some.end ≡ closing (drop 1 c.args.text.now) = sym c.in-Some.is ∙ c.closing.ensures.value ∙ ap closing c.split_at.ensures.back in
-    let bad : None ≡ first_bad (drop 1 c.args.text.now) = sym c.in-None-first_bad.is ∙ c.first_bad.ensures.value ∙ ap first_bad c.split_at.ensures.back in
-    ap (closed c.in-Some.end) bad ∙ ap (λ end. text_of end (first_bad (drop 1 c.args.text.now))) end
+pub loop-at-preserved-in-Some : goal.loop-at-preserved-in-Some
+loop-at-preserved-in-Some c =
+    walked_good c.split_at.result.1.now c.loop-at.at c.in-Some.size c.loop-at.bad c.loop-at.invariant (omega arith)
+    (sym c.in-Some.is ∙ c.part_size.ensures ∙ ap (part_size (get_or c.split_at.result.1.now c.loop-at.at 0)) c.byte_at.ensures)
 
-pub returns-in-Some-first_bad : goal.returns-in-Some-first_bad
-unfolding text_step
-returns-in-Some-first_bad c =
-    let end : Some c.in-Some.end ≡ closing (drop 1 c.args.text.now) = sym c.in-Some.is ∙ c.closing.ensures.value ∙ ap closing c.split_at.ensures.back in
-    let bad : Some c.in-Some-first_bad.bad ≡ first_bad (drop 1 c.args.text.now) = sym c.in-Some-first_bad.is ∙ c.first_bad.ensures.value ∙ ap first_bad c.split_at.ensures.back in
-    ap (closed c.in-Some.end) bad ∙ ap (λ end. text_of end (first_bad (drop 1 c.args.text.now))) end
+pub loop-at-preserved : goal.loop-at-preserved
+loop-at-preserved c =
+    let body = c.split_at.result.1.now in
+    subst (Walked body (c.loop-at.at + 1)) (sym c.or-bad.ensures)
+    (walked_bad body c.loop-at.at c.loop-at.bad c.loop-at.invariant (omega arith) (λ quote. omega arith) (λ newline. omega arith)
+    (sym c.in-None.is ∙ c.part_size.ensures ∙ ap (part_size (get_or body c.loop-at.at 0)) c.byte_at.ensures))

@@ -1,5 +1,5 @@
 use Rattle.std.proofs.Common.{◌≡◌, ◌+◌, ◌≤◌, drop}
-use Rattle.fk_lex.specs.Positions.{after}
+use Rattle.fk_lex.specs.Moves.{after}
 use Rattle.fk_lex.proofs.position.Position.after.Given as goal
 
 abbrev pub invariant-loop-byte : goal.invariant-loop-byte

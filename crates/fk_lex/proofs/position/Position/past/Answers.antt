@@ -1,4 +1,4 @@
-use Rattle.std.proofs.Common.{sym, refl}
+use Rattle.std.proofs.Common.{sym}
 use Rattle.fk_lex.proofs.Lines.{solid_after}
 use Rattle.fk_lex.proofs.position.Position.past.Goals as goal
 
