@@ -336,14 +336,13 @@ begun : (text : List ℕ) → 0 < length text → get_or text 0 0 ≡ 34 → 34 
 begun [] some quote = absurd (omega arith)
 begun (c ∷ cs) some quote = ap (λ c. c ∷ cs) (sym quote)
 
-pub walked_closed : (text : List ℕ) (i : ℕ) (bad : Option ℕ) (s : Step) → let body = drop 1 text in 0 < length text → get_or text 0 0 ≡ 34 → Walked body i bad → i < length body → get_or body i 0 ≡ 34 → IfNone bad (s ≡ Token (i + 2) Text) → IfSome bad (λ n. s ≡ Fault (n + 1) BadByte) → TextStep text s
-walked_closed text i bad s some quote so_far inside end good first =
-    let body = drop 1 text in
+pub walked_closed : (text body : List ℕ) (i : ℕ) (bad : Option ℕ) (s : Step) → 0 < length text → get_or text 0 0 ≡ 34 → body ≡ drop 1 text → Walked body i bad → i < length body → get_or body i 0 ≡ 34 → IfNone bad (s ≡ Token (i + 2) Text) → IfSome bad (λ n. s ≡ Fault (n + 1) BadByte) → TextStep text s
+walked_closed text body i bad s some quote back so_far inside end good first =
     let here : drop i body ≡ 34 ∷ drop (suc i) body = drop-cons body i 0 inside ∙ ap (λ c. c ∷ drop (suc i) body) end in (
       so_far.parts,
       drop (suc i) body,
       inl (
-        sym (begun text some quote) ∙ ap (λ l. 34 ∷ l) (so_far.whole ∙ ap (λ l. bytes_of so_far.parts ++ l) here),
+        sym (begun text some quote) ∙ ap (λ l. 34 ∷ l) (sym back ∙ so_far.whole ∙ ap (λ l. bytes_of so_far.parts ++ l) here),
         subst (AreParts so_far.parts) here so_far.are,
         closed_by so_far.parts i bad s so_far.size so_far.first good first,
       ),
@@ -353,13 +352,9 @@ line_ends_at : (body : List ℕ) (i : ℕ) → (i < length body → get_or body 
 line_ends_at body i newline =
     ⊎_elim (λ inside. subst EndsLine (sym (drop-cons body i 0 inside)) (newline inside)) (λ past. subst EndsLine (sym (drop_all i body past)) tt) (cases_lt i (length body))
 
-pub walked_open : (text : List ℕ) (i : ℕ) (bad : Option ℕ) → let body = drop 1 text in 0 < length text → get_or text 0 0 ≡ 34 → Walked body i bad → (i < length body → get_or body i 0 ≡ 10) → TextStep text (Fault 0 OpenString)
-walked_open text i bad some quote so_far newline =
-    let body = drop 1 text in (
-      so_far.parts,
-      drop i body,
-      inr (sym (begun text some quote) ∙ ap (λ l. 34 ∷ l) so_far.whole, so_far.are, line_ends_at body i newline, refl),
-    )
+pub walked_open : (text body : List ℕ) (i : ℕ) (bad : Option ℕ) → 0 < length text → get_or text 0 0 ≡ 34 → body ≡ drop 1 text → Walked body i bad → (i < length body → get_or body i 0 ≡ 10) → TextStep text (Fault 0 OpenString)
+walked_open text body i bad some quote back so_far newline =
+    (so_far.parts, drop i body, inr (sym (begun text some quote) ∙ ap (λ l. 34 ∷ l) (sym back ∙ so_far.whole), so_far.are, line_ends_at body i newline, refl))
 
 -- the first bad part stands among the parts
 bad_small : (parts : List Part) (i k : ℕ) → length (bytes_of parts) ≡ i → BadIn parts (Some k) → k < i

@@ -49,6 +49,7 @@ pub place-requires-clause-lines : goal.place-requires-clause-lines
 place-requires-clause-lines c =
     let some : 0 < length c.loop-rest.rest.now = omega (arith, false-eqb _ 0 c.loop-rest-test.ensures) in
     let reached = c.loop-rest.invariant in
+    let here = position_small c.args.source.now _ c.loop-rest.at c.loop-rest.rest.now reached in
     let behind = c.past-behind.ensures ∙ ap (after c.loop-rest.at) (c.split_at.ensures.front ∙ ap (λ n. take n c.loop-rest.rest.now) c.size.ensures) in
     let small = fault_small c.args.source.now _ c.loop-rest.at c.past-behind.result c.loop-rest.rest.now c.step_at-step.result _ _ reached c.in-Fault.is behind some (c.step_at-step.ensures reached.before reached.here) in
     let source = c.requires in
@@ -58,6 +59,7 @@ pub place-requires-clause-bytes : goal.place-requires-clause-bytes
 place-requires-clause-bytes c =
     let some : 0 < length c.loop-rest.rest.now = omega (arith, false-eqb _ 0 c.loop-rest-test.ensures) in
     let reached = c.loop-rest.invariant in
+    let here = position_small c.args.source.now _ c.loop-rest.at c.loop-rest.rest.now reached in
     let behind = c.past-behind.ensures ∙ ap (after c.loop-rest.at) (c.split_at.ensures.front ∙ ap (λ n. take n c.loop-rest.rest.now) c.size.ensures) in
     let small = fault_small c.args.source.now _ c.loop-rest.at c.past-behind.result c.loop-rest.rest.now c.step_at-step.result _ _ reached c.in-Fault.is behind some (c.step_at-step.ensures reached.before reached.here) in
     let source = c.requires in
