@@ -1,5 +1,5 @@
--- A token stands in one line, and begins with no blank.
-use Rattle.std.proofs.Common.{◌≡◌, ℕ, zero, suc, ◌+◌, ◌<◌, ◌≤◌, ◌==◌, ◌&&◌, ◌||◌, not, inl, inr, ⊎_elim, Bool, true, false, nat_lt, Option, Some, None, List, [], ◌∷◌, ◌++◌, length, take, get_or, refl, sym, ap, subst, ◌∙◌, arith, if◌then◌else◌, append_assoc, append-nil, length-append, add-zero}
+-- Lines and positions; a token stands in one line.
+use Rattle.std.proofs.Common.{◌≡◌, ℕ, zero, suc, ◌+◌, ◌-◌, ◌<◌, ◌≤◌, ◌==◌, ◌&&◌, ◌||◌, not, inl, inr, ⊎_elim, Bool, true, false, nat_lt, Option, Some, None, List, [], ◌∷◌, ◌++◌, length, take, drop, get_or, refl, sym, ap, subst, ◌∙◌, arith, if◌then◌else◌, append_assoc, append-nil, length-append, add-zero}
 use Rattle.std.specs.List.{list_all}
 use Rattle.std.specs.Str.{bytes_eq}
 use Rattle.std.proofs.lemmas.Bool.{both_ways, or_cases}
@@ -17,10 +17,11 @@ use Rattle.fk_lex.specs.declared.token.TokenKind.{TokenKind}
 use Rattle.fk_lex.specs.declared.token.TokenKind.TheVariants.{Number}
 use Rattle.fk_lex.specs.Bytes.{is_blank, is_letter, is_digit, is_word_byte, digit_value, is_suffix, is_x, is_plain, escape_value}
 use Rattle.fk_lex.specs.Kinds.{kind_of, lookup, signs, keywords, or_word, is_numeral, is_hexadecimal, is_tail, is_empty, numeral_value, is_unsigned}
-use Rattle.fk_lex.specs.Moves.{position_of, after, is_solid}
-use Rattle.fk_lex.specs.Positions.{in_line, newlines, last_line, only_blanks}
+use Rattle.fk_lex.specs.Moves.{position_of, after, place_of}
+use Rattle.fk_lex.specs.Positions.{in_line, newlines, last_line, place_behind, only_blanks}
 use Rattle.fk_lex.specs.Steps.{CommentStep, TokenStep, token_or_fault, beginning, is_include, line_length, directive_step, character_step, escaped, StandsBy, Stands}
 use Rattle.fk_lex.specs.Texts.{Part, Plain, Escape, Bad, bytes_of, is_some_byte, AreParts, AreGood, ClosedStep, TextStep}
+use Rattle.fk_lex.proofs.Extents.{short_line}
 use Rattle.fk_lex.proofs.Tests.{if_false, same_byte, both_true}
 
 and_true : (a b : Bool) → a ≡ true → b ≡ true → (a && b) ≡ true
@@ -35,34 +36,19 @@ not_false b is = ap not is
 
 -- positions
 
-along : (lines bytes : ℕ) (cs : List ℕ) → list_all in_line cs ≡ true → after (record { lines = lines; bytes = bytes; only_blanks = false }) cs ≡ record { lines = lines; bytes = bytes + length cs; only_blanks = false }
-along lines bytes [] all = ap (λ n. record { lines = lines; bytes = n; only_blanks = false }) (sym (add-zero bytes))
-along lines bytes (c ∷ cs) all =
-    let both = both_true (in_line c) (list_all in_line cs) all in
-    let size : bytes + 1 + length cs ≡ bytes + length (c ∷ cs) = omega arith in
-    let P : Position = record { lines = lines; bytes = bytes + length (c ∷ cs); only_blanks = false } in
-    ap (λ at. after at cs) (if_false (c == 10) (record { lines = lines + 1; bytes = 0; only_blanks = true }) (record { lines = lines; bytes = bytes + 1; only_blanks = false }) (not_true (c == 10) both.0))
-    ∙ along lines (bytes + 1) cs both.1
-    ∙ ap (λ n. record { lines = lines; bytes = n; only_blanks = false }) size
-
 no_blanks : (a b : Bool) → b ≡ false → (a && b) ≡ false
 no_blanks true b is = is
 no_blanks false b is = refl
 
-blank_line : (c : ℕ) → is_blank c ≡ false → (c == 10) ≡ false
-blank_line c is = grind (arith, nat_tests)
-
--- the position behind bytes of one line that begin with no blank
-pub solid_after : (at : Position) (bytes : List ℕ) → is_solid bytes ≡ true → after at bytes ≡ record { lines = at.lines; bytes = at.bytes + length bytes; only_blanks = false }
-solid_after at [] solid = absurd cc
-solid_after at (c ∷ cs) solid =
-    let both = both_true (not (is_blank c)) (list_all in_line cs) solid in
-    let other = not_true (is_blank c) both.0 in
-    let size : at.bytes + 1 + length cs ≡ at.bytes + length (c ∷ cs) = omega arith in
-    ap (λ at. after at cs) (if_false (c == 10) (record { lines = at.lines + 1; bytes = 0; only_blanks = true }) (record { lines = at.lines; bytes = at.bytes + 1; only_blanks = at.only_blanks && is_blank c }) (blank_line c other))
-    ∙ ap (λ b. after (record { lines = at.lines; bytes = at.bytes + 1; only_blanks = b }) cs) (no_blanks at.only_blanks (is_blank c) other)
-    ∙ along at.lines (at.bytes + 1) cs both.1
-    ∙ ap (λ n. record { lines = at.lines; bytes = n; only_blanks = false }) size
+-- the position behind bytes of one line
+pub line_after : (at : Position) (bytes : List ℕ) → list_all in_line bytes ≡ true → after at bytes ≡ record { lines = at.lines; line_start = at.line_start; offset = at.offset + length bytes }
+line_after at [] all = ap (λ n. record { lines = at.lines; line_start = at.line_start; offset = n }) (sym (add-zero at.offset))
+line_after at (c ∷ cs) all =
+    let both = both_true (in_line c) (list_all in_line cs) all in
+    let size : at.offset + 1 + length cs ≡ at.offset + length (c ∷ cs) = omega arith in
+    ap (λ at. after at cs) (if_false (c == 10) (record { lines = at.lines + 1; line_start = at.offset + 1; offset = at.offset + 1 }) (record { lines = at.lines; line_start = at.line_start; offset = at.offset + 1 }) (not_true (c == 10) both.0))
+    ∙ line_after (record { lines = at.lines; line_start = at.line_start; offset = at.offset + 1 }) cs both.1
+    ∙ ap (λ n. record { lines = at.lines; line_start = at.line_start; offset = n }) size
 
 -- the position behind a byte more
 
@@ -96,25 +82,56 @@ newlines_more : (before : List ℕ) (c : ℕ) (b : Bool) → (c == 10) ≡ b →
 newlines_more before c b is =
     sum_by-append (λ c. if c == 10 then 1 else 0) before (c ∷ []) ∙ ap (λ b. newlines before + (0 + (if b then 1 else 0))) is ∙ omega arith
 
-next_by : (before : List ℕ) (c : ℕ) (b : Bool) → (c == 10) ≡ b → position_of (before ++ c ∷ []) ≡ (if b then record { lines = newlines before + 1; bytes = 0; only_blanks = true } else record { lines = newlines before; bytes = length (last_line before) + 1; only_blanks = only_blanks before && is_blank c })
+next_by : (before : List ℕ) (c : ℕ) (b : Bool) → (c == 10) ≡ b → position_of (before ++ c ∷ []) ≡ (if b then record { lines = newlines before + 1; line_start = length before + 1; offset = length before + 1 } else record { lines = newlines before; line_start = length before - length (last_line before); offset = length before + 1 })
 next_by before c true is =
-    let line = newline_line before c (same_byte c 10 is) in
-    ap (λ n. record { lines = n; bytes = length (last_line (before ++ c ∷ [])); only_blanks = only_blanks (before ++ c ∷ []) }) (newlines_more before c true is)
-    ∙ ap (λ l. record { lines = newlines before + 1; bytes = length l; only_blanks = list_all is_blank l }) line
+    let size : length (before ++ c ∷ []) ≡ length before + 1 = length-append before (c ∷ []) in
+    let all : length before + 1 - 0 ≡ length before + 1 = omega arith in
+    ap (λ n. record { lines = n; line_start = length (before ++ c ∷ []) - length (last_line (before ++ c ∷ [])); offset = length (before ++ c ∷ []) }) (newlines_more before c true is)
+    ∙ ap (λ l. record { lines = newlines before + 1; line_start = length (before ++ c ∷ []) - length l; offset = length (before ++ c ∷ []) }) (newline_line before c (same_byte c 10 is))
+    ∙ ap (λ n. record { lines = newlines before + 1; line_start = n - 0; offset = n }) size
+    ∙ ap (λ n. record { lines = newlines before + 1; line_start = n; offset = length before + 1 }) all
 next_by before c false is =
-    let line = other_line before c (not_false (c == 10) is) in
+    let line : length (last_line (before ++ c ∷ [])) ≡ length (last_line before) + 1 = ap length (other_line before c (not_false (c == 10) is)) ∙ length-append (last_line before) (c ∷ []) in
+    let size : length (before ++ c ∷ []) ≡ length before + 1 = length-append before (c ∷ []) in
+    let start : length (before ++ c ∷ []) - length (last_line (before ++ c ∷ [])) ≡ length before - length (last_line before) = omega arith in
     let none : newlines before + 0 ≡ newlines before = omega arith in
-    ap (λ n. record { lines = n; bytes = length (last_line (before ++ c ∷ [])); only_blanks = only_blanks (before ++ c ∷ []) }) (newlines_more before c false is ∙ none)
-    ∙ ap (λ l. record { lines = newlines before; bytes = length l; only_blanks = list_all is_blank l }) line
-    ∙ ap (λ n. record { lines = newlines before; bytes = n; only_blanks = list_all is_blank (last_line before ++ c ∷ []) }) (length-append (last_line before) (c ∷ []))
-    ∙ ap (λ b. record { lines = newlines before; bytes = length (last_line before) + 1; only_blanks = b })
-    (list_all-append is_blank (last_line before) (c ∷ []) ∙ ap (λ b. only_blanks before && b) (and_one (is_blank c)))
+    ap (λ n. record { lines = n; line_start = length (before ++ c ∷ []) - length (last_line (before ++ c ∷ [])); offset = length (before ++ c ∷ []) }) (newlines_more before c false is ∙ none)
+    ∙ ap (λ n. record { lines = newlines before; line_start = n; offset = length (before ++ c ∷ []) }) start
+    ∙ ap (λ n. record { lines = newlines before; line_start = length before - length (last_line before); offset = n }) size
 
 -- the position behind more bytes
 pub position_more : (before bytes : List ℕ) → position_of (before ++ bytes) ≡ after (position_of before) bytes
 position_more before [] = ap position_of (append-nil before)
 position_more before (c ∷ cs) =
     ap position_of (sym (append_assoc before (c ∷ []) cs)) ∙ position_more (before ++ c ∷ []) cs ∙ ap (λ at. after at cs) (next_by before c (c == 10) refl)
+
+-- where a line starts
+
+last_by : (b : Bool) (c : ℕ) (cs : List ℕ) → last_line cs ≡ drop (length cs - length (last_line cs)) cs → (if b then c ∷ cs else last_line cs) ≡ drop (length (c ∷ cs) - length (if b then c ∷ cs else last_line cs)) (c ∷ cs)
+last_by true c cs behind =
+    let none : length (c ∷ cs) - length (c ∷ cs) ≡ 0 = omega arith in
+    ap (λ n. drop n (c ∷ cs)) (sym none)
+last_by false c cs behind =
+    let short = short_line cs in
+    let more : length (c ∷ cs) - length (last_line cs) ≡ suc (length cs - length (last_line cs)) = omega arith in
+    behind ∙ ap (λ n. drop n (c ∷ cs)) (sym more)
+
+last_line_is : (before : List ℕ) → last_line before ≡ drop (length before - length (last_line before)) before
+last_line_is [] = refl
+last_line_is (c ∷ cs) = last_by (list_all in_line (c ∷ cs)) c cs (last_line_is cs)
+
+-- the bytes from a line's start to a position
+pub line_so_far : (source before rest : List ℕ) (at : Position) → source ≡ before ++ rest → at ≡ position_of before → list_all is_blank (drop at.line_start (take at.offset source)) ≡ only_blanks before
+line_so_far source before rest at split here =
+    ap (λ at. list_all is_blank (drop at.line_start (take at.offset source))) here
+    ∙ ap (λ l. list_all is_blank (drop (length before - length (last_line before)) l)) (ap (take (length before)) split ∙ take_at before rest (length before) refl)
+    ∙ ap (list_all is_blank) (sym (last_line_is before))
+
+pub place_is : (before : List ℕ) → place_of (position_of before) ≡ place_behind before
+place_is before =
+    let short = short_line before in
+    let column : length before - (length before - length (last_line before)) + 1 ≡ length (last_line before) + 1 = omega arith in
+    ap (λ n. record { line = newlines before + 1; column = n }) column
 
 -- tests that no newline passes
 
@@ -180,27 +197,18 @@ lookup_passes test (entry ∷ others) bytes kind all is =
     let both = both_true (test entry.0) (rows_pass test others) all in
     row_passes test entry.0 bytes entry.1 kind (lookup others bytes) both.0 (λ is. lookup_passes test others bytes kind both.1 is) (bytes_eq entry.0 bytes) refl is
 
-letter_no_blank : (c : ℕ) → is_letter c ≡ true → is_blank c ≡ false
-letter_no_blank c is = grind (arith, nat_tests)
-
-digit_no_blank : (c : ℕ) → is_digit c ≡ true → is_blank c ≡ false
-digit_no_blank c is = grind (arith, nat_tests)
-
-solid_from : (c : ℕ) (cs : List ℕ) → is_blank c ≡ false → list_all in_line cs ≡ true → is_solid (c ∷ cs) ≡ true
-solid_from c cs other all = and_true (not (is_blank c)) (list_all in_line cs) (not_false (is_blank c) other) all
-
 spelled_by : (c : ℕ) (cs : List ℕ) (kind word number : TokenKind) (letter digit words numeral : Bool) → is_letter c ≡ letter → is_digit c ≡ digit → list_all is_word_byte cs ≡ words → is_numeral (c ∷ cs) ≡ numeral →
-    (if letter then (if words then Some word else None) else (if digit then (if numeral then Some number else None) else lookup signs (c ∷ cs))) ≡ Some kind → is_solid (c ∷ cs) ≡ true
-spelled_by c cs kind word number true digit true numeral l d w n is = solid_from c cs (letter_no_blank c l) (all_in_line is_word_byte refl cs w)
+    (if letter then (if words then Some word else None) else (if digit then (if numeral then Some number else None) else lookup signs (c ∷ cs))) ≡ Some kind → list_all in_line (c ∷ cs) ≡ true
+spelled_by c cs kind word number true digit true numeral l d w n is = and_true (in_line c) (list_all in_line cs) (passes_in_line is_letter refl c l) (all_in_line is_word_byte refl cs w)
 spelled_by c cs kind word number true digit false numeral l d w n is = absurd cc
-spelled_by c cs kind word number false true words true l d w n is = solid_from c cs (digit_no_blank c d) (numeral_by c cs (c == 48) n)
+spelled_by c cs kind word number false true words true l d w n is = and_true (in_line c) (list_all in_line cs) (passes_in_line is_digit refl c d) (numeral_by c cs (c == 48) n)
 spelled_by c cs kind word number false true words false l d w n is = absurd cc
-spelled_by c cs kind word number false false words numeral l d w n is = lookup_passes is_solid signs (c ∷ cs) kind refl is
+spelled_by c cs kind word number false false words numeral l d w n is = lookup_passes (list_all in_line) signs (c ∷ cs) kind refl is
 
-spelled_solid : (bytes : List ℕ) (kind : TokenKind) → kind_of bytes ≡ Some kind → is_solid bytes ≡ true
+spelled_in_line : (bytes : List ℕ) (kind : TokenKind) → kind_of bytes ≡ Some kind → list_all in_line bytes ≡ true
 unfolding kind_of
-spelled_solid [] kind is = absurd cc
-spelled_solid (c ∷ cs) kind is =
+spelled_in_line [] kind is = absurd cc
+spelled_in_line (c ∷ cs) kind is =
     spelled_by c cs kind (or_word (lookup keywords (c ∷ cs))) (Number (numeral_value (c ∷ cs)) (is_unsigned (c ∷ cs))) (is_letter c) (is_digit c) (list_all is_word_byte cs) (is_numeral (c ∷ cs)) refl refl refl refl is
 
 number_size : (narrow goes_on : Bool) (m n : ℕ) (kind number : TokenKind) → Token n kind ≡ (if narrow then (if goes_on then Fault m BadByte else Token m number) else Fault 0 WideNumber) → n ≡ m
@@ -213,10 +221,10 @@ unfolding token_or_fault
 token_size text m n kind (Number value unsigned) is = number_size _ _ m n kind (Number value unsigned) is
 token_size text m n kind _ is = cc
 
-token_solid_by : (text : List ℕ) (n : ℕ) (kind : TokenKind) → TokenStep text (Token n kind) → is_solid (take n text) ≡ true
-token_solid_by text n kind (inl a) =
-    subst (λ m. is_solid (take m text) ≡ true) (sym (token_size text a.0 n kind a.1 a.3)) (spelled_solid (take a.0 text) a.1 a.2.spells)
-token_solid_by text n kind (inr a) = absurd cc
+token_in_line_by : (text : List ℕ) (n : ℕ) (kind : TokenKind) → TokenStep text (Token n kind) → list_all in_line (take n text) ≡ true
+token_in_line_by text n kind (inl a) =
+    subst (λ m. list_all in_line (take m text) ≡ true) (sym (token_size text a.0 n kind a.1 a.3)) (spelled_in_line (take a.0 text) a.1 a.2.spells)
+token_in_line_by text n kind (inr a) = absurd cc
 
 -- character constants
 
@@ -260,22 +268,22 @@ quoted_four cs a b e = indexed_in_line 3 cs each
 
 character_by : (cs : List ℕ) (n : ℕ) (kind : TokenKind) (one two : Bool) → let c = get_or cs 0 0 in let d = get_or cs 1 0 in let e = get_or cs 2 0 in
     (is_plain 39 c && (d == 39)) ≡ one → ((c == 92) && (e == 39)) ≡ two →
-    Token n kind ≡ (if one then Token 3 (Number c false) else (if two then escaped (escape_value d) else Fault 0 BadByte)) → is_solid (take n (39 ∷ cs)) ≡ true
+    Token n kind ≡ (if one then Token 3 (Number c false) else (if two then escaped (escape_value d) else Fault 0 BadByte)) → list_all in_line (take n (39 ∷ cs)) ≡ true
 character_by cs n kind true two first second is =
     let both = both_true (is_plain 39 (get_or cs 0 0)) (get_or cs 1 0 == 39) first in
     let size : 3 ≡ n = cc in
-    subst (λ n. is_solid (take n (39 ∷ cs)) ≡ true) size
+    subst (λ n. list_all in_line (take n (39 ∷ cs)) ≡ true) size
     (quoted_three (get_or cs 0 0) (get_or cs 1 0) cs refl refl (plain_in_line (get_or cs 0 0) both.0) (byte_in_line (get_or cs 1 0) 39 both.1 refl))
 character_by cs n kind false true first second is =
     let both = both_true (get_or cs 0 0 == 92) (get_or cs 2 0 == 39) second in
     let found = escaped_token (escape_value (get_or cs 1 0)) n kind is in
-    subst (λ n. is_solid (take n (39 ∷ cs)) ≡ true) (sym found.0)
+    subst (λ n. list_all in_line (take n (39 ∷ cs)) ≡ true) (sym found.0)
     (quoted_four cs (byte_in_line (get_or cs 0 0) 92 both.0 refl) (escape_in_line (get_or cs 1 0) found.1) (byte_in_line (get_or cs 2 0) 39 both.1 refl))
 character_by cs n kind false false first second is = absurd cc
 
-character_solid : (cs : List ℕ) (n : ℕ) (kind : TokenKind) → Token n kind ≡ character_step (39 ∷ cs) → is_solid (take n (39 ∷ cs)) ≡ true
+character_in_line : (cs : List ℕ) (n : ℕ) (kind : TokenKind) → Token n kind ≡ character_step (39 ∷ cs) → list_all in_line (take n (39 ∷ cs)) ≡ true
 unfolding character_step
-character_solid cs n kind is =
+character_in_line cs n kind is =
     character_by cs n kind (is_plain 39 (get_or cs 0 0) && (get_or cs 1 0 == 39)) ((get_or cs 0 0 == 92) && (get_or cs 2 0 == 39)) refl refl is
 
 -- texts
@@ -295,16 +303,16 @@ body_in_line parts rest good are =
     ∙ ap (list_all in_line) (take_at (bytes_of parts ++ 34 ∷ []) rest (length (bytes_of parts) + 1) (length-append (bytes_of parts) (34 ∷ [])))
     ∙ parts_in_line parts (34 ∷ rest) good are
 
-closed_solid : (parts : List Part) (rest : List ℕ) (n : ℕ) (kind : TokenKind) → AreParts parts (34 ∷ rest) → ClosedStep parts (Token n kind) → is_solid (take n (34 ∷ (bytes_of parts ++ 34 ∷ rest))) ≡ true
-closed_solid parts rest n kind are (inl a) =
+closed_in_line : (parts : List Part) (rest : List ℕ) (n : ℕ) (kind : TokenKind) → AreParts parts (34 ∷ rest) → ClosedStep parts (Token n kind) → list_all in_line (take n (34 ∷ (bytes_of parts ++ 34 ∷ rest))) ≡ true
+closed_in_line parts rest n kind are (inl a) =
     let size : n ≡ length (bytes_of parts) + 2 = cc in
     let next : length (bytes_of parts) + 2 ≡ suc (length (bytes_of parts) + 1) = omega arith in
-    subst (λ n. is_solid (take n (34 ∷ (bytes_of parts ++ 34 ∷ rest))) ≡ true) (sym (size ∙ next)) (body_in_line parts rest a.0 are)
-closed_solid parts rest n kind are (inr a) = absurd cc
+    subst (λ n. list_all in_line (take n (34 ∷ (bytes_of parts ++ 34 ∷ rest))) ≡ true) (sym (size ∙ next)) (body_in_line parts rest a.0 are)
+closed_in_line parts rest n kind are (inr a) = absurd cc
 
-text_solid : (text : List ℕ) (n : ℕ) (kind : TokenKind) → TextStep text (Token n kind) → is_solid (take n text) ≡ true
-text_solid text n kind (parts, rest, inl a) = subst (λ text. is_solid (take n text) ≡ true) (sym a.0) (closed_solid parts rest n kind a.1 a.2)
-text_solid text n kind (parts, rest, inr a) = let same = a.3 in absurd cc
+text_in_line : (text : List ℕ) (n : ℕ) (kind : TokenKind) → TextStep text (Token n kind) → list_all in_line (take n text) ≡ true
+text_in_line text n kind (parts, rest, inl a) = subst (λ text. list_all in_line (take n text) ≡ true) (sym a.0) (closed_in_line parts rest n kind a.1 a.2)
+text_in_line text n kind (parts, rest, inr a) = let same = a.3 in absurd cc
 
 -- whatever stands there
 
@@ -332,18 +340,18 @@ comment_no_token text n kind (inr a) = let same = a.1 in cc
 gap_no_token : (m n : ℕ) (kind : TokenKind) → Token n kind ≡ Gap m → ⊥
 gap_no_token m n kind is = cc
 
-solid_by : (b : Beginning) (before : List ℕ) (c : ℕ) (cs : List ℕ) (n : ℕ) (kind : TokenKind) → b ≡ beginning (c ∷ cs) → StandsBy b before (c ∷ cs) (Token n kind) → is_solid (take n (c ∷ cs)) ≡ true
-solid_by begins.Blank before c cs n kind is stands = absurd (gap_no_token 1 n kind stands)
-solid_by begins.Comment before c cs n kind is stands = absurd (comment_no_token (c ∷ cs) n kind stands)
-solid_by begins.LineComment before c cs n kind is stands = absurd (gap_no_token (line_length (c ∷ cs)) n kind stands)
-solid_by begins.Directive before c cs n kind is stands = absurd (directive_no_token (only_blanks before) (c ∷ cs) n kind stands)
-solid_by begins.Character before c cs n kind is stands =
+in_line_by : (b : Beginning) (before : List ℕ) (c : ℕ) (cs : List ℕ) (n : ℕ) (kind : TokenKind) → b ≡ beginning (c ∷ cs) → StandsBy b before (c ∷ cs) (Token n kind) → list_all in_line (take n (c ∷ cs)) ≡ true
+in_line_by begins.Blank before c cs n kind is stands = absurd (gap_no_token 1 n kind stands)
+in_line_by begins.Comment before c cs n kind is stands = absurd (comment_no_token (c ∷ cs) n kind stands)
+in_line_by begins.LineComment before c cs n kind is stands = absurd (gap_no_token (line_length (c ∷ cs)) n kind stands)
+in_line_by begins.Directive before c cs n kind is stands = absurd (directive_no_token (only_blanks before) (c ∷ cs) n kind stands)
+in_line_by begins.Character before c cs n kind is stands =
     let quote = same_byte c 39 (character_begins (is_blank c) _ _ (c == 35) (c == 39) (c == 34) is) in
-    subst (λ c. is_solid (take n (c ∷ cs)) ≡ true) (sym quote) (character_solid cs n kind (subst (λ c. Token n kind ≡ character_step (c ∷ cs)) quote stands))
-solid_by begins.Text before c cs n kind is stands = text_solid (c ∷ cs) n kind stands
-solid_by begins.Other before c cs n kind is stands = token_solid_by (c ∷ cs) n kind stands
+    subst (λ c. list_all in_line (take n (c ∷ cs)) ≡ true) (sym quote) (character_in_line cs n kind (subst (λ c. Token n kind ≡ character_step (c ∷ cs)) quote stands))
+in_line_by begins.Text before c cs n kind is stands = text_in_line (c ∷ cs) n kind stands
+in_line_by begins.Other before c cs n kind is stands = token_in_line_by (c ∷ cs) n kind stands
 
--- the bytes of a token are of one line, and begin with no blank
-pub token_solid : (before text : List ℕ) (n : ℕ) (kind : TokenKind) → 0 < length text → Stands before text (Token n kind) → is_solid (take n text) ≡ true
-token_solid before [] n kind some stands = absurd (omega arith)
-token_solid before (c ∷ cs) n kind some stands = solid_by (beginning (c ∷ cs)) before c cs n kind refl stands
+-- the bytes of a token are of one line
+pub token_in_line : (before text : List ℕ) (n : ℕ) (kind : TokenKind) → 0 < length text → Stands before text (Token n kind) → list_all in_line (take n text) ≡ true
+token_in_line before [] n kind some stands = absurd (omega arith)
+token_in_line before (c ∷ cs) n kind some stands = in_line_by (beginning (c ∷ cs)) before c cs n kind refl stands

@@ -1,6 +1,7 @@
 -- How far a source is read: its pieces so far, and what is left of it.
-use Rattle.std.proofs.Common.{◌≡◌, ℕ, ◌+◌, ◌<◌, ◌≤◌, Option, Some, None, List, [], ◌∷◌, ◌++◌, length, take, drop, refl, sym, ap, subst, ◌∙◌, arith, append_assoc, append-nil, length-append, length-drop}
-use Rattle.std.proofs.lemmas.List.{length-take-le}
+use Rattle.std.proofs.Common.{◌≡◌, ℕ, ◌+◌, ◌<◌, ◌≤◌, Option, Some, None, List, [], ◌∷◌, ◌++◌, length, take, drop, get_or, true, refl, sym, ap, subst, ◌∙◌, arith, append_assoc, append-nil, length-append, length-drop}
+use Rattle.std.proofs.lemmas.List.{length-take-le, take-append-drop}
+use Rattle.fk_lex.specs.declared.step.Beginning.TheVariants as begins
 use Rattle.fk_lex.specs.declared.step.FaultKind.{FaultKind}
 use Rattle.fk_lex.specs.declared.step.Step.{Step}
 use Rattle.fk_lex.specs.declared.step.Step.TheVariants.{Gap, Token, Fault}
@@ -10,20 +11,22 @@ use Rattle.fk_lex.specs.declared.token.TokenKind.{TokenKind}
 use Rattle.fk_syntax.specs.declared.place.Place.{Place}
 use Rattle.fk_lex.specs.View.{IsFault}
 use Rattle.fk_lex.specs.declared.position.Position.{Position}
-use Rattle.fk_lex.specs.Moves.{position_of, after, place_of}
+use Rattle.fk_lex.specs.Bytes.{is_blank}
+use Rattle.fk_lex.specs.Moves.{position_of, next, after, place_of}
 use Rattle.fk_lex.specs.Positions.{place_behind}
 use Rattle.fk_lex.specs.Reading.{Spelled, fault_at, IsPiece, Cuts, spelled_by, tokens_in, Tokens, Faults}
 use Rattle.fk_lex.specs.Sizes.{size_of}
-use Rattle.fk_lex.specs.Steps.{Stands}
-use Rattle.fk_lex.proofs.Extents.{Within, few_newlines, short_line, stands_within}
-use Rattle.fk_lex.proofs.Lines.{position_more}
+use Rattle.fk_lex.specs.Steps.{beginning_of, StandsBy, Stands}
+use Rattle.fk_lex.proofs.Extents.{Within, few_newlines, stands_within}
+use Rattle.fk_lex.proofs.Lines.{position_more, place_is}
+use Rattle.fk_lex.proofs.Tests.{if_true}
 
 -- a source is read up to this position, with these tokens so far
 pub record Reached (source : List ℕ) (tokens : List Spelled) (at : Position) (rest : List ℕ) : Type 0 where
   pub before : List ℕ
   pub pieces : List Step
   pub here : at ≡ position_of before
-  pub whole : length before + length rest ≡ length source
+  pub split : source ≡ before ++ rest
   pub onward : (more : List Step) (end : Option LexFault) → Cuts more before rest end → Cuts (pieces ++ more) [] source end
   pub listed : (more : List Step) → tokens_in (pieces ++ more) [] source ≡ tokens ++ tokens_in more before rest
   pub few : length tokens + length rest ≤ length source
@@ -33,7 +36,7 @@ reached_start source = record {
   before = [];
   pieces = [];
   here = refl;
-  whole = omega arith;
+  split = refl;
   onward = λ more end cuts. cuts;
   listed = λ more. refl;
   few = omega arith;
@@ -58,12 +61,12 @@ passed source tokens list at behind rest step reached some stands piece behind_i
     let size : length (take (size_of step) rest) ≡ size_of step = length-take-le (size_of step) rest within.1 in
     let left : length (drop (size_of step) rest) + size_of step ≡ length rest = omega (arith, length-drop (size_of step) rest) in
     let were_few = reached.few in
-    let were_whole = reached.whole in
     record {
       before = now;
       pieces = reached.pieces ++ step ∷ [];
       here = behind_is ∙ ap (λ at. after at (take (size_of step) rest)) reached.here ∙ sym (position_more before (take (size_of step) rest));
-      whole = omega (arith, length-append before (take (size_of step) rest));
+      split =
+          reached.split ∙ ap (λ l. before ++ l) (sym (take-append-drop (size_of step) rest)) ∙ sym (append_assoc before (take (size_of step) rest) (drop (size_of step) rest));
       onward = λ more end cuts.
           subst (λ pieces. Cuts pieces [] source end) (sym (append_assoc reached.pieces (step ∷ []) more)) (reached.onward (step ∷ more) end (some, stands, piece, cuts));
       listed = λ more.
@@ -104,12 +107,26 @@ reached_gap source tokens at behind rest step n reached is behind_is some stands
     passed source tokens tokens at behind rest step reached some stands (subst IsPiece (sym is) tt) behind_is
     (sym (ap (λ s. tokens ++ spelled_by s reached.before rest) is ∙ append-nil tokens))
 
+one_byte : (rest : List ℕ) → 0 < length rest → take 1 rest ≡ get_or rest 0 0 ∷ []
+one_byte [] some = absurd (omega arith)
+one_byte (c ∷ cs) some = refl
+
+blank_begins : (c d : ℕ) → is_blank c ≡ true → beginning_of c d ≡ begins.Blank
+blank_begins c d blank = if_true (is_blank c) begins.Blank _ blank
+
+-- a blank
+pub reached_blank : (source : List ℕ) (tokens : List Spelled) (at behind : Position) (rest : List ℕ) → Reached source tokens at rest → 0 < length rest → is_blank (get_or rest 0 0) ≡ true → behind ≡ next at (get_or rest 0 0) → Reached source tokens behind (drop 1 rest)
+reached_blank source tokens at behind rest reached some blank behind_is =
+    reached_gap source tokens at behind rest (Gap 1) 1 reached refl (behind_is ∙ ap (after at) (sym (one_byte rest some))) some
+    (subst (λ b. StandsBy b reached.before rest (Gap 1)) (sym (blank_begins (get_or rest 0 0) (get_or rest 1 0) blank)) refl)
+
 -- a token
 pub reached_token : (source : List ℕ) (tokens list : List Spelled) (at behind : Position) (rest : List ℕ) (step : Step) (n : ℕ) (kind : TokenKind) (reached : Reached source tokens at rest) → step ≡ Token n kind → behind ≡ after at (take (size_of step) rest) → list ≡ tokens ++ record { kind = kind; bytes = take (size_of step) rest; place = place_of at } ∷ [] → 0 < length rest → Stands reached.before rest step → Reached source list behind (drop (size_of step) rest)
 reached_token source tokens list at behind rest step n kind reached is behind_is list_is some stands =
     let one : spelled_by step reached.before rest ≡ record { kind = kind; bytes = take (size_of step) rest; place = place_of at } ∷ [] =
     ap (λ s. spelled_by s reached.before rest) is
     ∙ ap (λ n. record { kind = kind; bytes = take n rest; place = place_behind reached.before } ∷ []) (sym (ap size_of is))
+    ∙ ap (λ place. record { kind = kind; bytes = take (size_of step) rest; place = place } ∷ []) (sym (place_is reached.before))
     ∙ ap (λ at. record { kind = kind; bytes = take (size_of step) rest; place = place_of at } ∷ []) (sym reached.here) in
     passed source tokens list at behind rest step reached some stands (subst IsPiece (sym is) tt) behind_is (list_is ∙ ap (λ l. tokens ++ l) (sym one))
 
@@ -119,27 +136,35 @@ gap_is_piece step n is = subst IsPiece (sym is) tt
 pub token_is_piece : (step : Step) (n : ℕ) (kind : TokenKind) → step ≡ Token n kind → IsPiece step
 token_is_piece step n kind is = subst IsPiece (sym is) tt
 
--- a position is no farther than the bytes before it
-pub position_small : (source : List ℕ) (tokens : List Spelled) (at : Position) (rest : List ℕ) → Reached source tokens at rest → (at.lines + length rest ≤ length source) × (at.bytes + length rest ≤ length source)
-position_small source tokens at rest reached =
-    let lines = ap (λ at. at.lines) reached.here in
-    let bytes = ap (λ at. at.bytes) reached.here in
-    let whole = reached.whole in
-    (omega (arith, few_newlines reached.before), omega (arith, short_line reached.before))
+-- where a position is in its source
+pub record Bounded (source : List ℕ) (at : Position) (rest : List ℕ) : Type 0 where
+  pub lines : at.lines ≤ at.offset
+  pub line : at.line_start ≤ at.offset
+  pub offset : at.offset + length rest ≡ length source
+
+bounded : (source before rest : List ℕ) (at : Position) → source ≡ before ++ rest → at ≡ position_of before → Bounded source at rest
+bounded source before rest at split here =
+    let lines = ap (λ at. at.lines) here in
+    let start = ap (λ at. at.line_start) here in
+    let offset = ap (λ at. at.offset) here in
+    let whole = ap length split ∙ length-append before rest in
+    record { lines = omega (arith, few_newlines before); line = omega arith; offset = omega arith }
+
+pub reached_bounded : (source : List ℕ) (tokens : List Spelled) (at : Position) (rest : List ℕ) → Reached source tokens at rest → Bounded source at rest
+reached_bounded source tokens at rest reached = bounded source reached.before rest at reached.split reached.here
 
 -- the place of a fault is that of a byte
-pub fault_small : (source : List ℕ) (tokens : List Spelled) (at behind : Position) (rest : List ℕ) (step : Step) (n : ℕ) (kind : FaultKind) (reached : Reached source tokens at rest) → step ≡ Fault n kind → behind ≡ after at (take (size_of step) rest) → 0 < length rest → Stands reached.before rest step → (behind.lines + 1 ≤ length source) × (behind.bytes + 1 ≤ length source)
-fault_small source tokens at behind rest step n kind reached is behind_is some stands =
-    let now = reached.before ++ take (size_of step) rest in
+pub fault_bounded : (source : List ℕ) (tokens : List Spelled) (at behind : Position) (rest : List ℕ) (step : Step) (n : ℕ) (kind : FaultKind) (reached : Reached source tokens at rest) → step ≡ Fault n kind → behind ≡ after at (take (size_of step) rest) → 0 < length rest → Stands reached.before rest step → (Bounded source behind (drop (size_of step) rest)) × (behind.offset + 1 ≤ length source)
+fault_bounded source tokens at behind rest step n kind reached is behind_is some stands =
+    let front = take (size_of step) rest in
     let inside : n < length rest = subst (λ s. Within s rest) is (stands_within reached.before rest step some stands) in
     let size : size_of step ≡ n = ap size_of is in
-    let here = behind_is ∙ ap (λ at. after at (take (size_of step) rest)) reached.here ∙ sym (position_more reached.before (take (size_of step) rest)) in
-    let lines = ap (λ at. at.lines) here in
-    let bytes = ap (λ at. at.bytes) here in
-    let passed : length (take (size_of step) rest) ≡ size_of step = length-take-le (size_of step) rest (omega arith) in
-    let all = length-append reached.before (take (size_of step) rest) in
-    let whole = reached.whole in
-    (omega (arith, few_newlines now), omega (arith, short_line now))
+    let here = behind_is ∙ ap (λ at. after at front) reached.here ∙ sym (position_more reached.before front) in
+    let split =
+    reached.split ∙ ap (λ l. reached.before ++ l) (sym (take-append-drop (size_of step) rest)) ∙ sym (append_assoc reached.before front (drop (size_of step) rest)) in
+    let known = bounded source (reached.before ++ front) (drop (size_of step) rest) behind split here in
+    let offset = known.offset in
+    (known, omega (arith, length-drop (size_of step) rest))
 
 own_fault : (text : List ℕ) (kind : FaultKind) (place : Place) → Faults text (fault_at kind place) → IsFault text (fault_at kind place)
 own_fault text kinds.BadByte place faults = faults
@@ -153,6 +178,7 @@ reached_own_fault source tokens at behind rest step n kind found reached is behi
     let before = reached.before in
     let place : place_of behind ≡ place_behind (before ++ take n rest) =
     ap place_of (behind_is ∙ ap (λ at. after at (take (size_of step) rest)) reached.here ∙ sym (position_more before (take (size_of step) rest)))
+    ∙ place_is (before ++ take (size_of step) rest)
     ∙ ap (λ s. place_behind (before ++ take (size_of s) rest)) is in
     let known : found ≡ fault_at kind (place_behind (before ++ take n rest)) = found_is ∙ ap (fault_at kind) place in
     subst (IsFault source) (sym known) (own_fault source kind (place_behind (before ++ take n rest)) (

@@ -1,6 +1,7 @@
 //! Classes of bytes.
 
 ghost use Rattle.std.specs.Prelude.{◌≡◌, ◌<◌, slice_index};
+ghost use Rattle.std.specs.List.{list_all};
 ghost use Rattle.fk_lex.specs.Bytes;
 
 /// Space, tab, carriage return and newline.
@@ -8,6 +9,13 @@ pub fn is_blank(byte: u8) -> bool
     ensures { result ≡ Bytes.is_blank byte }
 {
     matches!(byte, b' ' | b'\t' | b'\r' | b'\n')
+}
+
+/// Blanks or nothing.
+pub fn are_blanks(text: &[u8]) -> bool
+    ensures { result ≡ list_all Bytes.is_blank text.now }
+{
+    text.iter().all(|byte| is_blank(*byte))
 }
 
 /// A letter or `_`.

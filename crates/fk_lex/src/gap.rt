@@ -1,12 +1,12 @@
 //! Blanks, comments and include lines.
 
 ghost use Rattle.std.specs.Prelude.{◌≡◌, ℕ, ◌+◌, ◌≤◌, ◌<◌, ◌==◌, not, drop, length, IfSome, IfNone};
-ghost use Rattle.std.specs.List.{list_all, prefix_len};
+ghost use Rattle.std.specs.List.{prefix_len};
 ghost use Rattle.fk_lex.specs.Bytes;
 ghost use Rattle.fk_lex.specs.Steps;
 ghost use Rattle.fk_lex.specs.Steps.{CommentStep, CommentTo, EndsAt};
 
-use crate::bytes::{byte_at, is_blank};
+use crate::bytes::{are_blanks, byte_at, is_blank};
 use crate::step::{Beginning, FaultKind, Step};
 
 /// What the first two bytes of a text begin.
@@ -108,11 +108,4 @@ fn is_named(name: &[u8], text: &[u8]) -> bool
         Some((front, rest)) => name == front && are_blanks(rest),
         None => false,
     }
-}
-
-/// Blanks or nothing.
-fn are_blanks(text: &[u8]) -> bool
-    ensures { result ≡ list_all Bytes.is_blank text.now }
-{
-    text.iter().all(|byte| is_blank(*byte))
 }

@@ -5,6 +5,7 @@ ghost use Rattle.fk_lex.specs.Reading.{Tokens};
 ghost use Rattle.fk_lex.specs.View.{spelled, IsFault};
 ghost use Rattle.fk_lex.specs.Reading;
 
+use crate::bytes::is_blank;
 use crate::position::Position;
 use crate::step::{FaultKind, Step, step_at};
 use crate::token::{LexFault, Token};
@@ -26,7 +27,12 @@ pub fn lex<'a>(alloc: Global, source: &'a [u8]) -> Result<Vec<Token<'a>>, LexFau
     let mut at = Position::start();
     let mut rest = source;
     while !rest.is_empty() {
-        let step = step_at(at, rest);
+        if is_blank(rest[0]) {
+            at = at.next(rest[0]);
+            rest = rest.split_at(1).1;
+            continue;
+        }
+        let step = step_at(source, at, rest);
         let (bytes, others) = rest.split_at(step.size());
         let behind = at.past(step, bytes);
         match step {

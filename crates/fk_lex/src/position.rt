@@ -1,22 +1,24 @@
 //! Positions in a source text.
 
-ghost use Rattle.std.specs.Prelude.{◌≡◌, ℕ, ◌+◌, ◌<◌, ◌^◌, [], length, true};
+ghost use Rattle.std.specs.Prelude.{◌≡◌, ℕ, ◌+◌, ◌<◌, ◌≤◌, ◌^◌, [], length, take, drop, true};
+ghost use Rattle.std.specs.List.{list_all};
+ghost use Rattle.fk_lex.specs.Bytes.{is_blank};
 ghost use Rattle.fk_lex.specs.Moves;
-ghost use Rattle.fk_lex.specs.Moves.{position_of, after, place_of, is_solid};
+ghost use Rattle.fk_lex.specs.Moves.{position_of, after, place_of};
+ghost use Rattle.fk_lex.specs.Positions.{in_line};
 ghost use Rattle.fk_lex.specs.declared.token.TokenKind.{TokenKind};
 ghost use Rattle.fk_lex.specs.declared.step.Step.TheVariants.{Token};
 
-use crate::bytes::is_blank;
+use crate::bytes::are_blanks;
 use crate::step::Step;
 use fk_syntax::Place;
 
-/// How many lines end before a position, how many bytes stand before it in its line, and whether
-/// all of these are blanks.
+/// How many lines end before a position, and how many bytes stand before its line and before it.
 #[derive(Clone, Copy, Debug)]
 pub struct Position {
     pub lines: usize,
-    pub bytes: usize,
-    pub only_blanks: bool,
+    pub line_start: usize,
+    pub offset: usize,
 }
 
 impl Position {
@@ -26,24 +28,24 @@ impl Position {
     {
         Position {
             lines: 0,
-            bytes: 0,
-            only_blanks: true,
+            line_start: 0,
+            offset: 0,
         }
     }
 
     /// The position behind what stands here, which these bytes are.
     pub fn past(self, step: Step, passed: &[u8]) -> Position
         requires lines { self.lines + length passed.now < 2 ^ 64 }
-        requires bytes { self.bytes + length passed.now < 2 ^ 64 }
-        // A token stands in one line, and begins with no blank.
-        requires solid { (n : ℕ) (kind : TokenKind) → step ≡ Token n kind → is_solid passed.now ≡ true }
+        requires offset { self.offset + length passed.now < 2 ^ 64 }
+        // A token stands in one line.
+        requires in_line { (n : ℕ) (kind : TokenKind) → step ≡ Token n kind → list_all in_line passed.now ≡ true }
         ensures { result ≡ after self passed.now }
     {
         match step {
             Step::Token(_, _) => Position {
                 lines: self.lines,
-                bytes: self.bytes + passed.len(),
-                only_blanks: false,
+                line_start: self.line_start,
+                offset: self.offset + passed.len(),
             },
             Step::Gap(_) | Step::Fault(_, _) => self.after(passed),
         }
@@ -52,7 +54,7 @@ impl Position {
     /// The position behind these bytes.
     fn after(self, passed: &[u8]) -> Position
         requires lines { self.lines + length passed.now < 2 ^ 64 }
-        requires bytes { self.bytes + length passed.now < 2 ^ 64 }
+        requires offset { self.offset + length passed.now < 2 ^ 64 }
         ensures { result ≡ after self passed.now }
     {
         let mut at = self;
@@ -63,35 +65,48 @@ impl Position {
     }
 
     /// The position behind this byte.
-    fn next(self, byte: u8) -> Position
+    pub fn next(self, byte: u8) -> Position
         requires lines { self.lines + 1 < 2 ^ 64 }
-        requires bytes { self.bytes + 1 < 2 ^ 64 }
+        requires offset { self.offset + 1 < 2 ^ 64 }
         ensures { result ≡ Moves.next self byte }
     {
+        let offset = self.offset + 1;
         if byte == b'\n' {
             Position {
                 lines: self.lines + 1,
-                bytes: 0,
-                only_blanks: true,
+                line_start: offset,
+                offset,
             }
         } else {
             Position {
                 lines: self.lines,
-                bytes: self.bytes + 1,
-                only_blanks: self.only_blanks && is_blank(byte),
+                line_start: self.line_start,
+                offset,
             }
         }
+    }
+
+    /// Whether only blanks stand before this position in its line.
+    pub fn only_blanks(self, source: &[u8]) -> bool
+        requires line { self.line_start ≤ self.offset }
+        requires inside { self.offset ≤ length source.now }
+        ensures { result ≡ list_all is_blank (drop self.line_start (take self.offset source.now)) }
+    {
+        let (before, _) = source.split_at(self.offset);
+        let (_, line) = before.split_at(self.line_start);
+        are_blanks(line)
     }
 
     /// The line and the column, counted from 1.
     pub fn place(self) -> Place
         requires lines { self.lines + 1 < 2 ^ 32 }
-        requires bytes { self.bytes + 1 < 2 ^ 32 }
+        requires line { self.line_start ≤ self.offset }
+        requires offset { self.offset + 1 < 2 ^ 32 }
         ensures { result ≡ place_of self }
     {
         Place {
             line: (self.lines + 1) as u32,
-            column: (self.bytes + 1) as u32,
+            column: (self.offset - self.line_start + 1) as u32,
         }
     }
 }

@@ -1,6 +1,6 @@
 //! What stands at a point of a source text.
 
-ghost use Rattle.std.specs.Prelude.{◌≡◌, ℕ, ◌<◌, List, length};
+ghost use Rattle.std.specs.Prelude.{◌≡◌, ℕ, ◌<◌, ◌≤◌, List, ◌++◌, length};
 ghost use Rattle.fk_lex.specs.Steps.{Stands, TokenStep};
 ghost use Rattle.fk_lex.specs.Moves.{position_of};
 ghost use Rattle.fk_lex.specs.Sizes;
@@ -54,16 +54,18 @@ impl Step {
     }
 }
 
-/// What stands at this position, where this text goes on.
-pub fn step_at(at: Position, text: &[u8]) -> Step
-    requires { 0 < length text.now }
-    ensures { (before : List ℕ) → at ≡ position_of before → Stands before text.now result }
+/// What stands at this position of a source, where this text goes on.
+pub fn step_at(source: &[u8], at: Position, text: &[u8]) -> Step
+    requires some { 0 < length text.now }
+    requires line { at.line_start ≤ at.offset }
+    requires inside { at.offset ≤ length source.now }
+    ensures { (before : List ℕ) → source.now ≡ before ++ text.now → at ≡ position_of before → Stands before text.now result }
 {
     match beginning(text) {
         Beginning::Blank => Step::Gap(1),
         Beginning::Comment => comment_step(text),
         Beginning::LineComment => Step::Gap(line_length(text)),
-        Beginning::Directive => directive_step(at.only_blanks, text),
+        Beginning::Directive => directive_step(at.only_blanks(source), text),
         Beginning::Character => character_step(text),
         Beginning::Text => text_step(text),
         Beginning::Other => token_step(text),
