@@ -7,7 +7,7 @@ pub mod Lines
 pub mod Numerals
 pub mod Parts
 pub mod Reached
-pub mod Seconds
+pub mod Signs
 pub mod Spelled
 pub mod Tests
 pub mod TokenSteps

@@ -44,7 +44,3 @@ escape_value c =
     else (if c == 92 then Some 92
     else (if c == 39 then Some 39
     else (if c == 34 then Some 34 else None)))))
-
--- a byte that stands in a sign behind its first
-abbrev pub continues_sign : ℕ → Bool
-continues_sign c = (c == 60) || (c == 62) || (c == 61) || (c == 38) || (c == 124) || (c == 43) || (c == 45)

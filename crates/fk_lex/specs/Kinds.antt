@@ -1,5 +1,5 @@
 -- What bytes spell: keywords, words, numbers and signs.
-use Rattle.std.specs.Prelude.{◌≡◌, ℕ, ◌+◌, ◌-◌, ◌*◌, ◌<◌, ◌≤◌, ◌^◌, ◌==◌, ◌&&◌, ◌||◌, nat_le, nat_lt, Bool, true, false, Option, Some, None, List, [], ◌∷◌, length, take, drop, slice_index, codes, if◌then◌else◌}
+use Rattle.std.specs.Prelude.{◌≡◌, ℕ, ◌+◌, ◌-◌, ◌*◌, ◌<◌, ◌≤◌, ◌^◌, ◌==◌, ◌&&◌, ◌||◌, nat_le, nat_lt, Bool, true, false, Option, Some, None, List, [], ◌∷◌, ◌++◌, length, take, drop, slice_index, codes, if◌then◌else◌}
 use Rattle.std.specs.List.{list_all}
 use Rattle.std.specs.Str.{bytes_eq}
 use Rattle.fk_lex.specs.declared.token.TokenKind.{TokenKind}
@@ -35,10 +35,16 @@ keywords =
     (codes "puts", Puts) ∷
     []
 
-abbrev pub signs : List (List ℕ × TokenKind)
-signs =
+-- signs of three bytes
+abbrev pub triple_signs : List (List ℕ × TokenKind)
+triple_signs =
     (codes "<<=", ShiftLeftAssign) ∷
     (codes ">>=", ShiftRightAssign) ∷
+    []
+
+-- signs of two bytes
+abbrev pub double_signs : List (List ℕ × TokenKind)
+double_signs =
     (codes "<<", ShiftLeft) ∷
     (codes ">>", ShiftRight) ∷
     (codes "<=", LessOrEqual) ∷
@@ -58,6 +64,11 @@ signs =
     (codes "++", Increment) ∷
     (codes "--", Decrement) ∷
     (codes "->", Arrow) ∷
+    []
+
+-- signs of one byte
+abbrev pub single_signs : List (List ℕ × TokenKind)
+single_signs =
     (codes "+", Plus) ∷
     (codes "-", Minus) ∷
     (codes "*", Star) ∷
@@ -85,6 +96,9 @@ signs =
     (codes "@", At) ∷
     (codes "$", Dollar) ∷
     []
+
+abbrev pub signs : List (List ℕ × TokenKind)
+signs = triple_signs ++ (double_signs ++ single_signs)
 
 -- what a table has for these bytes
 abbrev pub lookup : List (List ℕ × TokenKind) → List ℕ → Option TokenKind

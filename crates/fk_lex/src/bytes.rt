@@ -87,13 +87,6 @@ pub fn escape_value(byte: u8) -> Option<u8>
     }
 }
 
-/// A byte that stands in a sign behind its first.
-pub fn continues_sign(byte: u8) -> bool
-    ensures { result ≡ Bytes.continues_sign byte }
-{
-    matches!(byte, b'<' | b'>' | b'=' | b'&' | b'|' | b'+' | b'-')
-}
-
 /// A byte of a text, and 0 past its end.
 pub fn byte_at(text: &[u8], at: usize) -> u8
     ensures { result ≡ slice_index text.now at }

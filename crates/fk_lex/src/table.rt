@@ -1,13 +1,13 @@
 //! Words, keywords and signs.
 
-ghost use Rattle.std.specs.Prelude.{◌≡◌, ℕ, ◌≤◌, ◌<◌, ◌==◌, ◌&&◌, length, drop, take, map, slice_index, nat_le, true, false, List, ◌∷◌, if◌then◌else◌};
+ghost use Rattle.std.specs.Prelude.{◌≡◌, ℕ, ◌≤◌, ◌<◌, ◌==◌, ◌&&◌, length, drop, take, map, slice_index, nat_le, true, false, List, [], ◌∷◌};
 ghost use Rattle.std.specs.List.{prefix_len};
 ghost use Rattle.fk_lex.specs.Bytes;
 ghost use Rattle.fk_lex.specs.Kinds;
 ghost use Rattle.fk_lex.specs.Steps.{TokenStep, beginning};
 ghost use Rattle.fk_lex.specs.View.{entry_of};
 
-use crate::bytes::{continues_sign, is_word_byte};
+use crate::bytes::{byte_at, is_word_byte};
 use crate::step::{FaultKind, Step};
 use crate::token::TokenKind;
 
@@ -92,135 +92,91 @@ pub fn sign_step(text: &[u8]) -> Step
     requires digit { Bytes.is_digit (slice_index text.now 0) ≡ false }
     ensures { TokenStep text.now result }
 {
-    match sign_of(text, 3) {
-        Some(sign) => return Step::Token(3, sign),
-        None => {}
+    let first = text[0];
+    let second = byte_at(text, 1);
+    let third = byte_at(text, 2);
+    if let Some(sign) = triple_sign(first, second, third) {
+        return Step::Token(3, sign);
     }
-    match sign_of(text, 2) {
-        Some(sign) => return Step::Token(2, sign),
-        None => {}
+    if let Some(sign) = double_sign(first, second) {
+        return Step::Token(2, sign);
     }
-    match sign_of(text, 1) {
+    match single_sign(first) {
         Some(sign) => Step::Token(1, sign),
         None => Step::Fault(0, FaultKind::BadByte),
     }
 }
 
-/// The sign that these many first bytes of a text are.
-fn sign_of(text: &[u8], size: usize) -> Option<TokenKind>
-    requires { 0 < size }
-    ensures { result ≡ (if nat_le size (length text.now) then Kinds.lookup Kinds.signs (take size text.now) else None) }
+/// The sign of three bytes.
+fn triple_sign(first: u8, second: u8, third: u8) -> Option<TokenKind>
+    ensures { result ≡ Kinds.lookup Kinds.triple_signs (first ∷ second ∷ third ∷ []) }
 {
-    if size > text.len() {
-        return None;
+    match (first, second, third) {
+        (b'<', b'<', b'=') => Some(TokenKind::ShiftLeftAssign),
+        (b'>', b'>', b'=') => Some(TokenKind::ShiftRightAssign),
+        _ => None,
     }
-    if size > 1 && !continues_sign(text[1]) {
-        return None;
-    }
-    sign_from(text[0], text.split_at(size).0)
 }
 
-/// The sign that bytes of this first byte are.
-fn sign_from(first: u8, sign: &[u8]) -> Option<TokenKind>
-    requires { (cs : List ℕ) × (sign.now ≡ first ∷ cs) }
-    ensures { result ≡ Kinds.lookup Kinds.signs sign.now }
+/// The sign of two bytes.
+fn double_sign(first: u8, second: u8) -> Option<TokenKind>
+    ensures { result ≡ Kinds.lookup Kinds.double_signs (first ∷ second ∷ []) }
 {
-    match first {
-        b'<' => lookup(
-            &[
-                (b"<<=", TokenKind::ShiftLeftAssign),
-                (b"<<", TokenKind::ShiftLeft),
-                (b"<=", TokenKind::LessOrEqual),
-                (b"<", TokenKind::LessThan),
-            ],
-            sign,
-        ),
-        b'>' => lookup(
-            &[
-                (b">>=", TokenKind::ShiftRightAssign),
-                (b">>", TokenKind::ShiftRight),
-                (b">=", TokenKind::GreaterOrEqual),
-                (b">", TokenKind::GreaterThan),
-            ],
-            sign,
-        ),
-        b'=' => lookup(
-            &[(b"==", TokenKind::EqualTo), (b"=", TokenKind::Assign)],
-            sign,
-        ),
-        b'!' => lookup(
-            &[
-                (b"!=", TokenKind::NotEqualTo),
-                (b"!", TokenKind::Exclamation),
-            ],
-            sign,
-        ),
-        b'&' => lookup(
-            &[
-                (b"&&", TokenKind::AndAnd),
-                (b"&=", TokenKind::AmpersandAssign),
-                (b"&", TokenKind::Ampersand),
-            ],
-            sign,
-        ),
-        b'|' => lookup(
-            &[
-                (b"||", TokenKind::OrOr),
-                (b"|=", TokenKind::BarAssign),
-                (b"|", TokenKind::Bar),
-            ],
-            sign,
-        ),
-        b'+' => lookup(
-            &[
-                (b"+=", TokenKind::PlusAssign),
-                (b"++", TokenKind::Increment),
-                (b"+", TokenKind::Plus),
-            ],
-            sign,
-        ),
-        b'-' => lookup(
-            &[
-                (b"-=", TokenKind::MinusAssign),
-                (b"--", TokenKind::Decrement),
-                (b"->", TokenKind::Arrow),
-                (b"-", TokenKind::Minus),
-            ],
-            sign,
-        ),
-        b'*' => lookup(
-            &[(b"*=", TokenKind::StarAssign), (b"*", TokenKind::Star)],
-            sign,
-        ),
-        b'/' => lookup(
-            &[(b"/=", TokenKind::SlashAssign), (b"/", TokenKind::Slash)],
-            sign,
-        ),
-        b'%' => lookup(
-            &[
-                (b"%=", TokenKind::PercentAssign),
-                (b"%", TokenKind::Percent),
-            ],
-            sign,
-        ),
-        b'^' => lookup(
-            &[(b"^=", TokenKind::CaretAssign), (b"^", TokenKind::Caret)],
-            sign,
-        ),
-        b'~' => lookup(&[(b"~", TokenKind::Tilde)], sign),
-        b'?' => lookup(&[(b"?", TokenKind::Question)], sign),
-        b':' => lookup(&[(b":", TokenKind::Colon)], sign),
-        b',' => lookup(&[(b",", TokenKind::Comma)], sign),
-        b';' => lookup(&[(b";", TokenKind::Semicolon)], sign),
-        b'(' => lookup(&[(b"(", TokenKind::OpenParenthesis)], sign),
-        b')' => lookup(&[(b")", TokenKind::CloseParenthesis)], sign),
-        b'{' => lookup(&[(b"{", TokenKind::OpenBrace)], sign),
-        b'}' => lookup(&[(b"}", TokenKind::CloseBrace)], sign),
-        b'[' => lookup(&[(b"[", TokenKind::OpenBracket)], sign),
-        b']' => lookup(&[(b"]", TokenKind::CloseBracket)], sign),
-        b'.' => lookup(&[(b".", TokenKind::Dot)], sign),
-        b'@' => lookup(&[(b"@", TokenKind::At)], sign),
-        b'$' => lookup(&[(b"$", TokenKind::Dollar)], sign),
+    match (first, second) {
+        (b'<', b'<') => Some(TokenKind::ShiftLeft),
+        (b'>', b'>') => Some(TokenKind::ShiftRight),
+        (b'<', b'=') => Some(TokenKind::LessOrEqual),
+        (b'>', b'=') => Some(TokenKind::GreaterOrEqual),
+        (b'=', b'=') => Some(TokenKind::EqualTo),
+        (b'!', b'=') => Some(TokenKind::NotEqualTo),
+        (b'&', b'&') => Some(TokenKind::AndAnd),
+        (b'|', b'|') => Some(TokenKind::OrOr),
+        (b'+', b'=') => Some(TokenKind::PlusAssign),
+        (b'-', b'=') => Some(TokenKind::MinusAssign),
+        (b'*', b'=') => Some(TokenKind::StarAssign),
+        (b'/', b'=') => Some(TokenKind::SlashAssign),
+        (b'%', b'=') => Some(TokenKind::PercentAssign),
+        (b'&', b'=') => Some(TokenKind::AmpersandAssign),
+        (b'|', b'=') => Some(TokenKind::BarAssign),
+        (b'^', b'=') => Some(TokenKind::CaretAssign),
+        (b'+', b'+') => Some(TokenKind::Increment),
+        (b'-', b'-') => Some(TokenKind::Decrement),
+        (b'-', b'>') => Some(TokenKind::Arrow),
+        _ => None,
+    }
+}
+
+/// The sign of one byte.
+fn single_sign(byte: u8) -> Option<TokenKind>
+    ensures { result ≡ Kinds.lookup Kinds.single_signs (byte ∷ []) }
+{
+    match byte {
+        b'+' => Some(TokenKind::Plus),
+        b'-' => Some(TokenKind::Minus),
+        b'*' => Some(TokenKind::Star),
+        b'/' => Some(TokenKind::Slash),
+        b'%' => Some(TokenKind::Percent),
+        b'&' => Some(TokenKind::Ampersand),
+        b'|' => Some(TokenKind::Bar),
+        b'^' => Some(TokenKind::Caret),
+        b'~' => Some(TokenKind::Tilde),
+        b'!' => Some(TokenKind::Exclamation),
+        b'<' => Some(TokenKind::LessThan),
+        b'>' => Some(TokenKind::GreaterThan),
+        b'=' => Some(TokenKind::Assign),
+        b'?' => Some(TokenKind::Question),
+        b':' => Some(TokenKind::Colon),
+        b',' => Some(TokenKind::Comma),
+        b';' => Some(TokenKind::Semicolon),
+        b'(' => Some(TokenKind::OpenParenthesis),
+        b')' => Some(TokenKind::CloseParenthesis),
+        b'{' => Some(TokenKind::OpenBrace),
+        b'}' => Some(TokenKind::CloseBrace),
+        b'[' => Some(TokenKind::OpenBracket),
+        b']' => Some(TokenKind::CloseBracket),
+        b'.' => Some(TokenKind::Dot),
+        b'@' => Some(TokenKind::At),
+        b'$' => Some(TokenKind::Dollar),
         _ => None,
     }
 }
