@@ -11,4 +11,5 @@ pub mod Signs
 pub mod Spelled
 pub mod Tests
 pub mod TokenSteps
+pub mod WordBytes
 pub mod Words

@@ -1,8 +1,9 @@
 //! What stands at a point of a source text.
 
-ghost use Rattle.std.specs.Prelude.{◌≡◌, ℕ, ◌<◌, ◌≤◌, List, ◌++◌, length};
+ghost use Rattle.std.specs.Prelude.{◌≡◌, ℕ, ◌<◌, ◌≤◌, false, List, ◌++◌, length, slice_index};
 ghost use Rattle.fk_lex.specs.Steps.{Stands, TokenStep};
 ghost use Rattle.fk_lex.specs.Moves.{position_of};
+ghost use Rattle.fk_lex.specs.Bytes;
 ghost use Rattle.fk_lex.specs.Sizes;
 
 use crate::bytes::{is_digit, is_letter};
@@ -61,6 +62,9 @@ pub fn step_at(source: &[u8], at: Position, text: &[u8]) -> Step
     requires inside { at.offset ≤ length source.now }
     ensures { (before : List ℕ) → source.now ≡ before ++ text.now → at ≡ position_of before → Stands before text.now result }
 {
+    if is_letter(text[0]) {
+        return word_step(text);
+    }
     match beginning(text) {
         Beginning::Blank => Step::Gap(1),
         Beginning::Comment => comment_step(text),
@@ -72,15 +76,13 @@ pub fn step_at(source: &[u8], at: Position, text: &[u8]) -> Step
     }
 }
 
-/// The word, number or sign that a text begins with.
+/// The number or sign that a text begins with.
 fn token_step(text: &[u8]) -> Step
-    requires { 0 < length text.now }
+    requires some { 0 < length text.now }
+    requires letter { Bytes.is_letter (slice_index text.now 0) ≡ false }
     ensures { TokenStep text.now result }
 {
-    let first = text[0];
-    if is_letter(first) {
-        word_step(text)
-    } else if is_digit(first) {
+    if is_digit(text[0]) {
         numeral_step(text)
     } else {
         sign_step(text)
