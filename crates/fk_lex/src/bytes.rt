@@ -8,7 +8,8 @@ ghost use Rattle.fk_lex.specs.Bytes;
 pub fn is_blank(byte: u8) -> bool
     ensures { result ≡ Bytes.is_blank byte }
 {
-    matches!(byte, b' ' | b'\t' | b'\r' | b'\n')
+    // Most bytes are above a space, and take this one comparison.
+    byte <= b' ' && matches!(byte, b' ' | b'\t' | b'\r' | b'\n')
 }
 
 /// Blanks or nothing.

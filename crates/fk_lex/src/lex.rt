@@ -12,6 +12,9 @@ use crate::token::{LexFault, Token};
 use fk_syntax::Place;
 use std::alloc::{AllocError, Global};
 
+/// How many bytes a text of declarations has for each token.
+const BYTES_A_TOKEN: usize = 4;
+
 /// The tokens of a whole source text, or the fault at the least place.
 ///
 /// Between tokens stand blanks, comments and include lines, and each token is the longest one at
@@ -23,7 +26,9 @@ pub fn lex<'a>(alloc: Global, source: &'a [u8]) -> Result<Vec<Token<'a>>, LexFau
     ensures few { IfOk result (λ tokens. vec_len tokens ≤ length source.now) }
     ensures fault { IfErr result (λ fault. IsFault source.now fault) }
 {
-    let mut tokens = Vec::new(alloc);
+    let Ok(mut tokens) = Vec::with_capacity(alloc, source.len() / BYTES_A_TOKEN) else {
+        return Err(LexFault::Memory(AllocError));
+    };
     let mut at = Position::start();
     let mut rest = source;
     while !rest.is_empty() {

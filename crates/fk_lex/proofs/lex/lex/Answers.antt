@@ -9,7 +9,7 @@ use Rattle.fk_lex.specs.Sizes.{size_of}
 use Rattle.fk_lex.specs.Steps.{Stands}
 use Rattle.fk_lex.specs.View.{spelled}
 use Rattle.fk_lex.proofs.Lines.{token_in_line}
-use Rattle.fk_lex.proofs.Reached.{Reached, reached_gap, reached_token, reached_end, reached_less, reached_own_fault, reached_blank, reached_bounded, stands_size, fault_bounded, gap_is_piece, token_is_piece, empty_list}
+use Rattle.fk_lex.proofs.Reached.{Reached, reached_start, reached_gap, reached_token, reached_end, reached_less, reached_own_fault, reached_blank, reached_bounded, stands_size, fault_bounded, gap_is_piece, token_is_piece, empty_list}
 use Rattle.fk_lex.proofs.lex.lex.Goals as goal
 
 pub step_at-step-requires-clause-line : goal.step_at-step-requires-clause-line
@@ -187,3 +187,9 @@ loop-rest-preserved c =
 pub returns-clause-tokens : goal.returns-clause-tokens
 returns-clause-tokens c =
     reached_end _ _ _ _ c.loop-rest.invariant (empty_list _ (true-eqb _ 0 c.loop-rest-test.ensures))
+
+pub loop-rest-init : goal.loop-rest-init
+loop-rest-init c =
+    let source = c.args.source.now in
+    subst (λ items. Reached source (map spelled items) c.start-at.result source) (sym c.in-Ok.ensures.items)
+    (subst (λ at. Reached source [] at source) (sym c.start-at.ensures) (reached_start source))
