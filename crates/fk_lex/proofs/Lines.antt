@@ -17,7 +17,7 @@ use Rattle.fk_lex.specs.declared.token.TokenKind.{TokenKind}
 use Rattle.fk_lex.specs.declared.token.TokenKind.TheVariants.{Number}
 use Rattle.fk_lex.specs.Bytes.{is_blank, is_letter, is_digit, is_word_byte, digit_value, is_suffix, is_x, is_plain, escape_value}
 use Rattle.fk_lex.specs.Kinds.{kind_of, lookup, signs, keywords, or_word, is_numeral, is_hexadecimal, is_tail, is_empty, numeral_value, is_unsigned}
-use Rattle.fk_lex.specs.Moves.{position_of, after, place_of}
+use Rattle.fk_lex.specs.Moves.{position_of, next, after, place_of}
 use Rattle.fk_lex.specs.Positions.{in_line, newlines, last_line, place_behind, only_blanks}
 use Rattle.fk_lex.specs.Steps.{CommentStep, TokenStep, token_or_fault, beginning, is_include, line_length, directive_step, character_step, escaped, StandsBy, Stands}
 use Rattle.fk_lex.specs.Texts.{Part, Plain, Escape, Bad, bytes_of, is_some_byte, AreParts, AreGood, ClosedStep, TextStep}
@@ -39,6 +39,18 @@ not_false b is = ap not is
 no_blanks : (a b : Bool) → b ≡ false → (a && b) ≡ false
 no_blanks true b is = is
 no_blanks false b is = refl
+
+next_offset : (b : Bool) (at : Position) → let newline : Position = record { lines = at.lines + 1; line_start = at.offset + 1; offset = at.offset + 1 } in
+    let other : Position = record { lines = at.lines; line_start = at.line_start; offset = at.offset + 1 } in let behind : Position = if b then newline else other in behind.offset ≡ at.offset + 1
+next_offset true at = refl
+next_offset false at = refl
+
+pub after_offset : (at : Position) (bytes : List ℕ) → (after at bytes).offset ≡ at.offset + length bytes
+after_offset at [] = sym (add-zero at.offset)
+after_offset at (c ∷ cs) =
+    let here : (next at c).offset ≡ at.offset + 1 = next_offset (c == 10) at in
+    let behind = after_offset (next at c) cs in
+    omega arith
 
 -- the position behind bytes of one line
 pub line_after : (at : Position) (bytes : List ℕ) → list_all in_line bytes ≡ true → after at bytes ≡ record { lines = at.lines; line_start = at.line_start; offset = at.offset + length bytes }

@@ -1,5 +1,6 @@
 -- How far a source is read: its pieces so far, and what is left of it.
-use Rattle.std.proofs.Common.{◌≡◌, ℕ, ◌+◌, ◌<◌, ◌≤◌, Option, Some, None, List, [], ◌∷◌, ◌++◌, length, take, drop, get_or, true, refl, sym, ap, subst, ◌∙◌, arith, append_assoc, append-nil, length-append, length-drop}
+use Rattle.std.proofs.Common.{◌≡◌, ℕ, ◌+◌, ◌-◌, ◌<◌, ◌≤◌, Option, Some, None, List, [], ◌∷◌, ◌++◌, length, take, drop, get_or, true, refl, sym, ap, subst, ◌∙◌, arith, append_assoc, append-nil, length-append, length-drop}
+use Rattle.std.proofs.Math.Seq.{drop-append_seam}
 use Rattle.std.proofs.lemmas.List.{length-take-le, take-append-drop}
 use Rattle.fk_lex.specs.declared.step.Beginning.TheVariants as begins
 use Rattle.fk_lex.specs.declared.step.FaultKind.{FaultKind}
@@ -18,7 +19,7 @@ use Rattle.fk_lex.specs.Reading.{Spelled, fault_at, IsPiece, Cuts, spelled_by, t
 use Rattle.fk_lex.specs.Sizes.{size_of}
 use Rattle.fk_lex.specs.Steps.{beginning_of, StandsBy, Stands}
 use Rattle.fk_lex.proofs.Extents.{Within, few_newlines, stands_within}
-use Rattle.fk_lex.proofs.Lines.{position_more, place_is}
+use Rattle.fk_lex.proofs.Lines.{position_more, after_offset, place_is}
 use Rattle.fk_lex.proofs.Tests.{if_true}
 
 -- a source is read up to this position, with these tokens so far
@@ -135,6 +136,27 @@ gap_is_piece step n is = subst IsPiece (sym is) tt
 
 pub token_is_piece : (step : Step) (n : ℕ) (kind : TokenKind) → step ≡ Token n kind → IsPiece step
 token_is_piece step n kind is = subst IsPiece (sym is) tt
+
+-- what is left is what stands behind the position
+pub reached_rest : (source : List ℕ) (tokens : List Spelled) (at : Position) (rest : List ℕ) → Reached source tokens at rest → rest ≡ drop at.offset source
+reached_rest source tokens at rest reached =
+    sym (ap (λ at. drop at.offset source) reached.here ∙ ap (drop (length reached.before)) reached.split ∙ drop-append_seam reached.before rest)
+
+pub some_left : (source rest : List ℕ) (offset : ℕ) → offset < length source → rest ≡ drop offset source → 0 < length rest
+some_left source rest offset inside is = omega (arith, ap length is, length-drop offset source)
+
+-- a piece moves on
+pub nearer : (source before rest : List ℕ) (at behind : Position) (step : Step) → 0 < length rest → Stands before rest step → IsPiece step → rest ≡ drop at.offset source → behind ≡ after at (take (size_of step) rest) → length source - behind.offset < length source - at.offset
+nearer source before rest at behind step some stands piece is behind_is =
+    let within = piece_within step rest piece (stands_within before rest step some stands) in
+    let size : length (take (size_of step) rest) ≡ size_of step = length-take-le (size_of step) rest within.1 in
+    let more = within.0 in
+    let offset = ap (λ at. at.offset) behind_is ∙ after_offset at (take (size_of step) rest) in
+    let left = ap length is ∙ length-drop at.offset source in
+    omega arith
+
+pub reached_on : (source : List ℕ) (tokens : List Spelled) (at : Position) (rest : List ℕ) → Reached source tokens at rest → Reached source tokens at (drop at.offset source)
+reached_on source tokens at rest reached = subst (Reached source tokens at) (reached_rest source tokens at rest reached) reached
 
 -- where a position is in its source
 pub record Bounded (source : List ℕ) (at : Position) (rest : List ℕ) : Type 0 where

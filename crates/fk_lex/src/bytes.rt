@@ -8,8 +8,7 @@ ghost use Rattle.fk_lex.specs.Bytes;
 pub fn is_blank(byte: u8) -> bool
     ensures { result ≡ Bytes.is_blank byte }
 {
-    // Most bytes are above a space, and take this one comparison.
-    byte <= b' ' && matches!(byte, b' ' | b'\t' | b'\r' | b'\n')
+    matches!(byte, b' ' | b'\t' | b'\r' | b'\n')
 }
 
 /// Blanks or nothing.

@@ -30,15 +30,14 @@ pub fn lex<'a>(alloc: Global, source: &'a [u8]) -> Result<Vec<Token<'a>>, LexFau
         return Err(LexFault::Memory(AllocError));
     };
     let mut at = Position::start();
-    let mut rest = source;
-    while !rest.is_empty() {
+    while at.offset < source.len() {
+        let (_, rest) = source.split_at(at.offset);
         if is_blank(rest[0]) {
             at = at.next(rest[0]);
-            rest = rest.split_at(1).1;
             continue;
         }
         let step = step_at(source, at, rest);
-        let (bytes, others) = rest.split_at(step.size());
+        let (bytes, _) = rest.split_at(step.size());
         let behind = at.past(step, bytes);
         match step {
             Step::Gap(_) => {}
@@ -52,7 +51,6 @@ pub fn lex<'a>(alloc: Global, source: &'a [u8]) -> Result<Vec<Token<'a>>, LexFau
             Step::Fault(_, kind) => return Err(fault_at(kind, behind.place())),
         }
         at = behind;
-        rest = others;
     }
     Ok(tokens)
 }

@@ -1,6 +1,6 @@
-use Rattle.std.proofs.Common.{true, ◌≡◌, ◌<◌, [], ◌∷◌, ◌++◌, length, map, take, drop, is_ok, sym, ap, subst, ◌∙◌, arith, false-eqb, true-eqb}
+use Rattle.std.proofs.Common.{true, ◌≡◌, ◌<◌, [], ◌∷◌, ◌++◌, length, map, take, drop, is_ok, sym, ap, subst, ◌∙◌, arith}
 use Rattle.std.specs.List.{list_all}
-use Rattle.std.proofs.lemmas.List.{map-append}
+use Rattle.std.proofs.lemmas.List.{map-append, drop_all}
 use Rattle.std.proofs.ResultArms.{chosen}
 use Rattle.fk_lex.specs.Moves.{after}
 use Rattle.fk_lex.specs.Positions.{in_line}
@@ -9,69 +9,69 @@ use Rattle.fk_lex.specs.Sizes.{size_of}
 use Rattle.fk_lex.specs.Steps.{Stands}
 use Rattle.fk_lex.specs.View.{spelled}
 use Rattle.fk_lex.proofs.Lines.{token_in_line}
-use Rattle.fk_lex.proofs.Reached.{Reached, reached_start, reached_gap, reached_token, reached_end, reached_less, reached_own_fault, reached_blank, reached_bounded, stands_size, fault_bounded, gap_is_piece, token_is_piece, empty_list}
+use Rattle.fk_lex.proofs.Reached.{Reached, reached_start, reached_gap, reached_token, reached_end, reached_on, some_left, nearer, reached_own_fault, reached_blank, reached_bounded, stands_size, fault_bounded, gap_is_piece, token_is_piece}
 use Rattle.fk_lex.proofs.lex.lex.Goals as goal
 
 pub step_at-step-requires-clause-line : goal.step_at-step-requires-clause-line
 step_at-step-requires-clause-line c =
-    let some : 0 < length c.loop-rest.rest.now = omega (arith, false-eqb _ 0 c.loop-rest-test.ensures) in
-    let reached = c.loop-rest.invariant in
-    let known = reached_bounded c.args.source.now _ c.loop-rest.at c.loop-rest.rest.now reached in
+    let some = some_left c.args.source.now c.split_at.result.1.now c.loop-at.at.offset (omega arith) c.split_at.ensures.back in
+    let reached = subst (Reached c.args.source.now _ c.loop-at.at) (sym c.split_at.ensures.back) c.loop-at.invariant in
+    let known = reached_bounded c.args.source.now _ c.loop-at.at c.split_at.result.1.now reached in
     known.line
 
 pub step_at-step-requires-clause-inside : goal.step_at-step-requires-clause-inside
 step_at-step-requires-clause-inside c =
-    let some : 0 < length c.loop-rest.rest.now = omega (arith, false-eqb _ 0 c.loop-rest-test.ensures) in
-    let reached = c.loop-rest.invariant in
-    let known = reached_bounded c.args.source.now _ c.loop-rest.at c.loop-rest.rest.now reached in
+    let some = some_left c.args.source.now c.split_at.result.1.now c.loop-at.at.offset (omega arith) c.split_at.ensures.back in
+    let reached = subst (Reached c.args.source.now _ c.loop-at.at) (sym c.split_at.ensures.back) c.loop-at.invariant in
+    let known = reached_bounded c.args.source.now _ c.loop-at.at c.split_at.result.1.now reached in
     let offset = known.offset in
     omega arith
 
-pub split_at-requires-in-loop-rest : goal.split_at-requires-in-loop-rest
-split_at-requires-in-loop-rest c =
-    let some : 0 < length c.loop-rest.rest.now = omega (arith, false-eqb _ 0 c.loop-rest-test.ensures) in
-    let reached = c.loop-rest.invariant in
-    let size = stands_size reached.before c.loop-rest.rest.now c.step_at-step.result some (c.step_at-step.ensures reached.before reached.split reached.here) in
+pub split_at-requires-in-loop-at : goal.split_at-requires-in-loop-at
+split_at-requires-in-loop-at c =
+    let some = some_left c.args.source.now c.split_at.result.1.now c.loop-at.at.offset (omega arith) c.split_at.ensures.back in
+    let reached = subst (Reached c.args.source.now _ c.loop-at.at) (sym c.split_at.ensures.back) c.loop-at.invariant in
+    let size = stands_size reached.before c.split_at.result.1.now c.step_at-step.result some (c.step_at-step.ensures reached.before reached.split reached.here) in
     omega arith
 
 pub past-behind-requires-clause-lines : goal.past-behind-requires-clause-lines
 past-behind-requires-clause-lines c =
-    let some : 0 < length c.loop-rest.rest.now = omega (arith, false-eqb _ 0 c.loop-rest-test.ensures) in
-    let reached = c.loop-rest.invariant in
-    let size = stands_size reached.before c.loop-rest.rest.now c.step_at-step.result some (c.step_at-step.ensures reached.before reached.split reached.here) in
-    let known = reached_bounded c.args.source.now _ c.loop-rest.at c.loop-rest.rest.now reached in
+    let some = some_left c.args.source.now c.split_at.result.1.now c.loop-at.at.offset (omega arith) c.split_at.ensures.back in
+    let reached = subst (Reached c.args.source.now _ c.loop-at.at) (sym c.split_at.ensures.back) c.loop-at.invariant in
+    let size = stands_size reached.before c.split_at.result.1.now c.step_at-step.result some (c.step_at-step.ensures reached.before reached.split reached.here) in
+    let known = reached_bounded c.args.source.now _ c.loop-at.at c.split_at.result.1.now reached in
     let lines = known.lines in
     let offset = known.offset in
-    let passed = c.split_at-in-loop-rest.ensures.front_len in
+    let passed = c.split_at-in-loop-at.ensures.front_len in
     let source = c.requires in
     omega (arith, c.size.ensures)
 
 pub past-behind-requires-clause-offset : goal.past-behind-requires-clause-offset
 past-behind-requires-clause-offset c =
-    let some : 0 < length c.loop-rest.rest.now = omega (arith, false-eqb _ 0 c.loop-rest-test.ensures) in
-    let reached = c.loop-rest.invariant in
-    let size = stands_size reached.before c.loop-rest.rest.now c.step_at-step.result some (c.step_at-step.ensures reached.before reached.split reached.here) in
-    let known = reached_bounded c.args.source.now _ c.loop-rest.at c.loop-rest.rest.now reached in
+    let some = some_left c.args.source.now c.split_at.result.1.now c.loop-at.at.offset (omega arith) c.split_at.ensures.back in
+    let reached = subst (Reached c.args.source.now _ c.loop-at.at) (sym c.split_at.ensures.back) c.loop-at.invariant in
+    let size = stands_size reached.before c.split_at.result.1.now c.step_at-step.result some (c.step_at-step.ensures reached.before reached.split reached.here) in
+    let known = reached_bounded c.args.source.now _ c.loop-at.at c.split_at.result.1.now reached in
     let lines = known.lines in
     let offset = known.offset in
-    let passed = c.split_at-in-loop-rest.ensures.front_len in
+    let passed = c.split_at-in-loop-at.ensures.front_len in
     let source = c.requires in
     omega (arith, c.size.ensures)
 
 pub past-behind-requires-clause-in_line : goal.past-behind-requires-clause-in_line
 past-behind-requires-clause-in_line c = λ n kind is.
-    let some : 0 < length c.loop-rest.rest.now = omega (arith, false-eqb _ 0 c.loop-rest-test.ensures) in
-    let reached = c.loop-rest.invariant in
-    let bytes = c.split_at-in-loop-rest.ensures.front ∙ ap (λ n. take n c.loop-rest.rest.now) (c.size.ensures ∙ ap size_of is) in
+    let some = some_left c.args.source.now c.split_at.result.1.now c.loop-at.at.offset (omega arith) c.split_at.ensures.back in
+    let reached = subst (Reached c.args.source.now _ c.loop-at.at) (sym c.split_at.ensures.back) c.loop-at.invariant in
+    let bytes = c.split_at-in-loop-at.ensures.front ∙ ap (λ n. take n c.split_at.result.1.now) (c.size.ensures ∙ ap size_of is) in
     subst (λ bytes. list_all in_line bytes ≡ true) (sym bytes)
-    (token_in_line reached.before c.loop-rest.rest.now n kind some (subst (Stands reached.before c.loop-rest.rest.now) is (c.step_at-step.ensures reached.before reached.split reached.here)))
+    (token_in_line reached.before c.split_at.result.1.now n kind some (subst (Stands reached.before c.split_at.result.1.now) is (c.step_at-step.ensures reached.before reached.split reached.here)))
 
 pub place-requires-clause-lines : goal.place-requires-clause-lines
 place-requires-clause-lines c =
-    let some : 0 < length c.loop-rest.rest.now = omega (arith, false-eqb _ 0 c.loop-rest-test.ensures) in
-    let reached = c.loop-rest.invariant in
-    let behind = c.past-behind.ensures ∙ ap (after c.loop-rest.at) (c.split_at-in-loop-rest.ensures.front ∙ ap (λ n. take n c.loop-rest.rest.now) c.size.ensures) in
-    let known = fault_bounded c.args.source.now _ c.loop-rest.at c.past-behind.result c.loop-rest.rest.now c.step_at-step.result _ _ reached c.in-Fault.is behind some (c.step_at-step.ensures reached.before reached.split reached.here) in
+    let some = some_left c.args.source.now c.split_at.result.1.now c.loop-at.at.offset (omega arith) c.split_at.ensures.back in
+    let reached = subst (Reached c.args.source.now _ c.loop-at.at) (sym c.split_at.ensures.back) c.loop-at.invariant in
+    let behind = c.past-behind.ensures ∙ ap (after c.loop-at.at) (c.split_at-in-loop-at.ensures.front ∙ ap (λ n. take n c.split_at.result.1.now) c.size.ensures) in
+    let known = fault_bounded c.args.source.now _ c.loop-at.at c.past-behind.result c.split_at.result.1.now c.step_at-step.result _ _ reached c.in-Fault.is behind some (c.step_at-step.ensures reached.before reached.split reached.here) in
     let bounds = known.0 in
     let offset = known.1 in
     let lines = bounds.lines in
@@ -80,10 +80,10 @@ place-requires-clause-lines c =
 
 pub place-requires-clause-line : goal.place-requires-clause-line
 place-requires-clause-line c =
-    let some : 0 < length c.loop-rest.rest.now = omega (arith, false-eqb _ 0 c.loop-rest-test.ensures) in
-    let reached = c.loop-rest.invariant in
-    let behind = c.past-behind.ensures ∙ ap (after c.loop-rest.at) (c.split_at-in-loop-rest.ensures.front ∙ ap (λ n. take n c.loop-rest.rest.now) c.size.ensures) in
-    let known = fault_bounded c.args.source.now _ c.loop-rest.at c.past-behind.result c.loop-rest.rest.now c.step_at-step.result _ _ reached c.in-Fault.is behind some (c.step_at-step.ensures reached.before reached.split reached.here) in
+    let some = some_left c.args.source.now c.split_at.result.1.now c.loop-at.at.offset (omega arith) c.split_at.ensures.back in
+    let reached = subst (Reached c.args.source.now _ c.loop-at.at) (sym c.split_at.ensures.back) c.loop-at.invariant in
+    let behind = c.past-behind.ensures ∙ ap (after c.loop-at.at) (c.split_at-in-loop-at.ensures.front ∙ ap (λ n. take n c.split_at.result.1.now) c.size.ensures) in
+    let known = fault_bounded c.args.source.now _ c.loop-at.at c.past-behind.result c.split_at.result.1.now c.step_at-step.result _ _ reached c.in-Fault.is behind some (c.step_at-step.ensures reached.before reached.split reached.here) in
     let bounds = known.0 in
     let offset = known.1 in
     let lines = bounds.lines in
@@ -91,10 +91,10 @@ place-requires-clause-line c =
 
 pub place-requires-clause-offset : goal.place-requires-clause-offset
 place-requires-clause-offset c =
-    let some : 0 < length c.loop-rest.rest.now = omega (arith, false-eqb _ 0 c.loop-rest-test.ensures) in
-    let reached = c.loop-rest.invariant in
-    let behind = c.past-behind.ensures ∙ ap (after c.loop-rest.at) (c.split_at-in-loop-rest.ensures.front ∙ ap (λ n. take n c.loop-rest.rest.now) c.size.ensures) in
-    let known = fault_bounded c.args.source.now _ c.loop-rest.at c.past-behind.result c.loop-rest.rest.now c.step_at-step.result _ _ reached c.in-Fault.is behind some (c.step_at-step.ensures reached.before reached.split reached.here) in
+    let some = some_left c.args.source.now c.split_at.result.1.now c.loop-at.at.offset (omega arith) c.split_at.ensures.back in
+    let reached = subst (Reached c.args.source.now _ c.loop-at.at) (sym c.split_at.ensures.back) c.loop-at.invariant in
+    let behind = c.past-behind.ensures ∙ ap (after c.loop-at.at) (c.split_at-in-loop-at.ensures.front ∙ ap (λ n. take n c.split_at.result.1.now) c.size.ensures) in
+    let known = fault_bounded c.args.source.now _ c.loop-at.at c.past-behind.result c.split_at.result.1.now c.step_at-step.result _ _ reached c.in-Fault.is behind some (c.step_at-step.ensures reached.before reached.split reached.here) in
     let bounds = known.0 in
     let offset = known.1 in
     let lines = bounds.lines in
@@ -103,9 +103,9 @@ place-requires-clause-offset c =
 
 pub place-place-requires-clause-lines : goal.place-place-requires-clause-lines
 place-place-requires-clause-lines c =
-    let some : 0 < length c.loop-rest.rest.now = omega (arith, false-eqb _ 0 c.loop-rest-test.ensures) in
-    let reached = c.loop-rest.invariant in
-    let known = reached_bounded c.args.source.now _ c.loop-rest.at c.loop-rest.rest.now reached in
+    let some = some_left c.args.source.now c.split_at.result.1.now c.loop-at.at.offset (omega arith) c.split_at.ensures.back in
+    let reached = subst (Reached c.args.source.now _ c.loop-at.at) (sym c.split_at.ensures.back) c.loop-at.invariant in
+    let known = reached_bounded c.args.source.now _ c.loop-at.at c.split_at.result.1.now reached in
     let lines = known.lines in
     let offset = known.offset in
     let source = c.requires in
@@ -113,16 +113,16 @@ place-place-requires-clause-lines c =
 
 pub place-place-requires-clause-line : goal.place-place-requires-clause-line
 place-place-requires-clause-line c =
-    let some : 0 < length c.loop-rest.rest.now = omega (arith, false-eqb _ 0 c.loop-rest-test.ensures) in
-    let reached = c.loop-rest.invariant in
-    let known = reached_bounded c.args.source.now _ c.loop-rest.at c.loop-rest.rest.now reached in
+    let some = some_left c.args.source.now c.split_at.result.1.now c.loop-at.at.offset (omega arith) c.split_at.ensures.back in
+    let reached = subst (Reached c.args.source.now _ c.loop-at.at) (sym c.split_at.ensures.back) c.loop-at.invariant in
+    let known = reached_bounded c.args.source.now _ c.loop-at.at c.split_at.result.1.now reached in
     known.line
 
 pub place-place-requires-clause-offset : goal.place-place-requires-clause-offset
 place-place-requires-clause-offset c =
-    let some : 0 < length c.loop-rest.rest.now = omega (arith, false-eqb _ 0 c.loop-rest-test.ensures) in
-    let reached = c.loop-rest.invariant in
-    let known = reached_bounded c.args.source.now _ c.loop-rest.at c.loop-rest.rest.now reached in
+    let some = some_left c.args.source.now c.split_at.result.1.now c.loop-at.at.offset (omega arith) c.split_at.ensures.back in
+    let reached = subst (Reached c.args.source.now _ c.loop-at.at) (sym c.split_at.ensures.back) c.loop-at.invariant in
+    let known = reached_bounded c.args.source.now _ c.loop-at.at c.split_at.result.1.now reached in
     let lines = known.lines in
     let offset = known.offset in
     let source = c.requires in
@@ -130,66 +130,63 @@ place-place-requires-clause-offset c =
 
 pub returns-in-Fault-clause-fault : goal.returns-in-Fault-clause-fault
 returns-in-Fault-clause-fault c =
-    let some : 0 < length c.loop-rest.rest.now = omega (arith, false-eqb _ 0 c.loop-rest-test.ensures) in
-    let reached = c.loop-rest.invariant in
-    let behind = c.past-behind.ensures ∙ ap (after c.loop-rest.at) (c.split_at-in-loop-rest.ensures.front ∙ ap (λ n. take n c.loop-rest.rest.now) c.size.ensures) in
-    reached_own_fault c.args.source.now _ c.loop-rest.at c.past-behind.result c.loop-rest.rest.now c.step_at-step.result c.in-Fault.field-0 c.in-Fault.kind c.fault_at.result
+    let some = some_left c.args.source.now c.split_at.result.1.now c.loop-at.at.offset (omega arith) c.split_at.ensures.back in
+    let reached = subst (Reached c.args.source.now _ c.loop-at.at) (sym c.split_at.ensures.back) c.loop-at.invariant in
+    let behind = c.past-behind.ensures ∙ ap (after c.loop-at.at) (c.split_at-in-loop-at.ensures.front ∙ ap (λ n. take n c.split_at.result.1.now) c.size.ensures) in
+    reached_own_fault c.args.source.now _ c.loop-at.at c.past-behind.result c.split_at.result.1.now c.step_at-step.result c.in-Fault.field-0 c.in-Fault.kind c.fault_at.result
     reached c.in-Fault.is behind (c.fault_at.ensures ∙ ap (fault_at c.in-Fault.kind) c.place.ensures) some (c.step_at-step.ensures reached.before reached.split reached.here)
 
-pub loop-rest-preserved-then-is_blank : goal.loop-rest-preserved-then-is_blank
-loop-rest-preserved-then-is_blank c =
-    let some : 0 < length c.loop-rest.rest.now = omega (arith, false-eqb _ 0 c.loop-rest-test.ensures) in
-    subst (Reached c.args.source.now (map spelled c.loop-rest.tokens.items) c.next-at.result) (sym c.split_at.ensures.back)
-    (reached_blank c.args.source.now _ c.loop-rest.at c.next-at.result c.loop-rest.rest.now c.loop-rest.invariant some (sym c.if-is_blank.ensures) c.next-at.ensures)
+pub loop-at-preserved-then-is_blank : goal.loop-at-preserved-then-is_blank
+loop-at-preserved-then-is_blank c =
+    let some = some_left c.args.source.now c.split_at.result.1.now c.loop-at.at.offset (omega arith) c.split_at.ensures.back in
+    let reached = subst (Reached c.args.source.now _ c.loop-at.at) (sym c.split_at.ensures.back) c.loop-at.invariant in
+    reached_on c.args.source.now _ c.next-at.result _
+    (reached_blank c.args.source.now _ c.loop-at.at c.next-at.result c.split_at.result.1.now reached some (sym c.if-is_blank.ensures) c.next-at.ensures)
 
-pub loop-rest-smaller-in-Gap : goal.loop-rest-smaller-in-Gap
-loop-rest-smaller-in-Gap c =
-    let some : 0 < length c.loop-rest.rest.now = omega (arith, false-eqb _ 0 c.loop-rest-test.ensures) in
-    let reached = c.loop-rest.invariant in
-    let rest = c.split_at-in-loop-rest.ensures.back ∙ ap (λ n. drop n c.loop-rest.rest.now) c.size.ensures in
+pub loop-at-smaller-in-Gap : goal.loop-at-smaller-in-Gap
+loop-at-smaller-in-Gap c =
+    let some = some_left c.args.source.now c.split_at.result.1.now c.loop-at.at.offset (omega arith) c.split_at.ensures.back in
+    let reached = subst (Reached c.args.source.now _ c.loop-at.at) (sym c.split_at.ensures.back) c.loop-at.invariant in
+    let behind = c.past-behind.ensures ∙ ap (after c.loop-at.at) (c.split_at-in-loop-at.ensures.front ∙ ap (λ n. take n c.split_at.result.1.now) c.size.ensures) in
     let piece = gap_is_piece c.step_at-step.result _ c.in-Gap.is in
-    subst (λ rest. length rest < length c.loop-rest.rest.now) (sym rest)
-    (reached_less reached.before c.loop-rest.rest.now c.step_at-step.result some (c.step_at-step.ensures reached.before reached.split reached.here) piece)
+    nearer c.args.source.now reached.before c.split_at.result.1.now c.loop-at.at c.past-behind.result c.step_at-step.result some (c.step_at-step.ensures reached.before reached.split reached.here) piece c.split_at.ensures.back behind
 
-pub loop-rest-preserved-in-Gap : goal.loop-rest-preserved-in-Gap
-loop-rest-preserved-in-Gap c =
-    let some : 0 < length c.loop-rest.rest.now = omega (arith, false-eqb _ 0 c.loop-rest-test.ensures) in
-    let reached = c.loop-rest.invariant in
-    let behind = c.past-behind.ensures ∙ ap (after c.loop-rest.at) (c.split_at-in-loop-rest.ensures.front ∙ ap (λ n. take n c.loop-rest.rest.now) c.size.ensures) in
-    let rest = c.split_at-in-loop-rest.ensures.back ∙ ap (λ n. drop n c.loop-rest.rest.now) c.size.ensures in
-    subst (Reached c.args.source.now (map spelled c.loop-rest.tokens.items) c.past-behind.result) (sym rest)
-    (reached_gap c.args.source.now _ c.loop-rest.at c.past-behind.result c.loop-rest.rest.now c.step_at-step.result _ reached c.in-Gap.is behind some (c.step_at-step.ensures reached.before reached.split reached.here))
+pub loop-at-preserved-in-Gap : goal.loop-at-preserved-in-Gap
+loop-at-preserved-in-Gap c =
+    let some = some_left c.args.source.now c.split_at.result.1.now c.loop-at.at.offset (omega arith) c.split_at.ensures.back in
+    let reached = subst (Reached c.args.source.now _ c.loop-at.at) (sym c.split_at.ensures.back) c.loop-at.invariant in
+    let behind = c.past-behind.ensures ∙ ap (after c.loop-at.at) (c.split_at-in-loop-at.ensures.front ∙ ap (λ n. take n c.split_at.result.1.now) c.size.ensures) in
+    reached_on c.args.source.now _ c.past-behind.result _
+    (reached_gap c.args.source.now _ c.loop-at.at c.past-behind.result c.split_at.result.1.now c.step_at-step.result _ reached c.in-Gap.is behind some (c.step_at-step.ensures reached.before reached.split reached.here))
 
-pub loop-rest-smaller : goal.loop-rest-smaller
-loop-rest-smaller c =
-    let some : 0 < length c.loop-rest.rest.now = omega (arith, false-eqb _ 0 c.loop-rest-test.ensures) in
-    let reached = c.loop-rest.invariant in
-    let rest = c.split_at-in-loop-rest.ensures.back ∙ ap (λ n. drop n c.loop-rest.rest.now) c.size.ensures in
+pub loop-at-smaller : goal.loop-at-smaller
+loop-at-smaller c =
+    let some = some_left c.args.source.now c.split_at.result.1.now c.loop-at.at.offset (omega arith) c.split_at.ensures.back in
+    let reached = subst (Reached c.args.source.now _ c.loop-at.at) (sym c.split_at.ensures.back) c.loop-at.invariant in
+    let behind = c.past-behind.ensures ∙ ap (after c.loop-at.at) (c.split_at-in-loop-at.ensures.front ∙ ap (λ n. take n c.split_at.result.1.now) c.size.ensures) in
     let piece = token_is_piece c.step_at-step.result _ _ c.in-Token.is in
-    subst (λ rest. length rest < length c.loop-rest.rest.now) (sym rest)
-    (reached_less reached.before c.loop-rest.rest.now c.step_at-step.result some (c.step_at-step.ensures reached.before reached.split reached.here) piece)
+    nearer c.args.source.now reached.before c.split_at.result.1.now c.loop-at.at c.past-behind.result c.step_at-step.result some (c.step_at-step.ensures reached.before reached.split reached.here) piece c.split_at.ensures.back behind
 
-pub loop-rest-preserved : goal.loop-rest-preserved
-loop-rest-preserved c =
-    let some : 0 < length c.loop-rest.rest.now = omega (arith, false-eqb _ 0 c.loop-rest-test.ensures) in
-    let reached = c.loop-rest.invariant in
-    let bytes = c.split_at-in-loop-rest.ensures.front ∙ ap (λ n. take n c.loop-rest.rest.now) c.size.ensures in
-    let behind = c.past-behind.ensures ∙ ap (after c.loop-rest.at) bytes in
-    let rest = c.split_at-in-loop-rest.ensures.back ∙ ap (λ n. drop n c.loop-rest.rest.now) c.size.ensures in
+pub loop-at-preserved : goal.loop-at-preserved
+loop-at-preserved c =
+    let some = some_left c.args.source.now c.split_at.result.1.now c.loop-at.at.offset (omega arith) c.split_at.ensures.back in
+    let reached = subst (Reached c.args.source.now _ c.loop-at.at) (sym c.split_at.ensures.back) c.loop-at.invariant in
+    let bytes = c.split_at-in-loop-at.ensures.front ∙ ap (λ n. take n c.split_at.result.1.now) c.size.ensures in
+    let behind = c.past-behind.ensures ∙ ap (after c.loop-at.at) bytes in
     let pushed = chosen _ _ _ _ c.push.ensures.items (sym c.map_err.ensures.variant ∙ ap is_ok c.in_ok-map_err-in-Token.was) in
     let tokens =
-    ap (map spelled) pushed ∙ map-append spelled c.loop-rest.tokens.items _
-    ∙ ap (λ b. map spelled c.loop-rest.tokens.items ++ record { kind = c.in-Token.kind; bytes = b; place = c.place-place.result } ∷ []) bytes
-    ∙ ap (λ p. map spelled c.loop-rest.tokens.items ++ record { kind = c.in-Token.kind; bytes = take (size_of c.step_at-step.result) c.loop-rest.rest.now; place = p } ∷ []) c.place-place.ensures in
-    subst (Reached c.args.source.now _ c.past-behind.result) (sym rest)
-    (reached_token c.args.source.now (map spelled c.loop-rest.tokens.items) _ c.loop-rest.at c.past-behind.result c.loop-rest.rest.now c.step_at-step.result _ c.in-Token.kind reached c.in-Token.is behind tokens some (c.step_at-step.ensures reached.before reached.split reached.here))
+    ap (map spelled) pushed ∙ map-append spelled c.loop-at.tokens.items _
+    ∙ ap (λ b. map spelled c.loop-at.tokens.items ++ record { kind = c.in-Token.kind; bytes = b; place = c.place-place.result } ∷ []) bytes
+    ∙ ap (λ p. map spelled c.loop-at.tokens.items ++ record { kind = c.in-Token.kind; bytes = take (size_of c.step_at-step.result) c.split_at.result.1.now; place = p } ∷ []) c.place-place.ensures in
+    reached_on c.args.source.now _ c.past-behind.result _
+    (reached_token c.args.source.now (map spelled c.loop-at.tokens.items) _ c.loop-at.at c.past-behind.result c.split_at.result.1.now c.step_at-step.result _ c.in-Token.kind reached c.in-Token.is behind tokens some (c.step_at-step.ensures reached.before reached.split reached.here))
 
 pub returns-clause-tokens : goal.returns-clause-tokens
 returns-clause-tokens c =
-    reached_end _ _ _ _ c.loop-rest.invariant (empty_list _ (true-eqb _ 0 c.loop-rest-test.ensures))
+    reached_end _ _ _ _ c.loop-at.invariant (drop_all c.loop-at.at.offset c.args.source.now (omega arith))
 
-pub loop-rest-init : goal.loop-rest-init
-loop-rest-init c =
+pub loop-at-init : goal.loop-at-init
+loop-at-init c =
     let source = c.args.source.now in
-    subst (λ items. Reached source (map spelled items) c.start-at.result source) (sym c.in-Ok.ensures.items)
-    (subst (λ at. Reached source [] at source) (sym c.start-at.ensures) (reached_start source))
+    subst (λ items. Reached source (map spelled items) c.start-at.result (drop c.start-at.result.offset source)) (sym c.in-Ok.ensures.items)
+    (subst (λ at. Reached source [] at (drop at.offset source)) (sym c.start-at.ensures) (reached_start source))
