@@ -1,7 +1,7 @@
 use crate::compiler::compile;
 use crate::generate::generate;
 use crate::refusal::Refusal;
-use fk_meaning::syntax::{Part, Program, Statement, Sum};
+use fk_meaning::syntax::Program;
 use std::test::Fail;
 
 mod syntax;
@@ -16,19 +16,11 @@ fn an_empty_program_ends(rt: HostRuntime) -> Result<(), Fail> {
     Ok(())
 }
 
-// x = 2 + 3; putint(x); by hand: const, const, const, binary, write, drop, const, read, outint, halt
+// By hand: const, const, const, binary, write, drop, const, read, outint, halt.
 #[test]
-fn each_operation_has_its_site(rt: HostRuntime) -> Result<(), Fail> {
-    let two_and_three = Sum {
-        first: Part::Number(2),
-        others: vec![in rt.alloc(); Part::Number(3)]?,
-    };
-    let x = Sum {
-        first: Part::Name(0),
-        others: Vec::new(rt.alloc()),
-    };
-    let body = vec![in rt.alloc(); Statement::Assign(0, two_and_three), Statement::Print(x)]?;
-    let image = generate(rt.alloc(), &Program { variables: 1, body })?;
+fn each_operation_of_a_text_has_its_site(rt: HostRuntime) -> Result<(), Fail> {
+    let text = b"sh int x; void main(void) { x = 2 + 3; putint(x); }";
+    let image = compile(rt.alloc(), text)?;
     let mut kinds = Vec::new(rt.alloc());
     for site in &image.sites {
         kinds.push(site.0)?;
@@ -46,5 +38,7 @@ fn a_text_is_compiled_or_refused_by_its_tree(rt: HostRuntime) -> Result<(), Fail
     assert_eq!(rt; image.code.len(), 2);
     let other = compile(rt.alloc(), b"void main(void) { start { } }");
     assert!(rt; matches!(&other, Err(Refusal::NotBuilt)));
+    let undeclared = compile(rt.alloc(), b"sh int y; void main(void) { x = 2 + 3; putint(x); }");
+    assert!(rt; matches!(&undeclared, Err(Refusal::NotBuilt)));
     Ok(())
 }

@@ -13,6 +13,3 @@ mod tree;
 
 pub use fault::StraightFault;
 pub use tree::straight;
-
-#[cfg(test)]
-mod tests;
