@@ -1,0 +1,51 @@
+//! What is said of kinds of operations.
+
+ghost use Rattle.std.specs.Prelude.{◌≡◌};
+ghost use Rattle.fk_operation.specs.Kinds.{fault_of};
+
+/// When in a round an operation is done.
+#[derive(Clone, Copy, PartialEq, Eq, Debug)]
+pub enum Class {
+    /// By the processor alone.
+    Local,
+    /// At most one access to what all processors share.
+    Request,
+    /// A step of the tree of groups.
+    Tree,
+}
+
+/// What those who do a joint operation do together.
+#[derive(Clone, Copy, PartialEq, Eq, Debug)]
+pub enum Joint {
+    /// Nothing: it is no joint operation.
+    Alone,
+    Starting,
+    AtBarrier,
+    Closing,
+    Resuming,
+}
+
+/// Why an operation ends a run.
+#[derive(Clone, Copy, PartialEq, Eq, Debug)]
+pub enum FaultKind {
+    /// An address that may not be used.
+    BadAddress,
+    /// A call from depth 256.
+    CallDepth,
+    /// A group frame or a split that its group has no words for.
+    GroupSpace,
+}
+
+impl FaultKind {
+    /// How an operation of a kind may fault, if it may.
+    pub fn of_kind(kind: u8) -> Option<FaultKind>
+        ensures { result ≡ fault_of kind }
+    {
+        match kind {
+            12 => Some(FaultKind::BadAddress),
+            22 => Some(FaultKind::CallDepth),
+            25 | 27 => Some(FaultKind::GroupSpace),
+            _ => None,
+        }
+    }
+}
