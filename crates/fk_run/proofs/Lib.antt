@@ -1,3 +1,6 @@
 pub mod Natural
 pub mod Span
 pub mod Stopped
+pub mod Served
+pub mod Turns
+pub mod GroupSteps

@@ -5,7 +5,7 @@ use Rattle.fk_store.specs.Store.{Store}
 use Rattle.fk_tree.specs.Tree as t
 use Rattle.fk_run.specs.Round.{Step, Runner, Fault, State, Round, Acting, Phase, Passes, Breaks, cut, request_phase, after_phase, all_requests, tree_phase, local_phase, begin, begin_all, all_locals, result, IsStopped}
 
-phase_fault : {W : Type 0} (tree : t.Tree) (s : Store) (actings : List (Acting W)) (fault : Option Fault) → (tree_phase tree s actings fault).fault ≡ fault
+pub phase_fault : {W : Type 0} (tree : t.Tree) (s : Store) (actings : List (Acting W)) (fault : Option Fault) → (tree_phase tree s actings fault).fault ≡ fault
 phase_fault tree s actings None = refl
 phase_fault tree s actings (Some f) = refl
 

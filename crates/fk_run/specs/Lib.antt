@@ -5,3 +5,5 @@ pub mod Group
 pub mod Round
 pub mod Schedule
 pub mod Alike
+pub mod Touch
+pub mod Stopping

@@ -1,6 +1,8 @@
-//! Laws of the definitions.
+//! Laws of the definitions. Each is so of every form `W` in which it is kept what is left to do.
 
 ghost use Rattle.fk_run.specs.Alike.{FormsRunAlike};
+ghost use Rattle.fk_run.specs.Touch.{RequestsGoInTurn, GroupStep};
+ghost use Rattle.fk_run.specs.Stopping.{StoppedRoundsFault};
 
 /// Runs don't depend on the form in which it is kept what is left to do. Where work of one form and
 /// work of another are related so that both have the same operations at the same sites, and are
@@ -8,4 +10,23 @@ ghost use Rattle.fk_run.specs.Alike.{FormsRunAlike};
 /// store and stand.
 pub fn forms_run_alike<V, W>()
     ensures { FormsRunAlike V W }
+{}
+
+/// In a round without a fault those who touch a word of shared data do so in ascending order: each
+/// is answered by it as the lower ones have left it.
+pub fn requests_go_in_turn<W>()
+    ensures { RequestsGoInTurn W }
+{}
+
+/// In a round in which the members of one group in lockstep alone touch a word, all of them by one
+/// operation, reads answer the former word, writes leave the value of the highest writer, and each
+/// multiprefix answers the former word combined with the values of the lower members in ascending
+/// order.
+pub fn group_step<W>()
+    ensures { GroupStep W }
+{}
+
+/// A stopped round ends the run with the first fault of the whole round that it is left of.
+pub fn stopped_rounds_fault<W>()
+    ensures { StoppedRoundsFault W }
 {}
