@@ -1,8 +1,5 @@
 //! What is said of kinds of operations.
 
-ghost use Rattle.std.specs.Prelude.{◌≡◌};
-ghost use Rattle.fk_operation.specs.Kinds.{fault_of};
-
 /// When in a round an operation is done.
 #[derive(Clone, Copy, PartialEq, Eq, Debug)]
 pub enum Class {
@@ -34,18 +31,4 @@ pub enum FaultKind {
     CallDepth,
     /// A group frame or a split that its group has no words for.
     GroupSpace,
-}
-
-impl FaultKind {
-    /// How an operation of a kind may fault, if it may.
-    pub fn of_kind(kind: u8) -> Option<FaultKind>
-        ensures { result ≡ fault_of kind }
-    {
-        match kind {
-            12 => Some(FaultKind::BadAddress),
-            22 => Some(FaultKind::CallDepth),
-            25 | 27 => Some(FaultKind::GroupSpace),
-            _ => None,
-        }
-    }
 }

@@ -5,6 +5,7 @@
 
 mod kinds;
 mod operation;
+mod told;
 
 pub use kinds::{Class, FaultKind, Joint};
 pub use operation::{Known, Multiprefix, Operation, Split, Unary, Variable};

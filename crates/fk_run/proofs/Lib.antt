@@ -4,3 +4,4 @@ pub mod Stopped
 pub mod Served
 pub mod Turns
 pub mod GroupSteps
+mod Examples
