@@ -1,0 +1,5 @@
+pub mod Ranks
+pub mod Short
+mod Functions
+mod Asynchronous
+mod Synchronous

@@ -1,0 +1,17 @@
+//! The operations of every form of the language, once, in their order.
+//!
+//! A program comes to code: operations with choices, loops and calls. The sites of a text are the
+//! operations of its code in order.
+#![tactic(auto)]
+
+pub mod laws;
+mod signs;
+mod tables;
+mod texts;
+
+pub use signs::{Move, is_shift, move_of, operator_of};
+pub use tables::{Home, Region, Slot};
+pub use texts::text_bytes;
+
+#[cfg(test)]
+mod tests;
