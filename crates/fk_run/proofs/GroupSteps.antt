@@ -81,7 +81,7 @@ after_combine : (by : Multiprefix) (p : Processor) (q : Request) (w : ℕ) (vs :
     → (fold (combine by) (after q w) vs ≡ fold (combine by) w (brought_by (Some q) vs)) × (answer q w ≡ w)
 after_combine by p q w vs e =
     subst (λ r. (fold (combine by) (after r w) vs ≡ fold (combine by) w (brought_by (Some r) vs)) × (answer r w ≡ w)) e
-      (ap (λ b. fold (combine by) (combined_with b w (last (values p))) vs) (is_one by), refl)
+    (ap (λ b. fold (combine by) (combined_with b w (last (values p))) vs) (is_one by), refl)
 
 -- its class is known by its kind
 combined_by : {W : Type 0} (by : Multiprefix) (x : ℕ) (a : Acting W) (q : Request) → operation_due a.due ≡ Some (o.Combine by) → touch x a ≡ Some q
@@ -117,11 +117,11 @@ module _ {W : Type 0} (next : W → Option (Step W)) (set : Setting) (round : Ro
       let turn = in_turn next set round s x g.no_fault in
       record {
         answers = λ h q touched.
-          let a = touched.0 in
-          let asked = the_one _ (request_of o.Read a.runner.has) q (due_is o.Read x a q (g.one h a touched.1 q touched.2) touched.2) in
-          let below = word_after x (take h asks) (s.store.words x) in
-          turn.answers h q touched
-          ∙ ap (λ v. Some v) ((after_read a.runner.has q below asked).1 ∙ all_read x (take h asks) (s.store.words x) (first_all o.Read x h asks g.one));
+            let a = touched.0 in
+            let asked = the_one _ (request_of o.Read a.runner.has) q (due_is o.Read x a q (g.one h a touched.1 q touched.2) touched.2) in
+            let below = word_after x (take h asks) (s.store.words x) in
+            turn.answers h q touched
+            ∙ ap (λ v. Some v) ((after_read a.runner.has q below asked).1 ∙ all_read x (take h asks) (s.store.words x) (first_all o.Read x h asks g.one));
         word = turn.word ∙ all_read x asks (s.store.words x) g.one;
       }
 
@@ -133,11 +133,11 @@ module _ {W : Type 0} (next : W → Option (Step W)) (set : Setting) (round : Ro
       let turn = in_turn next set round s x g.no_fault in
       record {
         answers = λ h q touched.
-          let a = touched.0 in
-          let asked = combined_by by x a q (g.one h a touched.1 q touched.2) touched.2 in
-          let below = word_after x (take h asks) (s.store.words x) in
-          turn.answers h q touched
-          ∙ ap (λ v. Some v) ((after_combine by a.runner.has q below [] asked).1 ∙ all_combine by x (take h asks) (s.store.words x) (first_all (o.Combine by) x h asks g.one));
+            let a = touched.0 in
+            let asked = combined_by by x a q (g.one h a touched.1 q touched.2) touched.2 in
+            let below = word_after x (take h asks) (s.store.words x) in
+            turn.answers h q touched
+            ∙ ap (λ v. Some v) ((after_combine by a.runner.has q below [] asked).1 ∙ all_combine by x (take h asks) (s.store.words x) (first_all (o.Combine by) x h asks g.one));
         word = turn.word ∙ all_combine by x asks (s.store.words x) g.one;
       }
 

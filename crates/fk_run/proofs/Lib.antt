@@ -4,4 +4,5 @@ pub mod Stopped
 pub mod Served
 pub mod Turns
 pub mod GroupSteps
+pub mod Told
 mod Examples

@@ -197,16 +197,16 @@ module _ {V W : Type 0} (next : V → Option (Step V)) (next' : W → Option (St
   locals_alike zero r = refl
   locals_alike (suc c) r =
       ap₂ ◌&&◌
-        (ap (is_local_next next' set) (natural r.left) ∙ next_is_local (next r.left))
-        (ap (are_local next' set c) (one_more r) ∙ locals_alike c (after_one next set r))
+      (ap (is_local_next next' set) (natural r.left) ∙ next_is_local (next r.left))
+      (ap (are_local next' set c) (one_more r) ∙ locals_alike c (after_one next set r))
 
   may_alike : (c : ℕ) (r : Runner V) → may_act next' set c (runner_by f r) ≡ may_act next set c r
   may_alike zero r = refl
   may_alike (suc c) r =
       let q = after_locals next set c r in
       ap₂ ◌&&◌
-        (ap (λ b. nat_lt c 255 && b) (locals_alike c r))
-        (ap (λ (q : Runner W). is_some (next' q.left)) (many_more c r) ∙ ap is_some (natural q.left) ∙ has_next (next q.left))
+      (ap (λ b. nat_lt c 255 && b) (locals_alike c r))
+      (ap (λ (q : Runner W). is_some (next' q.left)) (many_more c r) ∙ ap is_some (natural q.left) ∙ has_next (next q.left))
 
   all_may_alike : (round : Round) (rs : List (Runner V)) → all_may_act next' set round (map (runner_by f) rs) ≡ all_may_act next set round rs
   all_may_alike [] [] = refl

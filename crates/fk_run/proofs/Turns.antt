@@ -99,7 +99,7 @@ answers_at {W = W} x number (a' ∷ actings) s zero a q e at touched = by (reque
 answers_at {W = W} x number (a' ∷ actings) s (suc h) a q e at touched = by (λ s' e'. answers_at x (suc number) actings s' h a q e' at touched) (request_phase s a' a'.due) (fine x s a' a'.due) e
   where
     by : ((s' : Store) → (all_requests (suc number) actings s').fault ≡ None
-          → Answered (all_requests (suc number) actings s').acting h (answer q (word_after x (take h actings) (s'.words x))))
+        → Answered (all_requests (suc number) actings s').acting h (answer q (word_after x (take h actings) (s'.words x))))
         → (phase : Phase W) → Fine x s (touch x a') phase → (after_phase number s a' actings (all_requests (suc number) actings) phase).fault ≡ None
         → Answered (after_phase number s a' actings (all_requests (suc number) actings) phase).acting (suc h) (answer q (word_after x (take h actings) (after_touch (touch x a') (s.words x))))
     by turns (Passes s' b) f e' =
@@ -142,10 +142,10 @@ module _ {W : Type 0} (next : W → Option (Step W)) (set : Setting) where
       let is : result next set round s ≡ after_tree round s None = ap (after_tree round s) none in
       record {
         answers = λ h q touched.
-          let g = answers_at x 0 asks s.store h touched.0 q none touched.1 touched.2 in
-          ap (λ (u : State W). last_of u.runners h) is
-          ∙ kept r.acting s.tree (all_changes r.acting s.tree r.acting s.tree) r.acting h g.acting g.at g.done
-          ∙ ap (λ v. Some v) g.value;
+            let g = answers_at x 0 asks s.store h touched.0 q none touched.1 touched.2 in
+            ap (λ (u : State W). last_of u.runners h) is
+            ∙ kept r.acting s.tree (all_changes r.acting s.tree r.acting s.tree) r.acting h g.acting g.at g.done
+            ∙ ap (λ v. Some v) g.value;
         word = ap (λ (u : State W). u.store.words x) is ∙ word_turns x 0 asks s.store none;
       }
 

@@ -7,3 +7,4 @@ pub mod Schedule
 pub mod Alike
 pub mod Touch
 pub mod Stopping
+pub mod Told

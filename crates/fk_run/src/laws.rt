@@ -1,8 +1,10 @@
-//! Laws of the definitions. Each is so of every form `W` in which it is kept what is left to do.
+//! Laws of the definitions. Those of rounds are so of every form `W` in which it is kept what is left
+//! to do.
 
 ghost use Rattle.fk_run.specs.Alike.{FormsRunAlike};
 ghost use Rattle.fk_run.specs.Touch.{RequestsGoInTurn, GroupStep};
 ghost use Rattle.fk_run.specs.Stopping.{StoppedRoundsFault};
+ghost use Rattle.fk_run.specs.Told.{ListsTellMembers};
 
 /// Runs don't depend on the form in which it is kept what is left to do. Where work of one form and
 /// work of another are related so that both have the same operations at the same sites, and are
@@ -29,4 +31,10 @@ pub fn group_step<W>()
 /// A stopped round ends the run with the first fault of the whole round that it is left of.
 pub fn stopped_rounds_fault<W>()
     ensures { StoppedRoundsFault W }
+{}
+
+/// A split and a shrink that are told by a list what is known of each member, in the order of the
+/// members, are those that know it of each processor.
+pub fn lists_tell_members()
+    ensures { ListsTellMembers }
 {}
