@@ -13,7 +13,7 @@ four a b c d x y z w =
     omega arith
 
 -- as many as the code has
-counted : {A : Type 0} (code : Code A) → length (sites code) ≡ size code
+pub counted : {A : Type 0} (code : Code A) → length (sites code) ≡ size code
 counted done = refl
 counted (perform t op rest) = ap (λ n. suc n) (counted rest)
 counted (choose t op a b rest) =
@@ -56,8 +56,8 @@ three_ranked n a b c x y z =
     let e = length-append (sites a) (sites b) in
     let m : n + length (sites a ++ sites b) ≡ n + size a + size b = omega arith in
     both n (n + size a + size b) (sites a ++ sites b) (sites c) (sites (numbered n a) ++ sites (numbered (n + size a) b)) (sites (numbered (n + size a + size b) c)) m
-      (both n (n + size a) (sites a) (sites b) (sites (numbered n a)) (sites (numbered (n + size a) b)) (ap (λ k. n + k) na) (x n) (y (n + size a)))
-      (z (n + size a + size b))
+    (both n (n + size a) (sites a) (sites b) (sites (numbered n a)) (sites (numbered (n + size a) b)) (ap (λ k. n + k) na) (x n) (y (n + size a)))
+    (z (n + size a + size b))
 
 four_ranked : {A : Type 0} (n : ℕ) (a b c d : Code A) → ((m : ℕ) → sites (numbered m a) ≡ ranked m (sites a)) → ((m : ℕ) → sites (numbered m b) ≡ ranked m (sites b)) → ((m : ℕ) → sites (numbered m c) ≡ ranked m (sites c)) → ((m : ℕ) → sites (numbered m d) ≡ ranked m (sites d))
     → sites (numbered n a) ++ sites (numbered (n + size a) b) ++ sites (numbered (n + size a + size b) c) ++ sites (numbered (n + size a + size b + size c) d) ≡ ranked n (sites a ++ sites b ++ sites c ++ sites d)
@@ -67,8 +67,8 @@ four_ranked n a b c d x y z w =
     let e' = length-append (sites a ++ sites b) (sites c) in
     let m : n + length (sites a ++ sites b ++ sites c) ≡ n + size a + size b + size c = omega arith in
     both n (n + size a + size b + size c) (sites a ++ sites b ++ sites c) (sites d) (sites (numbered n a) ++ sites (numbered (n + size a) b) ++ sites (numbered (n + size a + size b) c)) (sites (numbered (n + size a + size b + size c) d)) m
-      (three_ranked n a b c x y z)
-      (w (n + size a + size b + size c))
+    (three_ranked n a b c x y z)
+    (w (n + size a + size b + size c))
 
 ranks : {A : Type 0} (code : Code A) (n : ℕ) → sites (numbered n code) ≡ ranked n (sites code)
 ranks done n = refl
@@ -83,8 +83,8 @@ ranks (break rest) n = ranks rest n
 ranks (continue rest) n = ranks rest n
 ranks (call t op f opening rest) n =
     ap (λ more. (kind_of op, n) ∷ more)
-      (both (suc n) (suc n + size opening) (sites opening) (sites rest) (sites (numbered (suc n) opening)) (sites (numbered (suc n + size opening) rest))
-        (ap (λ k. suc n + k) (counted opening)) (ranks opening (suc n)) (ranks rest (suc n + size opening)))
+    (both (suc n) (suc n + size opening) (sites opening) (sites rest) (sites (numbered (suc n) opening)) (sites (numbered (suc n + size opening) rest))
+    (ap (λ k. suc n + k) (counted opening)) (ranks opening (suc n)) (ranks rest (suc n + size opening)))
 ranks (ends t op rest) n = ap (λ more. (kind_of op, n) ∷ more) (ranks rest (suc n))
 
 pub sites_are_ranks : (A : Type 0) → SitesAreRanks A

@@ -1,2 +1,4 @@
 mod Seen
 mod Programs
+pub mod Sited
+pub mod Bodies

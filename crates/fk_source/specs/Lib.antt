@@ -1,3 +1,4 @@
 pub mod Left
 pub mod Next
 pub mod Program
+pub mod Sites

@@ -11,7 +11,11 @@ use Rattle.fk_source.specs.Next.{Work, going, next}
 abbrev pub next_in : Tables → ProgramTree → Work → Option (Step Work)
 next_in tables program = next (bodies_of tables program)
 
+-- all of `main`
+abbrev pub main_work : Tables → ProgramTree → Work
+main_work tables program = going (bodies_of tables program (main_of tables program)) []
+
 -- p processors at the beginning of `main`, over the first values of shared data and of the private variables of file scope
 abbrev pub opening : Tables → ProgramTree → (words firsts input : List ℕ) → (p : ℕ) → State Work
 opening tables program words firsts input p =
-    run.opening p words input (slice_index firsts) (going (bodies_of tables program (main_of tables program)) [])
+    run.opening p words input (slice_index firsts) (main_work tables program)

@@ -2,3 +2,5 @@
 //!
 //! The definitions stand in `specs/`, and runs of programs are evaluated in `proofs/`.
 #![tactic(auto)]
+
+pub mod laws;
