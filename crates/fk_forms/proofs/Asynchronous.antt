@@ -12,7 +12,6 @@ use Rattle.fk_syntax.specs.Program.{ItemTree, Statements, FunctionTree}
 use Rattle.fk_forms.specs.declared.tables.Home.TheVariants as h
 use Rattle.fk_forms.specs.declared.tables.Slot.{Slot}
 use Rattle.fk_forms.specs.declared.tables.Region.{Region}
-use Rattle.fk_forms.specs.Program.{sites_of}
 use Rattle.fk_forms.proofs.Short.{sp, nm, ty, dc, nn, nt, kd, sl, rg, k, at, function, sites}
 
 abbrev before : List ItemTree → List ItemTree

@@ -1,5 +1,5 @@
 -- The numbers of operations are their ranks.
-use Rattle.std.proofs.Common.{◌≡◌, ℕ, zero, suc, ◌+◌, List, [], ◌∷◌, ◌++◌, length, ap, ap₂, ◌∙◌, sym, refl, subst, arith, length-append}
+use Rattle.std.proofs.Common.{◌≡◌, ℕ, suc, ◌+◌, List, [], ◌∷◌, ◌++◌, length, ap, ap₂, ◌∙◌, sym, refl, arith, length-append}
 use Rattle.fk_operation.specs.Kinds.{kind_of}
 use Rattle.fk_forms.specs.Code.{Code, done, perform, choose, while, until, turn, again, quit, break, continue, call, ends, size, sites, numbered}
 use Rattle.fk_forms.specs.Ranks.{ranked, SitesAreRanks}

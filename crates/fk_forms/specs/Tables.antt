@@ -2,7 +2,6 @@
 use Rattle.std.specs.Prelude.{ℕ, zero, suc, ◌-◌, ◌^◌, ◌==◌, ◌&&◌, ◌||◌, Bool, false, List, [], ◌∷◌, Option, Some, None, if◌then◌else◌}
 use Rattle.fk_syntax.specs.declared.facts.Note.{Note}
 use Rattle.fk_syntax.specs.declared.facts.Kind.{Kind}
-use Rattle.fk_forms.specs.declared.tables.Home.{Home}
 use Rattle.fk_forms.specs.declared.tables.Home.TheVariants.{NoWord}
 use Rattle.fk_forms.specs.declared.tables.Slot.{Slot}
 use Rattle.fk_forms.specs.declared.tables.Region.{Region}

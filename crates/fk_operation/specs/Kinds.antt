@@ -1,5 +1,5 @@
 -- The kinds of operations by their numbers, and what is so of each kind.
-use Rattle.std.specs.Prelude.{ℕ, ◌==◌, ◌||◌, nat_lt, Bool, true, false, Option, Some, None, if◌then◌else◌}
+use Rattle.std.specs.Prelude.{ℕ, ◌==◌, ◌||◌, nat_lt, true, false, Option, Some, None, if◌then◌else◌}
 use Rattle.fk_operation.specs.declared.operation.Multiprefix.{Multiprefix}
 use Rattle.fk_operation.specs.declared.operation.Multiprefix.TheVariants.{MpAdd, MpMax, MpAnd, MpOr}
 use Rattle.fk_operation.specs.declared.operation.Operation.{Operation}

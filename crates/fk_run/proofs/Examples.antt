@@ -1,17 +1,17 @@
 -- Runs of short lists of operations that all processors go through, and what is known of them.
-use Rattle.std.proofs.Common.{◌≡◌, ℕ, zero, suc, ◌-◌, Bool, true, false, ◌&&◌, List, [], ◌∷◌, ◌++◌, length, map, Option, Some, None, refl}
+use Rattle.std.proofs.Common.{◌≡◌, ℕ, ◌-◌, Bool, true, false, ◌&&◌, List, [], ◌∷◌, ◌++◌, length, map, Option, Some, None, refl}
 use Rattle.std.specs.Prelude.{◌^◌, replicate}
 use Rattle.fk_num.specs.Word.{signed_line}
 use Rattle.fk_num.specs.declared.operator.Op.TheVariants.{Mul, DivU, RemU, Ne}
 use Rattle.fk_operation.specs.declared.operation.Operation.{Operation}
-use Rattle.fk_operation.specs.declared.operation.Operation.TheVariants.{Push, Get, DropLast, Apply, Join, Index, Check, Read, Write, Combine, PrintNumber, Begin, Agree, Divide, End, Resume, Halt}
+use Rattle.fk_operation.specs.declared.operation.Operation.TheVariants.{Push, Get, DropLast, Apply, Join, Index, Check, Read, Write, Combine, PrintNumber, Enter, Begin, Agree, Frame, Divide, End, Resume, Halt}
 use Rattle.fk_operation.specs.declared.operation.Known.TheVariants.{Rank, GroupNumber, GroupSize, Processors}
 use Rattle.fk_operation.specs.declared.operation.Unary.TheVariants.{Negate}
 use Rattle.fk_operation.specs.declared.operation.Multiprefix.TheVariants.{MpAdd}
 use Rattle.fk_operation.specs.declared.operation.Split.TheVariants.{Fork}
 use Rattle.fk_store.specs.Store.{address_of}
 use Rattle.fk_run.specs.Processor.{Setting, setting_of}
-use Rattle.fk_run.specs.Round.{Step, State, Round, Fault, result, is_allowed, is_possible, cut}
+use Rattle.fk_run.specs.Round.{Step, State, Fault, result, is_allowed, is_possible, cut}
 use Rattle.fk_run.specs.Schedule.{Schedule, SourceFinished, SourceFaulted, opening, run, stand_of}
 
 -- what is left is a list of operations. A site is the number of operations behind it
@@ -106,3 +106,26 @@ begins : (is_possible next (setting 2 []) (1 ∷ 1 ∷ []) (run next (setting 2 
     × (is_possible next (setting 2 []) (2 ∷ 2 ∷ []) (start 2 [] counting_down) ≡ false)
     × (is_possible next (setting 2 []) (2 ∷ 0 ∷ []) (start 2 [] counting_down) ≡ false)
 begins = (refl, refl, refl, refl)
+
+-- a call from depth 255 begins, and one from depth 256 is a fault
+abbrev calling : List Operation
+calling = replicate 256 (Enter 0)
+
+abbrev deepest : State (List Operation)
+deepest = run next (setting 1 []) (in_step 1 255) (start 1 [] calling)
+
+calls : (all_possible (setting 1 []) (in_step 1 255) (start 1 [] calling) ≡ true)
+    × (is_possible next (setting 1 []) (1 ∷ []) deepest ≡ false)
+    × (stand_of next (setting 1 []) (result next (setting 1 []) (1 ∷ []) deepest) ≡ SourceFaulted (record { site = 0; processor = 0 }))
+calls = (refl, refl, refl)
+
+-- a group of the whole space of 524,288 words has 524,280 for a frame. The lowest member faults where it is larger
+abbrev framing : (words : ℕ) → List Operation
+framing words = Get Processors ∷ Begin ∷ Frame 0 words ∷ End ∷ Resume ∷ Halt ∷ []
+
+abbrev at_frame : (words : ℕ) → State (List Operation)
+at_frame words = run next (setting 2 []) (in_step 2 2) (start 2 [] (framing words))
+
+frames : (is_possible next (setting 2 []) (1 ∷ 1 ∷ []) (at_frame 524280) ≡ true)
+    × ((result next (setting 2 []) (1 ∷ 1 ∷ []) (at_frame 524281)).fault ≡ Some (record { site = 3; processor = 0 }))
+frames = (refl, refl)

@@ -11,8 +11,8 @@ use Rattle.fk_store.specs.declared.request.Request.{Request}
 use Rattle.fk_store.specs.Serve.{operator_of}
 use Rattle.fk_run.specs.Processor.{Processor, Setting, values, last}
 use Rattle.fk_run.specs.Request.{request as request_of}
-use Rattle.fk_run.specs.Round.{Step, State, Round, Acting, asking, result}
-use Rattle.fk_run.specs.Touch.{touch_of, operation_due, touch, combined_with, after, answer, after_touch, word_after, brought_by, brought, last_or, last_of, Touches, GoesInTurn, IsGroupStep, Reads, Writes, Combines, GroupStep}
+use Rattle.fk_run.specs.Round.{Step, State, Round, Acting, asking}
+use Rattle.fk_run.specs.Touch.{touch_of, operation_due, touch, combined_with, after, answer, after_touch, word_after, brought_by, brought, last_or, IsGroupStep, Reads, Writes, Combines, GroupStep}
 use Rattle.fk_run.proofs.Turns.{in_turn}
 
 -- all who touch the word stand at one operation

@@ -11,7 +11,7 @@ use Rattle.fk_store.specs.Serve.{Answer, Served, Faults, serve}
 use Rattle.fk_run.specs.Processor.{Setting, values, last}
 use Rattle.fk_run.specs.Request.{request}
 use Rattle.fk_run.specs.Group.{does, goes_onward, changes, has_room}
-use Rattle.fk_run.specs.Round.{Step, Runner, Fault, State, Round, Acting, Phase, Passes, Breaks, Phases, taking, answered, do_request, request_phase, before_others, after_phase, all_requests, who, lowest, highest, agreed, change_by, all_changes, settled_by, settled, runner_of, tree_phase, do_local, local_phase, after_one, after_locals, begin, begin_all, all_locals, asking, result, joint_due, joint_at, all_fit, is_local_next, are_local, may_act, all_may_act, is_allowed, is_possible, IsStopped}
+use Rattle.fk_run.specs.Round.{Step, Runner, Fault, State, Round, Acting, Phase, Passes, Breaks, Phases, taking, answered, do_request, request_phase, before_others, after_phase, all_requests, who, lowest, highest, change_by, all_changes, settled_by, settled, runner_of, tree_phase, do_local, local_phase, after_one, after_locals, begin, begin_all, all_locals, result, joint_due, joint_at, all_fit, is_local_next, are_local, may_act, all_may_act, is_allowed, is_possible, IsStopped}
 use Rattle.fk_run.specs.Schedule.{Schedule, run, SourceFinished, SourceRunning, all_done, stand_by, stand_of, ArePossible, CouldAct, KeepsPace, IsLawful}
 
 abbrev pub step_by : {V W : Type 0} → (V → W) → Step V → Step W

@@ -1,11 +1,11 @@
 -- Two forms of what is left to do whose operations agree have the same runs.
-use Rattle.std.proofs.Common.{◌≡◌, ℕ, zero, suc, Bool, true, List, ◌∷◌, map, Option, Some, None, ap, ap₂, ◌∙◌, sym, refl, subst}
+use Rattle.std.proofs.Common.{◌≡◌, ℕ, zero, suc, true, List, ◌∷◌, map, Option, Some, None, ap, ap₂, ◌∙◌, sym, refl, subst}
 use Rattle.std.specs.Prelude.{option_map}
 use Rattle.fk_num.specs.Word.{Memory}
 use Rattle.fk_run.specs.Processor.{Setting, setting_of}
 use Rattle.fk_run.specs.Alike.{Same, RunAlike, FormsRunAlike}
 use Rattle.fk_run.specs.Round.{Step, Runner, State}
-use Rattle.fk_run.specs.Schedule.{Schedule, run, stand_of, IsLawful, first_processor, beginners, opening}
+use Rattle.fk_run.specs.Schedule.{Schedule, run, stand_of, first_processor, beginners, opening}
 use Rattle.fk_tree.specs.Tree.{root}
 use Rattle.fk_store.specs.Store.{opening_store}
 use Rattle.fk_run.proofs.Natural.{step_by, runner_by, state_by, runs, stands, lawful_to, lawful_from}

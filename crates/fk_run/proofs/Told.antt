@@ -1,11 +1,11 @@
 -- A list tells of each member what is known of it.
 use Rattle.std.proofs.Common.{◌≡◌, ℕ, ◌+◌, ◌-◌, Bool, true, false, List, [], ◌∷◌, map, filter, cond, Option, Some, None, ◌⊎◌, ap, ap₂, ◌∙◌, sym, refl, arith, inl, inr, ⊎_elim}
-use Rattle.std.specs.Prelude.{◌==◌, ◌||◌, ◌&&◌, not, nat_lt, if◌then◌else◌}
+use Rattle.std.specs.Prelude.{◌==◌, ◌&&◌, not, nat_lt, if◌then◌else◌}
 use Rattle.std.proofs.Math.Path.{fun_ext}
 use Rattle.std.proofs.lemmas.Bool.{cases_Bool, cond-true, cond-false, eqb-true, eq-eqb, le-ltb, or_cases, or_left, or_right, false≢true}
 use Rattle.fk_tree.specs.declared.node.Kind.TheVariants.{Lockstep, Waiting}
 use Rattle.fk_tree.specs.Tree.{Node, Tree, members_of, members, parent, is_member, is_in, is_from, place_in, node_of, with_node, with_kind, left_by, split, shrink, told, part_of, parts_by, stays_by}
-use Rattle.fk_run.specs.Told.{number_of, ListsTell, ListsTellMembers}
+use Rattle.fk_run.specs.Told.{number_of, ListsTellMembers}
 
 filter_same : (p q : ℕ → Bool) (ms : List ℕ) → ((h : ℕ) → is_member h ms ≡ true → p h ≡ q h) → filter p ms ≡ filter q ms
 filter_same p q [] same = refl

@@ -1,5 +1,5 @@
 -- The requests of a round go in turn.
-use Rattle.std.proofs.Common.{◌≡◌, ℕ, zero, suc, ◌+◌, Bool, true, false, true≢false, List, [], ◌∷◌, take, Option, Some, None, ap, ◌∙◌, sym, refl, subst}
+use Rattle.std.proofs.Common.{◌≡◌, ℕ, zero, suc, Bool, true, false, true≢false, List, [], ◌∷◌, take, Option, Some, None, ap, ◌∙◌, sym, refl}
 use Rattle.std.specs.Prelude.{slice_get, if◌then◌else◌}
 use Rattle.fk_operation.specs.Kinds.{class_of}
 use Rattle.fk_operation.specs.declared.operation.Operation.{Operation}
@@ -14,7 +14,7 @@ use Rattle.fk_run.specs.Processor.{Processor, Setting, values, last}
 use Rattle.fk_run.specs.Request.{request as request_of, with_answer}
 use Rattle.fk_run.specs.Group.{has_room}
 use Rattle.fk_run.specs.Round.{Step, Runner, Fault, State, Round, Acting, Phase, Passes, Breaks, Phases, done, answered, do_request, request_phase, after_phase, all_requests, all_changes, settled_by, settled, tree_phase, asking, result}
-use Rattle.fk_run.specs.Touch.{touches, touch_by, touch_of, operation_due, touch, after, answer, after_touch, word_after, last_of, Touches, GoesInTurn, RequestsGoInTurn}
+use Rattle.fk_run.specs.Touch.{touches, touch_by, touch_of, operation_due, touch, after, answer, after_touch, word_after, last_of, GoesInTurn, RequestsGoInTurn}
 use Rattle.fk_run.proofs.Served.{GoodBy, good}
 use Rattle.fk_run.proofs.Stopped.{phase_fault}
 

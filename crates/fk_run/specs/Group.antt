@@ -1,5 +1,5 @@
 -- The steps of the tree of groups: what each member does by itself, which way it goes, and what becomes of the tree.
-use Rattle.std.specs.Prelude.{ℕ, zero, suc, ◌==◌, ◌^◌, nat_lt, min, Bool, true, false, not, List, [], ◌∷◌, length, Option, Some, None, is_some, if◌then◌else◌}
+use Rattle.std.specs.Prelude.{ℕ, zero, suc, ◌==◌, ◌^◌, nat_lt, min, Bool, true, false, not, List, ◌∷◌, length, Option, Some, None, is_some, if◌then◌else◌}
 use Rattle.fk_num.specs.Word.{put}
 use Rattle.fk_space.specs.Space.{Space, share, child, frame, block}
 use Rattle.fk_tree.specs.Tree as t

@@ -6,7 +6,7 @@ use Rattle.fk_operation.specs.declared.operation.Operation.{Operation}
 use Rattle.fk_operation.specs.declared.operation.Operation.TheVariants.{Check, Read, Write, Combine, PrintNumber, PrintByte, Heap, Enter}
 use Rattle.fk_store.specs.declared.request.Request.{Request}
 use Rattle.fk_store.specs.declared.request.Request.TheVariants as r
-use Rattle.fk_run.specs.Processor.{Call, Processor, values, last, before, drop_last, in_place}
+use Rattle.fk_run.specs.Processor.{Processor, values, last, before, drop_last, in_place}
 
 abbrev pub address : Processor → ℕ
 address p = last (before 1 (values p))

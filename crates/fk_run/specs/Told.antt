@@ -1,5 +1,5 @@
 -- What the steps of a tree are told of its members.
-use Rattle.std.specs.Prelude.{◌≡◌, ℕ, nat_lt, Bool, true, List, map, Option, Some, None}
+use Rattle.std.specs.Prelude.{◌≡◌, ℕ, nat_lt, Bool, true, map, Option, Some, None}
 use Rattle.fk_tree.specs.Tree.{Tree, members, is_member, split, shrink, parts_by, stays_by}
 
 -- the number by which a list names a part of k, and that of a member who waits

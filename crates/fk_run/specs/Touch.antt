@@ -10,7 +10,7 @@ use Rattle.fk_operation.specs.declared.operation.Operation.TheVariants as o
 use Rattle.fk_operation.specs.declared.kinds.Class.{Class}
 use Rattle.fk_operation.specs.declared.kinds.Class.TheVariants.{Local, Request, Tree}
 use Rattle.fk_store.specs.declared.request.Request as request
-use Rattle.fk_store.specs.declared.request.Request.TheVariants.{Read, Write, Multi, Print, Byte, Heap, Check, Depth}
+use Rattle.fk_store.specs.declared.request.Request.TheVariants.{Read, Write, Multi}
 use Rattle.fk_store.specs.Serve.{is_shared, shared_index, operator_of}
 use Rattle.fk_run.specs.Processor.{Processor, Setting, values, last}
 use Rattle.fk_run.specs.Request.{request as request_of}

@@ -2,7 +2,7 @@
 use Rattle.std.proofs.Common.{◌≡◌, ℕ, suc, ◌+◌, Bool, true, false, List, [], ◌∷◌, ◌++◌, length, Some, ap, refl, subst, arith, length-append}
 use Rattle.std.specs.Prelude.{◌==◌, if◌then◌else◌}
 use Rattle.fk_syntax.specs.declared.place.Place.{Place}
-use Rattle.fk_syntax.specs.Program.{FunctionTree, ProgramTree}
+use Rattle.fk_syntax.specs.Program.{FunctionTree}
 use Rattle.fk_operation.specs.Kinds.{kind_of}
 use Rattle.fk_operation.specs.declared.operation.Operation.{Operation}
 use Rattle.fk_forms.specs.Code.{Code, done, perform, choose, while, until, turn, again, quit, break, continue, call, ends, size, sites, numbered}

@@ -1,5 +1,5 @@
 -- What is seen of a run: its output, some words of shared data, and its stand.
-use Rattle.std.specs.Prelude.{ℕ, suc, Bool, true, false, ◌&&◌, List, [], ◌∷◌, ◌++◌, Option, Some, None, is_none, map}
+use Rattle.std.specs.Prelude.{ℕ, suc, Bool, true, false, ◌&&◌, List, [], ◌∷◌, ◌++◌, Option, Some, None, map}
 use Rattle.fk_num.specs.Word.{signed_line}
 use Rattle.fk_run.specs.Processor.{Setting}
 use Rattle.fk_run.specs.Round.{Step, Fault, State, Round, result, is_allowed, is_possible, cut}

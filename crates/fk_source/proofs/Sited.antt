@@ -1,5 +1,5 @@
 -- Code all of whose operations have their sites, and what a run makes of it.
-use Rattle.std.proofs.Common.{◌≡◌, ℕ, suc, Bool, true, false, List, [], ◌∷◌, Option, Some, None, subst}
+use Rattle.std.proofs.Common.{◌≡◌, ℕ, Bool, true, false, List, [], ◌∷◌, Option, Some, None, subst}
 use Rattle.std.specs.Prelude.{if◌then◌else◌}
 use Rattle.fk_operation.specs.declared.operation.Operation.{Operation}
 use Rattle.fk_run.specs.Round.{Step}

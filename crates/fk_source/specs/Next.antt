@@ -1,5 +1,5 @@
 -- The next operation of a processor, and what is left after it on either way.
-use Rattle.std.specs.Prelude.{ℕ, Bool, List, [], ◌∷◌, Option, Some, None, if◌then◌else◌}
+use Rattle.std.specs.Prelude.{ℕ, List, [], ◌∷◌, Option, Some, None, if◌then◌else◌}
 use Rattle.fk_run.specs.Round.{Step}
 use Rattle.fk_forms.specs.Code.{Code, done, perform, choose, turn, again, quit, call, ends, append}
 use Rattle.fk_source.specs.Left.{broken, settled}

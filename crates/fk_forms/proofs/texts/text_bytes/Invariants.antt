@@ -1,4 +1,4 @@
-use Rattle.std.proofs.Common.{◌≡◌, ℕ, ◌++◌, length}
+use Rattle.std.proofs.Common.{◌≡◌, ◌++◌, length}
 use Rattle.fk_forms.specs.Texts.{up_to_quote, text_of}
 use Rattle.fk_forms.proofs.texts.text_bytes.Given as goal
 
