@@ -1,5 +1,5 @@
-//! Laws of the definitions. Those of rounds are so of every form `W` in which it is kept what is left
-//! to do.
+//! Laws of the definitions. Those of rounds are so of every form `W` in which it is kept what is
+//! left to do.
 
 ghost use Rattle.fk_run.specs.Alike.{FormsRunAlike};
 ghost use Rattle.fk_run.specs.Touch.{RequestsGoInTurn, GroupStep};

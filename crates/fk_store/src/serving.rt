@@ -23,7 +23,8 @@ const WORD_BYTES: u32 = 4;
 pub fn serve(store: &mut Store32, request: Request, processor: u32) -> Result<u32, FaultKind>
     requires processor { processor < processors_of store.old }
     requires request { IsTrue (can_serve (room_of store.old) request) }
-    ensures served { answer_of result (store_of store.new) ≡ served_by request (store_of store.old) processor }
+    ensures served { answer_of result (store_of store.new)
+        ≡ served_by request (store_of store.old) processor }
     ensures fault { OnErr result (store_of store.new ≡ store_of store.old) }
     ensures room { KeepsRoom store.old store.new }
 {
@@ -86,7 +87,8 @@ fn operator_of(by: Multiprefix) -> Op
 fn combine(store: &mut Store32, kind: u8, address: u32, value: u32, processor: u32) -> u32
     requires processor { processor < processors_of store.old }
     requires request { IsTrue (can_serve (room_of store.old) (Request.Multi kind address value)) }
-    ensures word { Served (store_of store.new) result ≡ combined (multiprefix_of kind) (store_of store.old) processor address value }
+    ensures word { Served (store_of store.new) result
+        ≡ combined (multiprefix_of kind) (store_of store.old) processor address value }
     ensures room { KeepsRoom store.old store.new }
 {
     let Some(by) = Multiprefix::of_kind(kind) else {

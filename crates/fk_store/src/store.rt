@@ -145,7 +145,8 @@ impl Store32 {
     #[tactic(auto, unfolding(fk_num::specs::Word::signed_line))]
     pub(crate) fn print_number(&mut self, word: u32)
         requires { 12 ≤ room_of self.old }
-        ensures line { Served (store_of self.new) 0 ≡ printed (signed_line word) (store_of self.old) }
+        ensures line { Served (store_of self.new) 0
+            ≡ printed (signed_line word) (store_of self.old) }
         ensures rest { KeepsRoom self.old self.new }
     {
         self.print(signed_text(word).as_slice());
@@ -155,7 +156,8 @@ impl Store32 {
     /// Prints the low byte of a word.
     pub(crate) fn print_byte(&mut self, word: u32)
         requires { 1 ≤ room_of self.old }
-        ensures byte { Served (store_of self.new) 0 ≡ printed (word % 256 ∷ []) (store_of self.old) }
+        ensures byte { Served (store_of self.new) 0
+            ≡ printed (word % 256 ∷ []) (store_of self.old) }
         ensures rest { KeepsRoom self.old self.new }
     {
         self.print(&[(word % 256) as u8]);

@@ -73,7 +73,8 @@ fn addresses_that_may_be_used(rt: HostRuntime) -> Result<(), Fail> {
             Err(FaultKind::BadAddress)
         );
     }
-    // 0, an address between two words, the word after the last, shared control, and past the private heap
+    // 0, an address between two words, the word after the last, shared control, and two round the
+    // private heap
     for address in [
         0,
         WORD_0 + 2,
