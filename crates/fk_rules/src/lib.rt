@@ -1,0 +1,11 @@
+//! The rules of Fork95 by what they forbid, and the first of several that a text breaks.
+#![tactic(auto)]
+
+mod fault;
+mod rule;
+
+pub use fault::{Fault, first_of};
+pub use rule::Rule;
+
+#[cfg(test)]
+mod tests;
