@@ -1,0 +1,9 @@
+pub mod Types
+pub mod Words
+pub mod Table
+pub mod View
+pub mod Layouts
+pub mod Sizes
+pub mod Whole
+pub mod Order
+pub mod Laws

@@ -1,0 +1,22 @@
+//! Types.
+
+/// What is left of a type without its pointers and its length.
+#[derive(Clone, Copy, PartialEq, Eq, Debug)]
+pub enum Root {
+    Int,
+    Unsigned,
+    Void,
+    /// A struct, by the index of its declaration among all structs of the text, from 0.
+    Struct(usize),
+}
+
+/// A type: an integer, `void`, a struct, a pointer or an array. `struct S **v[3]` has the struct as
+/// its root, two stars and the length 3.
+#[derive(Clone, Copy, PartialEq, Eq, Debug)]
+pub struct DataType {
+    pub root: Root,
+    /// How many pointers lead to the root.
+    pub stars: u64,
+    /// The length of an array. Arrays of arrays and pointers to arrays are no types.
+    pub length: Option<u32>,
+}
