@@ -1,0 +1,5 @@
+pub mod Rules
+pub mod Given
+pub mod Forms
+pub mod Steps
+pub mod Reading

@@ -1,0 +1,30 @@
+//! The commands.
+
+ghost use Rattle.std.specs.Prelude.{◌≤◌};
+
+/// A run: of a file, by so many harts, for at most so many cycles.
+#[derive(Clone, Copy)]
+pub struct RunWords<'a> {
+    /// The name of the file.
+    pub file: &'a str,
+    /// How many harts run: 1 to 1,024.
+    pub harts: u32,
+    /// How many cycles they run at most.
+    pub cycles: u32,
+    ghost some_harts: { 1 ≤ harts },
+    ghost few_harts: { harts ≤ 1024 },
+}
+
+/// A command, with its words.
+#[derive(Clone, Copy)]
+pub enum CommandWords<'a> {
+    /// `run FILE --harts P --cycles N [--show NAME]`: compiles a source and runs it, and then shows
+    /// the variable of this name.
+    Run(RunWords<'a>, Option<&'a str>),
+    /// `build FILE -o IMAGE`: compiles a source and puts its image.
+    Build(&'a str, &'a str),
+    /// `exec IMAGE --harts P --cycles N`: runs an image.
+    Exec(RunWords<'a>),
+    /// `list IMAGE`: lists the code of an image.
+    List(&'a str),
+}

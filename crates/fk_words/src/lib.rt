@@ -1,0 +1,15 @@
+//! The words of a command line: what they ask for.
+#![tactic(auto)]
+
+mod asked;
+mod command;
+mod commands;
+mod fault;
+mod reading;
+
+pub use command::{CommandWords, RunWords};
+pub use fault::WordsFault;
+pub use reading::read_words;
+
+#[cfg(test)]
+mod tests;
