@@ -5,6 +5,7 @@ use Rattle.std.specs.List.{list_any, before_first, after_first, position_or_len}
 use Rattle.std.specs.Str.{IsUtf8, bytes_eq, chars, encode_utf8_all}
 use Rattle.std.proofs.lemmas.Bool.{eqb-true}
 use Rattle.std.proofs.Math.Numerals.{one-add}
+use Rattle.std.proofs.Math.Nat.{suc-add}
 use Rattle.std.proofs.lemmas.Str.{encode_ascii, encodes-chars, IsUtf8-drop, IsCharBoundary-after_ascii}
 use Rattle.clap.specs.Lexer.{has_byte, long_of, long_of_rest, name_and_value, short_of, short_of_rest, strip_byte}
 use Rattle.fk_words.specs.Arguments.{Text, is_dashed}
@@ -44,7 +45,7 @@ cut_cons : (x : ℕ) (xs : Text) (b : Bool) → (x == 61) ≡ b
     → has_byte 61 (x ∷ xs) ≡ true → x ∷ xs ≡ before_first (λ y. y == 61) (x ∷ xs) ++ 61 ∷ after_first (λ y. y == 61) (x ∷ xs)
 cut_cons x xs true e rest has = rw e (ap (λ y. y ∷ xs) (eqb-true x 61 e))
 cut_cons x xs false e rest has =
-    let behind : has_byte 61 xs ≡ true = rw e at has in rw (e, one-add) (ap (λ ys. x ∷ ys) (rest behind))
+    let behind : has_byte 61 xs ≡ true = rw e at has in rw (e, one-add, suc-add) (ap (λ ys. x ∷ ys) (rest behind))
 
 cut : (xs : Text) → has_byte 61 xs ≡ true → xs ≡ before_first (λ y. y == 61) xs ++ 61 ∷ after_first (λ y. y == 61) xs
 cut [] has = cc

@@ -1,5 +1,5 @@
 -- What was given so far, as `clap` holds it between two words.
-use Rattle.std.proofs.Common.{◌≡◌, ℕ, ◌+◌, ◌≤◌, Bool, true, false, not, cond, List, [], ◌∷◌, ◌++◌, map, length, filter, Option, Some, None, codes, refl, sym, ap, ap₂, ◌∙◌, arith}
+use Rattle.std.proofs.Common.{◌≡◌, ℕ, ◌+◌, ◌≤◌, Bool, true, false, not, cond, List, [], ◌∷◌, ◌++◌, map, length, filter, Option, Some, None, codes, refl, sym, ap, ap₂, ◌∙◌, append-nil, arith}
 use Rattle.std.specs.Prelude.{◌&&◌, ◌||◌, if◌then◌else◌, find, fold, slice_get, option_and_then, option_map}
 use Rattle.std.specs.List.{list_any}
 use Rattle.std.specs.Option.{option_map_or}
@@ -15,7 +15,8 @@ use Rattle.clap.specs.Kinds.{Kinds, or_else}
 use Rattle.clap.specs.Faults.{check_fault, defaults_fault, repeat_fault, settle_fault, use_fault}
 use Rattle.clap.specs.Takes.{is_given}
 use Rattle.fk_words.specs.Arguments.{Text, Part, File, Harts, Cycles, Show, Image, Argument, argument, is_part, values_of}
-use Rattle.fk_words.proofs.Rules.{IsCommand, command, id_of, is_in, is_required, rule, rules}
+use Rattle.fk_words.specs.Written.{id_of, is_required}
+use Rattle.fk_words.proofs.Rules.{IsCommand, command, is_in, rule, rules}
 
 abbrev pub row : Argument → Row
 row a = record { id = id_of a.part; values = a.value ∷ []; count = None; source = Some CommandLine; reading = AsWritten }
@@ -27,7 +28,7 @@ rows us = map row us
 abbrev pub given : Part → List Argument → Bool
 given p us = list_any (λ a. is_part p a.part) us
 
-same_id : (p q : Part) → bytes_eq (id_of q) (id_of p) ≡ is_part p q
+pub same_id : (p q : Part) → bytes_eq (id_of q) (id_of p) ≡ is_part p q
 same_id File q = elim q as (λ q. bytes_eq (id_of q) (id_of File) ≡ is_part File q) [ File ↦ refl | Harts ↦ refl | Cycles ↦ refl | Show ↦ refl | Image ↦ refl ]
 same_id Harts q = elim q as (λ q. bytes_eq (id_of q) (id_of Harts) ≡ is_part Harts q) [ File ↦ refl | Harts ↦ refl | Cycles ↦ refl | Show ↦ refl | Image ↦ refl ]
 same_id Cycles q = elim q as (λ q. bytes_eq (id_of q) (id_of Cycles) ≡ is_part Cycles q) [ File ↦ refl | Harts ↦ refl | Cycles ↦ refl | Show ↦ refl | Image ↦ refl ]
@@ -52,10 +53,6 @@ at_row-new : (id : Text) (change : Row → List Row) (missing rs : List Row) →
 at_row-new id change missing [] none = refl
 at_row-new id change missing (r ∷ rs) none =
     at_row-other id change missing r rs (bytes_eq r.id id) refl (at_row-new id change missing rs) none
-
-append-nil : {X : Type 0} (xs : List X) → xs ++ [] ≡ xs
-append-nil [] = refl
-append-nil (x ∷ xs) = ap (λ more. x ∷ more) (append-nil xs)
 
 -- an argument that is new is added at the end
 pub used-new : (p : Part) (v : Text) (us : List Argument) → given p us ≡ false → used (rule p) (v ∷ []) (rows us) ≡ rows (us ++ argument p v ∷ [])
@@ -122,7 +119,7 @@ abbrev pub IsNew : List Argument → Option Argument → Type 0
 IsNew us None = Unit {0}
 IsNew us (Some a) = given a.part us ≡ false
 
-no_conflict : (b : Bool) → conflict b ≡ [] → b ≡ false
+pub no_conflict : (b : Bool) → conflict b ≡ [] → b ≡ false
 no_conflict true e = cc
 no_conflict false e = refl
 
@@ -164,7 +161,7 @@ pub values-append : (p : Part) (us vs : List Argument) → values_of p (us ++ vs
 values-append p us vs =
     ap (map (λ (a : Argument). a.value)) (filter-append (λ a. is_part p a.part) us vs) ∙ map-append (λ (a : Argument). a.value) (filter (λ a. is_part p a.part) us) (filter (λ a. is_part p a.part) vs)
 
-same_part : (p q : Part) → is_part p q ≡ true → p ≡ q
+pub same_part : (p q : Part) → is_part p q ≡ true → p ≡ q
 same_part File q = elim q as (λ q. is_part File q ≡ true → File ≡ q) [ File ↦ λ e. refl | Harts ↦ λ e. cc | Cycles ↦ λ e. cc | Show ↦ λ e. cc | Image ↦ λ e. cc ]
 same_part Harts q = elim q as (λ q. is_part Harts q ≡ true → Harts ≡ q) [ File ↦ λ e. cc | Harts ↦ λ e. refl | Cycles ↦ λ e. cc | Show ↦ λ e. cc | Image ↦ λ e. cc ]
 same_part Cycles q = elim q as (λ q. is_part Cycles q ≡ true → Cycles ≡ q) [ File ↦ λ e. cc | Harts ↦ λ e. cc | Cycles ↦ λ e. refl | Show ↦ λ e. cc | Image ↦ λ e. cc ]
@@ -218,7 +215,7 @@ pub once-more : (p : Part) (v : Text) (us : List Argument) → IsOnce us → giv
 once-more p v us once new q =
     rw (length-values q us (argument p v ∷ [])) (one_value q p v us (is_part q p) refl new (once q))
 
-is_part-same : (p : Part) → is_part p p ≡ true
+pub is_part-same : (p : Part) → is_part p p ≡ true
 is_part-same p = elim p as (λ p. is_part p p ≡ true) [ File ↦ refl | Harts ↦ refl | Cycles ↦ refl | Show ↦ refl | Image ↦ refl ]
 
 new-before : (a : Argument) (us vs : List Argument) (b : Bool) → given a.part us ≡ b → IsOnce (us ++ a ∷ vs) → b ≡ false

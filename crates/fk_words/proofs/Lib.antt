@@ -2,4 +2,5 @@ pub mod Rules
 pub mod Given
 pub mod Forms
 pub mod Steps
-pub mod Reading
+pub mod Taken
+pub mod Spelled

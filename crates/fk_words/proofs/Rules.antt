@@ -1,51 +1,21 @@
 -- The arguments of the commands, as `clap` has them.
 use Rattle.std.proofs.Common.{◌≡◌, ℕ, pos, Bool, true, false, not, List, [], ◌∷◌, ◌++◌, map, Option, Some, None, codes, refl, sym, ◌⊎◌, inl, inr, ap, ◌∙◌}
-use Rattle.std.specs.Prelude.{◌&&◌, ◌||◌, is_some, find}
+use Rattle.std.specs.Prelude.{◌&&◌, ◌||◌, IfSome, is_some, find}
 use Rattle.std.specs.List.{list_any}
 use Rattle.std.specs.Str.{bytes_eq}
 use Rattle.std.proofs.lemmas.Bool.{true≢false}
 use Rattle.std.proofs.lemmas.Slice.Eq.{bytes_eq-Decides}
-use Rattle.clap.specs.declared.builder.action.ArgAction.TheVariants.{Set}
 use Rattle.clap.specs.declared.builder.value_parser.ValueParser.TheVariants as parser
 use Rattle.clap.specs.Walk.{Rule, arg_by_id, arg_by_index, arg_by_long, arg_by_short, has_long, has_short}
-use Rattle.clap.specs.Simple.{App, Shape, new_app, new_rule, new_shape, built, with_rule, with_subcommand}
+use Rattle.clap.specs.Simple.{App, Shape, new_shape, built}
+use Rattle.fk_words.specs.Written.{id_of, is_required, long_of_part, short_of_part, written, run_parts, build_parts, exec_parts, list_parts, written_top, written_app}
 use Rattle.fk_words.specs.Arguments.{Text, Part, File, Harts, Cycles, Show, Image, is_part}
-
-abbrev pub id_of : Part → Text
-id_of File = codes "file"
-id_of Harts = codes "harts"
-id_of Cycles = codes "cycles"
-id_of Show = codes "show"
-id_of Image = codes "image"
-
-abbrev pub long_of_part : Part → Option Text
-long_of_part File = None
-long_of_part Harts = Some (codes "harts")
-long_of_part Cycles = Some (codes "cycles")
-long_of_part Show = Some (codes "show")
-long_of_part Image = None
-
-abbrev pub short_of_part : Part → Option ℕ
-short_of_part Image = Some 111
-short_of_part _ = None
 
 abbrev pub index_of : Part → Option ℕ
 index_of File = Some 1
 index_of _ = None
 
-abbrev pub is_required : Part → Bool
-is_required Show = false
-is_required _ = true
-
--- an argument as it is written, and as `build` fills it in
-abbrev pub written : Part → Rule
-written p = record (new_rule (id_of p)) {
-  long = long_of_part p;
-  short = short_of_part p;
-  action = Some Set;
-  required = is_required p;
-}
-
+-- an argument as `build` fills it in
 abbrev pub rule : Part → Rule
 rule p = record (written p) {
   index = index_of p;
@@ -56,22 +26,7 @@ rule p = record (written p) {
 abbrev pub rules : List Part → List Rule
 rules ps = map rule ps
 
-abbrev pub run_parts : List Part
-run_parts = File ∷ Harts ∷ Cycles ∷ Show ∷ []
-
-abbrev pub build_parts : List Part
-build_parts = File ∷ Image ∷ []
-
-abbrev pub exec_parts : List Part
-exec_parts = File ∷ Harts ∷ Cycles ∷ []
-
-abbrev pub list_parts : List Part
-list_parts = File ∷ []
-
--- a command with these arguments, as it is written and as it is built
-abbrev pub written_command : Text → List Part → Shape
-written_command name ps = record (new_shape name) { rules = map written ps }
-
+-- a command with these arguments, as it is built
 abbrev pub command : Text → List Part → Shape
 command name ps = record (new_shape name) {
   rules = rules ps;
@@ -79,21 +34,6 @@ command name ps = record (new_shape name) {
   disable_help_flag = true;
   disable_help_subcommand = true;
   is_built = true;
-}
-
-abbrev pub written_top : Shape
-written_top = record (new_shape (codes "fork95")) {
-  no_binary_name = true;
-  disable_help_flag = true;
-  disable_help_subcommand = true;
-  subcommand_required = true;
-}
-
-abbrev pub written_app : App
-written_app = record {
-  top = record written_top { is_leaf = false };
-  subs = written_command (codes "run") run_parts ∷ written_command (codes "build") build_parts
-      ∷ written_command (codes "exec") exec_parts ∷ written_command (codes "list") list_parts ∷ [];
 }
 
 abbrev pub app : App
@@ -111,8 +51,14 @@ built-written = refl
 abbrev pub is_in : Part → List Part → Bool
 is_in p ps = list_any (is_part p) ps
 
+-- its long name, where it has one, finds a part
+abbrev pub FindsLong : List Part → Part → Type 0
+FindsLong ps p = IfSome (long_of_part p) (λ name. arg_by_long (rules ps) name ≡ Some (rule p))
+
 pub record IsCommand (ps : List Part) : Type 0 where
   pub by_id : (p : Part) → is_in p ps ≡ true → arg_by_id (rules ps) (id_of p) ≡ Some (rule p)
+  pub by_long : (p : Part) → is_in p ps ≡ true → FindsLong ps p
+  pub by_short : is_in Image ps ≡ true → arg_by_short (rules ps) 111 ≡ Some (rule Image)
   pub first : arg_by_index (rules ps) 1 ≡ Some (rule File)
   pub second : arg_by_index (rules ps) 2 ≡ None
   pub file : is_in File ps ≡ true
@@ -124,8 +70,15 @@ run_by_id Cycles e = refl
 run_by_id Show e = refl
 run_by_id Image e = cc
 
+run_by_long : (p : Part) → is_in p run_parts ≡ true → FindsLong run_parts p
+run_by_long File e = tt
+run_by_long Harts e = refl
+run_by_long Cycles e = refl
+run_by_long Show e = refl
+run_by_long Image e = cc
+
 pub run_command : IsCommand run_parts
-run_command = record { by_id = run_by_id; first = refl; second = refl; file = refl }
+run_command = record { by_id = run_by_id; by_long = run_by_long; by_short = λ e. cc; first = refl; second = refl; file = refl }
 
 build_by_id : (p : Part) → is_in p build_parts ≡ true → arg_by_id (rules build_parts) (id_of p) ≡ Some (rule p)
 build_by_id File e = refl
@@ -134,8 +87,15 @@ build_by_id Cycles e = cc
 build_by_id Show e = cc
 build_by_id Image e = refl
 
+build_by_long : (p : Part) → is_in p build_parts ≡ true → FindsLong build_parts p
+build_by_long File e = tt
+build_by_long Harts e = cc
+build_by_long Cycles e = cc
+build_by_long Show e = cc
+build_by_long Image e = tt
+
 pub build_command : IsCommand build_parts
-build_command = record { by_id = build_by_id; first = refl; second = refl; file = refl }
+build_command = record { by_id = build_by_id; by_long = build_by_long; by_short = λ e. refl; first = refl; second = refl; file = refl }
 
 exec_by_id : (p : Part) → is_in p exec_parts ≡ true → arg_by_id (rules exec_parts) (id_of p) ≡ Some (rule p)
 exec_by_id File e = refl
@@ -144,8 +104,15 @@ exec_by_id Cycles e = refl
 exec_by_id Show e = cc
 exec_by_id Image e = cc
 
+exec_by_long : (p : Part) → is_in p exec_parts ≡ true → FindsLong exec_parts p
+exec_by_long File e = tt
+exec_by_long Harts e = refl
+exec_by_long Cycles e = refl
+exec_by_long Show e = cc
+exec_by_long Image e = cc
+
 pub exec_command : IsCommand exec_parts
-exec_command = record { by_id = exec_by_id; first = refl; second = refl; file = refl }
+exec_command = record { by_id = exec_by_id; by_long = exec_by_long; by_short = λ e. cc; first = refl; second = refl; file = refl }
 
 list_by_id : (p : Part) → is_in p list_parts ≡ true → arg_by_id (rules list_parts) (id_of p) ≡ Some (rule p)
 list_by_id File e = refl
@@ -154,8 +121,15 @@ list_by_id Cycles e = cc
 list_by_id Show e = cc
 list_by_id Image e = cc
 
+list_by_long : (p : Part) → is_in p list_parts ≡ true → FindsLong list_parts p
+list_by_long File e = tt
+list_by_long Harts e = cc
+list_by_long Cycles e = cc
+list_by_long Show e = cc
+list_by_long Image e = cc
+
 pub list_command : IsCommand list_parts
-list_command = record { by_id = list_by_id; first = refl; second = refl; file = refl }
+list_command = record { by_id = list_by_id; by_long = list_by_long; by_short = λ e. cc; first = refl; second = refl; file = refl }
 
 -- what a look-up finds is the argument of a part
 pub record Finds (ps : List Part) (test : Rule → Bool) (a : Rule) : Type 0 where

@@ -7,7 +7,8 @@ use Rattle.clap.specs.Walk.{Held, Rule, Walk, arg_by_long, arg_by_short, attache
 use Rattle.clap.specs.Kinds.{Kinds, or_else}
 use Rattle.clap.specs.Faults.{flags_fault, settle_fault, short_fault, turn_fault, use_fault}
 use Rattle.fk_words.specs.Arguments.{Text, Part, File, Image, Argument, argument, is_part}
-use Rattle.fk_words.proofs.Rules.{IsCommand, command, id_of, is_in, rule, rules}
+use Rattle.fk_words.specs.Written.{id_of}
+use Rattle.fk_words.proofs.Rules.{IsCommand, command, is_in, rule, rules}
 use Rattle.fk_words.proofs.Given.{IsKnown, IsNew, at, awaiting, conflict, first_empty, given, held, is_part-same, joined, no_conflict, pending_of, position_of, rows, same_id, second_empty, settle_fine, settle_new, settled-is, use-is, used-new}
 use Rattle.fk_words.proofs.Forms.{IsLong, IsShort, IsPlain}
 
@@ -29,7 +30,6 @@ module _ (name : Text) (ps : List Part) (known : IsCommand ps) where
   -- ---- an option with its value
 
   react_fault_of : List Argument → Option Argument → Part → Text → Kinds
-  unfolding react_fault_of
   react_fault_of us last p v =
       or_else (settle_fault (rules ps) false (held us last)) (use_fault false (rule p) (v ∷ []) (settled_rows (rules ps) (pending_of last) (rows us)))
 
@@ -45,8 +45,8 @@ module _ (name : Text) (ps : List Part) (known : IsCommand ps) where
   unfolding react_fault_of
   react_new us last p v within fine =
       let new = settle_new ps known us last within (first_empty _ _ fine) in
-      let use : use_fault false (rule p) (v ∷ []) (settled_rows (rules ps) (pending_of last) (rows us)) ≡ [] = second_empty _ _ fine in
-      let at_rows : use_fault false (rule p) (v ∷ []) (rows (joined us last)) ≡ [] = rw (settled-is ps known us last within new) at use in
+      let repeated : use_fault false (rule p) (v ∷ []) (settled_rows (rules ps) (pending_of last) (rows us)) ≡ [] = second_empty _ _ fine in
+      let at_rows : use_fault false (rule p) (v ∷ []) (rows (joined us last)) ≡ [] = rw (settled-is ps known us last within new) at repeated in
       (new, no_conflict _ (sym (use-is p v (joined us last)) ∙ at_rows))
 
   module _ (us : List Argument) (last : Option Argument) (within : IsKnown ps last) (has_file : Bool) (p : Part) (word : Text) where
@@ -184,7 +184,7 @@ module _ (name : Text) (ps : List Part) (known : IsCommand ps) where
         let found = known.by_id p within in
         let same = same_id p p ∙ is_part-same p in
         record {
-          fine = λ _. rw (some, long, short, found) refl;
+          fine = λ _. rw (some, long, short) refl;
           then_allowed = λ _. tt;
           stands = λ _. rw (some, long, short, found, same) refl;
         }

@@ -1,2 +1,4 @@
 pub mod Arguments
+pub mod Asked
 pub mod Command
+pub mod Written
