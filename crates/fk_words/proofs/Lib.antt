@@ -4,3 +4,4 @@ pub mod Forms
 pub mod Steps
 pub mod Taken
 pub mod Spelled
+pub mod Lines
