@@ -5,3 +5,4 @@ pub mod Steps
 pub mod Taken
 pub mod Spelled
 pub mod Lines
+pub mod Whole

@@ -111,7 +111,7 @@ pub data Named (word : Text) : Type 0 where
   is_list : word ≡ codes "list" → Named word
   other : find (answers_to word) (names_of app) ≡ None → Named word
 
-named : (word : Text) → Named word
+pub named : (word : Text) → Named word
 named word = by (bytes_eq (codes "run") word) (bytes_eq (codes "build") word) (bytes_eq (codes "exec") word) (bytes_eq (codes "list") word) refl refl refl refl
   where
     by : (a b c d : Bool) → bytes_eq (codes "run") word ≡ a → bytes_eq (codes "build") word ≡ b → bytes_eq (codes "exec") word ≡ c → bytes_eq (codes "list") word ≡ d → Named word
@@ -120,3 +120,42 @@ named word = by (bytes_eq (codes "run") word) (bytes_eq (codes "build") word) (b
     by false false true d e f g h = is_exec (sym (same_text (codes "exec") word g))
     by false false false true e f g h = is_list (sym (same_text (codes "list") word h))
     by false false false false e f g h = other (rw (e, f, g, h) refl)
+
+module _ (word : Text) (words : List Text) (none : find (answers_to word) (names_of app) ≡ None) where
+  turn_other : Form word → (word ≡ 45 ∷ 45 ∷ [] → ⊥) → turn_fault app.top (names_of app) (walk_from nothing_held) word ≡ [] → ⊥
+  unfolding flags_fault bundle_met
+  turn_other (dashes is) no_dashes fine = no_dashes is
+  turn_other (long name value is) no_dashes fine =
+      let some = is.some in
+      let text = is.long in
+      let bad : UnknownArgument ∷ [] ≡ [] = rw (none, some, text) at fine in cc
+  turn_other (plain is) no_dashes fine =
+      let some = is.some in
+      let text = is.long in
+      let letters = is.short in
+      let bad : UnknownArgument ∷ InvalidSubcommand ∷ [] ≡ [] = rw (none, some, text, letters) at fine in cc
+  turn_other (short first rest is) no_dashes fine = by (slice_get (chars (first ∷ rest)) 0) refl
+    where
+      by : (o : Option ℕ) → slice_get (chars (first ∷ rest)) 0 ≡ o → ⊥
+      by None e =
+          let some = is.some in
+          let text = is.long in
+          let letters = is.short in
+          let bad : UnknownArgument ∷ InvalidSubcommand ∷ [] ≡ [] = rw (none, some, text, letters, e) at fine in cc
+      by (Some x) e =
+          let some = is.some in
+          let text = is.long in
+          let letters = is.short in
+          let bad : UnknownArgument ∷ [] ≡ [] = rw (none, some, text, letters, e) at fine in cc
+
+-- `--` is no name of a command, whatever follows it
+only_dashes : (words : List Text) → fault_of written_app ((45 ∷ 45 ∷ []) ∷ words) ≡ [] → ⊥
+unfolding walk_fault walked defaults_fault
+only_dashes [] fine = let bad : MissingSubcommand ∷ [] ≡ [] = fine in cc
+only_dashes (word ∷ words) fine = let bad : UnknownArgument ∷ InvalidSubcommand ∷ [] ≡ [] = fine in cc
+
+pub other_word : (word : Text) (words : List Text) → find (answers_to word) (names_of app) ≡ None → fault_of written_app (word ∷ words) ≡ [] → ⊥
+unfolding walk_fault
+other_word word words none fine =
+    turn_other word words none (form word) (λ is. only_dashes words (subst (λ w. fault_of written_app (w ∷ words) ≡ []) is fine))
+    (first_empty _ _ (first_empty _ _ fine))

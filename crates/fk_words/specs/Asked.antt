@@ -5,11 +5,10 @@ use Rattle.clap.specs.Walk.{Row, first_of}
 use Rattle.fk_words.specs.Arguments.{Text}
 use Rattle.fk_words.specs.Command.{Command, Run, Build, Exec, ListCode}
 
--- a file, and numbers in range
-pub record AsksRun (rows : List Row) (file : Text) (harts cycles : ℕ) : Type 0 where
+-- numbers in range
+pub record RunsBy (rows : List Row) (harts cycles : ℕ) : Type 0 where
   pub harts_text : Text
   pub cycles_text : Text
-  pub file_is : first_of (codes "file") rows ≡ Some file
   pub harts_given : first_of (codes "harts") rows ≡ Some harts_text
   pub cycles_given : first_of (codes "cycles") rows ≡ Some cycles_text
   pub harts_are : read_word harts_text ≡ Some harts
@@ -19,8 +18,8 @@ pub record AsksRun (rows : List Row) (file : Text) (harts cycles : ℕ) : Type 0
 
 abbrev pub AsksFor : Text → List Row → Command → Type 0
 AsksFor name rows (Run file harts cycles show) =
-    (name ≡ codes "run") × AsksRun rows file harts cycles × (first_of (codes "show") rows ≡ show)
+    (name ≡ codes "run") × (first_of (codes "file") rows ≡ Some file) × RunsBy rows harts cycles × (first_of (codes "show") rows ≡ show)
 AsksFor name rows (Build file image) =
     (name ≡ codes "build") × (first_of (codes "file") rows ≡ Some file) × (first_of (codes "image") rows ≡ Some image)
-AsksFor name rows (Exec image harts cycles) = (name ≡ codes "exec") × AsksRun rows image harts cycles
+AsksFor name rows (Exec image harts cycles) = (name ≡ codes "exec") × (first_of (codes "file") rows ≡ Some image) × RunsBy rows harts cycles
 AsksFor name rows (ListCode image) = (name ≡ codes "list") × (first_of (codes "file") rows ≡ Some image)
