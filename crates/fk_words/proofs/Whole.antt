@@ -1,14 +1,19 @@
 -- A command line is taken by `clap`, with the values that a command asks for, exactly where its words are that command.
-use Rattle.std.proofs.Common.{◌≡◌, ℕ, ◌+◌, ◌≤◌, Bool, true, false, not, List, [], ◌∷◌, ◌++◌, length, map, Option, Some, None, codes, refl, sym, ap, ◌∙◌, subst, arith}
-use Rattle.std.specs.Prelude.{◌&&◌, ◌||◌, slice_get}
+use Rattle.std.proofs.Common.{◌≡◌, ℕ, ◌+◌, ◌≤◌, Bool, true, false, not, List, [], ◌∷◌, ◌++◌, length, map, Option, Some, None, codes, refl, sym, ap, ◌∙◌, subst, arith, inl, inr, String, Global, string_bytes}
+use Rattle.std.specs.Prelude.{◌&&◌, ◌||◌, option_and_then, slice_get}
 use Rattle.std.specs.Str.{bytes_eq}
 use Rattle.std.proofs.lemmas.Slice.Eq.{bytes_eq-Decides}
 use Rattle.fk_num.specs.Numeral.{read_word}
 use Rattle.clap.specs.Walk.{Row, first_of}
-use Rattle.clap.specs.Faults.{fault_of}
-use Rattle.clap.specs.Simple.{subcommand_of}
+use Rattle.clap.specs.Faults.{fault_of, is_simple_and_free}
+use Rattle.clap.specs.Kinds.{HasKind}
+use Rattle.clap.specs.Values.{kind_of}
+use Rattle.clap.specs.declared.error.Error.{Error}
+use Rattle.clap.specs.declared.error.kind.ErrorKind.TheVariants.{OutOfMemory}
+use Rattle.std.proofs.lemmas.Str.{IsUtf8-string_bytes}
+use Rattle.clap.specs.Simple.{App, is_simple, subcommand_of}
 use Rattle.fk_words.specs.Arguments.{Text, Part, File, Harts, Cycles, Show, Image, Argument, Values, Gives, Spells, all_values, values_of}
-use Rattle.fk_words.specs.Asked.{AsksFor, RunsBy}
+use Rattle.fk_words.specs.Asked.{AsksFor, AsksOf, RunsBy, number_of}
 use Rattle.fk_words.specs.Command.{Command, Run, Build, Exec, ListCode, Reads, ReadsRun, ReadsBehind, once_or_never, only_file}
 use Rattle.fk_words.specs.Written.{id_of, run_parts, build_parts, exec_parts, list_parts, written_app}
 use Rattle.fk_words.proofs.Rules.{IsCommand, build_command, exec_command, is_in, list_command, run_command}
@@ -37,20 +42,35 @@ value-is ps words end adds p o e =
 outside-is : (ps : List Part) (words : List Text) (end : List Row) (adds : Adds ps [] false words end) (p : Part) → is_in p ps ≡ false → values_of p adds.arguments ≡ []
 outside-is ps words end adds p outside = no_values p adds.arguments (adds.within p outside)
 
+-- the text of a number that is found
+record ReadText (id : Text) (end : List Row) (n : ℕ) : Type 0 where
+  text : Text
+  found : first_of id end ≡ Some text
+  number : read_word text ≡ Some n
+
+read_text : (id : Text) (end : List Row) (n : ℕ) → number_of id end ≡ Some n → ReadText id end n
+read_text id end n e = by (first_of id end) refl
+  where
+    by : (o : Option Text) → first_of id end ≡ o → ReadText id end n
+    by None f = let bad : None ≡ Some n = sym (ap (option_and_then read_word) f) ∙ e in cc
+    by (Some text) f = record { text = text; found = f; number = sym (ap (option_and_then read_word) f) ∙ e }
+
 reads_run : (words : List Text) (end : List Row) (adds : Adds run_parts [] false words end) (file : Text) (harts cycles : ℕ) (show : Option Text)
     → first_of (codes "file") end ≡ Some file → RunsBy end harts cycles → first_of (codes "show") end ≡ show → ReadsRun words file harts cycles show
 reads_run words end adds file harts cycles show file_is asks shows =
     let f = value-is run_parts words end adds File (Some file) file_is in
-    let h = value-is run_parts words end adds Harts (Some asks.harts_text) asks.harts_given in
-    let c = value-is run_parts words end adds Cycles (Some asks.cycles_text) asks.cycles_given in
+    let ht = read_text (codes "harts") end harts asks.harts_are in
+    let ct = read_text (codes "cycles") end cycles asks.cycles_are in
+    let h = value-is run_parts words end adds Harts (Some ht.text) ht.found in
+    let c = value-is run_parts words end adds Cycles (Some ct.text) ct.found in
     let s = value-is run_parts words end adds Show show shows in
     let i = outside-is run_parts words end adds Image refl in
     record {
-      harts_text = asks.harts_text;
-      cycles_text = asks.cycles_text;
+      harts_text = ht.text;
+      cycles_text = ct.text;
       given = record { arguments = adds.arguments; spelled = adds.spelled; values_are = rw (f, h, c, s, i) refl };
-      harts_are = asks.harts_are;
-      cycles_are = asks.cycles_are;
+      harts_are = ht.number;
+      cycles_are = ct.number;
       some_harts = asks.some_harts;
       few_harts = asks.few_harts;
     }
@@ -59,16 +79,18 @@ reads_exec : (words : List Text) (end : List Row) (adds : Adds exec_parts [] fal
     → first_of (codes "file") end ≡ Some file → RunsBy end harts cycles → ReadsRun words file harts cycles None
 reads_exec words end adds file harts cycles file_is asks =
     let f = value-is exec_parts words end adds File (Some file) file_is in
-    let h = value-is exec_parts words end adds Harts (Some asks.harts_text) asks.harts_given in
-    let c = value-is exec_parts words end adds Cycles (Some asks.cycles_text) asks.cycles_given in
+    let ht = read_text (codes "harts") end harts asks.harts_are in
+    let ct = read_text (codes "cycles") end cycles asks.cycles_are in
+    let h = value-is exec_parts words end adds Harts (Some ht.text) ht.found in
+    let c = value-is exec_parts words end adds Cycles (Some ct.text) ct.found in
     let s = outside-is exec_parts words end adds Show refl in
     let i = outside-is exec_parts words end adds Image refl in
     record {
-      harts_text = asks.harts_text;
-      cycles_text = asks.cycles_text;
+      harts_text = ht.text;
+      cycles_text = ct.text;
       given = record { arguments = adds.arguments; spelled = adds.spelled; values_are = rw (f, h, c, s, i) refl };
-      harts_are = asks.harts_are;
-      cycles_are = asks.cycles_are;
+      harts_are = ht.number;
+      cycles_are = ct.number;
       some_harts = asks.some_harts;
       few_harts = asks.few_harts;
     }
@@ -254,12 +276,8 @@ each_of us values f h c s i e ef eh ec es ei = record {
 asks_run : (us : List Argument) (f h c : Text) (s i : Option Text) (end : List Row) (harts cycles : ℕ) → Each us (Some f) (Some h) (Some c) s i → end ≡ rows us
     → read_word h ≡ Some harts → read_word c ≡ Some cycles → 1 ≤ harts → harts ≤ 1024 → RunsBy end harts cycles
 asks_run us f h c s i end harts cycles each e hs cs some few_enough = record {
-  harts_text = h;
-  cycles_text = c;
-  harts_given = first-is Harts us (Some h) end e each.harts;
-  cycles_given = first-is Cycles us (Some c) end e each.cycles;
-  harts_are = hs;
-  cycles_are = cs;
+  harts_are = ap (option_and_then read_word) (first-is Harts us (Some h) end e each.harts) ∙ hs;
+  cycles_are = ap (option_and_then read_word) (first-is Cycles us (Some c) end e each.cycles) ∙ cs;
   some_harts = some;
   few_harts = few_enough;
 }
@@ -310,3 +328,42 @@ asked_as word words (ListCode image) reads =
 pub asked : (words : List Text) (command : Command) → Reads words command → IsAsked words command
 asked [] command reads = absurd reads
 asked (word ∷ words) command reads = asked_as word words command reads
+
+-- ---- what the caller has of `clap`
+
+pub is_free : is_simple_and_free written_app ≡ true
+is_free = refl
+
+pub simple : is_simple written_app ≡ true
+simple = refl
+
+-- words of a command fail for want of memory alone
+pub only_memory : (words : List Text) (command : Command) (app : App) (e : Error) → app ≡ written_app
+    → (is_simple_and_free app ≡ true → HasKind (fault_of app words) e) → Reads words command → kind_of e ≡ OutOfMemory
+only_memory words command app e is fails reads =
+    let asked_all = asked words command reads in
+    let none : fault_of app words ≡ [] = ap (λ a. fault_of a words) is ∙ asked_all.fault in
+    by (subst (λ kinds. HasKind kinds e) none (fails (ap is_simple_and_free is ∙ is_free)))
+  where
+    by : HasKind [] e → kind_of e ≡ OutOfMemory
+    by (inl memory) = memory
+    by (inr more) = absurd more
+
+-- a command that the matches ask for is that of the words, and the other way round
+pub reads_asked : (words : List Text) (command : Command) (app : App) (found : Option (Text × List Row)) → AreTexts words → app ≡ written_app
+    → (is_simple_and_free app ≡ true → fault_of app words ≡ []) → (is_simple app ≡ true → found ≡ subcommand_of app words) → AsksOf found command → Reads words command
+reads_asked words command app found texts is fine matches asks =
+    let t = taken words texts (sym (ap (λ a. fault_of a words) is) ∙ fine (ap is_simple_and_free is ∙ is_free)) in
+    let same : found ≡ Some (t.name, t.found) = matches (ap is_simple is ∙ simple) ∙ ap (λ a. subcommand_of a words) is ∙ t.matches in
+    t.reads command (subst (λ o. AsksOf o command) same asks)
+
+pub asks_read : (words : List Text) (command : Command) (app : App) (found : Option (Text × List Row)) → app ≡ written_app
+    → (is_simple app ≡ true → found ≡ subcommand_of app words) → Reads words command → AsksOf found command
+asks_read words command app found is matches reads =
+    let a = asked words command reads in
+    let same : found ≡ Some (a.name, a.found) = matches (ap is_simple is ∙ simple) ∙ ap (λ a. subcommand_of a words) is ∙ a.matches in
+    subst (λ o. AsksOf o command) (sym same) a.asks
+
+pub are_texts : (words : List (String Global)) → AreTexts (map string_bytes words)
+are_texts [] = tt
+are_texts (word ∷ words) = (IsUtf8-string_bytes word, are_texts words)

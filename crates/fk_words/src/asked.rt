@@ -1,27 +1,37 @@
 //! What the values of a command ask for.
 
-ghost use Rattle.std.specs.Prelude.{◌≡◌, ℕ, ◌≤◌, Some, IsNone, IfSome};
+ghost use Rattle.std.specs.Prelude.{◌≡◌, ℕ, ◌≤◌, Some, IsNone, IfSome, option_map};
 ghost use Rattle.clap.specs.Matches.{found_of};
-ghost use Rattle.clap.specs.Walk.{rows_of};
-ghost use Rattle.fk_words.specs.Asked.{AsksFor, RunsBy};
+ghost use Rattle.clap.specs.Simple.{subcommand_rows_of};
+ghost use Rattle.clap.specs.Walk.{first_of, rows_of};
+ghost use Rattle.fk_words.specs.Asked.{AsksFor, AsksOf, RunsBy, number_of};
 ghost use Rattle.fk_words.specs.Command.{Command, command_of};
 
 use crate::command::{CommandWords, RunWords};
 use clap::ArgMatches;
 use fk_num::read_unsigned;
 
+/// The command that these matches ask for.
+pub(crate) fn asked<'a>(matches: &ArgMatches<'a>) -> Option<CommandWords<'a>>
+    ensures some { IfSome result (λ c. AsksOf (subcommand_rows_of matches.now) (command_of c)) }
+    ensures none { IsNone result → (c : Command) → AsksOf (subcommand_rows_of matches.now) c → ⊥ }
+{
+    let (name, given) = matches.subcommand()?;
+    asked_for(name, given)
+}
+
 /// The command of this name that these values ask for.
-pub(crate) fn asked_for<'a>(name: &str, given: &ArgMatches<'a>) -> Option<CommandWords<'a>>
+fn asked_for<'a>(name: &str, given: &ArgMatches<'a>) -> Option<CommandWords<'a>>
     ensures some { IfSome result (λ c. AsksFor name.now (rows_of (found_of given.now)) (command_of c)) }
     ensures none { IsNone result → (c : Command) → AsksFor name.now (rows_of (found_of given.now)) c → ⊥ }
 {
-    let file = given.get_str("file")?;
+    let file = text_of(given, "file")?;
     match name {
         "run" => Some(CommandWords::Run(
             asked_run(file, given)?,
-            given.get_str("show"),
+            text_of(given, "show"),
         )),
-        "build" => Some(CommandWords::Build(file, given.get_str("image")?)),
+        "build" => Some(CommandWords::Build(file, text_of(given, "image")?)),
         "exec" => Some(CommandWords::Exec(asked_run(file, given)?)),
         "list" => Some(CommandWords::List(file)),
         _ => None,
@@ -34,8 +44,8 @@ fn asked_run<'a>(file: &'a str, given: &ArgMatches<'a>) -> Option<RunWords<'a>>
     ensures some { IfSome result (λ run. RunsBy (rows_of (found_of given.now)) run.harts run.cycles) }
     ensures none { IsNone result → (p : ℕ) (n : ℕ) → RunsBy (rows_of (found_of given.now)) p n → ⊥ }
 {
-    let harts = read_unsigned(given.get_str("harts")?.as_bytes())?;
-    let cycles = read_unsigned(given.get_str("cycles")?.as_bytes())?;
+    let harts = number_of(given, "harts")?;
+    let cycles = number_of(given, "cycles")?;
     if harts < 1 || harts > 1024 {
         return None;
     }
@@ -44,4 +54,18 @@ fn asked_run<'a>(file: &'a str, given: &ArgMatches<'a>) -> Option<RunWords<'a>>
         harts,
         cycles,
     })
+}
+
+/// The number that is found for an argument.
+fn number_of(given: &ArgMatches<'_>, id: &str) -> Option<u32>
+    ensures { result ≡ number_of id.now (rows_of (found_of given.now)) }
+{
+    read_unsigned(text_of(given, id)?.as_bytes())
+}
+
+/// The text that is found for an argument.
+fn text_of<'a>(given: &ArgMatches<'a>, id: &str) -> Option<&'a str>
+    ensures { option_map (λ s. s.now) result ≡ first_of id.now (rows_of (found_of given.now)) }
+{
+    given.get_str(id)
 }

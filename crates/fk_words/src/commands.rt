@@ -1,8 +1,8 @@
 //! The commands as `clap` reads them.
 
-ghost use Rattle.std.specs.Prelude.{◌≡◌, IfOk, codes};
+ghost use Rattle.std.specs.Prelude.{◌≡◌, false, IfOk, codes};
 ghost use Rattle.clap.specs.Simple.{app_of};
-ghost use Rattle.clap.specs.Words.{fields_of};
+ghost use Rattle.clap.specs.declared.builder.command.Command.TheViews.{out-Command as fields_of};
 ghost use Rattle.clap.specs.Walk.{rule_of};
 ghost use Rattle.fk_words.specs.Arguments.{File, Harts, Cycles, Show, Image};
 ghost use Rattle.fk_words.specs.Written.{written, leaf, run_parts, build_parts, exec_parts, list_parts, written_app};

@@ -3,7 +3,7 @@
 ghost use Rattle.std.specs.Prelude.{◌≡◌, map, string_bytes, IfOk, IfErr};
 ghost use Rattle.fk_words.specs.Command.{Command, Reads, command_of};
 
-use crate::asked::asked_for;
+use crate::asked::asked;
 use crate::command::CommandWords;
 use crate::commands::commands;
 use crate::fault::WordsFault;
@@ -16,12 +16,10 @@ pub fn read_words<'a>(alloc: Global, words: &'a [String]) -> Result<CommandWords
     ensures reads { IfOk result (λ c. Reads (map string_bytes words.now) (command_of c)) }
     ensures usage { IfErr result (λ fault. fault ≡ WordsFault.Usage → (c : Command) → Reads (map string_bytes words.now) c → ⊥) }
 {
-    let matches = match commands(alloc)?.try_get_matches_from(words) {
-        Ok(matches) => matches,
-        Err(error) => return Err(fault_of_kind(error.kind())),
-    };
-    let (name, given) = matches.subcommand().ok_or(WordsFault::Usage)?;
-    asked_for(name, given).ok_or(WordsFault::Usage)
+    match commands(alloc)?.try_get_matches_from(words) {
+        Ok(matches) => asked(&matches).ok_or(WordsFault::Usage),
+        Err(error) => Err(fault_of_kind(error.kind())),
+    }
 }
 
 /// Of the errors of `clap` only want of memory is none of the words.
