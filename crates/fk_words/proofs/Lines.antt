@@ -1,18 +1,17 @@
 -- Whole command lines: the fault that `clap` finds in them, and the values that it gives.
-use Rattle.std.proofs.Common.{◌≡◌, ◌≢◌, ℕ, ◌≤◌, Bool, true, false, not, List, [], ◌∷◌, ◌++◌, length, map, Option, Some, None, codes, refl, sym, ap, ap₂, ◌∙◌, subst, append_assoc, append-nil, arith}
-use Rattle.std.specs.Prelude.{◌&&◌, ◌||◌, if◌then◌else◌, find, fold, is_some, option_map, slice_get}
-use Rattle.std.specs.List.{list_any}
+use Rattle.std.proofs.Common.{◌≡◌, ℕ, Bool, true, false, List, [], ◌∷◌, ◌++◌, Option, Some, None, codes, refl, sym, ap, ap₂, ◌∙◌, subst, append_assoc, append-nil}
+use Rattle.std.specs.Prelude.{◌&&◌, find, fold, is_some, slice_get}
 use Rattle.std.specs.Str.{bytes_eq, chars}
 use Rattle.clap.specs.declared.error.kind.ErrorKind.TheVariants.{MissingSubcommand, UnknownArgument, InvalidSubcommand}
-use Rattle.clap.specs.Walk.{Held, finished, settled, Names, Row, Rule, Walk, answers_to, bundle_met, nothing_held, rows_after, walk, walk_from, walked, walked_from}
+use Rattle.clap.specs.Walk.{finished, settled, Names, Rule, Walk, answers_to, bundle_met, nothing_held, walk, walk_from, walked}
 use Rattle.clap.specs.Kinds.{Kinds, or_else}
-use Rattle.clap.specs.Faults.{built_fault, check_fault, entered_fault, settle_fault, defaults_fault, fault_of, flags_fault, level_fault, turn_fault, walk_fault}
-use Rattle.clap.specs.Simple.{App, Shape, built, entered, label_of, names_of, subcommand_of}
-use Rattle.fk_words.specs.Arguments.{Text, Part, Argument}
+use Rattle.clap.specs.Faults.{check_fault, entered_fault, settle_fault, defaults_fault, fault_of, flags_fault, turn_fault, walk_fault}
+use Rattle.clap.specs.Simple.{Shape, entered, label_of, names_of, subcommand_of}
+use Rattle.fk_words.specs.Arguments.{Text, Part}
 use Rattle.fk_words.specs.Written.{run_parts, build_parts, exec_parts, list_parts, written_app}
-use Rattle.fk_words.proofs.Rules.{app, built-written, command, rules}
+use Rattle.fk_words.proofs.Rules.{app, command}
 use Rattle.fk_words.proofs.Given.{at, first_empty}
-use Rattle.fk_words.proofs.Forms.{Form, IsLong, IsPlain, IsShort, dashes, form, long, plain, short}
+use Rattle.fk_words.proofs.Forms.{Form, dashes, form, long, plain, short}
 use Rattle.fk_words.proofs.Taken.{rest_fault, rows_at_end, same_text}
 
 -- a walk that met a command goes over the words behind it

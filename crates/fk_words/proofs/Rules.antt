@@ -1,14 +1,11 @@
 -- The arguments of the commands, as `clap` has them.
-use Rattle.std.proofs.Common.{◌≡◌, ℕ, pos, Bool, true, false, not, List, [], ◌∷◌, ◌++◌, map, Option, Some, None, codes, refl, sym, ◌⊎◌, inl, inr, ap, ◌∙◌}
-use Rattle.std.specs.Prelude.{◌&&◌, ◌||◌, IfSome, is_some, find}
+use Rattle.std.proofs.Common.{◌≡◌, ℕ, Bool, true, false, List, [], ◌∷◌, map, Option, Some, None, codes, refl}
+use Rattle.std.specs.Prelude.{◌||◌, IfSome, find}
 use Rattle.std.specs.List.{list_any}
-use Rattle.std.specs.Str.{bytes_eq}
-use Rattle.std.proofs.lemmas.Bool.{true≢false}
-use Rattle.std.proofs.lemmas.Slice.Eq.{bytes_eq-Decides}
 use Rattle.clap.specs.declared.builder.value_parser.ValueParser.TheVariants as parser
-use Rattle.clap.specs.Walk.{Rule, arg_by_id, arg_by_index, arg_by_long, arg_by_short, has_long, has_short}
+use Rattle.clap.specs.Walk.{Rule, arg_by_id, arg_by_index, arg_by_long, arg_by_short}
 use Rattle.clap.specs.Simple.{App, Shape, new_shape, built}
-use Rattle.fk_words.specs.Written.{id_of, is_required, long_of_part, short_of_part, written, run_parts, build_parts, exec_parts, list_parts, written_top, written_app}
+use Rattle.fk_words.specs.Written.{id_of, long_of_part, written, run_parts, build_parts, exec_parts, list_parts, written_top, written_app}
 use Rattle.fk_words.specs.Arguments.{Text, Part, File, Harts, Cycles, Show, Image, is_part}
 
 abbrev pub index_of : Part → Option ℕ

@@ -1,17 +1,15 @@
 -- Words that spell a command's arguments, each once, are taken by `clap`.
-use Rattle.std.proofs.Common.{◌≡◌, ◌≢◌, ℕ, ◌≤◌, Bool, true, false, not, List, [], ◌∷◌, ◌++◌, length, map, drop, Option, Some, None, codes, refl, sym, ap, ap₂, ◌∙◌, subst, append_assoc, append-nil, arith, inl, inr}
-use Rattle.std.specs.Prelude.{◌&&◌, ◌||◌, ◌==◌, if◌then◌else◌, encode_utf8, option_map, slice_get}
-use Rattle.std.specs.List.{list_any}
-use Rattle.std.specs.Str.{bytes_eq, chars}
-use Rattle.std.proofs.lemmas.Bool.{eqb-false, eqb-true, ne_eqb, or_cases}
+use Rattle.std.proofs.Common.{◌≡◌, ◌≢◌, ℕ, Bool, true, false, List, [], ◌∷◌, ◌++◌, length, map, drop, Option, Some, None, codes, refl, sym, ap, ◌∙◌, subst, append_assoc, append-nil, arith}
+use Rattle.std.specs.Prelude.{◌||◌, ◌==◌, encode_utf8}
+use Rattle.std.proofs.lemmas.Bool.{ne_eqb}
 use Rattle.std.proofs.lemmas.Str.{encode_ascii}
-use Rattle.clap.specs.Walk.{Row, Walk, arg_by_long, arg_by_short, attached_value}
+use Rattle.clap.specs.Walk.{Walk, arg_by_long, arg_by_short, attached_value}
 use Rattle.fk_words.specs.Arguments.{Text, Part, File, Harts, Cycles, Show, Image, Argument, argument, is_dashed, is_part, option_word, Spells, Nothing, Plain, Apart, Joined, Attached, Ended}
-use Rattle.fk_words.proofs.Rules.{IsCommand, command, is_in, rule, rules}
-use Rattle.fk_words.proofs.Given.{IsKnown, IsNew, IsOnce, at, awaiting, end_fine, given, is_part-same, joined, lacks, new-in, rows, rows-end, same_part}
-use Rattle.fk_words.proofs.Forms.{IsLong, IsPlain, IsShort, Form, dashes, form, long, o_first, plain, short}
+use Rattle.fk_words.proofs.Rules.{IsCommand, is_in, rule, rules}
+use Rattle.fk_words.proofs.Given.{IsKnown, IsNew, IsOnce, at, awaiting, end_fine, given, is_part-same, joined, lacks, new-in, rows, rows-end}
+use Rattle.fk_words.proofs.Forms.{IsLong, IsPlain, Form, dashes, form, long, o_first, plain, short}
 use Rattle.fk_words.proofs.Steps.{Turn, turn_apart, turn_behind, turn_dashes, turn_joined, turn_plain, turn_short, turn_short_apart, turn_value}
-use Rattle.fk_words.proofs.Taken.{AreIn, Goes, ends, goes, rest_fault, rows_at_end}
+use Rattle.fk_words.proofs.Taken.{AreIn, ends, goes, rest_fault, rows_at_end}
 
 -- ---- how an option is spelled
 
@@ -161,7 +159,7 @@ module _ (name : Text) (ps : List Part) (known : IsCommand ps) where
       let new = new-last us last (argument File word ∷ map (argument File) words) remain.once in
       let none : f ≡ false = file ∙ new-in (argument File word) (joined us last) (map (argument File) words) remain.once in
       let turn : Turn name ps (at us last f true) word (IsNew us last) (at (joined us last) (Some (argument File word)) true true)
-          = subst (λ b. Turn name ps (at us last b true) word (IsNew us last) (at (joined us last) (Some (argument File word)) true true)) (sym none) (turn_behind name ps known us last within word) in
+      = subst (λ b. Turn name ps (at us last b true) word (IsNew us last) (at (joined us last) (Some (argument File word)) true true)) (sym none) (turn_behind name ps known us last within word) in
       let g = goes name ps (at us last f true) (at (joined us last) (Some (argument File word)) true true) word words turn new in
       gets_cons name ps (joined us last) (argument File word) _ _ words (word ∷ words) (map (argument File) words) g.fault g.rows_same
       (gets_behind words (joined us last) (Some (argument File word)) true known.file (file_comes (joined us last) word) (remain_tail ps (joined us last) (argument File word) (map (argument File) words) remain))
@@ -222,7 +220,7 @@ module _ (name : Text) (ps : List Part) (known : IsCommand ps) where
         let new = new-last us last (argument File word ∷ arguments) remain.once in
         let none : f ≡ false = file ∙ new-in (argument File word) (joined us last) arguments remain.once in
         let turn : Turn name ps (at us last f false) word (IsNew us last) (at (joined us last) (Some (argument File word)) true false)
-            = subst (λ b. Turn name ps (at us last b false) word (IsNew us last) (at (joined us last) (Some (argument File word)) true false)) (sym none) (turn_plain name ps known us last within word (plain_word word undashed)) in
+        = subst (λ b. Turn name ps (at us last b false) word (IsNew us last) (at (joined us last) (Some (argument File word)) true false)) (sym none) (turn_plain name ps known us last within word (plain_word word undashed)) in
         let g = goes name ps (at us last f false) (at (joined us last) (Some (argument File word)) true false) word words turn new in
         gets_cons name ps (joined us last) (argument File word) _ _ words (word ∷ words) arguments g.fault g.rows_same behind
 
@@ -230,7 +228,7 @@ module _ (name : Text) (ps : List Part) (known : IsCommand ps) where
         → Remain ps (joined us last) arguments → Gets name ps (joined us last) (at us last f false) (word ∷ words) arguments
     gets_dashes word words arguments is are remain =
         let turn : Turn name ps (at us last f false) word (Unit {0}) (at us last f true)
-            = subst (λ w. Turn name ps (at us last f false) w (Unit {0}) (at us last f true)) (sym is) (turn_dashes name ps known us last f) in
+        = subst (λ w. Turn name ps (at us last f false) w (Unit {0}) (at us last f true)) (sym is) (turn_dashes name ps known us last f) in
         let g = goes name ps (at us last f false) (at us last f true) word words turn tt in
         let behind = gets_behind words us last f within file (subst (Remain ps (joined us last)) are remain) in
         record {

@@ -1,15 +1,14 @@
 -- What each word does to the walk over a command's words: its fault, and where the walk then stands.
-use Rattle.std.proofs.Common.{◌≡◌, ℕ, Bool, true, false, not, List, [], ◌∷◌, ◌++◌, length, drop, Option, Some, None, codes, refl, sym, ap, ◌∙◌}
-use Rattle.std.specs.Prelude.{◌&&◌, ◌||◌, if◌then◌else◌, encode_utf8, option_map, slice_get}
-use Rattle.std.specs.Str.{bytes_eq, chars}
+use Rattle.std.proofs.Common.{◌≡◌, ℕ, Bool, true, false, List, [], ◌∷◌, ◌++◌, length, drop, Option, Some, None, refl, sym, ap, ◌∙◌}
+use Rattle.std.specs.Prelude.{◌&&◌, if◌then◌else◌, encode_utf8, option_map, slice_get}
+use Rattle.std.specs.Str.{chars}
 use Rattle.clap.specs.declared.error.kind.ErrorKind.TheVariants.{InvalidValue, UnknownArgument}
-use Rattle.clap.specs.Walk.{Held, Rule, Walk, arg_by_long, arg_by_short, attached_value, bundle_met, settled_rows, walked}
+use Rattle.clap.specs.Walk.{Held, Walk, arg_by_long, arg_by_short, attached_value, bundle_met, settled_rows, walked}
 use Rattle.clap.specs.Kinds.{Kinds, or_else}
 use Rattle.clap.specs.Faults.{flags_fault, settle_fault, short_fault, turn_fault, use_fault}
-use Rattle.fk_words.specs.Arguments.{Text, Part, File, Image, Argument, argument, is_part}
-use Rattle.fk_words.specs.Written.{id_of}
+use Rattle.fk_words.specs.Arguments.{Text, Part, File, Argument, argument}
 use Rattle.fk_words.proofs.Rules.{IsCommand, command, is_in, rule, rules}
-use Rattle.fk_words.proofs.Given.{IsKnown, IsNew, at, awaiting, conflict, first_empty, given, held, is_part-same, joined, no_conflict, pending_of, position_of, rows, same_id, second_empty, settle_fine, settle_new, settled-is, use-is, used-new}
+use Rattle.fk_words.proofs.Given.{IsKnown, IsNew, at, awaiting, conflict, first_empty, given, held, is_part-same, joined, no_conflict, pending_of, rows, same_id, second_empty, settle_fine, settle_new, settled-is, use-is, used-new}
 use Rattle.fk_words.proofs.Forms.{IsLong, IsShort, IsPlain}
 
 or-nil : (x : Kinds) → or_else x [] ≡ x

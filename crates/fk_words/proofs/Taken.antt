@@ -1,19 +1,18 @@
 -- A command's words are taken by `clap` exactly where they spell its arguments, each once.
-use Rattle.std.proofs.Common.{◌≡◌, ◌≢◌, ℕ, ◌≤◌, Bool, true, false, not, List, [], ◌∷◌, ◌++◌, length, map, drop, Option, Some, None, codes, refl, sym, ap, ap₂, ◌∙◌, subst, append_assoc, append-nil, arith}
-use Rattle.std.specs.Prelude.{◌&&◌, ◌||◌, ◌==◌, is_some, if◌then◌else◌, encode_utf8, find, fold, option_map, slice_get}
-use Rattle.std.specs.List.{list_any}
+use Rattle.std.proofs.Common.{◌≡◌, ℕ, Bool, true, false, not, List, [], ◌∷◌, ◌++◌, length, map, drop, Option, Some, None, codes, refl, sym, ap, ap₂, ◌∙◌, subst, append_assoc, append-nil, arith}
+use Rattle.std.specs.Prelude.{◌&&◌, ◌||◌, ◌==◌, is_some, encode_utf8, fold, option_map, slice_get}
 use Rattle.std.specs.Str.{IsUtf8, bytes_eq, chars}
 use Rattle.std.proofs.lemmas.Bool.{eq-eqb, eqb-true}
 use Rattle.std.proofs.lemmas.Slice.Eq.{bytes_eq-Decides}
 use Rattle.std.proofs.lemmas.Str.{encode_ascii}
-use Rattle.clap.specs.Walk.{Held, Row, Rule, Walk, arg_by_long, arg_by_short, attached_value, finished, has_long, has_short, walked}
+use Rattle.clap.specs.Walk.{Row, Rule, Walk, arg_by_long, arg_by_short, attached_value, finished, has_long, has_short, walked}
 use Rattle.clap.specs.Kinds.{Kinds, or_else}
 use Rattle.clap.specs.Faults.{turn_fault, walk_fault}
-use Rattle.fk_words.specs.Arguments.{Text, Part, File, Harts, Cycles, Show, Image, Argument, argument, is_dashed, is_part, option_word, values_of, Spells, Nothing, Plain, Apart, Joined, Attached, Ended}
-use Rattle.fk_words.specs.Written.{id_of, long_of_part, short_of_part}
-use Rattle.fk_words.proofs.Rules.{Finds, IsCommand, command, finds, index_of, is_in, rule, rules}
-use Rattle.fk_words.proofs.Given.{IsKnown, IsNew, IsOnce, at, awaiting, end_fault, end_fine, end_then, first_empty, given, held, joined, lacks, new-in, once-more, rows, rows-end, same_part, second_empty}
-use Rattle.fk_words.proofs.Forms.{FirstChar, Form, IsLong, IsPlain, IsShort, dashes, first_char, form, long, o_first, plain, short}
+use Rattle.fk_words.specs.Arguments.{Text, Part, File, Harts, Cycles, Show, Image, Argument, argument, is_dashed, is_part, option_word, Spells, Nothing, Plain, Apart, Joined, Attached, Ended}
+use Rattle.fk_words.specs.Written.{long_of_part}
+use Rattle.fk_words.proofs.Rules.{IsCommand, command, finds, index_of, is_in, rule, rules}
+use Rattle.fk_words.proofs.Given.{IsKnown, IsNew, IsOnce, at, awaiting, end_fault, end_then, first_empty, given, joined, lacks, once-more, rows, rows-end, same_part}
+use Rattle.fk_words.proofs.Forms.{FirstChar, Form, IsLong, IsPlain, IsShort, dashes, first_char, form, long, plain, short}
 use Rattle.fk_words.proofs.Steps.{Turn, settle_awaiting, turn_apart, turn_awaiting_behind, turn_behind, turn_dashes, turn_end_of_options, turn_joined, turn_no_short, turn_no_value, turn_plain, turn_second, turn_second_behind, turn_short, turn_short_apart, turn_short_unknown, turn_unknown, turn_value}
 
 -- ---- options by their names
@@ -63,6 +62,7 @@ short_option ps x = by (arg_by_short (rules ps) x) refl
     image_of : (p : Part) (a : Rule) → p ≡ Image → a ≡ rule p → is_in p ps ≡ true → arg_by_short (rules ps) x ≡ Some a → x ≡ 111 → ShortOption ps x
     image_of p a e is within found o =
         is_image (found ∙ ap (λ a. Some a) (is ∙ ap rule e)) (ap (λ q. is_in q ps) (sym e) ∙ within) o
+
     by : (o : Option Rule) → arg_by_short (rules ps) x ≡ o → ShortOption ps x
     by None e = no_short e
     by (Some a) e =
@@ -161,7 +161,6 @@ once-joined us (Some a) once new = once-more a.part a.value us once new
 
 known-file : (ps : List Part) → IsCommand ps → (word : Text) → IsKnown ps (Some (argument File word))
 known-file ps known word = known.file
-
 
 moved : (ps : List Part) (us : List Argument) (t : Bool) (words : List Text) (end other : List Row) → other ≡ end → Adds ps us t words end → Adds ps us t words other
 moved ps us t words end other same adds = record {
@@ -303,7 +302,7 @@ module _ (name : Text) (ps : List Part) (known : IsCommand ps) where
           absurd (turn_second name ps known us last within word is (subst (λ b. turn_fault (command name ps) [] (at us last b false) word ≡ []) e (turn_of name ps _ word words fine)))
       sound_plain false e is =
           let turn : Turn name ps (at us last f false) word (IsNew us last) (at (joined us last) (Some (argument File word)) true false)
-              = subst (λ b. Turn name ps (at us last b false) word (IsNew us last) (at (joined us last) (Some (argument File word)) true false)) (sym e) (turn_plain name ps known us last within word is) in
+          = subst (λ b. Turn name ps (at us last b false) word (IsNew us last) (at (joined us last) (Some (argument File word)) true false)) (sym e) (turn_plain name ps known us last within word is) in
           let g = goes_fine name ps (at us last f false) (at (joined us last) (Some (argument File word)) true false) word words turn fine in
           let adds = rest.before (joined us last) (Some (argument File word)) true known.file (once-joined us last once g.allowed) (sym g.fault ∙ fine) in
           extend ps (joined us last) (argument File word) false false words (word ∷ words) _ (moved ps _ false words _ _ g.rows_same adds) known.file
@@ -316,7 +315,7 @@ module _ (name : Text) (ps : List Part) (known : IsCommand ps) where
       sound_dashes : word ≡ 45 ∷ 45 ∷ [] → Adds ps (joined us last) false (word ∷ words) (rows_at_end ps (at us last f false) (word ∷ words))
       sound_dashes is =
           let turn : Turn name ps (at us last f false) word (Unit {0}) (at us last f true)
-              = subst (λ w. Turn name ps (at us last f false) w (Unit {0}) (at us last f true)) (sym is) (turn_dashes name ps known us last f) in
+          = subst (λ w. Turn name ps (at us last f false) w (Unit {0}) (at us last f true)) (sym is) (turn_dashes name ps known us last f) in
           let g = goes_fine name ps (at us last f false) (at us last f true) word words turn fine in
           let adds = rest.behind us last f within once (sym g.fault ∙ fine) in
           record {
@@ -369,7 +368,7 @@ module _ (name : Text) (ps : List Part) (known : IsCommand ps) where
       awaited_dashes : word ≡ 45 ∷ 45 ∷ [] → ⊥
       awaited_dashes is =
           let turn : Turn name ps (awaiting us p f false) word (Unit {0}) (awaiting us p f true)
-              = subst (λ w. Turn name ps (awaiting us p f false) w (Unit {0}) (awaiting us p f true)) (sym is) (turn_end_of_options name ps known us p known_p f) in
+          = subst (λ w. Turn name ps (awaiting us p f false) w (Unit {0}) (awaiting us p f true)) (sym is) (turn_end_of_options name ps known us p known_p f) in
           let g = goes_fine name ps (awaiting us p f false) (awaiting us p f true) word words turn fine in
           awaiting_behind words (sym g.fault ∙ fine)
 
@@ -387,6 +386,7 @@ module _ (name : Text) (ps : List Part) (known : IsCommand ps) where
         before us last f within once fine (short first letters is) =
             let c = first_char first letters (subst IsUtf8 is.text utf8) in sound_short us last f within once fine first letters is c (short_option ps c.character)
         before us last f within once fine (plain is) = sound_plain us last f within once fine f refl is
+
         awaited : (us : List Argument) (p : Part) (f : Bool) → is_in p ps ≡ true → IsOnce us → rest_fault name ps (awaiting us p f false) (word ∷ words) ≡ []
             → Form word → AddsValue ps us p (word ∷ words) (rows_at_end ps (awaiting us p f false) (word ∷ words))
         awaited us p f known_p once fine (dashes is) = absurd (awaited_dashes us p f known_p once fine is)

@@ -1,6 +1,6 @@
 -- A command line is taken by `clap`, with the values that a command asks for, exactly where its words are that command.
-use Rattle.std.proofs.Common.{◌≡◌, ℕ, ◌+◌, ◌≤◌, Bool, true, false, not, List, [], ◌∷◌, ◌++◌, length, map, Option, Some, None, codes, refl, sym, ap, ◌∙◌, subst, arith, inl, inr, String, Global, string_bytes}
-use Rattle.std.specs.Prelude.{◌&&◌, ◌||◌, option_and_then, slice_get}
+use Rattle.std.proofs.Common.{◌≡◌, ℕ, ◌≤◌, Bool, true, false, List, [], ◌∷◌, length, map, Option, Some, None, codes, refl, sym, ap, ◌∙◌, subst, arith, inl, inr, String, Global, string_bytes}
+use Rattle.std.specs.Prelude.{option_and_then, slice_get}
 use Rattle.std.specs.Str.{bytes_eq}
 use Rattle.std.proofs.lemmas.Slice.Eq.{bytes_eq-Decides}
 use Rattle.fk_num.specs.Numeral.{read_word}
@@ -18,8 +18,8 @@ use Rattle.fk_words.specs.Command.{Command, Run, Build, Exec, ListCode, Reads, R
 use Rattle.fk_words.specs.Written.{id_of, run_parts, build_parts, exec_parts, list_parts, written_app}
 use Rattle.fk_words.proofs.Rules.{IsCommand, build_command, exec_command, is_in, list_command, run_command}
 use Rattle.fk_words.proofs.Given.{IsOnce, at, first-rows, given, lacks, no_values, rows, some_values}
-use Rattle.fk_words.proofs.Taken.{Adds, AreIn, AreTexts, rest_fault, rows_at_end, sound}
-use Rattle.fk_words.proofs.Spelled.{Gets, Remain, gets}
+use Rattle.fk_words.proofs.Taken.{Adds, AreIn, AreTexts, rows_at_end, sound}
+use Rattle.fk_words.proofs.Spelled.{gets}
 use Rattle.fk_words.proofs.Lines.{Behind, Named, is_run, is_build, is_exec, is_list, other, named, behind_run, behind_build, behind_exec, behind_list, no_words, other_word}
 
 differ : (a b : Text) → bytes_eq a b ≡ false → a ≡ b → ⊥

@@ -27,10 +27,7 @@ fn asked_for<'a>(name: &str, given: &ArgMatches<'a>) -> Option<CommandWords<'a>>
 {
     let file = text_of(given, "file")?;
     match name {
-        "run" => Some(CommandWords::Run(
-            asked_run(file, given)?,
-            text_of(given, "show"),
-        )),
+        "run" => Some(CommandWords::Run(asked_run(file, given)?, text_of(given, "show"))),
         "build" => Some(CommandWords::Build(file, text_of(given, "image")?)),
         "exec" => Some(CommandWords::Exec(asked_run(file, given)?)),
         "list" => Some(CommandWords::List(file)),

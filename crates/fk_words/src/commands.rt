@@ -15,7 +15,9 @@ fn file<'a>(alloc: Global) -> Arg<'a>
     ensures rule { rule_of result ≡ written File }
     ensures local { result.global ≡ false }
 {
-    Arg::new(alloc, "file").action(ArgAction::Set).required(true)
+    Arg::new(alloc, "file")
+        .action(ArgAction::Set)
+        .required(true)
 }
 
 fn harts<'a>(alloc: Global) -> Arg<'a>
