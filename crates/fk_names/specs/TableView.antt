@@ -1,0 +1,9 @@
+-- What a table of names shows.
+use Rattle.std.specs.Prelude.{ℕ, List, Option, nat_eq}
+use Rattle.std.specs.Cmp.Lexicographic.{pointwise}
+use Rattle.indexmap.specs.IndexMap.{get_by}
+use Rattle.fk_names.specs.declared.table.Table.{Table}
+
+-- the mark of a name
+abbrev pub shown : Table → List ℕ → Option ℕ
+shown table name = get_by (λ key. pointwise nat_eq name key.now) table.marks

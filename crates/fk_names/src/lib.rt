@@ -1,0 +1,11 @@
+//! The names of a program: what declares them, where each is visible, and what one means.
+#![tactic(auto)]
+
+mod names;
+mod outline;
+mod scopes;
+mod survey;
+mod table;
+
+pub use names::{Meaning, Names, resolve};
+pub use outline::Declaration;

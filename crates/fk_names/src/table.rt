@@ -1,0 +1,64 @@
+//! A mark for each name.
+
+ghost use Rattle.std.specs.Prelude.{◌≡◌, ◌≢◌, ℕ, List, Option, Some, None, OnOk, IsNone, IsSome};
+
+use indexmap::IndexMap;
+use std::alloc::{AllocError, Global};
+
+/// The index of a mark for each of some names.
+#[derive(Drop)]
+pub(crate) struct Table<'a> {
+    marks: IndexMap<&'a [u8], usize>,
+}
+
+impl<'a> Table<'a> {
+    ghost use Rattle.fk_names.specs.TableView.{shown};
+
+    /// No name has a mark.
+    pub(crate) fn new(alloc: Global) -> Self
+        ensures { (name : List ℕ) → shown result name ≡ None }
+    {
+        Table {
+            marks: IndexMap::new(alloc),
+        }
+    }
+
+    /// The mark of a name.
+    pub(crate) fn get(&self, name: &[u8]) -> Option<usize>
+        ensures { result ≡ shown self.now name.now }
+    {
+        self.marks.get(name).copied()
+    }
+
+    /// Gives a name another mark, or none. Fails only for want of memory.
+    pub(crate) fn set(&mut self, name: &'a [u8], mark: Option<usize>) -> Result<(), AllocError>
+        ensures same { OnOk result (shown self.new name.now ≡ mark) }
+        ensures others { OnOk result
+            ((other : List ℕ) → other ≢ name.now → shown self.new other ≡ shown self.old other) }
+    {
+        match mark {
+            Some(mark) => {
+                self.marks.insert(name, mark)?;
+            }
+            None => {
+                self.marks.swap_remove(name);
+            }
+        }
+        Ok(())
+    }
+
+    /// Gives a name a mark where it has none. Fails only for want of memory.
+    pub(crate) fn set_first(&mut self, name: &'a [u8], mark: usize) -> Result<(), AllocError>
+        ensures had { OnOk result (IsSome (shown self.old name.now)
+            → shown self.new name.now ≡ shown self.old name.now) }
+        ensures new { OnOk result (IsNone (shown self.old name.now)
+            → shown self.new name.now ≡ Some mark) }
+        ensures others { OnOk result
+            ((other : List ℕ) → other ≢ name.now → shown self.new other ≡ shown self.old other) }
+    {
+        match self.get(name) {
+            Some(_) => Ok(()),
+            None => self.set(name, Some(mark)),
+        }
+    }
+}
