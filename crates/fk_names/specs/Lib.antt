@@ -5,3 +5,5 @@ pub mod Means
 pub mod Names
 pub mod TableView
 pub mod OutlineView
+pub mod Locals
+pub mod Reading

@@ -3,7 +3,7 @@
 
 mod names;
 mod outline;
-mod scopes;
+mod reader;
 mod survey;
 mod table;
 

@@ -7,8 +7,8 @@ ghost use Rattle.fk_names.specs.Names.{AreNames};
 ghost use Rattle.fk_names.specs.Means.{predeclared};
 
 use crate::outline::{Declaration, Mark, Outline};
-use crate::scopes::Scopes;
-use crate::survey::{declarations, definitions, depths, file_scope, numbers};
+use crate::reader::Reader;
+use crate::survey::{declarations, definitions, numbers};
 use crate::table::Table;
 use fk_syntax::Program;
 use std::alloc::{AllocError, Global};
@@ -72,28 +72,30 @@ fn is_predeclared(name: &[u8]) -> bool
     PREDECLARED.contains(&name)
 }
 
-// What is known of the marks of a text by themselves.
+// What is known of the declarations of an outline by themselves.
 #[derive(Drop)]
 struct Survey<'a> {
-    depths: Vec<usize>,
+    // How many declarations stand before each mark.
     numbers: Vec<u32>,
+    // The mark of the first header with a body of each function.
     definitions: Table<'a>,
 }
 
-// What a name means whose innermost declaration has this mark.
-fn meaning_of(marks: &[Mark], survey: &Survey, innermost: Option<usize>, name: &[u8]) -> Meaning {
-    match innermost {
-        Some(at) => {
-            let meant = match &marks[at] {
-                Mark::Declares(Declaration::Function(_)) => {
-                    survey.definitions.get(name).unwrap_or(at)
-                }
-                _ => at,
+impl Survey<'_> {
+    // What a name means whose innermost declaration has this mark.
+    fn meaning(&self, marks: &[Mark], innermost: Option<usize>, name: &[u8]) -> Meaning {
+        let Some(at) = innermost else {
+            return if is_predeclared(name) {
+                Meaning::Predeclared
+            } else {
+                Meaning::Undeclared
             };
-            Meaning::Declared(survey.numbers[meant])
-        }
-        None if is_predeclared(name) => Meaning::Predeclared,
-        None => Meaning::Undeclared,
+        };
+        let meant = match &marks[at] {
+            Mark::Declares(Declaration::Function(_)) => self.definitions.get(name).unwrap_or(at),
+            _ => at,
+        };
+        Meaning::Declared(self.numbers[meant])
     }
 }
 
@@ -103,28 +105,18 @@ fn meanings(
     marks: &[Mark],
     tokens: u32,
 ) -> Result<Vec<Option<Meaning>>, AllocError> {
-    let depths = depths(alloc, marks)?;
-    let mut scopes = Scopes::new(alloc, file_scope(alloc, marks, &depths)?);
     let survey = Survey {
-        depths,
         numbers: numbers(alloc, marks)?,
         definitions: definitions(alloc, marks)?,
     };
+    let mut reader = Reader::new(alloc, marks)?;
     let mut meanings = vec![in alloc; None; tokens as usize]?;
     for (at, mark) in marks.iter().enumerate() {
-        scopes.leave(&survey.depths, survey.depths[at])?;
-        match mark {
-            Mark::Uses(name) => {
-                let innermost = scopes.get(name.bytes);
-                meanings[name.at as usize] = Some(meaning_of(
-                    marks, &survey, innermost, name.bytes,
-                ));
-            }
-            Mark::Declares(declaration) => {
-                scopes.declare(&survey.depths, declaration.name(), at)?;
-            }
-            Mark::Opens | Mark::Closes => {}
+        if let Mark::Uses(name) = mark {
+            let innermost = reader.innermost(name.bytes);
+            meanings[name.at as usize] = Some(survey.meaning(marks, innermost, name.bytes));
         }
+        reader.pass(at)?;
     }
     Ok(meanings)
 }
