@@ -1,2 +1,4 @@
 pub mod LocalLemmas
 pub mod ReadingLemmas
+pub mod TableLemmas
+pub mod SurveyLemmas

@@ -1,10 +1,11 @@
 -- What a reader knows from mark to mark.
 use Rattle.std.proofs.Common.{◌≡◌, ◌≢◌, ◌⊎◌, inl, inr, ℕ, zero, suc, ◌+◌, ◌<◌, ◌≤◌, List, [], ◌∷◌, ◌++◌, Option, Some, None, refl, sym, subst, ap, ◌∙◌, arith}
-use Rattle.std.specs.Prelude.{MatchOption, slice_get}
+use Rattle.std.specs.Prelude.{MatchOption, IsSomeAnd, slice_get}
 use Rattle.fk_names.specs.declared.reader.Local.{Local}
 use Rattle.fk_names.specs.declared.reader.Reader.{Reader}
-use Rattle.fk_names.specs.Outline.{MarkTree, DeclarationTree, Declares, name_of}
-use Rattle.fk_names.specs.Visible.{depth, DeclaresAt, IsVisible, IsInnermost, IsHidden}
+use Rattle.fk_names.specs.Outline.{MarkTree, Variable, Header, Opens, Closes, Declares, Uses}
+use Rattle.fk_names.specs.Visible.{depth, DeclaresHere, DeclaresAt, IsVisible, IsInnermost, IsHidden}
+use Rattle.fk_names.specs.Means.{HasBodyAt, DefinesHere}
 use Rattle.fk_names.specs.TableView.{shown}
 use Rattle.fk_names.specs.Locals.{Holds}
 use Rattle.fk_names.specs.Reading.{marks_of, Knows, IsAt, IsPast}
@@ -69,10 +70,26 @@ module _ (marks : List MarkTree) where
 
   -- one name stands at an index
   pub named_once : (at : ℕ) (name other : List ℕ) → DeclaresAt marks name at → DeclaresAt marks other at → other ≡ name
-  named_once at name other h k = sym k.2 ∙ (ap (λ d. (name_of d).bytes) (same k.0 h.0 (sym k.1 ∙ h.1)) ∙ h.2)
+  named_once at name other h k = by (slice_get marks at) h k
     where
-      same : (d e : DeclarationTree) → Some (Declares d) ≡ Some (Declares e) → d ≡ e
-      same d e p = cc
+      by : (o : Option MarkTree) → IsSomeAnd o (DeclaresHere name) → IsSomeAnd o (DeclaresHere other) → other ≡ name
+      by None h k = absurd h
+      by (Some Opens) h k = absurd h
+      by (Some Closes) h k = absurd h
+      by (Some (Declares d)) h k = sym k ∙ h
+      by (Some (Uses n)) h k = absurd h
+
+  -- and one function is defined at it
+  pub defined_once : (at : ℕ) (name other : List ℕ) → HasBodyAt marks name at → HasBodyAt marks other at → other ≡ name
+  defined_once at name other h k = by (slice_get marks at) h k
+    where
+      by : (o : Option MarkTree) → IsSomeAnd o (DefinesHere name) → IsSomeAnd o (DefinesHere other) → other ≡ name
+      by None h k = absurd h
+      by (Some Opens) h k = absurd h
+      by (Some Closes) h k = absurd h
+      by (Some (Declares (Variable v))) h k = absurd h
+      by (Some (Declares (Header f))) h k = sym k.0 ∙ h.0
+      by (Some (Uses n)) h k = absurd h
 
 -- ---- what a reader shows
 

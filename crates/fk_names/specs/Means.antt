@@ -1,10 +1,10 @@
 -- What a name means.
-use Rattle.std.specs.Prelude.{◌≡◌, ◌⊎◌, ℕ, ◌<◌, List, [], ◌∷◌, length, take, Some, slice_get, Contains, codes, IsSome, IsNone}
+use Rattle.std.specs.Prelude.{◌≡◌, ◌⊎◌, ℕ, ◌<◌, List, [], ◌∷◌, length, take, Some, slice_get, Contains, codes, IsSome, IsSomeAnd}
 use Rattle.fk_syntax.specs.Tree.{Named}
 use Rattle.fk_syntax.specs.Program.{FunctionTree, ProgramTree}
 use Rattle.fk_names.specs.declared.names.Meaning.{Meaning}
 use Rattle.fk_names.specs.declared.names.Meaning.TheVariants as m
-use Rattle.fk_names.specs.Outline.{DeclarationTree, MarkTree, Variable, Header, Declares, Uses, outline, declared_in}
+use Rattle.fk_names.specs.Outline.{DeclarationTree, MarkTree, Variable, Header, Opens, Closes, Declares, Uses, outline, declared_in}
 use Rattle.fk_names.specs.Visible.{IsInnermost, IsHidden}
 
 -- names that are declared before each text
@@ -18,9 +18,17 @@ predeclared = codes "mpadd" ∷ codes "mpmax" ∷ codes "mpand" ∷ codes "mpor"
 abbrev pub binding : List MarkTree → ℕ → ℕ
 binding marks at = length (declared_in (take at marks))
 
--- a header of the function of this name, with its body, stands at an index
+-- a mark is the header of this function that has the body
+abbrev pub DefinesHere : List ℕ → MarkTree → Type 0
+DefinesHere bytes Opens = ⊥
+DefinesHere bytes Closes = ⊥
+DefinesHere bytes (Declares (Variable variable)) = ⊥
+DefinesHere bytes (Declares (Header function)) = (function.name.bytes ≡ bytes) × IsSome function.body
+DefinesHere bytes (Uses name) = ⊥
+
+-- and the mark stands at an index
 abbrev pub HasBodyAt : List MarkTree → List ℕ → ℕ → Type 0
-HasBodyAt marks bytes at = (f : FunctionTree) × (slice_get marks at ≡ Some (Declares (Header f))) × (f.name.bytes ≡ bytes) × IsSome f.body
+HasBodyAt marks bytes at = IsSomeAnd (slice_get marks at) (DefinesHere bytes)
 
 -- and it is the first one with a body
 pub record IsDefinition (marks : List MarkTree) (bytes : List ℕ) (at : ℕ) : Type 0 where

@@ -115,13 +115,16 @@ items_marks (x ∷ xs) = item_marks x ++ items_marks xs
 abbrev pub outline : ProgramTree → List MarkTree
 outline program = items_marks program.items
 
--- what marks declare, in their order
+-- what a mark declares, and what marks declare in their order
+abbrev pub declared_by : MarkTree → List DeclarationTree
+declared_by Opens = []
+declared_by Closes = []
+declared_by (Declares declaration) = declaration ∷ []
+declared_by (Uses name) = []
+
 abbrev pub declared_in : List MarkTree → List DeclarationTree
 declared_in [] = []
-declared_in (Opens ∷ marks) = declared_in marks
-declared_in (Closes ∷ marks) = declared_in marks
-declared_in (Declares declaration ∷ marks) = declaration ∷ declared_in marks
-declared_in (Uses name ∷ marks) = declared_in marks
+declared_in (mark ∷ marks) = declared_by mark ++ declared_in marks
 
 -- the variables, parameters and functions of a text in the order of their names
 abbrev pub declarations : ProgramTree → List DeclarationTree

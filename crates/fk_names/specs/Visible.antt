@@ -1,5 +1,5 @@
 -- Which declarations are visible where.
-use Rattle.std.specs.Prelude.{◌≡◌, ◌⊎◌, ℕ, ◌-◌, ◌<◌, ◌≤◌, Bool, true, false, List, count_by, take, Some, slice_get}
+use Rattle.std.specs.Prelude.{◌≡◌, ◌⊎◌, ℕ, ◌-◌, ◌<◌, ◌≤◌, Bool, true, false, List, count_by, take, IsSomeAnd, slice_get}
 use Rattle.fk_names.specs.Outline.{DeclarationTree, MarkTree, Opens, Closes, Declares, Uses, name_of}
 
 abbrev pub is_opening : MarkTree → Bool
@@ -18,9 +18,16 @@ is_closing (Uses name) = false
 abbrev pub depth : List MarkTree → ℕ → ℕ
 depth marks at = count_by is_opening (take at marks) - count_by is_closing (take at marks)
 
--- a declaration of the name stands at an index
+-- a mark declares this name
+abbrev pub DeclaresHere : List ℕ → MarkTree → Type 0
+DeclaresHere bytes Opens = ⊥
+DeclaresHere bytes Closes = ⊥
+DeclaresHere bytes (Declares d) = (name_of d).bytes ≡ bytes
+DeclaresHere bytes (Uses name) = ⊥
+
+-- and the mark stands at an index
 abbrev pub DeclaresAt : List MarkTree → List ℕ → ℕ → Type 0
-DeclaresAt marks bytes at = (d : DeclarationTree) × (slice_get marks at ≡ Some (Declares d)) × ((name_of d).bytes ≡ bytes)
+DeclaresAt marks bytes at = IsSomeAnd (slice_get marks at) (DeclaresHere bytes)
 
 -- what is declared at one index is visible at another: it stands before, unless it is of file
 -- scope, and its scope does not end between the two

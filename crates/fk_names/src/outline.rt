@@ -10,6 +10,7 @@ ghost use Rattle.fk_names.specs.Outline as o;
 ghost use Rattle.fk_names.specs.Outline.{tree_marks, links_marks, trees_marks, suffixes_marks, optional_marks, variable_marks, variables_marks, scope, statement_marks, statements_marks, function_marks, item_marks, items_marks, name_of};
 ghost use Rattle.fk_names.specs.View.{mark_of, declaration_of};
 ghost use Rattle.fk_names.specs.OutlineView.{marks_in};
+ghost use Rattle.fk_names.specs.Visible.{is_opening, is_closing};
 
 use fk_syntax::{Declared, Expr, Function, Item, Link, Name, Stmt, Suffix};
 use std::alloc::{AllocError, Global};
@@ -46,6 +47,28 @@ pub(crate) enum Mark<'p, 'a> {
     Declares(Declaration<'p, 'a>),
     /// A name in an expression.
     Uses(Name<'a>),
+}
+
+impl Mark<'_, '_> {
+    /// Whether a scope begins.
+    pub(crate) fn is_opening(&self) -> bool
+        ensures { result ≡ is_opening (mark_of self.now) }
+    {
+        match self {
+            Mark::Opens => true,
+            Mark::Closes | Mark::Declares(_) | Mark::Uses(_) => false,
+        }
+    }
+
+    /// Whether a scope ends.
+    pub(crate) fn is_closing(&self) -> bool
+        ensures { result ≡ is_closing (mark_of self.now) }
+    {
+        match self {
+            Mark::Closes => true,
+            Mark::Opens | Mark::Declares(_) | Mark::Uses(_) => false,
+        }
+    }
 }
 
 /// The marks of a text, in the order in which it is read.

@@ -1,6 +1,6 @@
 //! A mark for each name.
 
-ghost use Rattle.std.specs.Prelude.{◌≡◌, ◌≢◌, ℕ, List, Option, Some, None, OnOk, IsNone, IsSome};
+ghost use Rattle.std.specs.Prelude.{◌≡◌, ◌≢◌, ℕ, List, Option, Some, None, OnOk, IsNone, IfSome};
 
 use indexmap::IndexMap;
 use std::alloc::{AllocError, Global};
@@ -12,7 +12,7 @@ pub(crate) struct Table<'a> {
 }
 
 impl<'a> Table<'a> {
-    ghost use Rattle.fk_names.specs.TableView.{shown};
+    ghost use Rattle.fk_names.specs.TableView.{shown, first_set};
 
     /// No name has a mark.
     pub(crate) fn new(alloc: Global) -> Self
@@ -47,15 +47,20 @@ impl<'a> Table<'a> {
         Ok(())
     }
 
-    /// Gives a name a mark where it has none. Fails only for want of memory.
-    pub(crate) fn set_first(&mut self, name: &'a [u8], mark: usize) -> Result<(), AllocError>
-        ensures had { OnOk result (IsSome (shown self.old name.now)
-            → shown self.new name.now ≡ shown self.old name.now) }
-        ensures new { OnOk result (IsNone (shown self.old name.now)
-            → shown self.new name.now ≡ Some mark) }
-        ensures others { OnOk result
-            ((other : List ℕ) → other ≢ name.now → shown self.new other ≡ shown self.old other) }
+    /// Gives a name, if there is one, a mark where it has none. Fails only for want of memory.
+    pub(crate) fn set_first(
+        &mut self,
+        name: Option<&'a [u8]>,
+        mark: usize,
+    ) -> Result<(), AllocError>
+        ensures some { OnOk result (IfSome name.entry (λ n. (q : List ℕ)
+            → shown self.new q ≡ first_set n.now mark q (shown self.old q))) }
+        ensures none { OnOk result (IsNone name.entry
+            → (q : List ℕ) → shown self.new q ≡ shown self.old q) }
     {
+        let Some(name) = name else {
+            return Ok(());
+        };
         match self.get(name) {
             Some(_) => Ok(()),
             None => self.set(name, Some(mark)),
