@@ -7,3 +7,4 @@ pub mod TableView
 pub mod OutlineView
 pub mod Locals
 pub mod Reading
+pub mod Filling

@@ -55,9 +55,12 @@ abbrev pub UsesAt : List MarkTree → Named → ℕ → Type 0
 UsesAt marks name from = slice_get marks from ≡ Some (Uses name)
 
 -- what the token of an index means, where it is a name in an expression
-pub record Means (program : ProgramTree) (token : ℕ) (meaning : Meaning) : Type 0 where
+pub record MeansIn (marks : List MarkTree) (token : ℕ) (meaning : Meaning) : Type 0 where
   pub name : Named
   pub from : ℕ
-  pub used : UsesAt (outline program) name from
+  pub used : UsesAt marks name from
   pub here : name.at ≡ token
-  pub meant : MeansAt (outline program) name.bytes from meaning
+  pub meant : MeansAt marks name.bytes from meaning
+
+abbrev pub Means : ProgramTree → ℕ → Meaning → Type 0
+Means program token meaning = MeansIn (outline program) token meaning

@@ -1,10 +1,15 @@
 //! What names mean.
 
-ghost use Rattle.std.specs.Prelude.{◌≡◌, ℕ, ◌^◌, ◌≤◌, IfOk, map, IsTrue, ◌↔◌, Contains};
+ghost use Rattle.std.specs.Prelude.{◌≡◌, ℕ, ◌^◌, ◌≤◌, ◌+◌, ◌<◌, Some, IfOk, MatchOption, map, length, IsTrue, ◌↔◌, Contains, slice_get};
 ghost use Rattle.fk_syntax.specs.ProgramView.{program_of};
 ghost use Rattle.fk_syntax.specs.WellFormed.{IsWellFormed};
 ghost use Rattle.fk_names.specs.Names.{AreNames};
-ghost use Rattle.fk_names.specs.Means.{predeclared};
+ghost use Rattle.fk_names.specs.Outline.{DeclarationTree, Declares};
+ghost use Rattle.fk_names.specs.View.{mark_of};
+ghost use Rattle.fk_names.specs.Visible.{IsHidden, IsInnermost};
+ghost use Rattle.fk_names.specs.Means.{predeclared, StandsFor, MeansAt};
+ghost use Rattle.fk_names.specs.Filling.{AreApart, AreFound, IsSurvey};
+ghost use Rattle.fk_names.specs.Reading.{IsAt};
 
 use crate::outline::{Declaration, Mark, Outline};
 use crate::reader::Reader;
@@ -32,21 +37,6 @@ pub struct Names<'p, 'a> {
     pub declarations: Vec<Declaration<'p, 'a>>,
     /// What the token of an index means, where it is a name in an expression.
     pub meanings: Vec<Option<Meaning>>,
-}
-
-/// The declarations of a program, and what each name in its expressions means, in linear time.
-/// Fails only for want of memory.
-pub fn resolve<'p, 'a>(alloc: Global, program: &'p Program<'a>) -> Result<Names<'p, 'a>, AllocError>
-    requires sound { IsWellFormed (program_of program.now) }
-    requires small { program.now.tokens ≤ 2 ^ 20 }
-    ensures { IfOk result (AreNames (program_of program.now)) }
-{
-    let outline = Outline::of(alloc, &program.items)?;
-    let marks = outline.marks();
-    Ok(Names {
-        declarations: declarations(alloc, marks)?,
-        meanings: meanings(alloc, marks, program.tokens)?,
-    })
 }
 
 const PREDECLARED: [&[u8]; 14] = [
@@ -81,42 +71,100 @@ struct Survey<'a> {
     definitions: Table<'a>,
 }
 
-impl Survey<'_> {
+impl<'a> Survey<'a> {
+    fn of(alloc: Global, marks: &[Mark<'_, 'a>]) -> Result<Self, AllocError>
+        ensures { IfOk result (λ survey. IsSurvey (map mark_of marks.now) survey) }
+    {
+        Ok(Survey {
+            numbers: numbers(alloc, marks)?,
+            definitions: definitions(alloc, marks)?,
+        })
+    }
+
+    // The mark that a name stands for whose innermost declaration has this mark.
+    fn meant(&self, marks: &[Mark], at: usize, name: &[u8]) -> usize
+        requires known { IsSurvey (map mark_of marks.now) self.now }
+        requires within { at < length marks.now }
+        ensures within { result < length marks.now }
+        ensures stands { (d : DeclarationTree)
+            → slice_get (map mark_of marks.now) at ≡ Some (Declares d)
+            → StandsFor (map mark_of marks.now) name.now at d result }
+    {
+        if !marks[at].is_header() {
+            return at;
+        }
+        match self.definitions.get(name) {
+            Some(definition) => definition,
+            None => at,
+        }
+    }
+
     // What a name means whose innermost declaration has this mark.
-    fn meaning(&self, marks: &[Mark], innermost: Option<usize>, name: &[u8]) -> Meaning {
-        let Some(at) = innermost else {
-            return if is_predeclared(name) {
-                Meaning::Predeclared
-            } else {
-                Meaning::Undeclared
-            };
-        };
-        let meant = match &marks[at] {
-            Mark::Declares(Declaration::Function(_)) => self.definitions.get(name).unwrap_or(at),
-            _ => at,
-        };
-        Meaning::Declared(self.numbers[meant])
+    fn meaning(&self, marks: &[Mark], innermost: Option<usize>, name: &[u8]) -> Meaning
+        requires known { IsSurvey (map mark_of marks.now) self.now }
+        requires within { (o : ℕ) → innermost ≡ Some o → o < length marks.now }
+        ensures { (from : ℕ) → MatchOption innermost
+            (IsHidden (map mark_of marks.now) name.now from)
+            (IsInnermost (map mark_of marks.now) name.now from)
+            → MeansAt (map mark_of marks.now) name.now from result }
+    {
+        match innermost {
+            Some(at) => Meaning::Declared(self.numbers[self.meant(marks, at, name)]),
+            None if is_predeclared(name) => Meaning::Predeclared,
+            None => Meaning::Undeclared,
+        }
     }
 }
 
-// What each used name means, by the index of its token.
-fn meanings(
-    alloc: Global,
+// Finds what the mark of an index means, where it is a name in an expression.
+fn find_at(
+    meanings: &mut [Option<Meaning>],
+    survey: &Survey,
+    reader: &Reader,
     marks: &[Mark],
-    tokens: u32,
-) -> Result<Vec<Option<Meaning>>, AllocError> {
-    let survey = Survey {
-        numbers: numbers(alloc, marks)?,
-        definitions: definitions(alloc, marks)?,
-    };
+    at: usize,
+)
+    requires known { IsSurvey (map mark_of marks.now) survey.now }
+    requires here { IsAt reader.now at }
+    requires same { reader.now.marks.now ≡ marks.now }
+    requires within { at < length marks.now }
+    requires apart { AreApart (map mark_of marks.now) (length meanings.old) }
+    requires before { AreFound (map mark_of marks.now) (length meanings.old) meanings.old at }
+    ensures { AreFound (map mark_of marks.now) (length meanings.old) meanings.new (at + 1) }
+{
+    if let Mark::Uses(name) = &marks[at] {
+        let innermost = reader.innermost(name.bytes);
+        meanings[name.at as usize] = Some(survey.meaning(marks, innermost, name.bytes));
+    }
+}
+
+// What each name in an expression means, by the index of its token.
+fn meanings(alloc: Global, marks: &[Mark], tokens: u32) -> Result<Vec<Option<Meaning>>, AllocError>
+    requires { AreApart (map mark_of marks.now) tokens }
+    ensures { IfOk result
+        (λ found. AreFound (map mark_of marks.now) tokens found.items (length marks.now)) }
+{
+    let survey = Survey::of(alloc, marks)?;
     let mut reader = Reader::new(alloc, marks)?;
     let mut meanings = vec![in alloc; None; tokens as usize]?;
-    for (at, mark) in marks.iter().enumerate() {
-        if let Mark::Uses(name) = mark {
-            let innermost = reader.innermost(name.bytes);
-            meanings[name.at as usize] = Some(survey.meaning(marks, innermost, name.bytes));
-        }
+    for at in 0..marks.len() {
+        find_at(&mut meanings, &survey, &reader, marks, at);
         reader.pass(at)?;
     }
     Ok(meanings)
+}
+
+/// The declarations of a program, and what each name in its expressions means, in linear time.
+/// Fails only for want of memory.
+pub fn resolve<'p, 'a>(alloc: Global, program: &'p Program<'a>) -> Result<Names<'p, 'a>, AllocError>
+    requires sound { IsWellFormed (program_of program.now) }
+    requires small { program.now.tokens ≤ 2 ^ 20 }
+    ensures { IfOk result (AreNames (program_of program.now)) }
+{
+    let outline = Outline::of(alloc, &program.items)?;
+    let marks = outline.marks();
+    Ok(Names {
+        declarations: declarations(alloc, marks)?,
+        meanings: meanings(alloc, marks, program.tokens)?,
+    })
 }

@@ -11,6 +11,7 @@ ghost use Rattle.fk_names.specs.Outline.{tree_marks, links_marks, trees_marks, s
 ghost use Rattle.fk_names.specs.View.{mark_of, declaration_of};
 ghost use Rattle.fk_names.specs.OutlineView.{marks_in};
 ghost use Rattle.fk_names.specs.Visible.{is_opening, is_closing};
+ghost use Rattle.fk_names.specs.Filling.{is_header};
 
 use fk_syntax::{Declared, Expr, Function, Item, Link, Name, Stmt, Suffix};
 use std::alloc::{AllocError, Global};
@@ -58,6 +59,13 @@ impl Mark<'_, '_> {
             Mark::Opens => true,
             Mark::Closes | Mark::Declares(_) | Mark::Uses(_) => false,
         }
+    }
+
+    /// Whether a function's header is declared.
+    pub(crate) fn is_header(&self) -> bool
+        ensures { result ≡ is_header (mark_of self.now) }
+    {
+        matches!(self, Mark::Declares(Declaration::Function(_)))
     }
 
     /// Whether a scope ends.

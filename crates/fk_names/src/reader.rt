@@ -1,9 +1,10 @@
 //! What is visible while a text is read.
 
-ghost use Rattle.std.specs.Prelude.{◌≡◌, ◌+◌, ◌<◌, ◌≤◌, ◌++◌, ◌∷◌, [], ℕ, IfOk, OnOk, IsNone, IfSome, MatchOption, length, List, slice_index};
+ghost use Rattle.std.specs.Prelude.{◌≡◌, ◌≢◌, ◌+◌, ◌<◌, ◌≤◌, ◌++◌, ◌∷◌, [], ℕ, IfOk, OnOk, IsNone, IfSome, MatchOption, length, List, Some, false, IsTrue, slice_index};
 ghost use Rattle.fk_names.specs.Visible.{IsHidden, IsInnermost, IsVisible, depth};
 ghost use Rattle.fk_names.specs.Reading.{IsAt, IsPast, marks_of};
 ghost use Rattle.fk_names.specs.Locals.{Each};
+ghost use Rattle.fk_names.specs.declared.reader.Local.{Local};
 
 use crate::outline::Mark;
 use crate::survey::{depths, file_scope};
@@ -65,7 +66,22 @@ impl<'m, 'p, 'a> Reader<'m, 'p, 'a> {
         ensures same { self.new.marks.now ≡ self.old.marks.now }
     {
         self.declare(at)?;
-        self.leave(at + 1)
+        self.leave(at)
+    }
+
+    // Whether the innermost declaration of a name stands in the scope of an index.
+    fn is_of_scope(&self, innermost: Option<usize>, at: usize) -> bool
+        requires here { at < length self.now.depths.items }
+        requires there { (o : ℕ) → innermost ≡ Some o → o < length self.now.depths.items }
+        ensures yes { IsTrue result → (o : ℕ) × (innermost ≡ Some o)
+            × (slice_index self.now.depths.items o ≡ slice_index self.now.depths.items at) }
+        ensures no { result ≡ false → (o : ℕ) → innermost ≡ Some o
+            → slice_index self.now.depths.items o ≢ slice_index self.now.depths.items at }
+    {
+        match innermost {
+            Some(outer) => self.depths[outer] == self.depths[at],
+            None => false,
+        }
     }
 
     // Takes note of what is declared at an index. The first declaration of a scope counts.
@@ -80,9 +96,7 @@ impl<'m, 'p, 'a> Reader<'m, 'p, 'a> {
         };
         let name = declaration.name();
         let hides = self.visible.get(name);
-        if let Some(outer) = hides
-            && self.depths[outer] == self.depths[at]
-        {
+        if self.is_of_scope(hides, at) {
             return Ok(());
         }
         let local = Local {
@@ -91,41 +105,37 @@ impl<'m, 'p, 'a> Reader<'m, 'p, 'a> {
             hides,
         };
         self.locals.push(local)?;
-        self.visible.set(name, Some(at))
+        self.visible.set(name, Some(at))?;
+        Ok(())
     }
 
-    // Leaves the scopes that do not reach an index.
-    fn leave(&mut self, to: usize) -> Result<(), AllocError>
-        requires within { to ≤ length self.old.marks.now }
-        requires past { (at : ℕ) × (to ≡ at + 1) × IsPast self.old at }
-        ensures next { OnOk result (IsAt self.new to) }
+    // Leaves the scope that ends at an index, where one does.
+    fn leave(&mut self, at: usize) -> Result<(), AllocError>
+        requires within { at < length self.old.marks.now }
+        requires past { IsPast self.old at }
+        ensures next { OnOk result (IsAt self.new (at + 1)) }
         ensures same { self.new.marks.now ≡ self.old.marks.now }
     {
-        let depth = self.depths[to];
-        while let Some(local) = self.pop_below(depth) {
+        let depth = self.depths[at + 1];
+        while let Some(local) = pop_below(&mut self.locals, &self.depths, depth) {
             self.visible.set(local.name, local.hides)?;
         }
         Ok(())
     }
+}
 
-    // Takes the last local declaration, where it is deeper than this.
-    fn pop_below(&mut self, depth: usize) -> Option<Local<'a>>
-        requires { Each (λ l. l.mark < length self.old.depths.items) self.old.locals.items }
-        ensures deep { IfSome result (λ l. depth < slice_index self.old.depths.items l.mark) }
-        ensures last { IfSome result
-            (λ l. self.old.locals.items ≡ self.new.locals.items ++ l ∷ []) }
-        ensures none { IsNone result → (front : List Local) → (l : Local)
-            → self.old.locals.items ≡ front ++ l ∷ []
-            → slice_index self.old.depths.items l.mark ≤ depth }
-        ensures kept { IsNone result → self.new.locals.items ≡ self.old.locals.items }
-        ensures depths { self.new.depths ≡ self.old.depths }
-        ensures visible { self.new.visible ≡ self.old.visible }
-        ensures marks { self.new.marks.now ≡ self.old.marks.now }
-    {
-        let local = self.locals.last()?;
-        if self.depths[local.mark] <= depth {
-            return None;
-        }
-        self.locals.pop()
+// Takes the last declaration, where it is deeper than this.
+fn pop_below<'a>(locals: &mut Vec<Local<'a>>, depths: &[usize], depth: usize) -> Option<Local<'a>>
+    requires { Each (λ l. l.mark < length depths.now) locals.old.items }
+    ensures deep { IfSome result (λ l. depth < slice_index depths.now l.mark) }
+    ensures last { IfSome result (λ l. locals.old.items ≡ locals.new.items ++ l ∷ []) }
+    ensures none { IsNone result → (front : List Local) → (l : Local)
+        → locals.old.items ≡ front ++ l ∷ [] → slice_index depths.now l.mark ≤ depth }
+    ensures kept { IsNone result → locals.new.items ≡ locals.old.items }
+{
+    let local = locals.last()?;
+    if depths[local.mark] <= depth {
+        return None;
     }
+    locals.pop()
 }
