@@ -2,3 +2,6 @@ pub mod LocalLemmas
 pub mod ReadingLemmas
 pub mod TableLemmas
 pub mod SurveyLemmas
+pub mod WordLemmas
+pub mod Apart
+pub mod FindLemmas
