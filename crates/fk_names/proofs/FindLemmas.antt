@@ -1,8 +1,10 @@
 -- From the meanings before a mark to those before the next, and that a name has one meaning.
-use Rattle.std.proofs.Common.{◌≡◌, ◌≢◌, ◌⊎◌, inl, inr, ℕ, zero, suc, ◌+◌, ◌<◌, ◌≤◌, List, [], ◌∷◌, length, get_or, replicate, Option, Some, None, refl, sym, subst, ap, ◌∙◌, arith}
+use Rattle.std.proofs.Common.{◌≡◌, ◌≢◌, ◌⊎◌, inl, inr, ℕ, zero, suc, ◌+◌, ◌<◌, ◌≤◌, List, [], ◌∷◌, ◌++◌, length, take, drop, get_or, replicate, Option, Some, None, refl, sym, subst, ap, ◌∙◌, arith}
 use Rattle.std.specs.Prelude.{MatchOption, IsSomeAnd, slice_get, slice_set, Contains}
+use Rattle.std.specs.Option.{option_and_then}
 use Rattle.std.proofs.lemmas.List.{length-set, get_or-replicate, length-replicate}
 use Rattle.std.proofs.lemmas.Option.{slice_get_within, get_or_from_slice_get}
+use Rattle.std.proofs.lemmas.Grind.{common_steps}
 use Rattle.fk_syntax.specs.Tree.{Named}
 use Rattle.fk_syntax.specs.Program.{DeclaredTree, FunctionTree}
 use Rattle.fk_syntax.specs.View.{named}
@@ -186,3 +188,16 @@ found_all marks tokens upto meanings apart are all token m = (
 
 pub same_some : (x y : MarkTree) → Some x ≡ Some y → x ≡ y
 same_some x y e = cc
+
+pub flat : (o : Option (Option Meaning)) (m : Meaning) → ((option_and_then (λ x. x) o ≡ Some m) → o ≡ Some (Some m)) × (o ≡ Some (Some m) → option_and_then (λ x. x) o ≡ Some m)
+flat None m = (λ e. absurd cc, λ e. absurd cc)
+flat (Some None) m = (λ e. absurd cc, λ e. absurd (let f : Some None ≡ Some (Some m) = e in cc))
+flat (Some (Some x)) m = (λ e. ap (λ y. Some y) e, λ e. ap (λ y. Some y) (same_meaning x m e))
+
+pub none_or : (o : Option Meaning) → (o ≡ None) ⊎ ((m : Meaning) × (o ≡ Some m))
+none_or None = inl refl
+none_or (Some m) = inr (m, refl)
+
+-- a Vec that was lent as a slice has the slice's items
+pub written : {X : Type 0} (n : ℕ) (xs ys : List X) → length ys ≡ n → length xs ≡ length ys → take n (xs ++ drop (length xs) ys) ≡ xs
+written n xs ys size same = grind (arith, common_steps)

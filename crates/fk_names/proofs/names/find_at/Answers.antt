@@ -23,14 +23,14 @@ meaning-requires-clause-within c = λ o e.
 pub bounds-meanings-name : goal.bounds-meanings-name
 bounds-meanings-name c =
     let marks = map mark_of c.args.marks.now in
-    let used : UsesAt marks (named c.in-Uses.name) c.args.at = mark_at c.args.marks.now c.args.at c.index-marks-at.result c.requires.within c.index-marks-at.is ∙ ap (λ m. Some (mark_of m)) (c.index-marks-at.is ∙ c.in-Uses.is) in
+    let used : UsesAt marks (named c.in-Uses.name) c.args.at = mark_at c.args.marks.now c.args.at c.index-marks-at.result c.requires.within c.index-marks-at.is ∙ ap (λ m. Some (mark_of m)) c.in-Uses.is in
     c.requires.apart.below c.args.at (named c.in-Uses.name) used
 
 pub returns-in-Uses : goal.returns-in-Uses
 returns-in-Uses c =
     let marks = map mark_of c.args.marks.now in
     let name = c.in-Uses.name.bytes.now in
-    let used : UsesAt marks (named c.in-Uses.name) c.args.at = mark_at c.args.marks.now c.args.at c.index-marks-at.result c.requires.within c.index-marks-at.is ∙ ap (λ m. Some (mark_of m)) (c.index-marks-at.is ∙ c.in-Uses.is) in
+    let used : UsesAt marks (named c.in-Uses.name) c.args.at = mark_at c.args.marks.now c.args.at c.index-marks-at.result c.requires.within c.index-marks-at.is ∙ ap (λ m. Some (mark_of m)) c.in-Uses.is in
     let means : MeansAt marks name c.args.at c.meaning.result = c.meaning.ensures c.args.at
     (subst (λ ms. MatchOption c.innermost-innermost.result (IsHidden (map mark_of ms) name c.args.at) (IsInnermost (map mark_of ms) name c.args.at)) c.requires.same (c.innermost-innermost.ensures c.args.at c.requires.here)) in
     found_use marks (length c.args.meanings.now) c.args.at c.args.meanings.now (named c.in-Uses.name) c.meaning.result used c.requires.apart means c.requires.before
@@ -40,5 +40,5 @@ returns-in_default c =
     let marks = map mark_of c.args.marks.now in
     let here = mark_at c.args.marks.now c.args.at c.index-marks-at.result c.requires.within c.index-marks-at.is in
     found_other marks (length c.args.meanings.now) c.args.at c.args.meanings.now
-    (λ name used. not_used c.index-marks-at.result (λ n e. c.in_default.not-Uses n (sym c.index-marks-at.is ∙ e)) name (same_some (mark_of c.index-marks-at.result) _ (sym here ∙ used)))
+    (λ name used. not_used c.index-marks-at.result c.in_default.not-Uses name (same_some (mark_of c.index-marks-at.result) _ (sym here ∙ used)))
     c.requires.before
