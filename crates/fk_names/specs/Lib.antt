@@ -8,3 +8,4 @@ pub mod OutlineView
 pub mod Locals
 pub mod Reading
 pub mod Filling
+pub mod Laws

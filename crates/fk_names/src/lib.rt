@@ -1,6 +1,7 @@
 //! The names of a program: what declares them, where each is visible, and what one means.
 #![tactic(auto)]
 
+pub mod laws;
 mod names;
 mod outline;
 mod reader;

@@ -168,3 +168,109 @@ pub fn resolve<'p, 'a>(alloc: Global, program: &'p Program<'a>) -> Result<Names<
         meanings: meanings(alloc, marks, program.tokens)?,
     })
 }
+
+#[cfg(test)]
+mod tests {
+    use super::*;
+    use fk_syntax::{
+        Base, Declared, Expr, Function, Item, Mode, Name, Place, Stmt, TypeName, well_formed,
+    };
+    use std::test::Fail;
+
+    const PLACE: Place = Place { line: 1, column: 1 };
+
+    const INT: TypeName<'static> = TypeName {
+        base: Base::Int,
+        stars: 0,
+    };
+
+    fn name(bytes: &'static [u8], at: u32) -> Name<'static> {
+        Name {
+            bytes,
+            at,
+            place: PLACE,
+        }
+    }
+
+    fn variable(bytes: &'static [u8], at: u32) -> Declared<'static> {
+        Declared {
+            shared: false,
+            kind: INT,
+            name: name(bytes, at),
+            length: None,
+            first: None,
+        }
+    }
+
+    fn used(bytes: &'static [u8], at: u32) -> Stmt<'static> {
+        Stmt::Expression(Expr::Named(name(bytes, at)))
+    }
+
+    fn function(
+        at: u32,
+        params: Vec<Declared<'static>>,
+        body: Option<Vec<Stmt<'static>>>,
+    ) -> Item<'static> {
+        Item::Function(Function {
+            mode: Mode::Async,
+            result: INT,
+            name: name(b"f", at),
+            params,
+            body,
+        })
+    }
+
+    // int x; int f(int a); int f(int x) { { int x; x; y; } x; malloc; f; }
+    fn text(alloc: Global) -> Result<Program<'static>, AllocError> {
+        let inner = vec![in alloc;
+            Stmt::Declare(vec![in alloc; variable(b"x", 5)]?),
+            used(b"x", 6),
+            used(b"y", 7),
+        ]?;
+        let body = vec![in alloc;
+            Stmt::Block(inner),
+            used(b"x", 8),
+            used(b"malloc", 9),
+            used(b"f", 10),
+        ]?;
+        let items = vec![in alloc;
+            Item::Variables(vec![in alloc; variable(b"x", 0)]?),
+            function(1, vec![in alloc; variable(b"a", 2)]?, None),
+            function(3, vec![in alloc; variable(b"x", 4)]?, Some(body)),
+        ]?;
+        Ok(Program {
+            items,
+            end: PLACE,
+            tokens: 11,
+        })
+    }
+
+    #[test]
+    fn laws_hold() {
+        crate::laws::one_meaning();
+    }
+
+    #[test]
+    fn names_mean_the_innermost_declaration(rt: HostRuntime) -> Result<(), Fail> {
+        let program = text(rt.alloc())?;
+        assert!(rt; well_formed(&program));
+        assert!(rt; program.tokens <= 1_048_576);
+        let names = resolve(rt.alloc(), &program)?;
+        assert_eq!(rt; names.declarations.len(), 6);
+        let expected = [
+            None,
+            None,
+            None,
+            None,
+            None,
+            None,
+            Some(Meaning::Declared(5)),
+            Some(Meaning::Undeclared),
+            Some(Meaning::Declared(4)),
+            Some(Meaning::Predeclared),
+            Some(Meaning::Declared(3)),
+        ];
+        assert_eq!(rt; names.meanings.as_slice(), expected.as_slice());
+        Ok(())
+    }
+}
