@@ -1,0 +1,11 @@
+pub mod Tokens
+pub mod Around
+pub mod Misplaced
+pub mod Collected
+pub mod TokensView
+pub mod Judged
+pub mod Retold
+pub mod Called
+pub mod Broken
+pub mod Marked
+pub mod Found

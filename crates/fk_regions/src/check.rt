@@ -1,0 +1,80 @@
+//! Regions and their rules.
+
+ghost use Rattle.std.specs.Prelude.{◌≡◌, ◌≤◌, ◌^◌, MatchResult, OnErr};
+ghost use Rattle.fk_syntax.specs.ProgramView.{program_of};
+ghost use Rattle.fk_syntax.specs.WellFormed.{IsWellFormed};
+ghost use Rattle.fk_rules.specs.Least.{IsLeast, among};
+ghost use Rattle.fk_names.specs.Names.{AreNames};
+ghost use Rattle.fk_regions.specs.Broken.{AreRegions, IsRefusal};
+ghost use Rattle.fk_regions.specs.Found.{TokenBreaks};
+
+use crate::callee::called_by;
+use crate::collect::Tokens;
+use crate::judge::token_fault;
+use crate::marks::mark;
+use crate::token::Token;
+use fk_names::{Names, resolve};
+use fk_rules::{Fault, first_of};
+use fk_syntax::{CheckFault, Facts, Program};
+use std::alloc::Global;
+
+// The first rule that one of the tokens breaks.
+fn first_fault(names: &Names, tokens: &[Token]) -> Option<Fault>
+    ensures { IsLeast (among (TokenBreaks names.now) tokens.now) result }
+{
+    let mut fault = None;
+    for token in tokens {
+        fault = first_of(fault, token_fault(token, called_by(names, token.spot.at)));
+    }
+    fault
+}
+
+/// Sets in each note of the facts whether its token stands in a synchronous region, by the names of
+/// the program, in linear time.
+///
+/// # Errors
+///
+/// The first rule on regions that the program breaks, by its place and then by its number; or want
+/// of memory. The facts are then as they were.
+pub fn regions_by(
+    alloc: Global,
+    program: &Program,
+    names: &Names,
+    facts: &mut Facts,
+) -> Result<(), CheckFault>
+    requires { AreNames (program_of program.now) names.now }
+    ensures answer { MatchResult result
+        (λ _. AreRegions (program_of program.now) facts.old facts.new)
+        (λ fault. IsRefusal (program_of program.now) fault) }
+    ensures refused { OnErr result (facts.new ≡ facts.old) }
+{
+    let Ok(tokens) = Tokens::of(alloc, &program.items) else {
+        return Err(CheckFault::Memory);
+    };
+    match first_fault(names, &tokens) {
+        Some(fault) => Err(CheckFault::Rule(fault.place, fault.rule.number())),
+        None => {
+            mark(&mut facts.notes, &tokens);
+            Ok(())
+        }
+    }
+}
+
+/// Sets in each note of the facts whether its token stands in a synchronous region, in linear time.
+///
+/// # Errors
+///
+/// As `regions_by`.
+pub fn regions(alloc: Global, program: &Program, facts: &mut Facts) -> Result<(), CheckFault>
+    requires sound { IsWellFormed (program_of program.now) }
+    requires small { program.now.tokens ≤ 2 ^ 20 }
+    ensures answer { MatchResult result
+        (λ _. AreRegions (program_of program.now) facts.old facts.new)
+        (λ fault. IsRefusal (program_of program.now) fault) }
+    ensures refused { OnErr result (facts.new ≡ facts.old) }
+{
+    match resolve(alloc, program) {
+        Ok(names) => regions_by(alloc, program, &names, facts),
+        Err(_) => Err(CheckFault::Memory),
+    }
+}
