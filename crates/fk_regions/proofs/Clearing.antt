@@ -1,5 +1,5 @@
 -- Single writes to notes, and those of a loop over them.
-use Rattle.std.proofs.Common.{◌≡◌, ℕ, zero, suc, ◌+◌, ◌<◌, ◌≤◌, Bool, true, false, List, [], ◌∷◌, map, length, set, get_or, refl, ap, arith, add-one}
+use Rattle.std.proofs.Common.{◌≡◌, ℕ, zero, suc, ◌+◌, ◌<◌, ◌≤◌, List, [], ◌∷◌, map, length, set, get_or, refl, ap, arith, add-one}
 use Rattle.fk_syntax.specs.declared.facts.Note.{Note}
 use Rattle.fk_regions.specs.Marked.{cleared, marked, synchronous_at}
 

@@ -1,10 +1,9 @@
 -- What the code finds of the tokens that it keeps is what the program breaks.
-use Rattle.std.proofs.Common.{◌≡◌, ◌⊎◌, inl, inr, ℕ, zero, suc, ◌+◌, ◌<◌, length, get_or, List, [], ◌∷◌, map, Option, Some, None, slice_get, refl, sym, ap, subst, ◌∙◌}
+use Rattle.std.proofs.Common.{◌≡◌, inl, inr, ℕ, zero, suc, ◌+◌, ◌<◌, length, get_or, List, [], ◌∷◌, map, Option, Some, slice_get, refl, sym, ap, subst, ◌∙◌}
 use Rattle.std.proofs.lemmas.Option.{slice_get-get_or}
 use Rattle.fk_syntax.specs.declared.place.Place.{Place}
 use Rattle.fk_syntax.specs.Program.{ProgramTree}
 use Rattle.fk_rules.specs.declared.rule.Rule.{Rule}
-use Rattle.fk_rules.specs.declared.rule.Rule.TheVariants.{NotStraight}
 use Rattle.fk_rules.specs.declared.fault.Fault.{Fault}
 use Rattle.fk_rules.specs.Least.{IsEarlier, IsLeast, among, among_first}
 use Rattle.fk_rules.proofs.LeastLemmas.{IsLeast-same, IsLeast-one_more}

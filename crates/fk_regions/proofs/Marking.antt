@@ -1,5 +1,5 @@
 -- What marks leave of the note of an index.
-use Rattle.std.proofs.Common.{◌≡◌, ◌⊎◌, ◌↔◌, inl, inr, ℕ, zero, suc, Bool, true, false, List, [], ◌∷◌, map, fold, length, Option, Some, None, IsTrue, slice_get, refl, sym, ap, subst, ◌∙◌, arith}
+use Rattle.std.proofs.Common.{◌≡◌, ◌⊎◌, ◌↔◌, inl, inr, ℕ, zero, suc, Bool, true, false, List, [], ◌∷◌, map, fold, length, Some, IsTrue, slice_get, refl, ap, subst, ◌∙◌, arith}
 use Rattle.fk_syntax.specs.declared.facts.Note.{Note}
 use Rattle.fk_regions.specs.declared.around.Holder.{Holder}
 use Rattle.fk_regions.specs.declared.around.Around.{Around}
@@ -7,7 +7,7 @@ use Rattle.fk_regions.specs.declared.around.Region.{Region}
 use Rattle.fk_regions.specs.declared.around.Region.TheVariants.{Synchronous, Asynchronous, Neither}
 use Rattle.fk_regions.specs.Around.{region}
 use Rattle.fk_regions.specs.Tokens.{Standing}
-use Rattle.fk_regions.specs.Marked.{cleared, marked, synchronous_at, marked_by, after}
+use Rattle.fk_regions.specs.Marked.{marked, synchronous_at, marked_by, after}
 use Rattle.fk_regions.specs.Retold.{retold}
 
 -- a note with another answer

@@ -1,7 +1,6 @@
 -- The tokens that the code sees are those of the program, with what stands round them told shorter.
 use Rattle.std.proofs.Common.{◌≡◌, List, [], ◌∷◌, ◌++◌, map, Option, Some, None, refl, sym, ap, ◌∙◌}
 use Rattle.std.proofs.lemmas.List.{map-append}
-use Rattle.fk_syntax.specs.declared.place.Spot.{Spot}
 use Rattle.fk_syntax.specs.Tree as t
 use Rattle.fk_syntax.specs.Tree.{Tree, Links, Trees, Suffixes}
 use Rattle.fk_syntax.specs.Program as p
@@ -9,8 +8,6 @@ use Rattle.fk_syntax.specs.Program.{DeclaredTree, Statement, Statements, Functio
 use Rattle.fk_regions.specs.declared.around.Holder.{Holder}
 use Rattle.fk_regions.specs.declared.around.Holder.TheVariants as h
 use Rattle.fk_regions.specs.declared.around.Around.{Around}
-use Rattle.fk_regions.specs.declared.token.Word.{Word}
-use Rattle.fk_regions.specs.declared.token.Word.TheVariants as w
 use Rattle.fk_regions.specs.Tokens.{Standing, tree_tokens, links_tokens, trees_tokens, suffixes_tokens, optional_tokens, variables_tokens, variable_tokens, own_tokens, statement_tokens, statements_tokens, holder_of, body_tokens, item_tokens, items_tokens, tokens}
 use Rattle.fk_regions.specs.Collected.{within, outside}
 use Rattle.fk_regions.specs.Retold.{around_of, retold}

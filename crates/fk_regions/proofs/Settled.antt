@@ -1,5 +1,5 @@
 -- The answer of the whole call.
-use Rattle.std.proofs.Common.{◌≡◌, ◌⊎◌, inl, inr, ℕ, true, false, List, map, fold, length, Option, Some, None, slice_get, refl, sym, ap, subst, ◌∙◌}
+use Rattle.std.proofs.Common.{◌≡◌, ◌⊎◌, inl, inr, ℕ, true, false, List, map, fold, length, Option, Some, None, slice_get, sym, ap, subst, ◌∙◌}
 use Rattle.std.proofs.lemmas.List.{length-map}
 use Rattle.fk_syntax.specs.declared.place.Place.{Place}
 use Rattle.fk_syntax.specs.declared.facts.Note.{Note}
@@ -21,7 +21,7 @@ use Rattle.fk_regions.specs.Found.{TokenBreaks}
 use Rattle.fk_regions.specs.Broken.{Broken, IsSynchronous, SaysRegion, AreRegions, IsRefusal}
 use Rattle.fk_regions.proofs.Retold.{tokens-retold}
 use Rattle.fk_regions.proofs.Finding.{get-map, least-broken}
-use Rattle.fk_regions.proofs.Marking.{says, Says, Stands, marks-say, length-marks}
+use Rattle.fk_regions.proofs.Marking.{Stands, marks-say, length-marks}
 
 module _ (program : ProgramTree) (list : List Token) (same : map seen list ≡ items_tokens within outside program.items) where
   told : map seen list ≡ map retold (tokens program)

@@ -1,5 +1,5 @@
 -- Which rules of regions a program breaks, and which of its tokens stand in synchronous regions.
-use Rattle.std.specs.Prelude.{◌≡◌, ◌⊎◌, ◌↔◌, ℕ, Bool, true, List, Option, Some, None, IsTrue, length, slice_get}
+use Rattle.std.specs.Prelude.{◌≡◌, ◌⊎◌, ◌↔◌, ℕ, Bool, true, List, Option, Some, IsTrue, length, slice_get}
 use Rattle.fk_syntax.specs.declared.place.Place.{Place}
 use Rattle.fk_syntax.specs.declared.facts.Note.{Note}
 use Rattle.fk_syntax.specs.declared.facts.Facts.{Facts}

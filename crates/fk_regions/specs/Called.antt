@@ -1,6 +1,5 @@
 -- What the names of a program call.
 use Rattle.std.specs.Prelude.{◌≡◌, ℕ, List, map, Option, Some, None, slice_get}
-use Rattle.fk_syntax.specs.declared.program.Mode.{Mode}
 use Rattle.fk_syntax.specs.Program.{FunctionTree, ProgramTree}
 use Rattle.fk_names.specs.declared.names.Names.{Names}
 use Rattle.fk_names.specs.declared.names.Meaning.{Meaning}

@@ -13,7 +13,7 @@ use Rattle.fk_regions.specs.declared.token.Spelling.{Spelling}
 use Rattle.fk_regions.specs.declared.token.Spelling.TheVariants.{Shalloc}
 use Rattle.fk_regions.specs.declared.callee.Callee.{Callee}
 use Rattle.fk_regions.specs.declared.callee.Callee.TheVariants as c
-use Rattle.fk_regions.specs.Around.{region, loops, is_straight, is_in_main, is_in_body}
+use Rattle.fk_regions.specs.Around.{region, loops, is_in_main, is_in_body}
 
 -- a token breaks a rule, by what stands round it and what it calls, where it is a name
 pub data Misplaced (around : List Holder) (calls : Callee → Type 0) : Word → Rule → Type 0 where
