@@ -8,10 +8,9 @@ use Rattle.fk_syntax.specs.Tree as t
 use Rattle.fk_syntax.specs.Tree.{Named, BaseType, TypeTree, Tree, Links, Trees, Suffixes}
 use Rattle.fk_syntax.specs.Program as p
 use Rattle.fk_syntax.specs.Program.{DeclaredTree, Statement, Statements, FunctionTree, ItemTree, ProgramTree}
-use Rattle.fk_syntax.specs.Nodes.{base_indices, type_indices, tree_indices, links_indices, trees_indices, suffixes_indices, optional_indices, declared_indices, declarations_indices, statement_indices, statements_indices, body_indices, function_indices, item_indices, items_indices}
+use Rattle.fk_syntax.specs.Nodes.{type_indices, tree_indices, links_indices, trees_indices, suffixes_indices, optional_indices, declared_indices, declarations_indices, statement_indices, statements_indices, body_indices, function_indices, item_indices, items_indices}
 use Rattle.fk_syntax.specs.WellFormed.{token, nodes, IsWellFormed}
-use Rattle.fk_names.specs.Outline as o
-use Rattle.fk_names.specs.Outline.{DeclarationTree, MarkTree, Opens, Closes, Declares, Uses, tree_marks, links_marks, trees_marks, suffixes_marks, optional_marks, variable_marks, variables_marks, scope, statement_marks, statements_marks, body_marks, function_marks, item_marks, items_marks, outline}
+use Rattle.fk_names.specs.Outline.{MarkTree, Opens, Closes, Declares, Uses, tree_marks, links_marks, trees_marks, suffixes_marks, optional_marks, variable_marks, variables_marks, scope, statement_marks, statements_marks, body_marks, function_marks, item_marks, items_marks, outline}
 use Rattle.fk_names.specs.Means.{UsesAt}
 use Rattle.fk_names.specs.Filling.{AreApart}
 

@@ -1,13 +1,11 @@
 -- From the meanings before a mark to those before the next, and that a name has one meaning.
 use Rattle.std.proofs.Common.{◌≡◌, ◌≢◌, ◌⊎◌, inl, inr, ℕ, zero, suc, ◌+◌, ◌<◌, ◌≤◌, List, [], ◌∷◌, ◌++◌, length, take, drop, get_or, replicate, Option, Some, None, refl, sym, subst, ap, ◌∙◌, arith}
-use Rattle.std.specs.Prelude.{MatchOption, IsSomeAnd, slice_get, slice_set, Contains}
+use Rattle.std.specs.Prelude.{slice_get, slice_set}
 use Rattle.std.specs.Option.{option_and_then}
 use Rattle.std.proofs.lemmas.List.{length-set, get_or-replicate, length-replicate}
 use Rattle.std.proofs.lemmas.Option.{slice_get_within, get_or_from_slice_get}
 use Rattle.std.proofs.lemmas.Grind.{common_steps}
 use Rattle.fk_syntax.specs.Tree.{Named}
-use Rattle.fk_syntax.specs.Program.{DeclaredTree, FunctionTree}
-use Rattle.fk_syntax.specs.View.{named}
 use Rattle.fk_names.specs.declared.names.Meaning.{Meaning}
 use Rattle.fk_names.specs.declared.names.Meaning.TheVariants as v
 use Rattle.fk_names.specs.declared.outline.Mark.{Mark}
@@ -15,10 +13,9 @@ use Rattle.fk_names.specs.declared.outline.Mark.TheVariants as c
 use Rattle.fk_names.specs.declared.outline.Declaration.TheVariants as e
 use Rattle.fk_syntax.specs.declared.place.Name.{Name}
 use Rattle.fk_names.specs.View.{mark_of}
-use Rattle.fk_names.specs.Outline.{MarkTree, DeclarationTree, Variable, Header, Opens, Closes, Declares, Uses}
-use Rattle.fk_names.specs.Visible.{depth, DeclaresHere, DeclaresAt, IsVisible, IsInnermost, IsHidden}
-use Rattle.fk_names.specs.Means.{HasBodyAt, DefinesHere, IsDefinition, StandsFor, MeansAt, MeansIn, UsesAt, binding, predeclared}
-use Rattle.fk_names.specs.Locals.{IsFirstOf}
+use Rattle.fk_names.specs.Outline.{MarkTree, DeclarationTree, Variable, Header, Declares, Uses}
+use Rattle.fk_names.specs.Visible.{depth, IsInnermost}
+use Rattle.fk_names.specs.Means.{HasBodyAt, StandsFor, MeansAt, MeansIn, UsesAt, binding}
 use Rattle.fk_names.specs.Filling.{AreApart, AreFound}
 
 -- ---- a list after a write

@@ -13,7 +13,7 @@ use Rattle.fk_names.specs.Visible.{depth, DeclaresHere, DeclaresAt, IsVisible, I
 use Rattle.fk_names.specs.Means.{HasBodyAt, DefinesHere}
 use Rattle.fk_names.specs.TableView.{shown}
 use Rattle.fk_names.specs.Locals.{Each, IsLocal, Holds}
-use Rattle.fk_names.specs.Reading.{marks_of, AreDepths, IsOfFile, Knows, IsAt, IsPast}
+use Rattle.fk_names.specs.Reading.{marks_of, AreDepths, IsOfFile, IsAt}
 use Rattle.fk_names.proofs.LocalLemmas.{best, IsBest, IsNone, Each-map, Each-last, Holds-weaker, Holds-pop, Holds-left, Holds-again, Holds-new}
 use Rattle.fk_names.proofs.SurveyLemmas.{at_within}
 

@@ -1,6 +1,6 @@
 -- From one mark of an outline to the next.
-use Rattle.std.proofs.Common.{◌≡◌, ◌≢◌, ◌⊎◌, inl, inr, ℕ, zero, suc, ◌+◌, ◌-◌, ◌<◌, ◌≤◌, Bool, true, false, cond, List, [], ◌∷◌, ◌++◌, length, get_or, take, map, Bor, Option, Some, None, Decides, nat_eq, refl, sym, subst, ap, ◌∙◌, arith, length-append, append_assoc}
-use Rattle.std.specs.Prelude.{MatchOption, IfSome, IsNone, IsSomeAnd, count_by, slice_get, slice_index}
+use Rattle.std.proofs.Common.{◌≡◌, ◌⊎◌, inl, inr, ℕ, zero, suc, ◌+◌, ◌<◌, Bool, true, false, cond, List, [], ◌∷◌, ◌++◌, length, get_or, take, map, Bor, Option, Some, None, Decides, nat_eq, refl, sym, subst, ap, ◌∙◌, arith, length-append, append_assoc}
+use Rattle.std.specs.Prelude.{IfSome, IsNone, IsSomeAnd, count_by, slice_get, slice_index}
 use Rattle.std.specs.Int.{from_bool}
 use Rattle.std.specs.Option.{option_map}
 use Rattle.std.specs.Cmp.Lexicographic.{pointwise}
@@ -12,7 +12,7 @@ use Rattle.std.proofs.lemmas.List.Sums.{count_by_more_yes, count_by_more_no}
 use Rattle.std.proofs.lemmas.Option.{slice_get-map, slice_get_read, slice_get_within, get_or_from_slice_get}
 use Rattle.std.proofs.lemmas.Slice.Eq.{bytes_eq-Decides}
 use Rattle.fk_names.specs.declared.outline.Mark.{Mark}
-use Rattle.fk_names.specs.Outline.{MarkTree, DeclarationTree, declared_by, declared_in}
+use Rattle.fk_names.specs.Outline.{MarkTree, declared_by, declared_in}
 use Rattle.fk_names.specs.View.{mark_of}
 use Rattle.fk_names.specs.Means.{binding}
 use Rattle.fk_names.specs.Locals.{IsFirstOf}

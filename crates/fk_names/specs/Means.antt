@@ -1,7 +1,7 @@
 -- What a name means.
 use Rattle.std.specs.Prelude.{◌≡◌, ◌⊎◌, ℕ, ◌<◌, List, [], ◌∷◌, length, take, Some, slice_get, Contains, codes, IsSome, IsSomeAnd}
 use Rattle.fk_syntax.specs.Tree.{Named}
-use Rattle.fk_syntax.specs.Program.{FunctionTree, ProgramTree}
+use Rattle.fk_syntax.specs.Program.{ProgramTree}
 use Rattle.fk_names.specs.declared.names.Meaning.{Meaning}
 use Rattle.fk_names.specs.declared.names.Meaning.TheVariants as m
 use Rattle.fk_names.specs.Outline.{DeclarationTree, MarkTree, Variable, Header, Opens, Closes, Declares, Uses, outline, declared_in}

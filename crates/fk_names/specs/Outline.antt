@@ -1,5 +1,5 @@
 -- The scopes and names of a text, in the order in which it is read.
-use Rattle.std.specs.Prelude.{ℕ, List, [], ◌∷◌, ◌++◌, Option, Some, None}
+use Rattle.std.specs.Prelude.{List, [], ◌∷◌, ◌++◌, Option, Some, None}
 use Rattle.fk_syntax.specs.Tree as t
 use Rattle.fk_syntax.specs.Tree.{Named, Tree, Links, Trees, Suffixes}
 use Rattle.fk_syntax.specs.Program as p

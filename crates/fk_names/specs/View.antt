@@ -1,5 +1,4 @@
 -- The declarations and marks of the code as those of the definitions.
-use Rattle.std.specs.Prelude.{map}
 use Rattle.fk_syntax.specs.View.{named}
 use Rattle.fk_syntax.specs.ProgramView.{declared_of, function_of}
 use Rattle.fk_names.specs.declared.outline.Declaration.{Declaration}

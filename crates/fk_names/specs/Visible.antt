@@ -1,6 +1,6 @@
 -- Which declarations are visible where.
 use Rattle.std.specs.Prelude.{◌≡◌, ◌⊎◌, ℕ, ◌-◌, ◌<◌, ◌≤◌, Bool, true, false, List, count_by, take, IsSomeAnd, slice_get}
-use Rattle.fk_names.specs.Outline.{DeclarationTree, MarkTree, Opens, Closes, Declares, Uses, name_of}
+use Rattle.fk_names.specs.Outline.{MarkTree, Opens, Closes, Declares, Uses, name_of}
 
 abbrev pub is_opening : MarkTree → Bool
 is_opening Opens = true

@@ -1,9 +1,9 @@
-//! Tests over trees made by hand.
+//! A test over a tree made by hand.
 
 use crate::regions;
 use fk_syntax::{
-    Base, CheckFault, Expr, Facts, Function, Item, Mode, Name, Note, Place, Program, Spot, Stmt,
-    TypeName, well_formed,
+    Base, Expr, Facts, Function, Item, Mode, Name, Note, Place, Program, Spot, Stmt, TypeName,
+    well_formed,
 };
 use std::alloc::{AllocError, Global};
 use std::test::Fail;
@@ -89,20 +89,5 @@ fn tokens_in_a_start_and_outside_its_farm_are_synchronous(rt: HostRuntime) -> Re
         assert_eq!(rt; note.sync, *sync);
         assert_eq!(rt; note.binding, 3);
     }
-    Ok(())
-}
-
-#[test]
-fn the_first_of_two_broken_rules_is_told(rt: HostRuntime) -> Result<(), Fail> {
-    let alloc = rt.alloc();
-    // main { start ($) { return; barrier; } }
-    let inner = vec![in alloc; Stmt::Return(spot(3), None), Stmt::Barrier(spot(4))]?;
-    let body = vec![in alloc; start(alloc, Stmt::Block(inner))?]?;
-    let program = program(alloc, body)?;
-    assert!(rt; well_formed(&program));
-    assert!(rt; program.tokens <= 1 << 20);
-    let mut facts = facts(alloc)?;
-    let answer = regions(alloc, &program, &mut facts);
-    assert!(rt; answer == Err(CheckFault::Rule(spot(3).place, 31)));
     Ok(())
 }

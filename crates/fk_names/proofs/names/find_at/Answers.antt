@@ -1,9 +1,8 @@
-use Rattle.std.proofs.Common.{◌≡◌, ◌<◌, ℕ, List, length, map, Option, Some, sym, subst, ap, ◌∙◌, arith}
+use Rattle.std.proofs.Common.{length, map, Some, sym, subst, ap, ◌∙◌, arith}
 use Rattle.std.specs.Prelude.{MatchOption}
 use Rattle.std.proofs.lemmas.List.{length-map}
 use Rattle.fk_syntax.specs.View.{named}
 use Rattle.fk_names.specs.View.{mark_of}
-use Rattle.fk_names.specs.Outline.{MarkTree}
 use Rattle.fk_names.specs.Visible.{DeclaresHere, IsHidden, IsInnermost}
 use Rattle.fk_names.specs.Means.{UsesAt, MeansAt}
 use Rattle.fk_names.proofs.SurveyLemmas.{mark_at, at_within}

@@ -1,4 +1,4 @@
-use Rattle.std.proofs.Common.{◌≡◌, ◌≤◌, ◌+◌, inl, inr, ℕ, List, length, map, sym, subst, ap, ◌∙◌, arith}
+use Rattle.std.proofs.Common.{◌≡◌, ◌+◌, inl, inr, length, map, sym, subst, ap, ◌∙◌, arith}
 use Rattle.fk_names.specs.View.{mark_of}
 use Rattle.fk_names.specs.Filling.{AreFound}
 use Rattle.fk_names.proofs.FindLemmas.{found_none, none_or, written}

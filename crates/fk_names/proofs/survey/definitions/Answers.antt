@@ -1,4 +1,4 @@
-use Rattle.std.proofs.Common.{◌≡◌, ◌+◌, ℕ, ◌<◌, length, List, Bor, map, sym, subst, ◌∙◌, arith}
+use Rattle.std.proofs.Common.{map, arith}
 use Rattle.std.proofs.lemmas.List.{length-map}
 use Rattle.fk_names.specs.View.{mark_of}
 use Rattle.fk_names.specs.Means.{HasBodyAt, DefinesHere}

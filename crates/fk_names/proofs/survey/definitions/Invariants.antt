@@ -1,5 +1,5 @@
 -- The first ones so far.
-use Rattle.std.proofs.Common.{◌≡◌, ℕ, ◌<◌, List, map}
+use Rattle.std.proofs.Common.{ℕ, ◌<◌, List, map}
 use Rattle.fk_names.specs.View.{mark_of}
 use Rattle.fk_names.specs.Means.{HasBodyAt}
 use Rattle.fk_names.specs.Locals.{IsFirstOf}

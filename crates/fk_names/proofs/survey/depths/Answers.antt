@@ -1,7 +1,6 @@
-use Rattle.std.proofs.Common.{◌≡◌, ◌+◌, ◌-◌, ℕ, ◌<◌, map, take, [], ◌∷◌, length, ap, sym, ◌∙◌, arith, length-append}
+use Rattle.std.proofs.Common.{◌≡◌, ◌+◌, ◌-◌, map, take, [], ◌∷◌, length, ap, sym, ◌∙◌, arith, length-append}
 use Rattle.std.specs.Prelude.{count_by}
 use Rattle.std.specs.Int.{from_bool}
-use Rattle.std.proofs.lemmas.List.{length-map}
 use Rattle.fk_names.specs.View.{mark_of}
 use Rattle.fk_names.specs.Visible.{depth, is_opening, is_closing}
 use Rattle.fk_names.proofs.SurveyLemmas.{mark_at, count_more, index_more}

@@ -1,4 +1,4 @@
-use Rattle.std.proofs.Common.{◌≡◌, ◌+◌, ℕ, [], ◌∷◌, length, map, ap, ◌∙◌, sym, arith, length-append}
+use Rattle.std.proofs.Common.{◌+◌, [], ◌∷◌, length, map, ap, ◌∙◌, sym, arith, length-append}
 use Rattle.fk_names.specs.View.{mark_of}
 use Rattle.fk_names.specs.Outline.{declared_by}
 use Rattle.fk_names.specs.Means.{binding}

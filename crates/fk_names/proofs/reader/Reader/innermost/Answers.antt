@@ -1,8 +1,7 @@
-use Rattle.std.proofs.Common.{◌≡◌, ℕ, Option, Some, None, sym, subst}
+use Rattle.std.proofs.Common.{sym, subst}
 use Rattle.std.specs.Prelude.{MatchOption}
 use Rattle.fk_names.specs.Visible.{IsHidden, IsInnermost}
-use Rattle.fk_names.specs.TableView.{shown}
-use Rattle.fk_names.specs.Reading.{IsAt, marks_of}
+use Rattle.fk_names.specs.Reading.{marks_of}
 use Rattle.fk_names.proofs.ReadingLemmas.{innermost_at}
 use Rattle.fk_names.proofs.reader.Reader.innermost.Goals as goal
 
