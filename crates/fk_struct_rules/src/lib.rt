@@ -1,0 +1,10 @@
+//! The rules of Fork95 about types as they are written and about structs, and the first that a text
+//! breaks.
+#![tactic(auto)]
+
+mod declarations;
+
+pub use declarations::{declaration_fault, no_struct, parameter_fault, result_fault, sizeof_fault};
+
+#[cfg(test)]
+mod tests;
