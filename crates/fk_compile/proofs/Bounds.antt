@@ -6,14 +6,14 @@ use Rattle.fk_syntax.specs.Program.{ProgramTree}
 use Rattle.fk_lex.specs.declared.step.Step.{Step}
 use Rattle.fk_lex.specs.declared.step.Step.TheVariants.{Gap, Token, Fault}
 use Rattle.fk_lex.specs.declared.token.TokenKind.{TokenKind}
+use Rattle.fk_lex.specs.declared.token.TokenKind.TheVariants as kind
 use Rattle.fk_lex.specs.Reading.{Spelled, Cuts, tokens_in, Tokens}
 use Rattle.fk_lex.proofs.Extents.{short_line}
-use Rattle.fk_expr.specs.Languages.{Stretch, Language, tokens_of, numbered, token, many}
+use Rattle.fk_reading.specs.Languages.{Stretch, Language, numbered, token, many}
 use Rattle.fk_expr.specs.Grammar.{base}
-use Rattle.fk_expr.specs.Kinds.{is_int, is_unsigned, is_void, is_struct, is_name}
-use Rattle.fk_parse.specs.Statements.{struct_item, variables, function_item, item}
-use Rattle.fk_parse.specs.Kinds.{is_semicolon}
-use Rattle.fk_parse.specs.Parses.{Derives, beginning, end_of}
+use Rattle.fk_stmt.specs.Statements.{variables}
+use Rattle.fk_parse.specs.Items.{struct_item, function_item, item}
+use Rattle.fk_parse.specs.Parses.{SpellsProgram, beginning, end_of}
 
 -- ---- columns
 
@@ -42,20 +42,20 @@ narrow source tokens t =
 abbrev AtLeast : {A : Type 0} → ℕ → Language A → Type 0
 AtLeast {A} n L = (s : Stretch) (a : A) → L s a → n ≤ length s
 
-token_one : (l : ℕ) (is : TokenKind → Bool) → AtLeast 1 (token l is)
-token_one l is s t w = let n = ap length w.0 in omega arith
+token_one : (l : ℕ) (k : TokenKind) → AtLeast 1 (token l k)
+token_one l k s t w = let n = ap length w.0 in omega arith
 
 -- a type has a token at least
 base_one : (l : ℕ) → AtLeast 1 (base l)
-base_one l s a (inl w) = token_one l is_int s w.0 w.1
+base_one l s a (inl w) = token_one l kind.Int s w.0 w.1
 base_one l s a (inr (inl w)) =
     let both = ap length w.1.2 ∙ length-append w.1.0 w.1.1 in
-    let word = token_one l is_unsigned w.1.0 w.0.0 w.1.3 in
+    let word = token_one l kind.Unsigned w.1.0 w.0.0 w.1.3 in
     omega arith
-base_one l s a (inr (inr (inl w))) = token_one l is_void s w.0 w.1
+base_one l s a (inr (inr (inl w))) = token_one l kind.Void s w.0 w.1
 base_one l s a (inr (inr (inr w))) =
     let both = ap length w.1.2 ∙ length-append w.1.0 w.1.1 in
-    let word = token_one l is_struct w.1.0 w.0.0 w.1.3 in
+    let word = token_one l kind.Struct w.1.0 w.0.0 w.1.3 in
     omega arith
 
 -- `struct` and its name
@@ -64,9 +64,9 @@ struct_two s a w =
     let whole = w.1 in
     let others = whole.4 in
     let all = ap length whole.2 ∙ length-append whole.0 whole.1 in
-    let word = token_one 0 is_struct whole.0 _ whole.3 in
+    let word = token_one 0 kind.Struct whole.0 _ whole.3 in
     let rest = ap length others.2 ∙ length-append others.0 others.1 in
-    let name = token_one 0 is_name others.0 _ others.3 in
+    let name = token_one 0 kind.Word others.0 _ others.3 in
     omega arith
 
 -- a type and the semicolon
@@ -77,9 +77,9 @@ variables_two bound s a w =
     let last = typed.4 in
     let all = ap length whole.2 ∙ length-append whole.0 whole.1 in
     let others = ap length typed.2 ∙ length-append typed.0 typed.1 in
-    let kind = base_one 0 typed.0 _ typed.3 in
+    let first = base_one 0 typed.0 _ typed.3 in
     let rest = ap length last.2 ∙ length-append last.0 last.1 in
-    let end = token_one 0 is_semicolon last.1 _ last.4 in
+    let end = token_one 0 kind.Semicolon last.1 _ last.4 in
     omega arith
 
 -- a type and the name
@@ -91,10 +91,10 @@ function_two bound s a w =
     let named = starred.4 in
     let all = ap length whole.2 ∙ length-append whole.0 whole.1 in
     let others = ap length typed.2 ∙ length-append typed.0 typed.1 in
-    let kind = base_one 0 typed.0 _ typed.3 in
+    let first = base_one 0 typed.0 _ typed.3 in
     let rest = ap length starred.2 ∙ length-append starred.0 starred.1 in
     let last = ap length named.2 ∙ length-append named.0 named.1 in
-    let name = token_one 0 is_name named.0 _ named.3 in
+    let name = token_one 0 kind.Word named.0 _ named.3 in
     omega arith
 
 item_two : (bound : ℕ) → AtLeast 2 (item bound)
@@ -115,9 +115,9 @@ length-numbered at [] = refl
 length-numbered at (t ∷ tokens) = ap suc (length-numbered (at + 1) tokens)
 
 -- tokens make at most half as many items
-pub few_items : (tokens : List Spelled) (tree : ProgramTree) → Derives tokens tree → 2 * length tree.items ≤ length tokens
+pub few_items : (tokens : List Spelled) (tree : ProgramTree) → SpellsProgram tokens tree → 2 * length tree.items ≤ length tokens
 few_items tokens tree d =
     let v = d.items in
-    let all = ap length v.longest.first ∙ ap length (append-nil (tokens_of v.stretch)) ∙ length-map v.stretch (λ m. m.token) in
+    let all = ap length v.is ∙ length-map v.stretch (λ m. m.token) in
     let items = many_items (item v.spelled.0) (item_two v.spelled.0) v.stretch tree.items v.spelled.1 in
     omega (arith, length-numbered 0 tokens)

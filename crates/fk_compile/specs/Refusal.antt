@@ -2,7 +2,7 @@
 use Rattle.std.specs.Prelude.{◌≡◌, ℕ, ◌<◌, ◌≤◌, List, length}
 use Rattle.fk_lex.specs.declared.token.LexFault.TheVariants as fault
 use Rattle.fk_lex.specs.Reading.{Faults}
-use Rattle.fk_expr.specs.declared.fault.SyntaxFault.TheVariants as syntax_fault
+use Rattle.fk_reading.specs.declared.fault.SyntaxFault.TheVariants as syntax_fault
 use Rattle.fk_compile.specs.Text.{HasSyntaxFault, IsNotStraight}
 use Rattle.fk_compile.specs.declared.refusal.Refusal.{Refusal}
 use Rattle.fk_compile.specs.declared.refusal.Refusal.TheVariants.{BadByte, OpenComment, OpenString, WideNumber, Unexpected, EndOfText, Nesting, SourceTooLong, NotBuilt, Memory}

@@ -2,7 +2,7 @@
 use Rattle.std.specs.Prelude.{ℕ, List}
 use Rattle.fk_syntax.specs.Program.{ProgramTree}
 use Rattle.fk_lex.specs.Reading.{Spelled, Tokens}
-use Rattle.fk_expr.specs.declared.fault.SyntaxFault.{SyntaxFault}
+use Rattle.fk_reading.specs.declared.fault.SyntaxFault.{SyntaxFault}
 use Rattle.fk_parse.specs.Parses as parses
 use Rattle.fk_parse.specs.Refusals as refusals
 use Rattle.fk_meaning.specs.declared.syntax.Program.{Program}
@@ -12,13 +12,13 @@ use Rattle.fk_straight.specs.Straight as trees
 pub record HasTree (source : List ℕ) (tree : ProgramTree) : Type 0 where
   pub tokens : List Spelled
   pub spelled : Tokens source tokens
-  pub derived : parses.Derives tokens tree
+  pub derived : parses.SpellsProgram tokens tree
 
 -- a text has tokens, and for this fault they have no tree
 pub record HasSyntaxFault (source : List ℕ) (fault : SyntaxFault) : Type 0 where
   pub tokens : List Spelled
   pub spelled : Tokens source tokens
-  pub refused : refusals.IsRefused tokens fault
+  pub refused : refusals.RefusesTokens tokens fault
 
 -- a text has a tree, and it is that of a straight-line program
 pub record IsStraight (source : List ℕ) (program : Program) : Type 0 where

@@ -2,17 +2,19 @@
 use Rattle.std.proofs.Common.{ℕ, zero, suc, ◌+◌, ◌≤◌, refl, arith, false}
 use Rattle.fk_lex.specs.declared.token.TokenKind.TheVariants as kind
 use Rattle.fk_syntax.specs.declared.sign.Sign.TheVariants as sign
-use Rattle.fk_expr.specs.Languages.{telling, ◌then◌}
-use Rattle.fk_expr.specs.Kinds.{is_name, number_told, is_text, is_at, is_dollar, is_puts, is_sizeof, is_open_parenthesis, is_close_parenthesis, prefix_told}
+use Rattle.fk_reading.specs.Languages.{telling, ◌then◌}
+use Rattle.fk_expr.specs.Kinds.{number_told, prefix_told}
 use Rattle.fk_expr.specs.Grammar.{Deeper, deeper, parenthesized, puts, primary, suffix, postfix, cast, sizeof, prefix, joined, choice, assignment, comma}
-use Rattle.fk_expr.specs.Reading.{tells, begins_primary, begins_expression}
-use Rattle.fk_expr.proofs.Sets.{Kinds, ◌∪◌}
-use Rattle.fk_expr.proofs.EachKind.{within_by}
-use Rattle.fk_expr.proofs.Exact.{Example, Shape}
-use Rattle.fk_expr.proofs.Token.{example_token, example_telling, shape_token, shape_telling}
-use Rattle.fk_expr.proofs.Shapes.{example_making, example_then, example_left, example_right, example_empty, empty_many, empty_maybe, shape_lower, shape_kinds, shape_nothing, shape_making, shape_then, shape_or}
-use Rattle.fk_expr.proofs.Productions.{shape_in_parentheses, example_in_parentheses}
+use Rattle.fk_reading.specs.Readers.{tells}
+use Rattle.fk_expr.specs.Reading.{begins_primary, begins_expression}
+use Rattle.fk_reading.proofs.Sets.{Kinds, ◌∪◌}
+use Rattle.fk_reading.proofs.EachKind.{within_by}
+use Rattle.fk_reading.proofs.Exact.{Example, Shape}
+use Rattle.fk_reading.proofs.Token.{example_token, example_telling, shape_token, shape_telling}
+use Rattle.fk_reading.proofs.Shapes.{example_making, example_then, example_left, example_right, example_empty, empty_many, empty_maybe, shape_lower, shape_kinds, shape_nothing, shape_making, shape_then, shape_or}
+use Rattle.fk_reading.proofs.Productions.{shape_in_parentheses, example_in_parentheses}
 use Rattle.fk_expr.proofs.TypeNames.{example_type_name}
+use Rattle.fk_reading.specs.Kinds.{just}
 
 -- ---- examples
 
@@ -57,45 +59,45 @@ examples (suc n) l h = record {
 -- ---- shapes
 
 -- each production, with the kinds that begin it
-pub shape_parenthesized : {room : Type 0} (D : Deeper) (l : ℕ) → (room → Examples D (l + 1)) → Shape (parenthesized D l) (l + 1) is_open_parenthesis room
+pub shape_parenthesized : {room : Type 0} (D : Deeper) (l : ℕ) → (room → Examples D (l + 1)) → Shape (parenthesized D l) (l + 1) (just kind.OpenParenthesis) room
 shape_parenthesized D l x = shape_making _ (shape_in_parentheses (l + 1) (λ r. (x r).comma))
 
-pub shape_puts : {room : Type 0} (l : ℕ) → Shape (puts l) l is_puts room
+pub shape_puts : {room : Type 0} (l : ℕ) → Shape (puts l) l (just kind.Puts) room
 shape_puts l =
-    shape_making _ (shape_then (shape_token l is_puts kind.Puts refl)
-    (λ r. example_in_parentheses (l + 1) (example_token (l + 1) is_text kind.Text refl)))
+    shape_making _ (shape_then (shape_token l kind.Puts)
+    (λ r. example_in_parentheses (l + 1) (example_token (l + 1) kind.Text)))
 
 abbrev primaries : Kinds
-primaries = tells number_told ∪ (is_name ∪ (is_at ∪ (is_dollar ∪ (is_open_parenthesis ∪ is_puts))))
+primaries = tells number_told ∪ (just kind.Word ∪ (just kind.At ∪ (just kind.Dollar ∪ (just kind.OpenParenthesis ∪ just kind.Puts))))
 
 pub shape_primary : {room : Type 0} (D : Deeper) (l : ℕ) → (room → Examples D (l + 1)) → Shape (primary D l) l begins_primary room
 shape_primary D l x =
     shape_kinds begins_primary (within_by primaries begins_primary refl (λ v u. refl)) (within_by begins_primary primaries refl (λ v u. refl))
     (shape_or (shape_making _ (shape_telling l number_told (kind.Number 0 false) (0, false) refl))
-    (shape_or (shape_making _ (shape_token l is_name kind.Word refl))
-    (shape_or (shape_making _ (shape_token l is_at kind.At refl))
-    (shape_or (shape_making _ (shape_token l is_dollar kind.Dollar refl))
+    (shape_or (shape_making _ (shape_token l kind.Word))
+    (shape_or (shape_making _ (shape_token l kind.At))
+    (shape_or (shape_making _ (shape_token l kind.Dollar))
     (shape_or (shape_lower (omega arith) (shape_parenthesized D l x))
     (shape_puts l))))))
 
 pub shape_postfix : {room : Type 0} (D : Deeper) (l : ℕ) → (room → Examples D (l + 1)) → Shape (postfix D l) l begins_primary room
 shape_postfix D l x = shape_making _ (shape_then (shape_primary D l x) (λ r. example_empty (empty_many _)))
 
-pub shape_cast : {room : Type 0} (D : Deeper) (l : ℕ) → (room → Examples D (l + 1)) → Shape (cast D l) (l + 1) is_open_parenthesis room
+pub shape_cast : {room : Type 0} (D : Deeper) (l : ℕ) → (room → Examples D (l + 1)) → Shape (cast D l) (l + 1) (just kind.OpenParenthesis) room
 shape_cast D l x =
-    shape_making _ (shape_then (shape_token (l + 1) is_open_parenthesis kind.OpenParenthesis refl)
-    (λ r. example_then (example_type_name (l + 1)) (example_then (example_token (l + 1) is_close_parenthesis kind.CloseParenthesis refl) (x r).prefix)))
+    shape_making _ (shape_then (shape_token (l + 1) kind.OpenParenthesis)
+    (λ r. example_then (example_type_name (l + 1)) (example_then (example_token (l + 1) kind.CloseParenthesis) (x r).prefix)))
 
-pub shape_sizeof : {room : Type 0} (l : ℕ) → Shape (sizeof l) l is_sizeof room
+pub shape_sizeof : {room : Type 0} (l : ℕ) → Shape (sizeof l) l (just kind.Sizeof) room
 shape_sizeof l =
-    shape_making _ (shape_then (shape_token l is_sizeof kind.Sizeof refl)
+    shape_making _ (shape_then (shape_token l kind.Sizeof)
     (λ r. example_in_parentheses (l + 1) (example_type_name (l + 1))))
 
 pub shape_signed : {room : Type 0} (D : Deeper) (l : ℕ) → (room → Examples D (l + 1)) → Shape (telling (l + 1) prefix_told then D.prefix (l + 1)) (l + 1) (tells prefix_told) room
 shape_signed D l x = shape_then (shape_telling (l + 1) prefix_told kind.Minus sign.Minus refl) (λ r. (x r).prefix)
 
 abbrev prefixes : Kinds
-prefixes = tells prefix_told ∪ (is_open_parenthesis ∪ (is_sizeof ∪ begins_primary))
+prefixes = tells prefix_told ∪ (just kind.OpenParenthesis ∪ (just kind.Sizeof ∪ begins_primary))
 
 pub shape_prefix : {room : Type 0} (D : Deeper) (l : ℕ) → (room → Examples D (l + 1)) → Shape (prefix D l) l begins_expression room
 shape_prefix D l x =

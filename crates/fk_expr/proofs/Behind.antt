@@ -1,45 +1,23 @@
--- What is read of two parts, and of the parts that join operands.
-use Rattle.std.proofs.Common.{◌≡◌, ℕ, zero, suc, ◌+◌, ◌-◌, ◌<◌, ◌≤◌, List, [], ◌∷◌, ◌++◌, Option, Some, None, true, Result, Ok, Err, map, refl, sym, ap, subst, ◌∙◌, arith, append_assoc}
-use Rattle.std.specs.Result.{IsErrAnd}
+-- What is read of the parts that join operands.
+use Rattle.std.proofs.Common.{◌≡◌, ℕ, zero, suc, ◌+◌, ◌-◌, ◌<◌, ◌≤◌, List, [], ◌∷◌, ◌++◌, Option, Some, None, true, Ok, map, refl, sym, ap, subst, ◌∙◌, arith, append_assoc}
 use Rattle.std.proofs.lemmas.List.{map-append}
 use Rattle.fk_syntax.specs.declared.place.Spot.{Spot}
 use Rattle.fk_syntax.specs.declared.sign.Sign.{Sign}
 use Rattle.fk_syntax.specs.declared.sign.Sign.TheVariants as sign
 use Rattle.fk_syntax.specs.Tree.{Tree, LinkTree, SuffixTree}
-use Rattle.fk_expr.specs.Kinds.{is_comma}
-use Rattle.fk_expr.specs.Grammar.{spot, operator_at, linked, chained, suffixed, listed}
-use Rattle.fk_expr.specs.declared.fault.SyntaxFault.{SyntaxFault}
-use Rattle.fk_expr.specs.Languages.{Placed}
-use Rattle.fk_expr.specs.Reads.{Answer}
-use Rattle.fk_expr.specs.Reading.{Reader, Readers, after, giving, ◌and◌, either, next_is, tells, expect, expect_told, repeated, begins_suffix, begins_expression, read_primary, read_suffix, read_postfix, read_prefix, read_joined, read_assignment, read_comma, read_next_argument, read_arguments}
-use Rattle.fk_expr.specs.Ahead.{plenty, read_link, read_links, read_comma_link, NoOperator}
-use Rattle.fk_expr.specs.Gives.{Gives, Makes, Halts}
-use Rattle.fk_expr.proofs.Halting.{halts_after}
-use Rattle.fk_expr.proofs.Repeats.{repeated_end}
-
-pub behind_reads : {A B C : Type 0} (f : A × B → C) (P : Reader A) (Q : Reader B) (ts mid rest : List Placed) (a : A) (b : B)
-    → P ts ≡ Ok (a, mid) → Q mid ≡ Ok (b, rest) → giving f (P and Q) ts ≡ Ok (f (a, b), rest)
-behind_reads f P Q ts mid rest a b g h =
-    ap (λ x. after (after x (λ x rest. after (Q rest) (λ y others. Ok ((x, y), others)))) (λ x rest. Ok (f x, rest))) g
-    ∙ ap (λ y. after (after y (λ y others. Ok ((a, y), others))) (λ x rest. Ok (f x, rest))) h
-
-pub behind_halts : {A B C : Type 0} (f : A × B → C) (P : Reader A) (Q : Reader B) (ts mid : List Placed) (a : A) (fault : SyntaxFault) (now : List Placed)
-    → P ts ≡ Ok (a, mid) → Halts (Q mid) fault now → Halts (giving f (P and Q) ts) fault now
-behind_halts {A} f P Q ts mid a fault now g h =
-    subst (λ (x : Answer A). Halts (after (after x (λ x rest. after (Q rest) (λ y others. Ok ((x, y), others)))) (λ x rest. Ok (f x, rest))) fault now) (sym g)
-    (halts_after (after (Q mid) (λ y others. Ok ((a, y), others))) (λ x rest. Ok (f x, rest)) fault now
-    (halts_after (Q mid) (λ y others. Ok ((a, y), others)) fault now h))
-
--- an answer that only hands on a fault
-pub gives_fault : {A B : Type 0} (view : A → B) (r : Result A SyntaxFault) (fault : SyntaxFault) (now : List Placed) (answer : Answer B)
-    → IsErrAnd r (λ z. z ≡ fault) → Halts answer fault now → Gives view r now answer
-gives_fault view (Ok a) fault now answer e h = absurd e
-gives_fault view (Err z) fault now answer e h = subst (λ z. Halts answer z now) (sym e) h
-
-pub makes_fault : {A B C : Type 0} (made : B → A) (view : C → A) (r : Result C SyntaxFault) (fault : SyntaxFault) (now : List Placed) (answer : Answer B)
-    → IsErrAnd r (λ z. z ≡ fault) → Halts answer fault now → Makes made view r now answer
-makes_fault made view (Ok c) fault now answer e h = absurd e
-makes_fault made view (Err z) fault now answer e h = subst (λ z. Halts answer z now) (sym e) h
+use Rattle.fk_reading.specs.Languages.{spot, Placed}
+use Rattle.fk_expr.specs.Grammar.{operator_at, linked, chained, suffixed, listed}
+use Rattle.fk_reading.specs.declared.fault.SyntaxFault.{SyntaxFault}
+use Rattle.fk_reading.specs.Readers.{after, giving, ◌and◌, either, next_is, tells, expect, expect_told, repeated}
+use Rattle.fk_expr.specs.Reading.{Readers, begins_suffix, begins_expression, read_primary, read_suffix, read_postfix, read_prefix, read_joined, read_assignment, read_comma, read_next_argument, read_arguments}
+use Rattle.fk_reading.specs.Ahead.{plenty}
+use Rattle.fk_expr.specs.Ahead.{read_link, read_links, read_comma_link, NoOperator}
+use Rattle.fk_reading.specs.Gives.{Halts}
+use Rattle.fk_reading.proofs.Halting.{halts_after}
+use Rattle.fk_reading.proofs.Repeats.{repeated_end}
+use Rattle.fk_reading.specs.Kinds.{just}
+use Rattle.fk_lex.specs.declared.token.TokenKind.TheVariants as kind
+use Rattle.fk_reading.proofs.Behind.{behind_reads, behind_halts}
 
 -- ---- links
 
@@ -47,16 +25,16 @@ link_made : (l : LinkTree) (s : Spot) (g : Sign) (r : Tree) → l.spot ≡ s →
 link_made l s g r e f h = rw (← e, ← f, ← h) refl
 
 pub comma_link_reads : (i : Option Readers) (ahead mid rest : List Placed) (s : Placed) (e : Tree) (l : LinkTree)
-    → expect is_comma ahead ≡ Ok (s, mid) → read_assignment plenty i mid ≡ Ok (e, rest) → l.spot ≡ spot s → l.sign ≡ sign.Comma → l.right ≡ e
+    → expect kind.Comma ahead ≡ Ok (s, mid) → read_assignment plenty i mid ≡ Ok (e, rest) → l.spot ≡ spot s → l.sign ≡ sign.Comma → l.right ≡ e
     → read_comma_link plenty i ahead ≡ Ok (l, rest)
 comma_link_reads i ahead mid rest s e l g h a b c =
-    behind_reads (λ x. record { spot = spot x.0; sign = sign.Comma; right = x.1 }) (expect is_comma) (read_assignment plenty i) ahead mid rest s e g h
+    behind_reads (λ x. record { spot = spot x.0; sign = sign.Comma; right = x.1 }) (expect kind.Comma) (read_assignment plenty i) ahead mid rest s e g h
     ∙ ap (λ l. Ok (l, rest)) (link_made l _ _ _ a b c)
 
 pub comma_link_halts : (i : Option Readers) (ahead mid : List Placed) (s : Placed) (fault : SyntaxFault) (now : List Placed)
-    → expect is_comma ahead ≡ Ok (s, mid) → Halts (read_assignment plenty i mid) fault now → Halts (read_comma_link plenty i ahead) fault now
+    → expect kind.Comma ahead ≡ Ok (s, mid) → Halts (read_assignment plenty i mid) fault now → Halts (read_comma_link plenty i ahead) fault now
 comma_link_halts i ahead mid s fault now g h =
-    behind_halts (λ x. record { spot = spot x.0; sign = sign.Comma; right = x.1 }) (expect is_comma) (read_assignment plenty i) ahead mid s fault now g h
+    behind_halts (λ x. record { spot = spot x.0; sign = sign.Comma; right = x.1 }) (expect kind.Comma) (read_assignment plenty i) ahead mid s fault now g h
 
 pub link_reads : (i : Option Readers) (looseness tighter : ℕ) (ahead mid rest : List Placed) (s : Placed × Sign) (e : Tree) (l : LinkTree)
     → expect_told (operator_at looseness) ahead ≡ Ok (s, mid) → read_joined plenty i tighter mid ≡ Ok (e, rest) → l.spot ≡ spot s.0 → l.sign ≡ s.1 → l.right ≡ e
@@ -71,27 +49,27 @@ link_halts i looseness tighter ahead mid s fault now g h =
     behind_halts linked (expect_told (operator_at looseness)) (read_joined plenty i tighter) ahead mid s fault now g h
 
 pub next_argument_reads : (R : Readers) (ahead mid rest : List Placed) (s : Placed) (e : Tree)
-    → expect is_comma ahead ≡ Ok (s, mid) → R.assignment mid ≡ Ok (e, rest) → read_next_argument R ahead ≡ Ok (e, rest)
-next_argument_reads R ahead mid rest s e g h = behind_reads (λ x. x.1) (expect is_comma) R.assignment ahead mid rest s e g h
+    → expect kind.Comma ahead ≡ Ok (s, mid) → R.assignment mid ≡ Ok (e, rest) → read_next_argument R ahead ≡ Ok (e, rest)
+next_argument_reads R ahead mid rest s e g h = behind_reads (λ x. x.1) (expect kind.Comma) R.assignment ahead mid rest s e g h
 
 pub next_argument_halts : (R : Readers) (ahead mid : List Placed) (s : Placed) (fault : SyntaxFault) (now : List Placed)
-    → expect is_comma ahead ≡ Ok (s, mid) → Halts (R.assignment mid) fault now → Halts (read_next_argument R ahead) fault now
-next_argument_halts R ahead mid s fault now g h = behind_halts (λ x. x.1) (expect is_comma) R.assignment ahead mid s fault now g h
+    → expect kind.Comma ahead ≡ Ok (s, mid) → Halts (R.assignment mid) fault now → Halts (read_next_argument R ahead) fault now
+next_argument_halts R ahead mid s fault now g h = behind_halts (λ x. x.1) (expect kind.Comma) R.assignment ahead mid s fault now g h
 
 -- ---- a first part, and as many more as come
 
 pub comma_reads : (i : Option Readers) (ts mid rest : List Placed) (first : Tree) (links : List LinkTree) (e : Tree)
-    → read_assignment plenty i ts ≡ Ok (first, mid) → repeated plenty is_comma (read_comma_link plenty i) mid ≡ Ok (links, rest) → e ≡ chained first links
+    → read_assignment plenty i ts ≡ Ok (first, mid) → repeated plenty (just kind.Comma) (read_comma_link plenty i) mid ≡ Ok (links, rest) → e ≡ chained first links
     → read_comma plenty i ts ≡ Ok (e, rest)
 unfolding read_comma
 comma_reads i ts mid rest first links e g h c =
-    behind_reads (λ x. chained x.0 x.1) (read_assignment plenty i) (repeated plenty is_comma (read_comma_link plenty i)) ts mid rest first links g h ∙ ap (λ e. Ok (e, rest)) (sym c)
+    behind_reads (λ x. chained x.0 x.1) (read_assignment plenty i) (repeated plenty (just kind.Comma) (read_comma_link plenty i)) ts mid rest first links g h ∙ ap (λ e. Ok (e, rest)) (sym c)
 
 pub comma_halts : (i : Option Readers) (ts mid : List Placed) (first : Tree) (fault : SyntaxFault) (now : List Placed)
-    → read_assignment plenty i ts ≡ Ok (first, mid) → Halts (repeated plenty is_comma (read_comma_link plenty i) mid) fault now → Halts (read_comma plenty i ts) fault now
+    → read_assignment plenty i ts ≡ Ok (first, mid) → Halts (repeated plenty (just kind.Comma) (read_comma_link plenty i) mid) fault now → Halts (read_comma plenty i ts) fault now
 unfolding read_comma
 comma_halts i ts mid first fault now g h =
-    behind_halts (λ x. chained x.0 x.1) (read_assignment plenty i) (repeated plenty is_comma (read_comma_link plenty i)) ts mid first fault now g h
+    behind_halts (λ x. chained x.0 x.1) (read_assignment plenty i) (repeated plenty (just kind.Comma) (read_comma_link plenty i)) ts mid first fault now g h
 
 pub postfix_reads : (i : Option Readers) (ts mid rest : List Placed) (whole : Tree) (suffixes : List SuffixTree) (e : Tree)
     → read_primary i ts ≡ Ok (whole, mid) → repeated plenty begins_suffix (read_suffix plenty i) mid ≡ Ok (suffixes, rest) → e ≡ suffixed whole suffixes
@@ -107,22 +85,22 @@ postfix_halts i ts mid whole fault now g h =
     behind_halts (λ x. suffixed x.0 x.1) (read_primary i) (repeated plenty begins_suffix (read_suffix plenty i)) ts mid whole fault now g h
 
 pub arguments_reads : (R : Readers) (ts mid rest : List Placed) (first : Tree) (others all : List Tree)
-    → next_is begins_expression ts ≡ true → R.assignment ts ≡ Ok (first, mid) → repeated plenty is_comma (read_next_argument R) mid ≡ Ok (others, rest)
+    → next_is begins_expression ts ≡ true → R.assignment ts ≡ Ok (first, mid) → repeated plenty (just kind.Comma) (read_next_argument R) mid ≡ Ok (others, rest)
     → all ≡ first ∷ others → read_arguments plenty R ts ≡ Ok (all, rest)
 unfolding read_arguments
 arguments_reads R ts mid rest first others all n g h a =
-    ap (λ b. giving listed (λ ts. either b (giving Some (R.assignment and repeated plenty is_comma (read_next_argument R))) (λ ts. Ok (None, ts)) ts) ts) n
-    ∙ ap (λ r. after r (λ a rest. Ok (listed a, rest))) (behind_reads Some R.assignment (repeated plenty is_comma (read_next_argument R)) ts mid rest first others g h)
+    ap (λ b. giving listed (λ ts. either b (giving Some (R.assignment and repeated plenty (just kind.Comma) (read_next_argument R))) (λ ts. Ok (None, ts)) ts) ts) n
+    ∙ ap (λ r. after r (λ a rest. Ok (listed a, rest))) (behind_reads Some R.assignment (repeated plenty (just kind.Comma) (read_next_argument R)) ts mid rest first others g h)
     ∙ ap (λ l. Ok (l, rest)) (sym a)
 
 pub arguments_halts : (R : Readers) (ts mid : List Placed) (first : Tree) (fault : SyntaxFault) (now : List Placed)
-    → next_is begins_expression ts ≡ true → R.assignment ts ≡ Ok (first, mid) → Halts (repeated plenty is_comma (read_next_argument R) mid) fault now
+    → next_is begins_expression ts ≡ true → R.assignment ts ≡ Ok (first, mid) → Halts (repeated plenty (just kind.Comma) (read_next_argument R) mid) fault now
     → Halts (read_arguments plenty R ts) fault now
 unfolding read_arguments
 arguments_halts R ts mid first fault now n g h =
-    subst (λ b. Halts (giving listed (λ ts. either b (giving Some (R.assignment and repeated plenty is_comma (read_next_argument R))) (λ ts. Ok (None, ts)) ts) ts) fault now) (sym n)
-    (halts_after (giving Some (R.assignment and repeated plenty is_comma (read_next_argument R)) ts) (λ a rest. Ok (listed a, rest)) fault now
-    (behind_halts Some R.assignment (repeated plenty is_comma (read_next_argument R)) ts mid first fault now g h))
+    subst (λ b. Halts (giving listed (λ ts. either b (giving Some (R.assignment and repeated plenty (just kind.Comma) (read_next_argument R))) (λ ts. Ok (None, ts)) ts) ts) fault now) (sym n)
+    (halts_after (giving Some (R.assignment and repeated plenty (just kind.Comma) (read_next_argument R)) ts) (λ a rest. Ok (listed a, rest)) fault now
+    (behind_halts Some R.assignment (repeated plenty (just kind.Comma) (read_next_argument R)) ts mid first fault now g h))
 
 -- one more behind the first ones of a list
 pub more_behind : {X A : Type 0} (view : X → A) (items more : List X) (x : X) (start others : List A)

@@ -1,18 +1,20 @@
 -- Expressions are read as the grammar says, at each level and with each bound on repetitions.
 use Rattle.std.proofs.Common.{◌≡◌, ℕ, zero, suc, ◌+◌, ◌-◌, ◌≤◌, List, length, inl, inr, refl, arith}
-use Rattle.fk_expr.specs.Languages.{Placed, nothing}
-use Rattle.fk_expr.specs.Reads.{Reads, most_levels}
+use Rattle.fk_reading.specs.Languages.{Placed, nothing}
+use Rattle.fk_reading.specs.Reads.{Reads}
+use Rattle.fk_reading.specs.declared.limits.TheConstants.{LEVELS}
 use Rattle.fk_expr.specs.Grammar.{deeper, Comma, Assignment}
-use Rattle.fk_expr.specs.Reading.{Reader, inner, begins_suffix, begins_expression, read_comma, read_assignment, read_choice, read_prefix}
-use Rattle.fk_expr.proofs.Sets.{Kinds}
-use Rattle.fk_expr.proofs.Shapes.{shape_nothing}
-use Rattle.fk_expr.proofs.Productions.{IsRead}
+use Rattle.fk_reading.specs.Readers.{Reader}
+use Rattle.fk_expr.specs.Reading.{inner, begins_suffix, begins_expression, read_comma, read_assignment, read_choice, read_prefix}
+use Rattle.fk_reading.proofs.Sets.{Kinds}
+use Rattle.fk_reading.proofs.Shapes.{shape_nothing}
+use Rattle.fk_reading.proofs.Productions.{IsRead}
 use Rattle.fk_expr.proofs.Beginnings.{deeper_shapes}
 use Rattle.fk_expr.proofs.Followers.{goes_choice, goes_assignment, goes_comma}
 use Rattle.fk_expr.proofs.Inner.{Inner}
 use Rattle.fk_expr.proofs.Prefixes.{reads_prefix}
 use Rattle.fk_expr.proofs.Operands.{reads_choice, reads_assignment_at, reads_comma_at}
-use Rattle.fk_expr.proofs.Longest.{Faithful, reads}
+use Rattle.fk_reading.proofs.Longest.{Faithful, reads}
 
 -- a language with no stretch, where there is no room
 reads_nothing : {levels : ℕ} {room : Type 0} {A : Type 0} (P : ℕ → Reader A) (level : ℕ) (first goes_on : Kinds) → (room → ⊥) → IsRead levels nothing P level first goes_on room
@@ -100,10 +102,10 @@ faithful_assignment {levels} level h = record {
 }
 
 -- what is answered of an expression with commas
-pub reads_comma : (level most : ℕ) (ts : List Placed) → level ≤ most_levels → length ts ≤ most → Reads (Comma level) ts (read_comma most (inner most (most_levels - level)) ts)
+pub reads_comma : (level most : ℕ) (ts : List Placed) → level ≤ LEVELS → length ts ≤ most → Reads (Comma level) ts (read_comma most (inner most (LEVELS - level)) ts)
 reads_comma level most ts h fits = reads (faithful_comma level h) most ts fits
 
 -- what is answered of an assignment
-pub reads_assignment : (level most : ℕ) (ts : List Placed) → level ≤ most_levels → length ts ≤ most
-    → Reads (Assignment level) ts (read_assignment most (inner most (most_levels - level)) ts)
+pub reads_assignment : (level most : ℕ) (ts : List Placed) → level ≤ LEVELS → length ts ≤ most
+    → Reads (Assignment level) ts (read_assignment most (inner most (LEVELS - level)) ts)
 reads_assignment level most ts h fits = reads (faithful_assignment level h) most ts fits

@@ -1,11 +1,14 @@
 -- The kinds of tokens that go on with an expression.
 use Rattle.std.proofs.Common.{◌≡◌, ℕ, zero, suc, ◌<◌, Option, Some, None, Bool, true, false, IsTrue, refl, sym, ap, ◌∙◌, arith, ◌==◌, if◌then◌else◌, eqb-true}
 use Rattle.fk_syntax.specs.declared.sign.Sign.{Sign}
-use Rattle.fk_expr.specs.Kinds.{is_question, is_comma, assignment_told, operator_told}
+use Rattle.fk_expr.specs.Kinds.{assignment_told, operator_told}
 use Rattle.fk_expr.specs.Grammar.{only, operator_at}
-use Rattle.fk_expr.specs.Reading.{tells, does_tell, begins_suffix}
-use Rattle.fk_expr.proofs.Sets.{Kinds, ◌∪◌, Apart, union_apart}
-use Rattle.fk_expr.proofs.EachKind.{apart_by}
+use Rattle.fk_reading.specs.Readers.{tells, does_tell}
+use Rattle.fk_expr.specs.Reading.{begins_suffix}
+use Rattle.fk_reading.proofs.Sets.{Kinds, ◌∪◌, Apart, union_apart}
+use Rattle.fk_reading.proofs.EachKind.{apart_by}
+use Rattle.fk_reading.specs.Kinds.{just}
+use Rattle.fk_lex.specs.declared.token.TokenKind.TheVariants as kind
 
 -- joined operands go on with a suffix, and with an operator that binds so loosely or tighter
 abbrev pub goes_joined : ℕ → Kinds
@@ -14,7 +17,7 @@ goes_joined (suc looseness) = goes_joined looseness ∪ tells (operator_at (suc 
 
 -- a choice goes on with `?` too
 abbrev pub goes_choice : Kinds
-goes_choice = goes_joined 10 ∪ is_question
+goes_choice = goes_joined 10 ∪ just kind.Question
 
 -- an assignment goes on with the sign of an assignment too
 abbrev pub goes_assignment : Kinds
@@ -22,7 +25,7 @@ goes_assignment = goes_choice ∪ tells assignment_told
 
 -- an expression with commas goes on with a comma too
 abbrev pub goes_comma : Kinds
-goes_comma = goes_assignment ∪ is_comma
+goes_comma = goes_assignment ∪ just kind.Comma
 
 -- ---- each operator binds at one level
 

@@ -4,17 +4,19 @@ use Rattle.fk_syntax.specs.declared.sign.Sign.{Sign}
 use Rattle.fk_syntax.specs.declared.sign.Sign.TheVariants as sign
 use Rattle.fk_lex.specs.declared.token.TokenKind.{TokenKind}
 use Rattle.fk_lex.specs.declared.token.TokenKind.TheVariants as kind
-use Rattle.fk_expr.specs.Kinds.{is_question, is_colon, is_comma, assignment_told}
+use Rattle.fk_expr.specs.Kinds.{assignment_told}
 use Rattle.fk_expr.specs.Grammar.{Deeper, operator_at, joined, choice, assignment, comma}
-use Rattle.fk_expr.specs.Reading.{Readers, tells, begins_expression, read_joined, read_choice, read_assignment, read_comma}
-use Rattle.fk_expr.proofs.Sets.{Kinds, ◌∪◌, Apart, Within, none_apart, within_left, union_within}
-use Rattle.fk_expr.proofs.EachKind.{apart_by, within_by}
-use Rattle.fk_expr.proofs.Token.{example_token, shape_token}
-use Rattle.fk_expr.proofs.Shapes.{example_then, shape_then}
-use Rattle.fk_expr.proofs.Productions.{IsRead, reads_token, reads_telling, reads_making, reads_then, reads_then_loose, reads_maybe, reads_many, reads_wider}
+use Rattle.fk_expr.specs.Reading.{Readers, begins_expression, read_joined, read_choice, read_assignment, read_comma}
+use Rattle.fk_reading.specs.Readers.{tells}
+use Rattle.fk_reading.proofs.Sets.{Kinds, ◌∪◌, Apart, Within, none_apart, within_left, union_within}
+use Rattle.fk_reading.proofs.EachKind.{apart_by, within_by}
+use Rattle.fk_reading.proofs.Token.{example_token, shape_token}
+use Rattle.fk_reading.proofs.Shapes.{example_then, shape_then}
+use Rattle.fk_reading.proofs.Productions.{IsRead, reads_token, reads_telling, reads_making, reads_then, reads_then_loose, reads_maybe, reads_many, reads_wider}
 use Rattle.fk_expr.proofs.Followers.{goes_joined, goes_choice, goes_assignment, goes_comma, joined_apart}
 use Rattle.fk_expr.proofs.Inner.{Inner, examples_of, reads_opened}
 use Rattle.fk_expr.proofs.Prefixes.{reads_prefix}
+use Rattle.fk_reading.specs.Kinds.{just}
 
 -- ---- joined operands
 
@@ -62,18 +64,18 @@ pub reads_choice : {levels : ℕ} {room : Type 0} (D : Deeper) (l : ℕ) (inner 
 unfolding read_choice
 reads_choice D l inner w =
     reads_wider goes_choice
-    (union_within (goes_joined 10) (goes_choice ∪ is_question) goes_choice (within_left (goes_joined 10) is_question)
-    (union_within goes_choice is_question goes_choice (λ k h. h) (within_by is_question goes_choice refl (λ v u. refl))))
+    (union_within (goes_joined 10) (goes_choice ∪ just kind.Question) goes_choice (within_left (goes_joined 10) (just kind.Question))
+    (union_within goes_choice (just kind.Question) goes_choice (λ k h. h) (within_by (just kind.Question) goes_choice refl (λ v u. refl))))
     (reads_making _ (reads_then_loose (reads_joined D l inner w 10 (omega arith))
     (reads_maybe (reads_opened _ w
-    (shape_then (shape_token (l + 1) is_question kind.Question refl)
-    (λ r. example_then (examples_of w r).comma (example_then (example_token (l + 1) is_colon kind.Colon refl) (examples_of w r).choice)))
-    (λ v. (reads_then (reads_token (l + 1) is_question kind.Question refl v.shallow)
+    (shape_then (shape_token (l + 1) kind.Question)
+    (λ r. example_then (examples_of w r).comma (example_then (example_token (l + 1) kind.Colon) (examples_of w r).choice)))
+    (λ v. (reads_then (reads_token (l + 1) kind.Question v.shallow)
     (reads_then v.comma
-    (reads_then (reads_token (l + 1) is_colon kind.Colon refl v.shallow) v.choice (none_apart begins_expression))
-    (apart_by goes_comma is_colon refl (λ v u. refl)))
+    (reads_then (reads_token (l + 1) kind.Colon v.shallow) v.choice (none_apart begins_expression))
+    (apart_by goes_comma (just kind.Colon) refl (λ v u. refl)))
     (none_apart begins_expression)).exact)))
-    (apart_by (goes_joined 10) is_question refl (λ v u. refl))))
+    (apart_by (goes_joined 10) (just kind.Question) refl (λ v u. refl))))
 
 -- ---- assignments
 
@@ -98,9 +100,9 @@ pub reads_comma_at : {levels : ℕ} {room : Type 0} (D : Deeper) (l : ℕ) (inne
     → IsRead levels (comma D l) (λ most. read_comma most (inner most)) l begins_expression goes_comma room
 unfolding read_comma
 reads_comma_at D l inner w =
-    let apart : Apart goes_assignment is_comma = apart_by goes_assignment is_comma refl (λ v u. refl) in
+    let apart : Apart goes_assignment (just kind.Comma) = apart_by goes_assignment (just kind.Comma) refl (λ v u. refl) in
     let operand = reads_assignment_at D l inner w in
-    reads_wider goes_comma (within_again goes_assignment is_comma)
+    reads_wider goes_comma (within_again goes_assignment (just kind.Comma))
     (reads_making _ (reads_then_loose operand
-    (reads_many (reads_making _ (reads_then (reads_token l is_comma kind.Comma refl w.level) operand (none_apart begins_expression))) apart)
+    (reads_many (reads_making _ (reads_then (reads_token l kind.Comma w.level) operand (none_apart begins_expression))) apart)
     apart))

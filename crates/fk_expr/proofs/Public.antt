@@ -3,22 +3,24 @@ use Rattle.std.proofs.Common.{◌≡◌, ℕ, ◌+◌, ◌-◌, ◌≤◌, ◌<�
 use Rattle.std.proofs.lemmas.List.{drop-drop, length-append, length-drop}
 use Rattle.fk_lex.specs.declared.token.Token.{Token}
 use Rattle.fk_lex.specs.View.{spelled}
-use Rattle.fk_expr.specs.declared.fault.SyntaxFault.{SyntaxFault}
-use Rattle.fk_expr.specs.declared.fault.SyntaxFault.TheVariants.{Unexpected, EndOfText, Nesting, Memory}
-use Rattle.fk_expr.specs.Languages.{Placed, numbered, tokens_of}
-use Rattle.fk_expr.specs.Reads.{Stop, Answer, Family, Reads}
-use Rattle.fk_expr.specs.Reads as stop
-use Rattle.fk_expr.specs.Faults.{Tells, tokens_from}
-use Rattle.fk_expr.specs.Gives.{Halts, Gives, next_place}
+use Rattle.fk_reading.specs.declared.fault.SyntaxFault.{SyntaxFault}
+use Rattle.fk_reading.specs.declared.fault.SyntaxFault.TheVariants.{Unexpected, EndOfText, Nesting, Memory}
+use Rattle.fk_reading.specs.declared.limits.TheConstants.{LEVELS}
+use Rattle.fk_reading.specs.Languages.{Placed, numbered, tokens_of}
+use Rattle.fk_reading.specs.Reads.{Stop, Answer, Family, Reads}
+use Rattle.fk_reading.specs.Reads as stop
+use Rattle.fk_reading.specs.Faults.{Tells, tokens_from}
+use Rattle.fk_reading.specs.Gives.{Halts, Gives, next_place}
 use Rattle.fk_expr.specs.Grammar.{base, Comma, Assignment}
 use Rattle.fk_expr.specs.Reading.{inner, read_base, read_comma, read_assignment}
-use Rattle.fk_expr.specs.Ahead.{plenty}
-use Rattle.fk_expr.proofs.Cursors.{length-numbered}
-use Rattle.fk_expr.specs.Kinds.{is_int}
+use Rattle.fk_reading.specs.Ahead.{plenty}
+use Rattle.fk_reading.proofs.Cursors.{length-numbered}
 use Rattle.fk_expr.proofs.TypeNames.{reads_base}
-use Rattle.fk_expr.proofs.Longest.{reads}
+use Rattle.fk_reading.proofs.Longest.{reads}
 use Rattle.fk_expr.proofs.Expressions.{reads_comma, reads_assignment}
 use Rattle.std.specs.Result.{IsErrAnd, IfErr}
+use Rattle.fk_reading.specs.Kinds.{just}
+use Rattle.fk_lex.specs.declared.token.TokenKind.TheVariants as kind
 
 tail_of : (at : ℕ) (ts : List Token) (s rest : List Placed) → numbered at (map spelled ts) ≡ s ++ rest
     → rest ≡ numbered (at + length s) (map spelled (drop (length s) ts))
@@ -71,13 +73,13 @@ pub refuses : {A : Type 0} (L : Family A) (tokens : List Placed) (answer : Answe
     → Reads L tokens answer → Halts answer fault now → Tells (λ stop. Reads L tokens (Err stop)) fault
 refuses L tokens answer fault now r h = halts_tells (λ stop. Reads L tokens (Err stop)) answer fault now (stop_of L tokens answer r) h
 
-pub comma_from : (at level : ℕ) (ts : List Token) → length ts < 2 ^ 32 → level ≤ 128
-    → Reads (Comma level) (tokens_from at ts) (read_comma plenty (inner plenty (128 - level)) (tokens_from at ts))
+pub comma_from : (at level : ℕ) (ts : List Token) → length ts < 2 ^ 32 → level ≤ LEVELS
+    → Reads (Comma level) (tokens_from at ts) (read_comma plenty (inner plenty (LEVELS - level)) (tokens_from at ts))
 unfolding plenty
 comma_from at level ts few h = reads_comma level plenty (tokens_from at ts) h (omega (arith, short_from at ts))
 
-pub assignment_from : (at level : ℕ) (ts : List Token) → length ts < 2 ^ 32 → level ≤ 128
-    → Reads (Assignment level) (tokens_from at ts) (read_assignment plenty (inner plenty (128 - level)) (tokens_from at ts))
+pub assignment_from : (at level : ℕ) (ts : List Token) → length ts < 2 ^ 32 → level ≤ LEVELS
+    → Reads (Assignment level) (tokens_from at ts) (read_assignment plenty (inner plenty (LEVELS - level)) (tokens_from at ts))
 unfolding plenty
 assignment_from at level ts few h = reads_assignment level plenty (tokens_from at ts) h (omega (arith, short_from at ts))
 
@@ -96,22 +98,22 @@ not_given view (Ok x) now answer R g h = tt
 not_given view (Err fault) now answer R g h = halts_tells (λ stop. R (Err stop)) answer fault now (λ s e. subst R e h) g
 
 -- tokens are read so, where so many levels are left
-pub comma_where : (left : ℕ) (ts : List Placed) → length ts < 2 ^ 32 → left ≤ 128 → Reads (Comma (128 - left)) ts (read_comma plenty (inner plenty left) ts)
+pub comma_where : (left : ℕ) (ts : List Placed) → length ts < 2 ^ 32 → left ≤ LEVELS → Reads (Comma (LEVELS - left)) ts (read_comma plenty (inner plenty left) ts)
 unfolding plenty
 comma_where left ts few h =
-    let same : 128 - (128 - left) ≡ left = omega arith in
-    subst (λ n. Reads (Comma (128 - left)) ts (read_comma plenty (inner plenty n) ts)) same (reads_comma (128 - left) plenty ts (omega arith) (omega arith))
+    let same : LEVELS - (LEVELS - left) ≡ left = omega arith in
+    subst (λ n. Reads (Comma (LEVELS - left)) ts (read_comma plenty (inner plenty n) ts)) same (reads_comma (LEVELS - left) plenty ts (omega arith) (omega arith))
 
-pub assignment_where : (left : ℕ) (ts : List Placed) → length ts < 2 ^ 32 → left ≤ 128
-    → Reads (Assignment (128 - left)) ts (read_assignment plenty (inner plenty left) ts)
+pub assignment_where : (left : ℕ) (ts : List Placed) → length ts < 2 ^ 32 → left ≤ LEVELS
+    → Reads (Assignment (LEVELS - left)) ts (read_assignment plenty (inner plenty left) ts)
 unfolding plenty
 assignment_where left ts few h =
-    let same : 128 - (128 - left) ≡ left = omega arith in
-    subst (λ n. Reads (Assignment (128 - left)) ts (read_assignment plenty (inner plenty n) ts)) same
-    (reads_assignment (128 - left) plenty ts (omega arith) (omega arith))
+    let same : LEVELS - (LEVELS - left) ≡ left = omega arith in
+    subst (λ n. Reads (Assignment (LEVELS - left)) ts (read_assignment plenty (inner plenty n) ts)) same
+    (reads_assignment (LEVELS - left) plenty ts (omega arith) (omega arith))
 
 -- and the first words of a type
 pub base_where : (ts : List Placed) → Reads (λ bound. base 0) ts (read_base ts)
 base_where ts =
-    reads {L = λ bound. base 0} {P = λ most. read_base} {goes_on = is_int} {room = λ bound. Unit {0}}
+    reads {L = λ bound. base 0} {P = λ most. read_base} {goes_on = (just kind.Int)} {room = λ bound. Unit {0}}
     (record { enough = 0; has_room = tt; exact = λ bound. (reads_base 0 (omega arith)).exact }) (length ts) ts (omega arith)

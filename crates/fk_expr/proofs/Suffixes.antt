@@ -1,49 +1,50 @@
 -- Suffixes, and what they are put to, are read exactly.
-use Rattle.std.proofs.Common.{ℕ, ◌+◌, ◌≤◌, Option, IsTrue, refl, arith}
+use Rattle.std.proofs.Common.{ℕ, ◌+◌, ◌≤◌, Option, refl, arith}
 use Rattle.fk_syntax.specs.Tree.{SuffixTree, Index, Call, trees_of}
 use Rattle.fk_lex.specs.declared.token.TokenKind.{TokenKind}
 use Rattle.fk_lex.specs.declared.token.TokenKind.TheVariants as kind
-use Rattle.fk_expr.specs.Languages.{Language, token, ◌then◌, making}
-use Rattle.fk_expr.specs.Kinds.{is_name, is_comma, is_open_parenthesis, is_close_parenthesis, is_open_bracket, is_close_bracket, is_dot, is_arrow, is_increment, is_decrement}
-use Rattle.fk_expr.specs.Grammar.{spot, Deeper, arguments, suffix, postfix}
-use Rattle.fk_expr.specs.Reading.{Reader, Readers, expect, giving, ◌and◌, opened, begins_primary, begins_suffix, begins_expression, read_arguments, read_suffix, read_postfix}
-use Rattle.fk_expr.proofs.Sets.{Kinds, ◌∪◌, none, none_apart}
-use Rattle.fk_expr.proofs.EachKind.{apart_by, within_by}
-use Rattle.fk_expr.proofs.Token.{example_token, shape_token}
-use Rattle.fk_expr.proofs.Shapes.{example_then, example_empty, empty_maybe, empty_making, shape_making, shape_then}
-use Rattle.fk_expr.proofs.Productions.{IsRead, IsLooselyRead, reads_token, reads_making, loosely_making, reads_then, reads_then_loose, reads_loose_then, in_parentheses, shape_in_parentheses, reads_or, reads_maybe, reads_many, reads_lower, reads_kinds, reads_wider}
+use Rattle.fk_reading.specs.Languages.{Language, token, ◌then◌, making, spot}
+use Rattle.fk_expr.specs.Grammar.{Deeper, arguments, suffix, postfix}
+use Rattle.fk_reading.specs.Readers.{Reader, expect, giving, ◌and◌, opened}
+use Rattle.fk_expr.specs.Reading.{Readers, begins_primary, begins_suffix, begins_expression, read_arguments, read_suffix, read_postfix}
+use Rattle.fk_reading.proofs.Sets.{Kinds, ◌∪◌, none, none_apart}
+use Rattle.fk_reading.proofs.EachKind.{apart_by, within_by}
+use Rattle.fk_reading.proofs.Token.{example_token, shape_token}
+use Rattle.fk_reading.proofs.Shapes.{example_then, example_empty, empty_maybe, empty_making, shape_making, shape_then}
+use Rattle.fk_reading.proofs.Productions.{IsRead, IsLooselyRead, reads_token, reads_making, loosely_making, reads_then, reads_then_loose, reads_loose_then, in_parentheses, shape_in_parentheses, reads_or, reads_maybe, reads_many, reads_lower, reads_kinds, reads_wider}
 use Rattle.fk_expr.proofs.Followers.{goes_assignment, goes_comma}
 use Rattle.fk_expr.proofs.Inner.{Below, Inner, examples_of, reads_opened}
 use Rattle.fk_expr.proofs.Primary.{reads_primary}
+use Rattle.fk_reading.specs.Kinds.{just}
 
 -- what goes on with arguments
 abbrev goes_arguments : Kinds
-goes_arguments = (goes_assignment ∪ (goes_assignment ∪ is_comma)) ∪ begins_expression
+goes_arguments = (goes_assignment ∪ (goes_assignment ∪ just kind.Comma)) ∪ begins_expression
 
 reads_arguments : {levels : ℕ} {room : Type 0} (D : Deeper) (l : ℕ) (inner : ℕ → Option Readers) → (v : Below levels D l inner room)
     → IsLooselyRead levels (arguments D (l + 1)) (λ most. read_arguments most (v.readers most)) (l + 1) begins_expression goes_arguments room
 unfolding read_arguments
 reads_arguments D l inner v =
     loosely_making _ (reads_maybe (reads_then_loose v.assignment
-    (reads_many (reads_making _ (reads_then (reads_token (l + 1) is_comma kind.Comma refl v.shallow) v.assignment (none_apart begins_expression)))
-    (apart_by goes_assignment is_comma refl (λ v u. refl)))
-    (apart_by goes_assignment is_comma refl (λ v u. refl))))
+    (reads_many (reads_making _ (reads_then (reads_token (l + 1) kind.Comma v.shallow) v.assignment (none_apart begins_expression)))
+    (apart_by goes_assignment (just kind.Comma) refl (λ v u. refl)))
+    (apart_by goes_assignment (just kind.Comma) refl (λ v u. refl))))
 
 -- an index
 abbrev index : Deeper → ℕ → Language SuffixTree
-index D l = making (λ x. Index (spot x.0) x.1.0) (token (l + 1) is_open_bracket then D.comma (l + 1) then token (l + 1) is_close_bracket)
+index D l = making (λ x. Index (spot x.0) x.1.0) (token (l + 1) kind.OpenBracket then D.comma (l + 1) then token (l + 1) kind.CloseBracket)
 
 abbrev read_index : Option Readers → Reader SuffixTree
-read_index inner = opened is_open_bracket inner (λ R. giving (λ x. Index (spot x.0) x.1.0) (expect is_open_bracket and R.comma and expect is_close_bracket))
+read_index inner = opened (just kind.OpenBracket) inner (λ R. giving (λ x. Index (spot x.0) x.1.0) (expect kind.OpenBracket and R.comma and expect kind.CloseBracket))
 
 reads_index : {levels : ℕ} {room : Type 0} (D : Deeper) (l : ℕ) (inner : ℕ → Option Readers) → Inner levels D l inner room
-    → IsRead levels (index D l) (λ most. read_index (inner most)) (l + 1) is_open_bracket none room
+    → IsRead levels (index D l) (λ most. read_index (inner most)) (l + 1) (just kind.OpenBracket) none room
 reads_index D l inner w =
     reads_opened _ w
-    (shape_making _ (shape_then (shape_token (l + 1) is_open_bracket kind.OpenBracket refl)
-    (λ r. example_then (examples_of w r).comma (example_token (l + 1) is_close_bracket kind.CloseBracket refl))))
-    (λ v. (reads_making _ (reads_then (reads_token (l + 1) is_open_bracket kind.OpenBracket refl v.shallow)
-    (reads_then v.comma (reads_token (l + 1) is_close_bracket kind.CloseBracket refl v.shallow) (apart_by goes_comma is_close_bracket refl (λ v u. refl)))
+    (shape_making _ (shape_then (shape_token (l + 1) kind.OpenBracket)
+    (λ r. example_then (examples_of w r).comma (example_token (l + 1) kind.CloseBracket))))
+    (λ v. (reads_making _ (reads_then (reads_token (l + 1) kind.OpenBracket v.shallow)
+    (reads_then v.comma (reads_token (l + 1) kind.CloseBracket v.shallow) (apart_by goes_comma (just kind.CloseBracket) refl (λ v u. refl)))
     (none_apart begins_expression))).exact)
 
 -- a call
@@ -52,38 +53,38 @@ call D l = making (λ x. Call (spot x.0) (trees_of x.1.0)) (in_parentheses (l + 
 
 abbrev read_call : ℕ → Option Readers → Reader SuffixTree
 read_call most inner =
-    opened is_open_parenthesis inner (λ R.
-    giving (λ x. Call (spot x.0) (trees_of x.1.0)) (expect is_open_parenthesis and read_arguments most R and expect is_close_parenthesis))
+    opened (just kind.OpenParenthesis) inner (λ R.
+    giving (λ x. Call (spot x.0) (trees_of x.1.0)) (expect kind.OpenParenthesis and read_arguments most R and expect kind.CloseParenthesis))
 
 reads_call : {levels : ℕ} {room : Type 0} (D : Deeper) (l : ℕ) (inner : ℕ → Option Readers) → Inner levels D l inner room
-    → IsRead levels (call D l) (λ most. read_call most (inner most)) (l + 1) is_open_parenthesis none room
+    → IsRead levels (call D l) (λ most. read_call most (inner most)) (l + 1) (just kind.OpenParenthesis) none room
 reads_call D l inner w =
     reads_opened _ w (shape_making _ (shape_in_parentheses (l + 1) (λ r. example_empty (empty_making _ (empty_maybe _))))) (λ v.
-    (reads_making _ (reads_then (reads_token (l + 1) is_open_parenthesis kind.OpenParenthesis refl v.shallow)
-    (reads_loose_then (reads_arguments D l inner v) (reads_token (l + 1) is_close_parenthesis kind.CloseParenthesis refl v.shallow)
-    (apart_by goes_arguments is_close_parenthesis refl (λ v u. refl)))
-    (none_apart (begins_expression ∪ is_close_parenthesis)))).exact)
+    (reads_making _ (reads_then (reads_token (l + 1) kind.OpenParenthesis v.shallow)
+    (reads_loose_then (reads_arguments D l inner v) (reads_token (l + 1) kind.CloseParenthesis v.shallow)
+    (apart_by goes_arguments (just kind.CloseParenthesis) refl (λ v u. refl)))
+    (none_apart (begins_expression ∪ just kind.CloseParenthesis)))).exact)
 
 -- a name behind a sign
-reads_member : {levels : ℕ} {room : Type 0} (l : ℕ) (is : Kinds) (k : TokenKind) → IsTrue (is k) → l ≤ levels
-    → IsRead levels (token l is then token l is_name) (λ most. expect is and expect is_name) l is none room
-reads_member l is k e h = reads_then (reads_token l is k e h) (reads_token l is_name kind.Word refl h) (none_apart is_name)
+reads_member : {levels : ℕ} {room : Type 0} (l : ℕ) (k : TokenKind) → l ≤ levels
+    → IsRead levels (token l k then token l kind.Word) (λ most. expect k and expect kind.Word) l (just k) none room
+reads_member l k h = reads_then (reads_token l k h) (reads_token l kind.Word h) (none_apart (just kind.Word))
 
 -- the kinds that begin the productions of a suffix, from each on
 abbrev from_increment : Kinds
-from_increment = is_increment ∪ is_decrement
+from_increment = just kind.Increment ∪ just kind.Decrement
 
 abbrev from_arrow : Kinds
-from_arrow = is_arrow ∪ from_increment
+from_arrow = just kind.Arrow ∪ from_increment
 
 abbrev from_dot : Kinds
-from_dot = is_dot ∪ from_arrow
+from_dot = just kind.Dot ∪ from_arrow
 
 abbrev from_parenthesis : Kinds
-from_parenthesis = is_open_parenthesis ∪ from_dot
+from_parenthesis = just kind.OpenParenthesis ∪ from_dot
 
 abbrev from_bracket : Kinds
-from_bracket = is_open_bracket ∪ from_parenthesis
+from_bracket = just kind.OpenBracket ∪ from_parenthesis
 
 -- a suffix is read exactly
 pub reads_suffix : {levels : ℕ} {room : Type 0} (D : Deeper) (l : ℕ) (inner : ℕ → Option Readers) → Inner levels D l inner room
@@ -94,14 +95,14 @@ reads_suffix D l inner w =
     (reads_wider none (λ k h. h)
     (reads_or (reads_lower (omega arith) (reads_index D l inner w))
     (reads_or (reads_lower (omega arith) (reads_call D l inner w))
-    (reads_or (reads_making _ (reads_member l is_dot kind.Dot refl w.level))
-    (reads_or (reads_making _ (reads_member l is_arrow kind.Arrow refl w.level))
-    (reads_or (reads_making _ (reads_token l is_increment kind.Increment refl w.level)) (reads_making _ (reads_token l is_decrement kind.Decrement refl w.level))
-    (apart_by is_increment is_decrement refl (λ v u. refl)))
-    (apart_by is_arrow from_increment refl (λ v u. refl)))
-    (apart_by is_dot from_arrow refl (λ v u. refl)))
-    (apart_by is_open_parenthesis from_dot refl (λ v u. refl)))
-    (apart_by is_open_bracket from_parenthesis refl (λ v u. refl))))
+    (reads_or (reads_making _ (reads_member l kind.Dot w.level))
+    (reads_or (reads_making _ (reads_member l kind.Arrow w.level))
+    (reads_or (reads_making _ (reads_token l kind.Increment w.level)) (reads_making _ (reads_token l kind.Decrement w.level))
+    (apart_by (just kind.Increment) (just kind.Decrement) refl (λ v u. refl)))
+    (apart_by (just kind.Arrow) from_increment refl (λ v u. refl)))
+    (apart_by (just kind.Dot) from_arrow refl (λ v u. refl)))
+    (apart_by (just kind.OpenParenthesis) from_dot refl (λ v u. refl)))
+    (apart_by (just kind.OpenBracket) from_parenthesis refl (λ v u. refl))))
 
 -- a primary expression with its suffixes is read exactly
 pub reads_postfix : {levels : ℕ} {room : Type 0} (D : Deeper) (l : ℕ) (inner : ℕ → Option Readers) → Inner levels D l inner room

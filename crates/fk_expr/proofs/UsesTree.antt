@@ -5,11 +5,12 @@ use Rattle.fk_syntax.specs.declared.nodes.Index.TheVariants.{Node, StructName}
 use Rattle.fk_syntax.specs.declared.sign.Sign.{Sign}
 use Rattle.fk_syntax.specs.Nodes.{base_indices, type_indices, tree_indices, links_indices, trees_indices, suffixes_indices}
 use Rattle.fk_syntax.specs.Tree.{BaseType, TypeTree, Tree, LinkTree, SuffixTree, Index as AtIndex, Call, Dot, Arrow, Up, Down, links_of, trees_of, suffixes_of, suffix}
-use Rattle.fk_expr.specs.Languages.{Placed}
+use Rattle.fk_reading.specs.Languages.{Placed}
 use Rattle.fk_expr.specs.Grammar as g
-use Rattle.fk_expr.specs.Grammar.{Deeper, deeper, linked, chained, suffixed, chosen, assigned, listed}
-use Rattle.fk_expr.specs.Kinds.{is_name, number_told, is_at, is_dollar, is_puts, is_sizeof, is_int, is_void, is_struct, is_comma, is_question, is_open_parenthesis, is_open_bracket, is_dot, is_arrow, is_increment, is_decrement, prefix_told, assignment_told}
-use Rattle.fk_expr.proofs.Uses.{one, Measure, Held, uncounted, by_place, by_first, both, each, if_some, held_uncounted, held_token, held_telling, held_then, held_or, held_making, held_many, held_maybe, held_nothing}
+use Rattle.fk_expr.specs.Grammar.{Deeper, deeper, chained, suffixed, chosen, assigned, listed}
+use Rattle.fk_expr.specs.Kinds.{number_told, prefix_told, assignment_told}
+use Rattle.fk_reading.proofs.Uses.{one, Measure, Held, uncounted, by_place, by_first, both, each, if_some, held_uncounted, held_token, held_telling, held_then, held_or, held_making, held_many, held_maybe, held_nothing}
+use Rattle.fk_lex.specs.declared.token.TokenKind.TheVariants as kind
 
 -- a way to count the indices in a list: at most as often as they stand there
 pub record Count : Type 0 where
@@ -81,10 +82,10 @@ suffixes_count C (x ∷ xs) k = let a = suffix_before C x xs k in let b = suffix
 
 pub held_base : (C : Count) (l : ℕ) → Held (g.base l) (base_count C)
 held_base C l =
-    held_or _ _ _ (held_making _ _ by_place _ (held_token l is_int) (λ t k. let e = C.empty k in omega (arith, e)))
+    held_or _ _ _ (held_making _ _ by_place _ (held_token l kind.Int) (λ t k. let e = C.empty k in omega (arith, e)))
     (held_or _ _ _ (held_making _ _ uncounted _ (held_uncounted _) (λ t k. let e = C.empty k in omega (arith, e)))
-    (held_or _ _ _ (held_making _ _ by_place _ (held_token l is_void) (λ t k. let e = C.empty k in omega (arith, e)))
-    (held_making _ _ (both by_place by_place) _ (held_then _ _ by_place by_place (held_token l is_struct) (held_token l is_name))
+    (held_or _ _ _ (held_making _ _ by_place _ (held_token l kind.Void) (λ t k. let e = C.empty k in omega (arith, e)))
+    (held_making _ _ (both by_place by_place) _ (held_then _ _ by_place by_place (held_token l kind.Struct) (held_token l kind.Word))
     (λ x k. let a = C.name x.1.at k in omega (arith, a)))))
 
 pub held_type : (C : Count) (l : ℕ) → Held (g.type_name l) (type_count C)
@@ -106,15 +107,15 @@ held_parenthesized C D H l =
 
 pub held_puts : (C : Count) (l : ℕ) → Held (g.puts l) (tree_count C)
 held_puts C l =
-    held_making _ _ (both by_place uncounted) _ (held_then _ _ by_place uncounted (held_token l is_puts) (held_uncounted _))
+    held_making _ _ (both by_place uncounted) _ (held_then _ _ by_place uncounted (held_token l kind.Puts) (held_uncounted _))
     (λ x k. let a = C.node x.0.at k in omega (arith, a))
 
 pub held_primary : (C : Count) (D : Deeper) → HeldDeeper C D → (l : ℕ) → Held (g.primary D l) (tree_count C)
 held_primary C D H l =
     held_or _ _ _ (held_making _ _ by_first _ (held_telling l number_told) (λ x k. C.node x.0.at k))
-    (held_or _ _ _ (held_making _ _ by_place _ (held_token l is_name) (λ t k. C.node t.at k))
-    (held_or _ _ _ (held_making _ _ by_place _ (held_token l is_at) (λ t k. C.node t.at k))
-    (held_or _ _ _ (held_making _ _ by_place _ (held_token l is_dollar) (λ t k. C.node t.at k))
+    (held_or _ _ _ (held_making _ _ by_place _ (held_token l kind.Word) (λ t k. C.node t.at k))
+    (held_or _ _ _ (held_making _ _ by_place _ (held_token l kind.At) (λ t k. C.node t.at k))
+    (held_or _ _ _ (held_making _ _ by_place _ (held_token l kind.Dollar) (λ t k. C.node t.at k))
     (held_or _ _ _ (held_parenthesized C D H l) (held_puts C l)))))
 
 listed_count : (C : Count) (o : Option (Tree × List Tree)) (k : ℕ) → each (tree_count C) (listed o) k ≤ if_some (both (tree_count C) (each (tree_count C))) o k
@@ -134,16 +135,16 @@ pub held_suffix : (C : Count) (D : Deeper) → HeldDeeper C D → (l : ℕ) → 
 held_suffix C D H l =
     held_or _ _ _
     (held_making _ _ (both by_place (both (tree_count C) uncounted)) _
-    (held_then _ _ by_place (both (tree_count C) uncounted) (held_token (l + 1) is_open_bracket) (held_then _ _ (tree_count C) uncounted (H.comma (l + 1)) (held_uncounted _)))
+    (held_then _ _ by_place (both (tree_count C) uncounted) (held_token (l + 1) kind.OpenBracket) (held_then _ _ (tree_count C) uncounted (H.comma (l + 1)) (held_uncounted _)))
     (λ x k. omega arith))
     (held_or _ _ _
     (held_making _ _ (both by_place (both (each (tree_count C)) uncounted)) _
-    (held_then _ _ by_place (both (each (tree_count C)) uncounted) (held_token (l + 1) is_open_parenthesis) (held_then _ _ (each (tree_count C)) uncounted (held_arguments C D H (l + 1)) (held_uncounted _)))
+    (held_then _ _ by_place (both (each (tree_count C)) uncounted) (held_token (l + 1) kind.OpenParenthesis) (held_then _ _ (each (tree_count C)) uncounted (held_arguments C D H (l + 1)) (held_uncounted _)))
     (λ x k. let a = trees_count C x.1.0 k in omega (arith, a)))
-    (held_or _ _ _ (held_making _ _ (both by_place by_place) _ (held_then _ _ by_place by_place (held_token l is_dot) (held_token l is_name)) (λ x k. omega arith))
-    (held_or _ _ _ (held_making _ _ (both by_place by_place) _ (held_then _ _ by_place by_place (held_token l is_arrow) (held_token l is_name)) (λ x k. omega arith))
-    (held_or _ _ _ (held_making _ _ by_place _ (held_token l is_increment) (λ t k. omega arith))
-    (held_making _ _ by_place _ (held_token l is_decrement) (λ t k. omega arith))))))
+    (held_or _ _ _ (held_making _ _ (both by_place by_place) _ (held_then _ _ by_place by_place (held_token l kind.Dot) (held_token l kind.Word)) (λ x k. omega arith))
+    (held_or _ _ _ (held_making _ _ (both by_place by_place) _ (held_then _ _ by_place by_place (held_token l kind.Arrow) (held_token l kind.Word)) (λ x k. omega arith))
+    (held_or _ _ _ (held_making _ _ by_place _ (held_token l kind.Increment) (λ t k. omega arith))
+    (held_making _ _ by_place _ (held_token l kind.Decrement) (λ t k. omega arith))))))
 
 suffixed_count : (C : Count) (whole : Tree) (suffixes : List SuffixTree) (k : ℕ) → tree_count C (suffixed whole suffixes) k ≤ tree_count C whole k + each (suffix_count C) suffixes k
 suffixed_count C whole [] k = omega arith
@@ -161,7 +162,7 @@ held_postfix C D H l =
 pub held_cast : (C : Count) (D : Deeper) → HeldDeeper C D → (l : ℕ) → Held (g.cast D l) (tree_count C)
 held_cast C D H l =
     held_making _ _ (both by_place (both (type_count C) (both uncounted (tree_count C)))) _
-    (held_then _ _ by_place (both (type_count C) (both uncounted (tree_count C))) (held_token (l + 1) is_open_parenthesis)
+    (held_then _ _ by_place (both (type_count C) (both uncounted (tree_count C))) (held_token (l + 1) kind.OpenParenthesis)
     (held_then _ _ (type_count C) (both uncounted (tree_count C)) (held_type C (l + 1))
     (held_then _ _ uncounted (tree_count C) (held_uncounted _) (H.prefix (l + 1)))))
     (λ x k. let a = more_two C x.0.at (type_indices x.1.0) (tree_indices x.1.1.1) k in omega (arith, a))
@@ -169,7 +170,7 @@ held_cast C D H l =
 pub held_sizeof : (C : Count) (l : ℕ) → Held (g.sizeof l) (tree_count C)
 held_sizeof C l =
     held_making _ _ (both by_place (both uncounted (both (type_count C) uncounted))) _
-    (held_then _ _ by_place (both uncounted (both (type_count C) uncounted)) (held_token l is_sizeof)
+    (held_then _ _ by_place (both uncounted (both (type_count C) uncounted)) (held_token l kind.Sizeof)
     (held_then _ _ uncounted (both (type_count C) uncounted) (held_uncounted _) (held_then _ _ (type_count C) uncounted (held_type C (l + 1)) (held_uncounted _))))
     (λ x k. let a = more C x.0.at (type_indices x.1.1.0) k in omega (arith, a))
 
@@ -211,7 +212,7 @@ held_choice C D H l =
     held_making _ _ (both (tree_count C) (if_some (both by_place (both (tree_count C) (both uncounted (tree_count C)))))) _
     (held_then _ _ (tree_count C) (if_some (both by_place (both (tree_count C) (both uncounted (tree_count C))))) (held_joined C D H l 10)
     (held_maybe _ (both by_place (both (tree_count C) (both uncounted (tree_count C))))
-    (held_then _ _ by_place (both (tree_count C) (both uncounted (tree_count C))) (held_token (l + 1) is_question)
+    (held_then _ _ by_place (both (tree_count C) (both uncounted (tree_count C))) (held_token (l + 1) kind.Question)
     (held_then _ _ (tree_count C) (both uncounted (tree_count C)) (H.comma (l + 1))
     (held_then _ _ uncounted (tree_count C) (held_uncounted _) (H.choice (l + 1)))))))
     (λ x k. chosen_count C x.0 x.1 k)
@@ -235,7 +236,7 @@ held_comma C D H l =
     held_making _ _ (both (tree_count C) (each (link_count C))) _
     (held_then _ _ (tree_count C) (each (link_count C)) (held_assignment C D H l)
     (held_many _ (link_count C)
-    (held_making _ _ (both by_place (tree_count C)) _ (held_then _ _ by_place (tree_count C) (held_token l is_comma) (held_assignment C D H l)) (λ x k. omega arith))))
+    (held_making _ _ (both by_place (tree_count C)) _ (held_then _ _ by_place (tree_count C) (held_token l kind.Comma) (held_assignment C D H l)) (λ x k. omega arith))))
     (λ x k. chained_count C x.0 x.1 k)
 
 pub held_deeper : (C : Count) (bound : ℕ) → HeldDeeper C (deeper bound)

@@ -1,43 +1,25 @@
--- What the code reads, as the readers of the definitions tell it: one clause for a value and for a fault.
-use Rattle.std.specs.Prelude.{◌≡◌, ℕ, List, [], ◌∷◌, Option, Some, None, Bool, true, false, ◌⊎◌, Result, Ok, Err}
-use Rattle.fk_syntax.specs.declared.place.Place.{Place}
-use Rattle.fk_syntax.specs.Tree.{Tree}
+-- What the code says of a token that opens a level.
+use Rattle.std.specs.Prelude.{◌≡◌, ℕ, List, Option, Some, None, Bool, true, false, ◌⊎◌, Result, Ok, Err}
 use Rattle.fk_lex.specs.declared.token.TokenKind.{TokenKind}
-use Rattle.fk_expr.specs.declared.fault.SyntaxFault.{SyntaxFault}
-use Rattle.fk_expr.specs.declared.fault.SyntaxFault.TheVariants.{Unexpected, EndOfText, Nesting, Memory}
-use Rattle.fk_expr.specs.Languages.{Placed}
-use Rattle.fk_expr.specs.Reads.{Stop, Answer}
-use Rattle.fk_expr.specs.Reads as stop
-use Rattle.fk_expr.specs.Reading.{Readers, unexpected, next_is}
+use Rattle.fk_reading.specs.declared.fault.SyntaxFault.{SyntaxFault}
+use Rattle.fk_reading.specs.declared.fault.SyntaxFault.TheVariants.{Nesting}
+use Rattle.fk_reading.specs.Languages.{Placed}
+use Rattle.fk_reading.specs.Reads as stop
+use Rattle.fk_expr.specs.Reading.{Readers}
+use Rattle.fk_reading.specs.Readers.{unexpected, next_is}
 use Rattle.fk_expr.specs.Ahead.{readers}
-
--- the place of the next token
-abbrev pub next_place : List Placed → Option Place
-next_place [] = None
-next_place (t ∷ ts) = Some t.place
-
--- a reader stops with the fault of the code at the tokens that are left; memory may run out at any answer
-abbrev pub Halts : {A : Type 0} → Answer A → SyntaxFault → List Placed → Type 0
-Halts answer (Unexpected place) now = (answer ≡ Err (stop.Unexpected now)) × (next_place now ≡ Some place)
-Halts answer EndOfText now = answer ≡ Err stop.EndOfText
-Halts answer (Nesting place) now = (answer ≡ Err (stop.Nesting now)) × (next_place now ≡ Some place)
-Halts answer (Memory error) now = Unit {0}
-
--- what was read, seen by a view, with the tokens that are left, is what a reader answers
-abbrev pub Gives : {A B : Type 0} → (A → B) → Result A SyntaxFault → List Placed → Answer B → Type 0
-Gives view (Ok a) now answer = answer ≡ Ok (view a, now)
-Gives view (Err fault) now answer = Halts answer fault now
-
--- the same where something is made of what a reader reads
-abbrev pub Makes : {A B C : Type 0} → (B → A) → (C → A) → Result C SyntaxFault → List Placed → Answer B → Type 0
-Makes {B = B} made view (Ok c) now answer = (b : B) × (answer ≡ Ok (b, now)) × (made b ≡ view c)
-Makes made view (Err fault) now answer = Halts answer fault now
+use Rattle.fk_reading.specs.Gives.{Halts}
 
 -- a token of these kinds doesn't come next, or it does and opens a level too many
 abbrev pub CannotOpen : (TokenKind → Bool) → Option Readers → SyntaxFault → List Placed → Type 0
 CannotOpen is inner fault ts =
-    (next_is is ts ≡ false) × Halts (unexpected {A = Tree} ts) fault ts
-    ⊎ (next_is is ts ≡ true) × (inner ≡ None) × Halts {A = Tree} (Err (stop.Nesting ts)) fault ts
+    (next_is is ts ≡ false) × Halts (unexpected {A = Placed} ts) fault ts
+    ⊎ (next_is is ts ≡ true) × (inner ≡ None) × Halts {A = Placed} (Err (stop.Nesting ts)) fault ts
+
+-- so many levels are left inside the next token, or it opens a level too many
+abbrev pub Nests : Option Readers → Result ℕ SyntaxFault → List Placed → Type 0
+Nests inner (Ok left) ts = inner ≡ Some (readers left)
+Nests inner (Err fault) ts = (inner ≡ None) × Halts {A = Placed} (Err (stop.Nesting ts)) fault ts
 
 -- so many levels are left inside a token that opens one
 abbrev pub Opens : (TokenKind → Bool) → Option Readers → Result ℕ SyntaxFault → List Placed → Type 0

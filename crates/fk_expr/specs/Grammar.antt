@@ -1,33 +1,27 @@
 -- The grammar of expressions. A stretch is given with the levels that are open at each of its tokens.
 use Rattle.std.specs.Prelude.{ℕ, zero, suc, ◌+◌, ◌==◌, if◌then◌else◌, List, [], ◌∷◌, Option, Some, None, length}
-use Rattle.fk_syntax.specs.declared.place.Spot.{Spot}
 use Rattle.fk_syntax.specs.declared.sign.Sign.{Sign}
 use Rattle.fk_syntax.specs.declared.sign.Sign.TheVariants as sign
-use Rattle.fk_syntax.specs.Tree.{Named, BaseType, Int, Unsigned, Void, Struct, TypeTree, Tree, Number, Puts, Sizeof, Variable, GroupNumber, GroupRank, Prefix, Cast, Chain, Postfix, Assign, Choose, LinkTree, SuffixTree, Index, Call, Dot, Arrow, Up, Down, links_of, trees_of, suffixes_of}
+use Rattle.fk_syntax.specs.Tree.{BaseType, Int, Unsigned, Void, Struct, TypeTree, Tree, Number, Puts, Sizeof, Variable, GroupNumber, GroupRank, Prefix, Cast, Chain, Postfix, Assign, Choose, LinkTree, SuffixTree, Index, Call, Dot, Arrow, Up, Down, links_of, trees_of, suffixes_of}
 use Rattle.fk_lex.specs.declared.token.TokenKind.{TokenKind}
-use Rattle.fk_expr.specs.Languages.{Placed, Language, nothing, token, telling, ◌then◌, ◌or◌, making, many, maybe}
-use Rattle.fk_expr.specs.Kinds.{is_name, number_told, is_text, is_at, is_dollar, is_puts, is_sizeof, is_int, is_unsigned, is_void, is_struct, is_star, is_comma, is_question, is_colon, is_open_parenthesis, is_close_parenthesis, is_open_bracket, is_close_bracket, is_dot, is_arrow, is_increment, is_decrement, prefix_told, assignment_told, operator_told}
-use Rattle.fk_expr.specs.Reads.{Family}
-
-abbrev pub spot : Placed → Spot
-spot t = record { at = t.at; place = t.place }
-
-abbrev pub name : Placed → Named
-name t = record { bytes = t.bytes; at = t.at; place = t.place }
+use Rattle.fk_reading.specs.Languages.{Placed, Language, nothing, token, telling, ◌then◌, ◌or◌, making, many, maybe, spot, name}
+use Rattle.fk_expr.specs.Kinds.{number_told, prefix_told, assignment_told, operator_told}
+use Rattle.fk_reading.specs.Reads.{Family}
+use Rattle.fk_lex.specs.declared.token.TokenKind.TheVariants as kind
 
 -- ---- types
 
 -- type = "int" | "unsigned" [ "int" ] | "void" | "struct" Name
 abbrev pub base : ℕ → Language BaseType
 base l =
-    making (λ t. Int) (token l is_int)
-    or making (λ x. Unsigned) (token l is_unsigned then maybe (token l is_int))
-    or making (λ t. Void) (token l is_void)
-    or making (λ x. Struct (name x.1)) (token l is_struct then token l is_name)
+    making (λ t. Int) (token l kind.Int)
+    or making (λ x. Unsigned) (token l kind.Unsigned then maybe (token l kind.Int))
+    or making (λ t. Void) (token l kind.Void)
+    or making (λ x. Struct (name x.1)) (token l kind.Struct then token l kind.Word)
 
 -- a type and its stars
 abbrev pub type_name : ℕ → Language TypeTree
-type_name l = making (λ x. record { base = x.0; stars = length x.1 }) (base l then many (token l is_star))
+type_name l = making (λ x. record { base = x.0; stars = length x.1 }) (base l then many (token l kind.Star))
 
 -- ---- expressions, where those that stand one level deeper are given
 
@@ -41,21 +35,21 @@ pub record Deeper : Type 1 where
 -- "(" comma ")", which leaves no trace
 abbrev pub parenthesized : Deeper → ℕ → Language Tree
 parenthesized D l =
-    making (λ x. x.1.0) (token (l + 1) is_open_parenthesis then D.comma (l + 1) then token (l + 1) is_close_parenthesis)
+    making (λ x. x.1.0) (token (l + 1) kind.OpenParenthesis then D.comma (l + 1) then token (l + 1) kind.CloseParenthesis)
 
 -- "puts" "(" Text ")"
 abbrev pub puts : ℕ → Language Tree
 puts l =
     making (λ x. Puts (spot x.0) x.1.1.0.bytes)
-    (token l is_puts then token (l + 1) is_open_parenthesis then token (l + 1) is_text then token (l + 1) is_close_parenthesis)
+    (token l kind.Puts then token (l + 1) kind.OpenParenthesis then token (l + 1) kind.Text then token (l + 1) kind.CloseParenthesis)
 
 -- primary = Number | Name | "@" | "$" | "(" comma ")" | "puts" "(" Text ")"
 abbrev pub primary : Deeper → ℕ → Language Tree
 primary D l =
     making (λ x. Number (spot x.0) x.1.0 x.1.1) (telling l number_told)
-    or making (λ t. Variable (name t)) (token l is_name)
-    or making (λ t. GroupNumber (spot t)) (token l is_at)
-    or making (λ t. GroupRank (spot t)) (token l is_dollar)
+    or making (λ t. Variable (name t)) (token l kind.Word)
+    or making (λ t. GroupNumber (spot t)) (token l kind.At)
+    or making (λ t. GroupRank (spot t)) (token l kind.Dollar)
     or parenthesized D l
     or puts l
 
@@ -65,17 +59,17 @@ listed (Some x) = x.0 ∷ x.1
 
 -- [ assign { "," assign } ]
 abbrev pub arguments : Deeper → ℕ → Language (List Tree)
-arguments D l = making listed (maybe (D.assignment l then many (making (λ x. x.1) (token l is_comma then D.assignment l))))
+arguments D l = making listed (maybe (D.assignment l then many (making (λ x. x.1) (token l kind.Comma then D.assignment l))))
 
 -- "[" comma "]" | "(" arguments ")" | "." Name | "->" Name | "++" | "--"
 abbrev pub suffix : Deeper → ℕ → Language SuffixTree
 suffix D l =
-    making (λ x. Index (spot x.0) x.1.0) (token (l + 1) is_open_bracket then D.comma (l + 1) then token (l + 1) is_close_bracket)
-    or making (λ x. Call (spot x.0) (trees_of x.1.0)) (token (l + 1) is_open_parenthesis then arguments D (l + 1) then token (l + 1) is_close_parenthesis)
-    or making (λ x. Dot (spot x.0) (name x.1)) (token l is_dot then token l is_name)
-    or making (λ x. Arrow (spot x.0) (name x.1)) (token l is_arrow then token l is_name)
-    or making (λ t. Up (spot t)) (token l is_increment)
-    or making (λ t. Down (spot t)) (token l is_decrement)
+    making (λ x. Index (spot x.0) x.1.0) (token (l + 1) kind.OpenBracket then D.comma (l + 1) then token (l + 1) kind.CloseBracket)
+    or making (λ x. Call (spot x.0) (trees_of x.1.0)) (token (l + 1) kind.OpenParenthesis then arguments D (l + 1) then token (l + 1) kind.CloseParenthesis)
+    or making (λ x. Dot (spot x.0) (name x.1)) (token l kind.Dot then token l kind.Word)
+    or making (λ x. Arrow (spot x.0) (name x.1)) (token l kind.Arrow then token l kind.Word)
+    or making (λ t. Up (spot t)) (token l kind.Increment)
+    or making (λ t. Down (spot t)) (token l kind.Decrement)
 
 abbrev pub suffixed : Tree → List SuffixTree → Tree
 suffixed whole [] = whole
@@ -89,13 +83,13 @@ postfix D l = making (λ x. suffixed x.0 x.1) (primary D l then many (suffix D l
 abbrev pub cast : Deeper → ℕ → Language Tree
 cast D l =
     making (λ x. Cast (spot x.0) x.1.0 x.1.1.1)
-    (token (l + 1) is_open_parenthesis then type_name (l + 1) then token (l + 1) is_close_parenthesis then D.prefix (l + 1))
+    (token (l + 1) kind.OpenParenthesis then type_name (l + 1) then token (l + 1) kind.CloseParenthesis then D.prefix (l + 1))
 
 -- "sizeof" "(" type stars ")"
 abbrev pub sizeof : ℕ → Language Tree
 sizeof l =
     making (λ x. Sizeof (spot x.0) x.1.1.0)
-    (token l is_sizeof then token (l + 1) is_open_parenthesis then type_name (l + 1) then token (l + 1) is_close_parenthesis)
+    (token l kind.Sizeof then token (l + 1) kind.OpenParenthesis then type_name (l + 1) then token (l + 1) kind.CloseParenthesis)
 
 -- prefix = sign prefix | "(" type stars ")" prefix | "sizeof" "(" type stars ")" | postfix
 abbrev pub prefix : Deeper → ℕ → Language Tree
@@ -136,7 +130,7 @@ abbrev pub choice : Deeper → ℕ → Language Tree
 choice D l =
     making (λ x. chosen x.0 x.1)
     (joined D l 10
-    then maybe (token (l + 1) is_question then D.comma (l + 1) then token (l + 1) is_colon then D.choice (l + 1)))
+    then maybe (token (l + 1) kind.Question then D.comma (l + 1) then token (l + 1) kind.Colon then D.choice (l + 1)))
 
 abbrev pub assigned : Tree → Option ((Placed × Sign) × Tree) → Tree
 assigned target None = target
@@ -151,7 +145,7 @@ abbrev pub comma : Deeper → ℕ → Language Tree
 comma D l =
     making (λ x. chained x.0 x.1)
     (assignment D l
-    then many (making (λ x. record { spot = spot x.0; sign = sign.Comma; right = x.1 }) (token l is_comma then assignment D l)))
+    then many (making (λ x. record { spot = spot x.0; sign = sign.Comma; right = x.1 }) (token l kind.Comma then assignment D l)))
 
 -- ---- so many levels deeper
 

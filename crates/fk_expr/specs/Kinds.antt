@@ -1,101 +1,13 @@
 -- What the kind of a token says to the grammar of expressions.
-use Rattle.std.specs.Prelude.{ℕ, Option, Some, None, Bool, true, false}
+use Rattle.std.specs.Prelude.{ℕ, Option, Some, None, Bool}
 use Rattle.fk_syntax.specs.declared.sign.Sign.{Sign}
 use Rattle.fk_syntax.specs.declared.sign.Sign.TheVariants as sign
 use Rattle.fk_lex.specs.declared.token.TokenKind.{TokenKind}
 use Rattle.fk_lex.specs.declared.token.TokenKind.TheVariants as kind
 
-abbrev pub is_name : TokenKind → Bool
-is_name kind.Word = true
-is_name k = false
-
 abbrev pub number_told : TokenKind → Option (ℕ × Bool)
 number_told (kind.Number value unsigned) = Some (value, unsigned)
 number_told k = None
-
-abbrev pub is_text : TokenKind → Bool
-is_text kind.Text = true
-is_text k = false
-
-abbrev pub is_at : TokenKind → Bool
-is_at kind.At = true
-is_at k = false
-
-abbrev pub is_dollar : TokenKind → Bool
-is_dollar kind.Dollar = true
-is_dollar k = false
-
-abbrev pub is_puts : TokenKind → Bool
-is_puts kind.Puts = true
-is_puts k = false
-
-abbrev pub is_sizeof : TokenKind → Bool
-is_sizeof kind.Sizeof = true
-is_sizeof k = false
-
-abbrev pub is_int : TokenKind → Bool
-is_int kind.Int = true
-is_int k = false
-
-abbrev pub is_unsigned : TokenKind → Bool
-is_unsigned kind.Unsigned = true
-is_unsigned k = false
-
-abbrev pub is_void : TokenKind → Bool
-is_void kind.Void = true
-is_void k = false
-
-abbrev pub is_struct : TokenKind → Bool
-is_struct kind.Struct = true
-is_struct k = false
-
-abbrev pub is_star : TokenKind → Bool
-is_star kind.Star = true
-is_star k = false
-
-abbrev pub is_comma : TokenKind → Bool
-is_comma kind.Comma = true
-is_comma k = false
-
-abbrev pub is_question : TokenKind → Bool
-is_question kind.Question = true
-is_question k = false
-
-abbrev pub is_colon : TokenKind → Bool
-is_colon kind.Colon = true
-is_colon k = false
-
-abbrev pub is_open_parenthesis : TokenKind → Bool
-is_open_parenthesis kind.OpenParenthesis = true
-is_open_parenthesis k = false
-
-abbrev pub is_close_parenthesis : TokenKind → Bool
-is_close_parenthesis kind.CloseParenthesis = true
-is_close_parenthesis k = false
-
-abbrev pub is_open_bracket : TokenKind → Bool
-is_open_bracket kind.OpenBracket = true
-is_open_bracket k = false
-
-abbrev pub is_close_bracket : TokenKind → Bool
-is_close_bracket kind.CloseBracket = true
-is_close_bracket k = false
-
-abbrev pub is_dot : TokenKind → Bool
-is_dot kind.Dot = true
-is_dot k = false
-
-abbrev pub is_arrow : TokenKind → Bool
-is_arrow kind.Arrow = true
-is_arrow k = false
-
-abbrev pub is_increment : TokenKind → Bool
-is_increment kind.Increment = true
-is_increment k = false
-
-abbrev pub is_decrement : TokenKind → Bool
-is_decrement kind.Decrement = true
-is_decrement k = false
 
 -- the signs before an operand
 abbrev pub prefix_told : TokenKind → Option Sign

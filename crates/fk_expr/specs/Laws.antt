@@ -1,12 +1,13 @@
 -- What holds of the definitions alone.
 use Rattle.std.specs.Prelude.{ℕ, ◌≤◌}
-use Rattle.fk_expr.specs.Reads.{most_levels, HasOneAnswer}
+use Rattle.fk_reading.specs.Reads.{HasOneAnswer}
+use Rattle.fk_reading.specs.declared.limits.TheConstants.{LEVELS}
 use Rattle.fk_expr.specs.Grammar.{Comma, Assignment}
 
 -- inside so many open levels tokens have one answer as an expression with commas
 abbrev pub OneExpression : Type 0
-OneExpression = (level : ℕ) → level ≤ most_levels → HasOneAnswer (Comma level)
+OneExpression = (level : ℕ) → level ≤ LEVELS → HasOneAnswer (Comma level)
 
 -- and one as an assignment
 abbrev pub OneAssignment : Type 0
-OneAssignment = (level : ℕ) → level ≤ most_levels → HasOneAnswer (Assignment level)
+OneAssignment = (level : ℕ) → level ≤ LEVELS → HasOneAnswer (Assignment level)

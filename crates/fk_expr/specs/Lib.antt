@@ -1,9 +1,6 @@
-pub mod Languages
-pub mod Reads
 pub mod Kinds
 pub mod Grammar
 pub mod Reading
-pub mod Faults
 pub mod Ahead
 pub mod Gives
 pub mod Laws

@@ -7,19 +7,20 @@
 ghost use Rattle.std.specs.Prelude.{◌<◌, ◌≤◌, ◌-◌, ◌^◌, Ok, Err, length, IfOk, IfErr};
 ghost use Rattle.fk_syntax.specs.View.{base_of, tree_of};
 ghost use Rattle.fk_expr.specs.Grammar.{Assignment, Comma, base};
-ghost use Rattle.fk_expr.specs.Reads.{Reads};
 ghost use Rattle.fk_expr.specs.Reading.{inner, read_base, read_comma, read_assignment};
-ghost use Rattle.fk_expr.specs.Faults.{Tells};
-ghost use Rattle.fk_expr.specs.Ahead.{Shortens, plenty};
-ghost use Rattle.fk_expr.specs.Gives.{Gives};
+ghost use Rattle.fk_reading.specs.Reads.{Reads};
+ghost use Rattle.fk_reading.specs.Faults.{Tells};
+ghost use Rattle.fk_reading.specs.Ahead.{Shortens, plenty};
+ghost use Rattle.fk_reading.specs.Gives.{Gives};
 
-use crate::cursor::Cursor;
-use crate::fault::SyntaxFault;
 use crate::{production, types};
+use fk_reading::cursor::Cursor;
+use fk_reading::fault::SyntaxFault;
+use fk_reading::limits::LEVELS;
 use fk_syntax::expression::{Base, Expr};
 use std::alloc::Global;
 
-/// Reads the comma expression that comes next, where so many levels are left: of 128, so the others
+/// Reads the comma expression that comes next, where so many levels are left, and the others
 /// are open. No cursor has 2^32 tokens.
 ///
 /// # Errors
@@ -30,10 +31,10 @@ pub fn comma<'a>(
     cursor: &mut Cursor<'_, 'a>,
     left: u32,
 ) -> Result<Expr<'a>, SyntaxFault>
-    ensures grammar { length cursor.old < 2 ^ 32 → left ≤ 128 → IfOk result (λ e.
-        Reads (Comma (128 - left)) cursor.old (Ok (tree_of e, cursor.new))) }
-    ensures refused { length cursor.old < 2 ^ 32 → left ≤ 128 → IfErr result
-        (Tells (λ stop. Reads (Comma (128 - left)) cursor.old (Err stop))) }
+    ensures grammar { length cursor.old < 2 ^ 32 → left ≤ LEVELS → IfOk result (λ e.
+        Reads (Comma (LEVELS - left)) cursor.old (Ok (tree_of e, cursor.new))) }
+    ensures refused { length cursor.old < 2 ^ 32 → left ≤ LEVELS → IfErr result
+        (Tells (λ stop. Reads (Comma (LEVELS - left)) cursor.old (Err stop))) }
     ensures read { Gives tree_of result cursor.new (read_comma plenty (inner plenty left) cursor.old) }
     ensures shorter { IfOk result (λ _. Shortens cursor.old cursor.new) }
 {
@@ -50,10 +51,10 @@ pub fn assignment<'a>(
     cursor: &mut Cursor<'_, 'a>,
     left: u32,
 ) -> Result<Expr<'a>, SyntaxFault>
-    ensures grammar { length cursor.old < 2 ^ 32 → left ≤ 128 → IfOk result (λ e.
-        Reads (Assignment (128 - left)) cursor.old (Ok (tree_of e, cursor.new))) }
-    ensures refused { length cursor.old < 2 ^ 32 → left ≤ 128 → IfErr result
-        (Tells (λ stop. Reads (Assignment (128 - left)) cursor.old (Err stop))) }
+    ensures grammar { length cursor.old < 2 ^ 32 → left ≤ LEVELS → IfOk result (λ e.
+        Reads (Assignment (LEVELS - left)) cursor.old (Ok (tree_of e, cursor.new))) }
+    ensures refused { length cursor.old < 2 ^ 32 → left ≤ LEVELS → IfErr result
+        (Tells (λ stop. Reads (Assignment (LEVELS - left)) cursor.old (Err stop))) }
     ensures read { Gives tree_of result cursor.new (read_assignment plenty (inner plenty left) cursor.old) }
     ensures shorter { IfOk result (λ _. Shortens cursor.old cursor.new) }
 {

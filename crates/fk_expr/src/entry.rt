@@ -3,18 +3,16 @@
 ghost use Rattle.std.specs.Prelude.{◌≤◌, ◌<◌, ◌^◌, Ok, Err, length, IfOk, IfErr};
 ghost use Rattle.fk_syntax.specs.View.{tree_of};
 ghost use Rattle.fk_expr.specs.Grammar.{Comma, Assignment};
-ghost use Rattle.fk_expr.specs.Reads.{Reads};
-ghost use Rattle.fk_expr.specs.Faults.{Tells, tokens_from};
+ghost use Rattle.fk_reading.specs.Reads.{Reads};
+ghost use Rattle.fk_reading.specs.Faults.{Tells, tokens_from};
 
-use crate::cursor::Cursor;
-use crate::fault::SyntaxFault;
 use crate::production;
 use fk_lex::token::Token;
+use fk_reading::cursor::Cursor;
+use fk_reading::fault::SyntaxFault;
+use fk_reading::limits::LEVELS;
 use fk_syntax::expression::Expr;
 use std::alloc::Global;
-
-/// The levels that may be open in a text.
-const LEVELS: u32 = 128;
 
 /// The comma expression that begins at this token, inside so many open levels, and the index of
 /// the token after it. It is the longest run of tokens that begins an expression, with no bound
@@ -24,7 +22,7 @@ const LEVELS: u32 = 128;
 ///
 /// Where the longest run is no expression, EndOfText if it reaches the end of the tokens, and else
 /// Unexpected at the token after it. Nesting comes before the answer and before both, at the first
-/// token of the run that opens level 129. Memory may be wanting for any tokens.
+/// token of the run that opens a level too many. Memory may be wanting for any tokens.
 pub fn expression<'a>(
     alloc: Global,
     tokens: &[Token<'a>],
@@ -33,7 +31,7 @@ pub fn expression<'a>(
 ) -> Result<(Expr<'a>, usize), SyntaxFault>
     requires begins { at ≤ length tokens.now }
     requires few { length tokens.now < 2 ^ 32 }
-    requires levels { level ≤ 128 }
+    requires levels { level ≤ LEVELS }
     ensures read { IfOk result (λ x. Reads (Comma level) (tokens_from at tokens.now)
         (Ok (tree_of x.0, tokens_from x.1 tokens.now))) }
     ensures within { IfOk result (λ x. x.1 ≤ length tokens.now) }
@@ -57,7 +55,7 @@ pub fn assignment<'a>(
 ) -> Result<(Expr<'a>, usize), SyntaxFault>
     requires begins { at ≤ length tokens.now }
     requires few { length tokens.now < 2 ^ 32 }
-    requires levels { level ≤ 128 }
+    requires levels { level ≤ LEVELS }
     ensures read { IfOk result (λ x. Reads (Assignment level) (tokens_from at tokens.now)
         (Ok (tree_of x.0, tokens_from x.1 tokens.now))) }
     ensures within { IfOk result (λ x. x.1 ≤ length tokens.now) }

@@ -1,22 +1,21 @@
 //! Expressions of Fork95: the tree of an expression's tokens, and the place of each fault.
 //!
 //! `expression` and `assignment` read one among the tokens of a text. `at_cursor` has the same
-//! productions for `fk_parse`, which reads them where they stand in statements.
+//! productions for the grammar of statements, which reads them where they stand.
 #![tactic(auto)]
 
 pub mod at_cursor;
-pub mod cursor;
 mod entry;
-pub mod fault;
 pub mod kinds;
 pub mod laws;
+pub mod level;
 mod parts;
 mod production;
 pub mod told;
 pub mod types;
 
 pub use entry::{assignment, expression};
-pub use fault::SyntaxFault;
+pub use fk_reading::fault::SyntaxFault;
 
 #[cfg(test)]
 mod tests;

@@ -4,13 +4,14 @@ ghost use Rattle.std.specs.Prelude.{◌≡◌, map, IfOk};
 ghost use Rattle.fk_syntax.specs.View.{tree_of, link_of, suffix_of};
 ghost use Rattle.fk_expr.specs.Grammar.{chained, suffixed};
 ghost use Rattle.fk_expr.specs.Reading.{inner, read_sizeof, read_puts};
-ghost use Rattle.fk_expr.specs.Ahead.{Shortens, plenty};
-ghost use Rattle.fk_expr.specs.Gives.{Gives};
+ghost use Rattle.fk_reading.specs.Ahead.{Shortens, plenty};
+ghost use Rattle.fk_reading.specs.Gives.{Gives};
 
-use crate::cursor::Cursor;
-use crate::fault::SyntaxFault;
-use crate::kinds::{CloseParenthesis, OpenParenthesis, Puts, Sizeof, Text};
+use crate::level::open;
 use crate::types::type_name;
+use fk_lex::token::TokenKind;
+use fk_reading::cursor::Cursor;
+use fk_reading::fault::SyntaxFault;
 use fk_syntax::expression::{Expr, Link, Suffix};
 use std::alloc::{AllocError, Global};
 
@@ -20,11 +21,11 @@ pub(crate) fn size_of<'a>(cursor: &mut Cursor<'_, 'a>, left: u32) -> Result<Expr
     ensures read { Gives tree_of result cursor.new (read_sizeof plenty (inner plenty left) cursor.old) }
     ensures shorter { IfOk result (λ _. Shortens cursor.old cursor.new) }
 {
-    let word = cursor.expect::<Sizeof>()?;
-    cursor.open::<OpenParenthesis>(left)?;
-    cursor.expect::<OpenParenthesis>()?;
+    let word = cursor.expect(TokenKind::Sizeof)?;
+    open(cursor, TokenKind::OpenParenthesis, left)?;
+    cursor.expect(TokenKind::OpenParenthesis)?;
     let kind = type_name(cursor)?;
-    cursor.expect::<CloseParenthesis>()?;
+    cursor.expect(TokenKind::CloseParenthesis)?;
     Ok(Expr::Sizeof(word.spot(), kind))
 }
 
@@ -34,11 +35,11 @@ pub(crate) fn puts<'a>(cursor: &mut Cursor<'_, 'a>, left: u32) -> Result<Expr<'a
     ensures read { Gives tree_of result cursor.new (read_puts (inner plenty left) cursor.old) }
     ensures shorter { IfOk result (λ _. Shortens cursor.old cursor.new) }
 {
-    let word = cursor.expect::<Puts>()?;
-    cursor.open::<OpenParenthesis>(left)?;
-    cursor.expect::<OpenParenthesis>()?;
-    let text = cursor.expect::<Text>()?;
-    cursor.expect::<CloseParenthesis>()?;
+    let word = cursor.expect(TokenKind::Puts)?;
+    open(cursor, TokenKind::OpenParenthesis, left)?;
+    cursor.expect(TokenKind::OpenParenthesis)?;
+    let text = cursor.expect(TokenKind::Text)?;
+    cursor.expect(TokenKind::CloseParenthesis)?;
     Ok(Expr::Puts(word.spot(), text.token.bytes))
 }
 

@@ -7,23 +7,22 @@
 ghost use Rattle.std.specs.Prelude.{◌≤◌, ◌<◌, ◌-◌, ◌^◌, length, map, IfOk};
 ghost use Rattle.fk_syntax.specs.View.{tree_of, suffix_of};
 ghost use Rattle.fk_expr.specs.Reading.{inner, read_comma, read_assignment, read_choice, read_joined, read_prefix, read_cast, read_postfix, read_primary, read_suffix, read_arguments};
-ghost use Rattle.fk_expr.specs.Ahead.{Shortens, plenty, readers, read_links};
+ghost use Rattle.fk_expr.specs.Ahead.{readers, read_links};
 ghost use Rattle.fk_expr.specs.Grammar.{chained};
-ghost use Rattle.fk_expr.specs.Gives.{Gives, Makes};
+ghost use Rattle.fk_reading.specs.Ahead.{Shortens, plenty};
+ghost use Rattle.fk_reading.specs.Gives.{Gives, Makes};
 
-use crate::cursor::Cursor;
-use crate::fault::SyntaxFault;
-use crate::kinds::{
-    Arrow, AssignmentSign, At, CloseBracket, CloseParenthesis, Colon, Comma, Decrement, Dollar,
-    Dot, ExpressionStart, Increment, NumberToken, OpenBracket, OpenParenthesis, PrefixSign,
-    Question, Sizeof, SuffixStart, TypeStart, Word,
-};
+use crate::level::{open, open_expression, open_prefix};
 use crate::parts::{chain, puts, size_of, suffixed};
 use crate::told::{
-    expect_assignment, expect_number, expect_operator, expect_prefix, next_looseness,
-    operator_is_next,
+    assignment_is_next, cast_is_next, expect_assignment, expect_number, expect_operator,
+    expect_prefix, expression_is_next, next_looseness, number_is_next, operator_is_next,
+    prefix_is_next, suffix_is_next,
 };
 use crate::types::type_name;
+use fk_lex::token::TokenKind;
+use fk_reading::cursor::Cursor;
+use fk_reading::fault::SyntaxFault;
 use fk_syntax::expression::{Expr, Link, Suffix};
 use fk_syntax::sign::Sign;
 use std::alloc::Global;
@@ -44,8 +43,8 @@ pub fn comma<'a>(
 {
     let first = assignment(alloc, cursor, left)?;
     let mut links = Vec::new(alloc);
-    while cursor.next_is::<Comma>() {
-        let sign = cursor.expect::<Comma>()?;
+    while cursor.next_is(TokenKind::Comma) {
+        let sign = cursor.expect(TokenKind::Comma)?;
         let right = assignment(alloc, cursor, left)?;
         links.push(Link::new(sign.spot(), Sign::Comma, right))?;
     }
@@ -64,11 +63,11 @@ pub fn assignment<'a>(
     ensures shorter { IfOk result (λ _. Shortens cursor.old cursor.new) }
 {
     let target = choice(alloc, cursor, left)?;
-    if !cursor.next_is::<AssignmentSign>() {
+    if !assignment_is_next(cursor) {
         return Ok(target);
     }
     let (token, sign) = expect_assignment(cursor)?;
-    let inside = cursor.open::<ExpressionStart>(left)?;
+    let inside = open_expression(cursor, left)?;
     let value = assignment(alloc, cursor, inside)?;
     Ok(Expr::assign(alloc, token.spot(), sign, target, value)?)
 }
@@ -85,13 +84,13 @@ fn choice<'a>(
     ensures shorter { IfOk result (λ _. Shortens cursor.old cursor.new) }
 {
     let condition = joined(alloc, cursor, left, LOOSEST)?;
-    if !cursor.next_is::<Question>() {
+    if !cursor.next_is(TokenKind::Question) {
         return Ok(condition);
     }
-    let inside = cursor.open::<Question>(left)?;
-    let question = cursor.expect::<Question>()?;
+    let inside = open(cursor, TokenKind::Question, left)?;
+    let question = cursor.expect(TokenKind::Question)?;
     let first = comma(alloc, cursor, inside)?;
-    cursor.expect::<Colon>()?;
+    cursor.expect(TokenKind::Colon)?;
     let second = choice(alloc, cursor, inside)?;
     Ok(Expr::choose(alloc, question.spot(), condition, first, second)?)
 }
@@ -155,16 +154,16 @@ fn prefix<'a>(
     ensures read { Gives tree_of result cursor.new (read_prefix plenty (inner plenty left) cursor.old) }
     ensures shorter { IfOk result (λ _. Shortens cursor.old cursor.new) }
 {
-    if cursor.next_is::<PrefixSign>() {
-        let inside = cursor.open::<PrefixSign>(left)?;
+    if prefix_is_next(cursor) {
+        let inside = open_prefix(cursor, left)?;
         let (token, sign) = expect_prefix(cursor)?;
         let operand = prefix(alloc, cursor, inside)?;
         return Ok(Expr::prefix(alloc, token.spot(), sign, operand)?);
     }
-    if cursor.pair_is::<OpenParenthesis, TypeStart>() {
+    if cast_is_next(cursor) {
         return cast(alloc, cursor, left);
     }
-    if cursor.next_is::<Sizeof>() {
+    if cursor.next_is(TokenKind::Sizeof) {
         return size_of(cursor, left);
     }
     postfix(alloc, cursor, left)
@@ -177,10 +176,10 @@ fn cast<'a>(alloc: Global, cursor: &mut Cursor<'_, 'a>, left: u32) -> Result<Exp
     ensures read { Gives tree_of result cursor.new (read_cast plenty (inner plenty left) cursor.old) }
     ensures shorter { IfOk result (λ _. Shortens cursor.old cursor.new) }
 {
-    let inside = cursor.open::<OpenParenthesis>(left)?;
-    let open = cursor.expect::<OpenParenthesis>()?;
+    let inside = open(cursor, TokenKind::OpenParenthesis, left)?;
+    let open = cursor.expect(TokenKind::OpenParenthesis)?;
     let kind = type_name(cursor)?;
-    cursor.expect::<CloseParenthesis>()?;
+    cursor.expect(TokenKind::CloseParenthesis)?;
     let operand = prefix(alloc, cursor, inside)?;
     Ok(Expr::cast(alloc, open.spot(), kind, operand)?)
 }
@@ -198,7 +197,7 @@ fn postfix<'a>(
 {
     let whole = primary(alloc, cursor, left)?;
     let mut suffixes = Vec::new(alloc);
-    while cursor.next_is::<SuffixStart>() {
+    while suffix_is_next(cursor) {
         suffixes.push(suffix(alloc, cursor, left)?)?;
     }
     Ok(suffixed(alloc, whole, suffixes)?)
@@ -215,26 +214,26 @@ fn primary<'a>(
     ensures read { Gives tree_of result cursor.new (read_primary (inner plenty left) cursor.old) }
     ensures shorter { IfOk result (λ _. Shortens cursor.old cursor.new) }
 {
-    if cursor.next_is::<NumberToken>() {
+    if number_is_next(cursor) {
         let (token, (value, unsigned)) = expect_number(cursor)?;
         return Ok(Expr::Number(token.spot(), value, unsigned));
     }
-    if cursor.next_is::<Word>() {
-        return Ok(Expr::Named(cursor.expect::<Word>()?.name()));
+    if cursor.next_is(TokenKind::Word) {
+        return Ok(Expr::Named(cursor.expect(TokenKind::Word)?.name()));
     }
-    if cursor.next_is::<At>() {
-        return Ok(Expr::GroupNumber(cursor.expect::<At>()?.spot()));
+    if cursor.next_is(TokenKind::At) {
+        return Ok(Expr::GroupNumber(cursor.expect(TokenKind::At)?.spot()));
     }
-    if cursor.next_is::<Dollar>() {
-        return Ok(Expr::GroupRank(cursor.expect::<Dollar>()?.spot()));
+    if cursor.next_is(TokenKind::Dollar) {
+        return Ok(Expr::GroupRank(cursor.expect(TokenKind::Dollar)?.spot()));
     }
-    if !cursor.next_is::<OpenParenthesis>() {
+    if !cursor.next_is(TokenKind::OpenParenthesis) {
         return puts(cursor, left);
     }
-    let inside = cursor.open::<OpenParenthesis>(left)?;
-    cursor.expect::<OpenParenthesis>()?;
+    let inside = open(cursor, TokenKind::OpenParenthesis, left)?;
+    cursor.expect(TokenKind::OpenParenthesis)?;
     let value = comma(alloc, cursor, inside)?;
-    cursor.expect::<CloseParenthesis>()?;
+    cursor.expect(TokenKind::CloseParenthesis)?;
     Ok(value)
 }
 
@@ -249,32 +248,32 @@ fn suffix<'a>(
     ensures read { Gives suffix_of result cursor.new (read_suffix plenty (inner plenty left) cursor.old) }
     ensures shorter { IfOk result (λ _. Shortens cursor.old cursor.new) }
 {
-    if cursor.next_is::<OpenBracket>() {
-        let inside = cursor.open::<OpenBracket>(left)?;
-        let open = cursor.expect::<OpenBracket>()?;
+    if cursor.next_is(TokenKind::OpenBracket) {
+        let inside = open(cursor, TokenKind::OpenBracket, left)?;
+        let open = cursor.expect(TokenKind::OpenBracket)?;
         let by = comma(alloc, cursor, inside)?;
-        cursor.expect::<CloseBracket>()?;
+        cursor.expect(TokenKind::CloseBracket)?;
         return Ok(Suffix::index(open.spot(), by));
     }
-    if cursor.next_is::<OpenParenthesis>() {
-        let inside = cursor.open::<OpenParenthesis>(left)?;
-        let open = cursor.expect::<OpenParenthesis>()?;
+    if cursor.next_is(TokenKind::OpenParenthesis) {
+        let inside = open(cursor, TokenKind::OpenParenthesis, left)?;
+        let open = cursor.expect(TokenKind::OpenParenthesis)?;
         let arguments = arguments(alloc, cursor, inside)?;
-        cursor.expect::<CloseParenthesis>()?;
+        cursor.expect(TokenKind::CloseParenthesis)?;
         return Ok(Suffix::call(open.spot(), arguments));
     }
-    if cursor.next_is::<Dot>() {
-        let dot = cursor.expect::<Dot>()?;
-        return Ok(Suffix::Dot(dot.spot(), cursor.expect::<Word>()?.name()));
+    if cursor.next_is(TokenKind::Dot) {
+        let dot = cursor.expect(TokenKind::Dot)?;
+        return Ok(Suffix::Dot(dot.spot(), cursor.expect(TokenKind::Word)?.name()));
     }
-    if cursor.next_is::<Arrow>() {
-        let arrow = cursor.expect::<Arrow>()?;
-        return Ok(Suffix::Arrow(arrow.spot(), cursor.expect::<Word>()?.name()));
+    if cursor.next_is(TokenKind::Arrow) {
+        let arrow = cursor.expect(TokenKind::Arrow)?;
+        return Ok(Suffix::Arrow(arrow.spot(), cursor.expect(TokenKind::Word)?.name()));
     }
-    if cursor.next_is::<Increment>() {
-        return Ok(Suffix::Up(cursor.expect::<Increment>()?.spot()));
+    if cursor.next_is(TokenKind::Increment) {
+        return Ok(Suffix::Up(cursor.expect(TokenKind::Increment)?.spot()));
     }
-    Ok(Suffix::Down(cursor.expect::<Decrement>()?.spot()))
+    Ok(Suffix::Down(cursor.expect(TokenKind::Decrement)?.spot()))
 }
 
 /// [ assign { "," assign } ]
@@ -289,12 +288,12 @@ fn arguments<'a>(
     ensures few { IfOk result (λ _. length cursor.new ≤ length cursor.old) }
 {
     let mut arguments = Vec::new(alloc);
-    if !cursor.next_is::<ExpressionStart>() {
+    if !expression_is_next(cursor) {
         return Ok(arguments);
     }
     arguments.push(assignment(alloc, cursor, left)?)?;
-    while cursor.next_is::<Comma>() {
-        cursor.expect::<Comma>()?;
+    while cursor.next_is(TokenKind::Comma) {
+        cursor.expect(TokenKind::Comma)?;
         arguments.push(assignment(alloc, cursor, left)?)?;
     }
     Ok(arguments)

@@ -1,16 +1,22 @@
-//! Tokens that tell something: the value of a number, or a sign.
+//! What comes next: a token that tells something, or one that begins a production.
 
-ghost use Rattle.std.specs.Prelude.{◌≡◌, ◌<◌, ◌≤◌, ◌+◌, None, IfOk};
+ghost use Rattle.std.specs.Prelude.{◌≡◌, ◌<◌, ◌≤◌, ◌+◌, ◌^◌, None, IfOk, length};
 ghost use Rattle.std.specs.Option.{IfSome};
 ghost use Rattle.fk_expr.specs.Kinds.{number_told, prefix_told, assignment_told};
 ghost use Rattle.fk_expr.specs.Grammar.{operator_at};
-ghost use Rattle.fk_expr.specs.Reading.{next_is, tells, next_tells, expect_told};
-ghost use Rattle.fk_expr.specs.Ahead.{seen, Shortens, NoOperator};
-ghost use Rattle.fk_expr.specs.Gives.{Gives};
+ghost use Rattle.fk_expr.specs.Reading.{begins_type, begins_expression, begins_suffix, cast_is_next};
+ghost use Rattle.fk_expr.specs.Ahead.{NoOperator};
+ghost use Rattle.fk_reading.specs.Readers.{next_is, tells, next_tells, expect_told};
+ghost use Rattle.fk_reading.specs.Ahead.{seen, Shortens};
+ghost use Rattle.fk_reading.specs.Gives.{Gives};
 
-use crate::cursor::{Cursor, Numbered};
-use crate::fault::SyntaxFault;
-use crate::kinds::{assignment_sign, number, operator, operator_sign, prefix_sign};
+use crate::kinds::{
+    assignment_sign, begins_expression, begins_suffix, begins_type, number, operator,
+    operator_sign, prefix_sign,
+};
+use fk_lex::token::TokenKind;
+use fk_reading::cursor::{Cursor, Numbered};
+use fk_reading::fault::SyntaxFault;
 use fk_syntax::sign::Sign;
 
 /// Reads the next token, which has to be a number: its value, and whether its type is `unsigned`.
@@ -64,6 +70,71 @@ pub(crate) fn expect_operator<'a>(
         return Err(cursor.unexpected());
     };
     Ok((cursor.next()?, sign))
+}
+
+/// Whether a type comes next.
+pub fn type_is_next(cursor: &Cursor) -> bool
+    ensures next { result ≡ next_is begins_type cursor.now }
+    ensures few { length cursor.now < 2 ^ 32 }
+{
+    match cursor.peek() {
+        Some(kind) => begins_type(kind),
+        None => false,
+    }
+}
+
+/// Whether an expression comes next.
+pub fn expression_is_next(cursor: &Cursor) -> bool
+    ensures { result ≡ next_is begins_expression cursor.now }
+{
+    match cursor.peek() {
+        Some(kind) => begins_expression(kind),
+        None => false,
+    }
+}
+
+/// Whether a suffix comes next.
+pub(crate) fn suffix_is_next(cursor: &Cursor) -> bool
+    ensures { result ≡ next_is begins_suffix cursor.now }
+{
+    match cursor.peek() {
+        Some(kind) => begins_suffix(kind),
+        None => false,
+    }
+}
+
+/// Whether a parenthesis comes next, and a type behind it.
+pub(crate) fn cast_is_next(cursor: &Cursor) -> bool
+    ensures { result ≡ cast_is_next cursor.now }
+{
+    if !cursor.next_is(TokenKind::OpenParenthesis) {
+        return false;
+    }
+    match cursor.second() {
+        Some(kind) => begins_type(kind),
+        None => false,
+    }
+}
+
+/// Whether a number comes next.
+pub(crate) fn number_is_next(cursor: &Cursor) -> bool
+    ensures { result ≡ next_is (tells number_told) cursor.now }
+{
+    next_number(cursor).is_some()
+}
+
+/// Whether a sign before an operand comes next.
+pub(crate) fn prefix_is_next(cursor: &Cursor) -> bool
+    ensures { result ≡ next_is (tells prefix_told) cursor.now }
+{
+    next_prefix(cursor).is_some()
+}
+
+/// Whether the sign of an assignment comes next.
+pub(crate) fn assignment_is_next(cursor: &Cursor) -> bool
+    ensures { result ≡ next_is (tells assignment_told) cursor.now }
+{
+    next_assignment(cursor).is_some()
 }
 
 /// Whether an operator comes next that binds so loosely.

@@ -2,14 +2,15 @@
 
 ghost use Rattle.std.specs.Prelude.{length, IfOk};
 ghost use Rattle.fk_syntax.specs.View.{base_of, type_of};
-ghost use Rattle.fk_expr.specs.Kinds.{is_star};
-ghost use Rattle.fk_expr.specs.Reading.{expect, repeated, read_base, read_type_name};
-ghost use Rattle.fk_expr.specs.Ahead.{Shortens, Leaves, plenty};
-ghost use Rattle.fk_expr.specs.Gives.{Gives, Makes};
+ghost use Rattle.fk_reading.specs.Kinds.{just};
+ghost use Rattle.fk_reading.specs.Readers.{expect, repeated};
+ghost use Rattle.fk_reading.specs.Ahead.{Shortens, Leaves, plenty};
+ghost use Rattle.fk_reading.specs.Gives.{Gives, Makes};
+ghost use Rattle.fk_expr.specs.Reading.{read_base, read_type_name};
 
-use crate::cursor::Cursor;
-use crate::fault::SyntaxFault;
-use crate::kinds::{Int, Star, Struct, Unsigned, Void, Word};
+use fk_lex::token::TokenKind;
+use fk_reading::cursor::Cursor;
+use fk_reading::fault::SyntaxFault;
 use fk_syntax::expression::{Base, TypeName};
 
 /// Reads a type and its stars.
@@ -24,12 +25,12 @@ pub fn type_name<'a>(cursor: &mut Cursor<'_, 'a>) -> Result<TypeName<'a>, Syntax
 
 /// How many `*` come.
 pub fn stars(cursor: &mut Cursor) -> Result<u32, SyntaxFault>
-    ensures read { Makes length (λ n. n) result cursor.new (repeated plenty is_star (expect is_star) cursor.old) }
+    ensures read { Makes length (λ n. n) result cursor.new (repeated plenty (just TokenKind.Star) (expect TokenKind.Star) cursor.old) }
     ensures few { IfOk result (λ _. Leaves cursor.old cursor.new) }
 {
     let mut stars = 0;
-    while cursor.next_is::<Star>() {
-        cursor.expect::<Star>()?;
+    while cursor.next_is(TokenKind::Star) {
+        cursor.expect(TokenKind::Star)?;
         stars += 1;
     }
     Ok(stars)
@@ -40,21 +41,21 @@ pub fn base<'a>(cursor: &mut Cursor<'_, 'a>) -> Result<Base<'a>, SyntaxFault>
     ensures read { Gives base_of result cursor.new (read_base cursor.old) }
     ensures shorter { IfOk result (λ _. Shortens cursor.old cursor.new) }
 {
-    if cursor.next_is::<Int>() {
-        cursor.expect::<Int>()?;
+    if cursor.next_is(TokenKind::Int) {
+        cursor.expect(TokenKind::Int)?;
         return Ok(Base::Int);
     }
-    if cursor.next_is::<Unsigned>() {
-        cursor.expect::<Unsigned>()?;
-        if cursor.next_is::<Int>() {
-            cursor.expect::<Int>()?;
+    if cursor.next_is(TokenKind::Unsigned) {
+        cursor.expect(TokenKind::Unsigned)?;
+        if cursor.next_is(TokenKind::Int) {
+            cursor.expect(TokenKind::Int)?;
         }
         return Ok(Base::Unsigned);
     }
-    if cursor.next_is::<Void>() {
-        cursor.expect::<Void>()?;
+    if cursor.next_is(TokenKind::Void) {
+        cursor.expect(TokenKind::Void)?;
         return Ok(Base::Void);
     }
-    cursor.expect::<Struct>()?;
-    Ok(Base::Struct(cursor.expect::<Word>()?.name()))
+    cursor.expect(TokenKind::Struct)?;
+    Ok(Base::Struct(cursor.expect(TokenKind::Word)?.name()))
 }

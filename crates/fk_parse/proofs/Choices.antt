@@ -1,11 +1,11 @@
 -- A language whose stretches are read by one reader or another.
 use Rattle.std.proofs.Common.{◌≡◌, ℕ, ◌≤◌, List, [], ◌∷◌, ◌++◌, Bool, true, false, IsTrue, Ok, Err, length, ◌⊎◌, inl, inr, sym, ap, ◌∙◌, arith, append_assoc, length-append}
-use Rattle.fk_expr.specs.Languages.{Placed, Stretch, tokens_of, Language, ◌or◌}
-use Rattle.fk_expr.specs.Reads.{Unexpected, EndOfText, Nesting, Answer}
-use Rattle.fk_expr.specs.Reading.{Reader, next_is, either, by_next}
-use Rattle.fk_expr.proofs.Sets.{Kinds, ◌∪◌, Within, next-within, within_left, within_right}
-use Rattle.fk_expr.proofs.Exact.{Shape, Sound, Stands, Local, IsComplete, IsLocal, Exact, settled}
-use Rattle.fk_expr.proofs.Or.{Includes, sound_more, or_local, or_same, welcome}
+use Rattle.fk_reading.specs.Languages.{Placed, Stretch, tokens_of, Language, ◌or◌}
+use Rattle.fk_reading.specs.Reads.{Unexpected, EndOfText, Nesting, Answer}
+use Rattle.fk_reading.specs.Readers.{Reader, next_is, either, by_next}
+use Rattle.fk_reading.proofs.Sets.{Kinds, ◌∪◌, Within, next-within, within_left, within_right}
+use Rattle.fk_reading.proofs.Exact.{Shape, Sound, Stands, Local, IsComplete, IsLocal, Exact, settled}
+use Rattle.fk_reading.proofs.Or.{Includes, sound_more, or_local, or_same, welcome}
 
 -- ---- by the next token
 

@@ -3,28 +3,34 @@ use Rattle.std.proofs.Common.{◌≡◌, ℕ, suc, ◌+◌, List, [], ◌∷◌,
 use Rattle.fk_syntax.specs.Tree.{BaseType, Struct}
 use Rattle.fk_syntax.specs.Program.{DeclaredTree, ItemTree, StructItem, VariablesItem}
 use Rattle.fk_lex.specs.declared.token.TokenKind.TheVariants as kind
-use Rattle.fk_expr.specs.Languages.{Placed, Stretch, tokens_of, Language, token, ◌then◌, ◌or◌, making, many}
-use Rattle.fk_expr.specs.Kinds.{is_name, is_int, is_unsigned, is_void, is_struct, is_star}
-use Rattle.fk_expr.specs.Reads.{Unexpected, Answer, most_levels}
-use Rattle.fk_expr.specs.Grammar.{base, name}
-use Rattle.fk_expr.specs.Reading.{Reader, after, giving, ◌and◌, next_is, either, by_next, expect, read_base, repeated, tells, begins_type, inner}
-use Rattle.fk_expr.proofs.Sets.{Kinds, none, ◌∪◌, none_apart, Apart, apart-false}
-use Rattle.fk_expr.proofs.EachKind.{apart_by, within_by}
-use Rattle.fk_expr.proofs.Exact.{Local, IsLocal}
-use Rattle.fk_expr.proofs.Stretches.{tokens_regroup}
-use Rattle.fk_expr.proofs.Shapes.{shape_or}
-use Rattle.fk_expr.proofs.Then.{follows_shape, exact_wider}
-use Rattle.fk_expr.proofs.Or.{by_next-yes, by_next-no, local_like}
-use Rattle.fk_expr.proofs.Productions.{IsRead, reads_token, reads_making, reads_then, reads_loose_then, reads_or, reads_many, reads_kinds, reads_wider}
-use Rattle.fk_expr.proofs.Longest.{Faithful}
-use Rattle.fk_parse.specs.Kinds.{is_semicolon, is_open_brace, is_close_brace, sharing_told, mode_told}
-use Rattle.fk_parse.specs.Statements.{member, struct_item, item, Items, joined_lists}
-use Rattle.fk_parse.specs.Reading.{read_member, read_struct, read_variables, read_moded, read_bare, read_tail, read_item, read_items, begins_item, struct_is_next, made_of, Tail}
-use Rattle.fk_parse.proofs.Declarations.{starred, reads_member}
-use Rattle.fk_parse.proofs.Parameters.{next_none}
+use Rattle.fk_reading.specs.Languages.{Placed, Stretch, tokens_of, Language, token, ◌then◌, ◌or◌, making, many, name}
+use Rattle.fk_reading.specs.Reads.{Unexpected, Answer}
+use Rattle.fk_reading.specs.declared.limits.TheConstants.{LEVELS}
+use Rattle.fk_expr.specs.Grammar.{base}
+use Rattle.fk_reading.specs.Readers.{Reader, after, giving, ◌and◌, next_is, either, by_next, expect, repeated, tells}
+use Rattle.fk_expr.specs.Reading.{read_base, begins_type, inner}
+use Rattle.fk_reading.proofs.SameKind.{other_kind}
+use Rattle.fk_reading.proofs.Sets.{Kinds, none, ◌∪◌, none_apart, Apart, apart-false}
+use Rattle.fk_reading.proofs.EachKind.{apart_by, within_by}
+use Rattle.fk_reading.proofs.Exact.{Local, IsLocal}
+use Rattle.fk_reading.proofs.Stretches.{tokens_regroup}
+use Rattle.fk_reading.proofs.Shapes.{shape_or}
+use Rattle.fk_reading.proofs.Then.{follows_shape, exact_wider}
+use Rattle.fk_reading.proofs.Or.{by_next-yes, by_next-no, local_like}
+use Rattle.fk_reading.proofs.Productions.{IsRead, reads_token, reads_making, reads_then, reads_loose_then, reads_or, reads_many, reads_kinds, reads_wider}
+use Rattle.fk_reading.proofs.Longest.{Faithful}
+use Rattle.fk_stmt.specs.Kinds.{sharing_told}
+use Rattle.fk_parse.specs.Kinds.{mode_told}
+use Rattle.fk_stmt.specs.Statements.{member, joined_lists}
+use Rattle.fk_parse.specs.Items.{struct_item, item, Items}
+use Rattle.fk_stmt.specs.Reading.{read_member, read_variables}
+use Rattle.fk_parse.specs.Reading.{read_struct, read_moded, read_bare, read_tail, read_item, read_items, begins_item, struct_is_next, made_of, Tail}
+use Rattle.fk_stmt.proofs.Declarations.{starred, reads_member}
+use Rattle.fk_stmt.proofs.Parameters.{next_none}
 use Rattle.fk_parse.proofs.Choices.{exact_test, local_behind}
 use Rattle.fk_parse.proofs.Tails.{has_room, body_within, named, reads_named, tail, reads_tail, bare, moded}
 use Rattle.fk_parse.proofs.Words.{words, words_cases, read_typed, read_words, reads_words}
+use Rattle.fk_reading.specs.Kinds.{just}
 
 -- ---- structs
 
@@ -34,35 +40,35 @@ Members = Placed × (List DeclaredTree × (List (List DeclaredTree) × (Placed �
 
 -- braces, members and a semicolon
 abbrev members : Language Members
-members = token 0 is_open_brace then member 0 then many (member 0) then token 0 is_close_brace then token 0 is_semicolon
+members = token 0 kind.OpenBrace then member 0 then many (member 0) then token 0 kind.CloseBrace then token 0 kind.Semicolon
 
 -- how they are read
 abbrev read_members : ℕ → Reader Members
 read_members most =
-    expect is_open_brace and read_member most and repeated most begins_type (read_member most) and expect is_close_brace and expect is_semicolon
+    expect kind.OpenBrace and read_member most and repeated most begins_type (read_member most) and expect kind.CloseBrace and expect kind.Semicolon
 
 -- they are read exactly
-reads_members : {levels : ℕ} {room : Type 0} → IsRead levels members read_members 0 is_open_brace none room
+reads_members : {levels : ℕ} {room : Type 0} → IsRead levels members read_members 0 (just kind.OpenBrace) none room
 reads_members =
-    reads_then (reads_token 0 is_open_brace kind.OpenBrace refl (omega arith))
+    reads_then (reads_token 0 kind.OpenBrace (omega arith))
     (reads_then (reads_member 0 (omega arith))
     (reads_loose_then (reads_many (reads_member 0 (omega arith)) (none_apart begins_type))
-    (reads_then (reads_token 0 is_close_brace kind.CloseBrace refl (omega arith)) (reads_token 0 is_semicolon kind.Semicolon refl (omega arith)) (none_apart is_semicolon))
-    (apart_by (none ∪ begins_type) is_close_brace refl (λ v u. refl)))
-    (none_apart (begins_type ∪ is_close_brace)))
+    (reads_then (reads_token 0 kind.CloseBrace (omega arith)) (reads_token 0 kind.Semicolon (omega arith)) (none_apart (just kind.Semicolon)))
+    (apart_by (none ∪ begins_type) (just kind.CloseBrace) refl (λ v u. refl)))
+    (none_apart (begins_type ∪ just kind.CloseBrace)))
     (none_apart begins_type)
 
 -- a struct is read exactly
-reads_struct : {levels : ℕ} {room : Type 0} → IsRead levels struct_item (λ most. read_struct most) 0 is_struct none room
+reads_struct : {levels : ℕ} {room : Type 0} → IsRead levels struct_item (λ most. read_struct most) 0 (just kind.Struct) none room
 unfolding read_struct
 reads_struct =
-    reads_making _ (reads_then (reads_token 0 is_struct kind.Struct refl (omega arith))
-    (reads_then (reads_token 0 is_name kind.Word refl (omega arith)) reads_members (none_apart is_open_brace)) (none_apart is_name))
+    reads_making _ (reads_then (reads_token 0 kind.Struct (omega arith))
+    (reads_then (reads_token 0 kind.Word (omega arith)) reads_members (none_apart (just kind.OpenBrace))) (none_apart (just kind.Word)))
 
 -- ---- what the three tokens tell
 
 -- where the first isn't `struct`
-not_struct : (t : Placed) (ts : List Placed) → is_struct t.kind ≡ false → struct_is_next (t ∷ ts) ≡ false
+not_struct : (t : Placed) (ts : List Placed) → just kind.Struct t.kind ≡ false → struct_is_next (t ∷ ts) ≡ false
 not_struct t [] e = refl
 not_struct t (n ∷ []) e = refl
 not_struct t (n ∷ u ∷ ts) e = rw e refl
@@ -74,9 +80,9 @@ third true false = refl
 third false b = refl
 
 -- they tell no struct
-not_brace : (t n : Placed) (ts : List Placed) → next_is is_open_brace ts ≡ false → struct_is_next (t ∷ n ∷ ts) ≡ false
+not_brace : (t n : Placed) (ts : List Placed) → next_is (just kind.OpenBrace) ts ≡ false → struct_is_next (t ∷ n ∷ ts) ≡ false
 not_brace t n [] e = refl
-not_brace t n (u ∷ ts) e = rw e (third (is_struct t.kind) (is_name n.kind))
+not_brace t n (u ∷ ts) e = rw e (third (just kind.Struct t.kind) (just kind.Word n.kind))
 
 -- where the second isn't a name
 second : (a b : Bool) → (a && false && b) ≡ false
@@ -84,14 +90,14 @@ second true b = refl
 second false b = refl
 
 -- they tell none
-not_named : (t n : Placed) (ts : List Placed) → is_name n.kind ≡ false → struct_is_next (t ∷ n ∷ ts) ≡ false
+not_named : (t n : Placed) (ts : List Placed) → just kind.Word n.kind ≡ false → struct_is_next (t ∷ n ∷ ts) ≡ false
 not_named t n [] e = refl
-not_named t n (u ∷ ts) e = rw e (second (is_struct t.kind) (is_open_brace u.kind))
+not_named t n (u ∷ ts) e = rw e (second (just kind.Struct t.kind) (just kind.OpenBrace u.kind))
 
 -- where what comes next is of other kinds than `struct`
-not_next : (is : Kinds) → Apart is_struct is → (ts : List Placed) → IsTrue (next_is is ts) → struct_is_next ts ≡ false
+not_next : (is : Kinds) → Apart (just kind.Struct) is → (ts : List Placed) → IsTrue (next_is is ts) → struct_is_next ts ≡ false
 not_next is apart [] h = refl
-not_next is apart (t ∷ ts) h = not_struct t ts (apart-false is_struct is apart t.kind h)
+not_next is apart (t ∷ ts) h = not_struct t ts (apart-false (just kind.Struct) is apart t.kind h)
 
 -- of a struct they tell that it comes
 chooses : (s : Stretch) (a : ItemTree) (rest : List Placed) → struct_item s a → IsTrue (struct_is_next (tokens_of s ++ rest))
@@ -99,28 +105,28 @@ chooses s a rest (x, m, e) =
     rw (m.2, m.3.0, m.4.2, m.4.3.0, m.4.4.2, m.4.4.3.0, m.3.1, m.4.3.1, m.4.4.3.1) refl
 
 -- the first words of a type, where no brace comes behind them
-base_three : (s : Stretch) (b : BaseType) (rest : List Placed) → base 0 s b → next_is is_open_brace rest ≡ false → struct_is_next (tokens_of s ++ rest) ≡ false
-base_three s b rest (inl x) ends = rw x.1.0 (not_struct x.0 rest (apart-false is_struct is_int (apart_by is_struct is_int refl (λ v u. refl)) x.0.kind x.1.1))
+base_three : (s : Stretch) (b : BaseType) (rest : List Placed) → base 0 s b → next_is (just kind.OpenBrace) rest ≡ false → struct_is_next (tokens_of s ++ rest) ≡ false
+base_three s b rest (inl x) ends = rw x.1.0 (not_struct x.0 rest (other_kind (just kind.Struct) kind.Int x.0.kind x.1.1 refl))
 base_three s b rest (inr (inl x)) ends =
-    rw (x.1.2, x.1.3.0) (not_struct x.0.0 (tokens_of x.1.1 ++ rest) (apart-false is_struct is_unsigned (apart_by is_struct is_unsigned refl (λ v u. refl)) x.0.0.kind x.1.3.1))
-base_three s b rest (inr (inr (inl x))) ends = rw x.1.0 (not_struct x.0 rest (apart-false is_struct is_void (apart_by is_struct is_void refl (λ v u. refl)) x.0.kind x.1.1))
+    rw (x.1.2, x.1.3.0) (not_struct x.0.0 (tokens_of x.1.1 ++ rest) (other_kind (just kind.Struct) kind.Unsigned x.0.0.kind x.1.3.1 refl))
+base_three s b rest (inr (inr (inl x))) ends = rw x.1.0 (not_struct x.0 rest (other_kind (just kind.Struct) kind.Void x.0.kind x.1.1 refl))
 base_three s b rest (inr (inr (inr x))) ends = rw (x.1.2, x.1.3.0, x.1.4.0) (not_brace x.0.0 x.0.1 rest ends)
 
 -- of an item without a word before it they tell no struct
 bare_three : (left : ℕ) (bound : ℕ) (s : Stretch) (a : ItemTree) (rest : List Placed) → bare bound s a → struct_is_next (tokens_of s ++ rest) ≡ false
 bare_three left bound s a rest (x, m, e) =
-    let ends = follows_shape is_open_brace none (reads_named (reads_tail left bound)).shape (apart_by is_open_brace starred refl (λ v u. refl)) m.1 x.1 rest m.4 (next_none rest) in
+    let ends = follows_shape (just kind.OpenBrace) none (reads_named (reads_tail left bound)).shape (apart_by (just kind.OpenBrace) starred refl (λ v u. refl)) m.1 x.1 rest m.4 (next_none rest) in
     rw (m.2, tokens_regroup m.0 m.1 rest) (base_three m.0 x.0 (tokens_of m.1 ++ rest) m.3 ends)
 
 -- nor of a function with one
 moded_three : (bound : ℕ) (s : Stretch) (a : ItemTree) (rest : List Placed) → moded bound s a → struct_is_next (tokens_of s ++ rest) ≡ false
 moded_three bound s a rest (x, m, e) =
-    rw (m.2, m.3.0) (not_struct x.0.0 (tokens_of m.1 ++ rest) (apart-false is_struct (tells mode_told) (apart_by is_struct (tells mode_told) refl (λ v u. refl)) x.0.0.kind (rw m.3.1 refl)))
+    rw (m.2, m.3.0) (not_struct x.0.0 (tokens_of m.1 ++ rest) (apart-false (just kind.Struct) (tells mode_told) (apart_by (just kind.Struct) (tells mode_told) refl (λ v u. refl)) x.0.0.kind (rw m.3.1 refl)))
 
 -- of the others they tell none
 clears : (left : ℕ) (bound : ℕ) (s : Stretch) (a : ItemTree) (rest : List Placed) → words bound s a → struct_is_next (tokens_of s ++ rest) ≡ false
 clears left bound s a rest n = elim (words_cases bound s a n) [
-  | inl w ↦ not_next (tells sharing_told) (apart_by is_struct (tells sharing_told) refl (λ v u. refl)) (tokens_of s ++ rest) (w.1 rest)
+  | inl w ↦ not_next (tells sharing_told) (apart_by (just kind.Struct) (tells sharing_told) refl (λ v u. refl)) (tokens_of s ++ rest) (w.1 rest)
   | inr (inl m) ↦ moded_three bound s a rest m
   | inr (inr m) ↦ bare_three left bound s a rest m
 ]
@@ -133,7 +139,7 @@ Behind = List Placed × (Placed × Tail)
 
 -- how that is read
 abbrev read_behind : (left : ℕ) → ℕ → Reader Behind
-read_behind left most = repeated most is_star (expect is_star) and expect is_name and read_tail most (inner most (suc (suc left))) (body_within left most)
+read_behind left most = repeated most (just kind.Star) (expect kind.Star) and expect kind.Word and read_tail most (inner most (suc (suc left))) (body_within left most)
 
 -- an item that begins with `struct` and a name
 abbrev item_by : Placed → Members ⊎ Behind → ItemTree
@@ -142,30 +148,30 @@ item_by n (inr w) = made_of (Struct (name n)) (length w.0) (name w.1.0) w.1.1
 
 -- what stands behind them
 abbrev read_either : (left : ℕ) → ℕ → Reader (Members ⊎ Behind)
-read_either left most = by_next is_open_brace (giving (λ k. inl k) (read_members most)) (giving (λ w. inr w) (read_behind left most))
+read_either left most = by_next (just kind.OpenBrace) (giving (λ k. inl k) (read_members most)) (giving (λ w. inr w) (read_behind left most))
 
 -- from the name on
 abbrev read_from_name : (left : ℕ) → ℕ → Reader ItemTree
-read_from_name left most = giving (λ x. item_by x.0 x.1) (expect is_name and read_either left most)
+read_from_name left most = giving (λ x. item_by x.0 x.1) (expect kind.Word and read_either left most)
 
 -- it is read exactly from the name on
 reads_from_name : (left : ℕ) (bound : ℕ)
-    → IsRead (suc (suc left)) (making (λ x. item_by x.0 x.1) (token 0 is_name then (making {B = Members ⊎ Behind} (λ k. inl k) members or making (λ w. inr w) (named (tail bound)))))
-    (read_from_name left) 0 is_name none (has_room left bound)
+    → IsRead (suc (suc left)) (making (λ x. item_by x.0 x.1) (token 0 kind.Word then (making {B = Members ⊎ Behind} (λ k. inl k) members or making (λ w. inr w) (named (tail bound)))))
+    (read_from_name left) 0 (just kind.Word) none (has_room left bound)
 reads_from_name left bound =
-    reads_making _ (reads_then (reads_token 0 is_name kind.Word refl (omega arith))
+    reads_making _ (reads_then (reads_token 0 kind.Word (omega arith))
     (reads_wider none (λ k h. h)
-    (reads_or (reads_making _ reads_members) (reads_making _ (reads_named (reads_tail left bound))) (apart_by is_open_brace starred refl (λ v u. refl))))
-    (none_apart (is_open_brace ∪ starred)))
+    (reads_or (reads_making _ reads_members) (reads_making _ (reads_named (reads_tail left bound))) (apart_by (just kind.OpenBrace) starred refl (λ v u. refl))))
+    (none_apart (just kind.OpenBrace ∪ starred)))
 
 -- a name, and what another reader reads behind it
 abbrev name_then : {A C : Type 0} → Reader A → (Placed → A → C) → Reader C
-name_then K f ts = after (expect is_name ts) (λ n rest. after (K rest) (λ k more. Ok (f n k, more)))
+name_then K f ts = after (expect kind.Word ts) (λ n rest. after (K rest) (λ k more. Ok (f n k, more)))
 
 -- a struct is read by its name and what stands behind it
-struct_then : {A C : Type 0} (K : Reader A) (f : Placed × (Placed × A) → C) (t : Placed) (ts : List Placed) → IsTrue (is_struct t.kind)
-    → giving f (expect is_struct and expect is_name and K) (t ∷ ts) ≡ name_then K (λ n k. f (t, (n, k))) ts
-struct_then {A} {C} K f t ts h = rw (h, expect) (by (expect is_name ts))
+struct_then : {A C : Type 0} (K : Reader A) (f : Placed × (Placed × A) → C) (t : Placed) (ts : List Placed) → IsTrue (just kind.Struct t.kind)
+    → giving f (expect kind.Struct and expect kind.Word and K) (t ∷ ts) ≡ name_then K (λ n k. f (t, (n, k))) ts
+struct_then {A} {C} K f t ts h = rw (h, expect) (by (expect kind.Word ts))
   where
     -- what is left where `struct` was read
     whole : Answer Placed → Answer C
@@ -183,20 +189,20 @@ struct_then {A} {C} K f t ts h = rw (h, expect) (by (expect is_name ts))
     by (Err stop) = refl
 
 -- a kind that is `struct` is none of another set
-no_other : (is : Kinds) → Apart is_struct is → (t : Placed) → IsTrue (is_struct t.kind) → is t.kind ≡ false
-no_other is apart t h = apart-false is is_struct (λ k i j. apart k j i) t.kind h
+no_other : (is : Kinds) → Apart (just kind.Struct) is → (t : Placed) → IsTrue (just kind.Struct t.kind) → is t.kind ≡ false
+no_other is apart t h = apart-false is (just kind.Struct) (λ k i j. apart k j i) t.kind h
 
 -- so is what begins with such a type
-base_then : {A C : Type 0} (K : Reader A) (f : BaseType × A → C) (t : Placed) (ts : List Placed) → IsTrue (is_struct t.kind)
+base_then : {A C : Type 0} (K : Reader A) (f : BaseType × A → C) (t : Placed) (ts : List Placed) → IsTrue (just kind.Struct t.kind)
     → giving f (read_base and K) (t ∷ ts) ≡ name_then K (λ n k. f (Struct (name n), k)) ts
 base_then {A} {C} K f t ts h =
     rw (
-      no_other is_int (apart_by is_struct is_int refl (λ v u. refl)) t h,
-      no_other is_unsigned (apart_by is_struct is_unsigned refl (λ v u. refl)) t h,
-      no_other is_void (apart_by is_struct is_void refl (λ v u. refl)) t h,
+      no_other (just kind.Int) (apart_by (just kind.Struct) (just kind.Int) refl (λ v u. refl)) t h,
+      no_other (just kind.Unsigned) (apart_by (just kind.Struct) (just kind.Unsigned) refl (λ v u. refl)) t h,
+      no_other (just kind.Void) (apart_by (just kind.Struct) (just kind.Void) refl (λ v u. refl)) t h,
       h,
       expect,
-    ) (by (expect is_name ts))
+    ) (by (expect kind.Word ts))
   where
     -- what is left where `struct` was read
     whole : Answer Placed → Answer C
@@ -215,22 +221,22 @@ base_then {A} {C} K f t ts h =
     by (Err stop) = refl
 
 -- what is read from `struct` on
-struct_read : (most : ℕ) (t : Placed) (ts : List Placed) → IsTrue (is_struct t.kind)
+struct_read : (most : ℕ) (t : Placed) (ts : List Placed) → IsTrue (just kind.Struct t.kind)
     → read_struct most (t ∷ ts) ≡ name_then (read_members most) (λ n k. item_by n (inl k)) ts
 unfolding read_struct
 struct_read most t ts h = struct_then (read_members most) (λ x. StructItem (name x.1.0) (joined_lists (x.1.1.1.0 ∷ x.1.1.1.1.0))) t ts h
 
 -- an item that is no struct
-words_read : (left : ℕ) (most : ℕ) (t : Placed) (ts : List Placed) → IsTrue (is_struct t.kind)
+words_read : (left : ℕ) (most : ℕ) (t : Placed) (ts : List Placed) → IsTrue (just kind.Struct t.kind)
     → read_words left most (t ∷ ts) ≡ name_then (read_behind left most) (λ n w. item_by n (inr w)) ts
 unfolding read_bare
 words_read left most t ts h =
-    by_next-no (tells sharing_told) (giving VariablesItem (read_variables most (inner most (suc (suc left))))) (read_typed left most) (t ∷ ts) (no_other (tells sharing_told) (apart_by is_struct (tells sharing_told) refl (λ v u. refl)) t h)
-    ∙ by_next-no (tells mode_told) (read_moded most (body_within left most)) (read_bare most (inner most (suc (suc left))) (body_within left most)) (t ∷ ts) (no_other (tells mode_told) (apart_by is_struct (tells mode_told) refl (λ v u. refl)) t h)
+    by_next-no (tells sharing_told) (giving VariablesItem (read_variables most (inner most (suc (suc left))))) (read_typed left most) (t ∷ ts) (no_other (tells sharing_told) (apart_by (just kind.Struct) (tells sharing_told) refl (λ v u. refl)) t h)
+    ∙ by_next-no (tells mode_told) (read_moded most (body_within left most)) (read_bare most (inner most (suc (suc left))) (body_within left most)) (t ∷ ts) (no_other (tells mode_told) (apart_by (just kind.Struct) (tells mode_told) refl (λ v u. refl)) t h)
     ∙ base_then (read_behind left most) (λ x. made_of x.0 (length x.1.0) (name x.1.1.0) x.1.1.1) t ts h
 
 -- what is read from the name on, where what stands behind it is known
-from_name : (left : ℕ) {A : Type 0} (most : ℕ) (K : Reader A) (f : A → Members ⊎ Behind) (n : Placed) (ts : List Placed) → IsTrue (is_name n.kind)
+from_name : (left : ℕ) {A : Type 0} (most : ℕ) (K : Reader A) (f : A → Members ⊎ Behind) (n : Placed) (ts : List Placed) → IsTrue (just kind.Word n.kind)
     → read_either left most ts ≡ giving f K ts → read_from_name left most (n ∷ ts) ≡ name_then K (λ n k. item_by n (f k)) (n ∷ ts)
 from_name left {A} most K f n ts h e = rw (h, expect) (by (K ts) refl)
   where
@@ -244,7 +250,7 @@ from_name left {A} most K f n ts h e = rw (h, expect) (by (K ts) refl)
     by (Err stop) d = rw (e, d) refl
 
 -- where no name comes
-no_name : (left : ℕ) (most : ℕ) (n : Placed) (ts : List Placed) → is_name n.kind ≡ false → read_from_name left most (n ∷ ts) ≡ Err (Unexpected (n ∷ ts))
+no_name : (left : ℕ) (most : ℕ) (n : Placed) (ts : List Placed) → just kind.Word n.kind ≡ false → read_from_name left most (n ∷ ts) ≡ Err (Unexpected (n ∷ ts))
 no_name left most n ts e = rw (e, expect) refl
 
 -- a struct, or an item that is none
@@ -252,35 +258,35 @@ read_any : (left : ℕ) → ℕ → Reader ItemTree
 read_any left most ts = either (struct_is_next ts) (read_struct most) (read_words left most) ts
 
 -- where three tokens say that a struct comes
-three_true : (t n : Placed) (ts : List Placed) → IsTrue (is_struct t.kind) → IsTrue (is_name n.kind) → IsTrue (next_is is_open_brace ts) → IsTrue (struct_is_next (t ∷ n ∷ ts))
+three_true : (t n : Placed) (ts : List Placed) → IsTrue (just kind.Struct t.kind) → IsTrue (just kind.Word n.kind) → IsTrue (next_is (just kind.OpenBrace) ts) → IsTrue (struct_is_next (t ∷ n ∷ ts))
 three_true t n [] h i j = cc
 three_true t n (u ∷ ts) h i j = rw (h, i, j) refl
 
 -- from `struct` on items are read by what stands behind the name
-from_struct : (left : ℕ) (most : ℕ) (t : Placed) → IsTrue (is_struct t.kind) → (ts : List Placed) → read_any left most (t ∷ ts) ≡ read_from_name left most ts
+from_struct : (left : ℕ) (most : ℕ) (t : Placed) → IsTrue (just kind.Struct t.kind) → (ts : List Placed) → read_any left most (t ∷ ts) ≡ read_from_name left most ts
 unfolding read_any
 from_struct left most t h [] = words_read left most t [] h
-from_struct left most t h (n ∷ ts) = by_name (is_name n.kind) refl
+from_struct left most t h (n ∷ ts) = by_name (just kind.Word n.kind) refl
   where
-    by_brace : IsTrue (is_name n.kind) → (b : Bool) → next_is is_open_brace ts ≡ b → read_any left most (t ∷ n ∷ ts) ≡ read_from_name left most (n ∷ ts)
+    by_brace : IsTrue (just kind.Word n.kind) → (b : Bool) → next_is (just kind.OpenBrace) ts ≡ b → read_any left most (t ∷ n ∷ ts) ≡ read_from_name left most (n ∷ ts)
     by_brace i true j =
         rw (three_true t n ts h i j) (struct_read most t (n ∷ ts) h
-        ∙ sym (from_name left most (read_members most) (λ k. inl k) n ts i (by_next-yes is_open_brace (giving (λ k. inl k) (read_members most)) (giving (λ w. inr w) (read_behind left most)) ts j)))
+        ∙ sym (from_name left most (read_members most) (λ k. inl k) n ts i (by_next-yes (just kind.OpenBrace) (giving (λ k. inl k) (read_members most)) (giving (λ w. inr w) (read_behind left most)) ts j)))
     by_brace i false j =
         rw (not_brace t n ts j) (words_read left most t (n ∷ ts) h
-        ∙ sym (from_name left most (read_behind left most) (λ w. inr w) n ts i (by_next-no is_open_brace (giving (λ k. inl k) (read_members most)) (giving (λ w. inr w) (read_behind left most)) ts j)))
+        ∙ sym (from_name left most (read_behind left most) (λ w. inr w) n ts i (by_next-no (just kind.OpenBrace) (giving (λ k. inl k) (read_members most)) (giving (λ w. inr w) (read_behind left most)) ts j)))
 
-    by_name : (b : Bool) → is_name n.kind ≡ b → read_any left most (t ∷ n ∷ ts) ≡ read_from_name left most (n ∷ ts)
-    by_name true i = by_brace i (next_is is_open_brace ts) refl
+    by_name : (b : Bool) → just kind.Word n.kind ≡ b → read_any left most (t ∷ n ∷ ts) ≡ read_from_name left most (n ∷ ts)
+    by_name true i = by_brace i (next_is (just kind.OpenBrace) ts) refl
     by_name false i = rw (not_named t n ts i) (words_read left most t (n ∷ ts) h ∙ rw (i, expect) refl)
 
 -- each answer rests on the tokens up to the one that it names
 any_local : (left : ℕ) (bound : ℕ) → has_room left bound → (most : ℕ) → IsLocal most (read_any left most)
 unfolding read_any read_bare
 any_local left bound r most [] fits = tt
-any_local left bound r most (t ∷ ts) fits = by (is_struct t.kind) refl
+any_local left bound r most (t ∷ ts) fits = by (just kind.Struct t.kind) refl
   where
-    by : (b : Bool) → is_struct t.kind ≡ b → Local most (read_any left most) (t ∷ ts) (read_any left most (t ∷ ts))
+    by : (b : Bool) → just kind.Struct t.kind ≡ b → Local most (read_any left most) (t ∷ ts) (read_any left most (t ∷ ts))
     by true h = local_behind most (t ∷ []) (read_any left most) (read_from_name left most) (from_struct left most t h) (((reads_from_name left bound).exact.exact most).local r) ts fits
     by false h =
         let other : (others : List Placed) → read_any left most (t ∷ others) ≡ read_words left most (t ∷ others) = λ others. rw (not_struct t others h) refl in
@@ -290,7 +296,7 @@ any_local left bound r most (t ∷ ts) fits = by (is_struct t.kind) refl
 
 -- the kinds that begin a struct or another item
 abbrev begins_any : Kinds
-begins_any = is_struct ∪ begins_item
+begins_any = just kind.Struct ∪ begins_item
 
 -- an item is read exactly
 pub reads_item : (left : ℕ) (bound : ℕ) → IsRead (suc (suc left)) (item bound) (λ most. read_item most (inner most (suc (suc left))) (body_within left most)) 0 begins_item none (has_room left bound)
@@ -320,6 +326,6 @@ faithful_within left = record {
 }
 
 -- in a text 128 may be
-pub faithful_items : Faithful most_levels Items read_items begins_item (has_room 126)
+pub faithful_items : Faithful LEVELS Items read_items begins_item (has_room 126)
 unfolding read_items
 faithful_items = faithful_within 126

@@ -5,17 +5,17 @@ use Rattle.fk_syntax.specs.declared.place.Place.{Place}
 use Rattle.fk_syntax.specs.Program.{ItemTree, ProgramTree}
 use Rattle.fk_lex.specs.declared.token.Token.{Token}
 use Rattle.fk_lex.specs.View.{spelled}
-use Rattle.fk_expr.specs.declared.fault.SyntaxFault.{SyntaxFault}
-use Rattle.fk_expr.specs.declared.fault.SyntaxFault.TheVariants as fault
-use Rattle.fk_expr.specs.Languages.{Placed, numbered}
-use Rattle.fk_expr.specs.Reads.{Stop, Answer}
-use Rattle.fk_expr.specs.Reading.{unexpected}
-use Rattle.fk_expr.specs.Faults.{Tells}
-use Rattle.fk_expr.specs.Gives.{Halts}
-use Rattle.fk_expr.proofs.Cursors.{few}
+use Rattle.fk_reading.specs.declared.fault.SyntaxFault.{SyntaxFault}
+use Rattle.fk_reading.specs.declared.fault.SyntaxFault.TheVariants as fault
+use Rattle.fk_reading.specs.Languages.{Placed, numbered}
+use Rattle.fk_reading.specs.Reads.{Stop, Answer}
+use Rattle.fk_reading.specs.Readers.{unexpected}
+use Rattle.fk_reading.specs.Faults.{Tells}
+use Rattle.fk_reading.specs.Gives.{Halts}
+use Rattle.fk_reading.proofs.Cursors.{few}
 use Rattle.fk_expr.proofs.Public.{halts_tells}
-use Rattle.fk_parse.specs.Parses.{ReadsText, Derives, end_of, beginning}
-use Rattle.fk_parse.specs.Refusals.{IsRefused}
+use Rattle.fk_parse.specs.Parses.{ReadsText, SpellsProgram, end_of, beginning}
+use Rattle.fk_parse.specs.Refusals.{RefusesTokens}
 use Rattle.fk_parse.specs.Reading.{read_items, whole, ended, read_text}
 use Rattle.fk_parse.specs.Parts.{read_text_within}
 use Rattle.fk_parse.proofs.Texts.{reads_text}
@@ -53,12 +53,12 @@ reads_within : (tokens : List Placed) (answer : Result (List ItemTree) Stop) →
 reads_within tokens answer small e = subst (λ a. ReadsText tokens a) (sym (text_within tokens) ∙ e) (reads_text tokens small)
 
 pub refuses : (tokens : List Token) (fault : SyntaxFault) → length tokens < 2 ^ 32
-    → Tells (λ stop. read_text_within 128 (numbered 0 (map spelled tokens)) ≡ Err stop) fault → IsRefused (map spelled tokens) fault
+    → Tells (λ stop. read_text_within 128 (numbered 0 (map spelled tokens)) ≡ Err stop) fault → RefusesTokens (map spelled tokens) fault
 refuses tokens fault small h =
     tells_more _ _ fault (λ s e. reads_within (numbered 0 (map spelled tokens)) (Err s) (few 0 tokens (omega arith)) e) h
 
 pub derives : (tokens : List Token) (p : ProgramTree) → length tokens < 2 ^ 32 → read_text_within 128 (numbered 0 (map spelled tokens)) ≡ Ok p.items
-    → p.end ≡ end_of beginning (map spelled tokens) → p.tokens ≡ length tokens → Derives (map spelled tokens) p
+    → p.end ≡ end_of beginning (map spelled tokens) → p.tokens ≡ length tokens → SpellsProgram (map spelled tokens) p
 derives tokens p small e d n = record {
   items = reads_within (numbered 0 (map spelled tokens)) (Ok p.items) (few 0 tokens (omega arith)) e;
   end = d;

@@ -1,6 +1,5 @@
 -- A program that is read is well formed.
-use Rattle.std.proofs.Common.{◌≡◌, ℕ, zero, suc, ◌+◌, ◌≤◌, ◌<◌, List, [], ◌∷◌, ◌++◌, Option, Some, None, Bool, true, false, length, map, arith, refl, sym, ap, ◌⊎◌, inl, inr, cond, nat_eq, slice_index_or, ◌≢◌, subst, ◌∙◌}
-use Rattle.std.proofs.lemmas.List.{append-nil}
+use Rattle.std.proofs.Common.{◌≡◌, ℕ, zero, suc, ◌+◌, ◌≤◌, ◌<◌, List, [], ◌∷◌, ◌++◌, length, map, arith, refl, sym, ap, ◌⊎◌, inl, inr, ◌≢◌, subst, ◌∙◌}
 use Rattle.std.specs.Prelude.{All, AllPairs}
 use Rattle.std.proofs.lemmas.List.Kept.{AllPairs-cons}
 use Rattle.std.proofs.lemmas.List.Elements.{All-nil, All-cons}
@@ -12,12 +11,10 @@ use Rattle.fk_syntax.specs.Tree.{BaseType}
 use Rattle.fk_syntax.specs.Program.{ItemTree, ProgramTree}
 use Rattle.fk_syntax.specs.WellFormed.{AreSound, IsWellFormed, nodes, token}
 use Rattle.fk_lex.specs.Reading.{Spelled}
-use Rattle.fk_expr.specs.Languages.{Placed, Stretch, tokens_of, numbered}
-use Rattle.fk_expr.specs.Reads.{ReadsValue, IsLongest, Spells}
-use Rattle.fk_expr.proofs.Uses.{one, times, times-append, places}
+use Rattle.fk_reading.specs.Languages.{Stretch, tokens_of, numbered}
+use Rattle.fk_reading.proofs.Uses.{one, times, times-append, places}
 use Rattle.fk_expr.proofs.UsesTree.{Count}
-use Rattle.fk_parse.specs.Statements.{Items}
-use Rattle.fk_parse.specs.Parses.{Derives}
+use Rattle.fk_parse.specs.Parses.{SpellsItems, SpellsProgram}
 use Rattle.fk_parse.proofs.Uses.{held_items}
 
 -- ---- the two counts
@@ -151,10 +148,9 @@ all_below n (x ∷ xs) h =
 -- ---- programs
 
 -- the items that the tokens of a text spell are known by indices of these tokens, no two nodes by the same
-pub items_sound : (tokens : List Spelled) (items : List ItemTree) → ReadsValue Items (numbered 0 tokens) items [] → AreSound (length tokens) (items_indices items)
+pub items_sound : (tokens : List Spelled) (items : List ItemTree) → SpellsItems (numbered 0 tokens) items → AreSound (length tokens) (items_indices items)
 items_sound tokens items r =
-    let whole : numbered 0 tokens ≡ tokens_of r.stretch = r.longest.first ∙ append-nil (tokens_of r.stretch) in
-    let same : places r.stretch ≡ map (λ t. t.at) (numbered 0 tokens) = places-tokens r.stretch ∙ ap (map (λ t. t.at)) (sym whole) in
+    let same : places r.stretch ≡ map (λ t. t.at) (numbered 0 tokens) = places-tokens r.stretch ∙ ap (map (λ t. t.at)) (sym r.is) in
     record {
       below = all_below (length tokens) (items_indices items) (λ k h.
           let a = held_items by_tokens r.spelled.0 r.stretch items r.spelled.1 k in
@@ -169,5 +165,5 @@ items_sound tokens items r =
           omega (arith, a, e, b));
     }
 
-pub derives_well_formed : (tokens : List Spelled) (p : ProgramTree) → Derives tokens p → IsWellFormed p
+pub derives_well_formed : (tokens : List Spelled) (p : ProgramTree) → SpellsProgram tokens p → IsWellFormed p
 derives_well_formed tokens p d = subst (λ n. AreSound n (items_indices p.items)) (sym d.count) (items_sound tokens p.items d.items)

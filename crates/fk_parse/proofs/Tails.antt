@@ -4,23 +4,26 @@ use Rattle.fk_syntax.specs.declared.program.Mode.TheVariants as mode
 use Rattle.fk_syntax.specs.Tree.{Tree}
 use Rattle.fk_syntax.specs.Program.{DeclaredTree, Statements, ItemTree, FunctionItem}
 use Rattle.fk_lex.specs.declared.token.TokenKind.TheVariants as kind
-use Rattle.fk_expr.specs.Languages.{Placed, Language, token, telling, ◌then◌, ◌or◌, making, many}
-use Rattle.fk_expr.specs.Kinds.{is_name, is_int, is_star, is_comma, is_open_parenthesis, is_close_parenthesis, is_open_bracket}
-use Rattle.fk_expr.specs.Grammar.{base, name}
-use Rattle.fk_expr.specs.Reading.{Reader, ◌and◌, giving, expect, by_next, repeated, tells, begins_type, inner}
-use Rattle.fk_expr.proofs.Sets.{Kinds, none, ◌∪◌, none_apart}
-use Rattle.fk_expr.proofs.EachKind.{apart_by}
+use Rattle.fk_reading.specs.Languages.{Placed, Language, token, telling, ◌then◌, ◌or◌, making, many, name}
+use Rattle.fk_expr.specs.Grammar.{base}
+use Rattle.fk_reading.specs.Readers.{Reader, ◌and◌, giving, expect, by_next, repeated, tells}
+use Rattle.fk_expr.specs.Reading.{begins_type, inner}
+use Rattle.fk_reading.proofs.Sets.{Kinds, none, ◌∪◌, none_apart}
+use Rattle.fk_reading.proofs.EachKind.{apart_by}
 use Rattle.fk_expr.proofs.TypeNames.{reads_base}
-use Rattle.fk_expr.proofs.Or.{Includes}
-use Rattle.fk_expr.proofs.Productions.{IsRead, reads_token, reads_telling, reads_making, reads_then, reads_loose_then, reads_or, reads_many, reads_lower, reads_wider}
-use Rattle.fk_parse.specs.Kinds.{is_semicolon, is_open_brace, is_equals, mode_told}
-use Rattle.fk_parse.specs.Statements.{variable, parameters, block, body, statement_within, Declarator}
-use Rattle.fk_parse.specs.Reading.{read_function_tail, read_variables_tail, read_tail, read_bare, read_moded, read_block, statements_with, Tail, OfFunction, OfVariables, made_of}
-use Rattle.fk_parse.proofs.Alike.{reads_same}
-use Rattle.fk_parse.proofs.Closing.{closing_room}
-use Rattle.fk_parse.proofs.Declarations.{Expressions, expressions, after_variable, after_rest, starred, rest_of, reads_stars, reads_rest, reads_variable}
-use Rattle.fk_parse.proofs.Parameters.{begins_parameters, reads_parameters}
-use Rattle.fk_parse.proofs.Statements.{reads_block, nested_deeper, closing_within}
+use Rattle.fk_reading.proofs.Or.{Includes}
+use Rattle.fk_reading.proofs.Productions.{IsRead, reads_token, reads_telling, reads_making, reads_then, reads_loose_then, reads_or, reads_many, reads_lower, reads_wider}
+use Rattle.fk_parse.specs.Kinds.{mode_told}
+use Rattle.fk_stmt.specs.Statements.{variable, parameters, block, statement_within, Declarator}
+use Rattle.fk_parse.specs.Items.{body}
+use Rattle.fk_parse.specs.Reading.{read_function_tail, read_variables_tail, read_tail, read_bare, read_moded, Tail, OfFunction, OfVariables, made_of}
+use Rattle.fk_stmt.specs.Reading.{read_block, statements_with}
+use Rattle.fk_stmt.proofs.Alike.{reads_same}
+use Rattle.fk_stmt.proofs.Closing.{closing_room}
+use Rattle.fk_stmt.proofs.Declarations.{Expressions, expressions, after_variable, after_rest, starred, rest_of, reads_stars, reads_rest, reads_variable}
+use Rattle.fk_stmt.proofs.Parameters.{begins_parameters, reads_parameters}
+use Rattle.fk_stmt.proofs.Statements.{reads_block, nested_deeper, closing_within}
+use Rattle.fk_reading.specs.Kinds.{just}
 
 -- the grammar's bound on levels leaves room for those that may be open in a text: a body is the first, and so many may be open in its statements
 abbrev pub has_room : (left : ℕ) → ℕ → Type 0
@@ -38,79 +41,79 @@ outer left bound = expressions (suc (suc left)) 0 bound (omega arith) (λ r. ome
 
 -- a body is level 1, and the statements in it open level 2, where so many are left
 body_at : {levels : ℕ} {room : Type 0} (left bound : ℕ) → left + 2 ≡ levels → (room → left + 3 ≤ bound)
-    → IsRead levels (block (statement_within bound) 1) (λ most. read_block most (statements_with most (suc left))) 1 is_open_brace none room
+    → IsRead levels (block (statement_within bound) 1) (λ most. read_block most (statements_with most (suc left))) 1 (just kind.OpenBrace) none room
 body_at left bound all enough =
     reads_block (statement_within bound) (λ most. statements_with most (suc left)) (omega arith)
     (closing_room (λ r. let h : left + 3 ≤ bound = enough r in omega arith) (nested_deeper left 1 bound (closing_within left 2 bound all)))
 
 -- in a text, where all levels are left
-reads_body_block : (left : ℕ) (bound : ℕ) → IsRead (suc (suc left)) (block (statement_within bound) 1) (λ most. body_within left most) 0 is_open_brace none (has_room left bound)
+reads_body_block : (left : ℕ) (bound : ℕ) → IsRead (suc (suc left)) (block (statement_within bound) 1) (λ most. body_within left most) 0 (just kind.OpenBrace) none (has_room left bound)
 reads_body_block left bound = reads_lower (omega arith) (body_at left bound (omega arith) (λ r. omega arith))
 
 -- block | ";", in the order of the reader
-body_there : (bound : ℕ) → Includes (making {B = Option Statements} Some (block (statement_within bound) 1) or making (λ t. None) (token 0 is_semicolon)) (body bound)
+body_there : (bound : ℕ) → Includes (making {B = Option Statements} Some (block (statement_within bound) 1) or making (λ t. None) (token 0 kind.Semicolon)) (body bound)
 body_there bound s a (inl m) = inr m
 body_there bound s a (inr m) = inl m
 
 -- and back
-body_back : (bound : ℕ) → Includes (body bound) (making {B = Option Statements} Some (block (statement_within bound) 1) or making (λ t. None) (token 0 is_semicolon))
+body_back : (bound : ℕ) → Includes (body bound) (making {B = Option Statements} Some (block (statement_within bound) 1) or making (λ t. None) (token 0 kind.Semicolon))
 body_back bound s a (inl m) = inr m
 body_back bound s a (inr m) = inl m
 
 -- the kinds that begin a body
 abbrev begins_body : Kinds
-begins_body = is_open_brace ∪ is_semicolon
+begins_body = just kind.OpenBrace ∪ just kind.Semicolon
 
 -- a body is read exactly
-reads_body : (left : ℕ) (bound : ℕ) → IsRead (suc (suc left)) (body bound) (λ most. by_next is_open_brace (giving Some (body_within left most)) (giving (λ t. None) (expect is_semicolon))) 0 begins_body none (has_room left bound)
+reads_body : (left : ℕ) (bound : ℕ) → IsRead (suc (suc left)) (body bound) (λ most. by_next (just kind.OpenBrace) (giving Some (body_within left most)) (giving (λ t. None) (expect kind.Semicolon))) 0 begins_body none (has_room left bound)
 reads_body left bound =
     reads_same (body bound) (body_there bound) (body_back bound)
     (reads_wider none (λ k h. h)
-    (reads_or (reads_making Some (reads_body_block left bound)) (reads_making _ (reads_token 0 is_semicolon kind.Semicolon refl (omega arith)))
-    (apart_by is_open_brace is_semicolon refl (λ v u. refl))))
+    (reads_or (reads_making Some (reads_body_block left bound)) (reads_making _ (reads_token 0 kind.Semicolon (omega arith)))
+    (apart_by (just kind.OpenBrace) (just kind.Semicolon) refl (λ v u. refl))))
 
 -- ---- "(" params ")" ( ";" | block )
 
 -- parameters and a body
 abbrev pub function_tail : ℕ → Language (List DeclaredTree × Option Statements)
 function_tail bound =
-    making (λ x. (x.1.0, x.1.1.1)) (token 0 is_open_parenthesis then parameters 0 then token 0 is_close_parenthesis then body bound)
+    making (λ x. (x.1.0, x.1.1.1)) (token 0 kind.OpenParenthesis then parameters 0 then token 0 kind.CloseParenthesis then body bound)
 
 -- it is read exactly
-pub reads_function_tail : (left : ℕ) (bound : ℕ) → IsRead (suc (suc left)) (function_tail bound) (λ most. read_function_tail most (body_within left most)) 0 is_open_parenthesis none (has_room left bound)
+pub reads_function_tail : (left : ℕ) (bound : ℕ) → IsRead (suc (suc left)) (function_tail bound) (λ most. read_function_tail most (body_within left most)) 0 (just kind.OpenParenthesis) none (has_room left bound)
 unfolding read_function_tail
 reads_function_tail left bound =
-    reads_making _ (reads_then (reads_token 0 is_open_parenthesis kind.OpenParenthesis refl (omega arith))
-    (reads_parameters (omega arith) (reads_then (reads_token 0 is_close_parenthesis kind.CloseParenthesis refl (omega arith)) (reads_body left bound) (none_apart begins_body)))
+    reads_making _ (reads_then (reads_token 0 kind.OpenParenthesis (omega arith))
+    (reads_parameters (omega arith) (reads_then (reads_token 0 kind.CloseParenthesis (omega arith)) (reads_body left bound) (none_apart begins_body)))
     (none_apart begins_parameters))
 
 -- ---- what belongs to the first variable, and the others
 
 -- the other variables
 abbrev pub others_of : ℕ → Language (List Declarator)
-others_of bound = many (making (λ x. x.1) (token 0 is_comma then variable bound 0))
+others_of bound = many (making (λ x. x.1) (token 0 kind.Comma then variable bound 0))
 
 -- what stands behind the name of the first of several variables
 abbrev pub variables_tail : ℕ → Language ((Option ℕ × Option Tree) × List Declarator)
-variables_tail bound = making (λ x. (x.0, x.1.0)) (rest_of bound 0 then others_of bound then token 0 is_semicolon)
+variables_tail bound = making (λ x. (x.0, x.1.0)) (rest_of bound 0 then others_of bound then token 0 kind.Semicolon)
 
 -- the kinds that begin the others, or the end
 abbrev begins_others : Kinds
-begins_others = is_comma ∪ is_semicolon
+begins_others = just kind.Comma ∪ just kind.Semicolon
 
 -- the kinds that may stand behind the name of a variable
 abbrev begins_variables_tail : Kinds
-begins_variables_tail = (is_open_bracket ∪ is_equals) ∪ begins_others
+begins_variables_tail = (just kind.OpenBracket ∪ just kind.Assign) ∪ begins_others
 
 -- they are read exactly
 pub reads_variables_tail : (left : ℕ) (bound : ℕ) → IsRead (suc (suc left)) (variables_tail bound) (λ most. read_variables_tail most (inner most (suc (suc left)))) 0 begins_variables_tail none (has_room left bound)
 unfolding read_variables_tail
 reads_variables_tail left bound =
     reads_making _ (reads_loose_then (reads_rest (outer left bound) (omega arith))
-    (reads_loose_then (reads_many (reads_making _ (reads_then (reads_token 0 is_comma kind.Comma refl (omega arith)) (reads_variable (outer left bound) (omega arith)) (none_apart starred)))
-    (apart_by after_variable is_comma refl (λ v u. refl)))
-    (reads_token 0 is_semicolon kind.Semicolon refl (omega arith))
-    (apart_by (after_variable ∪ is_comma) is_semicolon refl (λ v u. refl)))
+    (reads_loose_then (reads_many (reads_making _ (reads_then (reads_token 0 kind.Comma (omega arith)) (reads_variable (outer left bound) (omega arith)) (none_apart starred)))
+    (apart_by after_variable (just kind.Comma) refl (λ v u. refl)))
+    (reads_token 0 kind.Semicolon (omega arith))
+    (apart_by (after_variable ∪ just kind.Comma) (just kind.Semicolon) refl (λ v u. refl)))
     (apart_by after_rest begins_others refl (λ v u. refl)))
 
 -- ---- the one or the other
@@ -121,25 +124,25 @@ tail bound = making (λ x. OfFunction x.0 x.1) (function_tail bound) or making (
 
 -- the kinds that may stand behind either's name
 abbrev begins_tail : Kinds
-begins_tail = is_open_parenthesis ∪ begins_variables_tail
+begins_tail = just kind.OpenParenthesis ∪ begins_variables_tail
 
 -- a parenthesis tells them apart
 pub reads_tail : (left : ℕ) (bound : ℕ) → IsRead (suc (suc left)) (tail bound) (λ most. read_tail most (inner most (suc (suc left))) (body_within left most)) 0 begins_tail none (has_room left bound)
 unfolding read_tail
 reads_tail left bound =
     reads_wider none (λ k h. h)
-    (reads_or (reads_making _ (reads_function_tail left bound)) (reads_making _ (reads_variables_tail left bound)) (apart_by is_open_parenthesis begins_variables_tail refl (λ v u. refl)))
+    (reads_or (reads_making _ (reads_function_tail left bound)) (reads_making _ (reads_variables_tail left bound)) (apart_by (just kind.OpenParenthesis) begins_variables_tail refl (λ v u. refl)))
 
 -- stars, a name, and what stands behind it
 abbrev pub named : {A : Type 0} → Language A → Language (List Placed × (Placed × A))
-named L = many (token 0 is_star) then token 0 is_name then L
+named L = many (token 0 kind.Star) then token 0 kind.Word then L
 
 -- they are read exactly, if what stands behind the name is
 pub reads_named : {levels : ℕ} {room : Type 0} {A : Type 0} {L : Language A} {P : ℕ → Reader A} {level : ℕ} {first f : Kinds} → IsRead levels L P level first f room
-    → IsRead levels (named L) (λ most. repeated most is_star (expect is_star) and expect is_name and P most) 0 starred f room
+    → IsRead levels (named L) (λ most. repeated most (just kind.Star) (expect kind.Star) and expect kind.Word and P most) 0 starred f room
 reads_named {first = first} w =
-    reads_loose_then (reads_stars 0 (omega arith)) (reads_then (reads_token 0 is_name kind.Word refl (omega arith)) w (none_apart first))
-    (apart_by (none ∪ is_star) is_name refl (λ v u. refl))
+    reads_loose_then (reads_stars 0 (omega arith)) (reads_then (reads_token 0 kind.Word (omega arith)) w (none_apart first))
+    (apart_by (none ∪ just kind.Star) (just kind.Word) refl (λ v u. refl))
 
 -- ---- items without a word before the type, and functions with one
 
@@ -150,7 +153,7 @@ bare bound = making (λ x. made_of x.0 (length x.1.0) (name x.1.1.0) x.1.1.1) (b
 -- an item without a word before its type is read exactly
 pub reads_bare : (left : ℕ) (bound : ℕ) → IsRead (suc (suc left)) (bare bound) (λ most. read_bare most (inner most (suc (suc left))) (body_within left most)) 0 begins_type none (has_room left bound)
 unfolding read_bare
-reads_bare left bound = reads_making _ (reads_then (reads_base 0 (omega arith)) (reads_named (reads_tail left bound)) (apart_by is_int starred refl (λ v u. refl)))
+reads_bare left bound = reads_making _ (reads_then (reads_base 0 (omega arith)) (reads_named (reads_tail left bound)) (apart_by (just kind.Int) starred refl (λ v u. refl)))
 
 -- a function with its mode
 abbrev pub moded : ℕ → Language ItemTree
@@ -169,5 +172,5 @@ pub reads_moded : (left : ℕ) (bound : ℕ) → IsRead (suc (suc left)) (moded 
 unfolding read_moded
 reads_moded left bound =
     reads_making _ (reads_then (reads_telling 0 mode_told kind.Sync mode.Sync refl (omega arith))
-    (reads_then (reads_base 0 (omega arith)) (reads_named (reads_function_tail left bound)) (apart_by is_int starred refl (λ v u. refl)))
+    (reads_then (reads_base 0 (omega arith)) (reads_named (reads_function_tail left bound)) (apart_by (just kind.Int) starred refl (λ v u. refl)))
     (none_apart begins_type))

@@ -1,30 +1,44 @@
 -- A text is read as the grammar says, and tokens have one answer.
 use Rattle.std.proofs.Common.{◌≡◌, ℕ, suc, ◌+◌, ◌<◌, ◌^◌, List, [], ◌∷◌, Option, Some, None, Result, Ok, Err, length, ◌⊎◌, inl, inr, refl, sym, ap, ◌∙◌, arith}
+use Rattle.std.proofs.lemmas.List.{append-nil}
 use Rattle.fk_syntax.specs.declared.place.Place.{Place}
 use Rattle.fk_syntax.specs.Program.{ItemTree, ProgramTree}
 use Rattle.fk_lex.specs.Reading.{Spelled}
-use Rattle.fk_expr.specs.declared.fault.SyntaxFault.{SyntaxFault}
-use Rattle.fk_expr.specs.declared.fault.SyntaxFault.TheVariants as fault
-use Rattle.fk_expr.specs.Languages.{Placed, Stretch, numbered}
-use Rattle.fk_expr.specs.Reads.{Stop, Unexpected, EndOfText, Nesting, Answer, IsLongest, Reads}
-use Rattle.fk_expr.specs.Faults.{IsMemory}
-use Rattle.fk_expr.specs.Ahead.{plenty}
-use Rattle.fk_expr.proofs.Longest.{reads, one_value}
-use Rattle.fk_expr.proofs.Stretches.{sum_of_levels, within_sum}
-use Rattle.fk_expr.proofs.Determined.{one_longest, longest_not_deep, one_answer}
-use Rattle.fk_parse.specs.Statements.{Items}
-use Rattle.fk_parse.specs.Parses.{ReadsText, Derives, end_of, beginning, OneText, OneTree, OneProgram}
-use Rattle.fk_parse.specs.Refusals.{IsRefused, HasTree, HasFault, TreeOrFault, OneFault}
+use Rattle.fk_reading.specs.declared.fault.SyntaxFault.{SyntaxFault}
+use Rattle.fk_reading.specs.declared.fault.SyntaxFault.TheVariants as fault
+use Rattle.fk_reading.specs.Languages.{Placed, Stretch, tokens_of, numbered}
+use Rattle.fk_reading.specs.Reads.{Stop, Unexpected, EndOfText, Nesting, Answer, IsLongest, Reads}
+use Rattle.fk_reading.specs.Faults.{IsMemory}
+use Rattle.fk_reading.specs.Ahead.{plenty}
+use Rattle.fk_reading.proofs.Longest.{reads, one_value}
+use Rattle.fk_reading.proofs.Stretches.{sum_of_levels, within_sum}
+use Rattle.fk_reading.proofs.Determined.{one_longest, longest_not_deep, one_answer}
+use Rattle.fk_parse.specs.Items.{Items}
+use Rattle.fk_parse.specs.Parses.{SpellsItems, ReadsText, SpellsProgram, end_of, beginning, OneText, OneTree, OneProgram}
+use Rattle.fk_parse.specs.Refusals.{RefusesTokens, HasTree, HasFault, TreeOrFault, OneFault}
 use Rattle.fk_parse.specs.Reading.{read_items, ended, read_text}
 use Rattle.fk_parse.proofs.Items.{faithful_within, faithful_items}
 
 -- what is answered of the items of a text says what is answered of the text
 ended_reads : (tokens : List Placed) (answer : Answer (List ItemTree)) → Reads Items tokens answer → ReadsText tokens (ended answer)
-ended_reads tokens (Ok (items, [])) w = w
+ended_reads tokens (Ok (items, [])) w = record { stretch = w.stretch; is = w.longest.first ∙ append-nil (tokens_of w.stretch); spelled = w.spelled; shallow = w.shallow }
 ended_reads tokens (Ok (items, t ∷ rest)) w = record { stretch = w.stretch; longest = w.longest; some = omega arith; shallow = w.shallow }
 ended_reads tokens (Err (Unexpected rest)) w = record { stretch = w.0.stretch; longest = w.0.longest; some = w.1; shallow = w.0.shallow }
 ended_reads tokens (Err EndOfText) w = w
 ended_reads tokens (Err (Nesting rest)) w = w
+
+-- a text is the longest stretch that begins one
+whole_reads : (tokens : List Placed) (items : List ItemTree) → SpellsItems tokens items → Reads Items tokens (Ok (items, []))
+whole_reads tokens items w = record {
+  stretch = w.stretch;
+  longest = record {
+    first = w.is ∙ sym (append-nil (tokens_of w.stretch));
+    begins = ([], items, rw (append-nil w.stretch) w.spelled);
+    longest = λ t others e. cc;
+  };
+  spelled = w.spelled;
+  shallow = w.shallow;
+}
 
 -- of a text of fewer than 2^32 tokens
 pub reads_text : (tokens : List Placed) → length tokens < 2 ^ 32 → ReadsText tokens (read_text tokens)
@@ -35,7 +49,7 @@ reads_text tokens small = ended_reads tokens (read_items plenty tokens) (reads f
 
 -- a text is read as its items are, and so are its tokens
 matches : (tokens : List Placed) (answer : Answer (List ItemTree)) (text : Result (List ItemTree) Stop) → Reads Items tokens answer → ReadsText tokens text → ended answer ≡ text
-matches tokens answer (Ok items) r w = ap ended (one_answer faithful_items tokens answer (Ok (items, [])) r w)
+matches tokens answer (Ok items) r w = ap ended (one_answer faithful_items tokens answer (Ok (items, [])) r (whole_reads tokens items w))
 matches tokens answer (Err EndOfText) r w = ap ended (one_answer faithful_items tokens answer (Err EndOfText) r w)
 matches tokens answer (Err (Nesting rest)) r w = ap ended (one_answer faithful_items tokens answer (Err (Nesting rest)) r w)
 matches tokens answer (Err (Unexpected [])) r w = absurd (omega (arith, w.some))
@@ -94,7 +108,7 @@ not_both : (tokens : List Placed) (items : List ItemTree) (stop : Stop) → Read
 not_both tokens items stop v w = let e = same_text tokens (Ok items) (Err stop) v w in cc
 
 -- tokens of a program are refused for want of memory alone
-not_refused : (tokens : List Spelled) (items : List ItemTree) → ReadsText (numbered 0 tokens) (Ok items) → (fault : SyntaxFault) → IsRefused tokens fault → IsMemory fault
+not_refused : (tokens : List Spelled) (items : List ItemTree) → ReadsText (numbered 0 tokens) (Ok items) → (fault : SyntaxFault) → RefusesTokens tokens fault → IsMemory fault
 not_refused tokens items v (fault.Unexpected place) r = not_both (numbered 0 tokens) items (Unexpected (r.0 ∷ r.1)) v r.3
 not_refused tokens items v fault.EndOfText r = not_both (numbered 0 tokens) items EndOfText v r
 not_refused tokens items v (fault.Nesting place) r = not_both (numbered 0 tokens) items (Nesting (r.0 ∷ r.1)) v r.3
@@ -111,7 +125,7 @@ has_fault tokens (Nesting (t ∷ rest)) r =
     (fault.Nesting t.place, (t, rest, refl, r), λ h. h, λ program d. not_both (numbered 0 tokens) program.items (Nesting (t ∷ rest)) d.items r)
 
 -- and so are those that a program derives from
-pub tree_or_fault : (tokens : List Spelled) (program : ProgramTree) (fault : SyntaxFault) → Derives tokens program → IsRefused tokens fault → IsMemory fault
+pub tree_or_fault : (tokens : List Spelled) (program : ProgramTree) (fault : SyntaxFault) → SpellsProgram tokens program → RefusesTokens tokens fault → IsMemory fault
 tree_or_fault tokens program fault d r = not_refused tokens program.items d.items fault r
 
 -- tokens are those of a program, or they are refused
@@ -150,7 +164,7 @@ one_fault tokens = by
     text : List Placed
     text = numbered 0 tokens
 
-    by : (f g : SyntaxFault) → IsRefused tokens f → IsRefused tokens g → ¬ IsMemory f → ¬ IsMemory g → f ≡ g
+    by : (f g : SyntaxFault) → RefusesTokens tokens f → RefusesTokens tokens g → ¬ IsMemory f → ¬ IsMemory g → f ≡ g
     by (fault.Memory e) g v w m n = absurd (m tt)
     by f (fault.Memory e) v w m n = absurd (n tt)
     by (fault.Unexpected a) (fault.Unexpected b) v w m n =

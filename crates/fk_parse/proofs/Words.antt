@@ -4,30 +4,34 @@ use Rattle.std.proofs.Common.{◌≡◌, ℕ, suc, List, [], ◌∷◌, ◌++◌
 use Rattle.fk_syntax.specs.declared.program.Mode.{Mode}
 use Rattle.fk_syntax.specs.Tree.{BaseType, Tree}
 use Rattle.fk_syntax.specs.Program.{DeclaredTree, Statements, ItemTree, VariablesItem, FunctionItem}
-use Rattle.fk_expr.specs.Languages.{Placed, Stretch, tokens_of, Language, token, telling, ◌then◌, ◌or◌, making, maybe}
-use Rattle.fk_expr.specs.Kinds.{is_open_parenthesis, is_close_parenthesis}
-use Rattle.fk_expr.specs.Grammar.{base, name}
-use Rattle.fk_expr.specs.Reading.{Reader, giving, next_is, by_next, tells, begins_type, inner}
-use Rattle.fk_expr.proofs.Sets.{Kinds, none, ◌∪◌}
-use Rattle.fk_expr.proofs.EachKind.{apart_by, within_by}
-use Rattle.fk_expr.proofs.Shapes.{shape_or}
-use Rattle.fk_expr.proofs.Then.{follows_shape}
-use Rattle.fk_expr.proofs.Or.{Includes}
-use Rattle.fk_expr.proofs.Productions.{IsRead, reads_making, reads_or, reads_kinds, reads_wider}
-use Rattle.fk_parse.specs.Kinds.{is_semicolon, sharing_told, mode_told}
-use Rattle.fk_parse.specs.Statements.{separated, Declarator, variable, variables, declared, is_shared, parameters, body, mode_of, function_item}
-use Rattle.fk_parse.specs.Reading.{read_variables, read_moded, read_bare, begins_parameter, begins_item, OfFunction, OfVariables}
-use Rattle.fk_parse.proofs.Alike.{shape_same}
-use Rattle.fk_parse.proofs.Declarations.{rest_of, reads_variables}
-use Rattle.fk_parse.proofs.Parameters.{next_none}
+use Rattle.fk_reading.specs.Languages.{Placed, Stretch, tokens_of, Language, token, telling, ◌then◌, ◌or◌, making, maybe, name}
+use Rattle.fk_expr.specs.Grammar.{base}
+use Rattle.fk_reading.specs.Readers.{Reader, giving, next_is, by_next, tells}
+use Rattle.fk_expr.specs.Reading.{begins_type, inner}
+use Rattle.fk_reading.proofs.Sets.{Kinds, none, ◌∪◌}
+use Rattle.fk_reading.proofs.EachKind.{apart_by, within_by}
+use Rattle.fk_reading.proofs.Shapes.{shape_or}
+use Rattle.fk_reading.proofs.Then.{follows_shape}
+use Rattle.fk_reading.proofs.Or.{Includes}
+use Rattle.fk_reading.proofs.Productions.{IsRead, reads_making, reads_or, reads_kinds, reads_wider}
+use Rattle.fk_stmt.specs.Kinds.{sharing_told}
+use Rattle.fk_parse.specs.Kinds.{mode_told}
+use Rattle.fk_stmt.specs.Statements.{separated, Declarator, variable, variables, declared, is_shared, parameters}
+use Rattle.fk_parse.specs.Items.{body, mode_of, function_item}
+use Rattle.fk_stmt.specs.Reading.{read_variables, begins_parameter}
+use Rattle.fk_parse.specs.Reading.{read_moded, read_bare, begins_item, OfFunction, OfVariables}
+use Rattle.fk_stmt.proofs.Alike.{shape_same}
+use Rattle.fk_stmt.proofs.Declarations.{rest_of, reads_variables}
+use Rattle.fk_stmt.proofs.Parameters.{next_none}
 use Rattle.fk_parse.proofs.Choices.{TellsApart, exact_choice}
 use Rattle.fk_parse.proofs.Tails.{has_room, body_within, outer, others_of, named, bare, reads_bare, moded, reads_moded, tail}
+use Rattle.fk_lex.specs.declared.token.TokenKind.TheVariants as kind
 
 -- ---- variables, by what stands before their commas and by what stands behind the first name
 
 -- the first words of the type, variables, a semicolon
 abbrev grouped : ℕ → Language (BaseType × (List Declarator × Placed))
-grouped bound = base 0 then separated 0 (variable bound 0) then token 0 is_semicolon
+grouped bound = base 0 then separated 0 (variable bound 0) then token 0 kind.Semicolon
 
 -- the same, with the first variable's name apart
 abbrev Spread : Type 0
@@ -35,7 +39,7 @@ Spread = BaseType × (List Placed × (Placed × ((Option ℕ × Option Tree) × 
 
 -- the first words of the type, stars, a name, and what stands behind it
 abbrev spread : ℕ → Language Spread
-spread bound = base 0 then named (rest_of bound 0 then others_of bound then token 0 is_semicolon)
+spread bound = base 0 then named (rest_of bound 0 then others_of bound then token 0 kind.Semicolon)
 
 -- the first variable
 abbrev first_of : Spread → Declarator
@@ -166,7 +170,7 @@ Headed = BaseType × (List Placed × (Placed × (Placed × (List DeclaredTree ×
 
 -- a function from its type on
 abbrev headed : ℕ → Language Headed
-headed bound = base 0 then named (token 0 is_open_parenthesis then parameters 0 then token 0 is_close_parenthesis then body bound)
+headed bound = base 0 then named (token 0 kind.OpenParenthesis then parameters 0 then token 0 kind.CloseParenthesis then body bound)
 
 -- what is made of it
 abbrev function_of : Mode → Headed → ItemTree

@@ -1,7 +1,6 @@
 pub mod Kinds
-pub mod Statements
+pub mod Items
 pub mod Parses
+pub mod Refusals
 pub mod Reading
 pub mod Parts
-pub mod View
-pub mod Refusals

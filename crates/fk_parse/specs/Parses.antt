@@ -3,9 +3,9 @@ use Rattle.std.specs.Prelude.{◌≡◌, ◌+◌, ◌<◌, List, [], ◌∷◌, 
 use Rattle.fk_syntax.specs.declared.place.Place.{Place}
 use Rattle.fk_syntax.specs.Program.{ItemTree, ProgramTree}
 use Rattle.fk_lex.specs.Reading.{Spelled}
-use Rattle.fk_expr.specs.Languages.{Placed, Stretch, numbered}
-use Rattle.fk_expr.specs.Reads.{Stop, Unexpected, EndOfText, Nesting, Spell, IsShallow, IsLongest, ReadsValue, ReadsNothing, ReadsDeep}
-use Rattle.fk_parse.specs.Statements.{Items}
+use Rattle.fk_reading.specs.Languages.{Placed, Stretch, tokens_of, numbered}
+use Rattle.fk_reading.specs.Reads.{Stop, Unexpected, EndOfText, Nesting, Spell, Spells, IsShallow, IsLongest, ReadsNothing, ReadsDeep}
+use Rattle.fk_parse.specs.Items.{Items}
 
 -- the longest stretch that begins a text ends before a token, and nests within the bound
 pub record ReadsUnexpected (tokens rest : List Placed) : Type 0 where
@@ -14,10 +14,17 @@ pub record ReadsUnexpected (tokens rest : List Placed) : Type 0 where
   pub some : 0 < length rest
   pub shallow : IsShallow stretch
 
+-- the tokens are those of a stretch that spells these items, and nests within the bound
+pub record SpellsItems (tokens : List Placed) (items : List ItemTree) : Type 0 where
+  pub stretch : Stretch
+  pub is : tokens ≡ tokens_of stretch
+  pub spelled : Spells Items stretch items
+  pub shallow : IsShallow stretch
+
 -- all tokens are those of a text; no text goes on with a token; all tokens begin a text and are none; a token
 -- opens a level past the bound
 abbrev pub ReadsText : List Placed → Result (List ItemTree) Stop → Type 0
-ReadsText tokens (Ok items) = ReadsValue Items tokens items []
+ReadsText tokens (Ok items) = SpellsItems tokens items
 ReadsText tokens (Err (Unexpected rest)) = ReadsUnexpected tokens rest
 ReadsText tokens (Err EndOfText) = ReadsNothing Items tokens []
 ReadsText tokens (Err (Nesting rest)) = ReadsDeep Items tokens rest
@@ -31,8 +38,8 @@ abbrev pub beginning : Place
 beginning = record { line = 1; column = 1 }
 
 -- the tokens are those of a program
-pub record Derives (tokens : List Spelled) (program : ProgramTree) : Type 0 where
-  pub items : ReadsValue Items (numbered 0 tokens) program.items []
+pub record SpellsProgram (tokens : List Spelled) (program : ProgramTree) : Type 0 where
+  pub items : SpellsItems (numbered 0 tokens) program.items
   pub end : program.end ≡ end_of beginning tokens
   pub count : program.tokens ≡ length tokens
 
@@ -46,4 +53,4 @@ OneTree = (tokens : List Placed) (a b : List ItemTree) → Spell Items tokens a 
 
 -- tokens are those of at most one program
 abbrev pub OneProgram : Type 0
-OneProgram = (tokens : List Spelled) (p q : ProgramTree) → Derives tokens p → Derives tokens q → p ≡ q
+OneProgram = (tokens : List Spelled) (p q : ProgramTree) → SpellsProgram tokens p → SpellsProgram tokens q → p ≡ q

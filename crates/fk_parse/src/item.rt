@@ -7,23 +7,24 @@ ghost use Rattle.std.specs.Option.{option_map};
 ghost use Rattle.fk_syntax.specs.View.{named, base_of, type_of};
 ghost use Rattle.fk_syntax.specs.Program.{statements_of};
 ghost use Rattle.fk_syntax.specs.ProgramView.{statement_of, item_of};
-ghost use Rattle.fk_expr.specs.Reading.{repeated, inner};
-ghost use Rattle.fk_expr.specs.Ahead.{Shortens, Leaves, plenty};
-ghost use Rattle.fk_expr.specs.Gives.{Gives, Makes};
+ghost use Rattle.fk_reading.specs.Readers.{repeated};
+ghost use Rattle.fk_reading.specs.Ahead.{Shortens, plenty};
+ghost use Rattle.fk_reading.specs.Gives.{Gives, Makes};
+ghost use Rattle.fk_expr.specs.Reading.{inner};
 ghost use Rattle.fk_parse.specs.Reading.{begins_item, read_struct, read_variables_tail, read_function_tail, read_bare, read_moded};
 ghost use Rattle.fk_parse.specs.Parts.{read_body_within, read_optional_body, read_item_within, function_made, variables_made};
 
-use crate::declaration::{
+use crate::told::{expect_mode, item_is_next, mode_is_next};
+use fk_expr::at_cursor::base;
+use fk_expr::types::stars;
+use fk_lex::token::TokenKind;
+use fk_reading::cursor::Cursor;
+use fk_reading::fault::SyntaxFault;
+use fk_stmt::declaration::{
     Declarator, add_member, add_members, array_length, first_value, parameters, rows, variables,
 };
-use crate::kinds::{CloseBrace, ItemStart, ModeWord, OpenBrace, Semicolon, SharingWord};
-use crate::statement::block;
-use crate::told::expect_mode;
-use fk_expr::at_cursor::base;
-use fk_expr::cursor::Cursor;
-use fk_expr::fault::SyntaxFault;
-use fk_expr::kinds::{CloseParenthesis, OpenParenthesis, Struct, Word};
-use fk_expr::types::stars;
+use fk_stmt::statement::block;
+use fk_stmt::told::sharing_is_next;
 use fk_syntax::expression::{Base, TypeName};
 use fk_syntax::place::Name;
 use fk_syntax::program::{Function, Item, Mode, Stmt};
@@ -39,7 +40,7 @@ pub fn items<'a>(
     ensures read { Gives (λ items. map item_of items.items) result cursor.new (repeated plenty begins_item (read_item_within left) cursor.old) }
 {
     let mut items = Vec::new(alloc);
-    while cursor.next_is::<ItemStart>() {
+    while item_is_next(cursor) {
         items.push(item(alloc, cursor, left)?)?;
     }
     Ok(items)
@@ -52,13 +53,13 @@ fn item<'a>(alloc: Global, cursor: &mut Cursor<'_, 'a>, left: u32) -> Result<Ite
     ensures read { Gives item_of result cursor.new (read_item_within left cursor.old) }
     ensures shorter { IfOk result (λ _. Shortens cursor.old cursor.new) }
 {
-    if cursor.triple_is::<Struct, Word, OpenBrace>() {
+    if cursor.triple_is(TokenKind::Struct, TokenKind::Word, TokenKind::OpenBrace) {
         return struct_item(alloc, cursor);
     }
-    if cursor.next_is::<SharingWord>() {
+    if sharing_is_next(cursor) {
         return Ok(Item::Variables(variables(alloc, cursor, left)?));
     }
-    if cursor.next_is::<ModeWord>() {
+    if mode_is_next(cursor) {
         return moded(alloc, cursor, left);
     }
     bare(alloc, cursor, left)
@@ -70,14 +71,14 @@ fn struct_item<'a>(alloc: Global, cursor: &mut Cursor<'_, 'a>) -> Result<Item<'a
     ensures read { Gives item_of result cursor.new (read_struct plenty cursor.old) }
     ensures shorter { IfOk result (λ _. Shortens cursor.old cursor.new) }
 {
-    cursor.expect::<Struct>()?;
-    let name = cursor.expect::<Word>()?.name();
-    cursor.expect::<OpenBrace>()?;
+    cursor.expect(TokenKind::Struct)?;
+    let name = cursor.expect(TokenKind::Word)?.name();
+    cursor.expect(TokenKind::OpenBrace)?;
     let mut members = Vec::new(alloc);
     add_member(cursor, &mut members)?;
     add_members(cursor, &mut members)?;
-    cursor.expect::<CloseBrace>()?;
-    cursor.expect::<Semicolon>()?;
+    cursor.expect(TokenKind::CloseBrace)?;
+    cursor.expect(TokenKind::Semicolon)?;
     Ok(Item::Struct(name, members))
 }
 
@@ -91,7 +92,7 @@ fn moded<'a>(alloc: Global, cursor: &mut Cursor<'_, 'a>, left: u32) -> Result<It
     let (_, mode) = expect_mode(cursor)?;
     let base = base(cursor)?;
     let stars = stars(cursor)?;
-    let name = cursor.expect::<Word>()?.name();
+    let name = cursor.expect(TokenKind::Word)?.name();
     function(alloc, cursor, left, mode, TypeName { base, stars }, name)
 }
 
@@ -104,8 +105,8 @@ fn bare<'a>(alloc: Global, cursor: &mut Cursor<'_, 'a>, left: u32) -> Result<Ite
 {
     let base = base(cursor)?;
     let stars = stars(cursor)?;
-    let name = cursor.expect::<Word>()?.name();
-    if !cursor.next_is::<OpenParenthesis>() {
+    let name = cursor.expect(TokenKind::Word)?.name();
+    if !cursor.next_is(TokenKind::OpenParenthesis) {
         return file_variables(alloc, cursor, left, base, stars, name);
     }
     let kind = TypeName { base, stars };
@@ -113,7 +114,7 @@ fn bare<'a>(alloc: Global, cursor: &mut Cursor<'_, 'a>, left: u32) -> Result<Ite
 }
 
 /// Variables, from behind the name of the first.
-#[tactic(auto, using(fk_expr::proofs::Halting::halting), unfolding(crate::specs::Reading::read_variables_tail, crate::specs::Reading::read_rest))]
+#[tactic(auto, using(fk_expr::proofs::Halting::halting), unfolding(crate::specs::Reading::read_variables_tail, fk_stmt::specs::Reading::read_rest))]
 fn file_variables<'a>(
     alloc: Global,
     cursor: &mut Cursor<'_, 'a>,
@@ -135,7 +136,7 @@ fn file_variables<'a>(
         first,
     };
     let rows = rows(alloc, cursor, left, false, base, first)?;
-    cursor.expect::<Semicolon>()?;
+    cursor.expect(TokenKind::Semicolon)?;
     Ok(Item::Variables(rows))
 }
 
@@ -154,9 +155,9 @@ fn function<'a>(
         (read_function_tail plenty (read_body_within left) cursor.old) }
     ensures shorter { IfOk result (λ _. Shortens cursor.old cursor.new) }
 {
-    cursor.expect::<OpenParenthesis>()?;
+    cursor.expect(TokenKind::OpenParenthesis)?;
     let params = parameters(alloc, cursor)?;
-    cursor.expect::<CloseParenthesis>()?;
+    cursor.expect(TokenKind::CloseParenthesis)?;
     let body = body(alloc, cursor, left)?;
     Ok(Item::Function(Function {
         mode,
@@ -177,9 +178,9 @@ fn body<'a>(
     ensures read { Gives (λ body. option_map (λ b. statements_of (map statement_of b.items)) body) result cursor.new (read_optional_body (read_body_within left) cursor.old) }
     ensures shorter { IfOk result (λ _. Shortens cursor.old cursor.new) }
 {
-    if cursor.next_is::<OpenBrace>() {
+    if cursor.next_is(TokenKind::OpenBrace) {
         return Ok(Some(block(alloc, cursor, left - 1)?));
     }
-    cursor.expect::<Semicolon>()?;
+    cursor.expect(TokenKind::Semicolon)?;
     Ok(None)
 }

@@ -1,15 +1,13 @@
 //! The syntax of Fork95: the program of a text's tokens.
 #![tactic(auto)]
 
-mod declaration;
 mod item;
 mod kinds;
 pub mod laws;
 mod parser;
-mod statement;
 mod told;
 
-pub use fk_expr::fault::SyntaxFault;
+pub use fk_reading::fault::SyntaxFault;
 pub use parser::parse;
 
 #[cfg(test)]

@@ -4,38 +4,36 @@ ghost use Rattle.std.specs.Prelude.{◌≡◌, ◌^◌, ◌<◌, length, map, Ok
 ghost use Rattle.fk_syntax.specs.ProgramView.{item_of, program_of};
 ghost use Rattle.fk_syntax.specs.WellFormed.{IsWellFormed};
 ghost use Rattle.fk_lex.specs.View.{spelled};
-ghost use Rattle.fk_expr.specs.Languages.{numbered};
-ghost use Rattle.fk_expr.specs.Faults.{Tells};
-ghost use Rattle.fk_parse.specs.Parses.{Derives, beginning, end_of};
-ghost use Rattle.fk_parse.specs.Refusals.{IsRefused};
+ghost use Rattle.fk_reading.specs.Languages.{numbered};
+ghost use Rattle.fk_reading.specs.Faults.{Tells};
+ghost use Rattle.fk_parse.specs.Parses.{SpellsProgram, beginning, end_of};
+ghost use Rattle.fk_parse.specs.Refusals.{RefusesTokens};
 ghost use Rattle.fk_parse.specs.Parts.{read_text_within};
 
 use crate::item::items;
-use fk_expr::cursor::Cursor;
-use fk_expr::fault::SyntaxFault;
 use fk_lex::token::Token;
+use fk_reading::cursor::Cursor;
+use fk_reading::fault::SyntaxFault;
+use fk_reading::limits::LEVELS;
 use fk_syntax::place::Place;
 use fk_syntax::program::{Item, Program};
 use std::alloc::Global;
 
-/// The levels that may be open in a text.
-const LEVELS: u32 = 128;
-
 /// The program of these tokens, by the grammar of Fork95. An `if` has the `else` that comes
 /// next, a parenthesis directly behind `start` opens its count, and statements and expressions
-/// nest at most 128 levels deep.
+/// nest at most [`LEVELS`] deep.
 ///
 /// # Errors
 ///
 /// Unexpected tells the first token with which no text of the grammar goes on, however deep it
-/// may nest, and Nesting the token that opens level 129. Of both the earlier token counts, and at
+/// may nest, and Nesting the token that opens a level more. Of both the earlier token counts, and at
 /// one token Unexpected. EndOfText comes where the tokens begin a text and are none. Memory may
 /// be wanting for any tokens.
 pub fn parse<'a>(alloc: Global, tokens: &[Token<'a>]) -> Result<Program<'a>, SyntaxFault>
     requires few { length tokens.now < 2 ^ 32 }
     requires narrow { (end_of beginning (map spelled tokens.now)).column < 2 ^ 32 }
-    ensures program { IfOk result (λ p. Derives (map spelled tokens.now) (program_of p)) }
-    ensures refused { IfErr result (IsRefused (map spelled tokens.now)) }
+    ensures program { IfOk result (λ p. SpellsProgram (map spelled tokens.now) (program_of p)) }
+    ensures refused { IfErr result (RefusesTokens (map spelled tokens.now)) }
     ensures well_formed { IfOk result (λ p. IsWellFormed (program_of p)) }
 {
     let items = text(alloc, tokens, LEVELS)?;

@@ -1,26 +1,16 @@
-//! Words that tell something: a sharing, or a mode.
+//! What comes next: the word of a mode, or a token that begins an item.
 
-ghost use Rattle.std.specs.Prelude.{◌≡◌, IfOk};
-ghost use Rattle.fk_expr.specs.Reading.{next_tells, expect_told};
-ghost use Rattle.fk_expr.specs.Ahead.{seen, Shortens};
-ghost use Rattle.fk_expr.specs.Gives.{Gives};
-ghost use Rattle.fk_parse.specs.Kinds.{sharing_told, mode_told};
+ghost use Rattle.std.specs.Prelude.{◌≡◌, ◌<◌, ◌^◌, IfOk, length};
+ghost use Rattle.fk_reading.specs.Readers.{next_is, tells, next_tells, expect_told};
+ghost use Rattle.fk_reading.specs.Ahead.{seen, Shortens};
+ghost use Rattle.fk_reading.specs.Gives.{Gives};
+ghost use Rattle.fk_parse.specs.Kinds.{mode_told};
+ghost use Rattle.fk_parse.specs.Reading.{begins_item};
 
-use crate::kinds::{mode, sharing};
-use fk_expr::cursor::{Cursor, Numbered};
-use fk_expr::fault::SyntaxFault;
+use crate::kinds::{begins_item, mode};
+use fk_reading::cursor::{Cursor, Numbered};
+use fk_reading::fault::SyntaxFault;
 use fk_syntax::program::Mode;
-
-/// Reads the next token, which has to be a word of sharing: whether it is `sh`.
-pub fn expect_sharing<'a>(cursor: &mut Cursor<'_, 'a>) -> Result<(Numbered<'a>, bool), SyntaxFault>
-    ensures read { Gives (λ x. (seen x.0, x.1)) result cursor.new (expect_told sharing_told cursor.old) }
-    ensures shorter { IfOk result (λ _. Shortens cursor.old cursor.new) }
-{
-    let Some(shared) = next_sharing(cursor) else {
-        return Err(cursor.unexpected());
-    };
-    Ok((cursor.next()?, shared))
-}
 
 /// Reads the next token, which has to be the word of a mode.
 pub fn expect_mode<'a>(cursor: &mut Cursor<'_, 'a>) -> Result<(Numbered<'a>, Mode), SyntaxFault>
@@ -33,11 +23,22 @@ pub fn expect_mode<'a>(cursor: &mut Cursor<'_, 'a>) -> Result<(Numbered<'a>, Mod
     Ok((cursor.next()?, mode))
 }
 
-/// The next token, where it is a word of sharing.
-fn next_sharing(cursor: &Cursor) -> Option<bool>
-    ensures { result ≡ next_tells sharing_told cursor.now }
+/// Whether the word of a mode comes next.
+pub fn mode_is_next(cursor: &Cursor) -> bool
+    ensures { result ≡ next_is (tells mode_told) cursor.now }
 {
-    sharing(cursor.peek()?)
+    next_mode(cursor).is_some()
+}
+
+/// Whether an item comes next.
+pub fn item_is_next(cursor: &Cursor) -> bool
+    ensures next { result ≡ next_is begins_item cursor.now }
+    ensures few { length cursor.now < 2 ^ 32 }
+{
+    match cursor.peek() {
+        Some(kind) => begins_item(kind),
+        None => false,
+    }
 }
 
 /// The next token, where it is the word of a mode.

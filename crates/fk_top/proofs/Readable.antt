@@ -4,10 +4,10 @@ use Rattle.std.proofs.lemmas.List.{length-append, length-take, take_all}
 use Rattle.fk_syntax.specs.Program.{ProgramTree}
 use Rattle.fk_lex.specs.Reading.{Spelled}
 use Rattle.fk_lex.proofs.Determined as lexed
-use Rattle.fk_expr.specs.declared.fault.SyntaxFault.{SyntaxFault}
-use Rattle.fk_expr.specs.declared.fault.SyntaxFault.TheVariants as syntax_fault
-use Rattle.fk_expr.specs.Faults.{IsMemory}
-use Rattle.fk_parse.specs.Parses.{Derives}
+use Rattle.fk_reading.specs.declared.fault.SyntaxFault.{SyntaxFault}
+use Rattle.fk_reading.specs.declared.fault.SyntaxFault.TheVariants as syntax_fault
+use Rattle.fk_reading.specs.Faults.{IsMemory}
+use Rattle.fk_parse.specs.Parses.{SpellsProgram}
 use Rattle.fk_parse.proofs.Texts.{one_tree, tree_or_fault}
 use Rattle.fk_straight.specs.Straight as trees
 use Rattle.fk_image.specs.declared.Image.{Image}
@@ -33,13 +33,13 @@ whole most bytes few = take_all most bytes (omega (arith, length-take most bytes
 not_faulty : (source : List ℕ) (tree : ProgramTree) (fault : SyntaxFault) → HasTree source tree → HasSyntaxFault source fault → IsMemory fault
 not_faulty source tree fault parsed faulty =
     let same = lexed.one_reading.tokens source parsed.tokens faulty.tokens parsed.spelled faulty.spelled in
-    tree_or_fault faulty.tokens tree fault (subst (λ (ts : List Spelled). Derives ts tree) same parsed.derived) faulty.refused
+    tree_or_fault faulty.tokens tree fault (subst (λ (ts : List Spelled). SpellsProgram ts tree) same parsed.derived) faulty.refused
 
 -- a text has one tree
 same_tree : (source : List ℕ) (tree other : ProgramTree) → HasTree source tree → HasTree source other → tree ≡ other
 same_tree source tree other a b =
     let same = lexed.one_reading.tokens source a.tokens b.tokens a.spelled b.spelled in
-    one_tree b.tokens tree other (subst (λ (ts : List Spelled). Derives ts tree) same a.derived) b.derived
+    one_tree b.tokens tree other (subst (λ (ts : List Spelled). SpellsProgram ts tree) same a.derived) b.derived
 
 straight_or_not : (source : List ℕ) → IsText source → IsNotStraight source → ⊥
 straight_or_not source text not =

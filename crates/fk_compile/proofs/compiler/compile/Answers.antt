@@ -9,8 +9,8 @@ use Rattle.fk_syntax.specs.ProgramView.{program_of, item_of}
 use Rattle.fk_lex.specs.Reading.{Tokens}
 use Rattle.fk_lex.specs.View.{spelled}
 use Rattle.fk_lex.specs.declared.token.Token.{Token}
-use Rattle.fk_expr.specs.declared.fault.SyntaxFault.{SyntaxFault}
-use Rattle.fk_parse.specs.Parses.{Derives, beginning, end_of}
+use Rattle.fk_reading.specs.declared.fault.SyntaxFault.{SyntaxFault}
+use Rattle.fk_parse.specs.Parses.{SpellsProgram, beginning, end_of}
 use Rattle.fk_parse.specs.Refusals as syntax
 use Rattle.fk_straight.specs.declared.fault.StraightFault.{StraightFault}
 use Rattle.fk_straight.specs.declared.fault.StraightFault.TheVariants.{NotStraight}
@@ -31,14 +31,14 @@ kept P Q (Err e) m a p other is = absurd (subst (λ z. IsErrAnd z (Q e)) is othe
 
 -- why the tokens of a text have no tree
 faulty : (source : List ℕ) (tokens list : List Token) (r : Result code.Program SyntaxFault) → list ≡ tokens
-    → Tokens source (map spelled tokens) → IfErr r (syntax.IsRefused (map spelled list)) → IfErr r (HasSyntaxFault source)
+    → Tokens source (map spelled tokens) → IfErr r (syntax.RefusesTokens (map spelled list)) → IfErr r (HasSyntaxFault source)
 faulty source tokens list (Ok tree) same lexed refused = tt
 faulty source tokens list (Err fault) same lexed refused =
     record { tokens = map spelled list; spelled = subst (λ ts. Tokens source (map spelled ts)) (sym same) lexed; refused = refused }
 
 -- the tree of the tokens of a text is its tree
 parsed : (source : List ℕ) (tokens list : List Token) (tree : ProgramTree) → list ≡ tokens
-    → Tokens source (map spelled tokens) → Derives (map spelled list) tree → HasTree source tree
+    → Tokens source (map spelled tokens) → SpellsProgram (map spelled list) tree → HasTree source tree
 parsed source tokens list tree same lexed derived =
     record { tokens = map spelled list; spelled = subst (λ ts. Tokens source (map spelled ts)) (sym same) lexed; derived = derived }
 

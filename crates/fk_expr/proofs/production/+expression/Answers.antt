@@ -3,10 +3,12 @@ use Rattle.std.proofs.lemmas.List.{append-nil}
 use Rattle.fk_syntax.specs.View.{tree_of, link_of, suffix_of}
 use Rattle.fk_expr.specs.Grammar.{chained, suffixed}
 use Rattle.fk_expr.specs.Reading.{inner}
-use Rattle.fk_expr.specs.Ahead.{plenty, readers}
-use Rattle.fk_expr.proofs.Behind.{gives_fault, makes_fault, comma_link_reads, comma_link_halts, link_reads, link_halts, next_argument_reads, next_argument_halts, comma_reads, comma_halts, postfix_reads, postfix_halts, arguments_reads, arguments_halts, more_behind, level_reads, level_halts, joined_start, prefix_halts, joined_passes}
-use Rattle.fk_expr.proofs.Repeats.{going_start, going_more, going_end, items_more}
-use Rattle.fk_expr.proofs.Halting.{halts_going}
+use Rattle.fk_reading.specs.Ahead.{plenty}
+use Rattle.fk_expr.specs.Ahead.{readers}
+use Rattle.fk_reading.proofs.Behind.{gives_fault, makes_fault}
+use Rattle.fk_expr.proofs.Behind.{comma_link_reads, comma_link_halts, link_reads, link_halts, next_argument_reads, next_argument_halts, comma_reads, comma_halts, postfix_reads, postfix_halts, arguments_reads, arguments_halts, more_behind, level_reads, level_halts, joined_start, prefix_halts, joined_passes}
+use Rattle.fk_reading.proofs.Repeats.{going_start, going_more, going_end, items_more}
+use Rattle.fk_reading.proofs.Halting.{halts_going}
 use Rattle.fk_expr.proofs.production.+expression.Goals as goal
 
 pub comma-returns-in_err-right-clause-read : goal.comma-returns-in_err-right-clause-read
@@ -83,18 +85,18 @@ pub postfix-returns-in_err-suffix-clause-read : goal.postfix-returns-in_err-suff
 postfix-returns-in_err-suffix-clause-read t c =
     gives_fault _ _ _ _ _ c.from_residual-in_err-suffix.ensures.1
     (postfix_halts (inner plenty c.args.left) _ _ _ _ c.suffix.new.cursor c.in_ok-whole.ensures.read
-    (halts_going _ _ _ _ _ _ _ (sym c.loop-suffixes-test.ensures.next) c.in_err-suffix.ensures.read c.loop-suffixes.invariant.going))
+    (halts_going _ _ _ _ _ _ _ (sym c.suffix_is_next.ensures ∙ c.loop-suffixes-test.true) c.in_err-suffix.ensures.read c.loop-suffixes.invariant.going))
 
 pub postfix-loop-suffixes-preserved : goal.postfix-loop-suffixes-preserved
 postfix-loop-suffixes-preserved t c = record {
   same = c.loop-suffixes.invariant.same;
-  going = items_more _ _ _ _ _ suffix_of _ _ c.in_ok-suffix.field-0 (sym c.loop-suffixes-test.ensures.next) c.in_ok-suffix.ensures.read
+  going = items_more _ _ _ _ _ suffix_of _ _ c.in_ok-suffix.field-0 (sym c.suffix_is_next.ensures ∙ c.loop-suffixes-test.true) c.in_ok-suffix.ensures.read
       (omega (arith, c.in_ok-suffix.ensures.shorter)) c.in_ok-push.ensures.items c.loop-suffixes.invariant.going;
 }
 
 pub postfix-returns-clause-read : goal.postfix-returns-clause-read
 postfix-returns-clause-read t c =
-    postfix_reads (inner plenty c.args.left) _ _ _ _ _ _ c.in_ok-whole.ensures.read (going_end _ _ _ _ _ (sym c.loop-suffixes-test.ensures.next) c.loop-suffixes.invariant.going)
+    postfix_reads (inner plenty c.args.left) _ _ _ _ _ _ c.in_ok-whole.ensures.read (going_end _ _ _ _ _ (sym c.suffix_is_next.ensures ∙ c.loop-suffixes-test.false) c.loop-suffixes.invariant.going)
     (c.in_ok-suffixed.ensures ∙ ap (λ e. suffixed e (map suffix_of c.loop-suffixes.suffixes.items)) c.loop-suffixes.invariant.same)
 
 pub arguments-loop-alloc-init : goal.arguments-loop-alloc-init
@@ -107,7 +109,7 @@ arguments-loop-alloc-init t c = record {
 pub arguments-returns-in_err-assignment-2-clause-read : goal.arguments-returns-in_err-assignment-2-clause-read
 arguments-returns-in_err-assignment-2-clause-read t c =
     gives_fault _ _ _ _ _ c.from_residual-in_err-assignment-2.ensures.1
-    (arguments_halts (readers c.args.left) _ _ _ _ c.assignment-in-loop-alloc.new.cursor (sym c.if-not-next_is.ensures.next) c.in_ok-assignment.ensures.read
+    (arguments_halts (readers c.args.left) _ _ _ _ c.assignment-in-loop-alloc.new.cursor (sym c.expression_is_next.ensures ∙ c.if-not-expression_is_next.false) c.in_ok-assignment.ensures.read
     (halts_going _ _ _ _ _ _ _ (sym c.loop-alloc-test.ensures.next)
     (next_argument_halts (readers c.args.left) _ _ _ _ _ c.in_ok-expect.ensures.read c.in_err-assignment-2.ensures.read) c.loop-alloc.invariant.going))
 
@@ -122,6 +124,6 @@ arguments-loop-alloc-preserved t c = record {
 
 pub arguments-returns-clause-read : goal.arguments-returns-clause-read
 arguments-returns-clause-read t c =
-    arguments_reads (readers c.args.left) _ _ _ (tree_of c.in_ok-assignment.field-0) _ _ (sym c.if-not-next_is.ensures.next) c.in_ok-assignment.ensures.read
+    arguments_reads (readers c.args.left) _ _ _ (tree_of c.in_ok-assignment.field-0) _ _ (sym c.expression_is_next.ensures ∙ c.if-not-expression_is_next.false) c.in_ok-assignment.ensures.read
     (going_end _ _ _ _ _ (sym c.loop-alloc-test.ensures.next) c.loop-alloc.invariant.going)
     (c.loop-alloc.invariant.all ∙ ap (λ items. map tree_of items ++ c.loop-alloc.invariant.others) (c.in_ok-push.ensures.items ∙ ap (λ items. items ++ c.in_ok-assignment.field-0 ∷ []) c.new-arguments.ensures.items))

@@ -1,12 +1,15 @@
 use Rattle.std.proofs.Common.{◌≡◌, ◌+◌, ◌*◌, ◌-◌, ◌≤◌, ◌++◌, List, Ok, length, map}
 use Rattle.fk_syntax.specs.Tree.{Tree}
 use Rattle.fk_syntax.specs.View.{tree_of, link_of, suffix_of}
-use Rattle.fk_expr.specs.Kinds.{is_comma}
 use Rattle.fk_expr.specs.Grammar.{operator_at}
-use Rattle.fk_expr.specs.Reading.{inner, tells, begins_suffix, read_suffix, read_next_argument, read_joined}
-use Rattle.fk_expr.specs.Ahead.{plenty, readers, read_link, read_comma_link, Shortens}
-use Rattle.fk_expr.proofs.Repeats.{Going}
+use Rattle.fk_expr.specs.Reading.{inner, begins_suffix, read_suffix, read_next_argument, read_joined}
+use Rattle.fk_reading.specs.Readers.{tells}
+use Rattle.fk_reading.specs.Ahead.{plenty, Shortens}
+use Rattle.fk_expr.specs.Ahead.{readers, read_link, read_comma_link}
+use Rattle.fk_reading.proofs.Repeats.{Going}
 use Rattle.fk_expr.proofs.production.+expression.Given as goal
+use Rattle.fk_reading.specs.Kinds.{just}
+use Rattle.fk_lex.specs.declared.token.TokenKind.TheVariants as kind
 
 abbrev pub decreases-comma : goal.decreases-comma
 decreases-comma l = 64 * l.left + 30
@@ -45,7 +48,7 @@ abbrev pub invariant-arguments-loop-alloc : goal.invariant-arguments-loop-alloc
 invariant-arguments-loop-alloc l = record {
   others : List Tree;
   all : map tree_of l.arguments.items ≡ map tree_of l.initial.arguments.items ++ others;
-  going : Going is_comma (read_next_argument (readers l.left)) l.initial.cursor others l.cursor;
+  going : Going (just kind.Comma) (read_next_argument (readers l.left)) l.initial.cursor others l.cursor;
 }
 
 abbrev pub decreases-arguments-loop-alloc : goal.decreases-arguments-loop-alloc
@@ -54,7 +57,7 @@ decreases-arguments-loop-alloc l = length l.cursor
 abbrev pub invariant-comma-loop-cursor : goal.invariant-comma-loop-cursor
 invariant-comma-loop-cursor l = record {
   same : tree_of l.first ≡ tree_of l.initial.first;
-  going : Going is_comma (read_comma_link plenty (inner plenty l.left)) l.initial.cursor (map link_of l.links.items) l.cursor;
+  going : Going (just kind.Comma) (read_comma_link plenty (inner plenty l.left)) l.initial.cursor (map link_of l.links.items) l.cursor;
 }
 
 abbrev pub decreases-comma-loop-cursor : goal.decreases-comma-loop-cursor

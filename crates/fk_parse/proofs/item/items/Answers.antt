@@ -1,6 +1,6 @@
 use Rattle.std.proofs.Common.{sym, ◌∙◌, rules}
-use Rattle.fk_expr.proofs.Loops.{loops_end, loops_stop}
-use Rattle.fk_parse.proofs.Pushed.{pushed_start, pushed_more}
+use Rattle.fk_reading.proofs.Loops.{loops_end, loops_stop}
+use Rattle.fk_stmt.proofs.Pushed.{pushed_start, pushed_more}
 use Rattle.fk_parse.proofs.item.items.Goals as goal
 
 pub loop-alloc-init : goal.loop-alloc-init
@@ -8,14 +8,14 @@ loop-alloc-init c = pushed_start _ _ _ _ _ c.new-items.ensures.items
 
 pub loop-alloc-preserved : goal.loop-alloc-preserved
 loop-alloc-preserved c =
-    pushed_more _ _ _ _ _ _ _ _ _ (sym c.next_is.ensures.next ∙ c.loop-alloc-test.true) c.in_ok-item.ensures.read c.in_ok-item.ensures.shorter c.in_ok-push.ensures.items c.loop-alloc.invariant
+    pushed_more _ _ _ _ _ _ _ _ _ (sym c.item_is_next.ensures.next ∙ c.loop-alloc-test.true) c.in_ok-item.ensures.read c.in_ok-item.ensures.shorter c.in_ok-push.ensures.items c.loop-alloc.invariant
 
 pub returns-in_err-item : goal.returns-in_err-item
 returns-in_err-item c =
-    let r = loops_stop _ _ _ _ _ _ _ (sym c.next_is.ensures.next ∙ c.loop-alloc-test.true) c.next_is.ensures.few c.in_err-item.ensures.read c.loop-alloc.invariant in
+    let r = loops_stop _ _ _ _ _ _ _ (sym c.item_is_next.ensures.next ∙ c.loop-alloc-test.true) c.item_is_next.ensures.few c.in_err-item.ensures.read c.loop-alloc.invariant in
     search rules
 
 pub returns : goal.returns
 returns c = record {
-  read = (loops_end _ _ _ _ _ (sym c.next_is.ensures.next ∙ c.loop-alloc-test.false) c.next_is.ensures.few c.loop-alloc.invariant).0;
+  read = (loops_end _ _ _ _ _ (sym c.item_is_next.ensures.next ∙ c.loop-alloc-test.false) c.item_is_next.ensures.few c.loop-alloc.invariant).0;
 }

@@ -1,0 +1,33 @@
+-- What is read of two parts.
+use Rattle.std.proofs.Common.{◌≡◌, List, Result, Ok, Err, sym, ap, subst, ◌∙◌}
+use Rattle.std.specs.Result.{IsErrAnd}
+use Rattle.fk_reading.specs.declared.fault.SyntaxFault.{SyntaxFault}
+use Rattle.fk_reading.specs.Languages.{Placed}
+use Rattle.fk_reading.specs.Reads.{Answer}
+use Rattle.fk_reading.specs.Readers.{Reader, after, giving, ◌and◌}
+use Rattle.fk_reading.specs.Gives.{Gives, Makes, Halts}
+use Rattle.fk_reading.proofs.Halting.{halts_after}
+
+pub behind_reads : {A B C : Type 0} (f : A × B → C) (P : Reader A) (Q : Reader B) (ts mid rest : List Placed) (a : A) (b : B)
+    → P ts ≡ Ok (a, mid) → Q mid ≡ Ok (b, rest) → giving f (P and Q) ts ≡ Ok (f (a, b), rest)
+behind_reads f P Q ts mid rest a b g h =
+    ap (λ x. after (after x (λ x rest. after (Q rest) (λ y others. Ok ((x, y), others)))) (λ x rest. Ok (f x, rest))) g
+    ∙ ap (λ y. after (after y (λ y others. Ok ((a, y), others))) (λ x rest. Ok (f x, rest))) h
+
+pub behind_halts : {A B C : Type 0} (f : A × B → C) (P : Reader A) (Q : Reader B) (ts mid : List Placed) (a : A) (fault : SyntaxFault) (now : List Placed)
+    → P ts ≡ Ok (a, mid) → Halts (Q mid) fault now → Halts (giving f (P and Q) ts) fault now
+behind_halts {A} f P Q ts mid a fault now g h =
+    subst (λ (x : Answer A). Halts (after (after x (λ x rest. after (Q rest) (λ y others. Ok ((x, y), others)))) (λ x rest. Ok (f x, rest))) fault now) (sym g)
+    (halts_after (after (Q mid) (λ y others. Ok ((a, y), others))) (λ x rest. Ok (f x, rest)) fault now
+    (halts_after (Q mid) (λ y others. Ok ((a, y), others)) fault now h))
+
+-- an answer that only hands on a fault
+pub gives_fault : {A B : Type 0} (view : A → B) (r : Result A SyntaxFault) (fault : SyntaxFault) (now : List Placed) (answer : Answer B)
+    → IsErrAnd r (λ z. z ≡ fault) → Halts answer fault now → Gives view r now answer
+gives_fault view (Ok a) fault now answer e h = absurd e
+gives_fault view (Err z) fault now answer e h = subst (λ z. Halts answer z now) (sym e) h
+
+pub makes_fault : {A B C : Type 0} (made : B → A) (view : C → A) (r : Result C SyntaxFault) (fault : SyntaxFault) (now : List Placed) (answer : Answer B)
+    → IsErrAnd r (λ z. z ≡ fault) → Halts answer fault now → Makes made view r now answer
+makes_fault made view (Ok c) fault now answer e h = absurd e
+makes_fault made view (Err z) fault now answer e h = subst (λ z. Halts answer z now) (sym e) h

@@ -1,0 +1,34 @@
+use Rattle.std.proofs.Common.{[], ◌∷◌, false, map, sym, ◌∙◌, rules, arith}
+use Rattle.std.proofs.lemmas.List.{append-nil, map-append}
+use Rattle.std.proofs.lemmas.Grind.{common_steps}
+use Rattle.fk_syntax.specs.View.{base_of}
+use Rattle.fk_stmt.specs.Statements.{declared}
+use Rattle.fk_stmt.specs.Reading.{read_separated, read_member}
+use Rattle.fk_stmt.specs.View.{declarator_of}
+use Rattle.fk_stmt.proofs.Commas.{commas_start, commas_more, commas_end, commas_stop}
+use Rattle.fk_stmt.proofs.declaration.add_member.Goals as goal
+
+pub loop-base-init : goal.loop-base-init
+loop-base-init c = record { others = []; same = sym (append-nil _); commas = commas_start _ _ }
+
+pub loop-base-preserved : goal.loop-base-preserved
+loop-base-preserved c = record {
+  others = _;
+  same = grind (arith, common_steps, map-append);
+  commas = commas_more _ _ _ _ _ _ _ _ (sym c.next_is.ensures.next ∙ c.loop-base-test.true) c.in_ok-expect.ensures.read c.in_ok-member_name-2.ensures.read c.in_ok-expect.ensures.shorter c.in_ok-member_name-2.ensures.shorter c.loop-base.invariant.commas;
+}
+
+pub returns-in_err-member_name-2-clause-read : goal.returns-in_err-member_name-2-clause-read
+unfolding read_separated read_member
+returns-in_err-member_name-2-clause-read c =
+    let r = commas_stop _ _ _ _ _ _ _ _ (sym c.next_is.ensures.next ∙ c.loop-base-test.true) c.next_is.ensures.few c.in_ok-expect.ensures.read c.in_err-member_name-2.ensures.read c.loop-base.invariant.commas in
+    search rules
+
+pub returns-clause-read : goal.returns-clause-read
+unfolding read_separated read_member
+returns-clause-read c =
+    let e = commas_end _ _ _ _ (sym c.next_is.ensures.next ∙ c.loop-base-test.false) c.next_is.ensures.few c.loop-base.invariant.commas in (
+      map (declared false (base_of c.in_ok-base.base)) (declarator_of c.in_ok-member_name.field-0 ∷ c.loop-base.invariant.others),
+      rw (c.in_ok-base.ensures.read, c.in_ok-member_name.ensures.read, e.0, c.in_ok-expect-2.ensures.read),
+      grind (arith, common_steps, map-append),
+    )

@@ -1,0 +1,55 @@
+use Rattle.std.proofs.Common.{◌+◌, ◌*◌, map, length}
+use Rattle.fk_syntax.specs.ProgramView.{statement_of}
+use Rattle.fk_reading.proofs.Repeats.{Going}
+use Rattle.fk_stmt.specs.Reading.{begins_statement}
+use Rattle.fk_stmt.specs.Parts.{read_nested}
+use Rattle.fk_stmt.proofs.statement.+statement.Given as goal
+
+abbrev pub decreases-statement : goal.decreases-statement
+decreases-statement l = 8 * l.left + 5
+
+abbrev pub decreases-worded : goal.decreases-worded
+decreases-worded l = 8 * l.left + 4
+
+abbrev pub decreases-block : goal.decreases-block
+decreases-block l = 8 * l.left + 2
+
+abbrev pub decreases-if_else : goal.decreases-if_else
+decreases-if_else l = 8 * l.left + 3
+
+abbrev pub decreases-while_loop : goal.decreases-while_loop
+decreases-while_loop l = 8 * l.left + 2
+
+abbrev pub decreases-do_while : goal.decreases-do_while
+decreases-do_while l = 8 * l.left + 2
+
+abbrev pub decreases-for_loop : goal.decreases-for_loop
+decreases-for_loop l = 8 * l.left + 2
+
+abbrev pub decreases-start : goal.decreases-start
+decreases-start l = 8 * l.left + 2
+
+abbrev pub decreases-farm : goal.decreases-farm
+decreases-farm l = 8 * l.left + 2
+
+abbrev pub decreases-seq : goal.decreases-seq
+decreases-seq l = 8 * l.left + 2
+
+abbrev pub decreases-fork : goal.decreases-fork
+decreases-fork l = 8 * l.left + 2
+
+abbrev pub decreases-otherwise : goal.decreases-otherwise
+decreases-otherwise l = 8 * l.left + 2
+
+abbrev pub decreases-boxed : goal.decreases-boxed
+decreases-boxed l = 8 * l.left + 1
+
+abbrev pub decreases-nested : goal.decreases-nested
+decreases-nested l = 8 * l.left
+
+abbrev pub invariant-block-loop-alloc : goal.invariant-block-loop-alloc
+invariant-block-loop-alloc l =
+    Going begins_statement (read_nested l.left) l.initial.cursor (map statement_of l.statements.items) l.cursor
+
+abbrev pub decreases-block-loop-alloc : goal.decreases-block-loop-alloc
+decreases-block-loop-alloc l = length l.cursor

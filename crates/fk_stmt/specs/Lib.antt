@@ -1,0 +1,5 @@
+pub mod Kinds
+pub mod Statements
+pub mod Reading
+pub mod Parts
+pub mod View

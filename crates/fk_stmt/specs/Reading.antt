@@ -1,0 +1,156 @@
+-- How declarations and statements are read, token by token. What is read so is what the grammar says: that is proved,
+-- and the contracts of the public functions speak of the grammar alone.
+use Rattle.std.specs.Prelude.{ℕ, zero, suc, List, [], ◌∷◌, map, Option, Some, None, Bool, false, Ok, length, ◌||◌, ◌&&◌}
+use Rattle.fk_syntax.specs.Tree.{Tree}
+use Rattle.fk_syntax.specs.Program.{DeclaredTree, Statement, Empty, Expression, Block, Declare, DoWhile, While, For, Start, Farm, Seq, Fork, Barrier, Break, Continue, Return, Statements, statements_of, branch}
+use Rattle.fk_lex.specs.declared.token.TokenKind.{TokenKind}
+use Rattle.fk_reading.specs.Languages.{Placed, spot, name}
+use Rattle.fk_expr.specs.Kinds.{number_told}
+use Rattle.fk_reading.specs.Readers.{Reader, giving, ◌and◌, next_is, tells, expect, expect_told, either, by_next, optional, repeated, opened}
+use Rattle.fk_expr.specs.Reading.{read_base, begins_type, begins_expression, Readers, inner, read_comma, read_assignment}
+use Rattle.fk_stmt.specs.Kinds.{sharing_told}
+use Rattle.fk_stmt.specs.Statements.{Declarator, declared, is_shared}
+use Rattle.fk_reading.specs.Kinds.{just}
+use Rattle.fk_lex.specs.declared.token.TokenKind.TheVariants as kind
+
+-- ---- declarations
+
+unfoldable pub read_separated : {A : Type 0} → ℕ → Reader A → Reader (List A)
+read_separated most P = giving (λ x. x.0 ∷ x.1) (P and repeated most (just kind.Comma) (giving (λ x. x.1) (expect kind.Comma and P)))
+
+unfoldable pub read_length : Reader ℕ
+read_length = giving (λ x. x.1.0.1.0) (expect kind.OpenBracket and expect_told number_told and expect kind.CloseBracket)
+
+-- [ length ] [ "=" assign ], behind the stars and the name
+unfoldable pub read_rest : ℕ → Option Readers → Reader (Option ℕ × Option Tree)
+read_rest most E =
+    optional (just kind.OpenBracket) read_length and optional (just kind.Assign) (giving (λ x. x.1) (expect kind.Assign and read_assignment most E))
+
+unfoldable pub read_variable : ℕ → Option Readers → Reader Declarator
+read_variable most E =
+    giving (λ x. record { stars = length x.0; name = name x.1.0; length = x.1.1.0; first = x.1.1.1 })
+    (repeated most (just kind.Star) (expect kind.Star) and expect kind.Word and read_rest most E)
+
+unfoldable pub read_member_name : ℕ → Reader Declarator
+read_member_name most =
+    giving (λ x. record { stars = length x.0; name = name x.1.0; length = x.1.1; first = None })
+    (repeated most (just kind.Star) (expect kind.Star) and expect kind.Word and optional (just kind.OpenBracket) read_length)
+
+unfoldable pub read_variables : ℕ → Option Readers → Reader (List DeclaredTree)
+read_variables most E =
+    giving (λ x. map (declared (is_shared x.0) x.1.0) x.1.1.0)
+    (optional (tells sharing_told) (expect_told sharing_told) and read_base and read_separated most (read_variable most E) and expect kind.Semicolon)
+
+unfoldable pub read_member : ℕ → Reader (List DeclaredTree)
+read_member most =
+    giving (λ x. map (declared false x.0) x.1.0) (read_base and read_separated most (read_member_name most) and expect kind.Semicolon)
+
+unfoldable pub read_parameter : ℕ → Reader DeclaredTree
+read_parameter most =
+    giving (λ x. record { shared = is_shared x.0; kind = record { base = x.1.0; stars = length x.1.1.0 }; name = name x.1.1.1; length = None; first = None })
+    (optional (tells sharing_told) (expect_told sharing_told) and read_base and repeated most (just kind.Star) (expect kind.Star) and expect kind.Word)
+
+-- "void" and a closing parenthesis come next
+abbrev pub void_is_next : List Placed → Bool
+void_is_next [] = false
+void_is_next (t ∷ ts) = just kind.Void t.kind && next_is (just kind.CloseParenthesis) ts
+
+-- the kinds that begin a parameter
+abbrev pub begins_parameter : TokenKind → Bool
+begins_parameter k = tells sharing_told k || begins_type k
+
+unfoldable pub read_parameters : ℕ → Reader (List DeclaredTree)
+read_parameters most ts =
+    either (void_is_next ts) (giving (λ t. []) (expect kind.Void))
+    (by_next begins_parameter (read_separated most (read_parameter most)) (λ rest. Ok ([], rest))) ts
+
+-- ---- statements: E reads expressions, S statements one level deeper, if there may be one
+
+-- the kinds that begin a statement
+abbrev pub begins_word : TokenKind → Bool
+begins_word k =
+    just kind.If k || just kind.While k || just kind.Do k || just kind.For k || just kind.Start k || just kind.Farm k || just kind.Seq k || just kind.Fork k
+    || just kind.Barrier k || just kind.Break k || just kind.Continue k || just kind.Return k
+
+abbrev pub begins_statement : TokenKind → Bool
+begins_statement k = just kind.OpenBrace k || just kind.Semicolon k || begins_parameter k || begins_word k || begins_expression k
+
+-- a statement in a statement opens a level at its first token
+abbrev pub nested : Option (Reader Statement) → Reader Statement
+nested S = opened begins_statement S (λ P. P)
+
+unfoldable pub read_block : ℕ → Option (Reader Statement) → Reader Statements
+read_block most S =
+    giving (λ x. statements_of x.1.0) (expect kind.OpenBrace and repeated most begins_statement (nested S) and expect kind.CloseBrace)
+
+unfoldable pub read_condition : ℕ → Option Readers → Reader Tree
+read_condition most E = giving (λ x. x.1.0) (expect kind.OpenParenthesis and read_comma most E and expect kind.CloseParenthesis)
+
+unfoldable pub read_if : ℕ → Option Readers → Option (Reader Statement) → Reader Statement
+read_if most E S =
+    giving (λ x. branch (spot x.0) x.1.0 x.1.1.0 x.1.1.1)
+    (expect kind.If and read_condition most E and nested S and optional (just kind.Else) (giving (λ x. x.1) (expect kind.Else and nested S)))
+
+unfoldable pub read_while : ℕ → Option Readers → Option (Reader Statement) → Reader Statement
+read_while most E S = giving (λ x. While (spot x.0) x.1.0 x.1.1) (expect kind.While and read_condition most E and nested S)
+
+unfoldable pub read_do : ℕ → Option Readers → Option (Reader Statement) → Reader Statement
+read_do most E S =
+    giving (λ x. DoWhile (spot x.0) x.1.0 x.1.1.1.0)
+    (expect kind.Do and nested S and expect kind.While and read_condition most E and expect kind.Semicolon)
+
+-- an expression, where one comes next
+abbrev pub read_some : ℕ → Option Readers → Reader (Option Tree)
+read_some most E = optional begins_expression (read_comma most E)
+
+unfoldable pub read_for : ℕ → Option Readers → Option (Reader Statement) → Reader Statement
+read_for most E S =
+    giving (λ x. For (spot x.0) x.1.1.0 x.1.1.1.1.0 x.1.1.1.1.1.1.0 x.1.1.1.1.1.1.1.1)
+    (expect kind.For and expect kind.OpenParenthesis and read_some most E and expect kind.Semicolon
+    and read_some most E and expect kind.Semicolon and read_some most E and expect kind.CloseParenthesis and nested S)
+
+unfoldable pub read_start : ℕ → Option Readers → Option (Reader Statement) → Reader Statement
+read_start most E S =
+    giving (λ x. Start (spot x.0) x.1.0 x.1.1) (expect kind.Start and optional (just kind.OpenParenthesis) (read_condition most E) and nested S)
+
+unfoldable pub read_rank : ℕ → Option Readers → Reader Tree
+read_rank most E = giving (λ x. x.1.1.1) (expect kind.Semicolon and expect kind.Dollar and expect kind.Assign and read_comma most E)
+
+unfoldable pub read_fork : ℕ → Option Readers → Option (Reader Statement) → Reader Statement
+read_fork most E S =
+    giving (λ x. Fork (spot x.0) x.1.1.0 x.1.1.1.1.1.1.0 x.1.1.1.1.1.1.1.0 x.1.1.1.1.1.1.1.1.1)
+    (expect kind.Fork and expect kind.OpenParenthesis and read_comma most E and expect kind.Semicolon and expect kind.At and expect kind.Assign
+    and read_comma most E and optional (just kind.Semicolon) (read_rank most E) and expect kind.CloseParenthesis and nested S)
+
+abbrev pub read_plain : TokenKind → Reader Placed
+read_plain is = giving (λ x. x.0) (expect is and expect kind.Semicolon)
+
+unfoldable pub read_return : ℕ → Option Readers → Reader Statement
+read_return most E = giving (λ x. Return (spot x.0) x.1.0) (expect kind.Return and read_some most E and expect kind.Semicolon)
+
+unfoldable pub read_expression : ℕ → Option Readers → Reader Statement
+read_expression most E = giving (λ x. Expression x.0) (read_comma most E and expect kind.Semicolon)
+
+unfoldable pub read_statement : ℕ → Option Readers → Option (Reader Statement) → Reader Statement
+read_statement most E S =
+    by_next (just kind.OpenBrace) (giving Block (read_block most S))
+    (by_next (just kind.Semicolon) (giving (λ t. Empty) (expect kind.Semicolon))
+    (by_next begins_parameter (giving Declare (read_variables most E))
+    (by_next (just kind.If) (read_if most E S)
+    (by_next (just kind.While) (read_while most E S)
+    (by_next (just kind.Do) (read_do most E S)
+    (by_next (just kind.For) (read_for most E S)
+    (by_next (just kind.Start) (read_start most E S)
+    (by_next (just kind.Farm) (giving (λ x. Farm (spot x.0) x.1) (expect kind.Farm and nested S))
+    (by_next (just kind.Seq) (giving (λ x. Seq (spot x.0) x.1) (expect kind.Seq and nested S))
+    (by_next (just kind.Fork) (read_fork most E S)
+    (by_next (just kind.Barrier) (giving (λ t. Barrier (spot t)) (read_plain kind.Barrier))
+    (by_next (just kind.Break) (giving (λ t. Break (spot t)) (read_plain kind.Break))
+    (by_next (just kind.Continue) (giving (λ t. Continue (spot t)) (read_plain kind.Continue))
+    (by_next (just kind.Return) (read_return most E)
+    (read_expression most E)))))))))))))))
+
+-- statements with so many levels left below them
+abbrev pub statements_with : ℕ → ℕ → Option (Reader Statement)
+statements_with most zero = None
+statements_with most (suc left) = Some (read_statement most (inner most left) (statements_with most left))

@@ -1,0 +1,175 @@
+-- The grammar of declarations and statements. A stretch is given with the levels that are open at each of its tokens.
+use Rattle.std.specs.Prelude.{◌≡◌, ℕ, zero, suc, ◌+◌, List, [], ◌∷◌, ◌++◌, map, Option, Some, None, Bool, true, false, IsTrue, length}
+use Rattle.fk_syntax.specs.Tree.{Named, BaseType, Tree}
+use Rattle.fk_syntax.specs.Program.{DeclaredTree, Statement, Empty, Expression, Block, Declare, If, IfElse, While, DoWhile, For, Start, Farm, Seq, Fork, Barrier, Break, Continue, Return, Statements, statements_of}
+use Rattle.fk_lex.specs.declared.token.TokenKind.{TokenKind}
+use Rattle.fk_reading.specs.Languages.{Placed, Stretch, Language, nothing, token, telling, ◌then◌, ◌or◌, making, many, maybe, spot, name}
+use Rattle.fk_expr.specs.Kinds.{number_told}
+use Rattle.fk_expr.specs.Grammar.{base, Comma, Assignment}
+use Rattle.fk_stmt.specs.Kinds.{sharing_told}
+use Rattle.fk_lex.specs.declared.token.TokenKind.TheVariants as kind
+
+-- ---- declarations
+
+-- a list of one or more, with commas between
+abbrev pub separated : {A : Type 0} → ℕ → Language A → Language (List A)
+separated l L = making (λ x. x.0 ∷ x.1) (L then many (making (λ x. x.1) (token l kind.Comma then L)))
+
+-- length = "[" Number "]"
+abbrev pub length_of : ℕ → Language ℕ
+length_of l = making (λ x. x.1.0.1.0) (token l kind.OpenBracket then telling l number_told then token l kind.CloseBracket)
+
+-- what is declared, but for its sharing and the first words of its type: stars, name, length, initial value
+pub record Declarator : Type 0 where
+  pub stars : ℕ
+  pub name : Named
+  pub length : Option ℕ
+  pub first : Option Tree
+
+-- stars Name [ length ] [ "=" assign ]
+abbrev pub variable : ℕ → ℕ → Language Declarator
+variable bound l =
+    making (λ x. record { stars = length x.0; name = name x.1.0; length = x.1.1.0; first = x.1.1.1 })
+    (many (token l kind.Star) then token l kind.Word then maybe (length_of l) then maybe (making (λ x. x.1) (token l kind.Assign then Assignment l bound)))
+
+-- stars Name [ length ]
+abbrev pub member_name : ℕ → Language Declarator
+member_name l =
+    making (λ x. record { stars = length x.0; name = name x.1.0; length = x.1.1; first = None })
+    (many (token l kind.Star) then token l kind.Word then maybe (length_of l))
+
+abbrev pub declared : Bool → BaseType → Declarator → DeclaredTree
+declared shared base d =
+    record { shared = shared; kind = record { base = base; stars = d.stars }; name = d.name; length = d.length; first = d.first }
+
+-- without a word, a variable isn't shared
+abbrev pub is_shared : Option (Placed × Bool) → Bool
+is_shared None = false
+is_shared (Some x) = x.1
+
+-- [ "sh" | "pr" ] type variable { "," variable } ";"
+abbrev pub variables : ℕ → ℕ → Language (List DeclaredTree)
+variables bound l =
+    making (λ x. map (declared (is_shared x.0) x.1.0) x.1.1.0)
+    (maybe (telling l sharing_told) then base l then separated l (variable bound l) then token l kind.Semicolon)
+
+-- member = type stars Name [ length ] { "," stars Name [ length ] } ";"
+abbrev pub member : ℕ → Language (List DeclaredTree)
+member l = making (λ x. map (declared false x.0) x.1.0) (base l then separated l (member_name l) then token l kind.Semicolon)
+
+-- the members of declarations, one after the other
+abbrev pub joined_lists : {A : Type 0} → List (List A) → List A
+joined_lists [] = []
+joined_lists (list ∷ lists) = list ++ joined_lists lists
+
+-- param = [ "sh" | "pr" ] type stars Name
+abbrev pub parameter : ℕ → Language DeclaredTree
+parameter l =
+    making (λ x. record { shared = is_shared x.0; kind = record { base = x.1.0; stars = length x.1.1.0 }; name = name x.1.1.1; length = None; first = None })
+    (maybe (telling l sharing_told) then base l then many (token l kind.Star) then token l kind.Word)
+
+-- params = [ "void" ] | param { "," param }
+abbrev pub parameters : ℕ → Language (List DeclaredTree)
+parameters l = making (λ x. []) (maybe (token l kind.Void)) or separated l (parameter l)
+
+-- ---- statements, where those that stand in them are given by their level
+
+-- whether an `else` behind a statement belongs to none of its own: it doesn't end in an `if` without one
+abbrev pub is_closed : Statement → Bool
+is_closed (If at c chosen) = false
+is_closed (IfElse at c chosen otherwise) = is_closed otherwise
+is_closed (While at c inside) = is_closed inside
+is_closed (For at before c step inside) = is_closed inside
+is_closed (Start at count inside) = is_closed inside
+is_closed (Farm at inside) = is_closed inside
+is_closed (Seq at inside) = is_closed inside
+is_closed (Fork at parts part rank inside) = is_closed inside
+is_closed other = true
+
+-- those of a language that a test accepts
+abbrev pub accepted : {A : Type 0} → (A → Bool) → Language A → Language A
+accepted test L s a = L s a × IsTrue (test a)
+
+-- a stretch begins with a token of a kind
+abbrev pub Leads : TokenKind → Stretch → Type 0
+Leads kind [] = ⊥
+Leads kind (m ∷ s) = m.token.kind ≡ kind
+
+-- those that don't begin with a kind of token
+abbrev pub not_before : {A : Type 0} → TokenKind → Language A → Language A
+not_before kind L s a = L s a × (Leads kind s → ⊥)
+
+-- block = "{" { stmt } "}"
+abbrev pub block : (ℕ → Language Statement) → ℕ → Language Statements
+block S l = making (λ x. statements_of x.1.0) (token l kind.OpenBrace then many (S (l + 1)) then token l kind.CloseBrace)
+
+-- "(" comma ")", which opens no level
+abbrev pub condition : ℕ → ℕ → Language Tree
+condition bound l = making (λ x. x.1.0) (token l kind.OpenParenthesis then Comma l bound then token l kind.CloseParenthesis)
+
+-- "if" "(" comma ")" stmt [ "else" stmt ], where an `else` belongs to the nearest `if`
+abbrev pub if_statement : ℕ → (ℕ → Language Statement) → ℕ → Language Statement
+if_statement bound S l =
+    making (λ x. If (spot x.0) x.1.0 x.1.1) (token l kind.If then condition bound l then S (l + 1))
+    or making (λ x. IfElse (spot x.0) x.1.0 x.1.1.0 x.1.1.1.1)
+    (token l kind.If then condition bound l then accepted is_closed (S (l + 1)) then token l kind.Else then S (l + 1))
+
+-- "while" "(" comma ")" stmt
+abbrev pub while_statement : ℕ → (ℕ → Language Statement) → ℕ → Language Statement
+while_statement bound S l = making (λ x. While (spot x.0) x.1.0 x.1.1) (token l kind.While then condition bound l then S (l + 1))
+
+-- "do" stmt "while" "(" comma ")" ";"
+abbrev pub do_statement : ℕ → (ℕ → Language Statement) → ℕ → Language Statement
+do_statement bound S l =
+    making (λ x. DoWhile (spot x.0) x.1.0 x.1.1.1.0)
+    (token l kind.Do then S (l + 1) then token l kind.While then condition bound l then token l kind.Semicolon)
+
+-- "for" "(" [ comma ] ";" [ comma ] ";" [ comma ] ")" stmt
+abbrev pub for_statement : ℕ → (ℕ → Language Statement) → ℕ → Language Statement
+for_statement bound S l =
+    making (λ x. For (spot x.0) x.1.1.0 x.1.1.1.1.0 x.1.1.1.1.1.1.0 x.1.1.1.1.1.1.1.1)
+    (token l kind.For then token l kind.OpenParenthesis then maybe (Comma l bound) then token l kind.Semicolon
+    then maybe (Comma l bound) then token l kind.Semicolon then maybe (Comma l bound) then token l kind.CloseParenthesis then S (l + 1))
+
+-- "start" [ "(" comma ")" ] stmt: a parenthesis directly behind `start` opens its count
+abbrev pub start_statement : ℕ → (ℕ → Language Statement) → ℕ → Language Statement
+start_statement bound S l =
+    making (λ x. Start (spot x.0) (Some x.1.0) x.1.1) (token l kind.Start then condition bound l then S (l + 1))
+    or making (λ x. Start (spot x.0) None x.1) (token l kind.Start then not_before kind.OpenParenthesis (S (l + 1)))
+
+-- "fork" "(" comma ";" "@" "=" comma [ ";" "$" "=" comma ] ")" stmt
+abbrev pub fork_statement : ℕ → (ℕ → Language Statement) → ℕ → Language Statement
+fork_statement bound S l =
+    making (λ x. Fork (spot x.0) x.1.1.0 x.1.1.1.1.1.1.0 x.1.1.1.1.1.1.1.0 x.1.1.1.1.1.1.1.1.1)
+    (token l kind.Fork then token l kind.OpenParenthesis then Comma l bound then token l kind.Semicolon then token l kind.At then token l kind.Assign
+    then Comma l bound
+    then maybe (making (λ x. x.1.1.1) (token l kind.Semicolon then token l kind.Dollar then token l kind.Assign then Comma l bound))
+    then token l kind.CloseParenthesis then S (l + 1))
+
+-- a word and ";"
+abbrev pub plain : ℕ → TokenKind → Language Placed
+plain l is = making (λ x. x.0) (token l is then token l kind.Semicolon)
+
+abbrev pub statement : ℕ → (ℕ → Language Statement) → ℕ → Language Statement
+statement bound S l =
+    making Block (block S l)
+    or making (λ t. Empty) (token l kind.Semicolon)
+    or making Declare (variables bound l)
+    or if_statement bound S l
+    or while_statement bound S l
+    or do_statement bound S l
+    or for_statement bound S l
+    or start_statement bound S l
+    or making (λ x. Farm (spot x.0) x.1) (token l kind.Farm then S (l + 1))
+    or making (λ x. Seq (spot x.0) x.1) (token l kind.Seq then S (l + 1))
+    or fork_statement bound S l
+    or making (λ t. Barrier (spot t)) (plain l kind.Barrier)
+    or making (λ t. Break (spot t)) (plain l kind.Break)
+    or making (λ t. Continue (spot t)) (plain l kind.Continue)
+    or making (λ x. Return (spot x.0) x.1.0) (token l kind.Return then maybe (Comma l bound) then token l kind.Semicolon)
+    or making (λ x. Expression x.0) (Comma l bound then token l kind.Semicolon)
+
+-- statements that open at most so many levels
+abbrev pub statement_within : ℕ → ℕ → Language Statement
+statement_within zero l = nothing
+statement_within (suc bound) l = statement bound (statement_within bound) l
