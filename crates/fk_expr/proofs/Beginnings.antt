@@ -71,6 +71,7 @@ abbrev primaries : Kinds
 primaries = tells number_told ∪ (just kind.Word ∪ (just kind.At ∪ (just kind.Dollar ∪ (just kind.OpenParenthesis ∪ just kind.Puts))))
 
 pub shape_primary : {room : Type 0} (D : Deeper) (l : ℕ) → (room → Examples D (l + 1)) → Shape (primary D l) l begins_primary room
+unfolding just
 shape_primary D l x =
     shape_kinds begins_primary (within_by primaries begins_primary refl (λ v u. refl)) (within_by begins_primary primaries refl (λ v u. refl))
     (shape_or (shape_making _ (shape_telling l number_told (kind.Number 0 false) (0, false) refl))
@@ -100,6 +101,7 @@ abbrev prefixes : Kinds
 prefixes = tells prefix_told ∪ (just kind.OpenParenthesis ∪ (just kind.Sizeof ∪ begins_primary))
 
 pub shape_prefix : {room : Type 0} (D : Deeper) (l : ℕ) → (room → Examples D (l + 1)) → Shape (prefix D l) l begins_expression room
+unfolding just
 shape_prefix D l x =
     shape_kinds begins_expression (within_by prefixes begins_expression refl (λ v u. refl)) (within_by begins_expression prefixes refl (λ v u. refl))
     (shape_or (shape_making _ (shape_lower (omega arith) (shape_signed D l x)))

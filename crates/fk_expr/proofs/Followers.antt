@@ -50,6 +50,7 @@ operators_apart a b less k h i =
     omega arith
 
 suffix_apart : (n : ℕ) → Apart begins_suffix (tells (operator_at n))
+unfolding just
 suffix_apart n k h i =
     let v = operator_level n (operator_told k) i in
     apart_by begins_suffix (tells operator_told) refl (λ v u. refl) k h (let e : operator_told k ≡ Some (n, v.0) = v.1 in rw e refl)

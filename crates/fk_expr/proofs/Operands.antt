@@ -61,7 +61,7 @@ reads_joined D l inner w (suc n) h =
 -- a choice is read exactly
 pub reads_choice : {levels : ℕ} {room : Type 0} (D : Deeper) (l : ℕ) (inner : ℕ → Option Readers) → Inner levels D l inner room
     → IsRead levels (choice D l) (λ most. read_choice most (inner most)) l begins_expression goes_choice room
-unfolding read_choice
+unfolding read_choice just
 reads_choice D l inner w =
     reads_wider goes_choice
     (union_within (goes_joined 10) (goes_choice ∪ just kind.Question) goes_choice (within_left (goes_joined 10) (just kind.Question))
@@ -82,7 +82,7 @@ reads_choice D l inner w =
 -- an assignment is read exactly
 pub reads_assignment_at : {levels : ℕ} {room : Type 0} (D : Deeper) (l : ℕ) (inner : ℕ → Option Readers) → Inner levels D l inner room
     → IsRead levels (assignment D l) (λ most. read_assignment most (inner most)) l begins_expression goes_assignment room
-unfolding read_assignment
+unfolding read_assignment just
 reads_assignment_at D l inner w =
     reads_wider goes_assignment
     (union_within goes_choice (goes_assignment ∪ tells assignment_told) goes_assignment (within_left goes_choice (tells assignment_told))
@@ -98,7 +98,7 @@ reads_assignment_at D l inner w =
 -- an expression with commas is read exactly
 pub reads_comma_at : {levels : ℕ} {room : Type 0} (D : Deeper) (l : ℕ) (inner : ℕ → Option Readers) → Inner levels D l inner room
     → IsRead levels (comma D l) (λ most. read_comma most (inner most)) l begins_expression goes_comma room
-unfolding read_comma
+unfolding read_comma just
 reads_comma_at D l inner w =
     let apart : Apart goes_assignment (just kind.Comma) = apart_by goes_assignment (just kind.Comma) refl (λ v u. refl) in
     let operand = reads_assignment_at D l inner w in

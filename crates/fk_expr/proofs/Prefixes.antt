@@ -28,7 +28,7 @@ use Rattle.fk_reading.specs.Kinds.{just}
 -- a cast is read exactly
 pub reads_cast : {levels : ℕ} {room : Type 0} (D : Deeper) (l : ℕ) (inner : ℕ → Option Readers) → Inner levels D l inner room
     → IsRead levels (cast D l) (λ most. read_cast most (inner most)) (l + 1) (just kind.OpenParenthesis) begins_suffix room
-unfolding read_cast
+unfolding read_cast just
 reads_cast D l inner w =
     reads_opened _ w (shape_cast D l (examples_of w)) (λ v.
     (reads_making _ (reads_then (reads_token (l + 1) kind.OpenParenthesis v.shallow)
@@ -40,7 +40,7 @@ reads_cast D l inner w =
 -- `sizeof` is read exactly
 pub reads_sizeof : {levels : ℕ} {room : Type 0} (D : Deeper) (l : ℕ) (inner : ℕ → Option Readers) → Inner levels D l inner room
     → IsRead levels (sizeof l) (λ most. read_sizeof most (inner most)) l (just kind.Sizeof) none room
-unfolding read_sizeof
+unfolding read_sizeof just
 reads_sizeof D l inner w =
     reads_making _ (reads_then (reads_token l kind.Sizeof w.level)
     (reads_opened _ w (shape_in_parentheses (l + 1) (λ r. example_type_name (l + 1))) (λ v.
@@ -79,6 +79,7 @@ front_of L M first level fronts s x l = rw l.2 (fronts_before first level l.0 l.
 -- a parenthesis in which an expression stands
 clear_parenthesized : {room : Type 0} (D : Deeper) (l : ℕ) → DeeperShapes D (l + 1) room → (s : Stretch) (a : Tree) (rest : List Placed) → parenthesized D l s a
     → two (just kind.OpenParenthesis) begins_type (tokens_of s ++ rest) ≡ false
+unfolding just
 clear_parenthesized D l shapes s a rest m =
     let behind : Fronts begins_expression (l + 1) m.1.1 =
     front_of (D.comma (l + 1)) (token (l + 1) kind.CloseParenthesis) begins_expression (l + 1) shapes.comma.fronts m.1.1 m.0.1 m.1.4 in
@@ -92,6 +93,7 @@ clear_token l k g other s t rest m = rw (m.0, m.1, other) refl
 -- a primary expression isn't taken for a cast
 clear_primary : {room : Type 0} (D : Deeper) (l : ℕ) → DeeperShapes D (l + 1) room → (s : Stretch) (a : Tree) (rest : List Placed) → primary D l s a
     → two (just kind.OpenParenthesis) begins_type (tokens_of s ++ rest) ≡ false
+unfolding just
 clear_primary D l shapes s a rest (inl m) =
     clear_first (tells number_told) begins_type l (apart_by (just kind.OpenParenthesis) (tells number_told) refl (λ v u. refl)) s
     ((shape_telling {room = ⊥} l number_told (kind.Number 0 false) (0, false) refl).fronts s m.0 m.1) rest
@@ -108,6 +110,7 @@ clear_primary D l shapes s a rest (inr (inr (inr (inr (inr m))))) =
 -- a stretch that is no cast isn't taken for one
 clear_other : {room : Type 0} (D : Deeper) (l : ℕ) → DeeperShapes D (l + 1) room → (s : Stretch) (a : Tree) (rest : List Placed) → (sizeof l or postfix D l) s a
     → two (just kind.OpenParenthesis) begins_type (tokens_of s ++ rest) ≡ false
+unfolding just
 clear_other D l shapes s a rest (inl m) =
     clear_first (just kind.Sizeof) begins_type l (apart_by (just kind.OpenParenthesis) (just kind.Sizeof) refl (λ v u. refl)) s ((shape_sizeof {room = ⊥} l).fronts s a m) rest
 clear_other D l shapes s a rest (inr m) =
@@ -115,6 +118,7 @@ clear_other D l shapes s a rest (inr m) =
 
 -- a cast is
 chosen_cast : (D : Deeper) (l : ℕ) (s : Stretch) (a : Tree) (rest : List Placed) → cast D l s a → IsTrue (two (just kind.OpenParenthesis) begins_type (tokens_of s ++ rest))
+unfolding just
 chosen_cast D l s a rest m =
     let behind : Fronts begins_type (l + 1) m.1.1 =
     front_of (type_name (l + 1)) (token (l + 1) kind.CloseParenthesis then D.prefix (l + 1)) begins_type (l + 1) (shape_type_name {room = ⊥} (l + 1)).fronts m.1.1 m.0.1 m.1.4 in
@@ -140,6 +144,7 @@ starts_other D l x t h =
 -- what is no cast and has no sign is read exactly
 reads_other : {levels : ℕ} {room : Type 0} (D : Deeper) (l : ℕ) (inner : ℕ → Option Readers) → Inner levels D l inner room
     → IsRead levels (sizeof l or postfix D l) (λ most. by_next (just kind.Sizeof) (read_sizeof most (inner most)) (read_postfix most (inner most))) l (just kind.Sizeof ∪ begins_primary) begins_suffix room
+unfolding just
 reads_other D l inner w =
     reads_wider begins_suffix (λ k h. h)
     (reads_or (reads_sizeof D l inner w) (reads_postfix D l inner w) (apart_by (just kind.Sizeof) begins_primary refl (λ v u. refl)))
@@ -152,6 +157,7 @@ reads_unsigned : {levels : ℕ} {room : Type 0} (D : Deeper) (l : ℕ) (inner : 
     → IsRead levels (cast D l or (sizeof l or postfix D l))
     (λ most ts. either (cast_is_next ts) (read_cast most (inner most)) (by_next (just kind.Sizeof) (read_sizeof most (inner most)) (read_postfix most (inner most))) ts)
     l unsigned begins_suffix room
+unfolding just
 reads_unsigned D l inner w =
     let first = reads_cast D l inner w in
     let other = reads_other D l inner w in
@@ -171,7 +177,7 @@ prefixes = tells prefix_told ∪ unsigned
 -- a prefix expression is read exactly
 pub reads_prefix : {levels : ℕ} {room : Type 0} (D : Deeper) (l : ℕ) (inner : ℕ → Option Readers) → Inner levels D l inner room
     → IsRead levels (prefix D l) (λ most. read_prefix most (inner most)) l begins_expression begins_suffix room
-unfolding read_prefix
+unfolding read_prefix just
 reads_prefix D l inner w =
     reads_kinds begins_expression (within_by prefixes begins_expression refl (λ v u. refl)) (within_by begins_expression prefixes refl (λ v u. refl))
     (reads_wider begins_suffix (union_within begins_suffix begins_suffix begins_suffix (λ k h. h) (λ k h. h))

@@ -17,6 +17,7 @@ use Rattle.fk_reading.specs.Kinds.{just}
 -- an expression in parentheses is read exactly
 pub reads_parenthesized : {levels : ℕ} {room : Type 0} (D : Deeper) (l : ℕ) (inner : ℕ → Option Readers) → Inner levels D l inner room
     → IsRead levels (parenthesized D l) (λ most. read_parenthesized (inner most)) (l + 1) (just kind.OpenParenthesis) none room
+unfolding just
 reads_parenthesized D l inner w =
     reads_opened _ w (shape_parenthesized D l (examples_of w)) (λ v.
     (reads_making _ (reads_in_parentheses v.shallow v.comma (apart_by goes_comma (just kind.CloseParenthesis) refl (λ v u. refl)))).exact)
@@ -49,7 +50,7 @@ from_number = tells number_told ∪ from_name
 -- a primary expression is read exactly
 pub reads_primary : {levels : ℕ} {room : Type 0} (D : Deeper) (l : ℕ) (inner : ℕ → Option Readers) → Inner levels D l inner room
     → IsRead levels (primary D l) (λ most. read_primary (inner most)) l begins_primary none room
-unfolding read_primary
+unfolding read_primary just
 reads_primary D l inner w =
     reads_kinds begins_primary (within_by from_number begins_primary refl (λ v u. refl)) (within_by begins_primary from_number refl (λ v u. refl))
     (reads_wider none (λ k h. h)

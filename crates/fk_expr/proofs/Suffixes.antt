@@ -23,7 +23,7 @@ goes_arguments = (goes_assignment ∪ (goes_assignment ∪ just kind.Comma)) ∪
 
 reads_arguments : {levels : ℕ} {room : Type 0} (D : Deeper) (l : ℕ) (inner : ℕ → Option Readers) → (v : Below levels D l inner room)
     → IsLooselyRead levels (arguments D (l + 1)) (λ most. read_arguments most (v.readers most)) (l + 1) begins_expression goes_arguments room
-unfolding read_arguments
+unfolding read_arguments just
 reads_arguments D l inner v =
     loosely_making _ (reads_maybe (reads_then_loose v.assignment
     (reads_many (reads_making _ (reads_then (reads_token (l + 1) kind.Comma v.shallow) v.assignment (none_apart begins_expression)))
@@ -39,6 +39,7 @@ read_index inner = opened (just kind.OpenBracket) inner (λ R. giving (λ x. Ind
 
 reads_index : {levels : ℕ} {room : Type 0} (D : Deeper) (l : ℕ) (inner : ℕ → Option Readers) → Inner levels D l inner room
     → IsRead levels (index D l) (λ most. read_index (inner most)) (l + 1) (just kind.OpenBracket) none room
+unfolding just
 reads_index D l inner w =
     reads_opened _ w
     (shape_making _ (shape_then (shape_token (l + 1) kind.OpenBracket)
@@ -58,6 +59,7 @@ read_call most inner =
 
 reads_call : {levels : ℕ} {room : Type 0} (D : Deeper) (l : ℕ) (inner : ℕ → Option Readers) → Inner levels D l inner room
     → IsRead levels (call D l) (λ most. read_call most (inner most)) (l + 1) (just kind.OpenParenthesis) none room
+unfolding just
 reads_call D l inner w =
     reads_opened _ w (shape_making _ (shape_in_parentheses (l + 1) (λ r. example_empty (empty_making _ (empty_maybe _))))) (λ v.
     (reads_making _ (reads_then (reads_token (l + 1) kind.OpenParenthesis v.shallow)
@@ -89,7 +91,7 @@ from_bracket = just kind.OpenBracket ∪ from_parenthesis
 -- a suffix is read exactly
 pub reads_suffix : {levels : ℕ} {room : Type 0} (D : Deeper) (l : ℕ) (inner : ℕ → Option Readers) → Inner levels D l inner room
     → IsRead levels (suffix D l) (λ most. read_suffix most (inner most)) l begins_suffix none room
-unfolding read_suffix
+unfolding read_suffix just
 reads_suffix D l inner w =
     reads_kinds begins_suffix (within_by from_bracket begins_suffix refl (λ v u. refl)) (within_by begins_suffix from_bracket refl (λ v u. refl))
     (reads_wider none (λ k h. h)

@@ -94,48 +94,46 @@ pub fn operator_sign(kind: TokenKind, looseness: u32) -> Option<Sign>
 }
 
 /// Whether a type begins with a token of this kind.
+#[tactic(auto, unfolding(fk_reading::specs::Kinds::just))]
 pub fn begins_type(kind: TokenKind) -> bool
     ensures { result ≡ begins_type kind }
 {
-    matches!(
-        kind,
-        TokenKind::Int | TokenKind::Unsigned | TokenKind::Void | TokenKind::Struct
-    )
+    TokenKind::Int == kind
+        || TokenKind::Unsigned == kind
+        || TokenKind::Void == kind
+        || TokenKind::Struct == kind
 }
 
 /// Whether a primary expression does.
+#[tactic(auto, unfolding(fk_reading::specs::Kinds::just))]
 pub fn begins_primary(kind: TokenKind) -> bool
     ensures { result ≡ begins_primary kind }
 {
-    matches!(
-        kind,
-        TokenKind::Number(_, _)
-            | TokenKind::Word
-            | TokenKind::At
-            | TokenKind::Dollar
-            | TokenKind::OpenParenthesis
-            | TokenKind::Puts
-    )
+    number(kind).is_some()
+        || TokenKind::Word == kind
+        || TokenKind::At == kind
+        || TokenKind::Dollar == kind
+        || TokenKind::OpenParenthesis == kind
+        || TokenKind::Puts == kind
 }
 
 /// Whether an expression does.
+#[tactic(auto, unfolding(fk_reading::specs::Kinds::just))]
 pub fn begins_expression(kind: TokenKind) -> bool
     ensures { result ≡ begins_expression kind }
 {
-    prefix_sign(kind).is_some() || kind == TokenKind::Sizeof || begins_primary(kind)
+    prefix_sign(kind).is_some() || TokenKind::Sizeof == kind || begins_primary(kind)
 }
 
 /// Whether a suffix does.
+#[tactic(auto, unfolding(fk_reading::specs::Kinds::just))]
 pub fn begins_suffix(kind: TokenKind) -> bool
     ensures { result ≡ begins_suffix kind }
 {
-    matches!(
-        kind,
-        TokenKind::OpenBracket
-            | TokenKind::OpenParenthesis
-            | TokenKind::Dot
-            | TokenKind::Arrow
-            | TokenKind::Increment
-            | TokenKind::Decrement
-    )
+    TokenKind::OpenBracket == kind
+        || TokenKind::OpenParenthesis == kind
+        || TokenKind::Dot == kind
+        || TokenKind::Arrow == kind
+        || TokenKind::Increment == kind
+        || TokenKind::Decrement == kind
 }

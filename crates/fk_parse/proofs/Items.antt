@@ -49,6 +49,7 @@ read_members most =
 
 -- they are read exactly
 reads_members : {levels : ℕ} {room : Type 0} → IsRead levels members read_members 0 (just kind.OpenBrace) none room
+unfolding just
 reads_members =
     reads_then (reads_token 0 kind.OpenBrace (omega arith))
     (reads_then (reads_member 0 (omega arith))
@@ -101,11 +102,13 @@ not_next is apart (t ∷ ts) h = not_struct t ts (apart-false (just kind.Struct)
 
 -- of a struct they tell that it comes
 chooses : (s : Stretch) (a : ItemTree) (rest : List Placed) → struct_item s a → IsTrue (struct_is_next (tokens_of s ++ rest))
+unfolding just
 chooses s a rest (x, m, e) =
     rw (m.2, m.3.0, m.4.2, m.4.3.0, m.4.4.2, m.4.4.3.0, m.3.1, m.4.3.1, m.4.4.3.1) refl
 
 -- the first words of a type, where no brace comes behind them
 base_three : (s : Stretch) (b : BaseType) (rest : List Placed) → base 0 s b → next_is (just kind.OpenBrace) rest ≡ false → struct_is_next (tokens_of s ++ rest) ≡ false
+unfolding just
 base_three s b rest (inl x) ends = rw x.1.0 (not_struct x.0 rest (other_kind (just kind.Struct) kind.Int x.0.kind x.1.1 refl))
 base_three s b rest (inr (inl x)) ends =
     rw (x.1.2, x.1.3.0) (not_struct x.0.0 (tokens_of x.1.1 ++ rest) (other_kind (just kind.Struct) kind.Unsigned x.0.0.kind x.1.3.1 refl))
@@ -114,17 +117,20 @@ base_three s b rest (inr (inr (inr x))) ends = rw (x.1.2, x.1.3.0, x.1.4.0) (not
 
 -- of an item without a word before it they tell no struct
 bare_three : (left : ℕ) (bound : ℕ) (s : Stretch) (a : ItemTree) (rest : List Placed) → bare bound s a → struct_is_next (tokens_of s ++ rest) ≡ false
+unfolding just
 bare_three left bound s a rest (x, m, e) =
     let ends = follows_shape (just kind.OpenBrace) none (reads_named (reads_tail left bound)).shape (apart_by (just kind.OpenBrace) starred refl (λ v u. refl)) m.1 x.1 rest m.4 (next_none rest) in
     rw (m.2, tokens_regroup m.0 m.1 rest) (base_three m.0 x.0 (tokens_of m.1 ++ rest) m.3 ends)
 
 -- nor of a function with one
 moded_three : (bound : ℕ) (s : Stretch) (a : ItemTree) (rest : List Placed) → moded bound s a → struct_is_next (tokens_of s ++ rest) ≡ false
+unfolding just
 moded_three bound s a rest (x, m, e) =
     rw (m.2, m.3.0) (not_struct x.0.0 (tokens_of m.1 ++ rest) (apart-false (just kind.Struct) (tells mode_told) (apart_by (just kind.Struct) (tells mode_told) refl (λ v u. refl)) x.0.0.kind (rw m.3.1 refl)))
 
 -- of the others they tell none
 clears : (left : ℕ) (bound : ℕ) (s : Stretch) (a : ItemTree) (rest : List Placed) → words bound s a → struct_is_next (tokens_of s ++ rest) ≡ false
+unfolding just
 clears left bound s a rest n = elim (words_cases bound s a n) [
   | inl w ↦ not_next (tells sharing_told) (apart_by (just kind.Struct) (tells sharing_told) refl (λ v u. refl)) (tokens_of s ++ rest) (w.1 rest)
   | inr (inl m) ↦ moded_three bound s a rest m
@@ -158,6 +164,7 @@ read_from_name left most = giving (λ x. item_by x.0 x.1) (expect kind.Word and 
 reads_from_name : (left : ℕ) (bound : ℕ)
     → IsRead (suc (suc left)) (making (λ x. item_by x.0 x.1) (token 0 kind.Word then (making {B = Members ⊎ Behind} (λ k. inl k) members or making (λ w. inr w) (named (tail bound)))))
     (read_from_name left) 0 (just kind.Word) none (has_room left bound)
+unfolding just
 reads_from_name left bound =
     reads_making _ (reads_then (reads_token 0 kind.Word (omega arith))
     (reads_wider none (λ k h. h)
@@ -195,6 +202,7 @@ no_other is apart t h = apart-false is (just kind.Struct) (λ k i j. apart k j i
 -- so is what begins with such a type
 base_then : {A C : Type 0} (K : Reader A) (f : BaseType × A → C) (t : Placed) (ts : List Placed) → IsTrue (just kind.Struct t.kind)
     → giving f (read_base and K) (t ∷ ts) ≡ name_then K (λ n k. f (Struct (name n), k)) ts
+unfolding just
 base_then {A} {C} K f t ts h =
     rw (
       no_other (just kind.Int) (apart_by (just kind.Struct) (just kind.Int) refl (λ v u. refl)) t h,
@@ -229,7 +237,7 @@ struct_read most t ts h = struct_then (read_members most) (λ x. StructItem (nam
 -- an item that is no struct
 words_read : (left : ℕ) (most : ℕ) (t : Placed) (ts : List Placed) → IsTrue (just kind.Struct t.kind)
     → read_words left most (t ∷ ts) ≡ name_then (read_behind left most) (λ n w. item_by n (inr w)) ts
-unfolding read_bare
+unfolding read_bare just
 words_read left most t ts h =
     by_next-no (tells sharing_told) (giving VariablesItem (read_variables most (inner most (suc (suc left))))) (read_typed left most) (t ∷ ts) (no_other (tells sharing_told) (apart_by (just kind.Struct) (tells sharing_told) refl (λ v u. refl)) t h)
     ∙ by_next-no (tells mode_told) (read_moded most (body_within left most)) (read_bare most (inner most (suc (suc left))) (body_within left most)) (t ∷ ts) (no_other (tells mode_told) (apart_by (just kind.Struct) (tells mode_told) refl (λ v u. refl)) t h)
@@ -300,7 +308,7 @@ begins_any = just kind.Struct ∪ begins_item
 
 -- an item is read exactly
 pub reads_item : (left : ℕ) (bound : ℕ) → IsRead (suc (suc left)) (item bound) (λ most. read_item most (inner most (suc (suc left))) (body_within left most)) 0 begins_item none (has_room left bound)
-unfolding read_item read_any
+unfolding read_item read_any just
 reads_item left bound =
     let v = reads_struct in
     let w = reads_words left bound in

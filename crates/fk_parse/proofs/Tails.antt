@@ -66,6 +66,7 @@ begins_body = just kind.OpenBrace ∪ just kind.Semicolon
 
 -- a body is read exactly
 reads_body : (left : ℕ) (bound : ℕ) → IsRead (suc (suc left)) (body bound) (λ most. by_next (just kind.OpenBrace) (giving Some (body_within left most)) (giving (λ t. None) (expect kind.Semicolon))) 0 begins_body none (has_room left bound)
+unfolding just
 reads_body left bound =
     reads_same (body bound) (body_there bound) (body_back bound)
     (reads_wider none (λ k h. h)
@@ -107,7 +108,7 @@ begins_variables_tail = (just kind.OpenBracket ∪ just kind.Assign) ∪ begins_
 
 -- they are read exactly
 pub reads_variables_tail : (left : ℕ) (bound : ℕ) → IsRead (suc (suc left)) (variables_tail bound) (λ most. read_variables_tail most (inner most (suc (suc left)))) 0 begins_variables_tail none (has_room left bound)
-unfolding read_variables_tail
+unfolding read_variables_tail just
 reads_variables_tail left bound =
     reads_making _ (reads_loose_then (reads_rest (outer left bound) (omega arith))
     (reads_loose_then (reads_many (reads_making _ (reads_then (reads_token 0 kind.Comma (omega arith)) (reads_variable (outer left bound) (omega arith)) (none_apart starred)))
@@ -128,7 +129,7 @@ begins_tail = just kind.OpenParenthesis ∪ begins_variables_tail
 
 -- a parenthesis tells them apart
 pub reads_tail : (left : ℕ) (bound : ℕ) → IsRead (suc (suc left)) (tail bound) (λ most. read_tail most (inner most (suc (suc left))) (body_within left most)) 0 begins_tail none (has_room left bound)
-unfolding read_tail
+unfolding read_tail just
 reads_tail left bound =
     reads_wider none (λ k h. h)
     (reads_or (reads_making _ (reads_function_tail left bound)) (reads_making _ (reads_variables_tail left bound)) (apart_by (just kind.OpenParenthesis) begins_variables_tail refl (λ v u. refl)))
@@ -140,6 +141,7 @@ named L = many (token 0 kind.Star) then token 0 kind.Word then L
 -- they are read exactly, if what stands behind the name is
 pub reads_named : {levels : ℕ} {room : Type 0} {A : Type 0} {L : Language A} {P : ℕ → Reader A} {level : ℕ} {first f : Kinds} → IsRead levels L P level first f room
     → IsRead levels (named L) (λ most. repeated most (just kind.Star) (expect kind.Star) and expect kind.Word and P most) 0 starred f room
+unfolding just
 reads_named {first = first} w =
     reads_loose_then (reads_stars 0 (omega arith)) (reads_then (reads_token 0 kind.Word (omega arith)) w (none_apart first))
     (apart_by (none ∪ just kind.Star) (just kind.Word) refl (λ v u. refl))
@@ -152,7 +154,7 @@ bare bound = making (λ x. made_of x.0 (length x.1.0) (name x.1.1.0) x.1.1.1) (b
 
 -- an item without a word before its type is read exactly
 pub reads_bare : (left : ℕ) (bound : ℕ) → IsRead (suc (suc left)) (bare bound) (λ most. read_bare most (inner most (suc (suc left))) (body_within left most)) 0 begins_type none (has_room left bound)
-unfolding read_bare
+unfolding read_bare just
 reads_bare left bound = reads_making _ (reads_then (reads_base 0 (omega arith)) (reads_named (reads_tail left bound)) (apart_by (just kind.Int) starred refl (λ v u. refl)))
 
 -- a function with its mode
@@ -169,7 +171,7 @@ moded bound =
 
 -- a function with a word before its type is read exactly
 pub reads_moded : (left : ℕ) (bound : ℕ) → IsRead (suc (suc left)) (moded bound) (λ most. read_moded most (body_within left most)) 0 (tells mode_told) none (has_room left bound)
-unfolding read_moded
+unfolding read_moded just
 reads_moded left bound =
     reads_making _ (reads_then (reads_telling 0 mode_told kind.Sync mode.Sync refl (omega arith))
     (reads_then (reads_base 0 (omega arith)) (reads_named (reads_function_tail left bound)) (apart_by (just kind.Int) starred refl (λ v u. refl)))

@@ -25,6 +25,7 @@ use Rattle.fk_stmt.proofs.Declarations.{rest_of, reads_variables}
 use Rattle.fk_stmt.proofs.Parameters.{next_none}
 use Rattle.fk_parse.proofs.Choices.{TellsApart, exact_choice}
 use Rattle.fk_parse.proofs.Tails.{has_room, body_within, outer, others_of, named, bare, reads_bare, moded, reads_moded, tail}
+use Rattle.fk_reading.specs.Kinds.{just}
 use Rattle.fk_lex.specs.declared.token.TokenKind.TheVariants as kind
 
 -- ---- variables, by what stands before their commas and by what stands behind the first name
@@ -238,6 +239,7 @@ read_words left most = by_next (tells sharing_told) (giving VariablesItem (read_
 
 -- the word tells them apart
 reads_typed : (left : ℕ) (bound : ℕ) → IsRead (suc (suc left)) (moded bound or bare bound) (read_typed left) 0 begins_typed none (has_room left bound)
+unfolding just
 reads_typed left bound =
     reads_wider none (λ k h. h) (reads_or (reads_moded left bound) (reads_bare left bound) (apart_by (tells mode_told) begins_type refl (λ v u. refl)))
 
@@ -252,6 +254,7 @@ typed_there bound s a (inr m) = bare_there bound s a m
 
 -- a word of sharing tells the variables apart
 words_tell : (left : ℕ) (bound : ℕ) → TellsApart (tells sharing_told) (making VariablesItem (variables bound 0)) (moded bound or bare bound) (words bound)
+unfolding just
 words_tell left bound s a n = elim (words_cases bound s a n) [
   | inl w ↦ inl w
   | inr m ↦ inr (m, λ rest. follows_shape (tells sharing_told) none (reads_typed left bound).shape (apart_by (tells sharing_told) begins_typed refl (λ v u. refl)) s a rest m (next_none rest))
@@ -268,6 +271,7 @@ words_there bound s a (inr m) = typed_there bound s a m
 
 -- items other than structs are read exactly
 pub reads_words : (left : ℕ) (bound : ℕ) → IsRead (suc (suc left)) (words bound) (read_words left) 0 begins_item none (has_room left bound)
+unfolding just
 reads_words left bound =
     let v = reads_variables_item left bound in
     let w = reads_typed left bound in

@@ -10,6 +10,7 @@ use Rattle.std.specs.contracts.prelude.U32PartialEq.TheImpl as U32
 use Rattle.std.specs.contracts.prelude.BoolPartialEq.TheImpl as B
 use Rattle.fk_lex.specs.declared.token.TokenKind.{TokenKind}
 use Rattle.fk_lex.specs.contracts.token.TokenKind.{enum}
+use Rattle.fk_lex.specs.contracts.token.TokenKindPartialEq.TheImpl.{eq-value}
 use Rattle.fk_reading.specs.Kinds.{just}
 
 -- of the values of each variant, those that are found equal are the same
@@ -61,10 +62,16 @@ others (word ∷ number ∷ Fss) = Fss
 others Fss = []
 
 same : (k t : TokenKind) → IsTrue (just k t) → k ≡ t
+unfolding just
 same k t e =
     values_one enum k t
     (by_tells enum.parts (λ x y. true, (same_number, always (others enum.parts))) (λ x y e. refl, (number_tells, bare_tells (others enum.parts) tt))
     (enum.as_values k) (enum.as_values t) e)
+
+-- what `==` says of two kinds
+pub just_is : (k t : TokenKind) → eq-value.it k t ≡ just k t
+unfolding just
+just_is k t = refl
 
 -- what is found equal is the same kind
 pub same_just : (k t : TokenKind) → IsTrue (just k t) → t ≡ k
@@ -72,6 +79,7 @@ same_just k t e = sym (same k t e)
 
 -- and the same kind is found equal
 pub just_same : (k t : TokenKind) → t ≡ k → IsTrue (just k t)
+unfolding just
 just_same k t h = search rules
 
 -- what isn't the same kind is found different

@@ -4,5 +4,5 @@ use Rattle.fk_lex.specs.declared.token.TokenKind.{TokenKind}
 use Rattle.fk_lex.specs.contracts.token.TokenKindPartialEq.TheImpl.{eq-value}
 
 -- this kind and no other: the comparison that `==` makes
-abbrev pub just : TokenKind → TokenKind → Bool
+unfoldable pub just : TokenKind → TokenKind → Bool
 just kind other = eq-value.it kind other

@@ -117,6 +117,7 @@ impl<'t, 'a> Cursor<'t, 'a> {
     }
 
     /// Whether tokens of these kinds come next, one after the other.
+    #[tactic(auto, unfolding(crate::specs::Kinds::just))]
     pub fn pair_is(&self, first: TokenKind, second: TokenKind) -> bool
         ensures { result ≡ pair_is first second self.now }
     {
@@ -127,6 +128,7 @@ impl<'t, 'a> Cursor<'t, 'a> {
     }
 
     /// Whether tokens of these kinds come next, one after the other.
+    #[tactic(auto, unfolding(crate::specs::Kinds::just))]
     pub fn triple_is(&self, first: TokenKind, second: TokenKind, third: TokenKind) -> bool
         ensures { result ≡ triple_is first second third self.now }
     {

@@ -44,6 +44,7 @@ pub record Expressions (levels : ℕ) (level left bound : ℕ) (room : Type 0) :
 
 -- they are, where the bound has room for the levels that are left
 pub expressions : {levels : ℕ} {room : Type 0} (left l bound : ℕ) → left + l ≡ levels → (room → left + 2 ≤ bound) → Expressions levels l left bound room
+unfolding just
 expressions left l bound all enough =
     let next = inner_at left l bound all enough in
     record {
@@ -96,7 +97,7 @@ after_rest = (none ∪ just kind.OpenBracket) ∪ (after_assignment ∪ just kin
 -- it is read exactly
 pub reads_rest : {levels : ℕ} {room : Type 0} {l left bound : ℕ} → Expressions levels l left bound room → l ≤ levels
     → IsLooselyRead levels (rest_of bound l) (λ most. read_rest most (inner most left)) l (just kind.OpenBracket ∪ just kind.Assign) after_rest room
-unfolding read_rest
+unfolding read_rest just
 reads_rest {l = l} E h =
     loosely_then (reads_maybe (reads_length l h))
     (reads_maybe (reads_making _ (reads_then (reads_token l kind.Assign h) E.assignment (none_apart begins_expression))))
@@ -105,7 +106,7 @@ reads_rest {l = l} E h =
 -- a variable is read exactly
 pub reads_variable : {levels : ℕ} {room : Type 0} {l left bound : ℕ} → Expressions levels l left bound room → l ≤ levels
     → IsRead levels (variable bound l) (λ most. read_variable most (inner most left)) l starred after_variable room
-unfolding read_variable read_rest
+unfolding read_variable read_rest just
 reads_variable {l = l} E h =
     reads_wider after_variable (within_by (none ∪ after_rest) after_variable refl (λ v u. refl))
     (reads_making _ (reads_loose_then (reads_stars l h)
@@ -119,7 +120,7 @@ declaring = tells sharing_told ∪ begins_type
 -- variables are read exactly
 pub reads_variables : {levels : ℕ} {room : Type 0} {l left bound : ℕ} → Expressions levels l left bound room → l ≤ levels
     → IsRead levels (variables bound l) (λ most. read_variables most (inner most left)) l begins_parameter none room
-unfolding read_variables
+unfolding read_variables just
 reads_variables {l = l} E h =
     reads_kinds begins_parameter (within_by declaring begins_parameter refl (λ v u. refl)) (within_by begins_parameter declaring refl (λ v u. refl))
     (reads_making _ (reads_loose_then (reads_maybe (reads_telling l sharing_told kind.Sh true refl h))
@@ -134,7 +135,7 @@ reads_variables {l = l} E h =
 
 -- a member's name is read exactly
 pub reads_member_name : {levels : ℕ} {room : Type 0} (l : ℕ) → l ≤ levels → IsRead levels (member_name l) (λ most. read_member_name most) l starred (just kind.OpenBracket) room
-unfolding read_member_name
+unfolding read_member_name just
 reads_member_name l h =
     reads_wider (just kind.OpenBracket) (within_by (none ∪ (none ∪ just kind.OpenBracket)) (just kind.OpenBracket) refl (λ v u. refl))
     (reads_making _ (reads_loose_then (reads_stars l h)
@@ -143,7 +144,7 @@ reads_member_name l h =
 
 -- members are read exactly
 pub reads_member : {levels : ℕ} {room : Type 0} (l : ℕ) → l ≤ levels → IsRead levels (member l) (λ most. read_member most) l begins_type none room
-unfolding read_member
+unfolding read_member just
 reads_member l h =
     reads_making _ (reads_then (reads_base l h)
     (reads_then (reads_separated h (reads_member_name l h) (apart_by (just kind.OpenBracket) (just kind.Comma) refl (λ v u. refl)))
@@ -155,7 +156,7 @@ reads_member l h =
 
 -- a parameter is read exactly
 pub reads_parameter : {levels : ℕ} {room : Type 0} (l : ℕ) → l ≤ levels → IsRead levels (parameter l) (λ most. read_parameter most) l begins_parameter none room
-unfolding read_parameter
+unfolding read_parameter just
 reads_parameter l h =
     reads_kinds begins_parameter (within_by declaring begins_parameter refl (λ v u. refl)) (within_by begins_parameter declaring refl (λ v u. refl))
     (reads_making _ (reads_loose_then (reads_maybe (reads_telling l sharing_told kind.Sh true refl h))

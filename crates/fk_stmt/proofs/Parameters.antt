@@ -53,6 +53,7 @@ and-false false = refl
 -- the first words of a type, where no parenthesis is closed behind them
 base_two : (l : ℕ) (s : Stretch) (b : BaseType) (rest : List Placed) → base l s b → next_is (just kind.CloseParenthesis) rest ≡ false
     → two (just kind.Void) (just kind.CloseParenthesis) (tokens_of s ++ rest) ≡ false
+unfolding just
 base_two l s b rest (inl x) ends = rw (x.1.0, other_kind (just kind.Void) kind.Int x.0.kind x.1.1 refl) refl
 base_two l s b rest (inr (inl x)) ends =
     rw (x.1.2, x.1.3.0, other_kind (just kind.Void) kind.Unsigned x.0.0.kind x.1.3.1 refl) refl
@@ -66,6 +67,7 @@ starred_name l = many (token l kind.Star) then token l kind.Word
 
 -- they begin with a star or the name
 shape_starred : (levels : ℕ) (l : ℕ) → l ≤ levels → Shape (starred_name l) l starred (Unit {0})
+unfolding just
 shape_starred levels l h = (reads_loose_then (reads_stars l h) (reads_token l kind.Word h) (apart_by (none ∪ just kind.Star) (just kind.Word) refl (λ v u. refl))).shape
 
 -- no kind comes next
@@ -76,6 +78,7 @@ next_none (t ∷ ts) = refl
 -- nor is what begins with the first words of a type, its stars and a name
 typed_two : (levels : ℕ) (l : ℕ) → l ≤ levels → (s : Stretch) (x : BaseType × (List Placed × Placed)) (rest : List Placed) → (base l then starred_name l) s x
     → two (just kind.Void) (just kind.CloseParenthesis) (tokens_of s ++ rest) ≡ false
+unfolding just
 typed_two levels l h s x rest m =
     let ends = follows_shape (just kind.CloseParenthesis) none (shape_starred levels l h) (apart_by (just kind.CloseParenthesis) starred refl (λ v u. refl)) m.1 x.1 rest m.4 (next_none rest) in
     rw (m.2, tokens_regroup m.0 m.1 rest) (base_two l m.0 x.0 (tokens_of m.1 ++ rest) m.3 ends)
@@ -83,6 +86,7 @@ typed_two levels l h s x rest m =
 -- nor is a parameter
 parameter_two : (levels : ℕ) (l : ℕ) → l ≤ levels → (s : Stretch) (d : DeclaredTree) (rest : List Placed) → parameter l s d
     → two (just kind.Void) (just kind.CloseParenthesis) (tokens_of s ++ rest) ≡ false
+unfolding just
 parameter_two levels l h s d rest p = by p.0.0 p.1.0 p.1.1 p.1.2 p.1.3 p.1.4
   where
     by : (o : Option (Placed × Bool)) (front back : Stretch) → s ≡ front ++ back → maybe (telling l sharing_told) front o → (base l then starred_name l) back p.0.1
@@ -166,6 +170,7 @@ begins_parameters = begins_parameter ∪ just kind.CloseParenthesis
 reads_others : {levels : ℕ} {room : Type 0} {B : Type 0} {M : Language B} {Q : ℕ → Reader B} {l : ℕ} {g : Kinds} → l ≤ levels → IsRead levels M Q l (just kind.CloseParenthesis) g room
     → IsRead levels (separated l (parameter l) then M or empty [] then M)
     (λ most. by_next begins_parameter (read_separated most (read_parameter most) and Q most) (stay [] and Q most)) l begins_parameters g room
+unfolding just
 reads_others {l = l} {g = g} h w =
     reads_kinds begins_parameters (within_by (begins_parameter ∪ (none ∪ just kind.CloseParenthesis)) begins_parameters refl (λ v u. refl))
     (within_by begins_parameters (begins_parameter ∪ (none ∪ just kind.CloseParenthesis)) refl (λ v u. refl))
@@ -177,6 +182,7 @@ reads_others {l = l} {g = g} h w =
 -- the two tokens tell the first from the others
 chooses : {room : Type 0} {B : Type 0} {M : Language B} {l : ℕ} → Shape M l (just kind.CloseParenthesis) room
     → (s : Stretch) (x : List DeclaredTree × B) (rest : List Placed) → (voids l then M) s x → IsTrue (two (just kind.Void) (just kind.CloseParenthesis) (tokens_of s ++ rest))
+unfolding just
 chooses shape s x rest m =
     let back : Fronts (just kind.CloseParenthesis) _ m.1 = shape.fronts m.1 x.1 m.4 in
     rw (m.2, m.3.1.0, m.3.1.1, back.is, back.kind) refl
@@ -185,6 +191,7 @@ chooses shape s x rest m =
 clears : (levels : ℕ) {room : Type 0} {B : Type 0} {M : Language B} {l : ℕ} → l ≤ levels → Shape M l (just kind.CloseParenthesis) room
     → (s : Stretch) (x : List DeclaredTree × B) (rest : List Placed) → (separated l (parameter l) then M or empty [] then M) s x
     → two (just kind.Void) (just kind.CloseParenthesis) (tokens_of s ++ rest) ≡ false
+unfolding just
 clears levels {l = l} h shape s x rest (inl m) = rw (m.2, tokens_regroup m.0 m.1 rest) (separated_two levels l h m.0 x.0 (tokens_of m.1 ++ rest) m.3)
 clears levels h shape s x rest (inr m) =
     rw (m.2, m.3.0) (no_void m.1 rest (shape.fronts m.1 x.1 m.4) (apart_by (just kind.Void) (just kind.CloseParenthesis) refl (λ v u. refl)))
@@ -199,7 +206,7 @@ parameters_and false V P N Q ts = either_and (next_is begins_parameter ts) P N Q
 -- parameters are read exactly, up to what begins with a closing parenthesis
 pub reads_parameters : {levels : ℕ} {room : Type 0} {B : Type 0} {M : Language B} {Q : ℕ → Reader B} {l : ℕ} {g : Kinds} → l ≤ levels → IsRead levels M Q l (just kind.CloseParenthesis) g room
     → IsRead levels (parameters l then M) (λ most. read_parameters most and Q most) l begins_parameters g room
-unfolding read_parameters
+unfolding read_parameters just
 reads_parameters {levels} {M = M} {Q = Q} {l = l} {g = g} h w =
     let v = reads_voids h w in
     let q = reads_others h w in

@@ -40,6 +40,7 @@ bases = just kind.Int ∪ (just kind.Unsigned ∪ (just kind.Void ∪ just kind.
 
 -- what the first words of a type begin with
 shape_base : {room : Type 0} (l : ℕ) → Shape (base l) l begins_type room
+unfolding just
 shape_base l =
     shape_kinds begins_type (within_by bases begins_type refl (λ v u. refl)) (within_by begins_type bases refl (λ v u. refl))
     (shape_or (shape_making _ (shape_token l kind.Int))
@@ -59,6 +60,7 @@ declaring = tells sharing_told ∪ begins_type
 
 -- what declarations begin with
 shape_variables : {room : Type 0} (bound l : ℕ) → Shape (variables bound l) l begins_parameter room
+unfolding just
 shape_variables bound l =
     shape_kinds begins_parameter (within_by declaring begins_parameter refl (λ v u. refl)) (within_by begins_parameter declaring refl (λ v u. refl))
     (shape_making _ (shape_loose_then (loose_maybe (shape_telling l sharing_told kind.Sh _ refl))
@@ -153,6 +155,7 @@ from_block = just kind.OpenBrace ∪ (just kind.Semicolon ∪ (begins_parameter 
 -- a statement begins with one of these kinds, where those that stand in it have an example
 pub shape_statement : {room : Type 0} (bound l : ℕ) (S : ℕ → Language Statement) → (room → 1 ≤ bound) → (room → Example (S (l + 1)))
     → Shape (statement bound S l) l begins_statement room
+unfolding just
 shape_statement bound l S enough x =
     shape_kinds begins_statement (within_by from_block begins_statement refl (λ v u. refl)) (within_by begins_statement from_block refl (λ v u. refl))
     (shape_or (shape_making Block (shape_block l S))

@@ -42,14 +42,14 @@ reads_word {l = l} w k = reads_token l k w.shallow
 -- a condition is read exactly
 pub reads_condition : {levels : ℕ} {room : Type 0} {l left bound : ℕ} → Expressions levels l left bound room → l ≤ levels
     → IsRead levels (condition bound l) (λ most. read_condition most (inner most left)) l (just kind.OpenParenthesis) none room
-unfolding read_condition
+unfolding read_condition just
 reads_condition E h = reads_making _ (reads_in_parentheses h E.comma (apart_by after_comma (just kind.CloseParenthesis) refl (λ v u. refl)))
 
 -- a block is read exactly, if its statements are
 pub reads_block : {levels : ℕ} {room : Type 0} (S : ℕ → Language Statement) (P : ℕ → Option (Reader Statement)) {l : ℕ} → l ≤ levels
     → IsClosing levels (S (l + 1)) is_closed (λ most. nested (P most)) (l + 1) begins_statement room
     → IsRead levels (block S l) (λ most. read_block most (P most)) l (just kind.OpenBrace) none room
-unfolding read_block
+unfolding read_block just
 reads_block S P {l} h w =
     reads_making _ (reads_then (reads_token l kind.OpenBrace h)
     (reads_loose_then (reads_many (reads_lower (omega arith) (read_of w)) (apart_by (just kind.Else) begins_statement refl (λ v u. refl)))
@@ -83,7 +83,7 @@ closing_last w = closing_then (reads_word w kind.CloseParenthesis) w.statements 
 -- `for`
 closing_for : {levels : ℕ} {room : Type 0} {S : ℕ → Language Statement} {P : ℕ → Option (Reader Statement)} {l left bound : ℕ} → Parts levels S P l left bound room
     → IsClosing levels (for_statement bound S l) is_closed (λ most. read_for most (inner most left) (P most)) l (just kind.For) room
-unfolding read_for
+unfolding read_for just
 closing_for w =
     let some = reads_some w.expressions in
     let step = reads_word w kind.Semicolon in
@@ -112,7 +112,7 @@ reads_rank w =
 -- `fork`
 closing_fork : {levels : ℕ} {room : Type 0} {S : ℕ → Language Statement} {P : ℕ → Option (Reader Statement)} {l left bound : ℕ} → Parts levels S P l left bound room
     → IsClosing levels (fork_statement bound S l) is_closed (λ most. read_fork most (inner most left) (P most)) l (just kind.Fork) room
-unfolding read_fork
+unfolding read_fork just
 closing_fork w =
     closing_making _ (λ a. refl) (closing_then (reads_word w kind.Fork)
     (closing_then (reads_word w kind.OpenParenthesis)
@@ -130,7 +130,7 @@ closing_fork w =
 -- `do`
 closing_do : {levels : ℕ} {room : Type 0} {S : ℕ → Language Statement} {P : ℕ → Option (Reader Statement)} {l left bound : ℕ} → Parts levels S P l left bound room
     → IsClosing levels (do_statement bound S l) is_closed (λ most. read_do most (inner most left) (P most)) l (just kind.Do) room
-unfolding read_do
+unfolding read_do just
 closing_do w =
     closing_made _ (λ a. refl) (reads_then (reads_word w kind.Do)
     (reads_then (read_of w.statements) (reads_then (reads_word w kind.While)
@@ -146,7 +146,7 @@ reads_plain w k = reads_making _ (reads_then (reads_word w k) (reads_word w kind
 closing_return : {levels : ℕ} {room : Type 0} {S : ℕ → Language Statement} {P : ℕ → Option (Reader Statement)} {l left bound : ℕ} → Parts levels S P l left bound room
     → IsClosing levels (making (λ x. Return (spot x.0) x.1.0) (token l kind.Return then maybe (Comma l bound) then token l kind.Semicolon)) is_closed
     (λ most. read_return most (inner most left)) l (just kind.Return) room
-unfolding read_return
+unfolding read_return just
 closing_return w =
     closing_made _ (λ a. refl) (reads_then (reads_word w kind.Return)
     (reads_loose_then (reads_some w.expressions) (reads_word w kind.Semicolon) (apart_by after_some (just kind.Semicolon) refl (λ v u. refl)))
@@ -155,7 +155,7 @@ closing_return w =
 -- an expression and a semicolon
 closing_expression : {levels : ℕ} {room : Type 0} {S : ℕ → Language Statement} {P : ℕ → Option (Reader Statement)} {l left bound : ℕ} → Parts levels S P l left bound room
     → IsClosing levels (making (λ x. Expression x.0) (Comma l bound then token l kind.Semicolon)) is_closed (λ most. read_expression most (inner most left)) l begins_expression room
-unfolding read_expression
+unfolding read_expression just
 closing_expression w =
     closing_made _ (λ a. refl) (reads_then w.expressions.comma (reads_word w kind.Semicolon) (apart_by after_comma (just kind.Semicolon) refl (λ v u. refl)))
 
@@ -164,7 +164,7 @@ closing_expression w =
 -- a statement is read exactly, if what stands in it is
 pub closing_statement : {levels : ℕ} {room : Type 0} {S : ℕ → Language Statement} {P : ℕ → Option (Reader Statement)} {l left bound : ℕ} → Parts levels S P l left bound room
     → IsClosing levels (statement bound S l) is_closed (λ most. read_statement most (inner most left) (P most)) l begins_statement room
-unfolding read_statement read_if read_start
+unfolding read_statement read_if read_start just
 closing_statement {S = S} {P = P} {l = l} {bound = bound} w =
     let condition = reads_condition w.expressions w.shallow in
     closing_kinds begins_statement (within_by from_block begins_statement refl (λ v u. refl)) (within_by begins_statement from_block refl (λ v u. refl))

@@ -26,31 +26,31 @@ pub fn begins_parameter(kind: TokenKind) -> bool
 }
 
 /// Whether it is a word that begins a statement.
+#[tactic(auto, unfolding(fk_reading::specs::Kinds::just))]
 pub fn begins_word(kind: TokenKind) -> bool
     ensures { result ≡ begins_word kind }
 {
-    matches!(
-        kind,
-        TokenKind::If
-            | TokenKind::While
-            | TokenKind::Do
-            | TokenKind::For
-            | TokenKind::Start
-            | TokenKind::Farm
-            | TokenKind::Seq
-            | TokenKind::Fork
-            | TokenKind::Barrier
-            | TokenKind::Break
-            | TokenKind::Continue
-            | TokenKind::Return
-    )
+    TokenKind::If == kind
+        || TokenKind::While == kind
+        || TokenKind::Do == kind
+        || TokenKind::For == kind
+        || TokenKind::Start == kind
+        || TokenKind::Farm == kind
+        || TokenKind::Seq == kind
+        || TokenKind::Fork == kind
+        || TokenKind::Barrier == kind
+        || TokenKind::Break == kind
+        || TokenKind::Continue == kind
+        || TokenKind::Return == kind
 }
 
 /// Whether a statement begins with a token of this kind.
+#[tactic(auto, unfolding(fk_reading::specs::Kinds::just))]
 pub fn begins_statement(kind: TokenKind) -> bool
     ensures { result ≡ begins_statement kind }
 {
-    matches!(kind, TokenKind::OpenBrace | TokenKind::Semicolon)
+    TokenKind::OpenBrace == kind
+        || TokenKind::Semicolon == kind
         || begins_parameter(kind)
         || begins_word(kind)
         || begins_expression(kind)
