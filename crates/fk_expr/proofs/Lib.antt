@@ -11,3 +11,4 @@ pub mod Expressions
 pub mod Halting
 pub mod Behind
 pub mod Public
+pub mod Starts

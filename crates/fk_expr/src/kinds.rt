@@ -1,6 +1,7 @@
 //! What a kind of token tells, and the kinds that begin a production.
 
 ghost use Rattle.std.specs.Prelude.{◌≡◌};
+ghost use Rattle.fk_reading.specs.Kinds.{just};
 ghost use Rattle.fk_expr.specs.Kinds.{number_told, prefix_told, assignment_told, operator_told};
 ghost use Rattle.fk_expr.specs.Grammar.{operator_at};
 ghost use Rattle.fk_expr.specs.Reading.{begins_type, begins_primary, begins_expression, begins_suffix};
@@ -98,10 +99,13 @@ pub fn operator_sign(kind: TokenKind, looseness: u32) -> Option<Sign>
 pub fn begins_type(kind: TokenKind) -> bool
     ensures { result ≡ begins_type kind }
 {
-    TokenKind::Int == kind
-        || TokenKind::Unsigned == kind
-        || TokenKind::Void == kind
-        || TokenKind::Struct == kind
+    matches!(
+        kind,
+        TokenKind::Int
+            | TokenKind::Unsigned
+            | TokenKind::Void
+            | TokenKind::Struct
+    )
 }
 
 /// Whether a primary expression does.
@@ -109,20 +113,22 @@ pub fn begins_type(kind: TokenKind) -> bool
 pub fn begins_primary(kind: TokenKind) -> bool
     ensures { result ≡ begins_primary kind }
 {
-    number(kind).is_some()
-        || TokenKind::Word == kind
-        || TokenKind::At == kind
-        || TokenKind::Dollar == kind
-        || TokenKind::OpenParenthesis == kind
-        || TokenKind::Puts == kind
+    matches!(
+        kind,
+        TokenKind::Number(_, _)
+            | TokenKind::Word
+            | TokenKind::At
+            | TokenKind::Dollar
+            | TokenKind::OpenParenthesis
+            | TokenKind::Puts
+    )
 }
 
 /// Whether an expression does.
-#[tactic(auto, unfolding(fk_reading::specs::Kinds::just))]
 pub fn begins_expression(kind: TokenKind) -> bool
     ensures { result ≡ begins_expression kind }
 {
-    prefix_sign(kind).is_some() || TokenKind::Sizeof == kind || begins_primary(kind)
+    prefix_sign(kind).is_some() || is_sizeof(kind) || begins_primary(kind)
 }
 
 /// Whether a suffix does.
@@ -130,10 +136,21 @@ pub fn begins_expression(kind: TokenKind) -> bool
 pub fn begins_suffix(kind: TokenKind) -> bool
     ensures { result ≡ begins_suffix kind }
 {
-    TokenKind::OpenBracket == kind
-        || TokenKind::OpenParenthesis == kind
-        || TokenKind::Dot == kind
-        || TokenKind::Arrow == kind
-        || TokenKind::Increment == kind
-        || TokenKind::Decrement == kind
+    matches!(
+        kind,
+        TokenKind::OpenBracket
+            | TokenKind::OpenParenthesis
+            | TokenKind::Dot
+            | TokenKind::Arrow
+            | TokenKind::Increment
+            | TokenKind::Decrement
+    )
+}
+
+/// Whether it is the word `sizeof`.
+#[tactic(auto, unfolding(fk_reading::specs::Kinds::just))]
+fn is_sizeof(kind: TokenKind) -> bool
+    ensures { result ≡ just TokenKind.Sizeof kind }
+{
+    TokenKind::Sizeof == kind
 }

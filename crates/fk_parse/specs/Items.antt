@@ -15,7 +15,7 @@ use Rattle.fk_stmt.specs.Statements.{variables, member, joined_lists, parameters
 -- "struct" Name "{" member { member } "}" ";"
 abbrev pub struct_item : Language ItemTree
 struct_item =
-    making (λ x. StructItem (name x.1.0) (joined_lists (x.1.1.1.0 ∷ x.1.1.1.1.0)))
+    making (λ (word, (called, (opening, (first, (others, (closing, end)))))). StructItem (name called) (joined_lists (first ∷ others)))
     (token 0 kind.Struct then token 0 kind.Word then token 0 kind.OpenBrace then member 0 then many (member 0) then token 0 kind.CloseBrace then token 0 kind.Semicolon)
 
 -- a function's mode, and that of one without a word
@@ -30,12 +30,12 @@ body bound = making (λ t. None) (token 0 kind.Semicolon) or making Some (block 
 -- [ "sync" | "async" | "straight" ] type stars Name "(" params ")" ( ";" | block )
 abbrev pub function_item : ℕ → Language ItemTree
 function_item bound =
-    making (λ x. FunctionItem (record {
-      mode = mode_of x.0;
-      result = record { base = x.1.0; stars = length x.1.1.0 };
-      name = name x.1.1.1.0;
-      parameters = x.1.1.1.1.1.0;
-      body = x.1.1.1.1.1.1.1;
+    making (λ (mode, (words, (stars, (word, (opening, (list, (closing, inside))))))). FunctionItem (record {
+      mode = mode_of mode;
+      result = record { base = words; stars = length stars };
+      name = name word;
+      parameters = list;
+      body = inside;
     }))
     (maybe (telling 0 mode_told) then base 0 then many (token 0 kind.Star) then token 0 kind.Word
     then token 0 kind.OpenParenthesis then parameters 0 then token 0 kind.CloseParenthesis then body bound)

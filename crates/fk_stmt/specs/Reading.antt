@@ -66,14 +66,19 @@ read_parameters most ts =
 
 -- ---- statements: E reads expressions, S statements one level deeper, if there may be one
 
--- the kinds that begin a statement
+-- the words that begin a statement
 abbrev pub begins_word : TokenKind → Bool
 begins_word k =
     just kind.If k || just kind.While k || just kind.Do k || just kind.For k || just kind.Start k || just kind.Farm k || just kind.Seq k || just kind.Fork k
     || just kind.Barrier k || just kind.Break k || just kind.Continue k || just kind.Return k
 
+-- the kinds that begin a block or an empty statement
+abbrev pub begins_bare : TokenKind → Bool
+begins_bare k = just kind.OpenBrace k || just kind.Semicolon k
+
+-- the kinds that begin a statement
 abbrev pub begins_statement : TokenKind → Bool
-begins_statement k = just kind.OpenBrace k || just kind.Semicolon k || begins_parameter k || begins_word k || begins_expression k
+begins_statement k = begins_bare k || begins_parameter k || begins_word k || begins_expression k
 
 -- a statement in a statement opens a level at its first token
 abbrev pub nested : Option (Reader Statement) → Reader Statement

@@ -13,11 +13,11 @@ use Rattle.fk_lex.specs.declared.token.TokenKind.TheVariants as kind
 
 -- a list of one or more, with commas between
 abbrev pub separated : {A : Type 0} → ℕ → Language A → Language (List A)
-separated l L = making (λ x. x.0 ∷ x.1) (L then many (making (λ x. x.1) (token l kind.Comma then L)))
+separated l L = making (λ (first, others). first ∷ others) (L then many (making (λ (comma, next). next) (token l kind.Comma then L)))
 
 -- length = "[" Number "]"
 abbrev pub length_of : ℕ → Language ℕ
-length_of l = making (λ x. x.1.0.1.0) (token l kind.OpenBracket then telling l number_told then token l kind.CloseBracket)
+length_of l = making (λ (opening, ((at, (value, unsigned)), closing)). value) (token l kind.OpenBracket then telling l number_told then token l kind.CloseBracket)
 
 -- what is declared, but for its sharing and the first words of its type: stars, name, length, initial value
 pub record Declarator : Type 0 where
@@ -29,13 +29,13 @@ pub record Declarator : Type 0 where
 -- stars Name [ length ] [ "=" assign ]
 abbrev pub variable : ℕ → ℕ → Language Declarator
 variable bound l =
-    making (λ x. record { stars = length x.0; name = name x.1.0; length = x.1.1.0; first = x.1.1.1 })
-    (many (token l kind.Star) then token l kind.Word then maybe (length_of l) then maybe (making (λ x. x.1) (token l kind.Assign then Assignment l bound)))
+    making (λ (stars, (word, (size, first))). record { stars = length stars; name = name word; length = size; first = first })
+    (many (token l kind.Star) then token l kind.Word then maybe (length_of l) then maybe (making (λ (equals, value). value) (token l kind.Assign then Assignment l bound)))
 
 -- stars Name [ length ]
 abbrev pub member_name : ℕ → Language Declarator
 member_name l =
-    making (λ x. record { stars = length x.0; name = name x.1.0; length = x.1.1; first = None })
+    making (λ (stars, (word, size)). record { stars = length stars; name = name word; length = size; first = None })
     (many (token l kind.Star) then token l kind.Word then maybe (length_of l))
 
 abbrev pub declared : Bool → BaseType → Declarator → DeclaredTree
@@ -50,12 +50,12 @@ is_shared (Some x) = x.1
 -- [ "sh" | "pr" ] type variable { "," variable } ";"
 abbrev pub variables : ℕ → ℕ → Language (List DeclaredTree)
 variables bound l =
-    making (λ x. map (declared (is_shared x.0) x.1.0) x.1.1.0)
+    making (λ (sharing, (words, (list, end))). map (declared (is_shared sharing) words) list)
     (maybe (telling l sharing_told) then base l then separated l (variable bound l) then token l kind.Semicolon)
 
 -- member = type stars Name [ length ] { "," stars Name [ length ] } ";"
 abbrev pub member : ℕ → Language (List DeclaredTree)
-member l = making (λ x. map (declared false x.0) x.1.0) (base l then separated l (member_name l) then token l kind.Semicolon)
+member l = making (λ (words, (list, end)). map (declared false words) list) (base l then separated l (member_name l) then token l kind.Semicolon)
 
 -- the members of declarations, one after the other
 abbrev pub joined_lists : {A : Type 0} → List (List A) → List A
@@ -65,7 +65,7 @@ joined_lists (list ∷ lists) = list ++ joined_lists lists
 -- param = [ "sh" | "pr" ] type stars Name
 abbrev pub parameter : ℕ → Language DeclaredTree
 parameter l =
-    making (λ x. record { shared = is_shared x.0; kind = record { base = x.1.0; stars = length x.1.1.0 }; name = name x.1.1.1; length = None; first = None })
+    making (λ (sharing, (words, (stars, word))). record { shared = is_shared sharing; kind = record { base = words; stars = length stars }; name = name word; length = None; first = None })
     (maybe (telling l sharing_told) then base l then many (token l kind.Star) then token l kind.Word)
 
 -- params = [ "void" ] | param { "," param }
@@ -101,54 +101,54 @@ not_before kind L s a = L s a × (Leads kind s → ⊥)
 
 -- block = "{" { stmt } "}"
 abbrev pub block : (ℕ → Language Statement) → ℕ → Language Statements
-block S l = making (λ x. statements_of x.1.0) (token l kind.OpenBrace then many (S (l + 1)) then token l kind.CloseBrace)
+block S l = making (λ (opening, (list, closing)). statements_of list) (token l kind.OpenBrace then many (S (l + 1)) then token l kind.CloseBrace)
 
 -- "(" comma ")", which opens no level
 abbrev pub condition : ℕ → ℕ → Language Tree
-condition bound l = making (λ x. x.1.0) (token l kind.OpenParenthesis then Comma l bound then token l kind.CloseParenthesis)
+condition bound l = making (λ (opening, (tree, closing)). tree) (token l kind.OpenParenthesis then Comma l bound then token l kind.CloseParenthesis)
 
 -- "if" "(" comma ")" stmt [ "else" stmt ], where an `else` belongs to the nearest `if`
 abbrev pub if_statement : ℕ → (ℕ → Language Statement) → ℕ → Language Statement
 if_statement bound S l =
-    making (λ x. If (spot x.0) x.1.0 x.1.1) (token l kind.If then condition bound l then S (l + 1))
-    or making (λ x. IfElse (spot x.0) x.1.0 x.1.1.0 x.1.1.1.1)
+    making (λ (word, (test, inside)). If (spot word) test inside) (token l kind.If then condition bound l then S (l + 1))
+    or making (λ (word, (test, (inside, (mark, otherwise)))). IfElse (spot word) test inside otherwise)
     (token l kind.If then condition bound l then accepted is_closed (S (l + 1)) then token l kind.Else then S (l + 1))
 
 -- "while" "(" comma ")" stmt
 abbrev pub while_statement : ℕ → (ℕ → Language Statement) → ℕ → Language Statement
-while_statement bound S l = making (λ x. While (spot x.0) x.1.0 x.1.1) (token l kind.While then condition bound l then S (l + 1))
+while_statement bound S l = making (λ (word, (test, inside)). While (spot word) test inside) (token l kind.While then condition bound l then S (l + 1))
 
 -- "do" stmt "while" "(" comma ")" ";"
 abbrev pub do_statement : ℕ → (ℕ → Language Statement) → ℕ → Language Statement
 do_statement bound S l =
-    making (λ x. DoWhile (spot x.0) x.1.0 x.1.1.1.0)
+    making (λ (word, (inside, (mark, (test, end)))). DoWhile (spot word) inside test)
     (token l kind.Do then S (l + 1) then token l kind.While then condition bound l then token l kind.Semicolon)
 
 -- "for" "(" [ comma ] ";" [ comma ] ";" [ comma ] ")" stmt
 abbrev pub for_statement : ℕ → (ℕ → Language Statement) → ℕ → Language Statement
 for_statement bound S l =
-    making (λ x. For (spot x.0) x.1.1.0 x.1.1.1.1.0 x.1.1.1.1.1.1.0 x.1.1.1.1.1.1.1.1)
+    making (λ (word, (opening, (before, (first, (test, (second, (after, (closing, inside)))))))). For (spot word) before test after inside)
     (token l kind.For then token l kind.OpenParenthesis then maybe (Comma l bound) then token l kind.Semicolon
     then maybe (Comma l bound) then token l kind.Semicolon then maybe (Comma l bound) then token l kind.CloseParenthesis then S (l + 1))
 
 -- "start" [ "(" comma ")" ] stmt: a parenthesis directly behind `start` opens its count
 abbrev pub start_statement : ℕ → (ℕ → Language Statement) → ℕ → Language Statement
 start_statement bound S l =
-    making (λ x. Start (spot x.0) (Some x.1.0) x.1.1) (token l kind.Start then condition bound l then S (l + 1))
-    or making (λ x. Start (spot x.0) None x.1) (token l kind.Start then not_before kind.OpenParenthesis (S (l + 1)))
+    making (λ (word, (count, inside)). Start (spot word) (Some count) inside) (token l kind.Start then condition bound l then S (l + 1))
+    or making (λ (word, inside). Start (spot word) None inside) (token l kind.Start then not_before kind.OpenParenthesis (S (l + 1)))
 
 -- "fork" "(" comma ";" "@" "=" comma [ ";" "$" "=" comma ] ")" stmt
 abbrev pub fork_statement : ℕ → (ℕ → Language Statement) → ℕ → Language Statement
 fork_statement bound S l =
-    making (λ x. Fork (spot x.0) x.1.1.0 x.1.1.1.1.1.1.0 x.1.1.1.1.1.1.1.0 x.1.1.1.1.1.1.1.1.1)
+    making (λ (word, (opening, (parts, (end, (at, (equals, (part, (rank, (closing, inside))))))))). Fork (spot word) parts part rank inside)
     (token l kind.Fork then token l kind.OpenParenthesis then Comma l bound then token l kind.Semicolon then token l kind.At then token l kind.Assign
     then Comma l bound
-    then maybe (making (λ x. x.1.1.1) (token l kind.Semicolon then token l kind.Dollar then token l kind.Assign then Comma l bound))
+    then maybe (making (λ (end, (dollar, (equals, rank))). rank) (token l kind.Semicolon then token l kind.Dollar then token l kind.Assign then Comma l bound))
     then token l kind.CloseParenthesis then S (l + 1))
 
 -- a word and ";"
 abbrev pub plain : ℕ → TokenKind → Language Placed
-plain l is = making (λ x. x.0) (token l is then token l kind.Semicolon)
+plain l is = making (λ (word, end). word) (token l is then token l kind.Semicolon)
 
 abbrev pub statement : ℕ → (ℕ → Language Statement) → ℕ → Language Statement
 statement bound S l =
@@ -160,14 +160,14 @@ statement bound S l =
     or do_statement bound S l
     or for_statement bound S l
     or start_statement bound S l
-    or making (λ x. Farm (spot x.0) x.1) (token l kind.Farm then S (l + 1))
-    or making (λ x. Seq (spot x.0) x.1) (token l kind.Seq then S (l + 1))
+    or making (λ (word, inside). Farm (spot word) inside) (token l kind.Farm then S (l + 1))
+    or making (λ (word, inside). Seq (spot word) inside) (token l kind.Seq then S (l + 1))
     or fork_statement bound S l
     or making (λ t. Barrier (spot t)) (plain l kind.Barrier)
     or making (λ t. Break (spot t)) (plain l kind.Break)
     or making (λ t. Continue (spot t)) (plain l kind.Continue)
-    or making (λ x. Return (spot x.0) x.1.0) (token l kind.Return then maybe (Comma l bound) then token l kind.Semicolon)
-    or making (λ x. Expression x.0) (Comma l bound then token l kind.Semicolon)
+    or making (λ (word, (value, end)). Return (spot word) value) (token l kind.Return then maybe (Comma l bound) then token l kind.Semicolon)
+    or making (λ (tree, end). Expression tree) (Comma l bound then token l kind.Semicolon)
 
 -- statements that open at most so many levels
 abbrev pub statement_within : ℕ → ℕ → Language Statement

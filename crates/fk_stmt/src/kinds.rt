@@ -2,7 +2,7 @@
 
 ghost use Rattle.std.specs.Prelude.{◌≡◌};
 ghost use Rattle.fk_stmt.specs.Kinds.{sharing_told};
-ghost use Rattle.fk_stmt.specs.Reading.{begins_parameter, begins_word, begins_statement};
+ghost use Rattle.fk_stmt.specs.Reading.{begins_bare, begins_parameter, begins_word, begins_statement};
 
 use fk_expr::kinds::{begins_expression, begins_type};
 use fk_lex::token::TokenKind;
@@ -30,27 +30,36 @@ pub fn begins_parameter(kind: TokenKind) -> bool
 pub fn begins_word(kind: TokenKind) -> bool
     ensures { result ≡ begins_word kind }
 {
-    TokenKind::If == kind
-        || TokenKind::While == kind
-        || TokenKind::Do == kind
-        || TokenKind::For == kind
-        || TokenKind::Start == kind
-        || TokenKind::Farm == kind
-        || TokenKind::Seq == kind
-        || TokenKind::Fork == kind
-        || TokenKind::Barrier == kind
-        || TokenKind::Break == kind
-        || TokenKind::Continue == kind
-        || TokenKind::Return == kind
+    matches!(
+        kind,
+        TokenKind::If
+            | TokenKind::While
+            | TokenKind::Do
+            | TokenKind::For
+            | TokenKind::Start
+            | TokenKind::Farm
+            | TokenKind::Seq
+            | TokenKind::Fork
+            | TokenKind::Barrier
+            | TokenKind::Break
+            | TokenKind::Continue
+            | TokenKind::Return
+    )
+}
+
+/// Whether a block or an empty statement begins with a token of this kind.
+#[tactic(auto, unfolding(fk_reading::specs::Kinds::just))]
+pub fn begins_bare(kind: TokenKind) -> bool
+    ensures { result ≡ begins_bare kind }
+{
+    matches!(kind, TokenKind::OpenBrace | TokenKind::Semicolon)
 }
 
 /// Whether a statement begins with a token of this kind.
-#[tactic(auto, unfolding(fk_reading::specs::Kinds::just))]
 pub fn begins_statement(kind: TokenKind) -> bool
     ensures { result ≡ begins_statement kind }
 {
-    TokenKind::OpenBrace == kind
-        || TokenKind::Semicolon == kind
+    begins_bare(kind)
         || begins_parameter(kind)
         || begins_word(kind)
         || begins_expression(kind)
