@@ -11,8 +11,21 @@ ghost use Rattle.fk_reading.specs.Readers.{repeated};
 ghost use Rattle.fk_reading.specs.Ahead.{Shortens, plenty};
 ghost use Rattle.fk_reading.specs.Gives.{Gives, Makes};
 ghost use Rattle.fk_expr.specs.Reading.{inner};
-ghost use Rattle.fk_parse.specs.Reading.{begins_item, read_struct, read_variables_tail, read_function_tail, read_bare, read_moded};
-ghost use Rattle.fk_parse.specs.Parts.{read_body_within, read_optional_body, read_item_within, function_made, variables_made};
+ghost use Rattle.fk_parse.specs.Reading.{
+  begins_item,
+  read_struct,
+  read_variables_tail,
+  read_function_tail,
+  read_bare,
+  read_moded,
+};
+ghost use Rattle.fk_parse.specs.Parts.{
+  read_body_within,
+  read_optional_body,
+  read_item_within,
+  function_made,
+  variables_made,
+};
 
 use crate::told::{expect_mode, item_is_next, mode_is_next};
 use fk_expr::at_cursor::base;
@@ -37,7 +50,8 @@ pub fn items<'a>(
     left: u32,
 ) -> Result<Vec<Item<'a>>, SyntaxFault>
     requires { 0 < left }
-    ensures read { Gives (λ items. map item_of items.items) result cursor.new (repeated plenty begins_item (read_item_within left) cursor.old) }
+    ensures read { Gives (λ items. map item_of items.items) result cursor.new
+        (repeated plenty begins_item (read_item_within left) cursor.old) }
 {
     let mut items = Vec::new(alloc);
     while item_is_next(cursor) {
@@ -86,7 +100,8 @@ fn struct_item<'a>(alloc: Global, cursor: &mut Cursor<'_, 'a>) -> Result<Item<'a
 #[tactic(auto, using(fk_expr::proofs::Halting::halting), unfolding(crate::specs::Reading::read_moded))]
 fn moded<'a>(alloc: Global, cursor: &mut Cursor<'_, 'a>, left: u32) -> Result<Item<'a>, SyntaxFault>
     requires { 0 < left }
-    ensures read { Gives item_of result cursor.new (read_moded plenty (read_body_within left) cursor.old) }
+    ensures read { Gives item_of result cursor.new
+        (read_moded plenty (read_body_within left) cursor.old) }
     ensures shorter { IfOk result (λ _. Shortens cursor.old cursor.new) }
 {
     let (_, mode) = expect_mode(cursor)?;
@@ -100,7 +115,8 @@ fn moded<'a>(alloc: Global, cursor: &mut Cursor<'_, 'a>, left: u32) -> Result<It
 #[tactic(auto, using(fk_expr::proofs::Halting::halting), unfolding(crate::specs::Reading::read_bare, crate::specs::Reading::read_tail))]
 fn bare<'a>(alloc: Global, cursor: &mut Cursor<'_, 'a>, left: u32) -> Result<Item<'a>, SyntaxFault>
     requires { 0 < left }
-    ensures read { Gives item_of result cursor.new (read_bare plenty (inner plenty left) (read_body_within left) cursor.old) }
+    ensures read { Gives item_of result cursor.new
+        (read_bare plenty (inner plenty left) (read_body_within left) cursor.old) }
     ensures shorter { IfOk result (λ _. Shortens cursor.old cursor.new) }
 {
     let base = base(cursor)?;
@@ -123,7 +139,8 @@ fn file_variables<'a>(
     stars: u32,
     name: Name<'a>,
 ) -> Result<Item<'a>, SyntaxFault>
-    ensures read { Makes (variables_made (base_of base.entry) stars (named name.entry)) item_of result cursor.new
+    ensures read { Makes (variables_made (base_of base.entry) stars (named name.entry))
+        item_of result cursor.new
         (read_variables_tail plenty (inner plenty left) cursor.old) }
     ensures shorter { IfOk result (λ _. Shortens cursor.old cursor.new) }
 {
@@ -151,7 +168,8 @@ fn function<'a>(
     name: Name<'a>,
 ) -> Result<Item<'a>, SyntaxFault>
     requires { 0 < left }
-    ensures read { Makes (function_made mode (type_of kind.entry) (named name.entry)) item_of result cursor.new
+    ensures read { Makes (function_made mode (type_of kind.entry) (named name.entry))
+        item_of result cursor.new
         (read_function_tail plenty (read_body_within left) cursor.old) }
     ensures shorter { IfOk result (λ _. Shortens cursor.old cursor.new) }
 {
@@ -175,7 +193,8 @@ fn body<'a>(
     left: u32,
 ) -> Result<Option<Vec<Stmt<'a>>>, SyntaxFault>
     requires { 0 < left }
-    ensures read { Gives (λ body. option_map (λ b. statements_of (map statement_of b.items)) body) result cursor.new (read_optional_body (read_body_within left) cursor.old) }
+    ensures read { Gives (λ body. option_map (λ b. statements_of (map statement_of b.items)) body)
+        result cursor.new (read_optional_body (read_body_within left) cursor.old) }
     ensures shorter { IfOk result (λ _. Shortens cursor.old cursor.new) }
 {
     if cursor.next_is(TokenKind::OpenBrace) {

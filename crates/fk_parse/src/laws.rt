@@ -8,8 +8,8 @@ pub fn one_text()
     ensures { OneText }
 {}
 
-/// Tokens are those of at most one list of items, however deep they nest: a level past the bound is a
-/// refusal, and no other grammar.
+/// Tokens are those of at most one list of items, however deep they nest: a level past the bound is
+/// a refusal, and no other grammar.
 pub fn one_tree()
     ensures { OneTree }
 {}

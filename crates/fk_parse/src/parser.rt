@@ -26,8 +26,8 @@ use std::alloc::Global;
 /// # Errors
 ///
 /// Unexpected tells the first token with which no text of the grammar goes on, however deep it
-/// may nest, and Nesting the token that opens a level more. Of both the earlier token counts, and at
-/// one token Unexpected. EndOfText comes where the tokens begin a text and are none. Memory may
+/// may nest, and Nesting the token that opens a level more. Of both the earlier token counts, and
+/// at one token Unexpected. EndOfText comes where the tokens begin a text and are none. Memory may
 /// be wanting for any tokens.
 pub fn parse<'a>(alloc: Global, tokens: &[Token<'a>]) -> Result<Program<'a>, SyntaxFault>
     requires few { length tokens.now < 2 ^ 32 }

@@ -14,7 +14,8 @@ use fk_syntax::program::Mode;
 
 /// Reads the next token, which has to be the word of a mode.
 pub fn expect_mode<'a>(cursor: &mut Cursor<'_, 'a>) -> Result<(Numbered<'a>, Mode), SyntaxFault>
-    ensures read { Gives (λ x. (seen x.0, x.1)) result cursor.new (expect_told mode_told cursor.old) }
+    ensures read { Gives (λ x. (seen x.0, x.1)) result cursor.new
+        (expect_told mode_told cursor.old) }
     ensures shorter { IfOk result (λ _. Shortens cursor.old cursor.new) }
 {
     let Some(mode) = next_mode(cursor) else {
