@@ -35,7 +35,8 @@ pub fn comma<'a>(
         Reads (Comma (LEVELS - left)) cursor.old (Ok (tree_of e, cursor.new))) }
     ensures refused { length cursor.old < 2 ^ 32 → left ≤ LEVELS → IfErr result
         (Tells (λ stop. Reads (Comma (LEVELS - left)) cursor.old (Err stop))) }
-    ensures read { Gives tree_of result cursor.new (read_comma plenty (inner plenty left) cursor.old) }
+    ensures read { Gives tree_of result cursor.new
+        (read_comma plenty (inner plenty left) cursor.old) }
     ensures shorter { IfOk result (λ _. Shortens cursor.old cursor.new) }
 {
     production::comma(alloc, cursor, left)
@@ -55,7 +56,8 @@ pub fn assignment<'a>(
         Reads (Assignment (LEVELS - left)) cursor.old (Ok (tree_of e, cursor.new))) }
     ensures refused { length cursor.old < 2 ^ 32 → left ≤ LEVELS → IfErr result
         (Tells (λ stop. Reads (Assignment (LEVELS - left)) cursor.old (Err stop))) }
-    ensures read { Gives tree_of result cursor.new (read_assignment plenty (inner plenty left) cursor.old) }
+    ensures read { Gives tree_of result cursor.new
+        (read_assignment plenty (inner plenty left) cursor.old) }
     ensures shorter { IfOk result (λ _. Shortens cursor.old cursor.new) }
 {
     production::assignment(alloc, cursor, left)
@@ -68,7 +70,8 @@ pub fn assignment<'a>(
 ///
 /// Unexpected at the first token that doesn't go on with a type, EndOfText where the tokens end.
 pub fn base<'a>(cursor: &mut Cursor<'_, 'a>) -> Result<Base<'a>, SyntaxFault>
-    ensures grammar { IfOk result (λ b. Reads (λ bound. base 0) cursor.old (Ok (base_of b, cursor.new))) }
+    ensures grammar { IfOk result
+        (λ b. Reads (λ bound. base 0) cursor.old (Ok (base_of b, cursor.new))) }
     ensures refused { IfErr result (Tells (λ stop. Reads (λ bound. base 0) cursor.old (Err stop))) }
     ensures read { Gives base_of result cursor.new (read_base cursor.old) }
     ensures shorter { IfOk result (λ _. Shortens cursor.old cursor.new) }

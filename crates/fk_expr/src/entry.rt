@@ -35,7 +35,8 @@ pub fn expression<'a>(
     ensures read { IfOk result (λ x. Reads (Comma level) (tokens_from at tokens.now)
         (Ok (tree_of x.0, tokens_from x.1 tokens.now))) }
     ensures within { IfOk result (λ x. x.1 ≤ length tokens.now) }
-    ensures refused { IfErr result (Tells (λ stop. Reads (Comma level) (tokens_from at tokens.now) (Err stop))) }
+    ensures refused { IfErr result
+        (Tells (λ stop. Reads (Comma level) (tokens_from at tokens.now) (Err stop))) }
 {
     let mut cursor = Cursor::new(tokens, at);
     let value = production::comma(alloc, &mut cursor, LEVELS - level)?;

@@ -4,7 +4,12 @@ ghost use Rattle.std.specs.Prelude.{◌≡◌};
 ghost use Rattle.fk_reading.specs.Kinds.{just};
 ghost use Rattle.fk_expr.specs.Kinds.{number_told, prefix_told, assignment_told, operator_told};
 ghost use Rattle.fk_expr.specs.Grammar.{operator_at};
-ghost use Rattle.fk_expr.specs.Reading.{begins_type, begins_primary, begins_expression, begins_suffix};
+ghost use Rattle.fk_expr.specs.Reading.{
+  begins_type,
+  begins_primary,
+  begins_expression,
+  begins_suffix,
+};
 
 use fk_lex::token::TokenKind;
 use fk_syntax::sign::Sign;
@@ -101,10 +106,7 @@ pub fn begins_type(kind: TokenKind) -> bool
 {
     matches!(
         kind,
-        TokenKind::Int
-            | TokenKind::Unsigned
-            | TokenKind::Void
-            | TokenKind::Struct
+        TokenKind::Int | TokenKind::Unsigned | TokenKind::Void | TokenKind::Struct
     )
 }
 

@@ -18,7 +18,8 @@ use std::alloc::{AllocError, Global};
 /// "sizeof" "(" type stars ")"
 #[tactic(auto, using(crate::proofs::Halting::halting), unfolding(crate::specs::Reading::read_sizeof))]
 pub(crate) fn size_of<'a>(cursor: &mut Cursor<'_, 'a>, left: u32) -> Result<Expr<'a>, SyntaxFault>
-    ensures read { Gives tree_of result cursor.new (read_sizeof plenty (inner plenty left) cursor.old) }
+    ensures read { Gives tree_of result cursor.new
+        (read_sizeof plenty (inner plenty left) cursor.old) }
     ensures shorter { IfOk result (λ _. Shortens cursor.old cursor.new) }
 {
     let word = cursor.expect(TokenKind::Sizeof)?;

@@ -1,12 +1,24 @@
 //! The productions of expressions.
 //!
-//! The next token, or the next two, say which alternative comes. So no token is read twice, and calls
-//! stand in calls as levels of nesting and the ten kinds of operators do: that is seen in the code,
-//! and no clause says it.
+//! The next token, or the next two, say which alternative comes. So no token is read twice, and
+//! calls stand in calls as levels of nesting and the ten kinds of operators do: that is seen in the
+//! code, and no clause says it.
 
 ghost use Rattle.std.specs.Prelude.{◌≤◌, ◌<◌, ◌-◌, ◌^◌, length, map, IfOk};
 ghost use Rattle.fk_syntax.specs.View.{tree_of, suffix_of};
-ghost use Rattle.fk_expr.specs.Reading.{inner, read_comma, read_assignment, read_choice, read_joined, read_prefix, read_cast, read_postfix, read_primary, read_suffix, read_arguments};
+ghost use Rattle.fk_expr.specs.Reading.{
+  inner,
+  read_comma,
+  read_assignment,
+  read_choice,
+  read_joined,
+  read_prefix,
+  read_cast,
+  read_postfix,
+  read_primary,
+  read_suffix,
+  read_arguments,
+};
 ghost use Rattle.fk_expr.specs.Ahead.{readers, read_links};
 ghost use Rattle.fk_expr.specs.Grammar.{chained};
 ghost use Rattle.fk_reading.specs.Ahead.{Shortens, plenty};
@@ -38,7 +50,8 @@ pub fn comma<'a>(
     cursor: &mut Cursor<'_, 'a>,
     left: u32,
 ) -> Result<Expr<'a>, SyntaxFault>
-    ensures read { Gives tree_of result cursor.new (read_comma plenty (inner plenty left) cursor.old) }
+    ensures read { Gives tree_of result cursor.new
+        (read_comma plenty (inner plenty left) cursor.old) }
     ensures shorter { IfOk result (λ _. Shortens cursor.old cursor.new) }
 {
     let first = assignment(alloc, cursor, left)?;
@@ -59,7 +72,8 @@ pub fn assignment<'a>(
     cursor: &mut Cursor<'_, 'a>,
     left: u32,
 ) -> Result<Expr<'a>, SyntaxFault>
-    ensures read { Gives tree_of result cursor.new (read_assignment plenty (inner plenty left) cursor.old) }
+    ensures read { Gives tree_of result cursor.new
+        (read_assignment plenty (inner plenty left) cursor.old) }
     ensures shorter { IfOk result (λ _. Shortens cursor.old cursor.new) }
 {
     let target = choice(alloc, cursor, left)?;
@@ -80,7 +94,8 @@ fn choice<'a>(
     cursor: &mut Cursor<'_, 'a>,
     left: u32,
 ) -> Result<Expr<'a>, SyntaxFault>
-    ensures read { Gives tree_of result cursor.new (read_choice plenty (inner plenty left) cursor.old) }
+    ensures read { Gives tree_of result cursor.new
+        (read_choice plenty (inner plenty left) cursor.old) }
     ensures shorter { IfOk result (λ _. Shortens cursor.old cursor.new) }
 {
     let condition = joined(alloc, cursor, left, LOOSEST)?;
@@ -106,7 +121,8 @@ fn joined<'a>(
     looseness: u32,
 ) -> Result<Expr<'a>, SyntaxFault>
     requires { looseness ≤ 10 }
-    ensures read { Gives tree_of result cursor.new (read_joined plenty (inner plenty left) looseness cursor.old) }
+    ensures read { Gives tree_of result cursor.new
+        (read_joined plenty (inner plenty left) looseness cursor.old) }
     ensures shorter { IfOk result (λ _. Shortens cursor.old cursor.new) }
 {
     let mut whole = prefix(alloc, cursor, left)?;
@@ -151,7 +167,8 @@ fn prefix<'a>(
     cursor: &mut Cursor<'_, 'a>,
     left: u32,
 ) -> Result<Expr<'a>, SyntaxFault>
-    ensures read { Gives tree_of result cursor.new (read_prefix plenty (inner plenty left) cursor.old) }
+    ensures read { Gives tree_of result cursor.new
+        (read_prefix plenty (inner plenty left) cursor.old) }
     ensures shorter { IfOk result (λ _. Shortens cursor.old cursor.new) }
 {
     if prefix_is_next(cursor) {
@@ -173,7 +190,8 @@ fn prefix<'a>(
 #[cycle(expression)]
 #[tactic(auto, using(crate::proofs::Halting::halting), unfolding(crate::specs::Reading::read_cast))]
 fn cast<'a>(alloc: Global, cursor: &mut Cursor<'_, 'a>, left: u32) -> Result<Expr<'a>, SyntaxFault>
-    ensures read { Gives tree_of result cursor.new (read_cast plenty (inner plenty left) cursor.old) }
+    ensures read { Gives tree_of result cursor.new
+        (read_cast plenty (inner plenty left) cursor.old) }
     ensures shorter { IfOk result (λ _. Shortens cursor.old cursor.new) }
 {
     let inside = open(cursor, TokenKind::OpenParenthesis, left)?;
@@ -192,7 +210,8 @@ fn postfix<'a>(
     cursor: &mut Cursor<'_, 'a>,
     left: u32,
 ) -> Result<Expr<'a>, SyntaxFault>
-    ensures read { Gives tree_of result cursor.new (read_postfix plenty (inner plenty left) cursor.old) }
+    ensures read { Gives tree_of result cursor.new
+        (read_postfix plenty (inner plenty left) cursor.old) }
     ensures shorter { IfOk result (λ _. Shortens cursor.old cursor.new) }
 {
     let whole = primary(alloc, cursor, left)?;
@@ -245,7 +264,8 @@ fn suffix<'a>(
     cursor: &mut Cursor<'_, 'a>,
     left: u32,
 ) -> Result<Suffix<'a>, SyntaxFault>
-    ensures read { Gives suffix_of result cursor.new (read_suffix plenty (inner plenty left) cursor.old) }
+    ensures read { Gives suffix_of result cursor.new
+        (read_suffix plenty (inner plenty left) cursor.old) }
     ensures shorter { IfOk result (λ _. Shortens cursor.old cursor.new) }
 {
     if cursor.next_is(TokenKind::OpenBracket) {
@@ -284,7 +304,8 @@ fn arguments<'a>(
     cursor: &mut Cursor<'_, 'a>,
     left: u32,
 ) -> Result<Vec<Expr<'a>>, SyntaxFault>
-    ensures read { Gives (λ v. map tree_of v.items) result cursor.new (read_arguments plenty (readers left) cursor.old) }
+    ensures read { Gives (λ v. map tree_of v.items) result cursor.new
+        (read_arguments plenty (readers left) cursor.old) }
     ensures few { IfOk result (λ _. length cursor.new ≤ length cursor.old) }
 {
     let mut arguments = Vec::new(alloc);

@@ -4,7 +4,12 @@ ghost use Rattle.std.specs.Prelude.{◌≡◌, ◌<◌, ◌≤◌, ◌+◌, ◌^
 ghost use Rattle.std.specs.Option.{IfSome};
 ghost use Rattle.fk_expr.specs.Kinds.{number_told, prefix_told, assignment_told};
 ghost use Rattle.fk_expr.specs.Grammar.{operator_at};
-ghost use Rattle.fk_expr.specs.Reading.{begins_type, begins_expression, begins_suffix, cast_is_next};
+ghost use Rattle.fk_expr.specs.Reading.{
+  begins_type,
+  begins_expression,
+  begins_suffix,
+  cast_is_next,
+};
 ghost use Rattle.fk_expr.specs.Ahead.{NoOperator};
 ghost use Rattle.fk_reading.specs.Readers.{next_is, tells, next_tells, expect_told};
 ghost use Rattle.fk_reading.specs.Ahead.{seen, Shortens};
@@ -23,7 +28,8 @@ use fk_syntax::sign::Sign;
 pub fn expect_number<'a>(
     cursor: &mut Cursor<'_, 'a>,
 ) -> Result<(Numbered<'a>, (u32, bool)), SyntaxFault>
-    ensures read { Gives (λ x. (seen x.0, x.1)) result cursor.new (expect_told number_told cursor.old) }
+    ensures read { Gives (λ x. (seen x.0, x.1)) result cursor.new
+        (expect_told number_told cursor.old) }
     ensures shorter { IfOk result (λ _. Shortens cursor.old cursor.new) }
 {
     let Some(value) = next_number(cursor) else {
@@ -36,7 +42,8 @@ pub fn expect_number<'a>(
 pub(crate) fn expect_prefix<'a>(
     cursor: &mut Cursor<'_, 'a>,
 ) -> Result<(Numbered<'a>, Sign), SyntaxFault>
-    ensures read { Gives (λ x. (seen x.0, x.1)) result cursor.new (expect_told prefix_told cursor.old) }
+    ensures read { Gives (λ x. (seen x.0, x.1)) result cursor.new
+        (expect_told prefix_told cursor.old) }
     ensures shorter { IfOk result (λ _. Shortens cursor.old cursor.new) }
 {
     let Some(sign) = next_prefix(cursor) else {
@@ -49,7 +56,8 @@ pub(crate) fn expect_prefix<'a>(
 pub(crate) fn expect_assignment<'a>(
     cursor: &mut Cursor<'_, 'a>,
 ) -> Result<(Numbered<'a>, Sign), SyntaxFault>
-    ensures read { Gives (λ x. (seen x.0, x.1)) result cursor.new (expect_told assignment_told cursor.old) }
+    ensures read { Gives (λ x. (seen x.0, x.1)) result cursor.new
+        (expect_told assignment_told cursor.old) }
     ensures shorter { IfOk result (λ _. Shortens cursor.old cursor.new) }
 {
     let Some(sign) = next_assignment(cursor) else {
@@ -63,7 +71,8 @@ pub(crate) fn expect_operator<'a>(
     cursor: &mut Cursor<'_, 'a>,
     looseness: u32,
 ) -> Result<(Numbered<'a>, Sign), SyntaxFault>
-    ensures read { Gives (λ x. (seen x.0, x.1)) result cursor.new (expect_told (operator_at looseness) cursor.old) }
+    ensures read { Gives (λ x. (seen x.0, x.1)) result cursor.new
+        (expect_told (operator_at looseness) cursor.old) }
     ensures shorter { IfOk result (λ _. Shortens cursor.old cursor.new) }
 {
     let Some(sign) = next_operator(cursor, looseness) else {
@@ -85,7 +94,8 @@ pub fn type_is_next(cursor: &Cursor) -> bool
 
 /// Whether an expression comes next.
 pub fn expression_is_next(cursor: &Cursor) -> bool
-    ensures { result ≡ next_is begins_expression cursor.now }
+    ensures next { result ≡ next_is begins_expression cursor.now }
+    ensures few { length cursor.now < 2 ^ 32 }
 {
     match cursor.peek() {
         Some(kind) => begins_expression(kind),
@@ -147,7 +157,8 @@ pub(crate) fn operator_is_next(cursor: &Cursor, looseness: u32) -> bool
 /// How loosely the next operator binds, where it binds looser than one level and not looser than
 /// another.
 pub(crate) fn next_looseness(cursor: &Cursor, tighter: u32, looseness: u32) -> Option<u32>
-    ensures some { IfSome result (λ next. (tighter < next) × (next ≤ looseness) × NoOperator tighter next cursor.now) }
+    ensures some { IfSome result
+        (λ next. (tighter < next) × (next ≤ looseness) × NoOperator tighter next cursor.now) }
     ensures none { result ≡ None → NoOperator tighter (looseness + 1) cursor.now }
 {
     match operator(cursor.peek()?) {

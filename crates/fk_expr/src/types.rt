@@ -25,7 +25,8 @@ pub fn type_name<'a>(cursor: &mut Cursor<'_, 'a>) -> Result<TypeName<'a>, Syntax
 
 /// How many `*` come.
 pub fn stars(cursor: &mut Cursor) -> Result<u32, SyntaxFault>
-    ensures read { Makes length (λ n. n) result cursor.new (repeated plenty (just TokenKind.Star) (expect TokenKind.Star) cursor.old) }
+    ensures read { Makes length (λ n. n) result cursor.new
+        (repeated plenty (just TokenKind.Star) (expect TokenKind.Star) cursor.old) }
     ensures few { IfOk result (λ _. Leaves cursor.old cursor.new) }
 {
     let mut stars = 0;

@@ -1,13 +1,34 @@
 //! A place among tokens.
 
-ghost use Rattle.std.specs.Prelude.{◌≡◌, ◌≤◌, ◌<◌, ◌+◌, ◌^◌, [], ◌∷◌, Err, drop, length, map, IfOk, IfErr};
+ghost use Rattle.std.specs.Prelude.{
+  ◌≡◌,
+  ◌≤◌,
+  ◌<◌,
+  ◌+◌,
+  ◌^◌,
+  [],
+  ◌∷◌,
+  Err,
+  drop,
+  length,
+  map,
+  IfOk,
+  IfErr,
+};
 ghost use Rattle.fk_syntax.specs.View.{named};
 ghost use Rattle.fk_lex.specs.View.{spelled};
 ghost use Rattle.fk_reading.specs.Languages.{Placed, numbered, spot, name};
 ghost use Rattle.fk_reading.specs.Reads.{Nesting};
 ghost use Rattle.fk_reading.specs.Kinds.{just};
 ghost use Rattle.fk_reading.specs.Readers.{next_is, expect, unexpected};
-ghost use Rattle.fk_reading.specs.Ahead.{seen, Shortens, next_kind, second_kind, pair_is, triple_is};
+ghost use Rattle.fk_reading.specs.Ahead.{
+  seen,
+  Shortens,
+  next_kind,
+  second_kind,
+  pair_is,
+  triple_is,
+};
 ghost use Rattle.fk_reading.specs.Gives.{Gives, Halts};
 
 use crate::fault::SyntaxFault;

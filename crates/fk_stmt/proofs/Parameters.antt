@@ -218,7 +218,7 @@ reads_parameters {levels} {M = M} {Q = Q} {l = l} {g = g} h w =
     (reads_wider g (union_within g g g (within_itself g) (within_itself g))
     (record {
       shape = shape_or v.shape q.shape;
-      exact = exact_two (just kind.Void) just kind.CloseParenthesis kind.CloseParenthesis refl v.exact q.exact v.shape q.shape
+      exact = exact_two (just kind.Void) (just kind.CloseParenthesis) kind.CloseParenthesis refl v.exact q.exact v.shape q.shape
           (within_itself (just kind.Void)) (within_by (just kind.Void) begins_parameters refl (λ v u. refl))
           (chooses w.shape) (clears levels h w.shape) l (λ r t k. void_starts l M t k (w.shape.example r));
     }))))

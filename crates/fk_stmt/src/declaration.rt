@@ -9,8 +9,21 @@ ghost use Rattle.fk_reading.specs.Ahead.{Shortens, Leaves, plenty};
 ghost use Rattle.fk_reading.specs.Gives.{Gives, Makes};
 ghost use Rattle.fk_expr.specs.Reading.{inner, begins_type};
 ghost use Rattle.fk_stmt.specs.Statements.{declared, is_shared, joined_lists};
-ghost use Rattle.fk_stmt.specs.Reading.{read_variables, read_variable, read_member, read_member_name, read_parameters, read_parameter, read_separated};
-ghost use Rattle.fk_stmt.specs.Parts.{read_sharing, read_array_length, read_first_value, read_others};
+ghost use Rattle.fk_stmt.specs.Reading.{
+  read_variables,
+  read_variable,
+  read_member,
+  read_member_name,
+  read_parameters,
+  read_parameter,
+  read_separated,
+};
+ghost use Rattle.fk_stmt.specs.Parts.{
+  read_sharing,
+  read_array_length,
+  read_first_value,
+  read_others,
+};
 ghost use Rattle.fk_stmt.specs.View.{declarator_of};
 
 use crate::told::{expect_sharing, parameter_is_next, sharing_is_next};
@@ -37,7 +50,8 @@ pub struct Declarator<'a> {
 impl<'a> Declarator<'a> {
     /// The whole declaration.
     pub fn complete(self, shared: bool, base: Base<'a>) -> Declared<'a>
-        ensures { declared_of result ≡ declared shared (base_of base.entry) (declarator_of self.entry) }
+        ensures { declared_of result ≡ declared shared (base_of base.entry)
+            (declarator_of self.entry) }
     {
         let Declarator {
             stars,
@@ -62,7 +76,8 @@ pub fn variables<'a>(
     cursor: &mut Cursor<'_, 'a>,
     left: u32,
 ) -> Result<Vec<Declared<'a>>, SyntaxFault>
-    ensures read { Gives (λ rows. map declared_of rows.items) result cursor.new (read_variables plenty (inner plenty left) cursor.old) }
+    ensures read { Gives (λ rows. map declared_of rows.items) result cursor.new
+        (read_variables plenty (inner plenty left) cursor.old) }
     ensures shorter { IfOk result (λ _. Shortens cursor.old cursor.new) }
 {
     let shared = shared(cursor)?;
@@ -82,7 +97,8 @@ pub fn rows<'a>(
     base: Base<'a>,
     first: Declarator<'a>,
 ) -> Result<Vec<Declared<'a>>, SyntaxFault>
-    ensures read { Makes (λ others. map (declared shared (base_of base.entry)) (declarator_of first.entry ∷ others))
+    ensures read { Makes
+        (λ others. map (declared shared (base_of base.entry)) (declarator_of first.entry ∷ others))
         (λ rows. map declared_of rows.items) result cursor.new (read_others left cursor.old) }
     ensures few { IfOk result (λ _. Leaves cursor.old cursor.new) }
 {
@@ -102,7 +118,8 @@ fn variable<'a>(
     cursor: &mut Cursor<'_, 'a>,
     left: u32,
 ) -> Result<Declarator<'a>, SyntaxFault>
-    ensures read { Gives declarator_of result cursor.new (read_variable plenty (inner plenty left) cursor.old) }
+    ensures read { Gives declarator_of result cursor.new
+        (read_variable plenty (inner plenty left) cursor.old) }
     ensures shorter { IfOk result (λ _. Shortens cursor.old cursor.new) }
 {
     let stars = stars(cursor)?;
@@ -123,7 +140,8 @@ pub fn first_value<'a>(
     cursor: &mut Cursor<'_, 'a>,
     left: u32,
 ) -> Result<Option<Expr<'a>>, SyntaxFault>
-    ensures read { Gives (λ first. option_map tree_of first) result cursor.new (read_first_value left cursor.old) }
+    ensures read { Gives (λ first. option_map tree_of first) result cursor.new
+        (read_first_value left cursor.old) }
     ensures few { IfOk result (λ _. Leaves cursor.old cursor.new) }
 {
     if !cursor.next_is(TokenKind::Assign) {
@@ -207,7 +225,8 @@ pub fn parameters<'a>(
     alloc: Global,
     cursor: &mut Cursor<'_, 'a>,
 ) -> Result<Vec<Declared<'a>>, SyntaxFault>
-    ensures read { Gives (λ parameters. map declared_of parameters.items) result cursor.new (read_parameters plenty cursor.old) }
+    ensures read { Gives (λ parameters. map declared_of parameters.items) result cursor.new
+        (read_parameters plenty cursor.old) }
     ensures few { IfOk result (λ _. Leaves cursor.old cursor.new) }
 {
     if cursor.pair_is(TokenKind::Void, TokenKind::CloseParenthesis) {
@@ -226,7 +245,8 @@ fn some_parameters<'a>(
     alloc: Global,
     cursor: &mut Cursor<'_, 'a>,
 ) -> Result<Vec<Declared<'a>>, SyntaxFault>
-    ensures read { Gives (λ parameters. map declared_of parameters.items) result cursor.new (read_separated plenty (read_parameter plenty) cursor.old) }
+    ensures read { Gives (λ parameters. map declared_of parameters.items) result cursor.new
+        (read_separated plenty (read_parameter plenty) cursor.old) }
     ensures shorter { IfOk result (λ _. Shortens cursor.old cursor.new) }
 {
     let mut parameters = Vec::new(alloc);

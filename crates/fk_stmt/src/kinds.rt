@@ -2,7 +2,12 @@
 
 ghost use Rattle.std.specs.Prelude.{◌≡◌};
 ghost use Rattle.fk_stmt.specs.Kinds.{sharing_told};
-ghost use Rattle.fk_stmt.specs.Reading.{begins_bare, begins_parameter, begins_word, begins_statement};
+ghost use Rattle.fk_stmt.specs.Reading.{
+  begins_bare,
+  begins_parameter,
+  begins_word,
+  begins_statement,
+};
 
 use fk_expr::kinds::{begins_expression, begins_type};
 use fk_lex::token::TokenKind;
@@ -59,8 +64,5 @@ pub fn begins_bare(kind: TokenKind) -> bool
 pub fn begins_statement(kind: TokenKind) -> bool
     ensures { result ≡ begins_statement kind }
 {
-    begins_bare(kind)
-        || begins_parameter(kind)
-        || begins_word(kind)
-        || begins_expression(kind)
+    begins_bare(kind) || begins_parameter(kind) || begins_word(kind) || begins_expression(kind)
 }

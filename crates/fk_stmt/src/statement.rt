@@ -1,7 +1,7 @@
 //! Statements.
 //!
-//! The next token says which statement comes. So no token is read twice, and calls stand in calls as
-//! levels of nesting do: that is seen in the code, and no clause says it.
+//! The next token says which statement comes. So no token is read twice, and calls stand in calls
+//! as levels of nesting do: that is seen in the code, and no clause says it.
 
 ghost use Rattle.std.specs.Prelude.{map, IfOk};
 ghost use Rattle.std.specs.Option.{option_map};
@@ -18,8 +18,32 @@ ghost use Rattle.fk_reading.specs.Readers.{optional};
 ghost use Rattle.fk_reading.specs.Ahead.{Shortens, Leaves, plenty};
 ghost use Rattle.fk_reading.specs.Gives.{Gives, Makes};
 ghost use Rattle.fk_expr.specs.Reading.{inner};
-ghost use Rattle.fk_stmt.specs.Reading.{statements_with, read_block, read_condition, read_if, read_while, read_do, read_some, read_for, read_start, read_rank, read_fork, read_plain, read_statement};
-ghost use Rattle.fk_stmt.specs.Parts.{read_simple, read_nested, read_worded, read_farm, read_seq, read_otherwise, read_do_condition, read_for_header, read_fork_header};
+ghost use Rattle.fk_stmt.specs.Reading.{
+  statements_with,
+  read_block,
+  read_condition,
+  read_if,
+  read_while,
+  read_do,
+  read_some,
+  read_for,
+  read_start,
+  read_rank,
+  read_fork,
+  read_plain,
+  read_statement,
+};
+ghost use Rattle.fk_stmt.specs.Parts.{
+  read_simple,
+  read_nested,
+  read_worded,
+  read_farm,
+  read_seq,
+  read_otherwise,
+  read_do_condition,
+  read_for_header,
+  read_fork_header,
+};
 ghost use Rattle.fk_stmt.specs.View.{for_parts_of, fork_parts_of};
 
 use crate::declaration::variables;
@@ -42,7 +66,8 @@ pub fn block<'a>(
     cursor: &mut Cursor<'_, 'a>,
     left: u32,
 ) -> Result<Vec<Stmt<'a>>, SyntaxFault>
-    ensures read { Gives (λ b. statements_of (map statement_of b.items)) result cursor.new (read_block plenty (statements_with plenty left) cursor.old) }
+    ensures read { Gives (λ b. statements_of (map statement_of b.items)) result cursor.new
+        (read_block plenty (statements_with plenty left) cursor.old) }
     ensures shorter { IfOk result (λ _. Shortens cursor.old cursor.new) }
 {
     cursor.expect(TokenKind::OpenBrace)?;
@@ -75,7 +100,8 @@ fn boxed<'a>(
     cursor: &mut Cursor<'_, 'a>,
     left: u32,
 ) -> Result<Box<Stmt<'a>>, SyntaxFault>
-    ensures read { Gives (λ s. statement_of s.value) result cursor.new (read_nested left cursor.old) }
+    ensures read { Gives (λ s. statement_of s.value) result cursor.new
+        (read_nested left cursor.old) }
     ensures shorter { IfOk result (λ _. Shortens cursor.old cursor.new) }
 {
     let statement = nested(alloc, cursor, left)?;
@@ -90,7 +116,8 @@ fn statement<'a>(
     cursor: &mut Cursor<'_, 'a>,
     left: u32,
 ) -> Result<Stmt<'a>, SyntaxFault>
-    ensures read { Gives statement_of result cursor.new (read_statement plenty (inner plenty left) (statements_with plenty left) cursor.old) }
+    ensures read { Gives statement_of result cursor.new
+        (read_statement plenty (inner plenty left) (statements_with plenty left) cursor.old) }
     ensures shorter { IfOk result (λ _. Shortens cursor.old cursor.new) }
 {
     if cursor.next_is(TokenKind::OpenBrace) {
@@ -152,7 +179,8 @@ fn if_else<'a>(
     cursor: &mut Cursor<'_, 'a>,
     left: u32,
 ) -> Result<Stmt<'a>, SyntaxFault>
-    ensures read { Gives statement_of result cursor.new (read_if plenty (inner plenty left) (statements_with plenty left) cursor.old) }
+    ensures read { Gives statement_of result cursor.new
+        (read_if plenty (inner plenty left) (statements_with plenty left) cursor.old) }
     ensures shorter { IfOk result (λ _. Shortens cursor.old cursor.new) }
 {
     let word = cursor.expect(TokenKind::If)?;
@@ -170,7 +198,8 @@ fn otherwise<'a>(
     cursor: &mut Cursor<'_, 'a>,
     left: u32,
 ) -> Result<Option<Box<Stmt<'a>>>, SyntaxFault>
-    ensures read { Gives (option_map (λ (s : Box Stmt Global). statement_of s.value)) result cursor.new (read_otherwise left cursor.old) }
+    ensures read { Gives (option_map (λ (s : Box Stmt Global). statement_of s.value)) result
+        cursor.new (read_otherwise left cursor.old) }
     ensures few { IfOk result (λ _. Leaves cursor.old cursor.new) }
 {
     if !cursor.next_is(TokenKind::Else) {
@@ -188,7 +217,8 @@ fn while_loop<'a>(
     cursor: &mut Cursor<'_, 'a>,
     left: u32,
 ) -> Result<Stmt<'a>, SyntaxFault>
-    ensures read { Gives statement_of result cursor.new (read_while plenty (inner plenty left) (statements_with plenty left) cursor.old) }
+    ensures read { Gives statement_of result cursor.new
+        (read_while plenty (inner plenty left) (statements_with plenty left) cursor.old) }
     ensures shorter { IfOk result (λ _. Shortens cursor.old cursor.new) }
 {
     let word = cursor.expect(TokenKind::While)?;
@@ -205,7 +235,8 @@ fn do_while<'a>(
     cursor: &mut Cursor<'_, 'a>,
     left: u32,
 ) -> Result<Stmt<'a>, SyntaxFault>
-    ensures read { Gives statement_of result cursor.new (read_do plenty (inner plenty left) (statements_with plenty left) cursor.old) }
+    ensures read { Gives statement_of result cursor.new
+        (read_do plenty (inner plenty left) (statements_with plenty left) cursor.old) }
     ensures shorter { IfOk result (λ _. Shortens cursor.old cursor.new) }
 {
     let word = cursor.expect(TokenKind::Do)?;
@@ -222,7 +253,8 @@ fn for_loop<'a>(
     cursor: &mut Cursor<'_, 'a>,
     left: u32,
 ) -> Result<Stmt<'a>, SyntaxFault>
-    ensures read { Gives statement_of result cursor.new (read_for plenty (inner plenty left) (statements_with plenty left) cursor.old) }
+    ensures read { Gives statement_of result cursor.new
+        (read_for plenty (inner plenty left) (statements_with plenty left) cursor.old) }
     ensures shorter { IfOk result (λ _. Shortens cursor.old cursor.new) }
 {
     let header = for_header(alloc, cursor, left)?;
@@ -240,7 +272,8 @@ fn for_loop<'a>(
 #[cycle(statement)]
 #[tactic(auto, using(fk_expr::proofs::Halting::halting), unfolding(crate::specs::Reading::read_start))]
 fn start<'a>(alloc: Global, cursor: &mut Cursor<'_, 'a>, left: u32) -> Result<Stmt<'a>, SyntaxFault>
-    ensures read { Gives statement_of result cursor.new (read_start plenty (inner plenty left) (statements_with plenty left) cursor.old) }
+    ensures read { Gives statement_of result cursor.new
+        (read_start plenty (inner plenty left) (statements_with plenty left) cursor.old) }
     ensures shorter { IfOk result (λ _. Shortens cursor.old cursor.new) }
 {
     let word = cursor.expect(TokenKind::Start)?;
@@ -277,7 +310,8 @@ fn seq<'a>(alloc: Global, cursor: &mut Cursor<'_, 'a>, left: u32) -> Result<Stmt
 #[cycle(statement)]
 #[tactic(auto, using(crate::proofs::Headers::fork_header))]
 fn fork<'a>(alloc: Global, cursor: &mut Cursor<'_, 'a>, left: u32) -> Result<Stmt<'a>, SyntaxFault>
-    ensures read { Gives statement_of result cursor.new (read_fork plenty (inner plenty left) (statements_with plenty left) cursor.old) }
+    ensures read { Gives statement_of result cursor.new
+        (read_fork plenty (inner plenty left) (statements_with plenty left) cursor.old) }
     ensures shorter { IfOk result (λ _. Shortens cursor.old cursor.new) }
 {
     let header = fork_header(alloc, cursor, left)?;
@@ -403,7 +437,8 @@ fn do_condition<'a>(
     cursor: &mut Cursor<'_, 'a>,
     left: u32,
 ) -> Result<Expr<'a>, SyntaxFault>
-    ensures read { Makes (λ (x : Placed × (Tree × Placed)). x.1.0) tree_of result cursor.new (read_do_condition left cursor.old) }
+    ensures read { Makes (λ (x : Placed × (Tree × Placed)). x.1.0) tree_of result cursor.new
+        (read_do_condition left cursor.old) }
     ensures shorter { IfOk result (λ _. Shortens cursor.old cursor.new) }
 {
     cursor.expect(TokenKind::While)?;
@@ -419,7 +454,8 @@ fn condition<'a>(
     cursor: &mut Cursor<'_, 'a>,
     left: u32,
 ) -> Result<Expr<'a>, SyntaxFault>
-    ensures read { Gives tree_of result cursor.new (read_condition plenty (inner plenty left) cursor.old) }
+    ensures read { Gives tree_of result cursor.new
+        (read_condition plenty (inner plenty left) cursor.old) }
     ensures shorter { IfOk result (λ _. Shortens cursor.old cursor.new) }
 {
     cursor.expect(TokenKind::OpenParenthesis)?;
@@ -434,7 +470,9 @@ fn count<'a>(
     cursor: &mut Cursor<'_, 'a>,
     left: u32,
 ) -> Result<Option<Expr<'a>>, SyntaxFault>
-    ensures read { Gives (λ e. option_map tree_of e) result cursor.new (optional (just TokenKind.OpenParenthesis) (read_condition plenty (inner plenty left)) cursor.old) }
+    ensures read { Gives (λ e. option_map tree_of e) result cursor.new
+        (optional (just TokenKind.OpenParenthesis) (read_condition plenty (inner plenty left))
+        cursor.old) }
     ensures few { IfOk result (λ _. Leaves cursor.old cursor.new) }
 {
     if !cursor.next_is(TokenKind::OpenParenthesis) {
@@ -450,7 +488,8 @@ fn rank<'a>(
     cursor: &mut Cursor<'_, 'a>,
     left: u32,
 ) -> Result<Option<Expr<'a>>, SyntaxFault>
-    ensures read { Gives (λ e. option_map tree_of e) result cursor.new (optional (just TokenKind.Semicolon) (read_rank plenty (inner plenty left)) cursor.old) }
+    ensures read { Gives (λ e. option_map tree_of e) result cursor.new
+        (optional (just TokenKind.Semicolon) (read_rank plenty (inner plenty left)) cursor.old) }
     ensures few { IfOk result (λ _. Leaves cursor.old cursor.new) }
 {
     if !cursor.next_is(TokenKind::Semicolon) {
@@ -468,7 +507,8 @@ fn some_expression<'a>(
     cursor: &mut Cursor<'_, 'a>,
     left: u32,
 ) -> Result<Option<Expr<'a>>, SyntaxFault>
-    ensures read { Gives (λ e. option_map tree_of e) result cursor.new (read_some plenty (inner plenty left) cursor.old) }
+    ensures read { Gives (λ e. option_map tree_of e) result cursor.new
+        (read_some plenty (inner plenty left) cursor.old) }
     ensures few { IfOk result (λ _. Leaves cursor.old cursor.new) }
 {
     if !expression_is_next(cursor) {

@@ -109,7 +109,7 @@ arguments-loop-alloc-init t c = record {
 pub arguments-returns-in_err-assignment-2-clause-read : goal.arguments-returns-in_err-assignment-2-clause-read
 arguments-returns-in_err-assignment-2-clause-read t c =
     gives_fault _ _ _ _ _ c.from_residual-in_err-assignment-2.ensures.1
-    (arguments_halts (readers c.args.left) _ _ _ _ c.assignment-in-loop-alloc.new.cursor (sym c.expression_is_next.ensures ∙ c.if-not-expression_is_next.false) c.in_ok-assignment.ensures.read
+    (arguments_halts (readers c.args.left) _ _ _ _ c.assignment-in-loop-alloc.new.cursor (sym c.expression_is_next.ensures.next ∙ c.if-not-expression_is_next.false) c.in_ok-assignment.ensures.read
     (halts_going _ _ _ _ _ _ _ (sym c.loop-alloc-test.ensures.next)
     (next_argument_halts (readers c.args.left) _ _ _ _ _ c.in_ok-expect.ensures.read c.in_err-assignment-2.ensures.read) c.loop-alloc.invariant.going))
 
@@ -124,6 +124,6 @@ arguments-loop-alloc-preserved t c = record {
 
 pub arguments-returns-clause-read : goal.arguments-returns-clause-read
 arguments-returns-clause-read t c =
-    arguments_reads (readers c.args.left) _ _ _ (tree_of c.in_ok-assignment.field-0) _ _ (sym c.expression_is_next.ensures ∙ c.if-not-expression_is_next.false) c.in_ok-assignment.ensures.read
+    arguments_reads (readers c.args.left) _ _ _ (tree_of c.in_ok-assignment.field-0) _ _ (sym c.expression_is_next.ensures.next ∙ c.if-not-expression_is_next.false) c.in_ok-assignment.ensures.read
     (going_end _ _ _ _ _ (sym c.loop-alloc-test.ensures.next) c.loop-alloc.invariant.going)
     (c.loop-alloc.invariant.all ∙ ap (λ items. map tree_of items ++ c.loop-alloc.invariant.others) (c.in_ok-push.ensures.items ∙ ap (λ items. items ++ c.in_ok-assignment.field-0 ∷ []) c.new-arguments.ensures.items))
