@@ -2,7 +2,6 @@
 use Rattle.std.specs.Prelude.{◌≡◌, ℕ, List, Option, Some, None, Bool, true, false, ◌⊎◌, Result, Ok, Err}
 use Rattle.fk_lex.specs.declared.token.TokenKind.{TokenKind}
 use Rattle.fk_reading.specs.declared.fault.SyntaxFault.{SyntaxFault}
-use Rattle.fk_reading.specs.declared.fault.SyntaxFault.TheVariants.{Nesting}
 use Rattle.fk_reading.specs.Languages.{Placed}
 use Rattle.fk_reading.specs.Reads as stop
 use Rattle.fk_expr.specs.Reading.{Readers}

@@ -3,7 +3,6 @@ use Rattle.std.proofs.Common.{◌≡◌, ℕ, ◌+◌, ◌≤◌, List, [], ◌�
 use Rattle.fk_syntax.specs.declared.nodes.Index.TheVariants.{Node}
 use Rattle.fk_syntax.specs.Nodes.{base_indices, declared_indices, declarations_indices, body_indices, item_indices, items_indices}
 use Rattle.fk_syntax.specs.Program.{DeclaredTree, Statements, ItemTree}
-use Rattle.fk_reading.specs.Languages.{◌then◌, ◌or◌}
 use Rattle.fk_reading.proofs.Uses.{Measure, Held, uncounted, by_place, both, each, held_uncounted, held_token, held_then, held_or, held_making, held_many}
 use Rattle.fk_expr.proofs.UsesTree.{Count, more, more_two, base_count, held_base}
 use Rattle.fk_parse.specs.Items as g

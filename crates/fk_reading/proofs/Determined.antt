@@ -1,5 +1,5 @@
 -- A list of tokens has one answer: how far what comes first goes, what it spells, and the first token past the bound on levels.
-use Rattle.std.proofs.Common.{◌≡◌, ℕ, ◌+◌, ◌≤◌, List, [], ◌∷◌, ◌++◌, Ok, Err, length, ◌⊎◌, inl, inr, refl, sym, ap, ◌∙◌, subst, append-nil, append_assoc, arith, length-append}
+use Rattle.std.proofs.Common.{◌≡◌, ℕ, ◌≤◌, List, [], ◌∷◌, ◌++◌, Ok, Err, length, ◌⊎◌, inl, inr, refl, sym, ap, ◌∙◌, subst, append-nil, append_assoc, arith, length-append}
 use Rattle.fk_reading.specs.Languages.{Placed, Stretch, tokens_of}
 use Rattle.fk_reading.specs.Reads.{Unexpected, EndOfText, Nesting, Answer, Family, Begins, IsShallow, IsLongest, ReadsValue, ReadsNothing, ReadsDeep, Reads, HasOneAnswer}
 use Rattle.fk_reading.specs.declared.limits.TheConstants.{LEVELS}

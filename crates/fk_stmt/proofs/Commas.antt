@@ -1,5 +1,5 @@
 -- How a loop reads a list with commas between, behind its first.
-use Rattle.std.proofs.Common.{◌≡◌, ◌+◌, ◌<◌, ◌^◌, List, [], ◌∷◌, ◌++◌, Ok, true, false, length}
+use Rattle.std.proofs.Common.{◌≡◌, ◌<◌, ◌^◌, List, [], ◌∷◌, ◌++◌, Ok, true, false, length}
 use Rattle.fk_reading.specs.Languages.{Placed}
 use Rattle.fk_reading.specs.Readers.{Reader, giving, ◌and◌, next_is, expect, repeated}
 use Rattle.fk_reading.specs.Ahead.{Shortens, Leaves, plenty}

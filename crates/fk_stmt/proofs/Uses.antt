@@ -4,9 +4,9 @@ use Rattle.fk_syntax.specs.declared.nodes.Index.{Index}
 use Rattle.fk_syntax.specs.declared.nodes.Index.TheVariants.{Node}
 use Rattle.fk_syntax.specs.Nodes.{base_indices, tree_indices, optional_indices, declared_indices, declarations_indices, statement_indices, statements_indices}
 use Rattle.fk_syntax.specs.Tree.{BaseType, Tree}
-use Rattle.fk_syntax.specs.Program.{DeclaredTree, Statement, If, While, For, Start, Farm, Seq, Fork, Barrier, Break, Continue, Return, Statements, statements_of}
+use Rattle.fk_syntax.specs.Program.{DeclaredTree, Statement, Statements, statements_of}
 use Rattle.fk_lex.specs.declared.token.TokenKind.{TokenKind}
-use Rattle.fk_reading.specs.Languages.{Language, token, ◌then◌, ◌or◌, maybe}
+use Rattle.fk_reading.specs.Languages.{Language, token, ◌then◌, maybe}
 use Rattle.fk_expr.specs.Grammar.{Comma, Assignment, deeper}
 use Rattle.fk_reading.proofs.Uses.{one, Measure, Held, uncounted, by_place, both, each, if_some, held_uncounted, held_token, held_then, held_or, held_making, held_many, held_maybe, held_nothing}
 use Rattle.fk_expr.proofs.UsesTree.{Count, more, more_two, base_count, tree_count, held_base, held_comma, held_assignment, held_deeper}
