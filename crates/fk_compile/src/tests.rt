@@ -38,7 +38,10 @@ fn a_text_is_compiled_or_refused_by_its_tree(rt: HostRuntime) -> Result<(), Fail
     assert_eq!(rt; image.code.len(), 2);
     let other = compile(rt.alloc(), b"void main(void) { start { } }");
     assert!(rt; matches!(&other, Err(Refusal::NotBuilt)));
-    let undeclared = compile(rt.alloc(), b"sh int y; void main(void) { x = 2 + 3; putint(x); }");
+    let undeclared = compile(
+        rt.alloc(),
+        b"sh int y; void main(void) { x = 2 + 3; putint(x); }",
+    );
     assert!(rt; matches!(&undeclared, Err(Refusal::NotBuilt)));
     Ok(())
 }
