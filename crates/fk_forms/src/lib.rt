@@ -10,7 +10,7 @@ mod tables;
 mod texts;
 
 pub use signs::{Move, is_shift, move_of, operator_of};
-pub use tables::{Home, Region, Slot};
+pub use tables::{FrameSize, Home, Region, Slot};
 pub use texts::text_bytes;
 
 #[cfg(test)]

@@ -34,3 +34,12 @@ pub struct Region {
     pub level: u32,
     pub words: u32,
 }
+
+/// How many words a function takes in each of its calls.
+#[derive(Clone, Copy, PartialEq, Eq, Debug)]
+pub struct FrameSize {
+    /// Its private words: parameters and variables.
+    pub private: u32,
+    /// The words of its own group frame.
+    pub shared: u32,
+}

@@ -1,0 +1,28 @@
+-- A program and a list that has its code in it.
+use Rattle.std.specs.Prelude.{ℕ, List, length, None}
+use Rattle.fk_syntax.specs.Program.{ProgramTree}
+use Rattle.fk_run.specs.Processor.{Setting}
+use Rattle.fk_run.specs.Schedule.{Schedule}
+use Rattle.fk_run.specs.Alike.{RunAlike}
+use Rattle.fk_forms.specs.Tables.{Tables}
+use Rattle.fk_forms.specs.Program.{bodies_of, main_of}
+use Rattle.fk_source.specs.Program as source
+use Rattle.fk_core.specs.declared.op.CoreOp.{CoreOp}
+use Rattle.fk_core.specs.Next.{next, opening}
+use Rattle.fk_core.specs.Stands.{Stands}
+use Rattle.fk_core.specs.WellFormed.{LeadsOn}
+
+-- the code of each function stands in the list, from the function's entry on. What has no body has its entry at the end
+pub record HasCodeOf (tables : Tables) (program : ProgramTree) (core : List CoreOp) (entry : ℕ → ℕ) : Type 0 where
+  pub leads_on : LeadsOn core
+  pub stands : (binding : ℕ) → Stands core entry (bodies_of tables program binding) None (entry binding) (length core)
+
+-- a schedule is lawful for both or for neither, and under it the stores and the stands are equal
+abbrev pub FlatListsKeepRuns : Type 0
+FlatListsKeepRuns =
+    (tables : Tables) (program : ProgramTree) (core : List CoreOp) (entry : ℕ → ℕ)
+    → HasCodeOf tables program core entry
+    → (words firsts input : List ℕ) (p : ℕ) (setting : Setting) (schedule : Schedule)
+    → RunAlike (source.next_in tables program) (next core) setting schedule
+      (source.opening tables program words firsts input p)
+      (opening (entry (main_of tables program)) words firsts input p)
