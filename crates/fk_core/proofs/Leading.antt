@@ -1,5 +1,6 @@
 -- Where jumps lead to, as the next operation finds it.
-use Rattle.std.proofs.Common.{◌≡◌, ℕ, zero, suc, Bool, true, false, true≢false, List, [], ◌∷◌, length, slice_get, Option, Some, None, ap, ◌∙◌, sym, refl, subst}
+use Rattle.std.proofs.Common.{◌≡◌, ℕ, zero, suc, Bool, true, false, true≢false, List, [], ◌∷◌, length, slice_get, Option, Some, None, ap, ◌∙◌, sym, refl, subst, arith}
+use Rattle.std.proofs.Math.Dec.{eqb-suc-zero}
 use Rattle.std.specs.Prelude.{◌<◌}
 use Rattle.fk_operation.specs.declared.operation.Operation.{Operation}
 use Rattle.fk_run.specs.Round.{Step}
@@ -15,7 +16,7 @@ some_same op other o e f = cc
 -- what is an operation is no jump
 no_jump_kind : (kind n : ℕ) (operation : Operation) → operation_of kind n ≡ Some operation → (is_jump (record { kind = kind; site = 0; number = n; target = 0; depth = 0 })) ≡ false
 no_jump_kind zero n operation e = absurd (cc)
-no_jump_kind (suc k) n operation e = refl
+no_jump_kind (suc k) n operation e = eqb-suc-zero k
 
 no_jump : (op : CoreOp) (operation : Operation) → operation_of op.kind op.number ≡ Some operation → is_jump op ≡ false
 no_jump op operation e = no_jump_kind op.kind op.number operation e

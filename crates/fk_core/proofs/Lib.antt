@@ -1,3 +1,5 @@
 pub mod Leading
 pub mod Running
 pub mod KeepsRuns
+mod Examples
+mod StandsExample

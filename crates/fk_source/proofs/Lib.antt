@@ -1,4 +1,4 @@
-mod Seen
+pub mod Seen
 mod Programs
 pub mod Sited
 pub mod Bodies
