@@ -1,6 +1,7 @@
 -- Runs of flat lists, evaluated. Lists, rounds and expected values are those of another interpreter of the same rules.
 use Rattle.std.proofs.Common.{◌≡◌, ℕ, Bool, true, List, [], ◌∷◌, length, slice_get, Option, Some, None, refl}
-use Rattle.std.specs.Prelude.{◌==◌, ◌&&◌, list_all}
+use Rattle.std.specs.Prelude.{◌==◌, ◌&&◌}
+use Rattle.std.specs.List.{list_all}
 use Rattle.fk_run.specs.Processor.{Setting, setting_of, values}
 use Rattle.fk_run.specs.Round.{Runner, State, result}
 use Rattle.fk_run.specs.Schedule.{Schedule, SourceFinished, SourceFaulted}

@@ -22,9 +22,9 @@ no_jump : (op : CoreOp) (operation : Operation) → operation_of op.kind op.numb
 no_jump op operation e = no_jump_kind op.kind op.number operation e
 
 module _ (core : List CoreOp) (entry : ℕ → ℕ) where
-  pub then : {i j k : ℕ} → Leads core entry i j → Leads core entry j k → Leads core entry i k
-  then Stay b = b
-  then (Go op e z a) b = Go op e z (then a b)
+  pub onto : {i j k : ℕ} → Leads core entry i j → Leads core entry j k → Leads core entry i k
+  onto Stay b = b
+  onto (Go op e z a) b = Go op e z (onto a b)
 
   -- no jump stands at an index
   abbrev pub StopsAt : ℕ → Type 0

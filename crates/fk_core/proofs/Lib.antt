@@ -3,3 +3,4 @@ pub mod Running
 pub mod KeepsRuns
 mod Examples
 mod StandsExample
+mod CodeExample

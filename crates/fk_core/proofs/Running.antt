@@ -12,7 +12,7 @@ use Rattle.fk_core.specs.declared.op.CoreOp.{CoreOp}
 use Rattle.fk_core.specs.Next.{Position, position, follows, returned, next}
 use Rattle.fk_core.specs.Stands.{Loop, Around, is_first, is_start, Leads, Stay, Go, OpFrom, GoesOn, Enters, Returns, Stands}
 use Rattle.fk_core.specs.WellFormed.{LeadsOn}
-use Rattle.fk_core.proofs.Leading.{then, next_at, none_at}
+use Rattle.fk_core.proofs.Leading.{onto, next_at, none_at}
 
 -- code that is settled: an operation stands first, or a loop under way, or there is nothing
 abbrev is_open : Code ℕ → Bool
@@ -91,19 +91,19 @@ module _ (core : List CoreOp) (entry : ℕ → ℕ) where
 
   -- what stands at an index stands where jumps lead to it
   abbrev earlier : {i j site : ℕ} {op : Operation} → Leads core entry i j → OpFrom core entry j site op → OpFrom core entry i site op
-  earlier l o = record { at = o.at; op = o.op; leads = then core entry l o.leads; stands = o.stands; is_read = o.is_read; has_site = o.has_site }
+  earlier l o = record { at = o.at; op = o.op; leads = onto core entry l o.leads; stands = o.stands; is_read = o.is_read; has_site = o.has_site }
 
   led : (code : Code ℕ) (c : Around) (i j : ℕ) → Leads core entry i j → Runs code c j → Runs code c i
-  led done c i j l h = (h.0, then core entry l h.1)
+  led done c i j l h = (h.0, onto core entry l h.1)
   led (perform n op rest) c i j l h = (earlier l h.0, h.1, h.2, h.3, h.4)
   led (choose n op x y rest) c i j l h = (earlier l h.0, h.1, h.2, h.3, h.4, h.5, h.6, h.7, h.8)
-  led (while t b s rest) c i j l h = (h.0, h.1, h.2, then core entry l h.3, h.4, h.5, h.6, h.7, h.8, h.9)
-  led (until b t rest) c i j l h = (h.0, h.1, h.2, then core entry l h.3, h.4, h.5, h.6, h.7, h.8)
-  led (turn t b s rest) c i j l h = (h.0, h.1, h.2, then core entry l h.3, h.4, h.5, h.6, h.7, h.8, h.9, h.10, h.11, h.12)
-  led (again t b s rest) c i j l h = (h.0, h.1, h.2, then core entry l h.3, h.4, h.5, h.6, h.7, h.8, h.9, h.10, h.11, h.12)
+  led (while t b s rest) c i j l h = (h.0, h.1, h.2, onto core entry l h.3, h.4, h.5, h.6, h.7, h.8, h.9)
+  led (until b t rest) c i j l h = (h.0, h.1, h.2, onto core entry l h.3, h.4, h.5, h.6, h.7, h.8)
+  led (turn t b s rest) c i j l h = (h.0, h.1, h.2, onto core entry l h.3, h.4, h.5, h.6, h.7, h.8, h.9, h.10, h.11, h.12)
+  led (again t b s rest) c i j l h = (h.0, h.1, h.2, onto core entry l h.3, h.4, h.5, h.6, h.7, h.8, h.9, h.10, h.11, h.12)
   led (quit n op rest) c i j l h = (earlier l h.0, h.1, h.2, h.3, h.4, h.5, h.6)
-  led (break rest) c i j l h = (h.0, h.1, h.2, then core entry l h.3, h.4)
-  led (continue rest) c i j l h = (h.0, h.1, h.2, then core entry l h.3, h.4)
+  led (break rest) c i j l h = (h.0, h.1, h.2, onto core entry l h.3, h.4)
+  led (continue rest) c i j l h = (h.0, h.1, h.2, onto core entry l h.3, h.4)
   led (call n op f opening rest) c i j l h = (earlier l h.0, h.1, h.2, h.3, h.4, h.5, h.6, h.7)
   led (ends n op rest) c i j l h = (earlier l h.0, h.1, h.2, h.3)
 

@@ -24,5 +24,5 @@ FlatListsKeepRuns =
     → HasCodeOf tables program core entry
     → (words firsts input : List ℕ) (p : ℕ) (setting : Setting) (schedule : Schedule)
     → RunAlike (source.next_in tables program) (next core) setting schedule
-      (source.opening tables program words firsts input p)
-      (opening (entry (main_of tables program)) words firsts input p)
+    (source.opening tables program words firsts input p)
+    (opening (entry (main_of tables program)) words firsts input p)

@@ -24,14 +24,14 @@ abbrev pub HasDepths : List CoreOp → (main : ℕ) → Type 0
 HasDepths core main =
     (words firsts input : List ℕ) (p : ℕ) (schedule : Schedule)
     → let setting = setting_of p words input in
-      let first = opening main words firsts input p in
-      let state = run (next core) setting schedule first in
-      IsLawful (next core) setting schedule first
-      → state.fault ≡ None
-      → (h : ℕ) (r : Runner Position) (op : CoreOp)
-      → slice_get state.runners h ≡ Some r
-      → slice_get core (landing core r.left.at) ≡ Some op
-      → length (values r.has) ≡ op.depth
+    let first = opening main words firsts input p in
+    let state = run (next core) setting schedule first in
+    IsLawful (next core) setting schedule first
+    → state.fault ≡ None
+    → (h : ℕ) (r : Runner Position) (op : CoreOp)
+    → slice_get state.runners h ≡ Some r
+    → slice_get core (landing core r.left.at) ≡ Some op
+    → length (values r.has) ≡ op.depth
 
 pub record IsWellFormed (core : List CoreOp) (main : ℕ) : Type 0 where
   pub leads_on : LeadsOn core
