@@ -1,0 +1,3 @@
+pub mod Things
+pub mod Class
+pub mod Shared
