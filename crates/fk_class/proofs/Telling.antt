@@ -1,5 +1,6 @@
 -- What the names that are known say of a token is what it is in the program.
-use Rattle.std.proofs.Common.{◌≡◌, ◌↔◌, ℕ, Bool, true, false, map, Option, Some, None, IsTrue, slice_get, refl, sym, ap, subst, ◌∙◌, fun_ext}
+use Rattle.std.proofs.Common.{◌≡◌, ◌↔◌, ℕ, Bool, true, false, map, Option, Some, None, IsTrue, slice_get, refl, sym, ap, subst, ◌∙◌}
+use Rattle.std.proofs.Math.Path.{fun_ext}
 use Rattle.fk_syntax.specs.Tree.{Tree}
 use Rattle.fk_syntax.specs.Program.{ProgramTree}
 use Rattle.fk_names.specs.declared.names.Names.{Names}
@@ -21,7 +22,7 @@ module _ (program : ProgramTree) (names : Names) (are : AreNames program names) 
   declares-is token number None x h e t = absurd (cc)
   declares-is token number (Some (Variable variable)) x h e t =
       let is : (b : Bool) → variable.shared ≡ b → Is program token (variable_thing b) = λ b.
-          elim b as (λ b. variable.shared ≡ b → Is program token (variable_thing b)) [ true ↦ (λ s. (number, variable, h, e, s)) | false ↦ (λ s. (number, variable, h, e, s)) ] in
+      elim b as (λ b. variable.shared ≡ b → Is program token (variable_thing b)) [ true ↦ (λ s. (number, variable, h, e, s)) | false ↦ (λ s. (number, variable, h, e, s)) ] in
       let same : variable_thing variable.shared ≡ x = cc in
       subst (Is program token) same (is variable.shared refl)
   declares-is token number (Some (Header function)) x h e t =
@@ -59,6 +60,7 @@ same-telling : (program : ProgramTree) (f g : ℕ → Option Thing) → Tells pr
 same-telling program f g tf tg = fun_ext (λ token. same-answer program f g tf tg token (f token) (g token) refl refl)
 
 pub shared-in : (program : ProgramTree) (names : Names) → AreNames program names → (tree : Tree) (result : Bool) → result ≡ is_shared (thing_in names) tree → IsTrue result ↔ IsShared program tree
-shared-in program names are tree result e =
-    ((λ h. (thing_in names, names-tell program names are, subst IsTrue e h)),
-    (λ s. subst IsTrue (ap (λ f. is_shared f tree) (same-telling program s.0 (thing_in names) s.1 (names-tell program names are)) ∙ sym e) s.2))
+shared-in program names are tree result e = (
+  (λ h. (thing_in names, names-tell program names are, subst IsTrue e h)),
+  (λ s. subst IsTrue (ap (λ f. is_shared f tree) (same-telling program s.0 (thing_in names) s.1 (names-tell program names are)) ∙ sym e) s.2),
+)

@@ -7,6 +7,5 @@ mod thing;
 
 pub use class::is_shared;
 
-
 #[cfg(test)]
 mod tests;
