@@ -1,5 +1,5 @@
 -- Which expressions of a program are shared.
-use Rattle.std.specs.Prelude.{◌≡◌, ℕ, Option, IsTrue}
+use Rattle.std.specs.Prelude.{ℕ, Option, IsTrue}
 use Rattle.fk_syntax.specs.Tree.{Tree}
 use Rattle.fk_syntax.specs.Program.{ProgramTree}
 use Rattle.fk_class.specs.declared.thing.Thing.{Thing}

@@ -85,7 +85,8 @@ fn with_suffix(
 
 #[test]
 fn names_are_as_what_they_mean(rt: HostRuntime) -> Result<(), Fail> {
-    let (shared, private) = (variable(true), variable(false));
+    let shared = variable(true);
+    let private = variable(false);
     let names = Names {
         declarations: vec![in rt.alloc();
             Declaration::Variable(&shared),
