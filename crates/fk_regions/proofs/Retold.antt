@@ -78,7 +78,7 @@ variables-retold around (x ∷ xs) = both (variable_tokens around x) _ _ _ (more
 own-retold : (around : Holders) (statement : Statement) → map retold (own_tokens around statement) ≡ own_tokens (around_of around) statement
 own-retold around p.Empty = refl
 own-retold around (p.Expression value) = tree-retold around value
-own-retold around (p.Block statements) = refl
+own-retold around (p.Block _) = refl
 own-retold around (p.Declare variables) = variables-retold around variables
 own-retold around (p.If spot condition body) = more _ _ _ (tree-retold around condition)
 own-retold around (p.IfElse spot condition body otherwise) = more _ _ _ (tree-retold around condition)

@@ -88,7 +88,7 @@ variables_tokens around (x ∷ xs) = variable_tokens around x ++ variables_token
 abbrev pub own_tokens : {R : Type 0} → R → Statement → List (Standing R)
 own_tokens around p.Empty = []
 own_tokens around (p.Expression value) = tree_tokens around value
-own_tokens around (p.Block statements) = []
+own_tokens around (p.Block _) = []
 own_tokens around (p.Declare variables) = variables_tokens around variables
 own_tokens around (p.If spot condition body) = stands around spot w.If ∷ tree_tokens around condition
 own_tokens around (p.IfElse spot condition body otherwise) = stands around spot w.If ∷ tree_tokens around condition
