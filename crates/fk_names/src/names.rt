@@ -172,9 +172,8 @@ pub fn resolve<'p, 'a>(alloc: Global, program: &'p Program<'a>) -> Result<Names<
 #[cfg(test)]
 mod tests {
     use super::*;
-    use fk_syntax::{
-        Base, Declared, Expr, Function, Item, Mode, Name, Place, Stmt, TypeName, well_formed,
-    };
+    use fk_syntax::{Base, Declared, Expr, Function, Item, Mode, Name, Place, Stmt, TypeName};
+    use fk_well_formed::well_formed;
     use std::test::Fail;
 
     const PLACE: Place = Place { line: 1, column: 1 };

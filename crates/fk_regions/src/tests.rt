@@ -3,8 +3,8 @@
 use crate::regions;
 use fk_syntax::{
     Base, Expr, Facts, Function, Item, Mode, Name, Note, Place, Program, Spot, Stmt, TypeName,
-    well_formed,
 };
+use fk_well_formed::well_formed;
 use std::alloc::{AllocError, Global};
 use std::test::Fail;
 

@@ -4,4 +4,3 @@ pub mod Program
 pub mod ProgramView
 pub mod Nodes
 pub mod WellFormed
-pub mod Visits

@@ -7,12 +7,10 @@ mod nodes;
 pub mod place;
 pub mod program;
 pub mod sign;
-mod visitors;
-mod walk;
 
 pub use expression::{Base, Expr, Link, Suffix, TypeName};
 pub use facts::{CheckFault, Facts, Kind, Note};
-pub use nodes::well_formed;
+pub use nodes::Index;
 pub use place::{Name, Place, Spot};
 pub use program::{Declared, Function, Item, Mode, Program, Stmt};
 pub use sign::Sign;

@@ -1,0 +1,8 @@
+//! Whether the nodes of a Fork95 program are known by the indices of their tokens.
+#![tactic(auto)]
+
+mod nodes;
+mod visitors;
+mod walk;
+
+pub use nodes::well_formed;
