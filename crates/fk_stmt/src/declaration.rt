@@ -102,7 +102,8 @@ pub fn rows<'a>(
         (λ rows. map declared_of rows.items) result cursor.new (read_others left cursor.old) }
     ensures few { IfOk result (λ _. Leaves cursor.old cursor.new) }
 {
-    let mut rows = Vec::new(alloc);
+    // Most declarations have one variable.
+    let mut rows = Vec::with_capacity(alloc, 1)?;
     rows.push(first.complete(shared, base))?;
     while cursor.next_is(TokenKind::Comma) {
         cursor.expect(TokenKind::Comma)?;
