@@ -1,13 +1,25 @@
 -- What a search by equal bytes says of a list of borrowed names, and when names stay distinct.
-use Rattle.std.proofs.Common.{◌≡◌, ℕ, zero, suc, ◌<◌, ◌⊎◌, inl, inr, Bool, true, false, not, ◌||◌, List, [], ◌∷◌, ◌++◌, Bor, Decides, length, get_or, map, position, Option, None, Some, is_some, Contains, refl, sym, ap, subst, ◌∙◌, arith, nat_eq}
+use Rattle.std.proofs.Common.{◌≡◌, ◌≢◌, ℕ, zero, suc, ◌<◌, ◌⊎◌, inl, inr, All, rules, Bool, true, false, not, ◌||◌, List, [], ◌∷◌, ◌++◌, Bor, Decides, length, get_or, map, position, Option, None, Some, is_some, Contains, refl, sym, ap, subst, ◌∙◌, arith, nat_eq}
+use Rattle.std.specs.Prelude.{slice_index}
 use Rattle.std.specs.List.{list_any}
 use Rattle.std.proofs.lemmas.Bool.{false≢true}
 use Rattle.std.proofs.lemmas.List.{get_or-map, length-map}
-use Rattle.std.proofs.lemmas.List.Elements.{Contains-append_right, Contains-push_cases}
+use Rattle.std.proofs.lemmas.List.Elements.{All-contains, All-from_recursion, Contains-append_right, Contains-push_cases}
 use Rattle.std.proofs.lemmas.List.Quantifiers.{position-Some}
 use Rattle.std.proofs.lemmas.Slice.Eq.{bytes_eq-Decides}
 use Rattle.std.specs.Cmp.Lexicographic.{pointwise}
-use Rattle.fk_straight.specs.Straight.{Names, AreDistinct}
+use Rattle.fk_straight.specs.Straight.{Names, AreDistinct, reserved}
+
+-- no reserved name is empty
+named : All (λ name. 0 < length name) reserved
+named = All-from_recursion (λ name. 0 < length name) reserved (search rules)
+
+-- a word that begins as no reserved name does is none
+pub not_reserved : (word : List ℕ) (first : ℕ) → All (λ name. slice_index name 0 ≢ first) reserved → slice_index word 0 ≡ first → ¬ Contains reserved word
+not_reserved word first none is h = All-contains (λ name. slice_index name 0 ≢ first) reserved word none h is
+
+pub empty_is_free : (word : List ℕ) → length word ≡ 0 → ¬ Contains reserved word
+empty_is_free word is h = let some : 0 < length word = All-contains (λ name. 0 < length name) reserved word named h in absurd (omega arith)
 
 pub Contains-head : {X : Type 0} (x : X) (xs : List X) → Contains (x ∷ xs) x
 Contains-head x xs = (0, omega arith, refl)

@@ -10,7 +10,7 @@ use crate::fault::StraightFault;
 use crate::names::Names;
 use crate::only::only;
 use fk_syntax::{Base, Declared, Function, Item, Mode, Stmt, TypeName};
-use std::alloc::Global;
+use std::alloc::{AllocError, Global};
 
 // The name that an item declares, where it is `sh int` with this name alone.
 fn declared_name<'a>(item: &Item<'a>) -> Option<&'a [u8]>
@@ -66,7 +66,9 @@ pub(crate) fn names_of<'a>(alloc: Global, items: &[Item<'a>]) -> Result<Names<'a
     ensures refused { result ≡ Err StraightFault.NotStraight
         → NoDeclarations (map item_of items.now) }
 {
-    let mut names = Names::new(alloc);
+    let Ok(mut names) = Names::with_capacity(alloc, items.len()) else {
+        return Err(StraightFault::Memory(AllocError));
+    };
     for item in items {
         let Some(name) = declared_name(item) else {
             return Err(StraightFault::NotStraight);

@@ -1,6 +1,6 @@
 //! The names that a program declares.
 
-ghost use Rattle.std.specs.Prelude.{◌≡◌, ℕ, ◌+◌, ◌^◌, ◌<◌, ◌⊎◌, false, [], ◌∷◌, ◌++◌, length, slice_get, Contains, IsTrue, IsNone, IfSome, OnOk, OnErr};
+ghost use Rattle.std.specs.Prelude.{◌≡◌, ℕ, ◌+◌, ◌^◌, ◌<◌, ◌⊎◌, ◌≢◌, false, [], ◌∷◌, ◌++◌, length, slice_get, slice_index, All, Contains, IsTrue, IsNone, IfOk, IfSome, OnOk, OnErr};
 ghost use Rattle.fk_straight.specs.Straight.{reserved};
 
 use crate::fault::StraightFault;
@@ -27,10 +27,20 @@ const RESERVED: [&[u8]; 15] = [
     b"main",
 ];
 
+/// Whether one of these names may begin with this byte.
+fn begins_reserved(first: u8) -> bool
+    ensures { result ≡ false → All (λ name. slice_index name 0 ≢ first) reserved }
+{
+    first == b'm' || first == b's' || first == b'p' || first == b'g' || first == b'_'
+}
+
 fn is_reserved(word: &[u8]) -> bool
     ensures yes { IsTrue result → Contains reserved word.now }
     ensures other { result ≡ false → ¬ Contains reserved word.now }
 {
+    if word.is_empty() || !begins_reserved(word[0]) {
+        return false;
+    }
     RESERVED.contains(&word)
 }
 
@@ -51,13 +61,12 @@ impl<'a> Model for Names<'a> {
 }
 
 impl<'a> Names<'a> {
-    /// No name is declared yet.
-    pub(crate) fn new(alloc: Global) -> Self
-        ensures { result ≡ [] }
+    /// No name is declared yet, and there is room for so many.
+    pub(crate) fn with_capacity(alloc: Global, count: usize) -> Result<Self, AllocError>
+        ensures { IfOk result (λ names. names ≡ []) }
     {
-        Names {
-            words: IndexSet::new(alloc),
-        }
+        let words = IndexSet::with_capacity(alloc, count)?;
+        Ok(Names { words })
     }
 
     /// How many names are declared.

@@ -7,9 +7,10 @@ use Rattle.fk_straight.proofs.ItemLemmas as lemmas
 use Rattle.fk_straight.proofs.Zip.{zip_length}
 use Rattle.fk_straight.proofs.items.names_of.Goals as goal
 
-pub returns-in_default-clause-refused : goal.returns-in_default-clause-refused
-returns-in_default-clause-refused c = λ _.
-    lemmas.no_declaration c.args.items.now c.loop-item.item-index c.item-item.result (omega arith) c.item-item.is (c.in_default.ensures.none refl)
+pub returns-in_default-declared_name-clause-refused :
+    goal.returns-in_default-declared_name-clause-refused
+returns-in_default-declared_name-clause-refused c = λ _.
+    lemmas.no_declaration c.args.items.now c.loop-item.item-index c.item-item.result (omega arith) c.item-item.is (c.in_default-declared_name.ensures.none refl)
 
 pub declare-requires : goal.declare-requires
 declare-requires c =
