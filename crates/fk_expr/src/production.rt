@@ -150,7 +150,8 @@ fn level<'a>(
         (read_links plenty (inner plenty left) looseness (looseness - 1) cursor.old) }
     ensures fewer { IfOk result (λ _. length cursor.new ≤ length cursor.old) }
 {
-    let mut links = Vec::new(alloc);
+    // Most levels have one operator.
+    let mut links = Vec::with_capacity(alloc, 1)?;
     while operator_is_next(cursor, looseness) {
         let (token, sign) = expect_operator(cursor, looseness)?;
         let right = joined(alloc, cursor, left, looseness - 1)?;
