@@ -38,7 +38,10 @@ pub fn compile(alloc: Global, source: &[u8]) -> Result<Image, Refusal>
     }
     let tokens = lex(alloc, source).map_err(lexical)?;
     let tree = parse(alloc, tokens.as_slice()).map_err(syntactic)?;
+    // Their memory serves for the code.
+    drop(tokens);
     let program = straight(alloc, &tree).map_err(not_built)?;
+    drop(tree);
     generate(alloc, &program).map_err(Refusal::Memory)
 }
 
