@@ -1,17 +1,22 @@
--- What stands before a body is read as a whole.
-use Rattle.std.proofs.Common.{◌≡◌, ℕ, List, Ok, Err, refl, sym, subst, ◌∙◌}
-use Rattle.fk_syntax.specs.Program.{Statement, For, Fork}
-use Rattle.fk_reading.specs.declared.fault.SyntaxFault.{SyntaxFault}
-use Rattle.fk_reading.specs.Languages.{Placed}
+-- Statements are read by what stands before the last statement in them as one by one.
+use Rattle.std.proofs.Common.{◌≡◌, ℕ, zero, suc, ◌+◌, List, [], ◌∷◌, Bool, true, false, Ok, Err, refl, sym, ap, ◌∙◌, arith}
+use Rattle.std.proofs.lemmas.Bool.{or_left, or_right}
+use Rattle.fk_syntax.specs.Program.{Statement, Farm, Seq}
+use Rattle.fk_lex.specs.declared.token.TokenKind.TheVariants as kind
+use Rattle.fk_reading.specs.Languages.{Placed, spot}
 use Rattle.fk_reading.specs.Reads.{Answer}
-use Rattle.fk_reading.specs.Readers.{Reader, after, giving, ◌and◌}
-use Rattle.fk_expr.specs.Reading.{inner}
+use Rattle.fk_reading.specs.Kinds.{just}
+use Rattle.fk_reading.specs.Readers.{Reader, after, giving, ◌and◌, expect, next_is, either, by_next, unexpected}
 use Rattle.fk_reading.specs.Ahead.{plenty}
-use Rattle.fk_reading.specs.Gives.{Halts}
-use Rattle.fk_reading.proofs.Halting.{halts_after, halts_memory}
-use Rattle.fk_reading.proofs.Behind.{behind_reads, behind_halts}
-use Rattle.fk_stmt.specs.Reading.{statements_with, read_for, read_fork}
-use Rattle.fk_stmt.specs.Parts.{ForParts, ForkParts, read_for_header, read_fork_header, read_nested}
+use Rattle.fk_reading.proofs.Sets.{Kinds, ◌∪◌, Apart}
+use Rattle.fk_reading.proofs.EachKind.{apart_by}
+use Rattle.fk_reading.proofs.Or.{by_next-yes, by_next-no}
+use Rattle.fk_expr.specs.Reading.{inner}
+use Rattle.fk_stmt.specs.Reading.{begins_parameter, begins_statement, statements_with, read_while, read_for, read_start, read_fork, read_statement}
+use Rattle.fk_stmt.specs.Parts.{read_nested, read_worded}
+use Rattle.fk_stmt.specs.Headers.{Header, OfFarm, OfSeq, headed, begins_header, read_while_header, read_for_header, read_start_header, read_fork_header, read_headed, read_any}
+
+-- ---- a header is read as a whole
 
 unfoldable bind : {A B : Type 0} → Answer A → (A × List Placed → Answer B) → Answer B
 bind (Ok x) f = f x
@@ -33,57 +38,182 @@ bind_done x f = refl
 
 ruleset steps = (after_is, bind_bind, bind_done)
 
-abbrev made_for : ForParts × Statement → Statement
-made_for x = For x.0.at x.0.before x.0.condition x.0.after x.1
+-- what a header begins, with the statement behind it
+abbrev whole : ℕ → Reader Header → Reader Statement
+whole left P = giving (λ (header, body). headed header body) (P and read_nested left)
 
-abbrev made_fork : ForkParts × Statement → Statement
-made_fork x = Fork x.0.at x.0.parts x.0.part x.0.rank x.1
+while_is : (left : ℕ) (ts : List Placed) → read_while plenty (inner plenty left) (statements_with plenty left) ts ≡ whole left (read_while_header left) ts
+unfolding read_while
+while_is left ts = simp steps
 
-for_is : (left : ℕ) (ts : List Placed) → read_for plenty (inner plenty left) (statements_with plenty left) ts ≡ giving made_for (read_for_header left and read_nested left) ts
+for_is : (left : ℕ) (ts : List Placed) → read_for plenty (inner plenty left) (statements_with plenty left) ts ≡ whole left (read_for_header left) ts
 unfolding read_for
 for_is left ts = simp steps
 
-fork_is : (left : ℕ) (ts : List Placed) → read_fork plenty (inner plenty left) (statements_with plenty left) ts ≡ giving made_fork (read_fork_header left and read_nested left) ts
+start_is : (left : ℕ) (ts : List Placed) → read_start plenty (inner plenty left) (statements_with plenty left) ts ≡ whole left (read_start_header left) ts
+unfolding read_start
+start_is left ts = simp steps
+
+farm_is : (left : ℕ) (ts : List Placed) → giving (λ (word, inside). Farm (spot word) inside) (expect kind.Farm and read_nested left) ts ≡ whole left (giving (λ t. OfFarm (spot t)) (expect kind.Farm)) ts
+farm_is left ts = simp steps
+
+seq_is : (left : ℕ) (ts : List Placed) → giving (λ (word, inside). Seq (spot word) inside) (expect kind.Seq and read_nested left) ts ≡ whole left (giving (λ t. OfSeq (spot t)) (expect kind.Seq)) ts
+seq_is left ts = simp steps
+
+fork_is : (left : ℕ) (ts : List Placed) → read_fork plenty (inner plenty left) (statements_with plenty left) ts ≡ whole left (read_fork_header left) ts
 unfolding read_fork
 fork_is left ts = simp steps
 
-first_halts : {A B C : Type 0} (f : A × B → C) (P : Reader A) (Q : Reader B) (ts : List Placed) (fault : SyntaxFault) (now : List Placed)
-    → Halts (P ts) fault now → Halts (giving f (P and Q) ts) fault now
-first_halts f P Q ts fault now h =
-    halts_after (after (P ts) (λ x rest. after (Q rest) (λ y others. Ok ((x, y), others)))) (λ x rest. Ok (f x, rest)) fault now
-    (halts_after (P ts) (λ x rest. after (Q rest) (λ y others. Ok ((x, y), others))) fault now h)
+-- ---- one reader or another
 
-pub for_reads : (left : ℕ) (ts mid rest : List Placed) (h : ForParts) (s : Statement)
-    → read_for_header left ts ≡ Ok (h, mid) → read_nested left mid ≡ Ok (s, rest)
-    → read_for plenty (inner plenty left) (statements_with plenty left) ts ≡ Ok (For h.at h.before h.condition h.after s, rest)
-for_reads left ts mid rest h s e f = for_is left ts ∙ behind_reads made_for (read_for_header left) (read_nested left) ts mid rest h s e f
+-- two readers each answer as another does
+alike : {A : Type 0} (is : Kinds) (P P' Q Q' : Reader A) → ((ts : List Placed) → P ts ≡ P' ts) → ((ts : List Placed) → Q ts ≡ Q' ts)
+    → (ts : List Placed) → by_next is P Q ts ≡ by_next is P' Q' ts
+alike is P P' Q Q' p q ts = by (next_is is ts)
+  where
+    by : (b : Bool) → either b P Q ts ≡ either b P' Q' ts
+    by true = p ts
+    by false = q ts
 
-pub for_first : (left : ℕ) (ts : List Placed) (fault : SyntaxFault) (now : List Placed)
-    → Halts (read_for_header left ts) fault now → Halts (read_for plenty (inner plenty left) (statements_with plenty left) ts) fault now
-for_first left ts fault now h =
-    subst (λ a. Halts a fault now) (sym (for_is left ts)) (first_halts made_for (read_for_header left) (read_nested left) ts fault now h)
+-- the second does
+other : {A : Type 0} (is : Kinds) (P Q Q' : Reader A) → ((ts : List Placed) → Q ts ≡ Q' ts) → (ts : List Placed) → by_next is P Q ts ≡ by_next is P Q' ts
+other is P Q Q' q = alike is P P Q Q' (λ ts. refl) q
 
-pub for_body : (left : ℕ) (ts mid : List Placed) (h : ForParts) (fault : SyntaxFault) (now : List Placed)
-    → read_for_header left ts ≡ Ok (h, mid) → Halts (read_nested left mid) fault now → Halts (read_for plenty (inner plenty left) (statements_with plenty left) ts) fault now
-for_body left ts mid h fault now e n =
-    subst (λ a. Halts a fault now) (sym (for_is left ts)) (behind_halts made_for (read_for_header left) (read_nested left) ts mid h fault now e n)
+-- what is made of a header is the same where the header is
+whole_same : (left : ℕ) (P Q : Reader Header) (ts : List Placed) → P ts ≡ Q ts → whole left P ts ≡ whole left Q ts
+whole_same left P Q ts e = rw e refl
 
-pub fork_reads : (left : ℕ) (ts mid rest : List Placed) (h : ForkParts) (s : Statement)
-    → read_fork_header left ts ≡ Ok (h, mid) → read_nested left mid ≡ Ok (s, rest)
-    → read_fork plenty (inner plenty left) (statements_with plenty left) ts ≡ Ok (Fork h.at h.parts h.part h.rank s, rest)
-fork_reads left ts mid rest h s e f = fork_is left ts ∙ behind_reads made_fork (read_fork_header left) (read_nested left) ts mid rest h s e f
+-- two headers are one or the other
+joined : (left : ℕ) (f g : Kinds) (P Q : Reader Header) (R : Reader Statement) (ts : List Placed)
+    → by_next f (whole left P) (by_next g (whole left Q) R) ts ≡ by_next (f ∪ g) (whole left (by_next f P Q)) R ts
+joined left f g P Q R [] = refl
+joined left f g P Q R (t ∷ ts) = by (f t.kind) refl (g t.kind) refl
+  where
+    by : (a : Bool) → f t.kind ≡ a → (b : Bool) → g t.kind ≡ b
+        → by_next f (whole left P) (by_next g (whole left Q) R) (t ∷ ts) ≡ by_next (f ∪ g) (whole left (by_next f P Q)) R (t ∷ ts)
+    by true d b e =
+        by_next-yes f (whole left P) (by_next g (whole left Q) R) (t ∷ ts) d
+        ∙ sym (by_next-yes (f ∪ g) (whole left (by_next f P Q)) R (t ∷ ts) (or_left (f t.kind) (g t.kind) d)
+        ∙ whole_same left (by_next f P Q) P (t ∷ ts) (by_next-yes f P Q (t ∷ ts) d))
+    by false d true e =
+        by_next-no f (whole left P) (by_next g (whole left Q) R) (t ∷ ts) d ∙ by_next-yes g (whole left Q) R (t ∷ ts) e
+        ∙ sym (by_next-yes (f ∪ g) (whole left (by_next f P Q)) R (t ∷ ts) (or_right (f t.kind) (g t.kind) e)
+        ∙ whole_same left (by_next f P Q) Q (t ∷ ts) (by_next-no f P Q (t ∷ ts) d))
+    by false d false e =
+        by_next-no f (whole left P) (by_next g (whole left Q) R) (t ∷ ts) d ∙ by_next-no g (whole left Q) R (t ∷ ts) e
+        ∙ sym (by_next-no (f ∪ g) (whole left (by_next f P Q)) R (t ∷ ts) (rw (d, e) refl))
 
-pub fork_first : (left : ℕ) (ts : List Placed) (fault : SyntaxFault) (now : List Placed)
-    → Halts (read_fork_header left ts) fault now → Halts (read_fork plenty (inner plenty left) (statements_with plenty left) ts) fault now
-fork_first left ts fault now h =
-    subst (λ a. Halts a fault now) (sym (fork_is left ts)) (first_halts made_fork (read_fork_header left) (read_nested left) ts fault now h)
+-- of readers for kinds that are apart, either may be asked for first
+later : {A : Type 0} (f g : Kinds) → Apart f g → (P Q R : Reader A) (ts : List Placed) → by_next f P (by_next g Q R) ts ≡ by_next g Q (by_next f P R) ts
+later f g apart P Q R [] = refl
+later f g apart P Q R (t ∷ ts) = by (f t.kind) refl (g t.kind) refl
+  where
+    by : (a : Bool) → f t.kind ≡ a → (b : Bool) → g t.kind ≡ b → by_next f P (by_next g Q R) (t ∷ ts) ≡ by_next g Q (by_next f P R) (t ∷ ts)
+    by true d true e = absurd (apart t.kind d e)
+    by true d false e =
+        by_next-yes f P (by_next g Q R) (t ∷ ts) d ∙ sym (by_next-no g Q (by_next f P R) (t ∷ ts) e ∙ by_next-yes f P R (t ∷ ts) d)
+    by false d true e =
+        by_next-no f P (by_next g Q R) (t ∷ ts) d ∙ by_next-yes g Q R (t ∷ ts) e ∙ sym (by_next-yes g Q (by_next f P R) (t ∷ ts) e)
+    by false d false e =
+        by_next-no f P (by_next g Q R) (t ∷ ts) d ∙ by_next-no g Q R (t ∷ ts) e
+        ∙ sym (by_next-no g Q (by_next f P R) (t ∷ ts) e ∙ by_next-no f P R (t ∷ ts) d)
 
-pub fork_body : (left : ℕ) (ts mid : List Placed) (h : ForkParts) (fault : SyntaxFault) (now : List Placed)
-    → read_fork_header left ts ≡ Ok (h, mid) → Halts (read_nested left mid) fault now → Halts (read_fork plenty (inner plenty left) (statements_with plenty left) ts) fault now
-fork_body left ts mid h fault now e n =
-    subst (λ a. Halts a fault now) (sym (fork_is left ts)) (behind_halts made_fork (read_fork_header left) (read_nested left) ts mid h fault now e n)
+-- behind three others
+behind_three : {A : Type 0} (f a b c : Kinds) → Apart f a → Apart f b → Apart f c → (P X Y Z R : Reader A) (ts : List Placed)
+    → by_next f P (by_next a X (by_next b Y (by_next c Z R))) ts ≡ by_next a X (by_next b Y (by_next c Z (by_next f P R))) ts
+behind_three f a b c i j k P X Y Z R ts =
+    later f a i P X (by_next b Y (by_next c Z R)) ts
+    ∙ other a X (by_next f P (by_next b Y (by_next c Z R))) (by_next b Y (by_next c Z (by_next f P R)))
+    (λ ts. later f b j P Y (by_next c Z R) ts ∙ other b Y (by_next f P (by_next c Z R)) (by_next c Z (by_next f P R)) (later f c k P Z R) ts) ts
 
--- what the functions that read a header and a body go by
-pub ruleset for_header = (for_reads, for_first, for_body, halts_memory)
+-- ---- any statement
 
-pub ruleset fork_header = (fork_reads, fork_first, fork_body, halts_memory)
+-- the words are apart, and from what begins a declaration
+while_apart : Apart (just kind.While) (just kind.Do)
+unfolding just
+while_apart = apart_by (just kind.While) (just kind.Do) refl (λ v u. refl)
+
+semicolon_apart_if : Apart (just kind.Semicolon) (just kind.If)
+unfolding just
+semicolon_apart_if = apart_by (just kind.Semicolon) (just kind.If) refl (λ v u. refl)
+
+semicolon_apart_do : Apart (just kind.Semicolon) (just kind.Do)
+unfolding just
+semicolon_apart_do = apart_by (just kind.Semicolon) (just kind.Do) refl (λ v u. refl)
+
+semicolon_apart_header : Apart (just kind.Semicolon) begins_header
+unfolding just
+semicolon_apart_header = apart_by (just kind.Semicolon) begins_header refl (λ v u. refl)
+
+parameter_apart_if : Apart begins_parameter (just kind.If)
+unfolding just
+parameter_apart_if = apart_by begins_parameter (just kind.If) refl (λ v u. refl)
+
+parameter_apart_do : Apart begins_parameter (just kind.Do)
+unfolding just
+parameter_apart_do = apart_by begins_parameter (just kind.Do) refl (λ v u. refl)
+
+parameter_apart_header : Apart begins_parameter begins_header
+unfolding just
+parameter_apart_header = apart_by begins_parameter begins_header refl (λ v u. refl)
+
+-- those that begin with a header, from the last on
+abbrev with_fork : ℕ → Reader Statement → Reader Statement
+with_fork left R = by_next (just kind.Fork) (read_fork plenty (inner plenty left) (statements_with plenty left)) R
+
+abbrev seq_header : Reader Header
+seq_header = giving (λ t. OfSeq (spot t)) (expect kind.Seq)
+
+abbrev seq_statement : ℕ → Reader Statement
+seq_statement left = giving (λ (word, inside). Seq (spot word) inside) (expect kind.Seq and read_nested left)
+
+abbrev with_seq : ℕ → Reader Statement → Reader Statement
+with_seq left R = by_next (just kind.Seq) (seq_statement left) (with_fork left R)
+
+seq_on : (left : ℕ) (R : Reader Statement) (ts : List Placed)
+    → with_seq left R ts ≡ by_next (just kind.Seq ∪ just kind.Fork) (whole left (by_next (just kind.Seq) seq_header (read_fork_header left))) R ts
+seq_on left R ts =
+    alike (just kind.Seq) (seq_statement left) (whole left seq_header) (with_fork left R) (by_next (just kind.Fork) (whole left (read_fork_header left)) R) (seq_is left)
+    (alike (just kind.Fork) (read_fork plenty (inner plenty left) (statements_with plenty left)) (whole left (read_fork_header left)) R R (fork_is left) (λ ts. refl)) ts
+    ∙ joined left (just kind.Seq) (just kind.Fork) seq_header (read_fork_header left) R ts
+
+-- one more word before them
+word_on : (left : ℕ) (f g : Kinds) (S X R : Reader Statement) (P Q : Reader Header)
+    → ((ts : List Placed) → S ts ≡ whole left P ts) → ((ts : List Placed) → X ts ≡ by_next g (whole left Q) R ts)
+    → (ts : List Placed) → by_next f S X ts ≡ by_next (f ∪ g) (whole left (by_next f P Q)) R ts
+word_on left f g S X R P Q s x ts = alike f S (whole left P) X (by_next g (whole left Q) R) s x ts ∙ joined left f g P Q R ts
+
+-- all of them, where `do` stands behind `while`
+headers : (left : ℕ) (D R : Reader Statement) (ts : List Placed)
+    → by_next (just kind.While) (read_while plenty (inner plenty left) (statements_with plenty left))
+    (by_next (just kind.Do) D
+    (by_next (just kind.For) (read_for plenty (inner plenty left) (statements_with plenty left))
+    (by_next (just kind.Start) (read_start plenty (inner plenty left) (statements_with plenty left))
+    (by_next (just kind.Farm) (giving (λ (word, inside). Farm (spot word) inside) (expect kind.Farm and read_nested left))
+    (with_seq left R))))) ts
+    ≡ by_next (just kind.Do) D (by_next begins_header (read_headed left) R) ts
+headers left D R ts =
+    later (just kind.While) (just kind.Do) while_apart (read_while plenty (inner plenty left) (statements_with plenty left)) D _ ts
+    ∙ other (just kind.Do) D _ _
+    (word_on left (just kind.While) _ _ _ R (read_while_header left) _ (while_is left)
+    (word_on left (just kind.For) _ _ _ R (read_for_header left) _ (for_is left)
+    (word_on left (just kind.Start) _ _ _ R (read_start_header left) _ (start_is left)
+    (word_on left (just kind.Farm) (just kind.Seq ∪ just kind.Fork) _ _ R (giving (λ t. OfFarm (spot t)) (expect kind.Farm)) (by_next (just kind.Seq) seq_header (read_fork_header left)) (farm_is left)
+    (seq_on left R))))) ts
+
+-- any statement is read so
+pub any_is : (left : ℕ) (ts : List Placed) → read_statement plenty (inner plenty left) (statements_with plenty left) ts ≡ read_any left ts
+unfolding read_statement
+any_is left ts =
+    other (just kind.OpenBrace) _ _ _ (λ ts.
+    other (just kind.Semicolon) _ _ _ (λ ts.
+    other begins_parameter _ _ _ (other (just kind.If) _ _ _ (headers left _ (read_worded left))) ts
+    ∙ behind_three begins_parameter (just kind.If) (just kind.Do) begins_header parameter_apart_if parameter_apart_do parameter_apart_header _ _ _ _ _ ts) ts
+    ∙ behind_three (just kind.Semicolon) (just kind.If) (just kind.Do) begins_header semicolon_apart_if semicolon_apart_do semicolon_apart_header _ _ _ _ _ ts) ts
+
+-- in a statement, where a level is left
+pub nested_reads : (left inside : ℕ) (ts : List Placed) → next_is begins_statement ts ≡ true → inside + 1 ≡ left → read_nested left ts ≡ read_any inside ts
+nested_reads zero inside ts n h = absurd (omega arith)
+nested_reads (suc left) inside ts n h =
+    let same : left ≡ inside = omega arith in
+    by_next-yes begins_statement (read_statement plenty (inner plenty left) (statements_with plenty left)) unexpected ts n ∙ any_is left ts ∙ ap (λ k. read_any k ts) same

@@ -16,38 +16,38 @@ use Rattle.fk_lex.specs.declared.token.TokenKind.TheVariants as kind
 -- ---- declarations
 
 unfoldable pub read_separated : {A : Type 0} → ℕ → Reader A → Reader (List A)
-read_separated most P = giving (λ x. x.0 ∷ x.1) (P and repeated most (just kind.Comma) (giving (λ x. x.1) (expect kind.Comma and P)))
+read_separated most P = giving (λ (first, others). first ∷ others) (P and repeated most (just kind.Comma) (giving (λ (comma, next). next) (expect kind.Comma and P)))
 
 unfoldable pub read_length : Reader ℕ
-read_length = giving (λ x. x.1.0.1.0) (expect kind.OpenBracket and expect_told number_told and expect kind.CloseBracket)
+read_length = giving (λ (opening, ((at, (value, unsigned)), closing)). value) (expect kind.OpenBracket and expect_told number_told and expect kind.CloseBracket)
 
 -- [ length ] [ "=" assign ], behind the stars and the name
 unfoldable pub read_rest : ℕ → Option Readers → Reader (Option ℕ × Option Tree)
 read_rest most E =
-    optional (just kind.OpenBracket) read_length and optional (just kind.Assign) (giving (λ x. x.1) (expect kind.Assign and read_assignment most E))
+    optional (just kind.OpenBracket) read_length and optional (just kind.Assign) (giving (λ (equals, value). value) (expect kind.Assign and read_assignment most E))
 
 unfoldable pub read_variable : ℕ → Option Readers → Reader Declarator
 read_variable most E =
-    giving (λ x. record { stars = length x.0; name = name x.1.0; length = x.1.1.0; first = x.1.1.1 })
+    giving (λ (stars, (word, (size, first))). record { stars = length stars; name = name word; length = size; first = first })
     (repeated most (just kind.Star) (expect kind.Star) and expect kind.Word and read_rest most E)
 
 unfoldable pub read_member_name : ℕ → Reader Declarator
 read_member_name most =
-    giving (λ x. record { stars = length x.0; name = name x.1.0; length = x.1.1; first = None })
+    giving (λ (stars, (word, size)). record { stars = length stars; name = name word; length = size; first = None })
     (repeated most (just kind.Star) (expect kind.Star) and expect kind.Word and optional (just kind.OpenBracket) read_length)
 
 unfoldable pub read_variables : ℕ → Option Readers → Reader (List DeclaredTree)
 read_variables most E =
-    giving (λ x. map (declared (is_shared x.0) x.1.0) x.1.1.0)
+    giving (λ (sharing, (words, (list, end))). map (declared (is_shared sharing) words) list)
     (optional (tells sharing_told) (expect_told sharing_told) and read_base and read_separated most (read_variable most E) and expect kind.Semicolon)
 
 unfoldable pub read_member : ℕ → Reader (List DeclaredTree)
 read_member most =
-    giving (λ x. map (declared false x.0) x.1.0) (read_base and read_separated most (read_member_name most) and expect kind.Semicolon)
+    giving (λ (words, (list, end)). map (declared false words) list) (read_base and read_separated most (read_member_name most) and expect kind.Semicolon)
 
 unfoldable pub read_parameter : ℕ → Reader DeclaredTree
 read_parameter most =
-    giving (λ x. record { shared = is_shared x.0; kind = record { base = x.1.0; stars = length x.1.1.0 }; name = name x.1.1.1; length = None; first = None })
+    giving (λ (sharing, (words, (stars, word))). record { shared = is_shared sharing; kind = record { base = words; stars = length stars }; name = name word; length = None; first = None })
     (optional (tells sharing_told) (expect_told sharing_told) and read_base and repeated most (just kind.Star) (expect kind.Star) and expect kind.Word)
 
 -- "void" and a closing parenthesis come next
@@ -86,22 +86,22 @@ nested S = opened begins_statement S (λ P. P)
 
 unfoldable pub read_block : ℕ → Option (Reader Statement) → Reader Statements
 read_block most S =
-    giving (λ x. statements_of x.1.0) (expect kind.OpenBrace and repeated most begins_statement (nested S) and expect kind.CloseBrace)
+    giving (λ (opening, (list, closing)). statements_of list) (expect kind.OpenBrace and repeated most begins_statement (nested S) and expect kind.CloseBrace)
 
 unfoldable pub read_condition : ℕ → Option Readers → Reader Tree
-read_condition most E = giving (λ x. x.1.0) (expect kind.OpenParenthesis and read_comma most E and expect kind.CloseParenthesis)
+read_condition most E = giving (λ (opening, (tree, closing)). tree) (expect kind.OpenParenthesis and read_comma most E and expect kind.CloseParenthesis)
 
 unfoldable pub read_if : ℕ → Option Readers → Option (Reader Statement) → Reader Statement
 read_if most E S =
-    giving (λ x. branch (spot x.0) x.1.0 x.1.1.0 x.1.1.1)
-    (expect kind.If and read_condition most E and nested S and optional (just kind.Else) (giving (λ x. x.1) (expect kind.Else and nested S)))
+    giving (λ (word, (test, (inside, otherwise))). branch (spot word) test inside otherwise)
+    (expect kind.If and read_condition most E and nested S and optional (just kind.Else) (giving (λ (mark, inside). inside) (expect kind.Else and nested S)))
 
 unfoldable pub read_while : ℕ → Option Readers → Option (Reader Statement) → Reader Statement
-read_while most E S = giving (λ x. While (spot x.0) x.1.0 x.1.1) (expect kind.While and read_condition most E and nested S)
+read_while most E S = giving (λ (word, (test, inside)). While (spot word) test inside) (expect kind.While and read_condition most E and nested S)
 
 unfoldable pub read_do : ℕ → Option Readers → Option (Reader Statement) → Reader Statement
 read_do most E S =
-    giving (λ x. DoWhile (spot x.0) x.1.0 x.1.1.1.0)
+    giving (λ (word, (inside, (mark, (test, end)))). DoWhile (spot word) inside test)
     (expect kind.Do and nested S and expect kind.While and read_condition most E and expect kind.Semicolon)
 
 -- an expression, where one comes next
@@ -110,31 +110,31 @@ read_some most E = optional begins_expression (read_comma most E)
 
 unfoldable pub read_for : ℕ → Option Readers → Option (Reader Statement) → Reader Statement
 read_for most E S =
-    giving (λ x. For (spot x.0) x.1.1.0 x.1.1.1.1.0 x.1.1.1.1.1.1.0 x.1.1.1.1.1.1.1.1)
+    giving (λ (word, (opening, (before, (first, (test, (second, (after, (closing, inside)))))))). For (spot word) before test after inside)
     (expect kind.For and expect kind.OpenParenthesis and read_some most E and expect kind.Semicolon
     and read_some most E and expect kind.Semicolon and read_some most E and expect kind.CloseParenthesis and nested S)
 
 unfoldable pub read_start : ℕ → Option Readers → Option (Reader Statement) → Reader Statement
 read_start most E S =
-    giving (λ x. Start (spot x.0) x.1.0 x.1.1) (expect kind.Start and optional (just kind.OpenParenthesis) (read_condition most E) and nested S)
+    giving (λ (word, (count, inside)). Start (spot word) count inside) (expect kind.Start and optional (just kind.OpenParenthesis) (read_condition most E) and nested S)
 
 unfoldable pub read_rank : ℕ → Option Readers → Reader Tree
-read_rank most E = giving (λ x. x.1.1.1) (expect kind.Semicolon and expect kind.Dollar and expect kind.Assign and read_comma most E)
+read_rank most E = giving (λ (end, (dollar, (equals, rank))). rank) (expect kind.Semicolon and expect kind.Dollar and expect kind.Assign and read_comma most E)
 
 unfoldable pub read_fork : ℕ → Option Readers → Option (Reader Statement) → Reader Statement
 read_fork most E S =
-    giving (λ x. Fork (spot x.0) x.1.1.0 x.1.1.1.1.1.1.0 x.1.1.1.1.1.1.1.0 x.1.1.1.1.1.1.1.1.1)
+    giving (λ (word, (opening, (parts, (end, (at, (equals, (part, (rank, (closing, inside))))))))). Fork (spot word) parts part rank inside)
     (expect kind.Fork and expect kind.OpenParenthesis and read_comma most E and expect kind.Semicolon and expect kind.At and expect kind.Assign
     and read_comma most E and optional (just kind.Semicolon) (read_rank most E) and expect kind.CloseParenthesis and nested S)
 
 abbrev pub read_plain : TokenKind → Reader Placed
-read_plain is = giving (λ x. x.0) (expect is and expect kind.Semicolon)
+read_plain is = giving (λ (word, end). word) (expect is and expect kind.Semicolon)
 
 unfoldable pub read_return : ℕ → Option Readers → Reader Statement
-read_return most E = giving (λ x. Return (spot x.0) x.1.0) (expect kind.Return and read_some most E and expect kind.Semicolon)
+read_return most E = giving (λ (word, (value, end)). Return (spot word) value) (expect kind.Return and read_some most E and expect kind.Semicolon)
 
 unfoldable pub read_expression : ℕ → Option Readers → Reader Statement
-read_expression most E = giving (λ x. Expression x.0) (read_comma most E and expect kind.Semicolon)
+read_expression most E = giving (λ (tree, end). Expression tree) (read_comma most E and expect kind.Semicolon)
 
 unfoldable pub read_statement : ℕ → Option Readers → Option (Reader Statement) → Reader Statement
 read_statement most E S =
@@ -146,8 +146,8 @@ read_statement most E S =
     (by_next (just kind.Do) (read_do most E S)
     (by_next (just kind.For) (read_for most E S)
     (by_next (just kind.Start) (read_start most E S)
-    (by_next (just kind.Farm) (giving (λ x. Farm (spot x.0) x.1) (expect kind.Farm and nested S))
-    (by_next (just kind.Seq) (giving (λ x. Seq (spot x.0) x.1) (expect kind.Seq and nested S))
+    (by_next (just kind.Farm) (giving (λ (word, inside). Farm (spot word) inside) (expect kind.Farm and nested S))
+    (by_next (just kind.Seq) (giving (λ (word, inside). Seq (spot word) inside) (expect kind.Seq and nested S))
     (by_next (just kind.Fork) (read_fork most E S)
     (by_next (just kind.Barrier) (giving (λ t. Barrier (spot t)) (read_plain kind.Barrier))
     (by_next (just kind.Break) (giving (λ t. Break (spot t)) (read_plain kind.Break))

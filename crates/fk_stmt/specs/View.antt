@@ -2,16 +2,18 @@
 use Rattle.std.specs.Option.{option_map}
 use Rattle.fk_syntax.specs.View.{named, tree_of}
 use Rattle.fk_stmt.specs.declared.declaration.Declarator.{Declarator}
-use Rattle.fk_stmt.specs.declared.statement.ForHeader.{ForHeader}
-use Rattle.fk_stmt.specs.declared.statement.ForkHeader.{ForkHeader}
-use Rattle.fk_stmt.specs.Parts.{ForParts, ForkParts}
+use Rattle.fk_stmt.specs.declared.header.Header.{Header}
+use Rattle.fk_stmt.specs.declared.header.Header.TheVariants as c
+use Rattle.fk_stmt.specs.Headers as h
 use Rattle.fk_stmt.specs.Statements as s
 
 abbrev pub declarator_of : Declarator → s.Declarator
 declarator_of d = record { stars = d.stars; name = named d.name; length = d.length; first = option_map tree_of d.first }
 
-abbrev pub for_parts_of : ForHeader → ForParts
-for_parts_of h = record { at = h.at; before = option_map tree_of h.before; condition = option_map tree_of h.condition; after = option_map tree_of h.after }
-
-abbrev pub fork_parts_of : ForkHeader → ForkParts
-fork_parts_of h = record { at = h.at; parts = tree_of h.parts; part = tree_of h.part; rank = option_map tree_of h.rank }
+abbrev pub header_of : Header → h.Header
+header_of (c.While at condition) = h.OfWhile at (tree_of condition)
+header_of (c.For at before condition after) = h.OfFor at (option_map tree_of before) (option_map tree_of condition) (option_map tree_of after)
+header_of (c.Start at count) = h.OfStart at (option_map tree_of count)
+header_of (c.Farm at) = h.OfFarm at
+header_of (c.Seq at) = h.OfSeq at
+header_of (c.Fork at parts part rank) = h.OfFork at (tree_of parts) (tree_of part) (option_map tree_of rank)

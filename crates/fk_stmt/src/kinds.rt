@@ -8,6 +8,7 @@ ghost use Rattle.fk_stmt.specs.Reading.{
   begins_word,
   begins_statement,
 };
+ghost use Rattle.fk_stmt.specs.Headers.{begins_header};
 
 use fk_expr::kinds::{begins_expression, begins_type};
 use fk_lex::token::TokenKind;
@@ -49,6 +50,22 @@ pub fn begins_word(kind: TokenKind) -> bool
             | TokenKind::Break
             | TokenKind::Continue
             | TokenKind::Return
+    )
+}
+
+/// Whether it is a word that begins what stands before the last statement in a statement.
+#[tactic(auto, unfolding(fk_reading::specs::Kinds::just))]
+pub fn begins_header(kind: TokenKind) -> bool
+    ensures { result ≡ begins_header kind }
+{
+    matches!(
+        kind,
+        TokenKind::While
+            | TokenKind::For
+            | TokenKind::Start
+            | TokenKind::Farm
+            | TokenKind::Seq
+            | TokenKind::Fork
     )
 }
 

@@ -6,6 +6,9 @@
 #![tactic(auto)]
 
 pub mod declaration;
+mod expressions;
+mod header;
 pub mod kinds;
+mod simple;
 pub mod statement;
 pub mod told;

@@ -8,8 +8,9 @@ ghost use Rattle.fk_expr.specs.Reading.{inner};
 ghost use Rattle.fk_expr.specs.Gives.{Opens};
 ghost use Rattle.fk_stmt.specs.Kinds.{sharing_told};
 ghost use Rattle.fk_stmt.specs.Reading.{begins_parameter, begins_statement};
+ghost use Rattle.fk_stmt.specs.Headers.{begins_header};
 
-use crate::kinds::{begins_parameter, begins_statement, sharing};
+use crate::kinds::{begins_header, begins_parameter, begins_statement, sharing};
 use fk_expr::level::inside;
 use fk_reading::cursor::{Cursor, Numbered};
 use fk_reading::fault::SyntaxFault;
@@ -51,6 +52,16 @@ pub fn statement_is_next(cursor: &Cursor) -> bool
 {
     match cursor.peek() {
         Some(kind) => begins_statement(kind),
+        None => false,
+    }
+}
+
+/// Whether what stands before the last statement in a statement comes next.
+pub(crate) fn header_is_next(cursor: &Cursor) -> bool
+    ensures { result ≡ next_is begins_header cursor.now }
+{
+    match cursor.peek() {
+        Some(kind) => begins_header(kind),
         None => false,
     }
 }

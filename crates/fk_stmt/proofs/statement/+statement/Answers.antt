@@ -1,11 +1,11 @@
-use Rattle.std.proofs.Common.{arith, rules, sym, ◌∙◌}
-use Rattle.fk_syntax.specs.declared.program.Stmt.TheFolds.{the_lemmas}
+use Rattle.std.proofs.Common.{arith, sym, subst, ◌∙◌}
 use Rattle.fk_syntax.specs.ProgramView.{statement_of}
 use Rattle.fk_reading.proofs.Behind.{gives_fault}
 use Rattle.fk_reading.proofs.Repeats.{going_end, items_more}
 use Rattle.fk_reading.proofs.Halting.{halts_going}
+use Rattle.fk_reading.specs.Gives.{Gives}
+use Rattle.fk_stmt.proofs.Headers.{nested_reads}
 use Rattle.fk_stmt.proofs.Blocks.{block_reads, block_stops, block_open}
-use Rattle.fk_stmt.proofs.Headers.{for_reads, for_body, fork_reads, fork_body}
 use Rattle.fk_stmt.proofs.statement.+statement.Goals as goal
 
 pub block-returns-in_err-nested-clause-read : goal.block-returns-in_err-nested-clause-read
@@ -30,18 +30,8 @@ block-returns-clause-read t c =
     block_reads c.args.left _ _ _ _ _ _ _ c.in_ok-expect.ensures.read
     (going_end _ _ _ _ _ (sym c.statement_is_next.ensures ∙ c.loop-alloc-test.false) c.loop-alloc.invariant) c.in_ok-expect-2.ensures.read
 
-pub for_loop-returns-in_err-body-clause-read : goal.for_loop-returns-in_err-body-clause-read
-for_loop-returns-in_err-body-clause-read t c =
-    gives_fault _ _ _ _ _ c.from_residual-in_err-body.ensures.1 (for_body c.args.left _ _ _ _ c.boxed.new.cursor c.in_ok-header.ensures.read c.in_err-body.ensures.read)
-
-pub for_loop-returns-clause-read : goal.for_loop-returns-clause-read
-for_loop-returns-clause-read t c =
-    for_reads c.args.left _ _ _ _ _ c.in_ok-header.ensures.read c.in_ok-body.ensures.read ∙ search (rules, the_lemmas)
-
-pub fork-returns-in_err-body-clause-read : goal.fork-returns-in_err-body-clause-read
-fork-returns-in_err-body-clause-read t c =
-    gives_fault _ _ _ _ _ c.from_residual-in_err-body.ensures.1 (fork_body c.args.left _ _ _ _ c.boxed.new.cursor c.in_ok-header.ensures.read c.in_err-body.ensures.read)
-
-pub fork-returns-clause-read : goal.fork-returns-clause-read
-fork-returns-clause-read t c =
-    fork_reads c.args.left _ _ _ _ _ c.in_ok-header.ensures.read c.in_ok-body.ensures.read ∙ search (rules, the_lemmas)
+pub nested-returns-clause-read : goal.nested-returns-clause-read
+nested-returns-clause-read t c =
+    subst (λ a. Gives statement_of c.statement.result c.statement.new.cursor a)
+    (sym (nested_reads c.args.left c.in_ok-inside.inside c.args.cursor.now c.in_ok-inside.ensures.read.0 c.in_ok-inside.ensures.less))
+    c.statement.ensures.read

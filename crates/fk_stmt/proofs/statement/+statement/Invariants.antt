@@ -6,10 +6,7 @@ use Rattle.fk_stmt.specs.Parts.{read_nested}
 use Rattle.fk_stmt.proofs.statement.+statement.Given as goal
 
 abbrev pub decreases-statement : goal.decreases-statement
-decreases-statement l = 8 * l.left + 5
-
-abbrev pub decreases-worded : goal.decreases-worded
-decreases-worded l = 8 * l.left + 4
+decreases-statement l = 8 * l.left + 4
 
 abbrev pub decreases-block : goal.decreases-block
 decreases-block l = 8 * l.left + 2
@@ -17,26 +14,11 @@ decreases-block l = 8 * l.left + 2
 abbrev pub decreases-if_else : goal.decreases-if_else
 decreases-if_else l = 8 * l.left + 3
 
-abbrev pub decreases-while_loop : goal.decreases-while_loop
-decreases-while_loop l = 8 * l.left + 2
-
 abbrev pub decreases-do_while : goal.decreases-do_while
 decreases-do_while l = 8 * l.left + 2
 
-abbrev pub decreases-for_loop : goal.decreases-for_loop
-decreases-for_loop l = 8 * l.left + 2
-
-abbrev pub decreases-start : goal.decreases-start
-decreases-start l = 8 * l.left + 2
-
-abbrev pub decreases-farm : goal.decreases-farm
-decreases-farm l = 8 * l.left + 2
-
-abbrev pub decreases-seq : goal.decreases-seq
-decreases-seq l = 8 * l.left + 2
-
-abbrev pub decreases-fork : goal.decreases-fork
-decreases-fork l = 8 * l.left + 2
+abbrev pub decreases-headed : goal.decreases-headed
+decreases-headed l = 8 * l.left + 2
 
 abbrev pub decreases-otherwise : goal.decreases-otherwise
 decreases-otherwise l = 8 * l.left + 2

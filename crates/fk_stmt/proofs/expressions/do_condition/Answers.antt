@@ -2,7 +2,7 @@
 use Rattle.std.proofs.Common.{rules, refl}
 use Rattle.fk_syntax.specs.View.{tree_of}
 use Rattle.fk_reading.specs.Ahead.{seen}
-use Rattle.fk_stmt.proofs.statement.do_condition.Goals as goal
+use Rattle.fk_stmt.proofs.expressions.do_condition.Goals as goal
 
 pub returns-clause-read : goal.returns-clause-read
 returns-clause-read c =
