@@ -1,5 +1,5 @@
 -- Items are read exactly: a struct is told apart from the others by three tokens.
-use Rattle.std.proofs.Common.{◌≡◌, ℕ, suc, ◌+◌, List, [], ◌∷◌, ◌++◌, Bool, true, false, ◌&&◌, IsTrue, Ok, Err, length, ◌⊎◌, inl, inr, refl, sym, ◌∙◌, arith}
+use Rattle.std.proofs.Common.{◌≡◌, ℕ, suc, ◌+◌, ◌-◌, List, [], ◌∷◌, ◌++◌, Bool, true, false, ◌&&◌, IsTrue, Ok, Err, length, ◌⊎◌, inl, inr, refl, sym, ◌∙◌, arith}
 use Rattle.fk_syntax.specs.Tree.{BaseType, Struct}
 use Rattle.fk_syntax.specs.Program.{DeclaredTree, ItemTree, StructItem, VariablesItem}
 use Rattle.fk_lex.specs.declared.token.TokenKind.TheVariants as kind
@@ -333,7 +333,7 @@ faithful_within left = record {
   exact = λ bound. exact_wider begins_item (λ k h. h) (reads_many (reads_item left bound) (none_apart begins_item)).exact;
 }
 
--- in a text 128 may be
-pub faithful_items : Faithful LEVELS Items read_items begins_item (has_room 126)
+-- in a text all levels may be
+pub faithful_items : Faithful LEVELS Items read_items begins_item (has_room (LEVELS - 2))
 unfolding read_items
-faithful_items = faithful_within 126
+faithful_items = faithful_within (LEVELS - 2)

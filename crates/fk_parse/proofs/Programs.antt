@@ -5,6 +5,7 @@ use Rattle.fk_syntax.specs.declared.place.Place.{Place}
 use Rattle.fk_syntax.specs.Program.{ItemTree, ProgramTree}
 use Rattle.fk_lex.specs.declared.token.Token.{Token}
 use Rattle.fk_lex.specs.View.{spelled}
+use Rattle.fk_reading.specs.declared.limits.TheConstants.{LEVELS}
 use Rattle.fk_reading.specs.declared.fault.SyntaxFault.{SyntaxFault}
 use Rattle.fk_reading.specs.declared.fault.SyntaxFault.TheVariants as fault
 use Rattle.fk_reading.specs.Languages.{Placed, numbered}
@@ -44,20 +45,20 @@ tells_more why more (fault.Memory error) f h = tt
 
 -- ---- texts
 
--- 128 levels may be open
-text_within : (tokens : List Placed) → read_text_within 128 tokens ≡ read_text tokens
+-- with as many levels as may be open
+text_within : (tokens : List Placed) → read_text_within LEVELS tokens ≡ read_text tokens
 unfolding read_items
 text_within tokens = refl
 
-reads_within : (tokens : List Placed) (answer : Result (List ItemTree) Stop) → length tokens < 2 ^ 32 → read_text_within 128 tokens ≡ answer → ReadsText tokens answer
+reads_within : (tokens : List Placed) (answer : Result (List ItemTree) Stop) → length tokens < 2 ^ 32 → read_text_within LEVELS tokens ≡ answer → ReadsText tokens answer
 reads_within tokens answer small e = subst (λ a. ReadsText tokens a) (sym (text_within tokens) ∙ e) (reads_text tokens small)
 
 pub refuses : (tokens : List Token) (fault : SyntaxFault) → length tokens < 2 ^ 32
-    → Tells (λ stop. read_text_within 128 (numbered 0 (map spelled tokens)) ≡ Err stop) fault → RefusesTokens (map spelled tokens) fault
+    → Tells (λ stop. read_text_within LEVELS (numbered 0 (map spelled tokens)) ≡ Err stop) fault → RefusesTokens (map spelled tokens) fault
 refuses tokens fault small h =
     tells_more _ _ fault (λ s e. reads_within (numbered 0 (map spelled tokens)) (Err s) (few 0 tokens (omega arith)) e) h
 
-pub derives : (tokens : List Token) (p : ProgramTree) → length tokens < 2 ^ 32 → read_text_within 128 (numbered 0 (map spelled tokens)) ≡ Ok p.items
+pub derives : (tokens : List Token) (p : ProgramTree) → length tokens < 2 ^ 32 → read_text_within LEVELS (numbered 0 (map spelled tokens)) ≡ Ok p.items
     → p.end ≡ end_of beginning (map spelled tokens) → p.tokens ≡ length tokens → SpellsProgram (map spelled tokens) p
 derives tokens p small e d n = record {
   items = reads_within (numbered 0 (map spelled tokens)) (Ok p.items) (few 0 tokens (omega arith)) e;

@@ -28,11 +28,11 @@ read_item_within left = read_item plenty (inner plenty left) (read_body_within l
 
 -- a function, by its mode, type and name, and what stands behind its name
 abbrev pub function_made : Mode → TypeTree → Named → List DeclaredTree × Option Statements → ItemTree
-function_made mode result name x = FunctionItem (record { mode = mode; result = result; name = name; parameters = x.0; body = x.1 })
+function_made mode result name (list, inside) = FunctionItem (record { mode = mode; result = result; name = name; parameters = list; body = inside })
 
 -- variables, by the first words of their type, the stars and the name of the first, and what stands behind its name
 abbrev pub variables_made : BaseType → ℕ → Named → (Option ℕ × Option Tree) × List Declarator → ItemTree
-variables_made base stars name x = made_of base stars name (OfVariables x.0.0 x.0.1 x.1)
+variables_made base stars name ((size, first), others) = made_of base stars name (OfVariables size first others)
 
 abbrev pub read_text_within : ℕ → List Placed → Result (List ItemTree) Stop
 read_text_within left tokens = ended (repeated plenty begins_item (read_item_within left) tokens)

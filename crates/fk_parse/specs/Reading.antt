@@ -27,22 +27,22 @@ struct_is_next ts = false
 
 unfoldable pub read_struct : ℕ → Reader ItemTree
 read_struct most =
-    giving (λ x. StructItem (name x.1.0) (joined_lists (x.1.1.1.0 ∷ x.1.1.1.1.0)))
+    giving (λ (word, (called, (opening, (first, (others, (closing, end)))))). StructItem (name called) (joined_lists (first ∷ others)))
     (expect kind.Struct and expect kind.Word and expect kind.OpenBrace and read_member most and repeated most begins_type (read_member most)
     and expect kind.CloseBrace and expect kind.Semicolon)
 
 -- behind a function's name
 unfoldable pub read_function_tail : ℕ → Reader Statements → Reader (List DeclaredTree × Option Statements)
 read_function_tail most B =
-    giving (λ x. (x.1.0, x.1.1.1))
+    giving (λ (opening, (list, (closing, inside))). (list, inside))
     (expect kind.OpenParenthesis and read_parameters most and expect kind.CloseParenthesis
     and by_next (just kind.OpenBrace) (giving Some B) (giving (λ t. None) (expect kind.Semicolon)))
 
 -- behind the name of the first variable: what belongs to it, and the other variables
 unfoldable pub read_variables_tail : ℕ → Option Readers → Reader ((Option ℕ × Option Tree) × List Declarator)
 read_variables_tail most E =
-    giving (λ x. (x.0, x.1.0))
-    (read_rest most E and repeated most (just kind.Comma) (giving (λ x. x.1) (expect kind.Comma and read_variable most E)) and expect kind.Semicolon)
+    giving (λ (rest, (others, end)). (rest, others))
+    (read_rest most E and repeated most (just kind.Comma) (giving (λ (comma, next). next) (expect kind.Comma and read_variable most E)) and expect kind.Semicolon)
 
 -- what stands behind the first name of an item: that of a function, or that of variables
 pub data Tail : Type 0 where
@@ -65,22 +65,22 @@ made_of base stars name (OfVariables length first others) =
 -- a parenthesis behind the name says that it is a function
 unfoldable pub read_tail : ℕ → Option Readers → Reader Statements → Reader Tail
 read_tail most E B =
-    by_next (just kind.OpenParenthesis) (giving (λ x. OfFunction x.0 x.1) (read_function_tail most B))
-    (giving (λ x. OfVariables x.0.0 x.0.1 x.1) (read_variables_tail most E))
+    by_next (just kind.OpenParenthesis) (giving (λ (list, inside). OfFunction list inside) (read_function_tail most B))
+    (giving (λ ((size, first), others). OfVariables size first others) (read_variables_tail most E))
 
 unfoldable pub read_bare : ℕ → Option Readers → Reader Statements → Reader ItemTree
 read_bare most E B =
-    giving (λ x. made_of x.0 (length x.1.0) (name x.1.1.0) x.1.1.1)
+    giving (λ (words, (stars, (word, tail))). made_of words (length stars) (name word) tail)
     (read_base and repeated most (just kind.Star) (expect kind.Star) and expect kind.Word and read_tail most E B)
 
 unfoldable pub read_moded : ℕ → Reader Statements → Reader ItemTree
 read_moded most B =
-    giving (λ x. FunctionItem (record {
-      mode = x.0.1;
-      result = record { base = x.1.0; stars = length x.1.1.0 };
-      name = name x.1.1.1.0;
-      parameters = x.1.1.1.1.0;
-      body = x.1.1.1.1.1;
+    giving (λ ((at, mode), (words, (stars, (word, (list, inside))))). FunctionItem (record {
+      mode = mode;
+      result = record { base = words; stars = length stars };
+      name = name word;
+      parameters = list;
+      body = inside;
     }))
     (expect_told mode_told and read_base and repeated most (just kind.Star) (expect kind.Star) and expect kind.Word and read_function_tail most B)
 
