@@ -5,7 +5,7 @@ use Rattle.fk_meaning.specs.declared.syntax.Statement.{Statement}
 use Rattle.fk_meaning.specs.declared.syntax.Program.{Program}
 use Rattle.fk_meaning.specs.Sites.{operations_of_body}
 use Rattle.fk_straight.specs.Straight.{Names, AreDeclarations, IsMain, IsBody, Derives, DerivesOnce, IsNotStraight}
-use Rattle.fk_straight.specs.Refused.{NoMain, NoBody}
+use Rattle.fk_straight.specs.Refused.{NoMain, NoBody, NoDeclarations}
 use Rattle.fk_straight.proofs.ItemLemmas.{same_names}
 use Rattle.fk_straight.proofs.Same.{same_body, one_main, same_last}
 
@@ -16,6 +16,12 @@ module _ (tree : ProgramTree) (declarations : List ItemTree) (main : ItemTree) (
       let d = straight.1 in
       let same = same_last d.declarations declarations d.main main (sym d.items ∙ split) in
       none d.body (subst (IsMain d.body) same.1 d.header)
+
+  pub no_declarations : NoDeclarations declarations → IsNotStraight tree
+  no_declarations none straight =
+      let d = straight.1 in
+      let same = same_last d.declarations declarations d.main main (sym d.items ∙ split) in
+      none d.names (subst (λ items. AreDeclarations d.names items) same.0 d.declared)
 
   -- what is read from it is what its program has
   module _ (names : Names) (body : Statements) (declared : AreDeclarations names declarations) (header : IsMain body main) where
