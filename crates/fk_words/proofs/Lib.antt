@@ -6,3 +6,4 @@ pub mod Taken
 pub mod Spelled
 pub mod Lines
 pub mod Whole
+pub mod OneCommand

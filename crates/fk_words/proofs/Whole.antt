@@ -22,7 +22,7 @@ use Rattle.fk_words.proofs.Taken.{Adds, AreIn, AreTexts, rows_at_end, sound}
 use Rattle.fk_words.proofs.Spelled.{gets}
 use Rattle.fk_words.proofs.Lines.{Behind, Named, is_run, is_build, is_exec, is_list, other, named, behind_run, behind_build, behind_exec, behind_list, no_words, other_word}
 
-differ : (a b : Text) → bytes_eq a b ≡ false → a ≡ b → ⊥
+pub differ : (a b : Text) → bytes_eq a b ≡ false → a ≡ b → ⊥
 differ a b e same = let t = (bytes_eq-Decides a b).1 same in let bad : true ≡ false = sym t ∙ e in cc
 
 -- a list of at most one value

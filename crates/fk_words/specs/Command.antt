@@ -49,6 +49,10 @@ abbrev pub Reads : List Text → Command → Type 0
 Reads [] command = ⊥
 Reads (word ∷ words) command = ReadsBehind word words command
 
+-- words are at most one command
+abbrev pub OneCommand : Type 0
+OneCommand = (words : List Text) (c d : Command) → Reads words c → Reads words d → c ≡ d
+
 -- the command of words that were read
 abbrev pub command_of : CommandWords → Command
 command_of (words.Run r show) = Run r.file.now r.harts r.cycles (option_map (λ s. s.now) show)

@@ -5,6 +5,7 @@ mod asked;
 mod command;
 mod commands;
 mod fault;
+pub mod laws;
 mod reading;
 
 pub use command::{CommandWords, RunWords};
