@@ -32,3 +32,5 @@ pub mod Emitted
 pub mod Generated
 -- how far tokens reach, and how few items they make
 pub mod Bounds
+-- the answers of its parts are those of the compiler
+pub mod Parts

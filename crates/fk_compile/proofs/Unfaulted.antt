@@ -1,6 +1,6 @@
 -- No image of a text faults or traps, since no run of a straight-line program faults.
-use Rattle.std.proofs.Common.{◌≡◌, Bool, true, false, cond, ap, subst, refl, inl, inr}
-use Rattle.fk_meaning.specs.Schedule.{SourceStand, SourceRunning, SourceFinished, run, stand_of, stand_by, all_done, opening}
+use Rattle.std.proofs.Common.{Bool, true, false, cond, subst, refl, inl, inr}
+use Rattle.fk_meaning.specs.Schedule.{SourceRunning, SourceFinished, run, stand_by, all_done, opening}
 use Rattle.fk_meaning.proofs.NeverFaults.{run_passes}
 use Rattle.fk_machine.specs.declared.stand.Stand.{Stand}
 use Rattle.fk_machine.specs.declared.stand.Stand.TheVariants.{Running, Finished, Faulted, Trapped}

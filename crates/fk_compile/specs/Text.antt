@@ -1,5 +1,5 @@
 -- What a text is: its tokens, its tree, and its program.
-use Rattle.std.specs.Prelude.{ℕ, List}
+use Rattle.std.specs.Prelude.{ℕ, List, Option}
 use Rattle.fk_syntax.specs.Program.{ProgramTree}
 use Rattle.fk_lex.specs.Reading.{Spelled, Tokens}
 use Rattle.fk_reading.specs.declared.fault.SyntaxFault.{SyntaxFault}
@@ -31,3 +31,11 @@ pub record IsNotStraight (source : List ℕ) : Type 0 where
   pub tree : ProgramTree
   pub parsed : HasTree source tree
   pub none : trees.IsNotStraight tree
+
+-- a text has the tree of a straight-line program, and the variable that it declares under a name has this number, if
+-- it declares one: that of its word among the words of shared data
+pub record HasGlobal (source name : List ℕ) (number : Option ℕ) : Type 0 where
+  pub tree : ProgramTree
+  pub parsed : HasTree source tree
+  pub straight : trees.IsStraight tree
+  pub variable : trees.HasVariable tree name number

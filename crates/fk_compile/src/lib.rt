@@ -8,11 +8,14 @@ mod assemble;
 mod compiler;
 mod emit;
 pub mod generate;
+mod global;
 pub mod laws;
 mod lower;
 pub mod refusal;
 #[cfg(test)]
 mod tests;
+mod text;
 
 pub use compiler::compile;
+pub use global::find_global;
 pub use refusal::Refusal;

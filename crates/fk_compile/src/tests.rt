@@ -1,5 +1,6 @@
 use crate::compiler::compile;
 use crate::generate::generate;
+use crate::global::find_global;
 use crate::refusal::Refusal;
 use fk_meaning::syntax::Program;
 use std::test::Fail;
@@ -43,5 +44,17 @@ fn a_text_is_compiled_or_refused_by_its_tree(rt: HostRuntime) -> Result<(), Fail
         b"sh int y; void main(void) { x = 2 + 3; putint(x); }",
     );
     assert!(rt; matches!(&undeclared, Err(Refusal::NotBuilt)));
+    Ok(())
+}
+
+#[test]
+fn a_global_stands_where_its_declaration_does(rt: HostRuntime) -> Result<(), Fail> {
+    let text: &[u8] = b"sh int x; sh int y; void main(void) { y = 1; }";
+    assert_eq!(rt; find_global(rt.alloc(), text, b"x")?, Some(0));
+    assert_eq!(rt; find_global(rt.alloc(), text, b"y")?, Some(1));
+    assert_eq!(rt; find_global(rt.alloc(), text, b"main")?, None);
+    assert_eq!(rt; find_global(rt.alloc(), text, b"")?, None);
+    let other = find_global(rt.alloc(), b"sh int x; void main(void) { start { } }", b"x");
+    assert!(rt; matches!(&other, Err(Refusal::NotBuilt)));
     Ok(())
 }
