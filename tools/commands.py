@@ -49,6 +49,7 @@ FILES = {
     "undeclared.f95": b"void main(void) { putint(y); }",
     "long.f95": b" " * 1048577,
     "a name with blanks.f95": SUMS,
+    "-o.f95": SUMS,
     "atomic.image": ATOMIC,
     "fault.image": BAD_ADDRESS,
     "no_site.image": image([DEVICES, FAULT]),
@@ -80,6 +81,8 @@ class Row:
     out_to: str = ""
     report_to: str = ""
     memory: int = 0
+    # standard input
+    given: bytes = b""
 
 
 def run(name, harts=1, cycles=1000000):
@@ -94,6 +97,7 @@ def build(name, to):
     return ["build", name, "-o", to]
 
 
+LISTED = b"00000000: 300002b7  lui t0, 0x30000\n00000004: 0002a623  sw zero, 12(t0)\n"
 FINISHED = r"finished after \d+ cycles\n"
 NO_COMMAND = [
     [],
@@ -110,6 +114,11 @@ NO_COMMAND = [
     run("sums.f95", harts=""),
     run("sums.f95", cycles=4294967296),
     run("sums.f95", cycles="-1"),
+    run("sums.f95") + ["--harts", "1"],
+    run("sums.f95") + ["--show"],
+    run("sums.f95") + ["--show", "-x"],
+    execute("halt.image") + ["--show", "x"],
+    build("sums.f95", "-x"),
     [b"list", b"\xff.image"],
 ]
 ROWS = [
@@ -120,6 +129,21 @@ ROWS = [
     Row(run("wraps.f95"), 0, b"-1\n0\n", FINISHED),
     Row(run("empty.f95"), 0, b"", FINISHED),
     Row(run("a name with blanks.f95"), 0, b"5\n", FINISHED),
+    Row(["run", "--cycles=9999", "--harts=1", "sums.f95"], 0, b"5\n", FINISHED),
+    Row(["run", "--harts", "1", "--cycles=9999", "--", "-o.f95"], 0, b"5\n", FINISHED),
+    Row(run("sums.f95") + ["--show", "x"], 0, b"5\nx = 5\n", FINISHED),
+    Row(run("sums.f95", cycles=0) + ["--show=x"], 7, b"x = 0\n", r"stopped after 0 cycles\n"),
+    Row(run("sums.f95") + ["--show", "y"], 1, b"", r"refused 23 NoGlobal y\n"),
+    Row(run("sums.f95") + ["--show="], 1, b"", r"refused 23 NoGlobal \n"),
+    Row(run("sums.f95", harts=2), 0, b"5\n5\n", FINISHED, given=b"1 -2\t3\r\n4294967295\n"),
+    Row(run("empty.f95"), 10, b"", r"refused 19 NotANumber 2\n", given=b"12 x"),
+    Row(run("empty.f95"), 10, b"", r"refused 20 OutOfRange 1\n", given=b"4294967296"),
+    Row(run("empty.f95"), 0, b"", FINISHED, given=b"0 " * 65536),
+    Row(run("empty.f95"), 10, b"", r"refused 21 TooMany 65537\n", given=b"0 " * 65537),
+    Row(run("empty.f95"), 10, b"", r"refused 21 TooMany 0\n", given=b" " * 1048577),
+    Row(run("sums.f95") + ["--show", "y"], 1, b"", r"refused 23 NoGlobal y\n", given=b"x"),
+    Row(execute("halt.image"), 10, b"", r"refused 19 NotANumber 1\n", given=b"+1"),
+    Row(["list", "halt.image"], 0, LISTED, r"listed 2 words\n", given=b"x"),
     Row(run("sums.f95", cycles=0), 7, b"", r"stopped after 0 cycles\n"),
     Row(run("sums.f95", cycles=3), 7, b"", r"stopped after 3 cycles\n"),
     Row(run("open.f95"), 1, b"", r"refused 6 EndOfText\n"),
@@ -164,7 +188,7 @@ ROWS = [
     Row(
         ["list", "halt.image"],
         0,
-        b"00000000: 300002b7  lui t0, 0x30000\n00000004: 0002a623  sw zero, 12(t0)\n",
+        LISTED,
         r"listed 2 words\n",
     ),
     # a refused text puts nothing, and leaves what was there
@@ -188,7 +212,7 @@ def faults(program, row, folder):
     ended = subprocess.run(
         [program, *row.words],
         cwd=folder,
-        stdin=subprocess.DEVNULL,
+        input=row.given,
         stdout=outs[0],
         stderr=outs[1],
         timeout=SECONDS,

@@ -1,36 +1,32 @@
 -- Which answers come where no fault rose.
-use Rattle.std.proofs.Common.{◌≡◌, ℕ, List, [], Option, Some, None, IsSome, take, refl, sym, ap, subst, ◌∙◌, arith, ◌⊎◌, inl, inr}
-use Rattle.std.specs.Prelude.{IsSomeAnd}
-use Rattle.std.proofs.lemmas.List.{take_all}
+use Rattle.std.proofs.Common.{◌≡◌, ℕ, ◌≤◌, Bool, true, false, List, [], ◌∷◌, Option, Some, None, Ok, Err, IsSome, take, length, refl, sym, ap, subst, ◌∙◌, arith, ◌⊎◌, inl, inr}
+use Rattle.std.specs.Prelude.{IfSome, IsSomeAnd, nat_lt, vec_len}
+use Rattle.std.proofs.lemmas.Bool.{ltb-true, ltb-false, lt-ltb}
+use Rattle.std.proofs.lemmas.List.{take_all, length-take, length-replicate}
+use Rattle.fk_syntax.specs.Program.{ProgramTree}
 use Rattle.fk_ports.specs.Files.{Files, AppendsFile, FetchFaults, LacksFile, file}
-use Rattle.fk_top.specs.declared.status.Status.{Status}
-use Rattle.fk_top.specs.declared.status.Status.TheVariants.{Done, Refused, Usage, ReadFault, WriteFault, Memory, SourceFault, CycleBound, Trap, ImageRefused, InputRefused}
-use Rattle.fk_top.specs.Words.{Command, Run, Build, Exec, ListCode, Reads, IsBuild, file_of, most_bytes}
+use Rattle.fk_ports.specs.Known.{MovesFirst}
 use Rattle.fk_image.specs.declared.Image.{Image}
 use Rattle.fk_image.specs.Spelling.{IsImageOf}
-use Rattle.fk_top.specs.Outcome.{Outcome, ComesTo, RefusesSource, RefusesImage, IsBuiltFrom}
+use Rattle.fk_image.proofs.Same.{one_image}
+use Rattle.fk_input.specs.declared.fault.InputFault.{InputFault}
+use Rattle.fk_input.specs.Input.{input_of}
+use Rattle.fk_words.specs.Arguments.{Text}
+use Rattle.fk_words.specs.Command.{Command, Run, Build, Exec, ListCode, Reads}
+use Rattle.fk_words.proofs.OneCommand.{one_command}
+use Rattle.fk_meaning.specs.declared.syntax.Program.{Program}
+use Rattle.fk_straight.specs.Straight as trees
+use Rattle.fk_straight.specs.Straight.{HasVariable}
+use Rattle.fk_straight.proofs.TreeLemmas.{one_program}
+use Rattle.fk_compile.specs.Text.{IsStraight, HasGlobal}
+use Rattle.fk_compile.specs.Faithful.{IsFaithful}
+use Rattle.fk_top.specs.declared.status.Status.{Status}
+use Rattle.fk_top.specs.declared.status.Status.TheVariants.{Done, Refused, Usage, ReadFault, WriteFault, Memory, SourceFault, CycleBound, Trap, ImageRefused, InputRefused}
+use Rattle.fk_top.specs.Words.{Runs, IsBuild, file_of, most_bytes, most_input}
+use Rattle.fk_top.specs.Outcome.{Variable, Outcome, EndsOn, ComesTo, RefusesSource, RefusesImage, LacksGlobal, IsShown, IsBuiltFrom, most_numbers}
 use Rattle.fk_top.specs.Refused.{IsRefusedAs, IsNoImageAs}
-use Rattle.fk_top.specs.Call.{Call, Request, Ends, IsUnread, IsCut, IsOutOfMemory, HasEnded, HasCause, IsInOrder, IsReadable, IsOfReadable, IsOfUnreadable, IsText, IsImage, Puts, AreCut}
-use Rattle.fk_top.proofs.Readable.{whole, text_accepted, image_accepted, image_short}
-
--- words are one command
-pub one_command : (words : List (List ℕ)) (a b : Command) → Reads words a → Reads words b → a ≡ b
-one_command words (Run f p n) (Run g q m) ra rb = let e = sym ra.words_are ∙ rb.words_are in cc
-one_command words (Build f i) (Build g j) ra rb = let e = sym ra ∙ rb in cc
-one_command words (Exec f p n) (Exec g q m) ra rb = let e = sym ra.words_are ∙ rb.words_are in cc
-one_command words (ListCode f) (ListCode g) ra rb = let e = sym ra ∙ rb in cc
-one_command words (Run f p n) (Build g j) ra rb = let e = sym ra.words_are ∙ rb in cc
-one_command words (Run f p n) (Exec g q m) ra rb = let e = sym ra.words_are ∙ rb.words_are in cc
-one_command words (Run f p n) (ListCode g) ra rb = let e = sym ra.words_are ∙ rb in cc
-one_command words (Build f i) (Run g q m) ra rb = let e = sym ra ∙ rb.words_are in cc
-one_command words (Build f i) (Exec g q m) ra rb = let e = sym ra ∙ rb.words_are in cc
-one_command words (Build f i) (ListCode g) ra rb = let e = sym ra ∙ rb in cc
-one_command words (Exec f p n) (Run g q m) ra rb = let e = sym ra.words_are ∙ rb.words_are in cc
-one_command words (Exec f p n) (Build g j) ra rb = let e = sym ra.words_are ∙ rb in cc
-one_command words (Exec f p n) (ListCode g) ra rb = let e = sym ra.words_are ∙ rb in cc
-one_command words (ListCode f) (Run g q m) ra rb = let e = sym ra ∙ rb.words_are in cc
-one_command words (ListCode f) (Build g j) ra rb = let e = sym ra ∙ rb in cc
-one_command words (ListCode f) (Exec g q m) ra rb = let e = sym ra ∙ rb.words_are in cc
+use Rattle.fk_top.specs.Call.{Call, Request, Ends, IsUnread, IsFileUnread, IsInputUnread, IsCut, IsOutOfMemory, HasEnded, HasCause, IsInOrder, IsReadable, IsAccepted, IsInputBeside, IsOfStand, IsOfAccepted, IsOfUnreadable, IsOfUnaccepted, IsText, IsImage, Puts, AreCut}
+use Rattle.fk_top.proofs.Readable.{whole, same_tree, variable_there, text_accepted, image_accepted, image_short}
 
 -- ---- the read
 
@@ -46,24 +42,54 @@ not_lacked known files name bytes told held lacks =
     let b : Some bytes ≡ None = sym held ∙ a in
     absurd (cc)
 
-not_unread : (call : Call) (command : Command) (bytes : List ℕ) → IsInOrder call command bytes → IsUnread call.request → ⊥
-not_unread call command bytes order unread = go (one_command _ _ _ unread.reads order.reads) unread.fault
+not_unread : (call : Call) (command : Command) (bytes text : List ℕ) → IsInOrder call command bytes text → IsUnread call.request → ⊥
+not_unread call command bytes text order unread = go (one_command _ _ _ unread.reads order.reads) unread.cause
   where
-    go : unread.command ≡ command → FetchFaults call.request.files (file_of unread.command) call.request.faults.before call.request.faults.after → ⊥
-    go same (inl rose) = order.fetch_steady rose
-    go same (inr lacks) =
-        not_lacked call.request.files order.files (file_of command) bytes order.told order.held
-        (subst (λ (c : Command). LacksFile call.request.files (file_of c)) same lacks.0)
+    faults : FetchFaults call.request.files (file_of command) call.request.faults.before call.request.faults.after → ⊥
+    faults (inl rose) = order.fetch_steady rose
+    faults (inr lacks) = not_lacked call.request.files order.files (file_of command) bytes order.told order.held lacks.0
 
--- the command came to an outcome over the first bytes of its file
-come : (call : Call) (command : Command) (bytes : List ℕ) (outcome : Outcome) → IsInOrder call command bytes → Ends call.request outcome → ComesTo command (take (most_bytes command) bytes) outcome
-come call command bytes outcome order (inl none) = absurd (none.0 command order.reads)
-come call command bytes outcome order (inr (inl unread)) = absurd (not_unread call command bytes order unread.0)
-come call command bytes outcome order (inr (inr read)) =
+    go : unread.command ≡ command → IsFileUnread call.request unread.command ⊎ IsInputUnread call.request unread.command → ⊥
+    go same (inl file) =
+        faults (subst (λ (c : Command). FetchFaults call.request.files (file_of c) call.request.faults.before call.request.faults.after) same file.fault)
+    go same (inr input) = order.input_steady (subst Runs same input.runs) input.rose
+
+-- the text that a command takes of what is left of the input
+abbrev pub taken : Command → List ℕ → List ℕ
+taken (Run f p n s) text = take 1048577 text
+taken (Build f i) text = []
+taken (Exec f p n) text = take 1048577 text
+taken (ListCode f) text = []
+
+no_bytes : (bytes : List ℕ) → length bytes ≤ 0 → bytes ≡ []
+no_bytes [] le = refl
+no_bytes (b ∷ bytes) le = absurd (omega arith)
+
+first_of_told : (left now : Option (List ℕ)) (text got : List ℕ) (most : ℕ) → left ≡ Some text → MovesFirst most left now [] got → got ≡ take most text
+first_of_told left now text got most told moves =
+    moves.appended ∙ subst (λ (k : Option (List ℕ)). IfSome k (λ l. moves.bytes ≡ take most l)) told moves.first
+
+taken_is : (request : Request) (command : Command) (text got : List ℕ) → (Runs command → request.input.left.before ≡ Some text) → MovesFirst (most_input command) request.input.left.before request.input.left.after [] got → got ≡ taken command text
+taken_is request (Run f p n s) text got told moves = first_of_told _ _ text got 1048577 (told tt) moves
+taken_is request (Build f i) text got told moves = moves.appended ∙ no_bytes moves.bytes moves.few
+taken_is request (Exec f p n) text got told moves = first_of_told _ _ text got 1048577 (told tt) moves
+taken_is request (ListCode f) text got told moves = moves.appended ∙ no_bytes moves.bytes moves.few
+
+-- what a command comes to over the first bytes of its file and of the input
+abbrev pub ComesToFirst : Command → List ℕ → List ℕ → Outcome → Type 0
+ComesToFirst command bytes text outcome = ComesTo command (take (most_bytes command) bytes) (taken command text) outcome
+
+come : (call : Call) (command : Command) (bytes text : List ℕ) (outcome : Outcome) → IsInOrder call command bytes text → Ends call.request outcome → ComesToFirst command bytes text outcome
+come call command bytes text outcome order (inl none) = absurd (none.0 command order.reads)
+come call command bytes text outcome order (inr (inl unread)) = absurd (not_unread call command bytes text order unread.0)
+come call command bytes text outcome order (inr (inr read)) =
     let same = one_command _ _ _ read.reads order.reads in
     let first = subst (λ (c : Command). AppendsFile call.request.files (file_of c) (most_bytes c) [] read.bytes) same read.first_bytes in
+    let moves = subst (λ (c : Command). MovesFirst (most_input c) call.request.input.left.before call.request.input.left.after [] read.text) same read.first_input in
     let is = read-held call.request.files order.files (file_of command) bytes read.bytes (most_bytes command) order.told order.held first in
-    subst (λ (b : List ℕ). ComesTo command b outcome) is (subst (λ (c : Command). ComesTo c read.bytes outcome) same read.comes_to)
+    let input = taken_is call.request command text read.text order.left moves in
+    subst (λ (t : List ℕ). ComesTo command (take (most_bytes command) bytes) t outcome) input
+    (subst (λ (b : List ℕ). ComesTo command b read.text outcome) is (subst (λ (c : Command). ComesTo c read.bytes read.text outcome) same read.comes_to))
 
 -- ---- the writes
 
@@ -71,18 +97,23 @@ nothing_put : (outcome other : Outcome) → outcome ≡ other → other.put ≡ 
 nothing_put outcome other is none some = let e = ap (λ (o : Outcome). o.put) is ∙ none in cc
 
 -- only a build puts
-put_by : (command : Command) (bytes : List ℕ) (outcome : Outcome) → ComesTo command bytes outcome → IsSome outcome.put → Puts command
-put_by (Run f p n) bytes outcome (inl r) some = nothing_put outcome _ r.is refl some
-put_by (Run f p n) bytes outcome (inr r) some = nothing_put outcome _ r.is refl some
-put_by (Build f i) bytes outcome comes some = tt
-put_by (Exec f p n) bytes outcome (inl r) some = nothing_put outcome _ r.is refl some
-put_by (Exec f p n) bytes outcome (inr r) some = nothing_put outcome _ r.is refl some
-put_by (ListCode f) bytes outcome (inl r) some = nothing_put outcome _ r.is refl some
-put_by (ListCode f) bytes outcome (inr r) some = nothing_put outcome _ r.is refl some
+no_put_run : (image : Image) (text : List ℕ) (p n : ℕ) (shown : Option Variable) (outcome : Outcome) → EndsOn image text p n shown outcome → IsSome outcome.put → ⊥
+no_put_run image text p n shown outcome (inl r) some = nothing_put outcome _ r.is refl some
+no_put_run image text p n shown outcome (inr r) some = nothing_put outcome _ r.is refl some
+
+put_by : (command : Command) (bytes text : List ℕ) (outcome : Outcome) → ComesTo command bytes text outcome → IsSome outcome.put → Puts command
+put_by (Run f p n s) bytes text outcome (inl r) some = nothing_put outcome _ r.is refl some
+put_by (Run f p n s) bytes text outcome (inr (inl r)) some = nothing_put outcome _ r.is refl some
+put_by (Run f p n s) bytes text outcome (inr (inr r)) some = no_put_run r.image text p n r.shown outcome r.ends some
+put_by (Build f i) bytes text outcome comes some = tt
+put_by (Exec f p n) bytes text outcome (inl r) some = nothing_put outcome _ r.is refl some
+put_by (Exec f p n) bytes text outcome (inr r) some = no_put_run r.image text p n None outcome r.ends some
+put_by (ListCode f) bytes text outcome (inl r) some = nothing_put outcome _ r.is refl some
+put_by (ListCode f) bytes text outcome (inr r) some = nothing_put outcome _ r.is refl some
 
 -- a call that puts is a build
 build_by : (words : List (List ℕ)) (command : Command) → Reads words command → Puts command → IsBuild words
-build_by words (Run f p n) reads puts = absurd puts
+build_by words (Run f p n s) reads puts = absurd puts
 build_by words (Build f i) reads puts = (f, i, reads)
 build_by words (Exec f p n) reads puts = absurd puts
 build_by words (ListCode f) reads puts = absurd puts
@@ -90,13 +121,13 @@ build_by words (ListCode f) reads puts = absurd puts
 pub puts_by : (request : Request) (outcome : Outcome) → Ends request outcome → IsSome outcome.put → IsBuild request.words
 puts_by request outcome (inl none) some = absurd (nothing_put outcome _ none.1 refl some)
 puts_by request outcome (inr (inl unread)) some = absurd (nothing_put outcome _ unread.1 refl some)
-puts_by request outcome (inr (inr read)) some = build_by request.words read.command read.reads (put_by read.command read.bytes outcome read.comes_to some)
+puts_by request outcome (inr (inr read)) some = build_by request.words read.command read.reads (put_by read.command read.bytes read.text outcome read.comes_to some)
 
-not_cut : (call : Call) (command : Command) (bytes : List ℕ) → IsInOrder call command bytes → IsCut call → ⊥
-not_cut call command bytes order cut = go cut.cut
+not_cut : (call : Call) (command : Command) (bytes text : List ℕ) → IsInOrder call command bytes text → IsCut call → ⊥
+not_cut call command bytes text order cut = go cut.cut
   where
     puts : IsSome cut.outcome.put → Puts command
-    puts some = put_by command _ cut.outcome (come call command bytes cut.outcome order cut.cause) some
+    puts some = put_by command _ _ cut.outcome (come call command bytes text cut.outcome order cut.cause) some
 
     go : AreCut call.store call.out call.err cut.outcome → ⊥
     go (inl f) = order.put_steady (puts f.0.some) f.0.rose
@@ -123,36 +154,42 @@ by_answer call ImageRefused cause = inr (inr cause)
 by_answer call InputRefused cause = inr (inr cause)
 
 -- an answer where no fault rose
-answers : (call : Call) (status : Status) (command : Command) (bytes : List ℕ) → IsInOrder call command bytes → HasCause call status
-    → (status ≡ Memory) ⊎ ((outcome : Outcome) × (outcome.status ≡ status) × ComesTo command (take (most_bytes command) bytes) outcome)
-answers call status command bytes order cause = go (by_answer call status cause)
+abbrev pub IsAnswered : Command → List ℕ → List ℕ → Status → Type 0
+IsAnswered command bytes text status = (status ≡ Memory) ⊎ ((outcome : Outcome) × (outcome.status ≡ status) × ComesToFirst command bytes text outcome)
+
+answers : (call : Call) (status : Status) (command : Command) (bytes text : List ℕ) → IsInOrder call command bytes text → HasCause call status → IsAnswered command bytes text status
+answers call status command bytes text order cause = go (by_answer call status cause)
   where
-    go : ByAnswer call status → (status ≡ Memory) ⊎ ((outcome : Outcome) × (outcome.status ≡ status) × ComesTo command (take (most_bytes command) bytes) outcome)
-    go (inl cut) = absurd (not_cut call command bytes order cut.1)
+    go : ByAnswer call status → IsAnswered command bytes text status
+    go (inl cut) = absurd (not_cut call command bytes text order cut.1)
     go (inr (inl memory)) = inl memory.0
-    go (inr (inr ended)) = inr (ended.outcome, ended.status_is, come call command bytes ended.outcome order ended.cause)
+    go (inr (inr ended)) = inr (ended.outcome, ended.status_is, come call command bytes text ended.outcome order ended.cause)
 
 -- the status of an outcome
 status-of : (outcome other : Outcome) (status : Status) → outcome ≡ other → outcome.status ≡ status → status ≡ other.status
 status-of outcome other status is same = sym same ∙ ap (λ (o : Outcome). o.status) is
 
+-- ---- the file
+
 -- a source that is a text was read whole, and so was one that was built
 read_text : (source : List ℕ) → IsText source → take 1048577 source ≡ source
 read_text source text = let short = text.short in take_all 1048577 source (omega arith)
 
+read_short : (source : List ℕ) → length (take 1048577 source) ≤ 1048576 → take 1048577 source ≡ source
+read_short source short = whole 1048577 source (omega arith)
+
 read_built : (source : List ℕ) (image : Image) → IsBuiltFrom (take 1048577 source) image → IsText source
 read_built source image b =
-    let short = b.short in
-    let all = whole 1048577 source (omega arith) in
-    subst IsText all (record { short = short; program = b.faithful.program; straight = b.faithful.straight })
+    subst IsText (read_short source b.short) (record { short = b.short; program = b.faithful.program; straight = b.faithful.straight })
 
 read_image : (bytes : List ℕ) (image : Image) → IsImageOf bytes image → take 5434905 bytes ≡ bytes
 read_image bytes image is = let short = image_short bytes image is in take_all 5434905 bytes (omega arith)
 
+read_whole : (bytes : List ℕ) (image : Image) → IsImageOf (take 5434905 bytes) image → take 5434905 bytes ≡ bytes
+read_whole bytes image is = let short = image_short (take 5434905 bytes) image is in whole 5434905 bytes (omega arith)
+
 image_read : (bytes : List ℕ) (image : Image) → IsImageOf (take 5434905 bytes) image → IsImage bytes
-image_read bytes image is =
-    let short = image_short (take 5434905 bytes) image is in
-    (image, subst (λ (b : List ℕ). IsImageOf b image) (whole 5434905 bytes (omega arith)) is)
+image_read bytes image is = (image, subst (λ (b : List ℕ). IsImageOf b image) (read_whole bytes image is) is)
 
 -- what is in order is not refused
 not_refused : (source : List ℕ) (outcome : Outcome) → IsText source → RefusesSource (take 1048577 source) outcome → ⊥
@@ -163,51 +200,157 @@ not_image_refused : (bytes : List ℕ) (outcome : Outcome) → IsImage bytes →
 not_image_refused bytes outcome image r =
     image_accepted bytes r.report image (subst (λ (b : List ℕ). IsNoImageAs b r.report) (read_image bytes image.0 image.1) r.refused)
 
-readable_ends : (command : Command) (bytes : List ℕ) (outcome : Outcome) (status : Status) → IsReadable command bytes → outcome.status ≡ status → ComesTo command (take (most_bytes command) bytes) outcome → IsOfReadable command bytes status
-readable_ends (Run f p n) source outcome status text same (inl r) = absurd (not_refused source outcome text r)
-readable_ends (Run f p n) source outcome status text same (inr r) =
-    inr (r.image, subst (λ (s : List ℕ). IsBuiltFrom s r.image) (read_text source text) r.compiled, status-of outcome _ status r.is same)
-readable_ends (Build f i) source outcome status text same (inl r) = absurd (not_refused source outcome text r)
-readable_ends (Build f i) source outcome status text same (inr r) = inr (status-of outcome _ status r.is same)
-readable_ends (Exec f p n) bytes outcome status image same (inl r) = absurd (not_image_refused bytes outcome image r)
-readable_ends (Exec f p n) bytes outcome status image same (inr r) =
-    inr (r.image, subst (λ (b : List ℕ). IsImageOf b r.image) (read_image bytes image.0 image.1) r.spelled, status-of outcome _ status r.is same)
-readable_ends (ListCode f) bytes outcome status image same (inl r) = absurd (not_image_refused bytes outcome image r)
-readable_ends (ListCode f) bytes outcome status image same (inr r) = inr (status-of outcome _ status r.is same)
+-- a variable of a name is one that the tree has
+global_there : (source name : List ℕ) (word : ℕ) → HasGlobal source name None → HasGlobal source name (Some word) → ⊥
+global_there source name word none some =
+    let same = same_tree source some.tree none.tree some.parsed none.parsed in
+    variable_there none.tree name word none.variable (subst (λ (t : ProgramTree). HasVariable t name (Some word)) same some.variable)
 
-unreadable_ends : (command : Command) (bytes : List ℕ) (outcome : Outcome) (status : Status) → ¬ IsReadable command bytes → outcome.status ≡ status → ComesTo command (take (most_bytes command) bytes) outcome → IsOfUnreadable command status
-unreadable_ends (Run f p n) source outcome status none same (inl r) = inr (status-of outcome _ status r.is same)
-unreadable_ends (Run f p n) source outcome status none same (inr r) = absurd (none (read_built source r.image r.compiled))
-unreadable_ends (Build f i) source outcome status none same (inl r) = inr (status-of outcome _ status r.is same)
-unreadable_ends (Build f i) source outcome status none same (inr r) = absurd (none (read_built source r.image r.compiled))
-unreadable_ends (Exec f p n) bytes outcome status none same (inl r) = inr (status-of outcome _ status r.is same)
-unreadable_ends (Exec f p n) bytes outcome status none same (inr r) = absurd (none (image_read bytes r.image r.spelled))
-unreadable_ends (ListCode f) bytes outcome status none same (inl r) = inr (status-of outcome _ status r.is same)
-unreadable_ends (ListCode f) bytes outcome status none same (inr r) = absurd (none (image_read bytes r.image r.spelled))
+asked_there : (source : List ℕ) (show : Option Text) (shown : Option Variable) (name : Text) → IsShown source show shown → show ≡ Some name → HasGlobal source name None → ⊥
+asked_there source None shown name is e none = absurd (cc)
+asked_there source (Some other) None name is e none = absurd is
+asked_there source (Some other) (Some variable) name is e none =
+    let same : other ≡ name = cc in
+    global_there source name variable.word none (subst (λ (n : Text). HasGlobal source n (Some variable.word)) same is.1)
+
+not_lacking : (source : List ℕ) (show : Option Text) (outcome : Outcome) (shown : Option Variable) → IsText source → IsShown source show shown → LacksGlobal (take 1048577 source) show outcome → ⊥
+not_lacking source show outcome shown text is r =
+    asked_there source show shown r.name is r.asked (subst (λ (s : List ℕ). HasGlobal s r.name None) (read_text source text) r.none)
+
+-- ---- the input
+
+-- a text that is too long is told by one byte more
+input_of_taken : (limit : ℕ) (text : List ℕ) → input_of limit (take 1048577 text) ≡ input_of limit text
+input_of_taken limit text = by (nat_lt 1048576 (length text)) refl
+  where
+    by : (b : Bool) → nat_lt 1048576 (length text) ≡ b → input_of limit (take 1048577 text) ≡ input_of limit text
+    by true long =
+        let many = ltb-true 1048576 (length text) long in
+        let cut = lt-ltb 1048576 (length (take 1048577 text)) (omega (arith, length-take 1048577 text)) in
+        rw (cut, long) refl
+    by false short = ap (input_of limit) (take_all 1048577 text (let few = ltb-false 1048576 (length text) short in omega arith))
+
+-- an image has so many globals as the program of its text has variables
+globals_of : (source : List ℕ) (image : Image) (program : Program) → IsFaithful source image → IsStraight source program → vec_len image.globals ≡ program.variables
+globals_of source image program faithful straight =
+    let same = same_tree source faithful.straight.tree straight.tree faithful.straight.parsed straight.parsed in
+    let variables = (one_program straight.tree faithful.program program (subst (λ (t : ProgramTree). trees.Derives t faithful.program) same faithful.straight.straight) straight.straight).0 in
+    omega (arith, image.globals.ok.0, ap length faithful.faithful.globals_are, length-replicate {A = ℕ} faithful.program.variables 0, variables)
+
+beside : (globals other : ℕ) (text numbers : List ℕ) → globals ≡ other → input_of (most_numbers globals) (take 1048577 text) ≡ Ok numbers → IsInputBeside other text
+beside globals other text numbers same is = subst (λ (g : ℕ). IsInputBeside g text) same (numbers, sym (input_of_taken (most_numbers globals) text) ∙ is)
+
+not_beside : (globals other : ℕ) (text : List ℕ) (fault : InputFault) → globals ≡ other → input_of (most_numbers globals) (take 1048577 text) ≡ Err fault → IsInputBeside other text → ⊥
+not_beside globals other text fault same refused accepted =
+    let here = subst (λ (g : ℕ). IsInputBeside g text) (sym same) accepted in
+    let both : Ok here.0 ≡ Err fault = sym here.1 ∙ sym (input_of_taken (most_numbers globals) text) ∙ refused in
+    absurd (cc)
+
+same_count : (a b : Image) → a.globals.items ≡ b.globals.items → vec_len a.globals ≡ vec_len b.globals
+same_count a b same = omega (arith, a.globals.ok.0, b.globals.ok.0, ap length same)
+
+-- bytes are those of one image
+same_image : (bytes : List ℕ) (a b : Image) → IsImageOf bytes a → IsImageOf bytes b → a.globals.items ≡ b.globals.items
+same_image bytes a b is other = (one_image bytes a b is other).globals
+
+-- ---- what is in order
+
+-- what comes of an image and an input that is in order beside its globals
+accepted_run : (image : Image) (text : List ℕ) (p n globals : ℕ) (shown : Option Variable) (outcome : Outcome) (status : Status) → vec_len image.globals ≡ globals
+    → IsInputBeside globals text → outcome.status ≡ status → EndsOn image (take 1048577 text) p n shown outcome → IsOfStand image text p n status
+accepted_run image text p n globals shown outcome status count input same (inl r) =
+    absurd (not_beside (vec_len image.globals) globals text r.fault count r.refused input)
+accepted_run image text p n globals shown outcome status count input same (inr r) =
+    (r.input, sym (input_of_taken (most_numbers (vec_len image.globals)) text) ∙ r.numbers, status-of outcome _ status r.is same)
+
+accepted_ends : (command : Command) (bytes text : List ℕ) (outcome : Outcome) (status : Status) → IsReadable command bytes → IsAccepted command bytes text → outcome.status ≡ status → ComesToFirst command bytes text outcome → IsOfAccepted command bytes text status
+accepted_ends (Run f p n s) source text outcome status is input same (inl r) = absurd (not_refused source outcome is.0 r)
+accepted_ends (Run f p n s) source text outcome status is input same (inr (inl r)) = absurd (not_lacking source s outcome is.1 is.0 is.2 r)
+accepted_ends (Run f p n s) source text outcome status is input same (inr (inr r)) =
+    let built = subst (λ (b : List ℕ). IsBuiltFrom b r.image) (read_text source is.0) r.compiled in
+    let count = globals_of source r.image input.0 built.faithful input.1 in
+    inr (r.image, built, accepted_run r.image text p n input.0.variables r.shown outcome status count input.2 same r.ends)
+accepted_ends (Build f i) source text outcome status is input same (inl r) = absurd (not_refused source outcome is r)
+accepted_ends (Build f i) source text outcome status is input same (inr r) = inr (status-of outcome _ status r.is same)
+accepted_ends (Exec f p n) bytes text outcome status is input same (inl r) = absurd (not_image_refused bytes outcome is r)
+accepted_ends (Exec f p n) bytes text outcome status is input same (inr r) =
+    let spelled = subst (λ (b : List ℕ). IsImageOf b r.image) (read_image bytes is.0 is.1) r.spelled in
+    let count = same_count r.image input.0 (same_image bytes r.image input.0 spelled input.1) in
+    inr (r.image, spelled, accepted_run r.image text p n (vec_len input.0.globals) None outcome status count input.2 same r.ends)
+accepted_ends (ListCode f) bytes text outcome status is input same (inl r) = absurd (not_image_refused bytes outcome is r)
+accepted_ends (ListCode f) bytes text outcome status is input same (inr r) = inr (status-of outcome _ status r.is same)
+
+-- where the file isn't
+unreadable_ends : (command : Command) (bytes text : List ℕ) (outcome : Outcome) (status : Status) → ¬ IsReadable command bytes → outcome.status ≡ status → ComesToFirst command bytes text outcome → IsOfUnreadable command status
+unreadable_ends (Run f p n s) source text outcome status none same (inl r) = inr (status-of outcome _ status r.is same)
+unreadable_ends (Run f p n s) source text outcome status none same (inr (inl r)) = inr (status-of outcome _ status r.is same)
+unreadable_ends (Run f p n s) source text outcome status none same (inr (inr r)) =
+    absurd (none (read_built source r.image r.compiled, r.shown, subst (λ (b : List ℕ). IsShown b s r.shown) (read_short source r.compiled.short) r.is_shown))
+unreadable_ends (Build f i) source text outcome status none same (inl r) = inr (status-of outcome _ status r.is same)
+unreadable_ends (Build f i) source text outcome status none same (inr r) = absurd (none (read_built source r.image r.compiled))
+unreadable_ends (Exec f p n) bytes text outcome status none same (inl r) = inr (status-of outcome _ status r.is same)
+unreadable_ends (Exec f p n) bytes text outcome status none same (inr r) = absurd (none (image_read bytes r.image r.spelled))
+unreadable_ends (ListCode f) bytes text outcome status none same (inl r) = inr (status-of outcome _ status r.is same)
+unreadable_ends (ListCode f) bytes text outcome status none same (inr r) = absurd (none (image_read bytes r.image r.spelled))
+
+-- and where the input isn't
+unaccepted_ends : (command : Command) (bytes text : List ℕ) (outcome : Outcome) (status : Status) → IsReadable command bytes → ¬ IsAccepted command bytes text → outcome.status ≡ status → ComesToFirst command bytes text outcome → IsOfUnaccepted status
+unaccepted_ends (Run f p n s) source text outcome status is none same (inl r) = absurd (not_refused source outcome is.0 r)
+unaccepted_ends (Run f p n s) source text outcome status is none same (inr (inl r)) = absurd (not_lacking source s outcome is.1 is.0 is.2 r)
+unaccepted_ends (Run f p n s) source text outcome status is none same (inr (inr r)) = by r.ends
+  where
+    built : IsBuiltFrom source r.image
+    built = subst (λ (b : List ℕ). IsBuiltFrom b r.image) (read_text source is.0) r.compiled
+
+    by : EndsOn r.image (take 1048577 text) p n r.shown outcome → IsOfUnaccepted status
+    by (inl refuses) = inr (status-of outcome _ status refuses.is same)
+    by (inr runs) =
+        let count = globals_of source r.image built.faithful.program built.faithful built.faithful.straight in
+        absurd (none (built.faithful.program, built.faithful.straight, beside (vec_len r.image.globals) _ text runs.input count runs.numbers))
+unaccepted_ends (Build f i) source text outcome status is none same comes = absurd (none tt)
+unaccepted_ends (Exec f p n) bytes text outcome status is none same (inl r) = absurd (not_image_refused bytes outcome is r)
+unaccepted_ends (Exec f p n) bytes text outcome status is none same (inr r) = by r.ends
+  where
+    by : EndsOn r.image (take 1048577 text) p n None outcome → IsOfUnaccepted status
+    by (inl refuses) = inr (status-of outcome _ status refuses.is same)
+    by (inr runs) =
+        let spelled = subst (λ (b : List ℕ). IsImageOf b r.image) (read_image bytes is.0 is.1) r.spelled in
+        absurd (none (r.image, spelled, beside (vec_len r.image.globals) _ text runs.input refl runs.numbers))
+unaccepted_ends (ListCode f) bytes text outcome status is none same comes = absurd (none tt)
 
 -- want of memory is an answer in any case
-memory_readable : (command : Command) (bytes : List ℕ) (status : Status) → status ≡ Memory → IsOfReadable command bytes status
-memory_readable (Run f p n) bytes status is = inl is
-memory_readable (Build f i) bytes status is = inl is
-memory_readable (Exec f p n) bytes status is = inl is
-memory_readable (ListCode f) bytes status is = inl is
+memory_accepted : (command : Command) (bytes text : List ℕ) (status : Status) → status ≡ Memory → IsOfAccepted command bytes text status
+memory_accepted (Run f p n s) bytes text status is = inl is
+memory_accepted (Build f i) bytes text status is = inl is
+memory_accepted (Exec f p n) bytes text status is = inl is
+memory_accepted (ListCode f) bytes text status is = inl is
 
 memory_unreadable : (command : Command) (status : Status) → status ≡ Memory → IsOfUnreadable command status
-memory_unreadable (Run f p n) status is = inl is
+memory_unreadable (Run f p n s) status is = inl is
 memory_unreadable (Build f i) status is = inl is
 memory_unreadable (Exec f p n) status is = inl is
 memory_unreadable (ListCode f) status is = inl is
 
-pub readable : (call : Call) (status : Status) (command : Command) (bytes : List ℕ) → IsInOrder call command bytes → IsReadable command bytes → HasCause call status → IsOfReadable command bytes status
-readable call status command bytes order is answered = go (answers call status command bytes order answered)
-  where
-    go : (status ≡ Memory) ⊎ ((outcome : Outcome) × (outcome.status ≡ status) × ComesTo command (take (most_bytes command) bytes) outcome) → IsOfReadable command bytes status
-    go (inl memory) = memory_readable command bytes status memory
-    go (inr ended) = readable_ends command bytes ended.0 status is ended.1 ended.2
+-- ---- the answers to what is in order, and to what isn't
 
-pub unreadable : (call : Call) (status : Status) (command : Command) (bytes : List ℕ) → IsInOrder call command bytes → ¬ IsReadable command bytes → HasCause call status → IsOfUnreadable command status
-unreadable call status command bytes order not answered = go (answers call status command bytes order answered)
-  where
-    go : (status ≡ Memory) ⊎ ((outcome : Outcome) × (outcome.status ≡ status) × ComesTo command (take (most_bytes command) bytes) outcome) → IsOfUnreadable command status
-    go (inl memory) = memory_unreadable command status memory
-    go (inr ended) = unreadable_ends command bytes ended.0 status not ended.1 ended.2
+module _ (call : Call) (status : Status) (command : Command) (bytes text : List ℕ) (order : IsInOrder call command bytes text) (cause : HasCause call status) where
+  pub accepted : IsReadable command bytes → IsAccepted command bytes text → IsOfAccepted command bytes text status
+  accepted is input = go (answers call status command bytes text order cause)
+    where
+      go : IsAnswered command bytes text status → IsOfAccepted command bytes text status
+      go (inl memory) = memory_accepted command bytes text status memory
+      go (inr ended) = accepted_ends command bytes text ended.0 status is input ended.1 ended.2
+
+  pub unreadable : ¬ IsReadable command bytes → IsOfUnreadable command status
+  unreadable none = go (answers call status command bytes text order cause)
+    where
+      go : IsAnswered command bytes text status → IsOfUnreadable command status
+      go (inl memory) = memory_unreadable command status memory
+      go (inr ended) = unreadable_ends command bytes text ended.0 status none ended.1 ended.2
+
+  pub unaccepted : IsReadable command bytes → ¬ IsAccepted command bytes text → IsOfUnaccepted status
+  unaccepted is none = go (answers call status command bytes text order cause)
+    where
+      go : IsAnswered command bytes text status → IsOfUnaccepted status
+      go (inl memory) = inl memory
+      go (inr ended) = unaccepted_ends command bytes text ended.0 status is none ended.1 ended.2

@@ -1,6 +1,9 @@
 pub mod Readable
+pub mod Inputs
+pub mod Pieces
 pub mod Causes
 pub mod Refusing
+pub mod Unread
 pub mod Answered
 pub mod Statuses
 pub mod Whole

@@ -1,7 +1,8 @@
 -- What is read whole, and that what is in order is not refused.
-use Rattle.std.proofs.Common.{◌≡◌, ℕ, ◌+◌, ◌*◌, ◌≤◌, ◌<◌, List, ◌++◌, codes, length, take, flat_map, Some, ap, subst, ◌∙◌, arith}
+use Rattle.std.proofs.Common.{◌≡◌, ℕ, zero, suc, ◌+◌, ◌*◌, ◌≤◌, ◌<◌, List, [], ◌∷◌, ◌++◌, codes, length, take, flat_map, None, Some, Contains, sym, ap, subst, ◌∙◌, arith}
+use Rattle.std.specs.Prelude.{slice_get}
 use Rattle.std.proofs.lemmas.List.{length-append, length-take, take_all}
-use Rattle.fk_syntax.specs.Program.{ProgramTree}
+use Rattle.fk_syntax.specs.Program.{ItemTree, ProgramTree}
 use Rattle.fk_lex.specs.Reading.{Spelled}
 use Rattle.fk_lex.proofs.Determined as lexed
 use Rattle.fk_reading.specs.declared.fault.SyntaxFault.{SyntaxFault}
@@ -10,6 +11,8 @@ use Rattle.fk_reading.specs.Faults.{IsMemory}
 use Rattle.fk_parse.specs.Parses.{SpellsProgram}
 use Rattle.fk_parse.proofs.Texts.{one_tree, tree_or_fault}
 use Rattle.fk_straight.specs.Straight as trees
+use Rattle.fk_straight.proofs.ItemLemmas.{same_names}
+use Rattle.fk_straight.proofs.Same.{same_last}
 use Rattle.fk_image.specs.declared.Image.{Image}
 use Rattle.fk_image.specs.Spelling.{IsImageOf, word_bytes, image_words, site_words, commit_words}
 use Rattle.fk_image.proofs.Accepted.{no_refusal}
@@ -36,7 +39,7 @@ not_faulty source tree fault parsed faulty =
     tree_or_fault faulty.tokens tree fault (subst (λ (ts : List Spelled). SpellsProgram ts tree) same parsed.derived) faulty.refused
 
 -- a text has one tree
-same_tree : (source : List ℕ) (tree other : ProgramTree) → HasTree source tree → HasTree source other → tree ≡ other
+pub same_tree : (source : List ℕ) (tree other : ProgramTree) → HasTree source tree → HasTree source other → tree ≡ other
 same_tree source tree other a b =
     let same = lexed.one_reading.tokens source a.tokens b.tokens a.spelled b.spelled in
     one_tree b.tokens tree other (subst (λ (ts : List Spelled). SpellsProgram ts tree) same a.derived) b.derived
@@ -81,3 +84,18 @@ image_short bytes image is =
 
 pub image_accepted : (bytes : List ℕ) (report : Report) → IsImage bytes → IsNoImageAs bytes report → ⊥
 image_accepted bytes report image r = no_refusal bytes image.0 r.fault image.1 r.refused
+
+-- ---- variables
+
+contains_at : {X : Type 0} (xs : List X) (i : ℕ) (x : X) → slice_get xs i ≡ Some x → Contains xs x
+contains_at [] i x e = absurd cc
+contains_at (y ∷ xs) zero x e = (0, omega arith, let same : y ≡ x = cc in same)
+contains_at (y ∷ xs) (suc i) x e = let h = contains_at xs i x e in (suc h.0, omega (arith, h.1), h.2)
+
+-- a tree that has no variable of a name has none of any number
+pub variable_there : (tree : ProgramTree) (name : List ℕ) (n : ℕ) → trees.HasVariable tree name None → trees.HasVariable tree name (Some n) → ⊥
+variable_there tree name n none some =
+    let same = same_last some.declarations none.declarations some.main none.main (sym some.items ∙ none.items) in
+    let declared = subst (λ (items : List ItemTree). trees.AreDeclarations some.names items) same.0 some.declared in
+    let names = same_names some.names none.names none.declarations declared.each none.declared.each in
+    none.is (subst (λ (ns : trees.Names). Contains ns name) names (contains_at some.names n name some.is))

@@ -1,20 +1,55 @@
--- A source that is refused ends a call with the report of why.
-use Rattle.std.proofs.Common.{◌≡◌, ℕ, List, Result, Ok, Err, IfOk, Option, Some, None, sym, ◌⊎◌, inl}
+-- A source, bytes that are no image, or an input text that is refused ends a call with the report of why.
+use Rattle.std.proofs.Common.{◌≡◌, ℕ, List, Result, Ok, Err, IfOk, Option, Some, None, sym, ap, ◌∙◌, ◌⊎◌, inl, inr}
 use Rattle.std.specs.Prelude.{IsErr, IsOkAnd, MatchOption}
 use Rattle.std.specs.declared.alloc.AllocError.{AllocError}
+use Rattle.fk_image.specs.declared.Image.{Image}
+use Rattle.fk_image.specs.declared.fault.ImageFault.{ImageFault}
+use Rattle.fk_image.specs.declared.fault.ImageFault.TheVariants as image
+use Rattle.fk_image.specs.Refusals.{IsFault}
+use Rattle.fk_image.specs.Refusals as images
+use Rattle.fk_input.specs.declared.fault.InputFault.{InputFault}
+use Rattle.fk_input.specs.declared.fault.InputFault.TheVariants.{Memory}
 use Rattle.fk_compile.specs.declared.refusal.Refusal.{Refusal}
 use Rattle.fk_compile.specs.Refusal.{IsRefused}
 use Rattle.fk_top.specs.declared.ending.Ending.{Ending}
 use Rattle.fk_top.specs.declared.report.Report.{Report}
-use Rattle.fk_top.specs.declared.status.Status.TheVariants.{Refused}
+use Rattle.fk_top.specs.declared.status.Status.TheVariants.{Refused, ImageRefused, InputRefused}
 use Rattle.fk_top.specs.Ending.{outcome_of}
-use Rattle.fk_top.specs.Outcome.{silent, RefusesSource}
-use Rattle.fk_top.specs.Refused.{report_of}
+use Rattle.fk_top.specs.Report.{line_of}
+use Rattle.fk_top.specs.Outcome.{silent, numbers_for, RefusesSource, RefusesImage, RefusesInput}
+use Rattle.fk_top.specs.Refused.{report_of, image_report_of, input_report_of}
 
 pub refusing : (source : List ℕ) (refusal : Refusal) (report : Option Report) (r : Result Ending AllocError) (Q : Ending → Type 0)
-    → IsRefused source refusal → report ≡ report_of refusal → MatchOption report (IsErr r) (λ x. IsOkAnd r (λ e. outcome_of e ≡ silent Refused x))
+    → IsRefused source refusal → report ≡ report_of refusal → MatchOption report (IsErr r) (λ x. IsOkAnd r (λ e. outcome_of e ≡ silent Refused (line_of x)))
     → IfOk r (λ e. RefusesSource source (outcome_of e) ⊎ Q e)
 refusing source refusal (Some x) (Ok e) Q refused says is =
     inl (record { report = x; refused = record { refusal = refusal; refused = refused; says = sym says }; is = is })
 refusing source refusal None (Ok e) Q refused says is = absurd (cc)
 refusing source refusal report (Err error) Q refused says is = tt
+
+-- a fault of bytes that has a report says why they are no image
+no_image : (bytes : List ℕ) (fault : ImageFault) (report : Report) → IsFault bytes fault → image_report_of fault ≡ Some report → images.IsRefused bytes fault
+no_image bytes image.Magic report refused says = refused
+no_image bytes (image.Version version) report refused says = refused
+no_image bytes (image.Short length wanted) report refused says = refused
+no_image bytes (image.LongTail wanted) report refused says = refused
+no_image bytes (image.BadTable entry) report refused says = refused
+no_image bytes (image.BadWord word) report refused says = refused
+no_image bytes (image.Memory e) report refused says = absurd (cc)
+
+pub refusing_image : (bytes : List ℕ) (fault : ImageFault) (report : Option Report) (r : Result Ending AllocError) (Q : Ending → Type 0)
+    → IsFault bytes fault → report ≡ image_report_of fault → MatchOption report (IsErr r) (λ x. IsOkAnd r (λ e. outcome_of e ≡ silent ImageRefused (line_of x)))
+    → IfOk r (λ e. RefusesImage bytes (outcome_of e) ⊎ Q e)
+refusing_image bytes fault (Some x) (Ok e) Q refused says is =
+    inl (record { report = x; refused = record { fault = fault; refused = no_image bytes fault x refused (sym says); says = sym says }; is = is })
+refusing_image bytes fault None (Ok e) Q refused says is = absurd (cc)
+refusing_image bytes fault report (Err error) Q refused says is = tt
+
+pub refusing_input : (image : Image) (text : List ℕ) (fault : InputFault) (report : Option Report) (r : Result Ending AllocError) (Q : Ending → Type 0)
+    → (fault ≡ Memory) ⊎ (numbers_for image text ≡ Err fault) → report ≡ input_report_of fault
+    → MatchOption report (IsErr r) (λ x. IsOkAnd r (λ e. outcome_of e ≡ silent InputRefused (line_of x))) → IfOk r (λ e. RefusesInput image text (outcome_of e) ⊎ Q e)
+refusing_input image text fault (Some x) (Ok e) Q (inl memory) says is = let none : Some x ≡ None = says ∙ ap input_report_of memory in absurd (cc)
+refusing_input image text fault (Some x) (Ok e) Q (inr refused) says is =
+    inl (record { fault = fault; refused = refused; report = x; says = sym says; is = is })
+refusing_input image text fault None (Ok e) Q refused says is = absurd (cc)
+refusing_input image text fault report (Err error) Q refused says is = tt

@@ -1,24 +1,25 @@
 -- Which statuses the outcomes of a command have.
-use Rattle.std.proofs.Common.{◌≡◌, ℕ, ◌+◌, ◌^◌, ◌<◌, ◌≤◌, Bool, true, false, cond, List, [], Some, None, sym, subst, arith, lit≤, inl, inr}
-use Rattle.std.proofs.lemmas.List.Elements.{All-nil}
+use Rattle.std.proofs.Common.{◌≡◌, ℕ, ◌^◌, ◌<◌, ◌≤◌, Bool, true, false, cond, List, [], ◌∷◌, Option, Some, None, sym, subst, arith, inl, inr}
 use Rattle.std.specs.Str.Parse.{digits_value}
 use Rattle.fk_num.specs.Numeral.{if_word, is_numeral, read_word}
 use Rattle.fk_image.specs.declared.Image.{Image}
-use Rattle.fk_image.specs.Limits.{IsWithinLimits}
 use Rattle.fk_machine.specs.declared.stand.Stand.{Stand}
 use Rattle.fk_machine.specs.declared.stand.Stand.TheVariants.{Running, Finished, Faulted, Trapped}
 use Rattle.fk_machine.specs.Run.{machine}
-use Rattle.fk_compile.specs.Faithful.{IsInput}
+use Rattle.fk_compile.specs.Faithful.{IsFaithful}
 use Rattle.fk_compile.specs.Laws.{IsUnfaulted}
 use Rattle.fk_compile.proofs.Unfaulted.{never_faults}
+use Rattle.fk_words.specs.Arguments.{Text}
+use Rattle.fk_words.specs.Command.{Command, Run, Build, Exec, ListCode, Reads, ReadsRun}
 use Rattle.fk_top.specs.declared.status.Status.{Status}
-use Rattle.fk_top.specs.declared.status.Status.TheVariants.{Done, Refused, SourceFault, CycleBound, Trap, ImageRefused}
-use Rattle.fk_top.specs.Words.{Command, Run, Build, Exec, ListCode, Reads, IsExec}
-use Rattle.fk_top.specs.Outcome.{Outcome, ComesTo, status_of}
+use Rattle.fk_top.specs.declared.status.Status.TheVariants.{Done, Refused, SourceFault, CycleBound, Trap, ImageRefused, InputRefused}
+use Rattle.fk_top.specs.Words.{Runs, IsRun, IsExec}
+use Rattle.fk_top.specs.Outcome.{Variable, Outcome, EndsOn, ComesTo, status_of}
+use Rattle.fk_top.proofs.Inputs.{is_input}
 
--- the command reads a source, or bytes of an image, or runs, or runs an image
+-- the command reads a source, or bytes of an image, or runs an image of bytes
 abbrev pub ReadsSource : Command → Type 0
-ReadsSource (Run file harts cycles) = Unit {0}
+ReadsSource (Run file harts cycles show) = Unit {0}
 ReadsSource (Build file image) = Unit {0}
 ReadsSource command = ⊥
 
@@ -26,11 +27,6 @@ abbrev pub ReadsImage : Command → Type 0
 ReadsImage (Exec image harts cycles) = Unit {0}
 ReadsImage (ListCode image) = Unit {0}
 ReadsImage command = ⊥
-
-abbrev pub Runs : Command → Type 0
-Runs (Run file harts cycles) = Unit {0}
-Runs (Exec image harts cycles) = Unit {0}
-Runs command = ⊥
 
 abbrev pub RunsImage : Command → Type 0
 RunsImage (Exec image harts cycles) = Unit {0}
@@ -42,6 +38,7 @@ IsOf Done command = Unit {0}
 IsOf Refused command = ReadsSource command
 IsOf ImageRefused command = ReadsImage command
 IsOf CycleBound command = Runs command
+IsOf InputRefused command = Runs command
 IsOf SourceFault command = RunsImage command
 IsOf Trap command = RunsImage command
 IsOf status command = ⊥
@@ -59,19 +56,25 @@ below n v false e = absurd (cc)
 word_below : (text : List ℕ) (v : ℕ) → read_word text ≡ Some v → v < 2 ^ 32
 word_below text v e = below (digits_value 10 text) v (is_numeral text) e
 
--- no number is an input for an image within its limits
-no_input : (image : Image) → IsWithinLimits image → IsInput image []
-no_input image limits = record {
-  few = lit≤ tt;
-  room = omega (arith, limits.globals);
-  words = All-nil (λ w. w < 2 ^ 32);
-}
+-- the harts and the bound of a run are within their bounds
+pub record IsWithin (harts cycles : ℕ) : Type 0 where
+  pub some : 1 ≤ harts
+  pub few : harts ≤ 1024
+  pub bound : cycles < 2 ^ 32
 
-of_unfaulted : (file : List ℕ) (harts cycles : ℕ) (stand : Stand) → IsUnfaulted stand → IsOf (status_of stand) (Run file harts cycles)
-of_unfaulted file harts cycles stand (inl running) = subst (λ s. IsOf (status_of s) (Run file harts cycles)) (sym running) tt
-of_unfaulted file harts cycles stand (inr finished) = subst (λ s. IsOf (status_of s) (Run file harts cycles)) (sym finished) tt
+within : (words : List Text) (file : Text) (harts cycles : ℕ) (show : Option Text) → ReadsRun words file harts cycles show → IsWithin harts cycles
+within words file harts cycles show reads =
+    record { some = reads.some_harts; few = reads.few_harts; bound = word_below reads.cycles_text cycles reads.cycles_are }
 
-of_stand : (image : List ℕ) (harts cycles : ℕ) (stand : Stand) → IsOf (status_of stand) (Exec image harts cycles)
+within_run : (words : List Text) (file : Text) (harts cycles : ℕ) (show : Option Text) → Reads words (Run file harts cycles show) → IsWithin harts cycles
+within_run [] file harts cycles show reads = absurd reads
+within_run (word ∷ words) file harts cycles show reads = within words file harts cycles show reads.1
+
+of_unfaulted : (file : Text) (harts cycles : ℕ) (show : Option Text) (stand : Stand) → IsUnfaulted stand → IsOf (status_of stand) (Run file harts cycles show)
+of_unfaulted file harts cycles show stand (inl running) = subst (λ s. IsOf (status_of s) (Run file harts cycles show)) (sym running) tt
+of_unfaulted file harts cycles show stand (inr finished) = subst (λ s. IsOf (status_of s) (Run file harts cycles show)) (sym finished) tt
+
+of_stand : (image : Text) (harts cycles : ℕ) (stand : Stand) → IsOf (status_of stand) (Exec image harts cycles)
 of_stand image harts cycles Running = tt
 of_stand image harts cycles Finished = tt
 of_stand image harts cycles (Faulted site hart) = tt
@@ -82,23 +85,35 @@ of_stand image harts cycles (Trapped hart pc kind) = tt
 is_of : (command : Command) (outcome other : Outcome) → outcome ≡ other → IsOf other.status command → IsOf outcome.status command
 is_of command outcome other same is = subst (λ (o : Outcome). IsOf o.status command) (sym same) is
 
-pub outcome_is_of : (words : List (List ℕ)) (command : Command) (bytes : List ℕ) (outcome : Outcome) → Reads words command → ComesTo command bytes outcome → IsOf outcome.status command
-outcome_is_of words (Run f p n) bytes outcome reads (inl r) = is_of (Run f p n) outcome _ r.is tt
-outcome_is_of words (Run f p n) bytes outcome reads (inr r) =
-    let faithful = r.compiled.faithful in
-    let within = no_input r.image faithful.faithful.limits in
-    let stand = never_faults bytes r.image [] p n faithful within reads.some_harts reads.few_harts (word_below reads.cycles_text n reads.cycles_are) in
-    is_of (Run f p n) outcome _ r.is (of_unfaulted f p n (machine r.image [] p n).stand stand)
-outcome_is_of words (Build f i) bytes outcome reads (inl r) = is_of (Build f i) outcome _ r.is tt
-outcome_is_of words (Build f i) bytes outcome reads (inr r) = is_of (Build f i) outcome _ r.is tt
-outcome_is_of words (Exec f p n) bytes outcome reads (inl r) = is_of (Exec f p n) outcome _ r.is tt
-outcome_is_of words (Exec f p n) bytes outcome reads (inr r) = is_of (Exec f p n) outcome _ r.is (of_stand f p n (machine r.image [] p n).stand)
-outcome_is_of words (ListCode f) bytes outcome reads (inl r) = is_of (ListCode f) outcome _ r.is tt
-outcome_is_of words (ListCode f) bytes outcome reads (inr r) = is_of (ListCode f) outcome _ r.is tt
+of_source : (source text : List ℕ) (image : Image) (f : Text) (p n : ℕ) (show : Option Text) (shown : Option Variable) (outcome : Outcome) → IsFaithful source image → IsWithin p n → EndsOn image text p n shown outcome → IsOf outcome.status (Run f p n show)
+of_source source text image f p n show shown outcome faithful bounds (inl r) = is_of (Run f p n show) outcome _ r.is tt
+of_source source text image f p n show shown outcome faithful bounds (inr r) =
+    let input = is_input image text r.input faithful.faithful.limits r.numbers in
+    let stand = never_faults source image r.input p n faithful input bounds.some bounds.few bounds.bound in
+    is_of (Run f p n show) outcome _ r.is (of_unfaulted f p n show (machine image r.input p n).stand stand)
 
--- what alone runs an image is `exec`
-pub is_exec : (words : List (List ℕ)) (command : Command) → Reads words command → RunsImage command → IsExec words
-is_exec words (Run f p n) reads none = absurd none
+of_image : (text : List ℕ) (image : Image) (f : Text) (p n : ℕ) (outcome : Outcome) → EndsOn image text p n None outcome → IsOf outcome.status (Exec f p n)
+of_image text image f p n outcome (inl r) = is_of (Exec f p n) outcome _ r.is tt
+of_image text image f p n outcome (inr r) = is_of (Exec f p n) outcome _ r.is (of_stand f p n (machine image r.input p n).stand)
+
+pub outcome_is_of : (words : List Text) (command : Command) (bytes text : List ℕ) (outcome : Outcome) → Reads words command → ComesTo command bytes text outcome → IsOf outcome.status command
+outcome_is_of words (Run f p n show) bytes text outcome reads (inl r) = is_of (Run f p n show) outcome _ r.is tt
+outcome_is_of words (Run f p n show) bytes text outcome reads (inr (inl r)) = is_of (Run f p n show) outcome _ r.is tt
+outcome_is_of words (Run f p n show) bytes text outcome reads (inr (inr r)) =
+    of_source bytes text r.image f p n show r.shown outcome r.compiled.faithful (within_run words f p n show reads) r.ends
+outcome_is_of words (Build f i) bytes text outcome reads (inl r) = is_of (Build f i) outcome _ r.is tt
+outcome_is_of words (Build f i) bytes text outcome reads (inr r) = is_of (Build f i) outcome _ r.is tt
+outcome_is_of words (Exec f p n) bytes text outcome reads (inl r) = is_of (Exec f p n) outcome _ r.is tt
+outcome_is_of words (Exec f p n) bytes text outcome reads (inr r) = of_image text r.image f p n outcome r.ends
+outcome_is_of words (ListCode f) bytes text outcome reads (inl r) = is_of (ListCode f) outcome _ r.is tt
+outcome_is_of words (ListCode f) bytes text outcome reads (inr r) = is_of (ListCode f) outcome _ r.is tt
+
+-- what alone runs an image of bytes is `exec`
+pub is_exec : (words : List Text) (command : Command) → Reads words command → RunsImage command → IsExec words
+is_exec words (Run f p n show) reads none = absurd none
 is_exec words (Build f i) reads none = absurd none
 is_exec words (Exec f p n) reads is = (f, p, n, reads)
 is_exec words (ListCode f) reads none = absurd none
+
+pub is_run : (words : List Text) (command : Command) → Reads words command → Runs command → IsRun words
+is_run words command reads runs = (command, reads, runs)

@@ -1,20 +1,22 @@
 -- From the cause of an answer to all that holds of it.
-use Rattle.std.proofs.Common.{◌≡◌, ◌≢◌, ℕ, List, [], Option, Some, None, IsSome, take, refl, sym, ap, subst, ◌∙◌, ◌⊎◌, inl, inr}
+use Rattle.std.proofs.Common.{◌≡◌, ◌≢◌, ℕ, List, [], Option, Some, None, take, sym, ap, subst, ◌∙◌, inl, inr}
 use Rattle.std.specs.Prelude.{IsSomeAnd}
-use Rattle.fk_ports.specs.Files.{Files, AppendsFile, LacksFile, file}
+use Rattle.fk_ports.specs.Files.{Files, AppendsFile, LacksFile}
 use Rattle.fk_top.specs.declared.status.Status.{Status}
-use Rattle.fk_top.specs.declared.status.Status.TheVariants.{Usage, ReadFault, WriteFault, Memory, SourceFault, Trap, InputRefused}
-use Rattle.fk_top.specs.Words.{Command, Reads, IsBuild, IsExec, file_of, most_bytes}
-use Rattle.fk_top.specs.Outcome.{Outcome, Put, ComesTo}
-use Rattle.fk_top.specs.Call.{Call, Request, Stored, HasPut, IsSame, Ends, IsNoCommand, IsUnread, HasRead, HasEnded, HasCause, IsCut, IsOutOfMemory, AreCut, FailsToWrite, TellsFaults, IsAbsent, IsOfAbsent, IsOfNoCommand, IsAnswer}
+use Rattle.fk_top.specs.declared.status.Status.TheVariants.{Usage, ReadFault, SourceFault, Trap, InputRefused}
+use Rattle.fk_words.specs.Command.{Command, Reads}
+use Rattle.fk_words.proofs.OneCommand.{one_command}
+use Rattle.fk_top.specs.Words.{IsRun, IsBuild, IsExec, file_of, most_bytes}
+use Rattle.fk_top.specs.Outcome.{Outcome, Put}
+use Rattle.fk_top.specs.Call.{Call, Request, Stored, HasPut, IsSame, Ends, IsNoCommand, IsUnread, HasRead, HasEnded, HasCause, IsCut, AreCut, FailsToWrite, TellsFaults, IsAbsent, IsOfAbsent, IsOfNoCommand, IsAnswer}
 use Rattle.fk_top.proofs.Answered.{nothing_of}
-use Rattle.fk_top.proofs.Causes.{ByAnswer, by_answer, one_command, puts_by, readable, unreadable}
-use Rattle.fk_top.proofs.Statuses.{IsOf, outcome_is_of, is_exec}
+use Rattle.fk_top.proofs.Causes.{ByAnswer, by_answer, puts_by, accepted, unreadable, unaccepted}
+use Rattle.fk_top.proofs.Statuses.{IsOf, outcome_is_of, is_exec, is_run}
 
 -- the status of an outcome that a command came to
 status_of_read : (request : Request) (outcome : Outcome) (status : Status) (read : HasRead request outcome) → outcome.status ≡ status → IsOf status read.command
 status_of_read request outcome status read same =
-    subst (λ s. IsOf s read.command) same (outcome_is_of request.words read.command read.bytes outcome read.reads read.comes_to)
+    subst (λ s. IsOf s read.command) same (outcome_is_of request.words read.command read.bytes read.text outcome read.reads read.comes_to)
 
 -- ---- words that are no command
 
@@ -82,22 +84,14 @@ write_fault call cut = go cut.cut
 
 -- ---- a run that fails
 
-only_exec : (call : Call) (status : Status) (ended : HasEnded call status) → ((words : List (List ℕ)) (command : Command) → Reads words command → IsOf status command → IsExec words)
-    → status ≢ Usage → status ≢ ReadFault → IsExec call.request.words
-only_exec call status ended of_command no_usage no_fault = go ended.cause
-  where
-    go : Ends call.request ended.outcome → IsExec call.request.words
-    go (inl none) = absurd (no_usage (sym ended.status_is ∙ ap (λ (o : Outcome). o.status) none.1))
-    go (inr (inl unread)) = absurd (no_fault (sym ended.status_is ∙ ap (λ (o : Outcome). o.status) unread.1))
-    go (inr (inr read)) = of_command call.request.words read.command read.reads (status_of_read call.request ended.outcome status read ended.status_is)
-
-input_refused : (call : Call) → HasEnded call InputRefused → ⊥
-input_refused call ended = go ended.cause
-  where
-    go : Ends call.request ended.outcome → ⊥
-    go (inl none) = let e = sym ended.status_is ∙ ap (λ (o : Outcome). o.status) none.1 in absurd (cc)
-    go (inr (inl unread)) = let e = sym ended.status_is ∙ ap (λ (o : Outcome). o.status) unread.1 in absurd (cc)
-    go (inr (inr read)) = status_of_read call.request ended.outcome InputRefused read ended.status_is
+module _ (call : Call) (status : Status) (ended : HasEnded call status) (no_usage : status ≢ Usage) (no_fault : status ≢ ReadFault) where
+  by_read : (D : Type 0) → ((command : Command) → Reads call.request.words command → IsOf status command → D) → D
+  by_read D of_command = go ended.cause
+    where
+      go : Ends call.request ended.outcome → D
+      go (inl none) = absurd (no_usage (sym ended.status_is ∙ ap (λ (o : Outcome). o.status) none.1))
+      go (inr (inl unread)) = absurd (no_fault (sym ended.status_is ∙ ap (λ (o : Outcome). o.status) unread.1))
+      go (inr (inr read)) = of_command read.command read.reads (status_of_read call.request ended.outcome status read ended.status_is)
 
 -- ---- only a build puts
 
@@ -122,8 +116,9 @@ files call status cause not = go (by_answer call status cause)
 
 -- ---- all of it
 
-pub answer_of : (call : Call) (status : Status) → HasCause call status → TellsFaults call status → (¬ IsBuild call.request.words → IsSame call.store.faults) → IsAnswer call status
-answer_of call status cause told steady = record {
+pub answer_of : (call : Call) (status : Status) → HasCause call status → TellsFaults call status → (¬ IsRun call.request.words → IsSame call.request.input.left)
+    → (¬ IsRun call.request.words → IsSame call.request.input.faults) → (¬ IsBuild call.request.words → IsSame call.store.faults) → IsAnswer call status
+answer_of call status cause told left input_faults steady = record {
   answer = cause;
   usage = λ is. usage call (subst (HasCause call) is cause);
   no_command = no_command call status cause;
@@ -131,11 +126,14 @@ answer_of call status cause told steady = record {
   absent = absent call status cause;
   write_fault = λ is. write_fault call (subst (HasCause call) is cause);
   told = told;
-  source_fault = λ is. only_exec call SourceFault (subst (HasCause call) is cause) is_exec (λ e. cc) (λ e. cc);
-  trap = λ is. only_exec call Trap (subst (HasCause call) is cause) is_exec (λ e. cc) (λ e. cc);
-  input_refused = λ is. input_refused call (subst (HasCause call) is cause);
-  complete = λ command bytes order is. readable call status command bytes order is cause;
-  refused = λ command bytes order not. unreadable call status command bytes order not cause;
+  source_fault = λ is. by_read call SourceFault (subst (HasCause call) is cause) (λ e. cc) (λ e. cc) (IsExec call.request.words) (is_exec call.request.words);
+  trap = λ is. by_read call Trap (subst (HasCause call) is cause) (λ e. cc) (λ e. cc) (IsExec call.request.words) (is_exec call.request.words);
+  input = λ is. by_read call InputRefused (subst (HasCause call) is cause) (λ e. cc) (λ e. cc) (IsRun call.request.words) (is_run call.request.words);
+  left = left;
+  input_faults = input_faults;
+  complete = λ command bytes text order. accepted call status command bytes text order cause;
+  refused = λ command bytes text order. unreadable call status command bytes text order cause;
+  input_refused = λ command bytes text order. unaccepted call status command bytes text order cause;
   files = files call status cause;
   put_faults = steady;
 }

@@ -1,20 +1,22 @@
 -- Whole calls: why each ends as it does, and what the store and the sinks then have.
-use Rattle.std.specs.Prelude.{◌≡◌, ◌≢◌, ℕ, ◌≤◌, ◌⊎◌, List, [], length, Option, Some, None, IsSome}
+use Rattle.std.specs.Prelude.{◌≡◌, ◌≢◌, ℕ, ◌≤◌, ◌⊎◌, List, [], length, vec_len, Option, Some, None, IsSome, Ok}
 use Rattle.std.specs.Io.KnownBytes.{append_known}
 use Rattle.fk_ports.specs.Faults.{HasRisen}
-use Rattle.fk_ports.specs.Known.{TakesPrefix}
+use Rattle.fk_ports.specs.Known.{TakesPrefix, GivesAtMost, MovesFirst}
 use Rattle.fk_ports.specs.Files.{Files, file, with_file_known, AppendsFile, FetchFaults, LacksFile}
 use Rattle.fk_meaning.specs.declared.syntax.Program.{Program}
 use Rattle.fk_image.specs.declared.Image.{Image}
 use Rattle.fk_image.specs.Spelling.{IsImageOf}
 use Rattle.fk_machine.specs.Run.{machine}
 use Rattle.fk_compile.specs.Text.{IsStraight}
+use Rattle.fk_input.specs.Input.{input_of}
+use Rattle.fk_words.specs.Command.{Command, Run, Build, Exec, ListCode, Reads}
 use Rattle.fk_top.specs.declared.report.Report.TheVariants as reports
 use Rattle.fk_top.specs.declared.status.Status.{Status}
 use Rattle.fk_top.specs.declared.status.Status.TheVariants.{Done, Refused, Usage, ReadFault, WriteFault, Memory, SourceFault, Trap, ImageRefused, InputRefused}
-use Rattle.fk_top.specs.Words.{Command, Run, Build, Exec, ListCode, Reads, IsBuild, IsExec, file_of, most_bytes}
+use Rattle.fk_top.specs.Words.{Runs, IsRun, IsBuild, IsExec, file_of, most_bytes, most_input}
 use Rattle.fk_top.specs.Report.{line_of}
-use Rattle.fk_top.specs.Outcome.{Put, Outcome, silent, status_of, IsBuiltFrom, ComesTo}
+use Rattle.fk_top.specs.Outcome.{Put, Outcome, silent, status_of, Variable, IsShown, most_numbers, numbers_for, IsBuiltFrom, ComesTo}
 
 -- ---- the outside, before and after a call
 
@@ -33,16 +35,25 @@ IsSame change = change.after ≡ change.before
 abbrev pub Rose : Change ℕ → Type 0
 Rose count = HasRisen count.before count.after
 
--- the words of a call, what the store has before it, where it tells that, and its faults of `fetch`
+-- what the input has left, where it tells that, and its faults
+pub record Given : Type 0 where
+  pub left : Change (Option (List ℕ))
+  pub faults : Change ℕ
+
+abbrev pub given_of : {S : Type 0} → (S → Option (List ℕ)) → (S → ℕ) → S → S → Given
+given_of left faults old new = record { left = change_of left old new; faults = change_of faults old new }
+
+-- what a call reads: its words, what the store has before it, where it tells that, with its faults of `fetch`, and the input
 pub record Request : Type 0 where
   pub words : List (List ℕ)
   pub files : Option Files
   pub faults : Change ℕ
+  pub input : Given
 
--- the request of these words over a store, by the words in which a store tells of itself
-abbrev pub request_of : {S : Type 0} → (S → Option Files) → (S → ℕ) → List (List ℕ) → S → S → Request
-request_of files fetch_faults words old new =
-    record { words = words; files = files old; faults = change_of fetch_faults old new }
+-- the request of these words over a store and an input, by the words in which the store tells of itself
+abbrev pub request_of : {S : Type 0} → (S → Option Files) → (S → ℕ) → List (List ℕ) → S → S → Given → Request
+request_of files fetch_faults words old new input =
+    record { words = words; files = files old; faults = change_of fetch_faults old new; input = input }
 
 -- what a store has, where it tells that, and its faults of `put`
 pub record Stored : Type 0 where
@@ -93,26 +104,42 @@ pub record FailedIn (sink : Sunk) (bytes : List ℕ) : Type 0 where
 abbrev pub IsNoCommand : List (List ℕ) → Type 0
 IsNoCommand words = (command : Command) → ¬ Reads words command
 
--- the words are a command, but its file could not be read
+-- the file of a command could not be read, and nothing was taken from the input
+pub record IsFileUnread (request : Request) (command : Command) : Type 0 where
+  pub fault : FetchFaults request.files (file_of command) request.faults.before request.faults.after
+  pub left : IsSame request.input.left
+  pub steady : IsSame request.input.faults
+
+-- the file of a command that runs was read, but its input could not be
+pub record IsInputUnread (request : Request) (command : Command) : Type 0 where
+  pub runs : Runs command
+  pub fetched : IsSame request.faults
+  pub rose : Rose request.input.faults
+  pub lost : GivesAtMost (most_input command) request.input.left.before request.input.left.after
+
+-- the words are a command, but its file could not be read, or its input
 pub record IsUnread (request : Request) : Type 0 where
   pub command : Command
   pub reads : Reads request.words command
-  pub fault : FetchFaults request.files (file_of command) request.faults.before request.faults.after
+  pub cause : IsFileUnread request command ⊎ IsInputUnread request command
 
--- the words are a command, and its file was read: its first bytes, where the store tells them
+-- the words are a command, and its file was read: its first bytes, where the store tells them; and then, where it runs,
+-- the first bytes of the input, where that tells them
 pub record HasRead (request : Request) (outcome : Outcome) : Type 0 where
   pub command : Command
   pub reads : Reads request.words command
   pub bytes : List ℕ
   pub first_bytes : AppendsFile request.files (file_of command) (most_bytes command) [] bytes
   pub at_most : length bytes ≤ most_bytes command
-  pub comes_to : ComesTo command bytes outcome
+  pub text : List ℕ
+  pub first_input : MovesFirst (most_input command) request.input.left.before request.input.left.after [] text
+  pub comes_to : ComesTo command bytes text outcome
 
 -- why a call comes to an outcome
 abbrev pub Ends : Request → Outcome → Type 0
 Ends request outcome =
-    (IsNoCommand request.words × (outcome ≡ silent Usage reports.CommandLine))
-    ⊎ (IsUnread request × (outcome ≡ silent ReadFault reports.ReadFault))
+    (IsNoCommand request.words × (outcome ≡ silent Usage (line_of reports.CommandLine)))
+    ⊎ (IsUnread request × (outcome ≡ silent ReadFault (line_of reports.ReadFault)))
     ⊎ HasRead request outcome
 
 -- the call came to an outcome of this status; what it puts was put, and the sinks took all of it
@@ -122,7 +149,7 @@ pub record HasEnded (call : Call) (status : Status) : Type 0 where
   pub cause : Ends call.request outcome
   pub put : HasPut call.store outcome.put
   pub out_took : Took call.out outcome.output
-  pub err_took : Took call.err (line_of outcome.report)
+  pub err_took : Took call.err outcome.line
 
 -- the put failed, and nothing was given; or it was done, if there was one, and `out` failed, and nothing was reported;
 -- or `out` took all of the output, and `err` failed
@@ -130,7 +157,7 @@ abbrev pub AreCut : Stored → Sunk → Sunk → Outcome → Type 0
 AreCut store out err outcome =
     (FailedToPut store outcome.put × Took out [] × Took err [])
     ⊎ (HasPut store outcome.put × FailedIn out outcome.output × Took err [])
-    ⊎ (HasPut store outcome.put × Took out outcome.output × FailedIn err (line_of outcome.report))
+    ⊎ (HasPut store outcome.put × Took out outcome.output × FailedIn err outcome.line)
 
 -- the call was to come to an outcome, but the store or a sink failed
 pub record IsCut (call : Call) : Type 0 where
@@ -158,9 +185,10 @@ FailsToWrite call =
     (IsBuild call.request.words × Rose call.store.faults) ⊎ Rose call.out.faults ⊎ Rose call.err.faults
 
 -- what failed is told: where the answer isn't WriteFault no count of `put`, `out` or `err` rose, and where it is neither
--- that nor ReadFault, that of `fetch` didn't either
+-- that nor ReadFault, those of `fetch` and of the input didn't either
 pub record TellsFaults (call : Call) (status : Status) : Type 0 where
   pub fetch : status ≢ WriteFault → status ≢ ReadFault → IsSame call.request.faults
+  pub input : status ≢ WriteFault → status ≢ ReadFault → IsSame call.request.input.faults
   pub put : status ≢ WriteFault → IsSame call.store.faults
   pub out : status ≢ WriteFault → IsSame call.out.faults
   pub err : status ≢ WriteFault → IsSame call.err.faults
@@ -184,13 +212,16 @@ abbrev pub Puts : Command → Type 0
 Puts (Build file image) = Unit {0}
 Puts command = ⊥
 
--- the words are a command whose file is held, with these bytes, and no fault rose in the call
-pub record IsInOrder (call : Call) (command : Command) (bytes : List ℕ) : Type 0 where
+-- the words are a command whose file is held, with these bytes, what is left of the input is this text, and no fault
+-- rose in the call
+pub record IsInOrder (call : Call) (command : Command) (bytes text : List ℕ) : Type 0 where
   pub reads : Reads call.request.words command
   pub files : Files
   pub told : call.request.files ≡ Some files
   pub held : file files (file_of command) ≡ Some bytes
+  pub left : Runs command → call.request.input.left.before ≡ Some text
   pub fetch_steady : ¬ Rose call.request.faults
+  pub input_steady : Runs command → ¬ Rose call.request.input.faults
   pub put_steady : Puts command → ¬ Rose call.store.faults
   pub out_steady : ¬ Rose call.out.faults
   pub err_steady : ¬ Rose call.err.faults
@@ -205,32 +236,50 @@ pub record IsText (source : List ℕ) : Type 0 where
 abbrev pub IsImage : List ℕ → Type 0
 IsImage bytes = (image : Image) × IsImageOf bytes image
 
--- what a command reads is in order
+-- the file that a command reads is in order: a text, which has the variable that is to be shown, or an image
 abbrev pub IsReadable : Command → List ℕ → Type 0
-IsReadable (Run file harts cycles) source = IsText source
+IsReadable (Run file harts cycles show) source = IsText source × (shown : Option Variable) × IsShown source show shown
 IsReadable (Build file image) source = IsText source
 IsReadable (Exec image harts cycles) bytes = IsImage bytes
 IsReadable (ListCode image) bytes = IsImage bytes
 
--- the status of how the machine of an image stands
-abbrev pub IsOfStand : Image → ℕ → ℕ → Status → Type 0
-IsOfStand image harts cycles status = status ≡ status_of (machine image [] harts cycles).stand
+-- the text has numbers, and no more than there may be beside so many globals
+abbrev pub IsInputBeside : ℕ → List ℕ → Type 0
+IsInputBeside globals text = (numbers : List ℕ) × (input_of (most_numbers globals) text ≡ Ok numbers)
 
--- the answers where it is: want of memory, or that of the run of an image, of the source or of the bytes, or Done
-abbrev pub IsOfReadable : Command → List ℕ → Status → Type 0
-IsOfReadable (Run file harts cycles) source status =
-    (status ≡ Memory) ⊎ ((image : Image) × IsBuiltFrom source image × IsOfStand image harts cycles status)
-IsOfReadable (Build file image) source status = (status ≡ Memory) ⊎ (status ≡ Done)
-IsOfReadable (Exec image harts cycles) bytes status =
-    (status ≡ Memory) ⊎ ((read : Image) × IsImageOf bytes read × IsOfStand read harts cycles status)
-IsOfReadable (ListCode image) bytes status = (status ≡ Memory) ⊎ (status ≡ Done)
+-- the input of a command is in order beside the globals of its text, each of one word, or of its image
+abbrev pub IsAccepted : Command → List ℕ → List ℕ → Type 0
+IsAccepted (Run file harts cycles show) source text =
+    (program : Program) × IsStraight source program × IsInputBeside program.variables text
+IsAccepted (Build file image) source text = Unit {0}
+IsAccepted (Exec image harts cycles) bytes text =
+    (read : Image) × IsImageOf bytes read × IsInputBeside (vec_len read.globals) text
+IsAccepted (ListCode image) bytes text = Unit {0}
 
--- and where it isn't
+-- the status of how the machine of an image stands over the numbers of a text
+abbrev pub IsOfStand : Image → List ℕ → ℕ → ℕ → Status → Type 0
+IsOfStand image text harts cycles status =
+    (input : List ℕ) × (numbers_for image text ≡ Ok input) × (status ≡ status_of (machine image input harts cycles).stand)
+
+-- the answers where both are: want of memory, or that of the run of an image, of the source or of the bytes, or Done
+abbrev pub IsOfAccepted : Command → List ℕ → List ℕ → Status → Type 0
+IsOfAccepted (Run file harts cycles show) source text status =
+    (status ≡ Memory) ⊎ ((image : Image) × IsBuiltFrom source image × IsOfStand image text harts cycles status)
+IsOfAccepted (Build file image) source text status = (status ≡ Memory) ⊎ (status ≡ Done)
+IsOfAccepted (Exec image harts cycles) bytes text status =
+    (status ≡ Memory) ⊎ ((read : Image) × IsImageOf bytes read × IsOfStand read text harts cycles status)
+IsOfAccepted (ListCode image) bytes text status = (status ≡ Memory) ⊎ (status ≡ Done)
+
+-- where the file isn't
 abbrev pub IsOfUnreadable : Command → Status → Type 0
-IsOfUnreadable (Run file harts cycles) status = (status ≡ Memory) ⊎ (status ≡ Refused)
+IsOfUnreadable (Run file harts cycles show) status = (status ≡ Memory) ⊎ (status ≡ Refused)
 IsOfUnreadable (Build file image) status = (status ≡ Memory) ⊎ (status ≡ Refused)
 IsOfUnreadable (Exec image harts cycles) status = (status ≡ Memory) ⊎ (status ≡ ImageRefused)
 IsOfUnreadable (ListCode image) status = (status ≡ Memory) ⊎ (status ≡ ImageRefused)
+
+-- and where the input isn't
+abbrev pub IsOfUnaccepted : Status → Type 0
+IsOfUnaccepted status = (status ≡ Memory) ⊎ (status ≡ InputRefused)
 
 -- ---- what holds of a call and its answer
 
@@ -249,12 +298,17 @@ pub record IsAnswer (call : Call) (status : Status) : Type 0 where
   -- no image of a text faults or traps
   pub source_fault : status ≡ SourceFault → IsExec call.request.words
   pub trap : status ≡ Trap → IsExec call.request.words
-  pub input_refused : status ≢ InputRefused
-  -- what is in order is not refused, and what isn't is
-  pub complete : (command : Command) (bytes : List ℕ) → IsInOrder call command bytes → IsReadable command bytes
-      → IsOfReadable command bytes status
-  pub refused : (command : Command) (bytes : List ℕ) → IsInOrder call command bytes → ¬ IsReadable command bytes
+  -- only a command that runs has an input
+  pub input : status ≡ InputRefused → IsRun call.request.words
+  pub left : ¬ IsRun call.request.words → IsSame call.request.input.left
+  pub input_faults : ¬ IsRun call.request.words → IsSame call.request.input.faults
+  -- what is in order is not refused, and what isn't is: the file before the input
+  pub complete : (command : Command) (bytes text : List ℕ) → IsInOrder call command bytes text → IsReadable command bytes
+      → IsAccepted command bytes text → IsOfAccepted command bytes text status
+  pub refused : (command : Command) (bytes text : List ℕ) → IsInOrder call command bytes text → ¬ IsReadable command bytes
       → IsOfUnreadable command status
+  pub input_refused : (command : Command) (bytes text : List ℕ) → IsInOrder call command bytes text → IsReadable command bytes
+      → ¬ IsAccepted command bytes text → IsOfUnaccepted status
   -- only a build puts
   pub files : ¬ IsBuild call.request.words → IsSame call.store.files
   pub put_faults : ¬ IsBuild call.request.words → IsSame call.store.faults

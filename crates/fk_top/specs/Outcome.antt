@@ -1,38 +1,43 @@
--- What a command comes to over the file that it reads.
-use Rattle.std.specs.Prelude.{◌≡◌, ℕ, ◌+◌, ◌≤◌, ◌⊎◌, List, [], ◌∷◌, ◌++◌, length, vec_len, slice_get, Option, Some, None}
+-- What a command comes to over the file and the input that it reads.
+use Rattle.std.specs.Prelude.{◌≡◌, ℕ, ◌+◌, ◌-◌, ◌≤◌, ◌⊎◌, List, [], ◌∷◌, ◌++◌, length, min, vec_len, slice_get, Option, Some, None, Result, Ok, Err}
 use Rattle.fk_image.specs.declared.Image.{Image}
 use Rattle.fk_image.specs.Spelling.{IsImageOf}
 use Rattle.fk_asm.specs.Listing as lines
+use Rattle.fk_input.specs.declared.fault.InputFault.{InputFault}
+use Rattle.fk_input.specs.Input.{input_of}
+use Rattle.fk_words.specs.Arguments.{Text}
+use Rattle.fk_words.specs.Command.{Command, Run, Build, Exec, ListCode}
 use Rattle.fk_machine.specs.declared.stand.Stand.{Stand}
 use Rattle.fk_machine.specs.declared.stand.Stand.TheVariants.{Running, Finished, Faulted, Trapped}
+use Rattle.fk_machine.specs.Cycle.{Machine}
 use Rattle.fk_machine.specs.Run.{machine, output_of}
+use Rattle.fk_compile.specs.Text.{HasGlobal}
 use Rattle.fk_compile.specs.Faithful.{IsFaithful}
 use Rattle.fk_top.specs.declared.kinds.FaultKind.TheVariants as fault
 use Rattle.fk_top.specs.declared.report.Report.{Report}
 use Rattle.fk_top.specs.declared.report.Report.TheVariants as reports
 use Rattle.fk_top.specs.declared.status.Status.{Status}
-use Rattle.fk_top.specs.declared.status.Status.TheVariants.{Done, Refused, SourceFault, CycleBound, Trap, ImageRefused}
-use Rattle.fk_top.specs.Words.{Command, Run, Build, Exec, ListCode}
-use Rattle.fk_top.specs.Report.{fault_kind, trap_kind}
-use Rattle.fk_top.specs.Refused.{IsRefusedAs, IsNoImageAs}
+use Rattle.fk_top.specs.declared.status.Status.TheVariants.{Done, Refused, SourceFault, CycleBound, Trap, ImageRefused, InputRefused}
+use Rattle.fk_top.specs.Report.{fault_kind, trap_kind, line_of, no_global_line, show_line}
+use Rattle.fk_top.specs.Refused.{IsRefusedAs, IsNoImageAs, input_report_of}
 
 -- a file that is put: its name and its bytes
 pub record Put : Type 0 where
   pub name : List ℕ
   pub bytes : List ℕ
 
--- what a call comes to: its status, the file that it puts, if it puts one, the bytes for `out`, and the report for `err`
+-- what a call comes to: its status, the file that it puts, if it puts one, the bytes for `out`, and the line for `err`
 pub record Outcome : Type 0 where
   pub status : Status
   pub put : Option Put
   pub output : List ℕ
-  pub report : Report
+  pub line : List ℕ
 
 -- nothing is put and nothing printed
-abbrev pub silent : Status → Report → Outcome
-silent status report = record { status = status; put = None; output = []; report = report }
+abbrev pub silent : Status → List ℕ → Outcome
+silent status line = record { status = status; put = None; output = []; line = line }
 
--- ---- a run of an image, without input
+-- ---- a run of an image
 
 -- the status, by how the machine stands
 abbrev pub status_of : Stand → Status
@@ -54,15 +59,25 @@ stand_report image bound Running cycles = reports.Stopped bound
 stand_report image bound (Faulted site hart) cycles = fault_report (slice_get image.sites.items site) hart cycles
 stand_report image bound (Trapped hart pc kind) cycles = reports.Trap (trap_kind kind) pc hart cycles
 
--- what the machine of an image comes to after at most so many cycles
-abbrev pub ran : Image → ℕ → ℕ → Outcome
-ran image harts bound =
-    let m = machine image [] harts bound in
+-- a variable that is shown: its name, and the index of its word
+pub record Variable : Type 0 where
+  pub name : Text
+  pub word : ℕ
+
+-- the line of a variable behind the output, if one is shown, as the machine has it
+abbrev pub with_shown : List ℕ → Option Variable → Machine → List ℕ
+with_shown output None m = output
+with_shown output (Some variable) m = output ++ show_line variable.name (m.shared.words variable.word)
+
+-- what the machine of an image comes to over these input numbers after at most so many cycles
+abbrev pub ran : Image → List ℕ → ℕ → ℕ → Option Variable → Outcome
+ran image input harts bound shown =
+    let m = machine image input harts bound in
     record {
       status = status_of m.stand;
       put = None;
-      output = output_of image [] harts bound;
-      report = stand_report image bound m.stand m.begun;
+      output = with_shown (output_of image input harts bound) shown m;
+      line = line_of (stand_report image bound m.stand m.begun);
     }
 
 -- ---- an image that is put or listed
@@ -74,7 +89,7 @@ built name bytes image =
       status = Done;
       put = Some (record { name = name; bytes = bytes });
       output = [];
-      report = reports.Built (vec_len image.code);
+      line = line_of (reports.Built (vec_len image.code));
     }
 
 -- one line for each word of code, from an address on
@@ -88,7 +103,7 @@ listed image =
       status = Done;
       put = None;
       output = listing 0 image.code.items;
-      report = reports.Listed (vec_len image.code);
+      line = line_of (reports.Listed (vec_len image.code));
     }
 
 -- ---- each command
@@ -97,24 +112,66 @@ listed image =
 pub record RefusesSource (source : List ℕ) (outcome : Outcome) : Type 0 where
   pub report : Report
   pub refused : IsRefusedAs source report
-  pub is : outcome ≡ silent Refused report
+  pub is : outcome ≡ silent Refused (line_of report)
 
 -- the bytes are no image, and the call is refused
 pub record RefusesImage (bytes : List ℕ) (outcome : Outcome) : Type 0 where
   pub report : Report
   pub refused : IsNoImageAs bytes report
-  pub is : outcome ≡ silent ImageRefused report
+  pub is : outcome ≡ silent ImageRefused (line_of report)
 
 -- the image is faithful to the source, which isn't too long
 pub record IsBuiltFrom (source : List ℕ) (image : Image) : Type 0 where
   pub short : length source ≤ 1048576
   pub faithful : IsFaithful source image
 
--- an image of the source was run
-pub record RunsSource (source : List ℕ) (harts cycles : ℕ) (outcome : Outcome) : Type 0 where
+-- a name is asked for, but the source, which has an image, has no shared variable of that name
+pub record LacksGlobal (source : List ℕ) (show : Option Text) (outcome : Outcome) : Type 0 where
+  pub name : Text
+  pub asked : show ≡ Some name
+  pub short : length source ≤ 1048576
+  pub none : HasGlobal source name None
+  pub is : outcome ≡ silent Refused (no_global_line name)
+
+-- the variable of the name that is asked for, if one is
+abbrev pub IsShown : List ℕ → Option Text → Option Variable → Type 0
+IsShown source None None = Unit {0}
+IsShown source (Some name) (Some variable) = (variable.name ≡ name) × HasGlobal source name (Some variable.word)
+IsShown source _ _ = ⊥
+
+-- where there are so many globals an input has at most so many numbers: 65,536, and with the globals 524,288
+abbrev pub most_numbers : ℕ → ℕ
+most_numbers globals = min 65536 (524288 - globals)
+
+-- the numbers that an input text gives to the machine of an image, or why it is refused
+abbrev pub numbers_for : Image → List ℕ → Result (List ℕ) InputFault
+numbers_for image text = input_of (most_numbers (vec_len image.globals)) text
+
+-- the input text is refused for an image, and so is the call
+pub record RefusesInput (image : Image) (text : List ℕ) (outcome : Outcome) : Type 0 where
+  pub fault : InputFault
+  pub refused : numbers_for image text ≡ Err fault
+  pub report : Report
+  pub says : input_report_of fault ≡ Some report
+  pub is : outcome ≡ silent InputRefused (line_of report)
+
+-- the machine of an image ran over the numbers of the text, and the variable was shown
+pub record RunsOn (image : Image) (text : List ℕ) (harts cycles : ℕ) (shown : Option Variable) (outcome : Outcome) : Type 0 where
+  pub input : List ℕ
+  pub numbers : numbers_for image text ≡ Ok input
+  pub is : outcome ≡ ran image input harts cycles shown
+
+-- what comes of an image and an input text
+abbrev pub EndsOn : Image → List ℕ → ℕ → ℕ → Option Variable → Outcome → Type 0
+EndsOn image text harts cycles shown outcome = RefusesInput image text outcome ⊎ RunsOn image text harts cycles shown outcome
+
+-- an image of the source was run, and the variable was shown; or the input was refused
+pub record RunsSource (source text : List ℕ) (harts cycles : ℕ) (show : Option Text) (outcome : Outcome) : Type 0 where
   pub image : Image
   pub compiled : IsBuiltFrom source image
-  pub is : outcome ≡ ran image harts cycles
+  pub shown : Option Variable
+  pub is_shown : IsShown source show shown
+  pub ends : EndsOn image text harts cycles shown outcome
 
 -- the bytes of an image of the source are put under a name
 pub record PutsImage (source name : List ℕ) (outcome : Outcome) : Type 0 where
@@ -124,11 +181,11 @@ pub record PutsImage (source name : List ℕ) (outcome : Outcome) : Type 0 where
   pub spelled : IsImageOf bytes image
   pub is : outcome ≡ built name bytes image
 
--- the image of the bytes was run
-pub record RunsImage (bytes : List ℕ) (harts cycles : ℕ) (outcome : Outcome) : Type 0 where
+-- the image of the bytes was run; or the input was refused
+pub record RunsImage (bytes text : List ℕ) (harts cycles : ℕ) (outcome : Outcome) : Type 0 where
   pub image : Image
   pub spelled : IsImageOf bytes image
-  pub is : outcome ≡ ran image harts cycles
+  pub ends : EndsOn image text harts cycles None outcome
 
 -- the code of the image of the bytes is listed
 pub record ListsImage (bytes : List ℕ) (outcome : Outcome) : Type 0 where
@@ -136,9 +193,10 @@ pub record ListsImage (bytes : List ℕ) (outcome : Outcome) : Type 0 where
   pub spelled : IsImageOf bytes image
   pub is : outcome ≡ listed image
 
--- what a command comes to over the bytes that it read
-abbrev pub ComesTo : Command → List ℕ → Outcome → Type 0
-ComesTo (Run file harts cycles) source outcome = RefusesSource source outcome ⊎ RunsSource source harts cycles outcome
-ComesTo (Build file image) source outcome = RefusesSource source outcome ⊎ PutsImage source image outcome
-ComesTo (Exec image harts cycles) bytes outcome = RefusesImage bytes outcome ⊎ RunsImage bytes harts cycles outcome
-ComesTo (ListCode image) bytes outcome = RefusesImage bytes outcome ⊎ ListsImage bytes outcome
+-- what a command comes to over the bytes that it read, and those of the input
+abbrev pub ComesTo : Command → List ℕ → List ℕ → Outcome → Type 0
+ComesTo (Run file harts cycles show) source text outcome =
+    RefusesSource source outcome ⊎ LacksGlobal source show outcome ⊎ RunsSource source text harts cycles show outcome
+ComesTo (Build file image) source text outcome = RefusesSource source outcome ⊎ PutsImage source image outcome
+ComesTo (Exec image harts cycles) bytes text outcome = RefusesImage bytes outcome ⊎ RunsImage bytes text harts cycles outcome
+ComesTo (ListCode image) bytes text outcome = RefusesImage bytes outcome ⊎ ListsImage bytes outcome

@@ -3,6 +3,8 @@ use Rattle.std.specs.Prelude.{◌≡◌, ℕ, List, Option, Some, None}
 use Rattle.fk_image.specs.declared.fault.ImageFault.{ImageFault}
 use Rattle.fk_image.specs.declared.fault.ImageFault.TheVariants as fault
 use Rattle.fk_image.specs.Refusals as images
+use Rattle.fk_input.specs.declared.fault.InputFault.{InputFault}
+use Rattle.fk_input.specs.declared.fault.InputFault.TheVariants as input
 use Rattle.fk_compile.specs.declared.refusal.Refusal.{Refusal}
 use Rattle.fk_compile.specs.declared.refusal.Refusal.TheVariants as refusal
 use Rattle.fk_compile.specs.Refusal as sources
@@ -31,6 +33,13 @@ image_report_of (fault.LongTail wanted) = Some (reports.LongTail wanted)
 image_report_of (fault.BadTable entry) = Some (reports.BadTable entry)
 image_report_of (fault.BadWord word) = Some (reports.BadWord word)
 image_report_of (fault.Memory e) = None
+
+-- the same of an input text
+abbrev pub input_report_of : InputFault → Option Report
+input_report_of (input.NotANumber word) = Some (reports.NotANumber word)
+input_report_of (input.OutOfRange word) = Some (reports.OutOfRange word)
+input_report_of (input.TooMany word) = Some (reports.TooMany word)
+input_report_of input.Memory = None
 
 -- the source is refused, and the report says why
 pub record IsRefusedAs (source : List ℕ) (report : Report) : Type 0 where

@@ -1,6 +1,7 @@
 -- The report lines.
 use Rattle.std.specs.Prelude.{ℕ, List, [], ◌∷◌, ◌++◌, ◌==◌, if◌then◌else◌, codes}
-use Rattle.std.specs.Fmt.{decimal}
+use Rattle.std.specs.Fmt.{decimal, signed_decimal}
+use Rattle.fk_num.specs.Word.{signed}
 use Rattle.fk_syntax.specs.declared.place.Place.{Place}
 use Rattle.fk_asm.specs.Listing.{eight_digits}
 use Rattle.fk_top.specs.declared.kinds.FaultKind.{FaultKind}
@@ -8,7 +9,7 @@ use Rattle.fk_top.specs.declared.kinds.FaultKind.TheVariants as fault
 use Rattle.fk_top.specs.declared.kinds.TrapKind.{TrapKind}
 use Rattle.fk_top.specs.declared.kinds.TrapKind.TheVariants as trap
 use Rattle.fk_top.specs.declared.report.Report.{Report}
-use Rattle.fk_top.specs.declared.report.Report.TheVariants.{Finished, Built, Listed, Fault, Stopped, Trap, BadByte, OpenComment, OpenString, WideNumber, Unexpected, EndOfText, Nesting, SourceTooLong, Magic, Version, Short, LongTail, BadTable, BadWord, NotBuilt, CommandLine, ReadFault}
+use Rattle.fk_top.specs.declared.report.Report.TheVariants.{Finished, Built, Listed, Fault, Stopped, Trap, BadByte, OpenComment, OpenString, WideNumber, Unexpected, EndOfText, Nesting, SourceTooLong, Magic, Version, Short, LongTail, BadTable, BadWord, NotANumber, OutOfRange, TooMany, NotBuilt, CommandLine, ReadFault}
 
 -- the fault of an operation, by its kind; most kinds have none
 abbrev pub fault_kind : ℕ → FaultKind
@@ -74,6 +75,9 @@ text_of (Short bytes wanted) = codes "refused 15 Short " ++ decimal bytes ++ cod
 text_of (LongTail wanted) = codes "refused 16 LongTail " ++ decimal wanted
 text_of (BadTable entry) = codes "refused 17 BadTable " ++ decimal entry
 text_of (BadWord word) = codes "refused 18 BadWord " ++ decimal word
+text_of (NotANumber word) = codes "refused 19 NotANumber " ++ decimal word
+text_of (OutOfRange word) = codes "refused 20 OutOfRange " ++ decimal word
+text_of (TooMany word) = codes "refused 21 TooMany " ++ decimal word
 text_of NotBuilt = codes "refused 22 NotBuilt"
 text_of CommandLine = codes "refused command line"
 text_of ReadFault = codes "read fault"
@@ -81,3 +85,11 @@ text_of ReadFault = codes "read fault"
 -- each ends with a newline
 abbrev pub line_of : Report → List ℕ
 line_of report = text_of report ++ 10 ∷ []
+
+-- the line where the source has no shared variable of a name
+abbrev pub no_global_line : List ℕ → List ℕ
+no_global_line name = codes "refused 23 NoGlobal " ++ name ++ 10 ∷ []
+
+-- the line that shows a variable: its name, and its word as a signed number
+abbrev pub show_line : List ℕ → ℕ → List ℕ
+show_line name word = name ++ codes " = " ++ signed_decimal (signed word) ++ 10 ∷ []

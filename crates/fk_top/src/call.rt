@@ -1,20 +1,27 @@
 //! One call of the program.
 
-ghost use Rattle.std.specs.Prelude.{◌≡◌, ◌≢◌, ◌⊎◌, None, map, option_map, string_bytes, IsErrOf, IsOk, OnOk};
-ghost use Rattle.fk_top.specs.Ending.{outcome_of, put_of};
-ghost use Rattle.fk_top.specs.Call.{Ends, FailedToPut, HasCause, HasPut, IsAnswer, Request, call_of, request_of, stored_of, sunk_of};
+ghost use Rattle.std.specs.Prelude.{◌≡◌, ◌≢◌, ◌⊎◌, None, flat_map, map, option_map, string_bytes, IsErrOf, IsOk, OnErr, OnOk};
+ghost use Rattle.std.specs.Io.KnownBytes.{append_known};
+ghost use Rattle.fk_ports.specs.Faults.{HasRisen};
+ghost use Rattle.fk_ports.specs.Known.{TakesPrefix};
+ghost use Rattle.fk_top.specs.Ending.{last_line, outcome_of, put_of, with_line};
+ghost use Rattle.fk_top.specs.Call.{Ends, FailedToPut, HasCause, HasPut, IsAnswer, Request, call_of, given_of, request_of, stored_of, sunk_of};
 
-use crate::ending::{Ending, PutFile, find_ending};
+use crate::ending::{Ending, LastLine, PutFile, Shown};
+use crate::find::find_ending;
 use crate::status::Status;
-use fk_ports::{Sink, Source, Store, StoreFault, give_all};
+use fk_num::signed_text;
+use fk_ports::{Failed, Sink, Source, Store, StoreFault, give_all};
 use std::alloc::{AllocError, Global};
 
 /// One call of the program: what these words, those after the program's name, ask for, over a store of
 /// files, standard input, standard output and standard error.
 ///
-/// The commands are `run FILE --harts P --cycles N`, `build FILE -o IMAGE`, `exec IMAGE --harts P --cycles N`
-/// and `list IMAGE`. None takes anything from `input`. A file is put before anything is given, output is
-/// given when the run has ended, and the report is the last line that `err` gets.
+/// The commands are `run FILE --harts P --cycles N [--show NAME]`, `build FILE -o IMAGE`,
+/// `exec IMAGE --harts P --cycles N` and `list IMAGE`. `run` and `exec` take the input numbers from
+/// `input`, once the file is read. A file is put before anything is given, output is given when the run
+/// has ended, the line of a variable that is shown comes behind it, and the report is the last line that
+/// `err` gets.
 ///
 /// `IsAnswer` says fact by fact what holds of the words, the answer, and what the store and the sinks have
 /// before the call and after it.
@@ -26,15 +33,14 @@ pub fn fork95<F: Store, S: Source, K: Sink, E: Sink>(
     out: &mut K,
     err: &mut E,
 ) -> Status
-    ensures call { let request = request_of F.files F.fetch_faults (map string_bytes words.now) files.old files.new in
+    ensures call { let given = given_of S.left S.faults input.old input.new in
+        let request = request_of F.files F.fetch_faults (map string_bytes words.now) files.old files.new given in
         let store = stored_of F.files F.put_faults files.old files.new in
         let printed = sunk_of K.taken K.faults out.old out.new in
         let reported = sunk_of E.taken E.faults err.old err.new in
         IsAnswer (call_of request store printed reported) result }
-    ensures input { input.new ≡ input.old }
 {
-    let _ = input;
-    match find_ending(alloc, words, files) {
+    match find_ending(alloc, words, files, input) {
         Ok(ending) => give_ending(&ending, files, out, err),
         Err(AllocError) => Status::Memory,
     }
@@ -65,14 +71,66 @@ fn give_ending<F: Store, K: Sink, E: Sink>(
         Err(StoreFault::Memory) => return Status::Memory,
         Ok(()) => {}
     }
-    if give_all(out, ending.output.as_slice()).is_err() {
+    if give_output(out, ending.output.as_slice(), &ending.shown).is_err() {
         return Status::WriteFault;
     }
-    let line = ending.report.line();
-    if give_all(err, line.as_slice()).is_err() {
+    if give_line(err, &ending.line).is_err() {
         return Status::WriteFault;
     }
     ending.status
+}
+
+// Gives the output, and then the line of the variable that is shown, if one is.
+fn give_output<K: Sink>(out: &mut K, output: &[u8], shown: &Option<Shown>) -> Result<(), Failed>
+    ensures all { OnOk result (K.taken out.new ≡ append_known (K.taken out.old) (with_line output.now shown.now)) }
+    ensures prefix { OnErr result (TakesPrefix (K.taken out.old) (K.taken out.new) (with_line output.now shown.now)) }
+    ensures fault { OnErr result (HasRisen (K.faults out.old) (K.faults out.new)) }
+    ensures steady { OnOk result (K.faults out.new ≡ K.faults out.old) }
+{
+    match shown {
+        None => give_all(out, output),
+        Some(shown) => {
+            let word = signed_text(shown.word);
+            give_pieces(
+                out,
+                &[
+                    output,
+                    shown.name.as_bytes(),
+                    b" = ",
+                    word.as_slice(),
+                    b"\n",
+                ],
+            )
+        }
+    }
+}
+
+// Gives the last line.
+fn give_line<E: Sink>(err: &mut E, line: &LastLine) -> Result<(), Failed>
+    ensures all { OnOk result (E.taken err.new ≡ append_known (E.taken err.old) (last_line line.now)) }
+    ensures prefix { OnErr result (TakesPrefix (E.taken err.old) (E.taken err.new) (last_line line.now)) }
+    ensures fault { OnErr result (HasRisen (E.faults err.old) (E.faults err.new)) }
+    ensures steady { OnOk result (E.faults err.new ≡ E.faults err.old) }
+{
+    match line {
+        LastLine::Reported(report) => give_all(err, report.line().as_slice()),
+        LastLine::NoGlobal(name) => {
+            give_pieces(err, &[b"refused 23 NoGlobal ", name.as_bytes(), b"\n"])
+        }
+    }
+}
+
+// Gives pieces, one after the other.
+fn give_pieces<K: Sink>(sink: &mut K, pieces: &[&[u8]]) -> Result<(), Failed>
+    ensures all { OnOk result (K.taken sink.new ≡ append_known (K.taken sink.old) (flat_map (λ piece. piece.now) pieces.now)) }
+    ensures prefix { OnErr result (TakesPrefix (K.taken sink.old) (K.taken sink.new) (flat_map (λ piece. piece.now) pieces.now)) }
+    ensures fault { OnErr result (HasRisen (K.faults sink.old) (K.faults sink.new)) }
+    ensures steady { OnOk result (K.faults sink.new ≡ K.faults sink.old) }
+{
+    for piece in pieces {
+        give_all(sink, *piece)?;
+    }
+    Ok(())
 }
 
 // Puts a file, if there is one.

@@ -1,19 +1,23 @@
 //! The commands: from the words of a command line to a status.
 #![tactic(auto)]
 
+mod bytes;
 mod call;
 mod command;
 mod ending;
+mod find;
+mod input;
 mod kinds;
 mod line;
 mod refused;
 mod report;
 mod run;
+mod source;
 mod stand;
 mod status;
 #[cfg(test)]
 mod tests;
-mod words;
+mod variable;
 
 pub use call::fork95;
 pub use status::Status;

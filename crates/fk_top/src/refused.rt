@@ -1,11 +1,12 @@
 //! How refusals are reported.
 
 ghost use Rattle.std.specs.Prelude.{◌≡◌};
-ghost use Rattle.fk_top.specs.Refused.{image_report_of, report_of};
+ghost use Rattle.fk_top.specs.Refused.{image_report_of, input_report_of, report_of};
 
 use crate::report::Report;
 use fk_compile::Refusal;
 use fk_image::ImageFault;
+use fk_input::InputFault;
 
 /// The report of why a source is refused. Want of memory refuses none, and has no report.
 pub fn report_of(refusal: Refusal) -> Option<Report>
@@ -37,5 +38,17 @@ pub fn image_report_of(fault: ImageFault) -> Option<Report>
         ImageFault::BadTable(entry) => Some(Report::BadTable(entry)),
         ImageFault::BadWord(word) => Some(Report::BadWord(word)),
         ImageFault::Memory(_) => None,
+    }
+}
+
+/// The report of why an input text is refused. Want of memory has none.
+pub fn input_report_of(fault: InputFault) -> Option<Report>
+    ensures { result ≡ input_report_of fault }
+{
+    match fault {
+        InputFault::NotANumber(word) => Some(Report::NotANumber(word)),
+        InputFault::OutOfRange(word) => Some(Report::OutOfRange(word)),
+        InputFault::TooMany(word) => Some(Report::TooMany(word)),
+        InputFault::Memory => None,
     }
 }

@@ -65,6 +65,12 @@ pub enum Report {
     BadTable(u32),
     /// A word of the image's header is past its limits: which.
     BadWord(u32),
+    /// A word of the input isn't a number: which.
+    NotANumber(u32),
+    /// A word of the input is no number of 32 bits: which.
+    OutOfRange(u32),
+    /// The input has more words than it may have: which is one too many, or 0 where its text is too long.
+    TooMany(u32),
     /// The source is not of the form that is built.
     NotBuilt,
     /// The words are no command.
@@ -119,6 +125,9 @@ impl Report {
             Report::LongTail(wanted) => numbered(b"refused 16 LongTail ", wanted),
             Report::BadTable(entry) => numbered(b"refused 17 BadTable ", u64::from(entry)),
             Report::BadWord(word) => numbered(b"refused 18 BadWord ", u64::from(word)),
+            Report::NotANumber(word) => numbered(b"refused 19 NotANumber ", u64::from(word)),
+            Report::OutOfRange(word) => numbered(b"refused 20 OutOfRange ", u64::from(word)),
+            Report::TooMany(word) => numbered(b"refused 21 TooMany ", u64::from(word)),
             Report::NotBuilt => plain(b"refused 22 NotBuilt"),
             Report::CommandLine => plain(b"refused command line"),
             Report::ReadFault => plain(b"read fault"),

@@ -1,39 +1,121 @@
-//! A whole run of an image.
+//! Whole runs of an image.
 
-ghost use Rattle.std.specs.Prelude.{◌≡◌, ◌≤◌, [], IfOk};
+ghost use Rattle.std.specs.Prelude.{◌≡◌, ◌≤◌, ◌+◌, ℕ, List, length, vec_len, option_map, IfOk};
 ghost use Rattle.fk_image.specs.Limits.{IsWithinLimits};
 ghost use Rattle.fk_machine.specs.Run.{machine, output_of};
+ghost use Rattle.fk_machine.specs.View.{machine_of};
+ghost use Rattle.fk_top.specs.Ending.{outcome_of, variable_of, with_line};
+ghost use Rattle.fk_top.specs.Outcome.{EndsOn, most_numbers, with_shown};
 
+use crate::ending::{Ending, LastLine, Shown, refused};
+use crate::refused::input_report_of;
+use crate::stand::{stand_report, status_of};
+use crate::status::Status;
+use crate::variable::Variable;
 use fk_image::Image;
+use fk_input::read_input;
 use fk_machine::{Machine, Stand};
+use fk_words::RunWords;
 use std::alloc::{AllocError, Global};
 
 /// What a run came to.
 #[derive(Drop)]
-pub struct Ran {
+struct Ran<'a> {
     /// What it printed.
-    pub output: Vec<u8>,
+    output: Vec<u8>,
+    /// The variable that is shown behind that.
+    shown: Option<Shown<'a>>,
     /// How the machine stands.
-    pub stand: Stand,
+    stand: Stand,
     /// How many cycles were begun.
-    pub cycles: u32,
+    cycles: u32,
 }
 
-/// Runs an image without input on so many harts, until it ends or the bound on the cycles is reached.
-pub fn run_image(alloc: Global, image: &Image, harts: u32, bound: u32) -> Result<Ran, AllocError>
+/// What a run of an image comes to over an input text.
+pub fn run_ending<'a>(
+    alloc: Global,
+    image: &Image,
+    text: &[u8],
+    run: RunWords,
+    variable: Option<Variable<'a>>,
+) -> Result<Ending<'a>, AllocError>
+    requires limits { IsWithinLimits image.now }
+    ensures { IfOk result (λ e. EndsOn image.now text.now run.entry.harts run.entry.cycles (option_map variable_of variable.entry) (outcome_of e)) }
+{
+    let limit = most_numbers(image.globals.len());
+    let input = match read_input(alloc, text, limit) {
+        Ok(numbers) => numbers,
+        Err(fault) => return refused(alloc, Status::InputRefused, input_report_of(fault)),
+    };
+    let ran = run_image(
+        alloc,
+        image,
+        input.as_slice(),
+        run.harts,
+        run.cycles,
+        variable,
+    )?;
+    Ok(Ending {
+        status: status_of(ran.stand),
+        put: None,
+        output: ran.output,
+        shown: ran.shown,
+        line: LastLine::Reported(stand_report(image, run.cycles, ran.stand, ran.cycles)),
+    })
+}
+
+/// An input text has at most so many numbers, and fewer where globals leave less room: they and the
+/// input have at most 524,288 words together.
+const MOST_NUMBERS: usize = 65_536;
+
+/// Globals and input have at most so many words.
+const MOST_WORDS: usize = 524_288;
+
+// How many numbers an input may have beside so many globals.
+fn most_numbers(globals: usize) -> u32
+    requires { globals ≤ 524288 }
+    ensures { result ≡ most_numbers globals }
+{
+    MOST_NUMBERS.min(MOST_WORDS - globals) as u32
+}
+
+// Runs an image over input numbers on so many harts, until it ends or the bound on the cycles is reached.
+fn run_image<'a>(
+    alloc: Global,
+    image: &Image,
+    input: &[u32],
+    harts: u32,
+    bound: u32,
+    variable: Option<Variable<'a>>,
+) -> Result<Ran<'a>, AllocError>
     requires limits { IsWithinLimits image.now }
     requires some_harts { 1 ≤ harts }
     requires few_harts { harts ≤ 1024 }
-    ensures output { IfOk result (λ ran. ran.output.items ≡ output_of image.now [] harts bound) }
-    ensures stand { IfOk result (λ ran. ran.stand ≡ (machine image.now [] harts bound).stand) }
-    ensures cycles { IfOk result (λ ran. ran.cycles ≡ (machine image.now [] harts bound).begun) }
+    requires few_inputs { length input.now ≤ 65536 }
+    requires room { vec_len image.now.globals + length input.now ≤ 524288 }
+    ensures output { IfOk result (λ ran. with_line ran.output.items ran.shown
+        ≡ with_shown (output_of image.now input.now harts bound) (option_map variable_of variable.entry) (machine image.now input.now harts bound)) }
+    ensures stand { IfOk result (λ ran. ran.stand ≡ (machine image.now input.now harts bound).stand) }
+    ensures cycles { IfOk result (λ ran. ran.cycles ≡ (machine image.now input.now harts bound).begun) }
 {
-    let mut machine = Machine::make(alloc, image, &[], harts)?;
+    let mut machine = Machine::make(alloc, image, input, harts)?;
     let mut output = Vec::new(alloc);
     machine.run(bound, &mut output)?;
     Ok(Ran {
         output,
+        shown: show(&machine, variable),
         stand: machine.stand(),
         cycles: machine.cycles(),
+    })
+}
+
+// A variable, as the machine has it.
+fn show<'a>(machine: &Machine, variable: Option<Variable<'a>>) -> Option<Shown<'a>>
+    ensures { (output : List ℕ) → with_line output result ≡ with_shown output (option_map variable_of variable.entry) (machine_of machine.now) }
+{
+    let variable = variable?;
+    Some(Shown {
+        name: variable.name,
+        word: machine.word(variable.word),
     })
 }

@@ -4,7 +4,7 @@ ghost use Rattle.std.specs.Prelude.{◌≢◌};
 
 use crate::call::fork95;
 use crate::status::Status;
-use fk_ports::{MemSink, MemStore, SureSink, SureSource, SureStore};
+use fk_ports::{MemSink, MemSource, MemStore, SureSink, SureSource, SureStore};
 use std::alloc::{AllocError, Global};
 use std::test::Fail;
 
@@ -36,16 +36,18 @@ struct Outcome {
     err: Vec<u8>,
 }
 
-/// The numbers of the calls that fail, for the store and the two sinks.
+/// The numbers of the calls that fail, for the store, the input and the two sinks.
 #[derive(Clone, Copy)]
 struct Fails<'a> {
     files: &'a [u64],
+    input: &'a [u64],
     out: &'a [u64],
     err: &'a [u64],
 }
 
 const NONE: Fails = Fails {
     files: &[],
+    input: &[],
     out: &[],
     err: &[],
 };
@@ -77,10 +79,21 @@ fn run(
     call(alloc, text, words.as_slice(), fails)
 }
 
-// A call over a store that holds the text.
+// A call over a store that holds the text, without input.
 fn call(alloc: Global, text: &[u8], words: &[&str], fails: Fails) -> Result<Outcome, AllocError> {
+    call_over(alloc, text, words, b"", fails)
+}
+
+// A call over a store that holds the text, and an input.
+fn call_over(
+    alloc: Global,
+    text: &[u8],
+    words: &[&str],
+    input: &[u8],
+    fails: Fails,
+) -> Result<Outcome, AllocError> {
     let mut files = store(alloc, text, fails)?;
-    call_into(alloc, &mut files, words, fails, 100_000)
+    call_into(alloc, &mut files, words, input, fails, 100_000)
 }
 
 // A store with one file, `text.f95`.
@@ -95,6 +108,7 @@ fn call_into(
     alloc: Global,
     files: &mut MemStore,
     words: &[&str],
+    input: &[u8],
     fails: Fails,
     room: usize,
 ) -> Result<Outcome, AllocError> {
@@ -102,7 +116,7 @@ fn call_into(
     for word in words {
         owned.push(String::from_str(alloc, word)?)?;
     }
-    let mut input = SureSource::make(Vec::new(alloc));
+    let mut input = MemSource::make(input.to_vec(alloc)?, fails.input.to_vec(alloc)?);
     let mut out = MemSink::make(alloc, room, fails.out.to_vec(alloc)?)?;
     let mut err = MemSink::make(alloc, 100, fails.err.to_vec(alloc)?)?;
     let status = fork95(
@@ -169,21 +183,6 @@ fn an_empty_main_prints_nothing(rt: HostRuntime) -> Result<(), Fail> {
     assert_eq!(rt; got.status, Status::Done);
     assert_eq!(rt; got.out.as_slice(), b"".as_slice());
     assert!(rt; is_finished(got.err.as_slice()));
-    Ok(())
-}
-
-#[test]
-fn an_undeclared_name_is_refused(rt: HostRuntime) -> Result<(), Fail> {
-    let got = run(
-        rt.alloc(),
-        b"void main(void) { putint(y); }",
-        "1",
-        "1000000",
-        NONE,
-    )?;
-    assert_eq!(rt; got.status, Status::Refused);
-    assert_eq!(rt; got.out.as_slice(), b"".as_slice());
-    assert_eq!(rt; got.err.as_slice(), b"refused 22 NotBuilt\n".as_slice());
     Ok(())
 }
 
@@ -262,16 +261,10 @@ fn no_harts_are_no_command(rt: HostRuntime) -> Result<(), Fail> {
 }
 
 #[test]
-fn other_words_are_no_command(rt: HostRuntime) -> Result<(), Fail> {
-    let got = call(rt.alloc(), SUMS.as_bytes(), ["--help"].as_slice(), NONE)?;
-    assert_eq!(rt; got.status, Status::Usage);
-    Ok(())
-}
-
-#[test]
 fn a_store_that_fails_is_a_read_fault(rt: HostRuntime) -> Result<(), Fail> {
     let fails = Fails {
         files: &[1],
+        input: &[],
         out: &[],
         err: &[],
     };
@@ -303,6 +296,7 @@ fn an_absent_file_is_a_read_fault(rt: HostRuntime) -> Result<(), Fail> {
 fn a_sink_that_fails_ends_the_call_without_a_report(rt: HostRuntime) -> Result<(), Fail> {
     let fails = Fails {
         files: &[],
+        input: &[],
         out: &[1],
         err: &[],
     };
@@ -317,7 +311,7 @@ fn a_sink_that_fails_ends_the_call_without_a_report(rt: HostRuntime) -> Result<(
 fn a_sink_that_fails_in_mid_stream_took_a_beginning(rt: HostRuntime) -> Result<(), Fail> {
     let words = ["run", "text.f95", "--harts", "2", "--cycles", "1000000"];
     let mut files = store(rt.alloc(), SUMS.as_bytes(), NONE)?;
-    let got = call_into(rt.alloc(), &mut files, words.as_slice(), NONE, 3)?;
+    let got = call_into(rt.alloc(), &mut files, words.as_slice(), b"", NONE, 3)?;
     assert_eq!(rt; got.status, Status::WriteFault);
     assert_eq!(rt; got.out.as_slice(), b"5\n5".as_slice());
     assert_eq!(rt; got.err.as_slice(), b"".as_slice());
@@ -328,6 +322,7 @@ fn a_sink_that_fails_in_mid_stream_took_a_beginning(rt: HostRuntime) -> Result<(
 fn a_report_that_is_not_taken_is_a_write_fault(rt: HostRuntime) -> Result<(), Fail> {
     let fails = Fails {
         files: &[],
+        input: &[],
         out: &[],
         err: &[1],
     };
@@ -445,12 +440,12 @@ fn an_image_that_was_built_gives_what_run_gives(rt: HostRuntime) -> Result<(), F
     let ran = run(alloc, SUMS.as_bytes(), "2", "1000", NONE)?;
     let mut files = store(alloc, SUMS.as_bytes(), NONE)?;
     let build = ["build", "text.f95", "-o", "image"];
-    let built = call_into(alloc, &mut files, build.as_slice(), NONE, 100)?;
+    let built = call_into(alloc, &mut files, build.as_slice(), b"", NONE, 100)?;
     assert_eq!(rt; built.status, Status::Done);
     assert_eq!(rt; built.out.as_slice(), b"".as_slice());
     assert!(rt; built.err.starts_with(b"built ") && built.err.ends_with(b" words\n"));
     let exec = ["exec", "image", "--harts", "2", "--cycles", "1000"];
-    let got = call_into(alloc, &mut files, exec.as_slice(), NONE, 100)?;
+    let got = call_into(alloc, &mut files, exec.as_slice(), b"", NONE, 100)?;
     assert_eq!(rt; got.status, ran.status);
     assert_eq!(rt; got.out.as_slice(), ran.out.as_slice());
     assert_eq!(rt; got.err.as_slice(), ran.err.as_slice());
@@ -461,14 +456,139 @@ fn an_image_that_was_built_gives_what_run_gives(rt: HostRuntime) -> Result<(), F
 fn a_put_that_fails_is_a_write_fault(rt: HostRuntime) -> Result<(), Fail> {
     let fails = Fails {
         files: &[2],
+        input: &[],
         out: &[],
         err: &[],
     };
     let mut files = store(rt.alloc(), SUMS.as_bytes(), fails)?;
     let build = ["build", "text.f95", "-o", "image"];
-    let got = call_into(rt.alloc(), &mut files, build.as_slice(), fails, 100)?;
+    let got = call_into(rt.alloc(), &mut files, build.as_slice(), b"", fails, 100)?;
     assert_eq!(rt; got.status, Status::WriteFault);
     assert_eq!(rt; got.err.as_slice(), b"".as_slice());
     assert_eq!(rt; files.bytes("image"), None);
+    Ok(())
+}
+
+#[test]
+fn an_option_stands_anywhere(rt: HostRuntime) -> Result<(), Fail> {
+    let lines: [&[&str]; 3] = [
+        &["run", "text.f95", "--cycles=9999", "--harts", "1"],
+        &["run", "--harts=1", "text.f95", "--cycles", "9999"],
+        &["run", "--cycles", "9999", "--harts", "1", "--", "text.f95"],
+    ];
+    for words in lines {
+        let got = call(rt.alloc(), SUMS.as_bytes(), words, NONE)?;
+        assert_eq!(rt; got.status, Status::Done);
+        assert_eq!(rt; got.out.as_slice(), b"5\n".as_slice());
+    }
+    Ok(())
+}
+
+// A run of `text.f95` by one hart that shows a variable.
+fn show(
+    alloc: Global,
+    text: &[u8],
+    name: &str,
+    cycles: &str,
+    input: &[u8],
+) -> Result<Outcome, AllocError> {
+    let words = [
+        "run", "text.f95", "--harts", "1", "--cycles", cycles, "--show", name,
+    ];
+    call_over(alloc, text, words.as_slice(), input, NONE)
+}
+
+#[test]
+fn a_variable_is_shown_behind_the_output(rt: HostRuntime) -> Result<(), Fail> {
+    let alloc = rt.alloc();
+    let got = show(alloc, SUMS.as_bytes(), "x", "1000000", b"")?;
+    assert_eq!(rt; got.status, Status::Done);
+    assert_eq!(rt; got.out.as_slice(), b"5\nx = 5\n".as_slice());
+    assert!(rt; is_finished(got.err.as_slice()));
+    let minus = b"sh int y; sh int x; void main(void) { x = 4294967295; }";
+    let got = show(alloc, minus, "x", "1000000", b"7")?;
+    assert_eq!(rt; got.out.as_slice(), b"x = -1\n".as_slice());
+    let got = show(alloc, minus, "x", "0", b"7")?;
+    assert_eq!(rt; got.status, Status::CycleBound);
+    assert_eq!(rt; got.out.as_slice(), b"x = 0\n".as_slice());
+    assert_eq!(rt; got.err.as_slice(), b"stopped after 0 cycles\n".as_slice());
+    Ok(())
+}
+
+#[test]
+fn a_name_that_is_no_variable_is_refused_before_the_input(rt: HostRuntime) -> Result<(), Fail> {
+    let empty = b"void main(void) { }";
+    let rows: [(&[u8], &str, &[u8], &[u8]); 4] = [
+        (empty, "q", b"", b"refused 23 NoGlobal q\n"),
+        (empty, "main", b"x", b"refused 23 NoGlobal main\n"),
+        (empty, "", b"", b"refused 23 NoGlobal \n"),
+        (
+            b"void main(void) { putint(y); }",
+            "y",
+            b"x",
+            b"refused 22 NotBuilt\n",
+        ),
+    ];
+    for (text, name, input, line) in rows {
+        let got = show(rt.alloc(), text, name, "9", input)?;
+        assert_eq!(rt; got.status, Status::Refused);
+        assert_eq!(rt; got.out.as_slice(), b"".as_slice());
+        assert_eq!(rt; got.err.as_slice(), line);
+    }
+    Ok(())
+}
+
+// So many zeros.
+fn zeros(alloc: Global, count: u32) -> Result<Vec<u8>, AllocError> {
+    let mut text = Vec::new(alloc);
+    for _ in 0..count {
+        text.extend_from_slice(b"0 ")?;
+    }
+    Ok(text)
+}
+
+#[test]
+fn an_input_is_read_or_refused(rt: HostRuntime) -> Result<(), Fail> {
+    let alloc = rt.alloc();
+    let run = ["run", "text.f95", "--harts", "1", "--cycles", "9999"];
+    let zeros = zeros(alloc, 65_537)?;
+    let rows: [(&[u8], Status, &[u8]); 3] = [
+        (b"12 x", Status::InputRefused, b"refused 19 NotANumber 2\n"),
+        (
+            b"4294967296",
+            Status::InputRefused,
+            b"refused 20 OutOfRange 1\n",
+        ),
+        (&zeros, Status::InputRefused, b"refused 21 TooMany 65537\n"),
+    ];
+    for (input, status, line) in rows {
+        let got = call_over(alloc, b"void main(void) { }", run.as_slice(), input, NONE)?;
+        assert_eq!(rt; got.status, status);
+        assert_eq!(rt; got.out.as_slice(), b"".as_slice());
+        assert_eq!(rt; got.err.as_slice(), line);
+    }
+    let exec = ["exec", "text.f95", "--harts", "1", "--cycles", "9"];
+    let got = call_over(alloc, HALT.as_slice(), exec.as_slice(), b"1 -2 3", NONE)?;
+    assert_eq!(rt; got.status, Status::Done);
+    let got = call_over(alloc, HALT.as_slice(), exec.as_slice(), b"+1", NONE)?;
+    assert_eq!(rt; got.status, Status::InputRefused);
+    Ok(())
+}
+
+#[test]
+fn an_input_that_fails_is_a_read_fault_of_a_run_alone(rt: HostRuntime) -> Result<(), Fail> {
+    let alloc = rt.alloc();
+    let fails = Fails {
+        files: &[],
+        input: &[1],
+        out: &[],
+        err: &[],
+    };
+    let got = run(alloc, b"?#", "1", "9", fails)?;
+    assert_eq!(rt; got.status, Status::ReadFault);
+    assert_eq!(rt; got.err.as_slice(), b"read fault\n".as_slice());
+    let build = ["build", "text.f95", "-oimage"];
+    let got = call(alloc, SUMS.as_bytes(), build.as_slice(), fails)?;
+    assert_eq!(rt; got.status, Status::Done);
     Ok(())
 }

@@ -1,6 +1,6 @@
 use Rattle.std.proofs.Common.{inr}
 use Rattle.fk_top.proofs.Refusing.{refusing}
-use Rattle.fk_top.proofs.ending.build_source.Goals as goal
+use Rattle.fk_top.proofs.source.build_source.Goals as goal
 
 pub returns-in_ok-bytes-in-Ok : goal.returns-in_ok-bytes-in-Ok
 returns-in_ok-bytes-in-Ok c =

@@ -1,6 +1,6 @@
 use Rattle.std.proofs.Common.{◌≡◌, ◌*◌, ◌++◌, drop}
 use Rattle.fk_top.specs.Outcome.{listing}
-use Rattle.fk_top.proofs.ending.list_code.Given as goal
+use Rattle.fk_top.proofs.bytes.list_code.Given as goal
 
 abbrev pub invariant-loop-word : goal.invariant-loop-word
 invariant-loop-word l = record {

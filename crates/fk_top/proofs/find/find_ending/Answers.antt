@@ -1,0 +1,46 @@
+use Rattle.std.proofs.Common.{Err, map, string_bytes, Global, refl, ap, inl, inr}
+use Rattle.fk_words.specs.Command.{command_of}
+use Rattle.fk_top.specs.Call.{given_of, request_of}
+use Rattle.fk_top.proofs.Unread.{file_unread, unread_ends}
+use Rattle.fk_top.proofs.find.find_ending.Goals as goal
+
+pub returns-in-Err-clause-ends : goal.returns-in-Err-clause-ends
+returns-in-Err-clause-ends g c =
+    let words = map (string_bytes {Z = Global}) c.args.words.now in
+    let input = given_of g.S.Source.left g.S.Source.faults c.args.input.now c.args.input.now in
+    let request = request_of g.F.Store.files g.F.Store.fetch_faults words c.args.files.now c.fetch.new.self input in
+    let command = command_of c.in-Ok.command in
+    unread_ends c.unread.result c.in-Err.fault request
+    (λ is. record {
+      command = command;
+      reads = c.in-Ok.ensures.reads;
+      cause = inl (file_unread request command c.file_of.result.now c.file_of.ensures (c.in-Err.ensures.fault (ap Err is)) refl refl);
+    })
+    c.unread.ensures.fault c.unread.ensures.memory
+
+pub returns-in-Ok-take_input-clause-left : goal.returns-in-Ok-take_input-clause-left
+returns-in-Ok-take_input-clause-left g c = λ not. c.take_input.ensures.left (λ runs. not (command_of c.in-Ok.command, c.in-Ok.ensures.reads, runs))
+
+pub returns-clause-ends : goal.returns-clause-ends
+returns-clause-ends g c =
+    let words = map (string_bytes {Z = Global}) c.args.words.now in
+    let input = given_of g.S.Source.left g.S.Source.faults c.args.input.now c.take_input.new.input in
+    let request = request_of g.F.Store.files g.F.Store.fetch_faults words c.args.files.now c.fetch.new.self input in
+    unread_ends c.unread-in-Err-take_input.result c.in-Err-take_input.fault request
+    (λ is. record {
+      command = command_of c.in-Ok.command;
+      reads = c.in-Ok.ensures.reads;
+      cause = inr (record {
+        runs = c.in-Err-take_input.ensures.runs (ap Err is);
+        fetched = c.in_default.ensures.steady;
+        rose = c.in-Err-take_input.ensures.fault (ap Err is);
+        lost = c.in-Err-take_input.ensures.lost (ap Err is);
+      });
+    })
+    c.unread-in-Err-take_input.ensures.fault c.unread-in-Err-take_input.ensures.memory
+
+pub returns-clause-left : goal.returns-clause-left
+returns-clause-left g c = λ not. c.take_input.ensures.left (λ runs. not (command_of c.in-Ok.command, c.in-Ok.ensures.reads, runs))
+
+pub returns-clause-input_faults : goal.returns-clause-input_faults
+returns-clause-input_faults g c = λ not. c.take_input.ensures.input_faults (λ runs. not (command_of c.in-Ok.command, c.in-Ok.ensures.reads, runs))

@@ -1,0 +1,83 @@
+//! What a call comes to, before anything is put or given.
+
+ghost use Rattle.std.specs.Prelude.{◌≡◌, ◌⊎◌, map, string_bytes, IfOk, IsErr, IsOkAnd, OnErr};
+ghost use Rattle.fk_words.specs.Command.{command_of};
+ghost use Rattle.fk_top.specs.Words.{IsRun};
+ghost use Rattle.fk_top.specs.Outcome.{ComesTo, silent};
+ghost use Rattle.fk_top.specs.Report.{line_of};
+ghost use Rattle.fk_top.specs.Ending.{outcome_of};
+ghost use Rattle.fk_top.specs.Call.{Ends, given_of, request_of};
+
+use crate::bytes::{list_bytes, run_bytes};
+use crate::command::{file_of, most_bytes};
+use crate::ending::{Ending, silent};
+use crate::input::take_input;
+use crate::report::Report;
+use crate::source::{build_source, run_source};
+use crate::status::Status;
+use fk_ports::{Source, Store, StoreFault};
+use fk_words::{CommandWords, WordsFault, read_words};
+use std::alloc::{AllocError, Global};
+
+/// What the words come to over a store and an input. In the store it changes nothing, and it gives nothing
+/// to anybody. A file or an input that could not be read is an ending too, and no want of memory.
+pub fn find_ending<'a, F: Store, S: Source>(
+    alloc: Global,
+    words: &'a [String],
+    files: &mut F,
+    input: &mut S,
+) -> Result<Ending<'a>, AllocError>
+    ensures ends { IfOk result (λ e. Ends (request_of F.files F.fetch_faults (map string_bytes words.now) files.old files.new
+        (given_of S.left S.faults input.old input.new)) (outcome_of e)) }
+    ensures steady { IfOk result (λ e. (outcome_of e ≡ silent Status.ReadFault (line_of Report.ReadFault))
+        ⊎ ((F.fetch_faults files.new ≡ F.fetch_faults files.old) × (S.faults input.new ≡ S.faults input.old))) }
+    ensures unread { OnErr result ((F.fetch_faults files.new ≡ F.fetch_faults files.old) × (S.faults input.new ≡ S.faults input.old)) }
+    ensures files { F.files files.new ≡ F.files files.old }
+    ensures put_faults { F.put_faults files.new ≡ F.put_faults files.old }
+    ensures left { ¬ IsRun (map string_bytes words.now) → S.left input.new ≡ S.left input.old }
+    ensures input_faults { ¬ IsRun (map string_bytes words.now) → S.faults input.new ≡ S.faults input.old }
+{
+    let command = match read_words(alloc, words) {
+        Ok(command) => command,
+        Err(WordsFault::Usage) => {
+            return Ok(silent(alloc, Status::Usage, Report::CommandLine));
+        }
+        Err(WordsFault::Memory) => return Err(AllocError),
+    };
+    let mut bytes = Vec::new(alloc);
+    if let Err(fault) = files.fetch(file_of(command), most_bytes(command), &mut bytes) {
+        return unread(alloc, fault);
+    }
+    match take_input(alloc, command, input) {
+        Ok(text) => command_ending(alloc, command, bytes.as_slice(), text.as_slice()),
+        Err(fault) => unread(alloc, fault),
+    }
+}
+
+// The ending where the file or the input could not be read. Want of memory has none.
+fn unread<'a>(alloc: Global, fault: StoreFault) -> Result<Ending<'a>, AllocError>
+    ensures fault { fault ≡ StoreFault.Fault → IsOkAnd result (λ e. outcome_of e ≡ silent Status.ReadFault (line_of Report.ReadFault)) }
+    ensures memory { fault ≡ StoreFault.Memory → IsErr result }
+{
+    match fault {
+        StoreFault::Fault => Ok(silent(alloc, Status::ReadFault, Report::ReadFault)),
+        StoreFault::Memory => Err(AllocError),
+    }
+}
+
+// What a command comes to over the bytes that it read, and the input text.
+fn command_ending<'a>(
+    alloc: Global,
+    command: CommandWords<'a>,
+    bytes: &[u8],
+    text: &[u8],
+) -> Result<Ending<'a>, AllocError>
+    ensures { IfOk result (λ e. ComesTo (command_of command.entry) bytes.now text.now (outcome_of e)) }
+{
+    match command {
+        CommandWords::Run(run, show) => run_source(alloc, bytes, text, run, show),
+        CommandWords::Build(_, image) => build_source(alloc, bytes, image),
+        CommandWords::Exec(run) => run_bytes(alloc, bytes, text, run),
+        CommandWords::List(_) => list_bytes(alloc, bytes),
+    }
+}
