@@ -1,6 +1,6 @@
 /* Words have 32 bits: sums wrap, and putint prints them signed.
 
-       ./fork95 run examples/sums.f95 --harts 1 --cycles 1000000
+       ./fork95 run examples/sums.f95 --harts 1 --cycles 1000000 </dev/null
 
    prints 5, -1, 0 and -2147483648. With --harts 3 each line comes three times: the processors
    stand at the same putint in the same cycle, and print in ascending number.
@@ -9,7 +9,7 @@
 
        ./fork95 build examples/sums.f95 -o sums.image
        ./fork95 list sums.image
-       ./fork95 exec sums.image --harts 1 --cycles 1000000
+       ./fork95 exec sums.image --harts 1 --cycles 1000000 </dev/null
 
    Each value list stands in the hart's own memory at 0x20000000 (lui t1, 0x20000), and putint
    is a store to the device at 0x30000000. */
