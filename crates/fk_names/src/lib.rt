@@ -8,5 +8,7 @@ mod reader;
 mod survey;
 mod table;
 
-pub use names::{Meaning, Names, resolve};
-pub use outline::Declaration;
+pub use names::{Meaning, Names, is_predeclared, resolve};
+pub use outline::{Declaration, Mark, Outline};
+pub use reader::Reader;
+pub use table::Table;

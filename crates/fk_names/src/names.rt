@@ -1,6 +1,6 @@
 //! What names mean.
 
-ghost use Rattle.std.specs.Prelude.{◌≡◌, ℕ, ◌^◌, ◌≤◌, ◌+◌, ◌<◌, Some, IfOk, MatchOption, map, length, IsTrue, ◌↔◌, Contains, slice_get};
+ghost use Rattle.std.specs.Prelude.{◌≡◌, ℕ, ◌+◌, ◌<◌, Some, IfOk, MatchOption, map, length, IsTrue, ◌↔◌, Contains, slice_get};
 ghost use Rattle.fk_syntax.specs.ProgramView.{program_of};
 ghost use Rattle.fk_syntax.specs.WellFormed.{IsWellFormed};
 ghost use Rattle.fk_names.specs.Names.{AreNames};
@@ -56,7 +56,8 @@ const PREDECLARED: [&[u8]; 14] = [
     b"__inputs",
 ];
 
-fn is_predeclared(name: &[u8]) -> bool
+/// Whether a name is declared before each text.
+pub fn is_predeclared(name: &[u8]) -> bool
     ensures { IsTrue result ↔ Contains predeclared name.now }
 {
     PREDECLARED.contains(&name)
@@ -157,8 +158,7 @@ fn meanings(alloc: Global, marks: &[Mark], tokens: u32) -> Result<Vec<Option<Mea
 /// The declarations of a program, and what each name in its expressions means, in linear time.
 /// Fails only for want of memory.
 pub fn resolve<'p, 'a>(alloc: Global, program: &'p Program<'a>) -> Result<Names<'p, 'a>, AllocError>
-    requires sound { IsWellFormed (program_of program.now) }
-    requires small { program.now.tokens ≤ 2 ^ 20 }
+    requires { IsWellFormed (program_of program.now) }
     ensures { IfOk result (AreNames (program_of program.now)) }
 {
     let outline = Outline::of(alloc, &program.items)?;

@@ -39,7 +39,7 @@ impl<'a> Declaration<'_, 'a> {
 
 /// What matters for names, at one point of a text.
 #[derive(Clone, Copy)]
-pub(crate) enum Mark<'p, 'a> {
+pub enum Mark<'p, 'a> {
     /// A scope begins.
     Opens,
     /// The scope that began last and has no end yet ends.
@@ -52,7 +52,7 @@ pub(crate) enum Mark<'p, 'a> {
 
 impl Mark<'_, '_> {
     /// Whether a scope begins.
-    pub(crate) fn is_opening(&self) -> bool
+    pub fn is_opening(&self) -> bool
         ensures { result ≡ is_opening (mark_of self.now) }
     {
         match self {
@@ -62,14 +62,14 @@ impl Mark<'_, '_> {
     }
 
     /// Whether a function's header is declared.
-    pub(crate) fn is_header(&self) -> bool
+    pub fn is_header(&self) -> bool
         ensures { result ≡ is_header (mark_of self.now) }
     {
         matches!(self, Mark::Declares(Declaration::Function(_)))
     }
 
     /// Whether a scope ends.
-    pub(crate) fn is_closing(&self) -> bool
+    pub fn is_closing(&self) -> bool
         ensures { result ≡ is_closing (mark_of self.now) }
     {
         match self {
@@ -81,13 +81,13 @@ impl Mark<'_, '_> {
 
 /// The marks of a text, in the order in which it is read.
 #[derive(Drop)]
-pub(crate) struct Outline<'p, 'a> {
+pub struct Outline<'p, 'a> {
     marks: Vec<Mark<'p, 'a>>,
 }
 
 impl<'p, 'a> Outline<'p, 'a> {
     /// The marks of a program. Fails only for want of memory.
-    pub(crate) fn of(alloc: Global, items: &'p [Item<'a>]) -> Result<Self, AllocError>
+    pub fn of(alloc: Global, items: &'p [Item<'a>]) -> Result<Self, AllocError>
         ensures { IfOk result (λ outline. marks_in outline ≡ items_marks (map item_of items.now)) }
     {
         let mut outline = Outline {
@@ -98,7 +98,7 @@ impl<'p, 'a> Outline<'p, 'a> {
     }
 
     /// The marks, in order.
-    pub(crate) fn marks(&self) -> &[Mark<'p, 'a>]
+    pub fn marks(&self) -> &[Mark<'p, 'a>]
         ensures { map mark_of result.now ≡ marks_in self.now }
     {
         &self.marks

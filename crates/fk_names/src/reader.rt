@@ -23,7 +23,7 @@ struct Local<'a> {
 
 /// A reader of an outline, who knows the innermost declaration of each name.
 #[derive(Drop)]
-pub(crate) struct Reader<'m, 'p, 'a> {
+pub struct Reader<'m, 'p, 'a> {
     marks: &'m [Mark<'p, 'a>],
     // How many scopes lie round each mark, and after the last one.
     depths: Vec<usize>,
@@ -35,7 +35,7 @@ pub(crate) struct Reader<'m, 'p, 'a> {
 
 impl<'m, 'p, 'a> Reader<'m, 'p, 'a> {
     /// A reader before the first mark. Fails only for want of memory.
-    pub(crate) fn new(alloc: Global, marks: &'m [Mark<'p, 'a>]) -> Result<Self, AllocError>
+    pub fn new(alloc: Global, marks: &'m [Mark<'p, 'a>]) -> Result<Self, AllocError>
         ensures start { IfOk result (λ reader. IsAt reader 0) }
         ensures marks { IfOk result (λ reader. reader.marks.now ≡ marks.entry.now) }
     {
@@ -50,7 +50,7 @@ impl<'m, 'p, 'a> Reader<'m, 'p, 'a> {
     }
 
     /// The mark of the innermost declaration of a name.
-    pub(crate) fn innermost(&self, name: &[u8]) -> Option<usize>
+    pub fn innermost(&self, name: &[u8]) -> Option<usize>
         ensures { (at : ℕ) → IsAt self.now at → MatchOption result
             (IsHidden (marks_of self.now) name.now at)
             (IsInnermost (marks_of self.now) name.now at) }
@@ -59,7 +59,7 @@ impl<'m, 'p, 'a> Reader<'m, 'p, 'a> {
     }
 
     /// Goes past the mark of an index. Fails only for want of memory.
-    pub(crate) fn pass(&mut self, at: usize) -> Result<(), AllocError>
+    pub fn pass(&mut self, at: usize) -> Result<(), AllocError>
         requires within { at < length self.old.marks.now }
         requires here { IsAt self.old at }
         ensures next { OnOk result (IsAt self.new (at + 1)) }
@@ -67,6 +67,15 @@ impl<'m, 'p, 'a> Reader<'m, 'p, 'a> {
     {
         self.declare(at)?;
         self.leave(at)
+    }
+
+    /// How many scopes lie round the mark of an index.
+    pub fn depth(&self, at: usize) -> usize
+        requires known { (here : ℕ) × IsAt self.now here }
+        requires within { at ≤ length (marks_of self.now) }
+        ensures { result ≡ depth (marks_of self.now) at }
+    {
+        self.depths[at]
     }
 
     // Whether the innermost declaration of a name stands in the scope of an index.

@@ -7,7 +7,7 @@ use std::alloc::{AllocError, Global};
 
 /// The index of a mark for each of some names.
 #[derive(Drop)]
-pub(crate) struct Table<'a> {
+pub struct Table<'a> {
     marks: IndexMap<&'a [u8], usize>,
 }
 
@@ -15,7 +15,7 @@ impl<'a> Table<'a> {
     ghost use Rattle.fk_names.specs.TableView.{shown, first_set};
 
     /// No name has a mark.
-    pub(crate) fn new(alloc: Global) -> Self
+    pub fn new(alloc: Global) -> Self
         ensures { (name : List ℕ) → shown result name ≡ None }
     {
         Table {
@@ -24,14 +24,14 @@ impl<'a> Table<'a> {
     }
 
     /// The mark of a name.
-    pub(crate) fn get(&self, name: &[u8]) -> Option<usize>
+    pub fn get(&self, name: &[u8]) -> Option<usize>
         ensures { result ≡ shown self.now name.now }
     {
         self.marks.get(name).copied()
     }
 
     /// Gives a name another mark, or none. Fails only for want of memory.
-    pub(crate) fn set(&mut self, name: &'a [u8], mark: Option<usize>) -> Result<(), AllocError>
+    pub fn set(&mut self, name: &'a [u8], mark: Option<usize>) -> Result<(), AllocError>
         ensures same { OnOk result (shown self.new name.now ≡ mark) }
         ensures others { OnOk result
             ((other : List ℕ) → other ≢ name.now → shown self.new other ≡ shown self.old other) }
@@ -48,7 +48,7 @@ impl<'a> Table<'a> {
     }
 
     /// Gives a name, if there is one, a mark where it has none. Fails only for want of memory.
-    pub(crate) fn set_first(
+    pub fn set_first(
         &mut self,
         name: Option<&'a [u8]>,
         mark: usize,

@@ -13,7 +13,7 @@ pub meanings-requires : goal.meanings-requires
 meanings-requires c =
     let program = program_of c.args.program.now in
     let marks = c.marks-marks.ensures ∙ (c.in_ok-outline.ensures ∙ ap (λ xs. items_marks (map item_of xs)) c.deref.ensures.value) in
-    subst (λ ms. AreApart ms c.args.program.now.tokens) (sym marks) (apart_in program c.requires.sound)
+    subst (λ ms. AreApart ms c.args.program.now.tokens) (sym marks) (apart_in program c.requires)
 
 pub returns : goal.returns
 returns c =
@@ -27,7 +27,7 @@ returns c =
     record {
       declared = c.in_ok-declarations.ensures ∙ ap declared_in marks;
       means = λ token m.
-          let f = found_all (outline program) tokens (length (outline program)) items (apart_in program c.requires.sound) all refl token m in
+          let f = found_all (outline program) tokens (length (outline program)) items (apart_in program c.requires) all refl token m in
           let o = flat (slice_get items token) m in (
             λ e. f.0 (o.0 e),
             λ means. o.1 (f.1 means),
