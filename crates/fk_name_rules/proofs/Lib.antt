@@ -1,0 +1,4 @@
+pub mod ListLemmas
+pub mod NamedLemmas
+pub mod HeaderLemmas
+pub mod Whole

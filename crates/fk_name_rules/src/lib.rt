@@ -1,0 +1,13 @@
+//! The rules of Fork95 that names decide: names that mean nothing, names that are declared twice,
+//! headers of functions, and `main`.
+#![tactic(auto)]
+
+mod agree;
+mod check;
+mod headers;
+mod named;
+
+pub use check::name_fault;
+
+#[cfg(test)]
+mod tests;
