@@ -172,16 +172,11 @@ pub fn resolve<'p, 'a>(alloc: Global, program: &'p Program<'a>) -> Result<Names<
 #[cfg(test)]
 mod tests {
     use super::*;
-    use fk_syntax::{Base, Declared, Expr, Function, Item, Mode, Name, Place, Stmt, TypeName};
+    use fk_syntax::{Base, Declared, Expr, Item, Name, Place, TypeName};
     use fk_well_formed::well_formed;
     use std::test::Fail;
 
     const PLACE: Place = Place { line: 1, column: 1 };
-
-    const INT: TypeName<'static> = TypeName {
-        base: Base::Int,
-        stars: 0,
-    };
 
     fn name(bytes: &'static [u8], at: u32) -> Name<'static> {
         Name {
@@ -191,57 +186,34 @@ mod tests {
         }
     }
 
-    fn variable(bytes: &'static [u8], at: u32) -> Declared<'static> {
-        Declared {
+    // `int x = NAME;`, where `x` is token 0 and the name token 1.
+    fn text(alloc: Global, bytes: &'static [u8]) -> Result<Program<'static>, AllocError> {
+        let variable = Declared {
             shared: false,
-            kind: INT,
-            name: name(bytes, at),
+            kind: TypeName {
+                base: Base::Int,
+                stars: 0,
+            },
+            name: name(b"x", 0),
             length: None,
-            first: None,
-        }
-    }
-
-    fn used(bytes: &'static [u8], at: u32) -> Stmt<'static> {
-        Stmt::Expression(Expr::Named(name(bytes, at)))
-    }
-
-    fn function(
-        at: u32,
-        params: Vec<Declared<'static>>,
-        body: Option<Vec<Stmt<'static>>>,
-    ) -> Item<'static> {
-        Item::Function(Function {
-            mode: Mode::Async,
-            result: INT,
-            name: name(b"f", at),
-            params,
-            body,
-        })
-    }
-
-    // int x; int f(int a); int f(int x) { { int x; x; y; } x; malloc; f; }
-    fn text(alloc: Global) -> Result<Program<'static>, AllocError> {
-        let inner = vec![in alloc;
-            Stmt::Declare(vec![in alloc; variable(b"x", 5)]?),
-            used(b"x", 6),
-            used(b"y", 7),
-        ]?;
-        let body = vec![in alloc;
-            Stmt::Block(inner),
-            used(b"x", 8),
-            used(b"malloc", 9),
-            used(b"f", 10),
-        ]?;
-        let items = vec![in alloc;
-            Item::Variables(vec![in alloc; variable(b"x", 0)]?),
-            function(1, vec![in alloc; variable(b"a", 2)]?, None),
-            function(3, vec![in alloc; variable(b"x", 4)]?, Some(body)),
-        ]?;
+            first: Some(Expr::Named(name(bytes, 1))),
+        };
+        let item = Item::Variables(vec![in alloc; variable]?);
         Ok(Program {
-            items,
+            items: vec![in alloc; item]?,
             end: PLACE,
-            tokens: 11,
+            tokens: 2,
         })
+    }
+
+    // What the name means there.
+    fn meaning(alloc: Global, bytes: &'static [u8]) -> Result<Option<Meaning>, AllocError> {
+        let program = text(alloc, bytes)?;
+        if !well_formed(&program) {
+            return Ok(None);
+        }
+        let names = resolve(alloc, &program)?;
+        Ok(names.meanings.get(1).copied().flatten())
     }
 
     #[test]
@@ -250,26 +222,11 @@ mod tests {
     }
 
     #[test]
-    fn names_mean_the_innermost_declaration(rt: HostRuntime) -> Result<(), Fail> {
-        let program = text(rt.alloc())?;
-        assert!(rt; well_formed(&program));
-        assert!(rt; program.tokens <= 1_048_576);
-        let names = resolve(rt.alloc(), &program)?;
-        assert_eq!(rt; names.declarations.len(), 6);
-        let expected = [
-            None,
-            None,
-            None,
-            None,
-            None,
-            None,
-            Some(Meaning::Declared(5)),
-            Some(Meaning::Undeclared),
-            Some(Meaning::Declared(4)),
-            Some(Meaning::Predeclared),
-            Some(Meaning::Declared(3)),
-        ];
-        assert_eq!(rt; names.meanings.as_slice(), expected.as_slice());
+    fn names_mean_what_is_declared(rt: HostRuntime) -> Result<(), Fail> {
+        let alloc = rt.alloc();
+        assert!(rt; meaning(alloc, b"x")? == Some(Meaning::Declared(0)));
+        assert!(rt; meaning(alloc, b"malloc")? == Some(Meaning::Predeclared));
+        assert!(rt; meaning(alloc, b"y")? == Some(Meaning::Undeclared));
         Ok(())
     }
 }

@@ -48,11 +48,7 @@ impl<'a> Table<'a> {
     }
 
     /// Gives a name, if there is one, a mark where it has none. Fails only for want of memory.
-    pub fn set_first(
-        &mut self,
-        name: Option<&'a [u8]>,
-        mark: usize,
-    ) -> Result<(), AllocError>
+    pub fn set_first(&mut self, name: Option<&'a [u8]>, mark: usize) -> Result<(), AllocError>
         ensures some { OnOk result (IfSome name.entry (λ n. (q : List ℕ)
             → shown self.new q ≡ first_set n.now mark q (shown self.old q))) }
         ensures none { OnOk result (IsNone name.entry

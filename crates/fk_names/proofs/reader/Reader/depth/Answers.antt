@@ -1,5 +1,4 @@
-use Rattle.std.proofs.Common.{length, ◌∙◌, arith}
-use Rattle.fk_names.specs.Reading.{marks_of}
+use Rattle.std.proofs.Common.{◌∙◌, arith}
 use Rattle.fk_names.proofs.ReadingLemmas.{read_at}
 use Rattle.fk_names.proofs.reader.Reader.depth.Goals as goal
 
