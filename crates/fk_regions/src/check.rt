@@ -1,6 +1,6 @@
 //! Regions and their rules.
 
-ghost use Rattle.std.specs.Prelude.{◌≡◌, ◌≤◌, ◌^◌, MatchResult, OnErr};
+ghost use Rattle.std.specs.Prelude.{◌≡◌, MatchResult, OnErr};
 ghost use Rattle.fk_syntax.specs.ProgramView.{program_of};
 ghost use Rattle.fk_syntax.specs.WellFormed.{IsWellFormed};
 ghost use Rattle.fk_rules.specs.Least.{IsLeast, among};
@@ -66,8 +66,7 @@ pub fn regions_by(
 ///
 /// As `regions_by`.
 pub fn regions(alloc: Global, program: &Program, facts: &mut Facts) -> Result<(), CheckFault>
-    requires sound { IsWellFormed (program_of program.now) }
-    requires small { program.now.tokens ≤ 2 ^ 20 }
+    requires { IsWellFormed (program_of program.now) }
     ensures answer { MatchResult result
         (λ _. AreRegions (program_of program.now) facts.old facts.new)
         (λ fault. IsRefusal (program_of program.now) fault) }

@@ -80,7 +80,6 @@ fn tokens_in_a_start_and_outside_its_farm_are_synchronous(rt: HostRuntime) -> Re
     let body = vec![in alloc; start(alloc, Stmt::Block(inner))?]?;
     let program = program(alloc, body)?;
     assert!(rt; well_formed(&program));
-    assert!(rt; program.tokens <= 1 << 20);
     let mut facts = facts(alloc)?;
     assert!(rt; regions(alloc, &program, &mut facts).is_ok());
     let wanted = [false, false, false, true, true, false, true, false, false];
