@@ -1,0 +1,13 @@
+//! Graphs, as for each vertex the vertices that edges lead to from it: which vertices lie on cycles.
+#![tactic(auto)]
+
+mod cycles;
+mod marks;
+mod order;
+mod ranks;
+
+pub use cycles::suspects;
+pub use marks::is_on_cycle;
+
+#[cfg(test)]
+mod tests;
