@@ -30,10 +30,10 @@ LeadsTo-same P Q to a b h = (h.0, walk (suc h.0) a h.1)
     walk (suc n) x w = (w.0, to x w.0 w.1, walk n w.0 w.2)
 
 -- lists without and with one element
-in_none : (v : ℕ) → Contains [] v → ⊥
+pub in_none : (v : ℕ) → Contains [] v → ⊥
 in_none v h = omega (arith, h.1)
 
-in_one : (v u : ℕ) → Contains (v ∷ []) u → v ≡ u
+pub in_one : (v u : ℕ) → Contains (v ∷ []) u → v ≡ u
 in_one v u h = elim (Contains-push_cases [] v u h) [ inl none ↦ absurd (in_none u none) | inr same ↦ same ]
 
 -- one vertex is marked

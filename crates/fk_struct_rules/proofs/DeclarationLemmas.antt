@@ -14,7 +14,7 @@ use Rattle.fk_structs.specs.Types.{StructTree, struct_named, type_declared, all_
 use Rattle.fk_structs.specs.Words.{capped}
 use Rattle.fk_structs.specs.Sizes.{HasTypeWords}
 use Rattle.fk_structs.proofs.WordLemmas.{one-type}
-use Rattle.fk_struct_rules.specs.Declarations.{NamesNoStruct, HasLargeType, At}
+use Rattle.fk_struct_rules.specs.Declarations.{NamesNoStruct, IsTooLarge, HasLargeType, At}
 
 -- a fact that is told at a place, and one that isn't so
 pub At-so : (rule : Rule) (here : Place) (P : Type 0) → P → IsLeast (only rule (At here P)) (Some (record { place = here; rule = rule }))
@@ -36,20 +36,17 @@ pub NamesNoStruct-not : (structs : List StructTree) (type : TypeTree) → ((name
 NamesNoStruct-not structs type never = IsLeast-nowhere rules.NoStruct (NamesNoStruct structs type) (λ place h. never h.0 h.1 h.2)
 
 -- a type that is too large has more words than the limit, whatever they are
-pub large_words : (structs : List StructTree) (declared : DeclaredTree) (type : DataType) (words exact : ℕ) → type_declared structs declared ≡ Some type → HasTypeWords structs type exact → words ≡ capped exact
-    → HasLargeType structs declared → 524288 < words
-large_words structs declared type words exact is has cap h =
-    let same : h.0 ≡ type = same_Some h.0 type (sym h.1 ∙ is) in
-    let more = subst (λ t. HasTypeWords structs t h.2.0) same h.2.1 in
-    let one : h.2.0 ≡ exact = one-type (all_types structs) type h.2.0 exact more has in
-    omega (arith, one, cap, h.2.2)
+pub IsTooLarge-words : (structs : List StructTree) (type : DataType) (words exact : ℕ) → HasTypeWords structs type exact → words ≡ capped exact → IsTooLarge structs type → 524288 < words
+IsTooLarge-words structs type words exact has cap h =
+    let one : h.0 ≡ exact = one-type (all_types structs) type h.0 exact h.1 has in
+    omega (arith, one, cap, h.2)
 
-pub HasLargeType-so : (structs : List StructTree) (declared : DeclaredTree) (type : DataType) (words exact : ℕ) → type_declared structs declared ≡ Some type → HasTypeWords structs type exact → words ≡ capped exact
-    → 524288 < words → HasLargeType structs declared
-HasLargeType-so structs declared type words exact is has cap more = let less : 524288 < exact = omega (arith, cap, more) in (type, is, (exact, has, less))
+pub IsTooLarge-so : (structs : List StructTree) (type : DataType) (words exact : ℕ) → HasTypeWords structs type exact → words ≡ capped exact → 524288 < words → IsTooLarge structs type
+IsTooLarge-so structs type words exact has cap more = let less : 524288 < exact = omega (arith, cap, more) in (exact, has, less)
 
-pub HasLargeType-wordless : (structs : List StructTree) (declared : DeclaredTree) (type : DataType) → type_declared structs declared ≡ Some type → ((exact : ℕ) → ¬ HasTypeWords structs type exact) → ¬ HasLargeType structs declared
-HasLargeType-wordless structs declared type is none h = none h.2.0 (subst (λ t. HasTypeWords structs t h.2.0) (same_Some h.0 type (sym h.1 ∙ is)) h.2.1)
+-- what is declared is too large where its type is
+pub HasLargeType-type : (structs : List StructTree) (declared : DeclaredTree) (type : DataType) → type_declared structs declared ≡ Some type → HasLargeType structs declared → IsTooLarge structs type
+HasLargeType-type structs declared type is h = subst (IsTooLarge structs) (same_Some h.0 type (sym h.1 ∙ is)) h.2
 
 pub HasLargeType-typeless : (structs : List StructTree) (declared : DeclaredTree) → type_declared structs declared ≡ None → ¬ HasLargeType structs declared
 HasLargeType-typeless structs declared none h = none-some h.0 (sym none ∙ h.1)

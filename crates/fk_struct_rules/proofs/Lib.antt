@@ -1,1 +1,3 @@
 pub mod DeclarationLemmas
+pub mod StructLemmas
+pub mod HoldingLemmas

@@ -7,10 +7,10 @@ ghost use Rattle.fk_syntax.specs.ProgramView.{declared_of};
 ghost use Rattle.fk_rules.specs.declared.rule.Rule.TheVariants as rules;
 ghost use Rattle.fk_rules.specs.Least.{IsLeast, only};
 ghost use Rattle.fk_structs.specs.Whole.{structs_in, IsSound};
-ghost use Rattle.fk_struct_rules.specs.Declarations.{NamesNoStruct, IsVoid, HasWrongLength, HasLargeType, IsStruct, At, DeclarationBreaks, ParameterBreaks, ResultBreaks, SizeofBreaks};
+ghost use Rattle.fk_struct_rules.specs.Declarations.{NamesNoStruct, IsVoid, HasWrongLength, IsTooLarge, HasLargeType, IsStruct, At, DeclarationBreaks, ParameterBreaks, ResultBreaks, SizeofBreaks};
 
 use fk_rules::{Fault, Rule, first_of};
-use fk_structs::Structs;
+use fk_structs::{DataType, Structs};
 use fk_syntax::{Base, Declared, Place, TypeName};
 
 /// The most elements and the most words.
@@ -64,16 +64,24 @@ fn has_wrong_length(declared: &Declared) -> bool
     }
 }
 
+/// Whether a type has too many words.
+pub(crate) fn is_too_large(structs: &Structs, kind: &DataType) -> bool
+    requires { IsSound structs.now }
+    ensures { IsTrue result ↔ IsTooLarge (structs_in structs.now) kind.now }
+{
+    match structs.words(kind) {
+        Some(words) => words > LIMIT,
+        None => false,
+    }
+}
+
 // Whether the type of what is declared has too many words.
 fn has_large_type(structs: &Structs, declared: &Declared) -> bool
     requires { IsSound structs.now }
     ensures { IsTrue result ↔ HasLargeType (structs_in structs.now) (declared_of declared.now) }
 {
     match structs.type_of(&declared.kind, declared.length) {
-        Some(kind) => match structs.words(&kind) {
-            Some(words) => words > LIMIT,
-            None => false,
-        },
+        Some(kind) => is_too_large(structs, &kind),
         None => false,
     }
 }

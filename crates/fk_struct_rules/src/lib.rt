@@ -3,8 +3,12 @@
 #![tactic(auto)]
 
 mod declarations;
+mod holding;
+mod members;
+mod structs;
 
 pub use declarations::{declaration_fault, no_struct, parameter_fault, result_fault, sizeof_fault};
+pub use structs::structs_fault;
 
 #[cfg(test)]
 mod tests;

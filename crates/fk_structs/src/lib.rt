@@ -11,6 +11,7 @@ mod structs;
 mod types;
 mod words;
 
+pub use outline::Outline;
 pub use structs::Structs;
 pub use types::{DataType, Root};
 

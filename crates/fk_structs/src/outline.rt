@@ -10,9 +10,9 @@ use std::alloc::{AllocError, Global};
 
 /// A struct as it is declared.
 #[derive(Clone, Copy)]
-pub(crate) struct Outline<'p, 'a> {
-    pub(crate) name: Name<'a>,
-    pub(crate) members: &'p [Declared<'a>],
+pub struct Outline<'p, 'a> {
+    pub name: Name<'a>,
+    pub members: &'p [Declared<'a>],
 }
 
 /// The structs of a text, in the order of their declarations.

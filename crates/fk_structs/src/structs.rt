@@ -5,6 +5,7 @@ ghost use Rattle.fk_syntax.specs.View.{type_of as tree_of_type};
 ghost use Rattle.fk_syntax.specs.ProgramView.{item_of};
 ghost use Rattle.fk_structs.specs.Types.{structs_of, struct_named, type_spelled, member_named, member_type};
 ghost use Rattle.fk_structs.specs.Words.{capped};
+ghost use Rattle.fk_structs.specs.View.{outline_tree};
 ghost use Rattle.fk_structs.specs.Sizes.{HasTypeWords, HasOffset};
 ghost use Rattle.fk_structs.specs.Whole.{structs_in, IsSound};
 
@@ -59,6 +60,13 @@ impl<'p, 'a> Structs<'p, 'a> {
         ensures { IsTrue result ↔ (length (structs_in self.now) ≡ 0) }
     {
         self.outlines.is_empty()
+    }
+
+    /// The structs as they are declared.
+    pub fn outlines(&self) -> &[Outline<'p, 'a>]
+        ensures { map outline_tree result.now ≡ structs_in self.now }
+    {
+        &self.outlines
     }
 
     /// The index of the struct of this name: of several the first.
