@@ -33,8 +33,8 @@ fn cover_all(covered: &mut [bool], ranks: &[usize], low: usize, vertices: &[usiz
     }
 }
 
-// Marks each rank that an edge passes without falling: a walk that comes back to its beginning rises
-// past the rank of each of its vertices, or keeps it.
+// Marks each rank that an edge passes without falling: a walk that comes back to its beginning
+// rises past the rank of each of its vertices, or keeps it.
 fn cover_edges(covered: &mut [bool], graph: &[Vec<usize>], ranks: &[usize])
     requires { length ranks.now ≡ length graph.now }
     ensures length { length covered.new ≡ length covered.old }
@@ -78,8 +78,8 @@ fn told(alloc: Global, covered: &[bool], ranks: &[usize]) -> Result<Vec<bool>, A
     Ok(suspects)
 }
 
-/// Marks every vertex that lies on a cycle, in linear time. Others may be marked too, so that what is
-/// marked is left to `is_on_cycle`; fast is only that they are few. Fails only for want of memory.
+/// Marks every vertex that lies on a cycle. Others may be marked too, so that `is_on_cycle` has to
+/// decide; that they are few makes it fast. Fails only for want of memory.
 pub fn suspects(alloc: Global, graph: &[Vec<usize>]) -> Result<Vec<bool>, AllocError>
     ensures length { IfOk result (λ suspects. length suspects.items ≡ length graph.now) }
     ensures marked { IfOk result

@@ -1,4 +1,4 @@
-//! Graphs, as for each vertex the vertices that edges lead to from it: which vertices lie on cycles.
+//! Graphs, as for each vertex those that edges lead to from it: which vertices lie on cycles.
 #![tactic(auto)]
 
 mod cycles;

@@ -33,8 +33,8 @@ fn add(graph: &mut [Vec<usize>], from: usize, to: usize) -> Result<(), AllocErro
     Ok(())
 }
 
-// Goes on in the vertex that was begun last: along its next edge, to a vertex that was not seen yet,
-// or to its end.
+// Goes on in the vertex that was begun last: along its next edge, to a vertex that was not seen
+// yet, or to its end.
 fn step(
     graph: &[Vec<usize>],
     seen: &mut [bool],

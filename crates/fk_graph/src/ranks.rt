@@ -1,5 +1,5 @@
-//! A rank for each vertex, such that no edge rises and an edge keeps its rank exactly where it lies on
-//! a cycle. That it is so makes the search for cycles fast; nothing else rests on it.
+//! A rank for each vertex, such that no edge rises and an edge keeps its rank exactly where it lies
+//! on a cycle. That it is so makes the search for cycles fast; nothing else rests on it.
 
 ghost use Rattle.std.specs.Prelude.{◌≡◌, length, IfOk};
 
