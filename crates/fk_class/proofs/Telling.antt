@@ -56,7 +56,7 @@ same-answer program f g tf tg token None None e h = refl
 same-answer program f g tf tg token None (Some y) e h = let other = (tf token y).1 ((tg token y).0 h) in absurd (cc)
 same-answer program f g tf tg token (Some x) b e h = sym ((tg token x).1 ((tf token x).0 e)) ∙ h
 
-same-telling : (program : ProgramTree) (f g : ℕ → Option Thing) → Tells program f → Tells program g → f ≡ g
+pub same-telling : (program : ProgramTree) (f g : ℕ → Option Thing) → Tells program f → Tells program g → f ≡ g
 same-telling program f g tf tg = fun_ext (λ token. same-answer program f g tf tg token (f token) (g token) refl refl)
 
 pub shared-in : (program : ProgramTree) (names : Names) → AreNames program names → (tree : Tree) (result : Bool) → result ≡ is_shared (thing_in names) tree → IsTrue result ↔ IsShared program tree

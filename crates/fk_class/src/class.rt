@@ -14,8 +14,8 @@ use crate::thing::{is_name_shared, is_named_call_shared, thing_at};
 use fk_names::Names;
 use fk_syntax::{Expr, Link, Sign, Suffix};
 
-// Whether a sign between two expressions is shared, by whether each of them is.
-fn is_joined_shared(sign: Sign, left: bool, right: bool) -> bool
+/// Whether a sign between two expressions is shared, by whether each of them is.
+pub fn is_joined_shared(sign: Sign, left: bool, right: bool) -> bool
     ensures { result ≡ is_joined_shared sign left right }
 {
     match sign {
@@ -24,8 +24,8 @@ fn is_joined_shared(sign: Sign, left: bool, right: bool) -> bool
     }
 }
 
-// Whether an assignment is shared, by whether its target and its value are.
-fn is_assigned_shared(sign: Sign, target: bool, value: bool) -> bool
+/// Whether an assignment is shared, by whether its target and its value are.
+pub fn is_assigned_shared(sign: Sign, target: bool, value: bool) -> bool
     ensures { result ≡ is_assigned_shared sign target value }
 {
     match sign {
@@ -34,8 +34,8 @@ fn is_assigned_shared(sign: Sign, target: bool, value: bool) -> bool
     }
 }
 
-// Whether a call of an expression is shared.
-fn is_call_shared(names: &Names, callee: &Expr) -> bool
+/// Whether a call of an expression is shared, by the names of the program.
+pub fn is_call_shared(names: &Names, callee: &Expr) -> bool
     ensures { result ≡ is_call_shared (thing_in names.now) (tree_of callee.now) }
 {
     match callee {

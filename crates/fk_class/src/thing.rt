@@ -32,7 +32,7 @@ fn declared_thing(declarations: &[Declaration], number: u32) -> Option<Thing>
 }
 
 /// What the token of an index is, where it is a name in an expression and means something.
-pub(crate) fn thing_at(names: &Names, token: u32) -> Option<Thing>
+pub fn thing_at(names: &Names, token: u32) -> Option<Thing>
     ensures { result ≡ thing_in names.now token }
 {
     match names.meanings.get(token as usize).copied().flatten()? {
@@ -60,7 +60,7 @@ fn is_of_group(name: &[u8]) -> bool
 }
 
 /// Whether a name is shared, by what it is.
-pub(crate) fn is_name_shared(thing: Option<Thing>, name: &[u8]) -> bool
+pub fn is_name_shared(thing: Option<Thing>, name: &[u8]) -> bool
     ensures { result ≡ is_name_shared thing name.now }
 {
     match thing {
@@ -71,7 +71,7 @@ pub(crate) fn is_name_shared(thing: Option<Thing>, name: &[u8]) -> bool
 }
 
 /// Whether a call of a name is shared, by what it is.
-pub(crate) fn is_named_call_shared(thing: Option<Thing>, name: &[u8]) -> bool
+pub fn is_named_call_shared(thing: Option<Thing>, name: &[u8]) -> bool
     ensures { result ≡ is_named_call_shared thing name.now }
 {
     match thing {

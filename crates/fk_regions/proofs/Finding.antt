@@ -28,7 +28,7 @@ get-map f [] i x e = absurd (cc)
 get-map f (y ∷ xs) zero x e = let same : y ≡ x = cc in ap (λ z. Some (f z)) same
 get-map f (y ∷ xs) (suc i) x e = get-map f xs i x e
 
-map-get : {X Y : Type 0} (f : X → Y) (xs : List X) (i : ℕ) (y : Y) → slice_get (map f xs) i ≡ Some y → (x : X) × (slice_get xs i ≡ Some x) × (f x ≡ y)
+pub map-get : {X Y : Type 0} (f : X → Y) (xs : List X) (i : ℕ) (y : Y) → slice_get (map f xs) i ≡ Some y → (x : X) × (slice_get xs i ≡ Some x) × (f x ≡ y)
 map-get f [] i y e = absurd (cc)
 map-get f (x ∷ xs) zero y e = (x, refl, cc)
 map-get f (x ∷ xs) (suc i) y e = map-get f xs i y e

@@ -64,7 +64,8 @@ pub struct Around {
     pub in_body: bool,
 }
 
-fn region_of(mode: Mode) -> Region
+/// How the body of a function runs, by its mode.
+pub fn region_of(mode: Mode) -> Region
     ensures { result ≡ region_by mode }
 {
     match mode {

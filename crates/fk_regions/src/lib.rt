@@ -10,6 +10,7 @@ mod judge;
 mod marks;
 mod token;
 
+pub use around::{Region, region_of};
 pub use check::{regions, regions_by};
 
 #[cfg(test)]
