@@ -1,0 +1,6 @@
+pub mod Retold
+pub mod Judging
+pub mod Clearing
+pub mod Marking
+pub mod Finding
+pub mod Settled

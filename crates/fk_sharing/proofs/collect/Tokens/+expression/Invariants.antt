@@ -1,0 +1,25 @@
+-- The tokens so far, and those of what is left, are those before and those of all; and what is left
+-- is shared, by what stands before it, where the whole is.
+use Rattle.std.proofs.Common.{◌≡◌, ◌++◌, map, drop}
+use Rattle.fk_syntax.specs.Tree.{links_of, trees_of, suffixes_of}
+use Rattle.fk_syntax.specs.View.{tree_of, link_of, suffix_of}
+use Rattle.fk_class.specs.Things.{thing_in}
+use Rattle.fk_class.specs.Class.{is_chain_shared, is_postfix_shared}
+use Rattle.fk_sharing.specs.Tokens.{links_tokens, trees_tokens, suffixes_tokens}
+use Rattle.fk_sharing.specs.TokensView.{seen_in}
+use Rattle.fk_sharing.proofs.collect.Tokens.+expression.Given as goal
+
+abbrev pub invariant-add_expressions-loop-expression : goal.invariant-add_expressions-loop-expression
+invariant-add_expressions-loop-expression l = seen_in l.self ++ (trees_tokens (thing_in l.names) l.around (trees_of (map tree_of (drop l.expression-index l.expressions)))) ≡ seen_in l.fn.self ++ (trees_tokens (thing_in l.names) l.around (trees_of (map tree_of l.expressions)))
+
+abbrev pub invariant-add_links-loop-link : goal.invariant-add_links-loop-link
+invariant-add_links-loop-link l = record {
+  tokens : seen_in l.self ++ (links_tokens (thing_in l.names) l.around l.shared (links_of (map link_of (drop l.link-index l.links)))) ≡ seen_in l.fn.self ++ (links_tokens (thing_in l.names) l.around l.first (links_of (map link_of l.links)));
+  class : is_chain_shared (thing_in l.names) l.shared (links_of (map link_of (drop l.link-index l.links))) ≡ is_chain_shared (thing_in l.names) l.first (links_of (map link_of l.links));
+}
+
+abbrev pub invariant-add_suffixes-loop-suffix : goal.invariant-add_suffixes-loop-suffix
+invariant-add_suffixes-loop-suffix l = record {
+  tokens : seen_in l.self ++ (suffixes_tokens (thing_in l.names) l.around l.shared l.called (suffixes_of (map suffix_of (drop l.suffix-index l.suffixes)))) ≡ seen_in l.fn.self ++ (suffixes_tokens (thing_in l.names) l.around l.whole l.call (suffixes_of (map suffix_of l.suffixes)));
+  class : is_postfix_shared (thing_in l.names) l.shared l.called (suffixes_of (map suffix_of (drop l.suffix-index l.suffixes))) ≡ is_postfix_shared (thing_in l.names) l.whole l.call (suffixes_of (map suffix_of l.suffixes));
+}

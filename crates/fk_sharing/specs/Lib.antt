@@ -1,0 +1,9 @@
+pub mod Tokens
+pub mod Around
+pub mod Collected
+pub mod TokensView
+pub mod Broken
+pub mod Judged
+pub mod Retold
+pub mod Marked
+pub mod Found

@@ -1,0 +1,18 @@
+-- What the code keeps of what stands round a token.
+use Rattle.std.specs.Prelude.{List}
+use Rattle.fk_sharing.specs.declared.around.Holder.{Holder}
+use Rattle.fk_sharing.specs.declared.around.Around.{Around}
+use Rattle.fk_sharing.specs.Tokens.{Standing}
+use Rattle.fk_sharing.specs.Around.{region, is_in_function, is_in_split, is_split_to_loop, is_split_in_loop}
+
+abbrev pub around_of : List Holder → Around
+around_of holders = record {
+  region = region holders;
+  in_function = is_in_function holders;
+  in_split = is_in_split holders;
+  break_leaves = is_split_to_loop holders;
+  continue_leaves = is_split_in_loop holders;
+}
+
+abbrev pub retold : Standing (List Holder) → Standing Around
+retold token = record { around = around_of token.around; spot = token.spot; shared = token.shared; word = token.word }

@@ -1,0 +1,9 @@
+-- The tokens that the code has collected.
+use Rattle.std.specs.Prelude.{List, map}
+use Rattle.fk_sharing.specs.declared.around.Around.{Around}
+use Rattle.fk_sharing.specs.declared.collect.Tokens.{Tokens}
+use Rattle.fk_sharing.specs.Tokens.{Standing}
+use Rattle.fk_sharing.specs.Collected.{seen}
+
+abbrev pub seen_in : Tokens → List (Standing Around)
+seen_in tokens = map seen tokens.list.items

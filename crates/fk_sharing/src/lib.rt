@@ -1,0 +1,15 @@
+//! What the processors of a Fork95 program share: the class of each expression, where a group
+//! splits, and which of the rules about both a program breaks.
+#![tactic(auto)]
+
+mod around;
+mod check;
+mod collect;
+mod judge;
+mod marks;
+mod token;
+
+pub use check::{sharing, sharing_by};
+
+#[cfg(test)]
+mod tests;
