@@ -1,5 +1,5 @@
 -- What the code finds of the tokens that it keeps is what the program breaks.
-use Rattle.std.proofs.Common.{◌≡◌, ℕ, zero, suc, ◌+◌, ◌<◌, length, get_or, List, [], ◌∷◌, map, Option, Some, slice_get, refl, sym, ap, subst, ◌∙◌}
+use Rattle.std.proofs.Common.{◌≡◌, ℕ, ◌+◌, ◌<◌, length, get_or, List, map, Option, Some, slice_get, sym, ap, subst, ◌∙◌}
 use Rattle.std.proofs.lemmas.Option.{slice_get-get_or}
 use Rattle.fk_syntax.specs.declared.place.Place.{Place}
 use Rattle.fk_syntax.specs.Program.{ProgramTree}
@@ -10,7 +10,7 @@ use Rattle.fk_rules.proofs.LeastLemmas.{IsLeast-same, IsLeast-one_more}
 use Rattle.fk_names.specs.declared.names.Names.{Names}
 use Rattle.fk_names.specs.Names.{AreNames}
 use Rattle.fk_class.specs.declared.thing.Thing.{Thing}
-use Rattle.fk_class.specs.Things.{Tells, thing_in}
+use Rattle.fk_class.specs.Things.{thing_in}
 use Rattle.fk_class.proofs.Telling.{names-tell, same-telling}
 use Rattle.fk_regions.proofs.Finding.{get-map, map-get}
 use Rattle.fk_sharing.specs.declared.around.Holder.{Holder}

@@ -1,5 +1,5 @@
 -- What the code finds of one token is what the rules say.
-use Rattle.std.proofs.Common.{◌≡◌, ◌≢◌, Bool, true, false, ◌&&◌, List, Option, Some, None, refl, sym, ap, subst, ◌∙◌}
+use Rattle.std.proofs.Common.{◌≡◌, ◌≢◌, Bool, true, false, ◌&&◌, List, Option, Some, None, refl, sym, ap, subst}
 use Rattle.fk_syntax.specs.declared.sign.Sign.{Sign}
 use Rattle.fk_syntax.specs.declared.sign.Sign.TheVariants.{Ampersand}
 use Rattle.fk_syntax.specs.declared.program.Mode.{Mode}
@@ -18,7 +18,7 @@ use Rattle.fk_sharing.specs.declared.token.Word.{Word}
 use Rattle.fk_sharing.specs.declared.token.Word.TheVariants as w
 use Rattle.fk_sharing.specs.Around.{region, is_in_function, is_in_split, is_split_to_loop, is_split_in_loop}
 use Rattle.fk_sharing.specs.Broken.{BreaksRule, return_leaves, break_leaves, continue_leaves, private_address, private_array, private_struct, shared_outside, shared_parameter}
-use Rattle.fk_sharing.specs.Judged.{is_private_variable, is_address, private_rule, shared_rule_by, shared_rule, variable_rule, parameter_rule, broken_rule}
+use Rattle.fk_sharing.specs.Judged.{is_private_variable, is_address, shared_rule_by, variable_rule, parameter_rule, broken_rule}
 use Rattle.fk_sharing.specs.Retold.{around_of}
 
 -- ---- one rule by its condition

@@ -14,7 +14,7 @@ use Rattle.fk_regions.specs.Around.{region_by}
 use Rattle.fk_sharing.specs.declared.around.Holder.{Holder}
 use Rattle.fk_sharing.specs.declared.around.Holder.TheVariants as h
 use Rattle.fk_sharing.specs.declared.around.Around.{Around}
-use Rattle.fk_sharing.specs.Tokens.{Standing, tree_tokens, links_tokens, trees_tokens, suffixes_tokens, optional_tokens, is_condition_shared, variables_tokens, variable_tokens, condition_tokens, head_tokens, parts_tokens, simple_tokens, statement_tokens, statements_tokens, parameters_tokens, body_tokens, function_tokens, item_tokens, items_tokens, tokens}
+use Rattle.fk_sharing.specs.Tokens.{Standing, tree_tokens, links_tokens, trees_tokens, suffixes_tokens, optional_tokens, is_condition_shared, variables_tokens, variable_tokens, condition_tokens, head_tokens, parts_tokens, statement_tokens, statements_tokens, parameters_tokens, body_tokens, item_tokens, items_tokens, tokens}
 use Rattle.fk_sharing.specs.Collected.{within, outside}
 use Rattle.fk_sharing.specs.Retold.{around_of, retold}
 

@@ -12,7 +12,6 @@ use Rattle.fk_rules.specs.Rules.{number_of}
 use Rattle.fk_rules.specs.Least.{IsLeast, among}
 use Rattle.fk_names.specs.declared.names.Names.{Names}
 use Rattle.fk_names.specs.Names.{AreNames}
-use Rattle.fk_class.specs.declared.thing.Thing.{Thing}
 use Rattle.fk_class.specs.Things.{thing_in}
 use Rattle.fk_class.proofs.Telling.{names-tell, same-telling}
 use Rattle.fk_regions.proofs.Finding.{get-map}

@@ -1,5 +1,5 @@
 -- What stands round a token, as the code keeps it.
-use Rattle.std.specs.Prelude.{Bool, true, false, ◌||◌}
+use Rattle.std.specs.Prelude.{true, false, ◌||◌}
 use Rattle.fk_regions.specs.declared.around.Region.TheVariants.{Neither}
 use Rattle.fk_sharing.specs.declared.around.Holder.{Holder}
 use Rattle.fk_sharing.specs.declared.around.Holder.TheVariants.{Body, Branch, Loop}
