@@ -1,0 +1,5 @@
+pub mod Term
+pub mod Names
+pub mod Typing
+pub mod Broken
+pub mod Laws
