@@ -1,5 +1,5 @@
 -- The structs that structs hold, as a graph, and a fault among others.
-use Rattle.std.specs.Prelude.{◌≡◌, ℕ, ◌<◌, List, Option, Some, Vec, length, slice_get, Contains}
+use Rattle.std.specs.Prelude.{◌≡◌, ℕ, ◌<◌, List, Option, Some, Vec, length, Contains}
 use Rattle.std.specs.declared.alloc.Global.{Global}
 use Rattle.fk_rules.specs.declared.fault.Fault.{Fault}
 use Rattle.fk_rules.specs.Least.{Breaks}

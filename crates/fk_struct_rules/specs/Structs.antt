@@ -1,5 +1,5 @@
 -- The rules about structs where they are declared.
-use Rattle.std.specs.Prelude.{◌≡◌, ℕ, zero, suc, ◌<◌, List, Option, Some, None}
+use Rattle.std.specs.Prelude.{◌≡◌, ℕ, zero, ◌<◌, List, Option, Some, None}
 use Rattle.std.specs.Option.{option_and_then}
 use Rattle.fk_syntax.specs.Program.{DeclaredTree}
 use Rattle.fk_rules.specs.declared.rule.Rule.TheVariants as rules

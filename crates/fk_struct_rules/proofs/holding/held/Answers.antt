@@ -1,4 +1,4 @@
-use Rattle.std.proofs.Common.{◌≡◌, ◌++◌, sym, subst, ap, ◌∙◌}
+use Rattle.std.proofs.Common.{◌++◌, sym, subst, ap, ◌∙◌}
 use Rattle.std.specs.Option.{option_to_list}
 use Rattle.fk_structs.specs.Whole.{structs_in}
 use Rattle.fk_struct_rules.specs.Holding.{AreHeld}
