@@ -4,3 +4,4 @@ pub mod Clearing
 pub mod Marking
 pub mod Finding
 pub mod Settled
+pub mod Lockstep

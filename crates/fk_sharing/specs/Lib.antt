@@ -7,3 +7,4 @@ pub mod Judged
 pub mod Retold
 pub mod Marked
 pub mod Found
+pub mod Laws

@@ -6,6 +6,7 @@ mod around;
 mod check;
 mod collect;
 mod judge;
+pub mod laws;
 mod marks;
 mod token;
 

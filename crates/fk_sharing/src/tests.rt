@@ -71,6 +71,11 @@ fn split(alloc: Global) -> Result<Item<'static>, AllocError> {
 }
 
 #[test]
+fn laws_hold() {
+    crate::laws::splits_in_lockstep();
+}
+
+#[test]
 fn groups_split_by_private_conditions(rt: HostRuntime) -> Result<(), Fail> {
     let alloc = rt.alloc();
     let program = program(alloc, split(alloc)?)?;

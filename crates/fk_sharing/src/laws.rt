@@ -1,0 +1,8 @@
+//! Laws of where groups split.
+
+ghost use Rattle.fk_sharing.specs.Laws.{SplitsInLockstep};
+
+/// A group splits only at a token that stands in a synchronous region.
+pub fn splits_in_lockstep()
+    ensures { SplitsInLockstep }
+{}
