@@ -64,8 +64,8 @@ impl Value {
     }
 }
 
-/// Whether a value converts to a type: integers to each other, pointers to those of one type, to and
-/// from `void *`, and the number 0 to every pointer.
+/// Whether a value converts to a type: integers to each other, pointers to those of one type, to
+/// and from `void *`, and the number 0 to every pointer.
 pub fn converts(from: Operand, to: Value) -> bool
     ensures { result ≡ t.converts from to }
 {

@@ -132,10 +132,13 @@ does_convert from (Some to) = converts from to
 
 -- what an assignment by a sign takes: `=` what converts to the target's type, another what its sign
 -- takes
+abbrev pub does_sign_take : Sign → Option Value → Operand → Bool
+does_sign_take sign None from = false
+does_sign_take sign (Some to) from = is_some (option_and_then (λ within. binary within (record { value = to; is_zero = false }) from) (sign_within sign))
+
 abbrev pub does_assign : Sign → Option Value → Operand → Bool
 does_assign s.Assign to from = does_convert from to
-does_assign sign None from = false
-does_assign sign (Some to) from = is_some (option_and_then (λ within. binary within (record { value = to; is_zero = false }) from) (sign_within sign))
+does_assign sign to from = does_sign_take sign to from
 
 abbrev pub assigned : Sign → Option ExpressionType → Option Operand → Option ExpressionType
 assigned sign (Some target) (Some from) = if not (is_array target) && does_assign sign (value_of target) from then computed (value_of target) else None
