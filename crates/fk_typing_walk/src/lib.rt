@@ -1,0 +1,10 @@
+//! The types of the expressions of a program, and the first rule that each breaks.
+#![tactic(auto)]
+
+mod walk;
+
+pub use fk_parts::{Known, Part, Scope, Signature};
+pub use walk::expression;
+
+#[cfg(test)]
+mod tests;
