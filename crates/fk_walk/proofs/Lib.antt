@@ -1,0 +1,5 @@
+pub mod Arguments
+pub mod Last
+pub mod Lookups
+pub mod Printed
+pub mod Stepwise

@@ -1,0 +1,25 @@
+//! A walk over the operations of an expression, in the order in which its code has them.
+//!
+//! A visitor is shown each operation with its place, and where the ways of a choice part and meet
+//! again. No code is made, and no memory is taken.
+#![tactic(auto)]
+
+mod calls;
+mod expressions;
+mod known;
+mod standing;
+mod standings;
+mod tally;
+mod texts;
+mod tokens;
+mod types;
+mod visitor;
+
+pub use expressions::{expression, value};
+pub use known::{Framed, Known};
+pub use standing::Standing;
+pub use tally::Tally;
+pub use visitor::{Event, Mark, Visitor};
+
+#[cfg(test)]
+mod tests;
