@@ -1,14 +1,14 @@
 use Rattle.std.proofs.lemmas.List.{at_drop_all}
-use Rattle.std.proofs.Common.{◌≡◌, ◌+◌, false, slice_get, List, [], ◌∷◌, ◌++◌, map, drop, length, refl, sym, ap, subst, ◌∙◌}
+use Rattle.std.proofs.Common.{◌≡◌, ◌+◌, false, slice_get, [], ◌++◌, map, refl, sym, ap, subst, ◌∙◌}
 use Rattle.fk_syntax.specs.Tree as x
 use Rattle.fk_syntax.specs.Tree.{links_of, suffixes_of, trees_of}
 use Rattle.fk_syntax.specs.View.{named, type_of, tree_of, link_of, suffix_of}
-use Rattle.fk_syntax.proofs.Views.{tree_of-Number, tree_of-Puts, tree_of-Sizeof, tree_of-Named, tree_of-GroupNumber, tree_of-GroupRank, tree_of-Prefix, tree_of-Cast, tree_of-Chain, tree_of-Postfix, tree_of-Assign, tree_of-Choose, link_of_lem, suffix_of-Index, suffix_of-Call, suffix_of-Dot, suffix_of-Arrow, suffix_of-Up, suffix_of-Down}
+use Rattle.fk_syntax.proofs.Views.{tree_of-Number, tree_of-Puts, tree_of-Sizeof, tree_of-Named, tree_of-GroupNumber, tree_of-GroupRank, tree_of-Prefix, tree_of-Cast, tree_of-Chain, tree_of-Postfix, tree_of-Assign, tree_of-Choose, suffix_of-Index, suffix_of-Call, suffix_of-Dot, suffix_of-Arrow, suffix_of-Up, suffix_of-Down}
 use Rattle.fk_typing.specs.Term as m
 use Rattle.fk_typing.specs.Term.{Term, Terms, term_of, with_links, with_suffixes, with_arguments, count_of}
 use Rattle.fk_typing.specs.Typing.{noted, all_noted, parameters_of}
 use Rattle.fk_parts.specs.Scope.{meant_of, env_in}
-use Rattle.fk_typing_walk.specs.Read.{IsRead, AreRead}
+use Rattle.fk_typing_walk.specs.Read.{IsRead}
 use Rattle.fk_typing_walk.proofs.ReadLemmas.{notes-two, read-more, read-tree, read-suffix, link-step, suffix-step, argument-step, noted-prefix, noted-joined}
 use Rattle.fk_parts.proofs.PartLemmas.{both-same, three-same}
 use Rattle.fk_typing_walk.proofs.walk.+expression.Goals as goal
