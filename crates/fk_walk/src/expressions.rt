@@ -32,7 +32,6 @@ use fk_syntax::{Declared, Expr, Link, Name, Sign, Spot, Suffix};
 /// `None` where nothing follows, behind a call of what is no function. It takes no memory, and time
 /// linear in the expression.
 #[cycle(expression)]
-#[tactic(auto, using(crate::proofs::Stepwise::chain_first, crate::proofs::Stepwise::suffixes_first, crate::proofs::Stepwise::target_first))]
 pub fn expression<'t, V: Visitor>(
     known: &Known,
     visitor: &mut V,
@@ -508,7 +507,7 @@ fn call_declared<'t, V: Visitor>(
 
 // The arguments of a call, agreed for `sh` parameters.
 #[cycle(expression)]
-#[tactic(auto, using(crate::proofs::Arguments::no_arguments, crate::proofs::Arguments::no_parameters))]
+#[tactic(auto, using(crate::proofs::Arguments::no_parameters))]
 fn argue<V: Visitor>(
     known: &Known,
     visitor: &mut V,
