@@ -85,8 +85,14 @@ impl<'a> Part<'a> {
 
 // A value that is made of others, or of none.
 pub(crate) fn made<'a>(kind: Option<ExpressionType>, first: Place, fault: Option<Fault>) -> Part<'a>
-    ensures { result ≡ record { kind = kind; first = first; is_zero = false;
-        is_no_target = true; name = None; fault = fault } }
+    ensures { result ≡ record {
+      kind = kind;
+      first = first;
+      is_zero = false;
+      is_no_target = true;
+      name = None;
+      fault = fault;
+    } }
 {
     Part {
         kind,
@@ -104,8 +110,14 @@ pub(crate) fn stored<'a>(
     first: Place,
     fault: Option<Fault>,
 ) -> Part<'a>
-    ensures { result ≡ record { kind = kind; first = first; is_zero = false;
-        is_no_target = false; name = None; fault = fault } }
+    ensures { result ≡ record {
+      kind = kind;
+      first = first;
+      is_zero = false;
+      is_no_target = false;
+      name = None;
+      fault = fault;
+    } }
 {
     Part {
         kind,
