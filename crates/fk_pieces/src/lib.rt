@@ -7,3 +7,6 @@ mod pieces;
 
 pub use piece::{Piece, Role};
 pub use pieces::Pieces;
+
+#[cfg(test)]
+mod tests;
