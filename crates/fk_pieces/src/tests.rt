@@ -37,7 +37,7 @@ fn text(alloc: Global) -> Result<Vec<Item<'static>>, AllocError> {
         params: Vec::new(alloc),
         body: Some(body),
     };
-    vec![in alloc; Item::Function(function)]
+    Ok(vec![in alloc; Item::Function(function)]?)
 }
 
 #[test]
