@@ -45,9 +45,9 @@ fn pieces_stand_in_the_order_of_the_text(rt: HostRuntime) -> Result<(), Fail> {
     let items = text(rt.alloc())?;
     let pieces = Pieces::of(rt.alloc(), &items)?;
     assert_eq!(rt; pieces.list().len(), 4);
-    assert!(rt; matches!(pieces.list()[0], Piece::Header(_)));
-    assert!(rt; matches!(pieces.list()[1], Piece::Used(Role::Alone, _)));
-    assert!(rt; matches!(pieces.list()[2], Piece::Used(Role::Condition, _)));
-    assert!(rt; matches!(pieces.list()[3], Piece::Return(_, _, _)));
+    assert!(rt; matches!(&pieces.list()[0], Piece::Header(_)));
+    assert!(rt; matches!(&pieces.list()[1], Piece::Used(Role::Alone, _)));
+    assert!(rt; matches!(&pieces.list()[2], Piece::Used(Role::Condition, _)));
+    assert!(rt; matches!(&pieces.list()[3], Piece::Return(_, _, _)));
     Ok(())
 }
