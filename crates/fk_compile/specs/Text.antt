@@ -1,5 +1,6 @@
 -- What a text is: its tokens, its tree, and its program.
-use Rattle.std.specs.Prelude.{ℕ, List, Option}
+use Rattle.std.specs.Prelude.{◌≡◌, ℕ, Bool, true, List, Option}
+use Rattle.std.specs.Option.{option_map}
 use Rattle.fk_syntax.specs.Program.{ProgramTree}
 use Rattle.fk_lex.specs.Reading.{Spelled, Tokens}
 use Rattle.fk_reading.specs.declared.fault.SyntaxFault.{SyntaxFault}
@@ -32,10 +33,24 @@ pub record IsNotStraight (source : List ℕ) : Type 0 where
   pub parsed : HasTree source tree
   pub none : trees.IsNotStraight tree
 
--- a text has the tree of a straight-line program, and the variable that it declares under a name has this number, if
--- it declares one: that of its word among the words of shared data
-pub record HasGlobal (source name : List ℕ) (number : Option ℕ) : Type 0 where
+-- where a shared variable of file scope stands among the words of shared data: from its first word on so many, which
+-- are shown as signed or as unsigned numbers
+pub record Row : Type 0 where
+  pub name : List ℕ
+  pub first : ℕ
+  pub words : ℕ
+  pub signed : Bool
+
+-- the variable of a number is an `int`: its one word is the word of that number
+abbrev pub int_row : List ℕ → ℕ → Row
+int_row name number = record { name = name; first = number; words = 1; signed = true }
+
+-- a text has the tree of a straight-line program, and the variable that it declares under a name has this row, if it
+-- declares one
+pub record HasGlobal (source name : List ℕ) (row : Option Row) : Type 0 where
   pub tree : ProgramTree
   pub parsed : HasTree source tree
   pub straight : trees.IsStraight tree
+  pub number : Option ℕ
   pub variable : trees.HasVariable tree name number
+  pub is : row ≡ option_map (int_row name) number

@@ -17,5 +17,5 @@ mod tests;
 mod text;
 
 pub use compiler::compile;
-pub use global::find_global;
+pub use global::{GlobalRow, find_global};
 pub use refusal::Refusal;

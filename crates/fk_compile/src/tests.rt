@@ -1,6 +1,6 @@
 use crate::compiler::compile;
 use crate::generate::generate;
-use crate::global::find_global;
+use crate::global::{GlobalRow, find_global};
 use crate::refusal::Refusal;
 use fk_meaning::syntax::Program;
 use std::test::Fail;
@@ -50,10 +50,32 @@ fn a_text_is_compiled_or_refused_by_its_tree(rt: HostRuntime) -> Result<(), Fail
 #[test]
 fn a_global_stands_where_its_declaration_does(rt: HostRuntime) -> Result<(), Fail> {
     let text: &[u8] = b"sh int x; sh int y; void main(void) { y = 1; }";
-    assert_eq!(rt; find_global(rt.alloc(), text, b"x")?, Some(0));
-    assert_eq!(rt; find_global(rt.alloc(), text, b"y")?, Some(1));
-    assert_eq!(rt; find_global(rt.alloc(), text, b"main")?, None);
-    assert_eq!(rt; find_global(rt.alloc(), text, b"")?, None);
+    let x = find_global(rt.alloc(), text, b"x")?;
+    assert!(rt;
+        matches!(
+            x,
+            Some(GlobalRow {
+                first: 0,
+                words: 1,
+                signed: true,
+                ..
+            })
+        )
+    );
+    let y = find_global(rt.alloc(), text, b"y")?;
+    assert!(rt;
+        matches!(
+            y,
+            Some(GlobalRow {
+                first: 1,
+                words: 1,
+                signed: true,
+                ..
+            })
+        )
+    );
+    assert!(rt; find_global(rt.alloc(), text, b"main")?.is_none());
+    assert!(rt; find_global(rt.alloc(), text, b"")?.is_none());
     let other = find_global(rt.alloc(), b"sh int x; void main(void) { start { } }", b"x");
     assert!(rt; matches!(&other, Err(Refusal::NotBuilt)));
     Ok(())

@@ -3,6 +3,7 @@ use Rattle.std.proofs.Common.{◌≡◌, ◌≢◌, ℕ, List, Option, Some, Non
 use Rattle.std.specs.Option.{option_map}
 use Rattle.fk_ports.specs.Files.{Files}
 use Rattle.fk_image.specs.declared.Image.{Image}
+use Rattle.fk_compile.specs.Text.{Row}
 use Rattle.fk_top.specs.declared.ending.Ending.{Ending}
 use Rattle.fk_top.specs.declared.ending.PutFile.{PutFile}
 use Rattle.fk_top.specs.declared.report.Report.TheVariants as reports
@@ -12,7 +13,7 @@ use Rattle.fk_words.specs.Command.{Command, Run, Build, Exec, ListCode, Reads}
 use Rattle.fk_top.specs.Words.{IsBuild}
 use Rattle.fk_top.specs.Report.{line_of}
 use Rattle.fk_top.specs.Ending.{outcome_of, put_of}
-use Rattle.fk_top.specs.Outcome.{Variable, Outcome, EndsOn, ComesTo, silent}
+use Rattle.fk_top.specs.Outcome.{Outcome, EndsOn, ComesTo, silent}
 use Rattle.fk_top.specs.Call.{Given, Request, Sunk, call_of, Ends, HasCause}
 
 -- the same request, with an equal count of faults
@@ -31,7 +32,7 @@ same_cause request files old new faults first after out err status d e cause =
     (subst (λ f. HasCause (call_of request (record { files = record { before = f; after = new }; faults = record { before = faults; after = after } }) out err) status) d cause)
 
 -- a command that is no build puts nothing
-nothing_run : (image : Image) (text : List ℕ) (p n : ℕ) (shown : Option Variable) (outcome : Outcome) → EndsOn image text p n shown outcome → outcome.put ≡ None
+nothing_run : (image : Image) (text : List ℕ) (p n : ℕ) (shown : Option Row) (outcome : Outcome) → EndsOn image text p n shown outcome → outcome.put ≡ None
 nothing_run image text p n shown outcome (inl r) = ap (λ (o : Outcome). o.put) r.is
 nothing_run image text p n shown outcome (inr r) = ap (λ (o : Outcome). o.put) r.is
 

@@ -1,6 +1,6 @@
 -- Which answers come where no fault rose.
 use Rattle.std.proofs.Common.{◌≡◌, ℕ, ◌≤◌, Bool, true, false, List, [], ◌∷◌, Option, Some, None, Ok, Err, IsSome, take, length, refl, sym, ap, subst, ◌∙◌, arith, ◌⊎◌, inl, inr}
-use Rattle.std.specs.Prelude.{IfSome, IsSomeAnd, nat_lt, vec_len}
+use Rattle.std.specs.Prelude.{IfSome, IsSomeAnd, nat_lt, option_map, vec_len}
 use Rattle.std.proofs.lemmas.Bool.{ltb-true, ltb-false, lt-ltb}
 use Rattle.std.proofs.lemmas.List.{take_all, length-take, length-replicate}
 use Rattle.fk_syntax.specs.Program.{ProgramTree}
@@ -18,12 +18,12 @@ use Rattle.fk_meaning.specs.declared.syntax.Program.{Program}
 use Rattle.fk_straight.specs.Straight as trees
 use Rattle.fk_straight.specs.Straight.{HasVariable}
 use Rattle.fk_straight.proofs.TreeLemmas.{one_program}
-use Rattle.fk_compile.specs.Text.{IsStraight, HasGlobal}
+use Rattle.fk_compile.specs.Text.{IsStraight, Row, int_row, HasGlobal}
 use Rattle.fk_compile.specs.Faithful.{IsFaithful}
 use Rattle.fk_top.specs.declared.status.Status.{Status}
 use Rattle.fk_top.specs.declared.status.Status.TheVariants.{Done, Refused, Usage, ReadFault, WriteFault, Memory, SourceFault, CycleBound, Trap, ImageRefused, InputRefused}
 use Rattle.fk_top.specs.Words.{Runs, IsBuild, file_of, most_bytes, most_input}
-use Rattle.fk_top.specs.Outcome.{Variable, Outcome, EndsOn, ComesTo, RefusesSource, RefusesImage, LacksGlobal, IsShown, IsBuiltFrom, most_numbers}
+use Rattle.fk_top.specs.Outcome.{Outcome, EndsOn, ComesTo, RefusesSource, RefusesImage, LacksGlobal, IsShown, IsBuiltFrom, most_numbers}
 use Rattle.fk_top.specs.Refused.{IsRefusedAs, IsNoImageAs}
 use Rattle.fk_top.specs.Call.{Call, Request, Ends, IsUnread, IsFileUnread, IsInputUnread, IsCut, IsOutOfMemory, HasEnded, HasCause, IsInOrder, IsReadable, IsAccepted, IsInputBeside, IsOfStand, IsOfAccepted, IsOfUnreadable, IsOfUnaccepted, IsText, IsImage, Puts, AreCut}
 use Rattle.fk_top.proofs.Readable.{whole, same_tree, variable_there, text_accepted, image_accepted, image_short}
@@ -97,7 +97,7 @@ nothing_put : (outcome other : Outcome) → outcome ≡ other → other.put ≡ 
 nothing_put outcome other is none some = let e = ap (λ (o : Outcome). o.put) is ∙ none in cc
 
 -- only a build puts
-no_put_run : (image : Image) (text : List ℕ) (p n : ℕ) (shown : Option Variable) (outcome : Outcome) → EndsOn image text p n shown outcome → IsSome outcome.put → ⊥
+no_put_run : (image : Image) (text : List ℕ) (p n : ℕ) (shown : Option Row) (outcome : Outcome) → EndsOn image text p n shown outcome → IsSome outcome.put → ⊥
 no_put_run image text p n shown outcome (inl r) some = nothing_put outcome _ r.is refl some
 no_put_run image text p n shown outcome (inr r) some = nothing_put outcome _ r.is refl some
 
@@ -200,20 +200,32 @@ not_image_refused : (bytes : List ℕ) (outcome : Outcome) → IsImage bytes →
 not_image_refused bytes outcome image r =
     image_accepted bytes r.report image (subst (λ (b : List ℕ). IsNoImageAs b r.report) (read_image bytes image.0 image.1) r.refused)
 
--- a variable of a name is one that the tree has
-global_there : (source name : List ℕ) (word : ℕ) → HasGlobal source name None → HasGlobal source name (Some word) → ⊥
-global_there source name word none some =
-    let same = same_tree source some.tree none.tree some.parsed none.parsed in
-    variable_there none.tree name word none.variable (subst (λ (t : ProgramTree). HasVariable t name (Some word)) same some.variable)
+-- there is a row exactly where there is a number
+no_number : (name : List ℕ) (number : Option ℕ) → None ≡ option_map (int_row name) number → number ≡ None
+no_number name None e = refl
+no_number name (Some n) e = absurd cc
 
-asked_there : (source : List ℕ) (show : Option Text) (shown : Option Variable) (name : Text) → IsShown source show shown → show ≡ Some name → HasGlobal source name None → ⊥
+a_number : (name : List ℕ) (row : Row) (number : Option ℕ) → Some row ≡ option_map (int_row name) number → (n : ℕ) × (number ≡ Some n)
+a_number name row None e = absurd cc
+a_number name row (Some n) e = (n, refl)
+
+-- a variable of a name is one that the tree has
+global_there : (source name : List ℕ) (row : Row) → HasGlobal source name None → HasGlobal source name (Some row) → ⊥
+global_there source name row none some =
+    let n = a_number name row some.number some.is in
+    let same = same_tree source some.tree none.tree some.parsed none.parsed in
+    let here = subst (λ (k : Option ℕ). HasVariable some.tree name k) n.1 some.variable in
+    let absent = subst (λ (k : Option ℕ). HasVariable none.tree name k) (no_number name none.number none.is) none.variable in
+    variable_there none.tree name n.0 absent (subst (λ (t : ProgramTree). HasVariable t name (Some n.0)) same here)
+
+asked_there : (source : List ℕ) (show : Option Text) (shown : Option Row) (name : Text) → IsShown source show shown → show ≡ Some name → HasGlobal source name None → ⊥
 asked_there source None shown name is e none = absurd (cc)
 asked_there source (Some other) None name is e none = absurd is
-asked_there source (Some other) (Some variable) name is e none =
+asked_there source (Some other) (Some row) name is e none =
     let same : other ≡ name = cc in
-    global_there source name variable.word none (subst (λ (n : Text). HasGlobal source n (Some variable.word)) same is.1)
+    global_there source name row none (subst (λ (n : Text). HasGlobal source n (Some row)) same is)
 
-not_lacking : (source : List ℕ) (show : Option Text) (outcome : Outcome) (shown : Option Variable) → IsText source → IsShown source show shown → LacksGlobal (take 1048577 source) show outcome → ⊥
+not_lacking : (source : List ℕ) (show : Option Text) (outcome : Outcome) (shown : Option Row) → IsText source → IsShown source show shown → LacksGlobal (take 1048577 source) show outcome → ⊥
 not_lacking source show outcome shown text is r =
     asked_there source show shown r.name is r.asked (subst (λ (s : List ℕ). HasGlobal s r.name None) (read_text source text) r.none)
 
@@ -256,7 +268,7 @@ same_image bytes a b is other = (one_image bytes a b is other).globals
 -- ---- what is in order
 
 -- what comes of an image and an input that is in order beside its globals
-accepted_run : (image : Image) (text : List ℕ) (p n globals : ℕ) (shown : Option Variable) (outcome : Outcome) (status : Status) → vec_len image.globals ≡ globals
+accepted_run : (image : Image) (text : List ℕ) (p n globals : ℕ) (shown : Option Row) (outcome : Outcome) (status : Status) → vec_len image.globals ≡ globals
     → IsInputBeside globals text → outcome.status ≡ status → EndsOn image (take 1048577 text) p n shown outcome → IsOfStand image text p n status
 accepted_run image text p n globals shown outcome status count input same (inl r) =
     absurd (not_beside (vec_len image.globals) globals text r.fault count r.refused input)

@@ -11,10 +11,11 @@ use Rattle.fk_compile.specs.Laws.{IsUnfaulted}
 use Rattle.fk_compile.proofs.Unfaulted.{never_faults}
 use Rattle.fk_words.specs.Arguments.{Text}
 use Rattle.fk_words.specs.Command.{Command, Run, Build, Exec, ListCode, Reads, ReadsRun}
+use Rattle.fk_compile.specs.Text.{Row}
 use Rattle.fk_top.specs.declared.status.Status.{Status}
 use Rattle.fk_top.specs.declared.status.Status.TheVariants.{Done, Refused, SourceFault, CycleBound, Trap, ImageRefused, InputRefused}
 use Rattle.fk_top.specs.Words.{Runs, IsRun, IsExec}
-use Rattle.fk_top.specs.Outcome.{Variable, Outcome, EndsOn, ComesTo, status_of}
+use Rattle.fk_top.specs.Outcome.{Outcome, EndsOn, ComesTo, status_of}
 use Rattle.fk_top.proofs.Inputs.{is_input}
 
 -- the command reads a source, or bytes of an image, or runs an image of bytes
@@ -85,7 +86,7 @@ of_stand image harts cycles (Trapped hart pc kind) = tt
 is_of : (command : Command) (outcome other : Outcome) → outcome ≡ other → IsOf other.status command → IsOf outcome.status command
 is_of command outcome other same is = subst (λ (o : Outcome). IsOf o.status command) (sym same) is
 
-of_source : (source text : List ℕ) (image : Image) (f : Text) (p n : ℕ) (show : Option Text) (shown : Option Variable) (outcome : Outcome) → IsFaithful source image → IsWithin p n → EndsOn image text p n shown outcome → IsOf outcome.status (Run f p n show)
+of_source : (source text : List ℕ) (image : Image) (f : Text) (p n : ℕ) (show : Option Text) (shown : Option Row) (outcome : Outcome) → IsFaithful source image → IsWithin p n → EndsOn image text p n shown outcome → IsOf outcome.status (Run f p n show)
 of_source source text image f p n show shown outcome faithful bounds (inl r) = is_of (Run f p n show) outcome _ r.is tt
 of_source source text image f p n show shown outcome faithful bounds (inr r) =
     let input = is_input image text r.input faithful.faithful.limits r.numbers in

@@ -8,7 +8,7 @@ use Rattle.fk_meaning.specs.declared.syntax.Program.{Program}
 use Rattle.fk_image.specs.declared.Image.{Image}
 use Rattle.fk_image.specs.Spelling.{IsImageOf}
 use Rattle.fk_machine.specs.Run.{machine}
-use Rattle.fk_compile.specs.Text.{IsStraight}
+use Rattle.fk_compile.specs.Text.{IsStraight, Row}
 use Rattle.fk_input.specs.Input.{input_of}
 use Rattle.fk_words.specs.Command.{Command, Run, Build, Exec, ListCode, Reads}
 use Rattle.fk_top.specs.declared.report.Report.TheVariants as reports
@@ -16,7 +16,7 @@ use Rattle.fk_top.specs.declared.status.Status.{Status}
 use Rattle.fk_top.specs.declared.status.Status.TheVariants.{Done, Refused, Usage, ReadFault, WriteFault, Memory, SourceFault, Trap, ImageRefused, InputRefused}
 use Rattle.fk_top.specs.Words.{Runs, IsRun, IsBuild, IsExec, file_of, most_bytes, most_input}
 use Rattle.fk_top.specs.Report.{line_of}
-use Rattle.fk_top.specs.Outcome.{Put, Outcome, silent, status_of, Variable, IsShown, most_numbers, numbers_for, IsBuiltFrom, ComesTo}
+use Rattle.fk_top.specs.Outcome.{Put, Outcome, silent, status_of, IsShown, most_numbers, numbers_for, IsBuiltFrom, ComesTo}
 
 -- ---- the outside, before and after a call
 
@@ -238,7 +238,7 @@ IsImage bytes = (image : Image) × IsImageOf bytes image
 
 -- the file that a command reads is in order: a text, which has the variable that is to be shown, or an image
 abbrev pub IsReadable : Command → List ℕ → Type 0
-IsReadable (Run file harts cycles show) source = IsText source × (shown : Option Variable) × IsShown source show shown
+IsReadable (Run file harts cycles show) source = IsText source × (shown : Option Row) × IsShown source show shown
 IsReadable (Build file image) source = IsText source
 IsReadable (Exec image harts cycles) bytes = IsImage bytes
 IsReadable (ListCode image) bytes = IsImage bytes

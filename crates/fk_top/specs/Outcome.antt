@@ -1,5 +1,6 @@
 -- What a command comes to over the file and the input that it reads.
-use Rattle.std.specs.Prelude.{◌≡◌, ℕ, ◌+◌, ◌-◌, ◌≤◌, ◌⊎◌, List, [], ◌∷◌, ◌++◌, length, min, vec_len, slice_get, Option, Some, None, Result, Ok, Err}
+use Rattle.std.specs.Prelude.{◌≡◌, ℕ, ◌+◌, ◌-◌, ◌≤◌, ◌⊎◌, List, [], ◌∷◌, ◌++◌, length, map, min, vec_len, slice_get, Option, Some, None, Result, Ok, Err}
+use Rattle.std.specs.List.{range_with_len}
 use Rattle.fk_image.specs.declared.Image.{Image}
 use Rattle.fk_image.specs.Spelling.{IsImageOf}
 use Rattle.fk_asm.specs.Listing as lines
@@ -11,7 +12,7 @@ use Rattle.fk_machine.specs.declared.stand.Stand.{Stand}
 use Rattle.fk_machine.specs.declared.stand.Stand.TheVariants.{Running, Finished, Faulted, Trapped}
 use Rattle.fk_machine.specs.Cycle.{Machine}
 use Rattle.fk_machine.specs.Run.{machine, output_of}
-use Rattle.fk_compile.specs.Text.{HasGlobal}
+use Rattle.fk_compile.specs.Text.{Row, HasGlobal}
 use Rattle.fk_compile.specs.Faithful.{IsFaithful}
 use Rattle.fk_top.specs.declared.kinds.FaultKind.TheVariants as fault
 use Rattle.fk_top.specs.declared.report.Report.{Report}
@@ -59,18 +60,17 @@ stand_report image bound Running cycles = reports.Stopped bound
 stand_report image bound (Faulted site hart) cycles = fault_report (slice_get image.sites.items site) hart cycles
 stand_report image bound (Trapped hart pc kind) cycles = reports.Trap (trap_kind kind) pc hart cycles
 
--- a variable that is shown: its name, and the index of its word
-pub record Variable : Type 0 where
-  pub name : Text
-  pub word : ℕ
+-- the words of a variable, as the machine has them
+abbrev pub words_in : Machine → Row → List ℕ
+words_in m row = map m.shared.words (range_with_len row.first row.words)
 
 -- the line of a variable behind the output, if one is shown, as the machine has it
-abbrev pub with_shown : List ℕ → Option Variable → Machine → List ℕ
+abbrev pub with_shown : List ℕ → Option Row → Machine → List ℕ
 with_shown output None m = output
-with_shown output (Some variable) m = output ++ show_line variable.name (m.shared.words variable.word)
+with_shown output (Some row) m = output ++ show_line row.name row.signed (words_in m row)
 
 -- what the machine of an image comes to over these input numbers after at most so many cycles
-abbrev pub ran : Image → List ℕ → ℕ → ℕ → Option Variable → Outcome
+abbrev pub ran : Image → List ℕ → ℕ → ℕ → Option Row → Outcome
 ran image input harts bound shown =
     let m = machine image input harts bound in
     record {
@@ -134,9 +134,9 @@ pub record LacksGlobal (source : List ℕ) (show : Option Text) (outcome : Outco
   pub is : outcome ≡ silent Refused (no_global_line name)
 
 -- the variable of the name that is asked for, if one is
-abbrev pub IsShown : List ℕ → Option Text → Option Variable → Type 0
+abbrev pub IsShown : List ℕ → Option Text → Option Row → Type 0
 IsShown source None None = Unit {0}
-IsShown source (Some name) (Some variable) = (variable.name ≡ name) × HasGlobal source name (Some variable.word)
+IsShown source (Some name) (Some row) = HasGlobal source name (Some row)
 IsShown source _ _ = ⊥
 
 -- where there are so many globals an input has at most so many numbers: 65,536, and with the globals 524,288
@@ -156,20 +156,20 @@ pub record RefusesInput (image : Image) (text : List ℕ) (outcome : Outcome) : 
   pub is : outcome ≡ silent InputRefused (line_of report)
 
 -- the machine of an image ran over the numbers of the text, and the variable was shown
-pub record RunsOn (image : Image) (text : List ℕ) (harts cycles : ℕ) (shown : Option Variable) (outcome : Outcome) : Type 0 where
+pub record RunsOn (image : Image) (text : List ℕ) (harts cycles : ℕ) (shown : Option Row) (outcome : Outcome) : Type 0 where
   pub input : List ℕ
   pub numbers : numbers_for image text ≡ Ok input
   pub is : outcome ≡ ran image input harts cycles shown
 
 -- what comes of an image and an input text
-abbrev pub EndsOn : Image → List ℕ → ℕ → ℕ → Option Variable → Outcome → Type 0
+abbrev pub EndsOn : Image → List ℕ → ℕ → ℕ → Option Row → Outcome → Type 0
 EndsOn image text harts cycles shown outcome = RefusesInput image text outcome ⊎ RunsOn image text harts cycles shown outcome
 
 -- an image of the source was run, and the variable was shown; or the input was refused
 pub record RunsSource (source text : List ℕ) (harts cycles : ℕ) (show : Option Text) (outcome : Outcome) : Type 0 where
   pub image : Image
   pub compiled : IsBuiltFrom source image
-  pub shown : Option Variable
+  pub shown : Option Row
   pub is_shown : IsShown source show shown
   pub ends : EndsOn image text harts cycles shown outcome
 

@@ -1,5 +1,5 @@
 -- The report lines.
-use Rattle.std.specs.Prelude.{ℕ, List, [], ◌∷◌, ◌++◌, ◌==◌, if◌then◌else◌, codes}
+use Rattle.std.specs.Prelude.{ℕ, Bool, true, false, List, [], ◌∷◌, ◌++◌, ◌==◌, if◌then◌else◌, codes, flat_map}
 use Rattle.std.specs.Fmt.{decimal, signed_decimal}
 use Rattle.fk_num.specs.Word.{signed}
 use Rattle.fk_syntax.specs.declared.place.Place.{Place}
@@ -90,6 +90,14 @@ line_of report = text_of report ++ 10 ∷ []
 abbrev pub no_global_line : List ℕ → List ℕ
 no_global_line name = codes "refused 23 NoGlobal " ++ name ++ 10 ∷ []
 
--- the line that shows a variable: its name, and its word as a signed number
-abbrev pub show_line : List ℕ → ℕ → List ℕ
-show_line name word = name ++ codes " = " ++ signed_decimal (signed word) ++ 10 ∷ []
+-- a word as a signed or an unsigned number, with a blank before it
+abbrev pub word_text : Bool → ℕ → List ℕ
+word_text true word = 32 ∷ signed_decimal (signed word)
+word_text false word = 32 ∷ decimal word
+
+abbrev pub words_text : Bool → List ℕ → List ℕ
+words_text are_signed words = flat_map (word_text are_signed) words
+
+-- the line that shows a variable: its name, and its words as numbers
+abbrev pub show_line : List ℕ → Bool → List ℕ → List ℕ
+show_line name are_signed words = name ++ codes " =" ++ words_text are_signed words ++ 10 ∷ []

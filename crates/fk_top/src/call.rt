@@ -4,13 +4,14 @@ ghost use Rattle.std.specs.Prelude.{◌≡◌, ◌≢◌, ◌⊎◌, None, flat_
 ghost use Rattle.std.specs.Io.KnownBytes.{append_known};
 ghost use Rattle.fk_ports.specs.Faults.{HasRisen};
 ghost use Rattle.fk_ports.specs.Known.{TakesPrefix};
-ghost use Rattle.fk_top.specs.Ending.{last_line, outcome_of, put_of, with_line};
+ghost use Rattle.fk_top.specs.Ending.{last_line, outcome_of, put_of, shown_line, with_line};
+ghost use Rattle.fk_top.specs.Report.{word_text, words_text};
 ghost use Rattle.fk_top.specs.Call.{Ends, FailedToPut, HasCause, HasPut, IsAnswer, Request, call_of, given_of, request_of, stored_of, sunk_of};
 
 use crate::ending::{Ending, LastLine, PutFile, Shown};
 use crate::find::find_ending;
 use crate::status::Status;
-use fk_num::signed_text;
+use fk_num::{signed_text, unsigned_text};
 use fk_ports::{Failed, Sink, Source, Store, StoreFault, give_all};
 use std::alloc::{AllocError, Global};
 
@@ -87,21 +88,51 @@ fn give_output<K: Sink>(out: &mut K, output: &[u8], shown: &Option<Shown>) -> Re
     ensures fault { OnErr result (HasRisen (K.faults out.old) (K.faults out.new)) }
     ensures steady { OnOk result (K.faults out.new ≡ K.faults out.old) }
 {
+    give_all(out, output)?;
     match shown {
-        None => give_all(out, output),
-        Some(shown) => {
-            let word = signed_text(shown.word);
-            give_pieces(
-                out,
-                &[
-                    output,
-                    shown.name.as_bytes(),
-                    b" = ",
-                    word.as_slice(),
-                    b"\n",
-                ],
-            )
-        }
+        Some(shown) => give_shown(out, shown),
+        None => Ok(()),
+    }
+}
+
+// Gives the line of a variable that is shown.
+fn give_shown<K: Sink>(out: &mut K, shown: &Shown) -> Result<(), Failed>
+    ensures all { OnOk result (K.taken out.new ≡ append_known (K.taken out.old) (shown_line shown.now)) }
+    ensures prefix { OnErr result (TakesPrefix (K.taken out.old) (K.taken out.new) (shown_line shown.now)) }
+    ensures fault { OnErr result (HasRisen (K.faults out.old) (K.faults out.new)) }
+    ensures steady { OnOk result (K.faults out.new ≡ K.faults out.old) }
+{
+    give_pieces(out, &[shown.name.as_bytes(), b" ="])?;
+    give_words(out, shown.words.as_slice(), shown.signed)?;
+    give_all(out, b"\n")
+}
+
+// Gives words as numbers, with a blank before each.
+fn give_words<K: Sink>(out: &mut K, words: &[u32], signed: bool) -> Result<(), Failed>
+    ensures all { OnOk result (K.taken out.new ≡ append_known (K.taken out.old) (words_text signed words.now)) }
+    ensures prefix { OnErr result (TakesPrefix (K.taken out.old) (K.taken out.new) (words_text signed words.now)) }
+    ensures fault { OnErr result (HasRisen (K.faults out.old) (K.faults out.new)) }
+    ensures steady { OnOk result (K.faults out.new ≡ K.faults out.old) }
+{
+    for word in words {
+        give_word(out, *word, signed)?;
+    }
+    Ok(())
+}
+
+// Gives a word as a number, with a blank before it.
+fn give_word<K: Sink>(out: &mut K, word: u32, signed: bool) -> Result<(), Failed>
+    ensures all { OnOk result (K.taken out.new ≡ append_known (K.taken out.old) (word_text signed word)) }
+    ensures prefix { OnErr result (TakesPrefix (K.taken out.old) (K.taken out.new) (word_text signed word)) }
+    ensures fault { OnErr result (HasRisen (K.faults out.old) (K.faults out.new)) }
+    ensures steady { OnOk result (K.faults out.new ≡ K.faults out.old) }
+{
+    if signed {
+        let number = signed_text(word);
+        give_pieces(out, &[b" ", number.as_slice()])
+    } else {
+        let number = unsigned_text(word);
+        give_pieces(out, &[b" ", number.as_slice()])
     }
 }
 

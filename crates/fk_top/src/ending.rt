@@ -17,11 +17,13 @@ pub struct PutFile<'a> {
 }
 
 /// A variable that is shown.
-#[derive(Clone, Copy)]
+#[derive(Drop)]
 pub struct Shown<'a> {
     pub name: &'a str,
-    /// Its word at the end.
-    pub word: u32,
+    /// Its words at the end.
+    pub words: Vec<u32>,
+    /// Whether they are shown as signed numbers.
+    pub signed: bool,
 }
 
 /// The last line that a call writes, to standard error.

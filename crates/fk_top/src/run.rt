@@ -5,7 +5,7 @@ ghost use Rattle.fk_image.specs.Limits.{IsWithinLimits};
 ghost use Rattle.fk_machine.specs.Run.{machine, output_of};
 ghost use Rattle.fk_machine.specs.View.{machine_of};
 ghost use Rattle.fk_top.specs.Ending.{outcome_of, variable_of, with_line};
-ghost use Rattle.fk_top.specs.Outcome.{EndsOn, most_numbers, with_shown};
+ghost use Rattle.fk_top.specs.Outcome.{EndsOn, most_numbers, with_shown, words_in};
 
 use crate::ending::{Ending, LastLine, Shown, refused};
 use crate::refused::input_report_of;
@@ -103,19 +103,38 @@ fn run_image<'a>(
     machine.run(bound, &mut output)?;
     Ok(Ran {
         output,
-        shown: show(&machine, variable),
+        shown: show(alloc, &machine, variable)?,
         stand: machine.stand(),
         cycles: machine.cycles(),
     })
 }
 
 // A variable, as the machine has it.
-fn show<'a>(machine: &Machine, variable: Option<Variable<'a>>) -> Option<Shown<'a>>
-    ensures { (output : List ℕ) → with_line output result ≡ with_shown output (option_map variable_of variable.entry) (machine_of machine.now) }
+fn show<'a>(
+    alloc: Global,
+    machine: &Machine,
+    variable: Option<Variable<'a>>,
+) -> Result<Option<Shown<'a>>, AllocError>
+    ensures { IfOk result (λ shown. (output : List ℕ)
+        → with_line output shown ≡ with_shown output (option_map variable_of variable.entry) (machine_of machine.now)) }
 {
-    let variable = variable?;
-    Some(Shown {
+    let Some(variable) = variable else {
+        return Ok(None);
+    };
+    Ok(Some(Shown {
         name: variable.name,
-        word: machine.word(variable.word),
-    })
+        words: words_of(alloc, machine, variable)?,
+        signed: variable.signed,
+    }))
+}
+
+// The words of a variable, as the machine has them.
+fn words_of(alloc: Global, machine: &Machine, variable: Variable) -> Result<Vec<u32>, AllocError>
+    ensures { IfOk result (λ words. words.items ≡ words_in (machine_of machine.now) (variable_of variable.entry)) }
+{
+    let mut words = Vec::with_capacity(alloc, variable.words as usize)?;
+    for index in 0..variable.words {
+        words.push(machine.word(variable.first + index))?;
+    }
+    Ok(words)
 }

@@ -49,7 +49,15 @@ fn run_and_show<'a>(
         return run_ending(alloc, image, text, run, None);
     };
     match find_global(alloc, source, name.as_bytes()) {
-        Ok(Some(word)) => run_ending(alloc, image, text, run, Some(Variable { name, word })),
+        Ok(Some(row)) => {
+            let variable = Variable {
+                name,
+                first: row.first,
+                words: row.words,
+                signed: row.signed,
+            };
+            run_ending(alloc, image, text, run, Some(variable))
+        }
         Ok(None) => Ok(no_global(alloc, name)),
         Err(refusal) => refused(alloc, Status::Refused, report_of(refusal)),
     }

@@ -1,12 +1,14 @@
 //! A variable that is to be shown.
 
-ghost use Rattle.std.specs.Prelude.{◌<◌};
+ghost use Rattle.std.specs.Prelude.{◌≤◌, ◌+◌};
 
-/// A variable that is to be shown.
+/// A variable that is to be shown: its words stand in shared data from the first one on.
 #[derive(Clone, Copy)]
 pub struct Variable<'a> {
     pub name: &'a str,
-    /// The index of its word in shared data.
-    pub word: u32,
-    ghost few: { word < 524288 },
+    pub first: u32,
+    pub words: u32,
+    /// Whether the words are shown as signed numbers.
+    pub signed: bool,
+    ghost few: { first + words ≤ 524288 },
 }

@@ -22,7 +22,7 @@ returns-clause-output c =
     ∙ sym (output_of-after c.args.image.now c.args.input.now c.args.harts bound) in
     let end = c.in_ok-run.ensures.machine ∙ ap (after bound) c.in_ok-machine.ensures ∙ sym (machine-after c.args.image.now c.args.input.now c.args.harts bound) in
     let shown = option_map variable_of c.args.variable in
-    c.show.ensures c.run.new.output.items
+    c.in_ok-show.ensures c.run.new.output.items
     ∙ ap (λ bytes. with_shown bytes shown (machine_of c.run.new.self)) output
     ∙ ap (λ (m : Machine). with_shown (output_of c.args.image.now c.args.input.now c.args.harts bound) shown m) end
 
