@@ -35,7 +35,7 @@ node_times at indices = sum_by (by_node at) indices
 
 -- ---- things that stand at nodes, no two at one
 
--- by its weight in each of some things, no token counts more than it is a node of these
+-- no token counts for more among these things, by their weights, than it is a node among these
 pub record IsWithin {X : Type 0} (weight : ℕ → X → ℕ) (xs : List X) (indices : List Index) : Type 0 where
   pub count : (at : ℕ) → sum_by (weight at) xs ≤ node_times at indices
 
@@ -82,8 +82,9 @@ regroup {weight} {xs} i j k h = subst (IsWithin weight xs) (append_assoc i j k) 
 pub regroup_back : {X : Type 0} {weight : ℕ → X → ℕ} {xs : List X} (i j k : List Index) → IsWithin weight xs (i ++ (j ++ k)) → IsWithin weight xs (i ++ j ++ k)
 regroup_back {weight} {xs} i j k h = subst (IsWithin weight xs) (sym (append_assoc i j k)) h
 
--- ---- things whose tokens count
+-- ---- what is told of things by how often they have a token
 
+-- one that is there counts at its token, and two that have the same count twice
 pub contained : {X : Type 0} (token : X → ℕ) (xs : List X) (x : X) → Contains xs x → 1 ≤ times token (token x) xs
 contained token xs x there =
     let least = get_or-le-sum_by (by token (token x)) xs there.0 x there.1 in
@@ -108,7 +109,7 @@ twice token (z ∷ xs) (suc i) (suc j) x y less is other same = omega (
   twice token xs i j x y (omega (arith, less)) is other same,
 )
 
--- where no token counts twice, no two things have the same
+-- where no token counts twice, no two have the same
 pub apart : {X : Type 0} (token : X → ℕ) (xs : List X) → ((at : ℕ) → times token at xs ≤ 1) → (i j : ℕ) (x y : X) → i < j → slice_get xs i ≡ Some x → slice_get xs j ≡ Some y → token x ≢ token y
 apart token xs once i j x y less is other = λ same. omega (arith, once (token x), twice token xs i j x y less is other same)
 

@@ -21,7 +21,7 @@ use Rattle.fk_token_laws.proofs.Counting as c
 use Rattle.fk_token_laws.proofs.Counting.{one, by_node, times, node_times, IsWithin}
 use Rattle.fk_token_laws.proofs.References.{declared_in-append, optional_refers}
 
--- the nodes that a piece holds, those for control apart
+-- the nodes that a piece holds: keywords of statements are in none
 abbrev pub piece_indices : PieceTree → List Index
 piece_indices (q.FileVariable variable) = declared_indices variable
 piece_indices (q.Variable variable) = declared_indices variable
