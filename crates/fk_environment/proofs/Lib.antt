@@ -1,0 +1,4 @@
+pub mod ListLemmas
+pub mod TypeLemmas
+pub mod KnownLemmas
+pub mod MeaningLemmas

@@ -1,0 +1,12 @@
+//! What is known of a program before its expressions are read: what each declaration declares, and
+//! the types of the members of structs.
+#![tactic(auto)]
+
+mod declarations;
+mod environment;
+mod types;
+
+pub use environment::Environment;
+
+#[cfg(test)]
+mod tests;
