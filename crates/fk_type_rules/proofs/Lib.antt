@@ -1,1 +1,4 @@
-mod Low
+pub mod Low
+pub mod Meanings
+pub mod Used
+pub mod Alike

@@ -1,5 +1,5 @@
 -- What the pieces of a text break.
-use Rattle.std.specs.Prelude.{◌⊎◌, Bool, true, false, not, ◌&&◌, Option, Some, None, is_some, IsSome, if◌then◌else◌}
+use Rattle.std.specs.Prelude.{◌⊎◌, Bool, false, not, Option, Some, None, is_some, IsSome, if◌then◌else◌}
 use Rattle.fk_syntax.specs.declared.place.Place.{Place}
 use Rattle.fk_syntax.specs.declared.place.Spot.{Spot}
 use Rattle.fk_syntax.specs.Tree.{TypeTree, Tree}
@@ -15,7 +15,7 @@ use Rattle.fk_signs.specs.Values.{value_stored}
 use Rattle.fk_signs.specs.Signs.{converts}
 use Rattle.fk_typing.specs.Term.{Term, term_of}
 use Rattle.fk_typing.specs.Names.{Env}
-use Rattle.fk_typing.specs.Typing.{type_of, value_in, operand_in, is_zero}
+use Rattle.fk_typing.specs.Typing.{type_of, operand_in, is_zero}
 use Rattle.fk_typing.specs.Broken.{where_so, nothing, Broken, as_value, as_condition, as_statement}
 use Rattle.fk_pieces.specs.declared.piece.Role.{Role}
 use Rattle.fk_pieces.specs.declared.piece.Role.TheVariants as role
@@ -38,13 +38,13 @@ abbrev pub ConversionBreaks : Env → Place → Option DataType → Term → Bre
 ConversionBreaks env place type term = where_so rules.NoConversion place (is_not_converted (operand_in (is_zero term) (type_of env term)) (scalar type))
 
 -- an array or a struct that has an initial value
-abbrev pub WholeBreaks : DeclaredTree → Breaks
-WholeBreaks variable = only rules.WholeAssigned (At variable.name.place (IsSome variable.length ⊎ IsStruct variable.kind))
+abbrev pub WholeInitialBreaks : DeclaredTree → Breaks
+WholeInitialBreaks variable = only rules.WholeAssigned (At variable.name.place (IsSome variable.length ⊎ IsStruct variable.kind))
 
 -- what an initial value breaks
 abbrev pub InitialBreaks : Env → DeclaredTree → Term → Breaks
 InitialBreaks env variable term = either (as_value env term (Broken env term))
-    (either (ConversionBreaks env variable.name.place (type_declared env.structs variable) term) (WholeBreaks variable))
+    (either (ConversionBreaks env variable.name.place (type_declared env.structs variable) term) (WholeInitialBreaks variable))
 
 abbrev pub FileInitialBreaks : Env → DeclaredTree → Term → Breaks
 FileInitialBreaks env variable term = either (InitialBreaks env variable term) (ConstantBreaks env term)
