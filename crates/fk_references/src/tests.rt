@@ -17,7 +17,7 @@ fn spot(at: u32) -> Spot {
     Spot { at, place: PLACE }
 }
 
-// s.m->k
+// s.m->k, by the tokens 0 to 4
 fn chain(alloc: Global) -> Result<Expr<'static>, AllocError> {
     let suffixes = vec![in alloc;
         Suffix::Dot(spot(1), name(b"m", 2)),
@@ -32,9 +32,9 @@ fn a_member_is_told_with_the_token_before_it(rt: HostRuntime) -> Result<(), Fail
     let mut references = References::new(rt.alloc());
     assert_eq!(rt; references.add(&expression)?, 3);
     assert_eq!(rt; references.list().len(), 3);
-    assert!(rt; matches!(references.list()[0], Reference::Name(_)));
-    assert!(rt; matches!(references.list()[1], Reference::Member(0, false, _)));
-    assert!(rt; matches!(references.list()[2], Reference::Member(1, true, _)));
+    assert!(rt; matches!(&references.list()[0], Reference::Name(_)));
+    assert!(rt; matches!(&references.list()[1], Reference::Member(0, false, _)));
+    assert!(rt; matches!(&references.list()[2], Reference::Member(1, true, _)));
     Ok(())
 }
 
@@ -43,5 +43,7 @@ fn what_is_absent_names_nothing(rt: HostRuntime) -> Result<(), Fail> {
     let mut references = References::new(rt.alloc());
     references.add_optional(&None)?;
     assert!(rt; references.list().is_empty());
+    references.add_optional(&Some(Expr::Named(name(b"x", 7))))?;
+    assert_eq!(rt; references.list().len(), 1);
     Ok(())
 }
