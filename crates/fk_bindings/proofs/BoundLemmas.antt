@@ -1,0 +1,32 @@
+-- What is set at tokens that are apart is what they name.
+use Rattle.std.proofs.Common.{◌≡◌, ℕ, ◌<◌, List, length, Some, refl, sym, subst, ◌∙◌, arith}
+use Rattle.std.specs.Prelude.{Contains, slice_get}
+use Rattle.std.proofs.lemmas.Option.{slice_get_read, slice_get_within, get_or_from_slice_get}
+use Rattle.fk_syntax.specs.Program.{ProgramTree}
+use Rattle.fk_syntax.specs.WellFormed.{IsWellFormed}
+use Rattle.fk_names.specs.Outline.{declarations}
+use Rattle.fk_typing.specs.Names.{Env}
+use Rattle.fk_pieces.specs.Pieces.{pieces}
+use Rattle.fk_type_rules.specs.Bound.{IsBound, refers, declares, AreBound, pieces_references, token_of}
+use Rattle.fk_token_laws.specs.Apart.{AreTokensApart}
+use Rattle.fk_bindings.specs.Bound.{AreDeclared, AreReferred, name_token}
+use Rattle.fk_bindings.proofs.Below.{references_below, declared_below}
+
+module _ (env : Env) (program : ProgramTree) (start mid end : List ℕ) (sound : IsWellFormed program) (apart : AreTokensApart program) (size : length start ≡ program.tokens)
+    (declared : AreDeclared (declarations program) start mid) (referred : AreReferred env program (pieces_references (pieces program)) mid end) where
+  pub all-bound : AreBound env program end
+  all-bound = λ at number bound. by at bound
+    where
+      by : (at : ℕ) {number : ℕ} → IsBound env program at number → slice_get end at ≡ Some number
+      by at (refers r number there here is) =
+          let rs = pieces_references (pieces program) in
+          let found : slice_get rs there.0 ≡ Some r = slice_get_read rs (length rs) there.0 r refl there.1 (sym there.2) in
+          let inside : token_of r < length mid = omega (arith, references_below program sound r there, size, declared.same_length) in
+          subst (λ k. slice_get end k ≡ Some number) here (referred.each apart.references there.0 r number found inside is)
+      by at (declares d number there here) =
+          let ds = declarations program in
+          let held : Contains ds d = (number, slice_get_within ds number d there, get_or_from_slice_get ds number d d there) in
+          let inside : name_token d < length start = omega (arith, declared_below program sound d held, size) in
+          let own : slice_get mid (name_token d) ≡ Some number = declared.each apart.declared number d number there inside refl in
+          let kept : slice_get end (name_token d) ≡ slice_get mid (name_token d) = referred.others (name_token d) (λ r named same. apart.never_both d r held named (sym same)) in
+          subst (λ k. slice_get end k ≡ Some number) here (kept ∙ own)

@@ -1,0 +1,5 @@
+pub mod SizeLemmas
+pub mod KnownLemmas
+pub mod SetLemmas
+pub mod Below
+pub mod BoundLemmas

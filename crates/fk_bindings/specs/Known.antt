@@ -1,0 +1,29 @@
+-- What is known of a program, and what is told of it.
+use Rattle.std.specs.Prelude.{◌≡◌, ℕ, ◌^◌, ◌-◌, Option, Some, None}
+use Rattle.fk_syntax.specs.Program.{ProgramTree}
+use Rattle.fk_structs.specs.Whole.{structs_in}
+use Rattle.fk_names.specs.declared.names.Meaning.{Meaning}
+use Rattle.fk_names.specs.declared.names.Meaning.TheVariants as m
+use Rattle.fk_names.specs.Names.{AreNames}
+use Rattle.fk_typing.specs.Names.{Env}
+use Rattle.fk_references.specs.References.{ReferenceTree}
+use Rattle.fk_type_rules.specs.Noted.{AreTypes}
+use Rattle.fk_type_rules.specs.Bound.{Refers}
+use Rattle.fk_bindings.specs.declared.known.Known.{Known}
+
+-- what is known is right about a program
+pub record IsKnown (env : Env) (program : ProgramTree) (known : Known) : Type 0 where
+  pub structs : env.structs ≡ structs_in known.structs.now
+  pub names : AreNames program known.names.now
+  pub types : AreTypes env program known.types.now
+
+-- what is told of a reference is what it refers to, wherever that is anything
+abbrev pub IsTold : Env → ProgramTree → ReferenceTree → Option ℕ → Type 0
+IsTold env program reference told = (number : ℕ) → Refers env program reference number → told ≡ Some number
+
+-- the number of what a name means
+abbrev pub number_meant : Option Meaning → Option ℕ
+number_meant None = None
+number_meant (Some (m.Declared number)) = Some number
+number_meant (Some m.Predeclared) = Some (2 ^ 32 - 1)
+number_meant (Some m.Undeclared) = None

@@ -1,0 +1,136 @@
+//! What the tokens of a program name.
+
+ghost use Rattle.std.specs.Prelude.{◌≡◌, ◌<◌, ◌^◌, length, map, IfOk};
+ghost use Rattle.fk_syntax.specs.Program.{ProgramTree};
+ghost use Rattle.fk_syntax.specs.WellFormed.{IsWellFormed};
+ghost use Rattle.fk_structs.specs.Whole.{structs_in, IsSound};
+ghost use Rattle.fk_names.specs.Names.{AreNames};
+ghost use Rattle.fk_names.specs.View.{declaration_of};
+ghost use Rattle.fk_typing.specs.Names.{Env};
+ghost use Rattle.fk_pieces.specs.Pieces as p;
+ghost use Rattle.fk_pieces.specs.View.{piece_of};
+ghost use Rattle.fk_references.specs.View.{reference_of};
+ghost use Rattle.fk_type_rules.specs.Noted.{AreTypes};
+ghost use Rattle.fk_type_rules.specs.Bound.{token_of, pieces_references, AreBound};
+ghost use Rattle.fk_token_laws.specs.Apart.{AreTokensApart};
+ghost use Rattle.fk_bindings.specs.Known.{IsKnown};
+ghost use Rattle.fk_bindings.specs.Bound.{with_told, name_token, AreDeclared, AreReferred};
+
+use crate::found::references_in;
+use crate::known::Known;
+use fk_names::{Declaration, Names};
+use fk_pieces::Piece;
+use fk_references::Reference;
+use fk_signs::ExpressionType;
+use fk_structs::Structs;
+use std::alloc::{AllocError, Global};
+
+// The most declarations that are counted.
+const MOST: usize = 4_294_967_295;
+
+// The index of the token of a reference.
+fn token_of(reference: &Reference) -> u32
+    ensures { result ≡ token_of (reference_of reference.now) }
+{
+    match reference {
+        Reference::Name(name) => name.at,
+        Reference::Member(_, _, member) => member.at,
+        Reference::Size(spot, _) => spot.at,
+    }
+}
+
+// The index of the token of a declaration's name.
+fn name_token(declaration: &Declaration) -> u32
+    ensures { result ≡ name_token (declaration_of declaration.now) }
+{
+    match declaration {
+        Declaration::Variable(variable) => variable.name.at,
+        Declaration::Function(function) => function.name.at,
+    }
+}
+
+// Sets the number of a token, where one is told.
+fn set(numbers: &mut [u32], at: u32, told: Option<u32>)
+    ensures { numbers.new ≡ with_told numbers.old at told }
+{
+    let at = at as usize;
+    if let Some(number) = told
+        && at < numbers.len()
+    {
+        numbers[at] = number;
+    }
+}
+
+// Sets the numbers of declarations, at their names.
+fn set_declared(numbers: &mut [u32], declared: &[Declaration])
+    requires { length declared.now < 2 ^ 32 }
+    ensures { AreDeclared (map declaration_of declared.now) numbers.old numbers.new }
+{
+    for (number, declaration) in declared.iter().enumerate() {
+        set(numbers, name_token(declaration), Some(number as u32));
+    }
+}
+
+// Sets what references refer to, at their tokens.
+fn set_referred(numbers: &mut [u32], known: &Known, references: &[Reference])
+    requires { IsSound known.now.structs.now }
+    ensures { (env : Env) (program : ProgramTree) → IsKnown env program known.now
+        → AreReferred env program (map reference_of references.now) numbers.old numbers.new }
+{
+    for reference in references {
+        set(numbers, token_of(reference), known.number(reference));
+    }
+}
+
+// Sets what the tokens of a program name.
+fn set_all(numbers: &mut [u32], known: &Known, references: &[Reference])
+    requires sound { IsSound known.now.structs.now }
+    requires few { length known.now.names.now.declarations.items < 2 ^ 32 }
+    ensures { (env : Env) (program : ProgramTree) → IsWellFormed program → AreTokensApart program
+        → length numbers.old ≡ program.tokens
+        → map reference_of references.now ≡ pieces_references (p.pieces program)
+        → IsKnown env program known.now → AreBound env program numbers.new }
+{
+    set_declared(numbers, &known.names.declarations);
+    set_referred(numbers, known, references);
+}
+
+/// What each token of a program names, as a number, by the index of the token:
+/// - for the name of a variable, a parameter or a function, where it is declared or in an
+///   expression, the number of the declaration that it means, from 0 in the order in which their
+///   names stand in the text, or 2^32 - 1 for a name that is declared before each text;
+/// - for a member after `.` or `->`, the words that lie before it in its struct;
+/// - for `sizeof`, the bytes that it gives;
+/// - for every other token any number.
+///
+/// The types of the tokens tell the structs whose members are named. It takes time linear in the
+/// text, and fails only for want of memory: where there are too many declarations to be counted,
+/// there is none for them.
+pub fn bindings<'k, 'p, 'a>(
+    alloc: Global,
+    structs: &'k Structs<'p, 'a>,
+    names: &'k Names<'p, 'a>,
+    pieces: &[Piece],
+    types: &'k [Option<ExpressionType>],
+) -> Result<Vec<u32>, AllocError>
+    requires sound { IsSound structs.now }
+    ensures length { IfOk result (λ numbers. length numbers.items ≡ length types.now) }
+    ensures bound { IfOk result (λ numbers. (env : Env) (program : ProgramTree)
+        → IsWellFormed program → AreTokensApart program → length types.now ≡ program.tokens
+        → map piece_of pieces.now ≡ p.pieces program → env.structs ≡ structs_in structs.now
+        → AreNames program names.now → AreTypes env program types.now
+        → AreBound env program numbers.items) }
+{
+    if names.declarations.len() > MOST {
+        return Err(AllocError);
+    }
+    let references = references_in(alloc, pieces)?;
+    let mut numbers = vec![in alloc; 0u32; types.len()]?;
+    let known = Known {
+        structs,
+        names,
+        types,
+    };
+    set_all(&mut numbers, &known, references.list());
+    Ok(numbers)
+}
