@@ -9,10 +9,14 @@ and taking memory don't count. The same of one image, for the proved machine and
 built by gcc -O2, with the ratio of the two. Bytes compiled per second, for texts of 1 KiB to 1 MiB:
 the time of runs that stop before the first cycle, less that of an empty `main`. And where tcc is
 there (Debian: tcc), the time and memory of `fork95 build` over those of `tcc -c`, for a text of
-1 MiB of declarations and for one of sums, each with the same text in C.
+1 MiB of declarations and for one of sums, each with the same text in C. And where the program of
+the table of types is built (`rt ci` builds it), the time in which the rules about names and types
+are checked in a text of 1 MB with 60,000 names in nested scopes.
 """
+import itertools
 import os
 import shutil
+import string
 import struct
 import subprocess
 import sys
@@ -23,6 +27,7 @@ BENCH = os.path.dirname(os.path.abspath(__file__))
 TOP = os.path.dirname(BENCH)
 FORK95 = os.path.join(TOP, "fork95")
 PROGRAM = os.path.join(TOP, "crates", "fork95", "out", "fork95")
+TYPES = os.path.join(TOP, "crates", "fk_type_cases", "out", "fk_type_cases")
 HARTS = (1, 64, 1024)
 # how many hart-instructions a run of the image has
 LOOPED = 2**26
@@ -81,6 +86,21 @@ def padded(size):
         left -= len(line)
         number += 1
     return "".join(lines) + " " * left + tail
+
+
+def name_of(number):
+    """A name of three characters, the first of them a capital."""
+    capitals, others = string.ascii_uppercase, string.ascii_letters + string.digits
+    rest, last = divmod(number, len(others))
+    first, middle = divmod(rest, len(others))
+    return capitals[first] + others[middle] + others[last]
+
+
+def nested_scopes(blocks, levels):
+    """Blocks of so many levels, side by side, in each of which a variable is declared and set."""
+    names = iter(map(name_of, range(blocks * levels)))
+    opened = ("".join("{int %s;%s=1;" % (name, name) for name in itertools.islice(names, levels)) for _ in range(blocks))
+    return "".join(block + "}" * levels for block in opened)
 
 
 def build_image(folder, name, text):
@@ -183,6 +203,24 @@ def print_ratios_to_tcc(folder, runs):
         print("%-12s %4d  %11.1f  %9.1f  %12.2f  %3d  %10d" % row)
 
 
+def print_checking(folder, runs):
+    if not os.path.exists(TYPES):
+        print("the program of the table of types isn't built, so its check isn't timed")
+        return
+    seconds = []
+    for piece in (nested_scopes(600, 100), ";"):
+        lines = write(folder, "piece", "asynchronous\t" + piece + "\n")
+        best = float("inf")
+        for _ in range(runs):
+            with open(lines, "rb") as given:
+                start = time.perf_counter()
+                ended = subprocess.run([TYPES], stdin=given, capture_output=True, text=True)
+            best = min(best, time.perf_counter() - start)
+        assert ended.stdout == "keeps them\n", ended.stdout
+        seconds.append(best)
+    print("60,000 names in nested scopes, %d bytes: %.0f ms" % (len(nested_scopes(600, 100)), (seconds[0] - seconds[1]) * 1e3))
+
+
 def main():
     runs = int(sys.argv[1]) if len(sys.argv) > 1 else 40
     subprocess.run([FORK95], stdout=subprocess.DEVNULL, stderr=subprocess.DEVNULL)
@@ -191,6 +229,7 @@ def main():
         print_ratios_to_c(folder, runs)
         print_compiling(folder, runs)
         print_ratios_to_tcc(folder, runs)
+        print_checking(folder, runs)
 
 
 main()
