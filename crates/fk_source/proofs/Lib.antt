@@ -1,4 +1,4 @@
 pub mod Seen
-mod Programs
+pub mod Programs
 pub mod Sited
 pub mod Bodies

@@ -16,7 +16,7 @@ use Rattle.fk_source.specs.Program.{next_in, opening}
 use Rattle.fk_source.proofs.Seen.{Line, Byte, lines, seen}
 
 -- sh int x; void main(void) { start { x = $; } }
-abbrev last_writer_program : ProgramTree
+abbrev pub last_writer_program : ProgramTree
 last_writer_program = record {
   items =
       (p.VariablesItem ((dc true (ty t.Int 0) (nm (codes "x") 2 1 8) None None) ∷ []))
@@ -26,7 +26,7 @@ last_writer_program = record {
   tokens = 18;
 }
 
-abbrev last_writer_tables : Tables
+abbrev pub last_writer_tables : Tables
 last_writer_tables = record {
   notes = nn ∷ nn ∷ nt 0 0 false false false ∷ nn ∷ nn ∷ nt 0 1 false false false ∷ nn ∷ nn ∷ nn ∷ nn ∷ nt 0 0 false false false ∷ nn ∷ nt 0 0 true true false ∷ nt 0 0 true false false ∷ nt 0 0 true false false ∷ [];
   kinds = kd 1 false false 0 ∷ [];
@@ -38,7 +38,7 @@ last_writer_sites : sites_of last_writer_tables last_writer_program
     ≡ k 2 ∷ k 23 ∷ k 1 ∷ k 2 ∷ k 14 ∷ k 4 ∷ k 29 ∷ k 30 ∷ k 34 ∷ []
 last_writer_sites = refl
 
-abbrev last_writer_rounds : Schedule
+abbrev pub last_writer_rounds : Schedule
 last_writer_rounds =
     (1 ∷ 1 ∷ []) ∷ (1 ∷ 1 ∷ []) ∷ (3 ∷ 3 ∷ []) ∷ (2 ∷ 2 ∷ []) ∷ (1 ∷ 1 ∷ []) ∷ (1 ∷ 1 ∷ []) ∷ []
 
@@ -47,7 +47,7 @@ last_writer : seen (next_in last_writer_tables last_writer_program) (setting_of 
 last_writer = refl
 
 -- sh int c; sh int r[3]; void main(void) { start { r[$] = mpadd(&c, -1); } }
-abbrev ascending_mpadd_program : ProgramTree
+abbrev pub ascending_mpadd_program : ProgramTree
 ascending_mpadd_program = record {
   items =
       (p.VariablesItem ((dc true (ty t.Int 0) (nm (codes "c") 2 1 8) None None) ∷ []))
@@ -58,7 +58,7 @@ ascending_mpadd_program = record {
   tokens = 35;
 }
 
-abbrev ascending_mpadd_tables : Tables
+abbrev pub ascending_mpadd_tables : Tables
 ascending_mpadd_tables = record {
   notes = nn ∷ nn ∷ nt 0 0 false false false ∷ nn ∷ nn ∷ nn ∷ nt 1 1 false false false ∷ nn ∷ nn ∷ nn ∷ nn ∷ nn ∷ nt 0 2 false false false ∷ nn ∷ nn ∷ nn ∷ nn ∷ nt 0 0 false false false ∷ nn ∷ nt 1 1 true true false ∷ nt 0 0 true false false ∷ nt 0 0 true false false ∷ nn ∷ nt 0 0 true false false ∷ nt 0 4294967295 false false false ∷ nt 0 0 true false false ∷ nt 2 0 true true false ∷ nt 0 0 true true false ∷ nn ∷ nt 0 0 true true false ∷ nt 0 0 true true false ∷ [];
   kinds = kd 1 false false 0 ∷ kd 3 false true 4 ∷ kd 1 true false 4 ∷ [];
@@ -70,7 +70,7 @@ ascending_mpadd_sites : sites_of ascending_mpadd_tables ascending_mpadd_program
     ≡ k 2 ∷ k 23 ∷ k 1 ∷ k 2 ∷ k 8 ∷ at 12 1 51 ∷ k 1 ∷ at 12 1 57 ∷ k 1 ∷ k 6 ∷ k 15 ∷ k 14 ∷ k 4 ∷ k 29 ∷ k 30 ∷ k 34 ∷ []
 ascending_mpadd_sites = refl
 
-abbrev ascending_mpadd_rounds : Schedule
+abbrev pub ascending_mpadd_rounds : Schedule
 ascending_mpadd_rounds =
     (1 ∷ 1 ∷ 1 ∷ []) ∷ (1 ∷ 1 ∷ 1 ∷ []) ∷ (4 ∷ 4 ∷ 4 ∷ []) ∷ (2 ∷ 2 ∷ 2 ∷ []) ∷ (3 ∷ 3 ∷ 3 ∷ []) ∷ (1 ∷ 1 ∷ 1 ∷ []) ∷ (2 ∷ 2 ∷ 2 ∷ []) ∷ (1 ∷ 1 ∷ 1 ∷ []) ∷ (1 ∷ 1 ∷ 1 ∷ []) ∷ []
 
@@ -79,7 +79,7 @@ ascending_mpadd : seen (next_in ascending_mpadd_tables ascending_mpadd_program) 
 ascending_mpadd = refl
 
 -- sh int z[2]; void main(void) { start { if ($ % 2) z[0] = $; else z[1] = groupsize(); } }
-abbrev private_if_program : ProgramTree
+abbrev pub private_if_program : ProgramTree
 private_if_program = record {
   items =
       (p.VariablesItem ((dc true (ty t.Int 0) (nm (codes "z") 2 1 8) (Some 2) None) ∷ []))
@@ -89,7 +89,7 @@ private_if_program = record {
   tokens = 40;
 }
 
-abbrev private_if_tables : Tables
+abbrev pub private_if_tables : Tables
 private_if_tables = record {
   notes = nn ∷ nn ∷ nt 0 0 false false false ∷ nn ∷ nn ∷ nn ∷ nn ∷ nn ∷ nt 0 1 false false false ∷ nn ∷ nn ∷ nn ∷ nn ∷ nt 0 0 false false false ∷ nn ∷ nt 0 0 true false true ∷ nn ∷ nt 1 0 true false false ∷ nt 1 0 true false false ∷ nt 1 0 true true false ∷ nn ∷ nt 0 0 true true false ∷ nt 1 0 true true false ∷ nt 1 0 true true false ∷ nn ∷ nt 1 0 true false false ∷ nt 1 0 true false false ∷ nn ∷ nn ∷ nt 0 0 true true false ∷ nt 1 0 true true false ∷ nt 1 0 true true false ∷ nn ∷ nt 1 0 true true false ∷ nt 0 4294967295 false false false ∷ nt 1 0 true true false ∷ [];
   kinds = kd 2 false true 4 ∷ kd 1 false false 0 ∷ [];
@@ -101,7 +101,7 @@ private_if_sites : sites_of private_if_tables private_if_program
     ≡ k 2 ∷ k 23 ∷ k 2 ∷ k 1 ∷ k 7 ∷ at 27 1 40 ∷ k 1 ∷ k 1 ∷ k 8 ∷ at 12 1 52 ∷ k 2 ∷ k 14 ∷ k 4 ∷ k 29 ∷ k 1 ∷ k 1 ∷ k 8 ∷ at 12 1 67 ∷ k 2 ∷ k 14 ∷ k 4 ∷ k 29 ∷ k 30 ∷ k 29 ∷ k 30 ∷ k 34 ∷ []
 private_if_sites = refl
 
-abbrev private_if_rounds : Schedule
+abbrev pub private_if_rounds : Schedule
 private_if_rounds =
     (1 ∷ 1 ∷ 1 ∷ []) ∷ (1 ∷ 1 ∷ 1 ∷ []) ∷ (4 ∷ 4 ∷ 4 ∷ []) ∷ (4 ∷ 4 ∷ 4 ∷ []) ∷ (2 ∷ 2 ∷ 2 ∷ []) ∷ (2 ∷ 2 ∷ 2 ∷ []) ∷ (1 ∷ 1 ∷ 1 ∷ []) ∷ (1 ∷ 1 ∷ 1 ∷ []) ∷ (1 ∷ 1 ∷ 1 ∷ []) ∷ (1 ∷ 1 ∷ 1 ∷ []) ∷ []
 
@@ -110,7 +110,7 @@ private_if : seen (next_in private_if_tables private_if_program) (setting_of 3 (
 private_if = refl
 
 -- sh int r[3]; void main(void) { start { pr int i; i = $; while (i) { mpadd(&r[0], 1); i--; } r[1] = $; r[2] = groupsize(); } }
-abbrev shrinking_while_program : ProgramTree
+abbrev pub shrinking_while_program : ProgramTree
 shrinking_while_program = record {
   items =
       (p.VariablesItem ((dc true (ty t.Int 0) (nm (codes "r") 2 1 8) (Some 3) None) ∷ []))
@@ -120,7 +120,7 @@ shrinking_while_program = record {
   tokens = 61;
 }
 
-abbrev shrinking_while_tables : Tables
+abbrev pub shrinking_while_tables : Tables
 shrinking_while_tables = record {
   notes = nn ∷ nn ∷ nt 0 0 false false false ∷ nn ∷ nn ∷ nn ∷ nn ∷ nn ∷ nt 0 1 false false false ∷ nn ∷ nn ∷ nn ∷ nn ∷ nt 0 0 false false false ∷ nn ∷ nn ∷ nn ∷ nt 1 2 false false false ∷ nn ∷ nt 1 2 true false false ∷ nt 1 0 true false false ∷ nt 1 0 true false false ∷ nn ∷ nt 0 0 true false true ∷ nn ∷ nt 1 2 true false false ∷ nn ∷ nn ∷ nt 0 4294967295 false false false ∷ nt 1 0 true false false ∷ nt 2 0 true true false ∷ nt 0 0 true true false ∷ nt 1 0 true true false ∷ nt 1 0 true true false ∷ nn ∷ nn ∷ nt 1 0 true true false ∷ nn ∷ nn ∷ nt 1 2 true false false ∷ nt 1 0 true false false ∷ nn ∷ nn ∷ nt 0 0 true true false ∷ nt 1 0 true true false ∷ nt 1 0 true true false ∷ nn ∷ nt 1 0 true false false ∷ nt 1 0 true false false ∷ nn ∷ nt 0 0 true true false ∷ nt 1 0 true true false ∷ nt 1 0 true true false ∷ nn ∷ nt 1 0 true true false ∷ nt 0 4294967295 false false false ∷ nt 1 0 true true false ∷ [];
   kinds = kd 3 false true 4 ∷ kd 1 false false 0 ∷ kd 1 true false 4 ∷ [];
@@ -132,7 +132,7 @@ shrinking_while_sites : sites_of shrinking_while_tables shrinking_while_program
     ≡ k 2 ∷ k 23 ∷ k 1 ∷ k 3 ∷ k 4 ∷ k 2 ∷ k 3 ∷ k 4 ∷ at 27 1 57 ∷ k 2 ∷ k 28 ∷ k 1 ∷ k 1 ∷ k 8 ∷ at 12 1 77 ∷ at 12 1 69 ∷ k 1 ∷ k 15 ∷ k 4 ∷ k 2 ∷ k 1 ∷ k 7 ∷ k 3 ∷ k 1 ∷ k 7 ∷ k 4 ∷ k 30 ∷ k 1 ∷ k 1 ∷ k 8 ∷ at 12 1 94 ∷ k 2 ∷ k 14 ∷ k 4 ∷ k 1 ∷ k 1 ∷ k 8 ∷ at 12 1 104 ∷ k 2 ∷ k 14 ∷ k 4 ∷ k 29 ∷ k 30 ∷ k 34 ∷ []
 shrinking_while_sites = refl
 
-abbrev shrinking_while_rounds : Schedule
+abbrev pub shrinking_while_rounds : Schedule
 shrinking_while_rounds =
     (1 ∷ 1 ∷ 1 ∷ []) ∷ (1 ∷ 1 ∷ 1 ∷ []) ∷ (7 ∷ 7 ∷ 7 ∷ []) ∷ (2 ∷ 2 ∷ 2 ∷ []) ∷ (0 ∷ 4 ∷ 4 ∷ []) ∷ (0 ∷ 1 ∷ 1 ∷ []) ∷ (0 ∷ 2 ∷ 2 ∷ []) ∷ (0 ∷ 10 ∷ 10 ∷ []) ∷ (0 ∷ 0 ∷ 4 ∷ []) ∷ (0 ∷ 0 ∷ 1 ∷ []) ∷ (0 ∷ 0 ∷ 2 ∷ []) ∷ (0 ∷ 0 ∷ 10 ∷ []) ∷ (1 ∷ 1 ∷ 1 ∷ []) ∷ (4 ∷ 4 ∷ 4 ∷ []) ∷ (2 ∷ 2 ∷ 2 ∷ []) ∷ (5 ∷ 5 ∷ 5 ∷ []) ∷ (2 ∷ 2 ∷ 2 ∷ []) ∷ (2 ∷ 2 ∷ 2 ∷ []) ∷ (1 ∷ 1 ∷ 1 ∷ []) ∷ (1 ∷ 1 ∷ 1 ∷ []) ∷ []
 
@@ -141,7 +141,7 @@ shrinking_while : seen (next_in shrinking_while_tables shrinking_while_program) 
 shrinking_while = refl
 
 -- sh int s[3]; void main(void) { start fork (3; @=$%3; $=$/3) s[@] = groupsize() + 10 * $; }
-abbrev three_way_fork_program : ProgramTree
+abbrev pub three_way_fork_program : ProgramTree
 three_way_fork_program = record {
   items =
       (p.VariablesItem ((dc true (ty t.Int 0) (nm (codes "s") 2 1 8) (Some 3) None) ∷ []))
@@ -151,7 +151,7 @@ three_way_fork_program = record {
   tokens = 44;
 }
 
-abbrev three_way_fork_tables : Tables
+abbrev pub three_way_fork_tables : Tables
 three_way_fork_tables = record {
   notes = nn ∷ nn ∷ nt 0 0 false false false ∷ nn ∷ nn ∷ nn ∷ nn ∷ nn ∷ nt 0 1 false false false ∷ nn ∷ nn ∷ nn ∷ nn ∷ nt 0 0 false false false ∷ nt 0 0 true false false ∷ nn ∷ nt 1 0 true true false ∷ nn ∷ nn ∷ nn ∷ nt 1 0 true false false ∷ nt 1 0 true false false ∷ nt 1 0 true true false ∷ nn ∷ nn ∷ nn ∷ nt 1 0 true false false ∷ nt 1 0 true false false ∷ nt 1 0 true true false ∷ nn ∷ nt 0 0 true true false ∷ nt 1 0 true true false ∷ nt 1 0 true true false ∷ nn ∷ nt 1 0 true false false ∷ nt 0 4294967295 false false false ∷ nt 1 0 true true false ∷ nn ∷ nt 1 0 true false false ∷ nt 1 0 true true false ∷ nt 1 0 true false false ∷ nt 1 0 true false false ∷ [];
   kinds = kd 3 false true 4 ∷ kd 1 false false 0 ∷ [];
@@ -163,7 +163,7 @@ three_way_fork_sites : sites_of three_way_fork_tables three_way_fork_program
     ≡ k 2 ∷ k 23 ∷ k 1 ∷ k 24 ∷ k 2 ∷ k 1 ∷ k 7 ∷ k 2 ∷ k 1 ∷ k 7 ∷ at 27 1 38 ∷ k 1 ∷ k 2 ∷ k 8 ∷ at 12 1 62 ∷ k 2 ∷ k 1 ∷ k 2 ∷ k 7 ∷ k 7 ∷ k 14 ∷ k 4 ∷ k 29 ∷ k 30 ∷ k 29 ∷ k 30 ∷ k 34 ∷ []
 three_way_fork_sites = refl
 
-abbrev three_way_fork_rounds : Schedule
+abbrev pub three_way_fork_rounds : Schedule
 three_way_fork_rounds =
     (1 ∷ 1 ∷ 1 ∷ 1 ∷ []) ∷ (1 ∷ 1 ∷ 1 ∷ 1 ∷ []) ∷ (2 ∷ 2 ∷ 2 ∷ 2 ∷ []) ∷ (7 ∷ 7 ∷ 7 ∷ 7 ∷ []) ∷ (4 ∷ 4 ∷ 4 ∷ 4 ∷ []) ∷ (6 ∷ 6 ∷ 6 ∷ 6 ∷ []) ∷ (2 ∷ 2 ∷ 2 ∷ 2 ∷ []) ∷ (1 ∷ 1 ∷ 1 ∷ 1 ∷ []) ∷ (1 ∷ 1 ∷ 1 ∷ 1 ∷ []) ∷ (1 ∷ 1 ∷ 1 ∷ 1 ∷ []) ∷ (1 ∷ 1 ∷ 1 ∷ 1 ∷ []) ∷ []
 
@@ -172,7 +172,7 @@ three_way_fork : seen (next_in three_way_fork_tables three_way_fork_program) (se
 three_way_fork = refl
 
 -- sh int c; void main(void) { start { farm { mpadd(&c, $); barrier; if ($ == 1) putint(c); } c = groupsize(); } }
-abbrev farm_barrier_program : ProgramTree
+abbrev pub farm_barrier_program : ProgramTree
 farm_barrier_program = record {
   items =
       (p.VariablesItem ((dc true (ty t.Int 0) (nm (codes "c") 2 1 8) None None) ∷ []))
@@ -182,7 +182,7 @@ farm_barrier_program = record {
   tokens = 44;
 }
 
-abbrev farm_barrier_tables : Tables
+abbrev pub farm_barrier_tables : Tables
 farm_barrier_tables = record {
   notes = nn ∷ nn ∷ nt 0 0 false false false ∷ nn ∷ nn ∷ nt 0 1 false false false ∷ nn ∷ nn ∷ nn ∷ nn ∷ nt 0 0 false false false ∷ nn ∷ nt 0 0 true false false ∷ nn ∷ nt 0 4294967295 false false false ∷ nt 0 0 false false false ∷ nt 1 0 false true false ∷ nt 0 0 false true false ∷ nn ∷ nt 0 0 false false false ∷ nn ∷ nn ∷ nt 0 0 false false false ∷ nn ∷ nt 0 0 false false false ∷ nn ∷ nt 0 0 false false false ∷ nt 0 0 false false false ∷ nt 0 0 false true false ∷ nn ∷ nt 0 4294967295 false false false ∷ nt 2 0 false false false ∷ nt 0 0 false true false ∷ nn ∷ nn ∷ nn ∷ nt 0 0 true true false ∷ nt 0 0 true true false ∷ nt 0 4294967295 false false false ∷ nt 0 0 true true false ∷ [];
   kinds = kd 1 false false 0 ∷ kd 1 true false 4 ∷ kd 0 false false 0 ∷ [];
@@ -194,7 +194,7 @@ farm_barrier_sites : sites_of farm_barrier_tables farm_barrier_program
     ≡ k 2 ∷ k 23 ∷ k 31 ∷ k 1 ∷ at 12 1 44 ∷ k 2 ∷ k 15 ∷ k 4 ∷ k 33 ∷ k 2 ∷ k 1 ∷ k 7 ∷ k 9 ∷ k 1 ∷ k 13 ∷ k 19 ∷ k 33 ∷ k 1 ∷ k 2 ∷ k 14 ∷ k 4 ∷ k 29 ∷ k 30 ∷ k 34 ∷ []
 farm_barrier_sites = refl
 
-abbrev farm_barrier_rounds : Schedule
+abbrev pub farm_barrier_rounds : Schedule
 farm_barrier_rounds =
     (1 ∷ 1 ∷ 1 ∷ []) ∷ (1 ∷ 1 ∷ 1 ∷ []) ∷ (1 ∷ 1 ∷ 1 ∷ []) ∷ (2 ∷ 2 ∷ 2 ∷ []) ∷ (2 ∷ 2 ∷ 2 ∷ []) ∷ (1 ∷ 1 ∷ 1 ∷ []) ∷ (1 ∷ 1 ∷ 1 ∷ []) ∷ (4 ∷ 6 ∷ 4 ∷ []) ∷ (0 ∷ 1 ∷ 0 ∷ []) ∷ (1 ∷ 1 ∷ 1 ∷ []) ∷ (3 ∷ 3 ∷ 3 ∷ []) ∷ (2 ∷ 2 ∷ 2 ∷ []) ∷ (1 ∷ 1 ∷ 1 ∷ []) ∷ (1 ∷ 1 ∷ 1 ∷ []) ∷ []
 
@@ -203,7 +203,7 @@ farm_barrier : seen (next_in farm_barrier_tables farm_barrier_program) (setting_
 farm_barrier = refl
 
 -- void main(void) { start (2) { seq putint($ + 5); } }
-abbrev lowest_alone_program : ProgramTree
+abbrev pub lowest_alone_program : ProgramTree
 lowest_alone_program = record {
   items =
       (p.FunctionItem (function m.Async (ty t.Void 0) (nm (codes "main") 1 1 6) [] (Some ((p.statement (p.Start (sp 6 1 19) (Some (t.Number (sp 8 1 26) 2 false)) (p.Block (p.statement (p.Seq (sp 11 1 31) (p.Expression (t.Postfix (t.Variable (nm (codes "putint") 12 1 35)) (t.call (sp 13 1 41) (t.tree (t.Chain (t.GroupRank (sp 14 1 42)) (t.link (sp 15 1 44) g.Plus (t.Number (sp 16 1 46) 5 false) t.no_links)) t.no_trees) t.no_suffixes)))) p.no_statements))) p.no_statements)))))
@@ -212,7 +212,7 @@ lowest_alone_program = record {
   tokens = 21;
 }
 
-abbrev lowest_alone_tables : Tables
+abbrev pub lowest_alone_tables : Tables
 lowest_alone_tables = record {
   notes = nn ∷ nt 0 0 false false false ∷ nn ∷ nn ∷ nn ∷ nn ∷ nt 0 0 false false false ∷ nn ∷ nt 0 0 false true false ∷ nn ∷ nn ∷ nt 0 0 true false false ∷ nt 0 4294967295 false false false ∷ nt 1 0 false false false ∷ nt 0 0 false false false ∷ nt 0 0 false false false ∷ nt 0 0 false true false ∷ [];
   kinds = kd 1 false false 0 ∷ kd 0 false false 0 ∷ [];
@@ -224,7 +224,7 @@ lowest_alone_sites : sites_of lowest_alone_tables lowest_alone_program
     ≡ k 1 ∷ k 23 ∷ k 32 ∷ k 2 ∷ k 1 ∷ k 7 ∷ k 19 ∷ k 33 ∷ k 29 ∷ k 30 ∷ k 34 ∷ []
 lowest_alone_sites = refl
 
-abbrev lowest_alone_rounds : Schedule
+abbrev pub lowest_alone_rounds : Schedule
 lowest_alone_rounds =
     (1 ∷ 1 ∷ 1 ∷ []) ∷ (1 ∷ 1 ∷ 1 ∷ []) ∷ (1 ∷ 1 ∷ 0 ∷ []) ∷ (4 ∷ 0 ∷ 0 ∷ []) ∷ (1 ∷ 1 ∷ 0 ∷ []) ∷ (1 ∷ 1 ∷ 0 ∷ []) ∷ (1 ∷ 1 ∷ 1 ∷ []) ∷ (1 ∷ 1 ∷ 1 ∷ []) ∷ []
 
@@ -233,7 +233,7 @@ lowest_alone : seen (next_in lowest_alone_tables lowest_alone_program) (setting_
 lowest_alone = refl
 
 -- void main(void) { start { fork (26215; @=0; $=0) seq putint(1); } }
-abbrev no_space_program : ProgramTree
+abbrev pub no_space_program : ProgramTree
 no_space_program = record {
   items =
       (p.FunctionItem (function m.Async (ty t.Void 0) (nm (codes "main") 1 1 6) [] (Some ((p.statement (p.Start (sp 6 1 19) None (p.Block (p.statement (p.Fork (sp 8 1 27) (t.Number (sp 10 1 33) 26215 false) (t.Number (sp 14 1 42) 0 false) (Some (t.Number (sp 18 1 47) 0 false)) (p.Seq (sp 20 1 50) (p.Expression (t.Postfix (t.Variable (nm (codes "putint") 21 1 54)) (t.call (sp 22 1 60) (t.tree (t.Number (sp 23 1 61) 1 false) t.no_trees) t.no_suffixes))))) p.no_statements))) p.no_statements)))))
@@ -242,7 +242,7 @@ no_space_program = record {
   tokens = 28;
 }
 
-abbrev no_space_tables : Tables
+abbrev pub no_space_tables : Tables
 no_space_tables = record {
   notes = nn ∷ nt 0 0 false false false ∷ nn ∷ nn ∷ nn ∷ nn ∷ nt 0 0 false false false ∷ nn ∷ nt 0 0 true false false ∷ nn ∷ nt 0 0 true true false ∷ nn ∷ nn ∷ nn ∷ nt 0 0 true true false ∷ nn ∷ nn ∷ nn ∷ nt 0 0 true true false ∷ nn ∷ nt 0 0 true false false ∷ nt 0 4294967295 false false false ∷ nt 1 0 false false false ∷ nt 0 0 false true false ∷ [];
   kinds = kd 1 false false 0 ∷ kd 0 false false 0 ∷ [];
@@ -254,7 +254,7 @@ no_space_sites : sites_of no_space_tables no_space_program
     ≡ k 2 ∷ k 23 ∷ k 1 ∷ k 24 ∷ k 1 ∷ k 1 ∷ at 27 1 27 ∷ k 32 ∷ k 1 ∷ k 19 ∷ k 33 ∷ k 29 ∷ k 30 ∷ k 29 ∷ k 30 ∷ k 34 ∷ []
 no_space_sites = refl
 
-abbrev no_space_rounds : Schedule
+abbrev pub no_space_rounds : Schedule
 no_space_rounds =
     (1 ∷ 1 ∷ []) ∷ (1 ∷ 1 ∷ []) ∷ (2 ∷ 2 ∷ []) ∷ []
 
@@ -263,7 +263,7 @@ no_space : seen (next_in no_space_tables no_space_program) (setting_of 2 [] []) 
 no_space = refl
 
 -- sh int x; void main(void) { start { pr int *p = &x; if ($ == 1) p = 0; putint($); x = *p; } }
-abbrev bad_address_program : ProgramTree
+abbrev pub bad_address_program : ProgramTree
 bad_address_program = record {
   items =
       (p.VariablesItem ((dc true (ty t.Int 0) (nm (codes "x") 2 1 8) None None) ∷ []))
@@ -273,7 +273,7 @@ bad_address_program = record {
   tokens = 42;
 }
 
-abbrev bad_address_tables : Tables
+abbrev pub bad_address_tables : Tables
 bad_address_tables = record {
   notes = nn ∷ nn ∷ nt 0 0 false false false ∷ nn ∷ nn ∷ nt 0 1 false false false ∷ nn ∷ nn ∷ nn ∷ nn ∷ nt 0 0 false false false ∷ nn ∷ nn ∷ nn ∷ nn ∷ nt 1 2 false false false ∷ nn ∷ nt 1 0 true true false ∷ nt 0 0 true true false ∷ nn ∷ nt 0 0 true false true ∷ nn ∷ nt 0 0 true false false ∷ nt 0 0 true false false ∷ nt 0 0 true true false ∷ nn ∷ nt 1 2 true false false ∷ nt 1 0 true true false ∷ nt 0 0 true true false ∷ nn ∷ nt 0 4294967295 false false false ∷ nt 2 0 true false false ∷ nt 0 0 true false false ∷ nn ∷ nn ∷ nt 0 0 true true false ∷ nt 0 0 true false false ∷ nt 0 0 true false false ∷ nt 1 2 true false false ∷ [];
   kinds = kd 1 false false 0 ∷ kd 1 true false 4 ∷ kd 0 false false 0 ∷ [];
@@ -285,7 +285,7 @@ bad_address_sites : sites_of bad_address_tables bad_address_program
     ≡ k 2 ∷ k 23 ∷ k 1 ∷ k 3 ∷ k 4 ∷ k 2 ∷ k 1 ∷ k 7 ∷ at 27 1 53 ∷ k 1 ∷ k 3 ∷ k 4 ∷ k 29 ∷ k 30 ∷ k 2 ∷ k 19 ∷ k 1 ∷ k 2 ∷ at 12 1 87 ∷ k 13 ∷ k 14 ∷ k 4 ∷ k 29 ∷ k 30 ∷ k 34 ∷ []
 bad_address_sites = refl
 
-abbrev bad_address_rounds : Schedule
+abbrev pub bad_address_rounds : Schedule
 bad_address_rounds =
     (1 ∷ 1 ∷ 1 ∷ []) ∷ (1 ∷ 1 ∷ 1 ∷ []) ∷ (7 ∷ 7 ∷ 7 ∷ []) ∷ (0 ∷ 4 ∷ 0 ∷ []) ∷ (1 ∷ 1 ∷ 1 ∷ []) ∷ (2 ∷ 2 ∷ 2 ∷ []) ∷ []
 
@@ -294,7 +294,7 @@ bad_address : seen (next_in bad_address_tables bad_address_program) (setting_of 
 bad_address = refl
 
 -- sh int r; sync int twice(sh int n) { sh int k; k = n + n; return k; } void main(void) { start { r = twice($); } }
-abbrev group_frame_program : ProgramTree
+abbrev pub group_frame_program : ProgramTree
 group_frame_program = record {
   items =
       (p.VariablesItem ((dc true (ty t.Int 0) (nm (codes "r") 2 1 8) None None) ∷ []))
@@ -305,7 +305,7 @@ group_frame_program = record {
   tokens = 44;
 }
 
-abbrev group_frame_tables : Tables
+abbrev pub group_frame_tables : Tables
 group_frame_tables = record {
   notes = nn ∷ nn ∷ nt 0 0 false false false ∷ nn ∷ nn ∷ nn ∷ nt 0 1 false false false ∷ nn ∷ nn ∷ nn ∷ nt 0 2 false false false ∷ nn ∷ nn ∷ nn ∷ nn ∷ nt 0 3 false false false ∷ nn ∷ nt 0 3 true true false ∷ nt 0 0 true true false ∷ nt 0 2 true true false ∷ nt 0 0 true true false ∷ nt 0 2 true true false ∷ nn ∷ nt 0 0 true false false ∷ nt 0 3 true true false ∷ nn ∷ nn ∷ nn ∷ nt 0 4 false false false ∷ nn ∷ nn ∷ nn ∷ nn ∷ nt 0 0 false false false ∷ nn ∷ nt 0 0 true true false ∷ nt 0 0 true false false ∷ nt 0 1 false false false ∷ nt 0 0 true false false ∷ nt 0 0 true false false ∷ [];
   kinds = kd 1 false false 0 ∷ [];
@@ -317,7 +317,7 @@ group_frame_sites : sites_of group_frame_tables group_frame_program
     ≡ k 2 ∷ k 1 ∷ k 14 ∷ k 4 ∷ k 2 ∷ k 2 ∷ k 13 ∷ k 2 ∷ k 13 ∷ k 7 ∷ k 14 ∷ k 4 ∷ k 2 ∷ k 13 ∷ k 11 ∷ k 1 ∷ k 11 ∷ k 2 ∷ k 23 ∷ k 1 ∷ k 2 ∷ k 24 ∷ at 22 1 101 ∷ at 25 1 101 ∷ k 2 ∷ k 2 ∷ k 14 ∷ k 4 ∷ k 14 ∷ k 4 ∷ k 29 ∷ k 30 ∷ k 34 ∷ []
 group_frame_sites = refl
 
-abbrev group_frame_rounds : Schedule
+abbrev pub group_frame_rounds : Schedule
 group_frame_rounds =
     (1 ∷ 1 ∷ []) ∷ (1 ∷ 1 ∷ []) ∷ (3 ∷ 3 ∷ []) ∷ (1 ∷ 1 ∷ []) ∷ (1 ∷ 1 ∷ []) ∷ (3 ∷ 3 ∷ []) ∷ (4 ∷ 4 ∷ []) ∷ (4 ∷ 4 ∷ []) ∷ (2 ∷ 2 ∷ []) ∷ (2 ∷ 2 ∷ []) ∷ (3 ∷ 3 ∷ []) ∷ (2 ∷ 2 ∷ []) ∷ (2 ∷ 2 ∷ []) ∷ (1 ∷ 1 ∷ []) ∷ (1 ∷ 1 ∷ []) ∷ []
 
@@ -326,7 +326,7 @@ group_frame : seen (next_in group_frame_tables group_frame_program) (setting_of 
 group_frame = refl
 
 -- sh int r[2]; void main(void) { start { pr int a; a = $ > 1 && mpadd(&r[0], 1) >= 0; r[1] = groupsize(); } }
-abbrev private_and_program : ProgramTree
+abbrev pub private_and_program : ProgramTree
 private_and_program = record {
   items =
       (p.VariablesItem ((dc true (ty t.Int 0) (nm (codes "r") 2 1 8) (Some 2) None) ∷ []))
@@ -336,7 +336,7 @@ private_and_program = record {
   tokens = 49;
 }
 
-abbrev private_and_tables : Tables
+abbrev pub private_and_tables : Tables
 private_and_tables = record {
   notes = nn ∷ nn ∷ nt 0 0 false false false ∷ nn ∷ nn ∷ nn ∷ nn ∷ nn ∷ nt 0 1 false false false ∷ nn ∷ nn ∷ nn ∷ nn ∷ nt 0 0 false false false ∷ nn ∷ nn ∷ nn ∷ nt 1 2 false false false ∷ nn ∷ nt 1 2 true false false ∷ nt 1 0 true false false ∷ nt 1 0 true false false ∷ nt 1 0 true false false ∷ nt 1 0 true true false ∷ nt 1 0 true false true ∷ nt 0 4294967295 false false false ∷ nt 1 0 true false false ∷ nt 2 0 true true false ∷ nt 0 0 true true false ∷ nt 1 0 true true false ∷ nt 1 0 true true false ∷ nn ∷ nn ∷ nt 1 0 true true false ∷ nn ∷ nt 1 0 true false false ∷ nt 1 0 true true false ∷ nn ∷ nt 0 0 true true false ∷ nt 1 0 true true false ∷ nt 1 0 true true false ∷ nn ∷ nt 1 0 true true false ∷ nt 0 4294967295 false false false ∷ nt 1 0 true true false ∷ [];
   kinds = kd 2 false true 4 ∷ kd 1 false false 0 ∷ kd 1 true false 4 ∷ [];
@@ -348,7 +348,7 @@ private_and_sites : sites_of private_and_tables private_and_program
     ≡ k 2 ∷ k 23 ∷ k 1 ∷ k 3 ∷ k 4 ∷ k 2 ∷ k 1 ∷ k 7 ∷ at 27 1 60 ∷ k 1 ∷ k 1 ∷ k 8 ∷ at 12 1 71 ∷ at 12 1 63 ∷ k 1 ∷ k 15 ∷ k 1 ∷ k 7 ∷ k 1 ∷ k 7 ∷ k 29 ∷ k 30 ∷ k 3 ∷ k 4 ∷ k 1 ∷ k 1 ∷ k 8 ∷ at 12 1 86 ∷ k 2 ∷ k 14 ∷ k 4 ∷ k 29 ∷ k 30 ∷ k 34 ∷ []
 private_and_sites = refl
 
-abbrev private_and_rounds : Schedule
+abbrev pub private_and_rounds : Schedule
 private_and_rounds =
     (1 ∷ 1 ∷ 1 ∷ 1 ∷ []) ∷ (1 ∷ 1 ∷ 1 ∷ 1 ∷ []) ∷ (7 ∷ 7 ∷ 7 ∷ 7 ∷ []) ∷ (0 ∷ 0 ∷ 4 ∷ 4 ∷ []) ∷ (0 ∷ 0 ∷ 1 ∷ 1 ∷ []) ∷ (0 ∷ 0 ∷ 2 ∷ 2 ∷ []) ∷ (0 ∷ 0 ∷ 5 ∷ 5 ∷ []) ∷ (1 ∷ 1 ∷ 1 ∷ 1 ∷ []) ∷ (6 ∷ 6 ∷ 6 ∷ 6 ∷ []) ∷ (2 ∷ 2 ∷ 2 ∷ 2 ∷ []) ∷ (2 ∷ 2 ∷ 2 ∷ 2 ∷ []) ∷ (1 ∷ 1 ∷ 1 ∷ 1 ∷ []) ∷ (1 ∷ 1 ∷ 1 ∷ 1 ∷ []) ∷ []
 
@@ -357,7 +357,7 @@ private_and : seen (next_in private_and_tables private_and_program) (setting_of 
 private_and = refl
 
 -- sh int r[3]; void main(void) { start r[$] = $ ? 10 + $ : 7; }
-abbrev private_choice_program : ProgramTree
+abbrev pub private_choice_program : ProgramTree
 private_choice_program = record {
   items =
       (p.VariablesItem ((dc true (ty t.Int 0) (nm (codes "r") 2 1 8) (Some 3) None) ∷ []))
@@ -367,7 +367,7 @@ private_choice_program = record {
   tokens = 28;
 }
 
-abbrev private_choice_tables : Tables
+abbrev pub private_choice_tables : Tables
 private_choice_tables = record {
   notes = nn ∷ nn ∷ nt 0 0 false false false ∷ nn ∷ nn ∷ nn ∷ nn ∷ nn ∷ nt 0 1 false false false ∷ nn ∷ nn ∷ nn ∷ nn ∷ nt 0 0 false false false ∷ nt 0 0 true true false ∷ nt 1 0 true false false ∷ nt 1 0 true false false ∷ nn ∷ nt 1 0 true false false ∷ nt 1 0 true false false ∷ nt 1 0 true false true ∷ nt 1 0 true true false ∷ nt 1 0 true false false ∷ nt 1 0 true false false ∷ nn ∷ nt 1 0 true true false ∷ [];
   kinds = kd 3 false true 4 ∷ kd 1 false false 0 ∷ [];
@@ -379,7 +379,7 @@ private_choice_sites : sites_of private_choice_tables private_choice_program
     ≡ k 2 ∷ k 23 ∷ k 1 ∷ k 2 ∷ k 8 ∷ at 12 1 39 ∷ k 2 ∷ at 27 1 47 ∷ k 1 ∷ k 2 ∷ k 7 ∷ k 29 ∷ k 1 ∷ k 29 ∷ k 30 ∷ k 14 ∷ k 4 ∷ k 29 ∷ k 30 ∷ k 34 ∷ []
 private_choice_sites = refl
 
-abbrev private_choice_rounds : Schedule
+abbrev pub private_choice_rounds : Schedule
 private_choice_rounds =
     (1 ∷ 1 ∷ 1 ∷ []) ∷ (1 ∷ 1 ∷ 1 ∷ []) ∷ (4 ∷ 4 ∷ 4 ∷ []) ∷ (2 ∷ 2 ∷ 2 ∷ []) ∷ (2 ∷ 4 ∷ 4 ∷ []) ∷ (1 ∷ 1 ∷ 1 ∷ []) ∷ (1 ∷ 1 ∷ 1 ∷ []) ∷ (2 ∷ 2 ∷ 2 ∷ []) ∷ (1 ∷ 1 ∷ 1 ∷ []) ∷ (1 ∷ 1 ∷ 1 ∷ []) ∷ []
 
@@ -479,7 +479,7 @@ heaps : seen (next_in heaps_tables heaps_program) (setting_of 1 [] []) heaps_rou
 heaps = refl
 
 -- sh int t; void main(void) { start { int i; for (i = 0; i < __inputs; i++) t += __input[i]; } }
-abbrev input_sum_program : ProgramTree
+abbrev pub input_sum_program : ProgramTree
 input_sum_program = record {
   items =
       (p.VariablesItem ((dc true (ty t.Int 0) (nm (codes "t") 2 1 8) None None) ∷ []))
@@ -489,7 +489,7 @@ input_sum_program = record {
   tokens = 37;
 }
 
-abbrev input_sum_tables : Tables
+abbrev pub input_sum_tables : Tables
 input_sum_tables = record {
   notes = nn ∷ nn ∷ nt 0 0 false false false ∷ nn ∷ nn ∷ nt 0 1 false false false ∷ nn ∷ nn ∷ nn ∷ nn ∷ nt 0 0 false false false ∷ nn ∷ nn ∷ nt 0 2 false false false ∷ nn ∷ nt 0 0 true false true ∷ nn ∷ nt 0 2 true false false ∷ nt 0 0 true true false ∷ nt 0 0 true true false ∷ nn ∷ nt 0 2 true false false ∷ nt 0 0 true false false ∷ nt 0 4294967295 true true false ∷ nn ∷ nt 0 2 true false false ∷ nt 0 0 true false false ∷ nn ∷ nt 0 0 true true false ∷ nt 0 0 true false false ∷ nt 1 4294967295 true true false ∷ nt 0 0 true false false ∷ nt 0 2 true false false ∷ [];
   kinds = kd 1 false false 0 ∷ kd 1 false true 4 ∷ [];
@@ -501,7 +501,7 @@ input_sum_sites : sites_of input_sum_tables input_sum_program
     ≡ k 2 ∷ k 23 ∷ k 1 ∷ k 3 ∷ k 4 ∷ k 1 ∷ k 3 ∷ k 4 ∷ at 27 1 44 ∷ k 2 ∷ k 2 ∷ k 7 ∷ k 28 ∷ k 1 ∷ k 5 ∷ k 13 ∷ k 2 ∷ k 2 ∷ k 8 ∷ at 12 1 87 ∷ k 13 ∷ k 7 ∷ k 14 ∷ k 4 ∷ k 2 ∷ k 1 ∷ k 7 ∷ k 3 ∷ k 1 ∷ k 7 ∷ k 4 ∷ k 30 ∷ k 29 ∷ k 30 ∷ k 34 ∷ []
 input_sum_sites = refl
 
-abbrev input_sum_rounds : Schedule
+abbrev pub input_sum_rounds : Schedule
 input_sum_rounds =
     (1 ∷ 1 ∷ []) ∷ (1 ∷ 1 ∷ []) ∷ (7 ∷ 7 ∷ []) ∷ (4 ∷ 4 ∷ []) ∷ (3 ∷ 3 ∷ []) ∷ (4 ∷ 4 ∷ []) ∷ (1 ∷ 1 ∷ []) ∷ (2 ∷ 2 ∷ []) ∷ (12 ∷ 12 ∷ []) ∷ (3 ∷ 3 ∷ []) ∷ (4 ∷ 4 ∷ []) ∷ (1 ∷ 1 ∷ []) ∷ (2 ∷ 2 ∷ []) ∷ (12 ∷ 12 ∷ []) ∷ (1 ∷ 1 ∷ []) ∷ (1 ∷ 1 ∷ []) ∷ (1 ∷ 1 ∷ []) ∷ (1 ∷ 1 ∷ []) ∷ []
 
@@ -510,7 +510,7 @@ input_sum : seen (next_in input_sum_tables input_sum_program) (setting_of 2 (0 �
 input_sum = refl
 
 -- sh int x; void main(void) { start { sh int k; k = $; if (k) x = k + 3; else x = 9; } }
-abbrev shared_condition_program : ProgramTree
+abbrev pub shared_condition_program : ProgramTree
 shared_condition_program = record {
   items =
       (p.VariablesItem ((dc true (ty t.Int 0) (nm (codes "x") 2 1 8) None None) ∷ []))
@@ -520,7 +520,7 @@ shared_condition_program = record {
   tokens = 37;
 }
 
-abbrev shared_condition_tables : Tables
+abbrev pub shared_condition_tables : Tables
 shared_condition_tables = record {
   notes = nn ∷ nn ∷ nt 0 0 false false false ∷ nn ∷ nn ∷ nt 0 1 false false false ∷ nn ∷ nn ∷ nn ∷ nn ∷ nt 0 0 false false false ∷ nn ∷ nn ∷ nn ∷ nt 0 2 false false false ∷ nn ∷ nt 0 2 true true false ∷ nt 0 0 true false false ∷ nt 0 0 true false false ∷ nn ∷ nt 0 0 true false false ∷ nn ∷ nt 0 2 true true false ∷ nn ∷ nt 0 0 true true false ∷ nt 0 0 true true false ∷ nt 0 2 true true false ∷ nt 0 0 true true false ∷ nt 0 0 true true false ∷ nn ∷ nn ∷ nt 0 0 true true false ∷ nt 0 0 true true false ∷ nt 0 0 true true false ∷ [];
   kinds = kd 1 false false 0 ∷ [];
@@ -532,7 +532,7 @@ shared_condition_sites : sites_of shared_condition_tables shared_condition_progr
     ≡ k 2 ∷ k 23 ∷ at 25 1 29 ∷ k 2 ∷ k 1 ∷ k 14 ∷ k 4 ∷ k 2 ∷ k 2 ∷ k 14 ∷ k 4 ∷ k 2 ∷ k 13 ∷ k 24 ∷ k 9 ∷ k 1 ∷ k 2 ∷ k 13 ∷ k 1 ∷ k 7 ∷ k 14 ∷ k 4 ∷ k 1 ∷ k 1 ∷ k 14 ∷ k 4 ∷ k 29 ∷ k 30 ∷ k 34 ∷ []
 shared_condition_sites = refl
 
-abbrev shared_condition_rounds : Schedule
+abbrev pub shared_condition_rounds : Schedule
 shared_condition_rounds =
     (1 ∷ 1 ∷ []) ∷ (1 ∷ 1 ∷ []) ∷ (1 ∷ 1 ∷ []) ∷ (3 ∷ 3 ∷ []) ∷ (4 ∷ 4 ∷ []) ∷ (3 ∷ 3 ∷ []) ∷ (1 ∷ 1 ∷ []) ∷ (4 ∷ 4 ∷ []) ∷ (3 ∷ 3 ∷ []) ∷ (2 ∷ 2 ∷ []) ∷ (1 ∷ 1 ∷ []) ∷ (1 ∷ 1 ∷ []) ∷ []
 

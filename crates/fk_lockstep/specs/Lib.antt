@@ -1,0 +1,4 @@
+pub mod InStep
+pub mod Noted
+pub mod Together
+pub mod AnyForm

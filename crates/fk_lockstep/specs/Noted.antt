@@ -1,0 +1,115 @@
+-- What is noted of a statement that a group runs in lockstep: each token that decides what is run next is noted as standing
+-- in a synchronous region, and no name means a function that may not be called there. The bodies of `farm` and `seq` are
+-- left out.
+use Rattle.std.specs.Prelude.{◌≡◌, ℕ, Bool, true, false, List, [], ◌∷◌, Option, Some, None}
+use Rattle.fk_syntax.specs.declared.sign.Sign.{Sign}
+use Rattle.fk_syntax.specs.declared.sign.Sign.TheVariants as g
+use Rattle.fk_syntax.specs.Tree as t
+use Rattle.fk_syntax.specs.Tree.{Named, Tree, Links, Trees, Suffixes}
+use Rattle.fk_syntax.specs.Program as p
+use Rattle.fk_syntax.specs.Program.{DeclaredTree, Statement, Statements, FunctionTree, ProgramTree}
+use Rattle.fk_forms.specs.Tables.{Tables, note}
+use Rattle.fk_forms.specs.Expressions.{Coded, Signature}
+use Rattle.fk_forms.specs.Statements.{Inside, executed}
+use Rattle.fk_forms.specs.Program.{functions_of, binding_of, bodies_of}
+use Rattle.fk_lockstep.specs.InStep.{InStep}
+
+abbrev pub is_logical : Sign → Bool
+is_logical g.AndAnd = true
+is_logical g.OrOr = true
+is_logical sign = false
+
+module _ (tables : Tables) (may_call : (function : ℕ) → Bool) where
+  abbrev pub Decides : (at : ℕ) → Type 0
+  Decides at = (note tables at).sync ≡ true
+
+  abbrev pub Means : Named → Type 0
+  Means name = may_call (note tables name.at).binding ≡ true
+
+  -- expressions
+  abbrev mutual
+    pub Noted : Tree → Type 0
+    Noted (t.Number spot value unsigned) = Unit {0}
+    Noted (t.Puts spot text) = Unit {0}
+    Noted (t.Sizeof spot type) = Unit {0}
+    Noted (t.Variable name) = Means name
+    Noted (t.GroupNumber spot) = Unit {0}
+    Noted (t.GroupRank spot) = Unit {0}
+    Noted (t.Prefix spot sign operand) = Noted operand
+    Noted (t.Cast spot type operand) = Noted operand
+    Noted (t.Chain first links) = Noted first × LinksNoted links
+    Noted (t.Postfix whole suffixes) = Noted whole × SuffixesNoted suffixes
+    Noted (t.Assign spot sign target value) = Noted target × Noted value
+    Noted (t.Choose spot condition first second) = Decides spot.at × Noted condition × Noted first × Noted second
+
+    pub LinksNoted : Links → Type 0
+    LinksNoted t.no_links = Unit {0}
+    LinksNoted (t.link spot sign right others) = (is_logical sign ≡ true → Decides spot.at) × Noted right × LinksNoted others
+
+    pub SuffixesNoted : Suffixes → Type 0
+    SuffixesNoted t.no_suffixes = Unit {0}
+    SuffixesNoted (t.index spot by others) = Noted by × SuffixesNoted others
+    SuffixesNoted (t.call spot arguments others) = AllNoted arguments × SuffixesNoted others
+    SuffixesNoted (t.dot spot member others) = SuffixesNoted others
+    SuffixesNoted (t.arrow spot member others) = SuffixesNoted others
+    SuffixesNoted (t.up spot others) = SuffixesNoted others
+    SuffixesNoted (t.down spot others) = SuffixesNoted others
+
+    pub AllNoted : Trees → Type 0
+    AllNoted t.no_trees = Unit {0}
+    AllNoted (t.tree first others) = Noted first × AllNoted others
+
+  abbrev pub OptionNoted : Option Tree → Type 0
+  OptionNoted None = Unit {0}
+  OptionNoted (Some e) = Noted e
+
+  abbrev pub VariablesNoted : List DeclaredTree → Type 0
+  VariablesNoted [] = Unit {0}
+  VariablesNoted (x ∷ xs) = Means x.name × OptionNoted x.first × VariablesNoted xs
+
+  -- statements
+  abbrev mutual
+    pub StatementNoted : Statement → Type 0
+    StatementNoted p.Empty = Unit {0}
+    StatementNoted (p.Expression e) = Noted e
+    StatementNoted (p.Block statements) = StatementsNoted statements
+    StatementNoted (p.Declare variables) = VariablesNoted variables
+    StatementNoted (p.If spot condition first) = Decides spot.at × Noted condition × StatementNoted first
+    StatementNoted (p.IfElse spot condition first second) =
+        Decides spot.at × Noted condition × StatementNoted first × StatementNoted second
+    StatementNoted (p.While spot condition body) = Decides spot.at × Noted condition × StatementNoted body
+    StatementNoted (p.DoWhile spot body condition) = Decides spot.at × Noted condition × StatementNoted body
+    StatementNoted (p.For spot before condition after body) =
+        Decides spot.at × OptionNoted before × OptionNoted condition × OptionNoted after × StatementNoted body
+    StatementNoted (p.Start spot count body) = OptionNoted count × StatementNoted body
+    StatementNoted (p.Farm spot body) = Unit {0}
+    StatementNoted (p.Seq spot body) = Unit {0}
+    StatementNoted (p.Fork spot parts part rank body) =
+        Noted parts × Noted part × OptionNoted rank × StatementNoted body
+    StatementNoted (p.Barrier spot) = Unit {0}
+    StatementNoted (p.Break spot) = Unit {0}
+    StatementNoted (p.Continue spot) = Unit {0}
+    StatementNoted (p.Return spot e) = OptionNoted e
+
+    pub StatementsNoted : Statements → Type 0
+    StatementsNoted p.no_statements = Unit {0}
+    StatementsNoted (p.statement first others) = StatementNoted first × StatementsNoted others
+
+  -- functions that may be called
+  abbrev pub BodyNoted : Option Statements → Type 0
+  BodyNoted None = Unit {0}
+  BodyNoted (Some statements) = StatementsNoted statements
+
+  abbrev pub FunctionsNoted : List FunctionTree → Type 0
+  FunctionsNoted [] = Unit {0}
+  FunctionsNoted (f ∷ fs) = (may_call (binding_of tables f) ≡ true → BodyNoted f.body) × FunctionsNoted fs
+
+-- a statement that is so noted comes to code that a group runs in step, before code that it does, and so do the functions
+-- that may be called
+pub record FormsAreInStep : Type 0 where
+  pub statement : (tables : Tables) (functions : (binding : ℕ) → Signature) (may_call : (function : ℕ) → Bool)
+      → (inside : Inside) (s : Statement) (rest : Coded) → StatementNoted tables may_call s
+      → InStep may_call false rest → InStep may_call false (executed tables functions inside s rest)
+  pub function : (tables : Tables) (program : ProgramTree) (may_call : (function : ℕ) → Bool)
+      → FunctionsNoted tables may_call (functions_of program.items)
+      → (binding : ℕ) → may_call binding ≡ true → InStep may_call false (bodies_of tables program binding)

@@ -1,0 +1,40 @@
+//! Laws of groups in lockstep.
+
+ghost use Rattle.fk_lockstep.specs.InStep.{StaysInStep};
+ghost use Rattle.fk_lockstep.specs.Noted.{FormsAreInStep};
+ghost use Rattle.fk_lockstep.specs.Together.{GroupsGoOn};
+ghost use Rattle.fk_lockstep.specs.AnyForm.{FormsGoOn, EntriesGoAsCode};
+
+/// Synchronous code is in step: a branch stands in it only directly behind an agree, and so does
+/// `shalloc`.
+///
+/// This is so of each statement whose tokens that decide are noted as standing in a synchronous
+/// region, and in which no name means a function that may not be called there; and so of the
+/// functions that may be called.
+pub fn forms_are_in_step()
+    ensures { FormsAreInStep }
+{}
+
+/// What is left of code in step is again in step, whichever way its operations go, up to the end of
+/// a part or a body that the members run by themselves.
+pub fn stays_in_step()
+    ensures { StaysInStep }
+{}
+
+/// Two members of a group that have the same code left, which is in step, and levels that differ in
+/// `$` alone, have them again after a round without a fault, where they go one way.
+pub fn groups_go_on()
+    ensures { GroupsGoOn }
+{}
+
+/// So it is in every form `W` in which it is kept what is left to do, where that goes on as code in
+/// step: two members at one place of a list of operations are at one place after the round.
+pub fn forms_go_on<W>()
+    ensures { FormsGoOn W }
+{}
+
+/// The entry of a function, in a list in which the code of a program stands, goes on as the code of
+/// the function does.
+pub fn entries_go_as_code()
+    ensures { EntriesGoAsCode }
+{}
