@@ -5,4 +5,3 @@ pub mod Steps
 pub mod Moves
 pub mod Rounds
 pub mod AnyForm
-mod Examples

@@ -1,4 +1,5 @@
 pub mod Seen
-pub mod Programs
+mod Programs
 pub mod Sited
 pub mod Bodies
+mod Groups

@@ -1,5 +1,5 @@
 -- In each state of these runs the members of each group in lockstep have the same operations left, and levels that differ
--- in `$` alone. The runs are those of fk_source.
+-- in `$` alone.
 use Rattle.std.proofs.Common.{◌≡◌, ℕ, zero, suc, Bool, true, false, List, [], ◌∷◌, slice_get, Option, Some, refl}
 use Rattle.std.specs.Prelude.{◌==◌, ◌&&◌}
 use Rattle.fk_space.specs.Space.{Space}
