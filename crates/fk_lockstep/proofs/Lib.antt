@@ -5,3 +5,4 @@ pub mod Steps
 pub mod Moves
 pub mod Rounds
 pub mod AnyForm
+pub mod Untouched

@@ -2,3 +2,4 @@ pub mod InStep
 pub mod Noted
 pub mod Together
 pub mod AnyForm
+pub mod Untouched

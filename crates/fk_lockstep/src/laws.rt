@@ -4,6 +4,7 @@ ghost use Rattle.fk_lockstep.specs.InStep.{StaysInStep};
 ghost use Rattle.fk_lockstep.specs.Noted.{FormsAreInStep};
 ghost use Rattle.fk_lockstep.specs.Together.{GroupsGoOn};
 ghost use Rattle.fk_lockstep.specs.AnyForm.{FormsGoOn, EntriesGoAsCode};
+ghost use Rattle.fk_lockstep.specs.Untouched.{UntouchedNodesStay};
 
 /// Synchronous code is in step: a branch stands in it only directly behind an agree, and so does
 /// `shalloc`.
@@ -37,4 +38,11 @@ pub fn forms_go_on<W>()
 /// the function does.
 pub fn entries_go_as_code()
     ensures { EntriesGoAsCode }
+{}
+
+/// A round leaves each node of the tree at which nobody does a step as it is, the root aside, and
+/// gives no node other members. Who is a member of no node at which somebody steps stays where it is,
+/// unless there is a `start`.
+pub fn untouched_nodes_stay<W>()
+    ensures { UntouchedNodesStay W }
 {}

@@ -1,0 +1,34 @@
+-- What a round leaves of the tree of groups as it is.
+use Rattle.std.specs.Prelude.{◌≡◌, ◌≢◌, ℕ, ◌<◌, ◌≤◌, true, false, Option}
+use Rattle.fk_operation.specs.declared.operation.Operation.TheVariants as o
+use Rattle.fk_tree.specs.Tree as t
+use Rattle.fk_tree.specs.Tree.{is_member}
+use Rattle.fk_run.specs.Processor.{Setting}
+use Rattle.fk_run.specs.Round.{Step, State, Round, Acting, result}
+use Rattle.fk_lockstep.specs.Together.{DoesStep}
+
+module _ {W : Type 0} (next : W → Option (Step W)) (setting : Setting) (round : Round) (s : State W) where
+  -- somebody does a step of the tree at a node
+  pub record StepsAt (n : ℕ) : Type 0 where
+    pub index : ℕ
+    pub acting : Acting W
+    pub step : Step W
+    pub does : DoesStep next setting round s index acting step
+    pub there : s.tree.places acting.runner.has.number ≡ n
+
+  abbrev pub tree_after : t.Tree
+  tree_after = (result next setting round s).tree
+
+  -- numbers are given, and none is taken back; a node that was there gets no other members, and one at which nobody steps is
+  -- as it was, the root aside, at which a `start` makes its group; who is a member of no node at which somebody steps stays
+  -- where it is, unless there is a `start`
+  pub record OthersStay : Type 0 where
+    pub given : s.tree.given ≤ tree_after.given
+    pub members : (n h : ℕ) → n < s.tree.given → is_member h (t.members tree_after n) ≡ true → is_member h (t.members s.tree n) ≡ true
+    pub nodes : (n : ℕ) → n ≢ 0 → n < s.tree.given → (StepsAt n → ⊥) → tree_after.nodes n ≡ s.tree.nodes n
+    pub places : (h : ℕ)
+        → ((n : ℕ) (at : StepsAt n) → (at.step.operation ≢ o.Begin) × (n < s.tree.given) × (is_member h (t.members s.tree n) ≡ false))
+        → tree_after.places h ≡ s.tree.places h
+
+abbrev pub UntouchedNodesStay : (W : Type 0) → Type 0
+UntouchedNodesStay W = (next : W → Option (Step W)) (setting : Setting) (round : Round) (s : State W) → OthersStay next setting round s
