@@ -6,3 +6,4 @@ pub mod Moves
 pub mod Rounds
 pub mod AnyForm
 pub mod Untouched
+pub mod Keep

@@ -13,7 +13,7 @@ use Rattle.fk_tree.proofs.Shapes.{with_other, kind_members, from_below}
 use Rattle.fk_run.specs.Processor.{Processor, Setting, values}
 use Rattle.fk_run.specs.Group.{not_negative, parts, part, stays, changes}
 use Rattle.fk_run.specs.Round.{Step, Fault, State, Round, Acting, Phases, who, lowest, agreed, change_by, all_changes, tree_phase, all_requests, asking}
-use Rattle.fk_lockstep.specs.Untouched.{tree_after, OthersStay, UntouchedNodesStay}
+use Rattle.fk_lockstep.specs.Untouched.{changes_tree, tree_after, OthersStay, UntouchedNodesStay}
 
 -- a split
 split_members : (n k : ℕ) (f : ℕ → Option ℕ) (tree : Tree) (i h : ℕ) → i < tree.given → is_member h (members (split n k f tree) i) ≡ true → is_member h (members tree i) ≡ true
@@ -103,6 +103,18 @@ module _ (n : ℕ) (whose : ℕ → Processor) (highest low : ℕ) (tree : Tree)
   step_places (o.Meet true) h no_start isnt = refl
   step_places op h no_start isnt = refl
 
+  step_of_none : (op : Operation) → changes_tree op ≡ false → changed op ≡ tree
+  step_of_none o.Begin e = absurd (true≢false e)
+  step_of_none (o.Divide by) e = absurd (true≢false e)
+  step_of_none o.Shrink e = absurd (true≢false e)
+  step_of_none o.End e = absurd (true≢false e)
+  step_of_none o.Farm e = absurd (true≢false e)
+  step_of_none o.Seq e = absurd (true≢false e)
+  step_of_none (o.Meet true) e = absurd (true≢false e)
+  step_of_none o.Resume e = absurd (true≢false e)
+  step_of_none (o.Meet false) e = refl
+  step_of_none op e = refl
+
 not_there : (b : Bool) → (b ≡ true → ⊥) → b ≡ false
 not_there true f = absurd (f refl)
 not_there false f = refl
@@ -139,13 +151,19 @@ module _ {W : Type 0} (actings : List (Acting W)) (old : Tree) where
             g.members_kept i j lt (step_members n (who actings) highest h tree step.operation i j lt' is);
       })
 
+  -- a step that changes nothing, or one that does
+  by_change : (P : Tree → Type 0) (n low highest : ℕ) (tree : Tree) (op : Operation) (is : Bool) → changes_tree op ≡ is → P tree
+      → (changes_tree op ≡ true → P (changes op n (who actings) highest low tree)) → P (changes op n (who actings) highest low tree)
+  by_change P n low highest tree op true e p f = f e
+  by_change P n low highest tree op false e p f = subst P (sym (step_of_none n (who actings) highest low tree op e)) p
+
   -- somebody of a list steps at a node
   abbrev NobodyAt : List (Acting W) → ℕ → Type 0
-  NobodyAt others n = (i : ℕ) (a : Acting W) (step : Step W) → slice_get others i ≡ Some a → a.due ≡ Some step → old.places a.runner.has.number ≡ n → ⊥
+  NobodyAt others n = (i : ℕ) (a : Acting W) (step : Step W) → slice_get others i ≡ Some a → a.due ≡ Some step → changes_tree step.operation ≡ true → old.places a.runner.has.number ≡ n → ⊥
 
   abbrev Apart : List (Acting W) → ℕ → Type 0
   Apart others h =
-      (i : ℕ) (a : Acting W) (step : Step W) → slice_get others i ≡ Some a → a.due ≡ Some step
+      (i : ℕ) (a : Acting W) (step : Step W) → slice_get others i ≡ Some a → a.due ≡ Some step → changes_tree step.operation ≡ true
       → (step.operation ≢ o.Begin) × (old.places a.runner.has.number < old.given) × (is_member h (members old (old.places a.runner.has.number)) ≡ false)
 
   all_grow : (others : List (Acting W)) (tree : Tree) → Grows tree → Grows (all_changes actings old others tree)
@@ -156,26 +174,29 @@ module _ {W : Type 0} (actings : List (Acting W)) (old : Tree) where
       → (all_changes actings old others tree).nodes n ≡ old.nodes n
   all_nodes [] tree g n root lt nobody e = e
   all_nodes (a ∷ others) tree g n root lt nobody e =
-      all_nodes others (change_by actings old a.runner.has.number a.due tree) (grows_by a.runner.has.number a.due tree g) n root lt (λ i b step at due. nobody (suc i) b step at due)
+      all_nodes others (change_by actings old a.runner.has.number a.due tree) (grows_by a.runner.has.number a.due tree g) n root lt (λ i b step at due is. nobody (suc i) b step at due is)
       (brought (λ (u : Tree). u.nodes n ≡ old.nodes n) a.runner.has.number a.due tree e
       (λ step due.
       let m = old.places a.runner.has.number in
       let before : old.given ≤ tree.given = g.given in
       let lt' : n < tree.given = omega arith in
-      step_nodes m (who actings) (agreed actings (members old m)) a.runner.has.number tree step.operation n root lt' (λ same. nobody 0 a step refl due (sym same)) ∙ e))
+      by_change (λ (u : Tree). u.nodes n ≡ old.nodes n) m a.runner.has.number (agreed actings (members old m)) tree step.operation (changes_tree step.operation) refl e
+      (λ is. step_nodes m (who actings) (agreed actings (members old m)) a.runner.has.number tree step.operation n root lt' (λ same. nobody 0 a step refl due is (sym same)) ∙ e)))
 
   all_places : (others : List (Acting W)) (tree : Tree) → Grows tree → (h : ℕ) → Apart others h → tree.places h ≡ old.places h
       → (all_changes actings old others tree).places h ≡ old.places h
   all_places [] tree g h apart e = e
   all_places (a ∷ others) tree g h apart e =
-      all_places others (change_by actings old a.runner.has.number a.due tree) (grows_by a.runner.has.number a.due tree g) h (λ i b step at due. apart (suc i) b step at due)
+      all_places others (change_by actings old a.runner.has.number a.due tree) (grows_by a.runner.has.number a.due tree g) h (λ i b step at due is. apart (suc i) b step at due is)
       (brought (λ (u : Tree). u.places h ≡ old.places h) a.runner.has.number a.due tree e
       (λ step due.
       let m = old.places a.runner.has.number in
-      let at = apart 0 a step refl due in
+      by_change (λ (u : Tree). u.places h ≡ old.places h) m a.runner.has.number (agreed actings (members old m)) tree step.operation (changes_tree step.operation) refl e
+      (λ is.
+      let at = apart 0 a step refl due is in
       let isnt : is_member h (members tree m) ≡ false
-      = not_there (is_member h (members tree m)) (λ is. true≢false (sym (g.members_kept m h at.1 is) ∙ at.2)) in
-      step_places m (who actings) (agreed actings (members old m)) a.runner.has.number tree step.operation h at.0 isnt ∙ e))
+      = not_there (is_member h (members tree m)) (λ there. true≢false (sym (g.members_kept m h at.1 there) ∙ at.2)) in
+      step_places m (who actings) (agreed actings (members old m)) a.runner.has.number tree step.operation h at.0 isnt ∙ e)))
 
 module _ {W : Type 0} (next : W → Option (Step W)) (set : Setting) (round : Round) (s : State W) where
   abbrev phases : Phases W
@@ -202,11 +223,11 @@ module _ {W : Type 0} (next : W → Option (Step W)) (set : Setting) (round : Ro
         nodes = λ n root lt nobody.
             of_round (λ (u : Tree). u.nodes n ≡ s.tree.nodes n) refl
             (all_nodes phases.acting s.tree phases.acting s.tree first n root lt
-            (λ i a step at due there. nobody (record { index = i; acting = a; step = step; does = (at, due); there = there })) refl);
+            (λ i a step at due is there. nobody (record { index = i; acting = a; step = step; does = (at, due); changes = is; there = there })) refl);
         places = λ h apart.
             of_round (λ (u : Tree). u.places h ≡ s.tree.places h) refl
             (all_places phases.acting s.tree phases.acting s.tree first h
-            (λ i a step at due. apart (s.tree.places a.runner.has.number) (record { index = i; acting = a; step = step; does = (at, due); there = refl })) refl);
+            (λ i a step at due is. apart (s.tree.places a.runner.has.number) (record { index = i; acting = a; step = step; does = (at, due); changes = is; there = refl })) refl);
       }
 
 pub untouched_nodes_stay : (W : Type 0) → UntouchedNodesStay W

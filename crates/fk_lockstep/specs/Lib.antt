@@ -3,3 +3,4 @@ pub mod Noted
 pub mod Together
 pub mod AnyForm
 pub mod Untouched
+pub mod Keep

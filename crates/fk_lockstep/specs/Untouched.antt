@@ -1,5 +1,6 @@
 -- What a round leaves of the tree of groups as it is.
-use Rattle.std.specs.Prelude.{◌≡◌, ◌≢◌, ℕ, ◌<◌, ◌≤◌, true, false, Option}
+use Rattle.std.specs.Prelude.{◌≡◌, ◌≢◌, ℕ, ◌<◌, ◌≤◌, Bool, true, false, Option}
+use Rattle.fk_operation.specs.declared.operation.Operation.{Operation}
 use Rattle.fk_operation.specs.declared.operation.Operation.TheVariants as o
 use Rattle.fk_tree.specs.Tree as t
 use Rattle.fk_tree.specs.Tree.{is_member}
@@ -7,13 +8,26 @@ use Rattle.fk_run.specs.Processor.{Setting}
 use Rattle.fk_run.specs.Round.{Step, State, Round, Acting, result}
 use Rattle.fk_lockstep.specs.Together.{DoesStep}
 
+-- a step that changes the tree
+abbrev pub changes_tree : Operation → Bool
+changes_tree o.Begin = true
+changes_tree (o.Divide by) = true
+changes_tree o.Shrink = true
+changes_tree o.End = true
+changes_tree o.Farm = true
+changes_tree o.Seq = true
+changes_tree (o.Meet true) = true
+changes_tree o.Resume = true
+changes_tree op = false
+
 module _ {W : Type 0} (next : W → Option (Step W)) (setting : Setting) (round : Round) (s : State W) where
-  -- somebody does a step of the tree at a node
+  -- somebody does a step at a node that changes the tree
   pub record StepsAt (n : ℕ) : Type 0 where
     pub index : ℕ
     pub acting : Acting W
     pub step : Step W
     pub does : DoesStep next setting round s index acting step
+    pub changes : changes_tree step.operation ≡ true
     pub there : s.tree.places acting.runner.has.number ≡ n
 
   abbrev pub tree_after : t.Tree

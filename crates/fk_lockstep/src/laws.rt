@@ -5,6 +5,7 @@ ghost use Rattle.fk_lockstep.specs.Noted.{FormsAreInStep};
 ghost use Rattle.fk_lockstep.specs.Together.{GroupsGoOn};
 ghost use Rattle.fk_lockstep.specs.AnyForm.{FormsGoOn, EntriesGoAsCode};
 ghost use Rattle.fk_lockstep.specs.Untouched.{UntouchedNodesStay};
+ghost use Rattle.fk_lockstep.specs.Keep.{GroupsStayTogether};
 
 /// Synchronous code is in step: a branch stands in it only directly behind an agree, and so does
 /// `shalloc`.
@@ -40,9 +41,15 @@ pub fn entries_go_as_code()
     ensures { EntriesGoAsCode }
 {}
 
-/// A round leaves each node of the tree at which nobody does a step as it is, the root aside, and
-/// gives no node other members. Who is a member of no node at which somebody steps stays where it is,
+/// A round leaves each node of the tree at which nobody changes it as it is, the root aside, and
+/// gives no node other members. Who is a member of no node that is changed stays where it is,
 /// unless there is a `start`.
 pub fn untouched_nodes_stay<W>()
     ensures { UntouchedNodesStay W }
+{}
+
+/// Two members of a group that are together are so after a round in which they do nothing that changes
+/// the tree, and are at the same node: they go one way by themselves.
+pub fn groups_stay_together()
+    ensures { GroupsStayTogether }
 {}
