@@ -7,3 +7,4 @@ pub mod Rounds
 pub mod AnyForm
 pub mod Untouched
 pub mod Keep
+pub mod Parts

@@ -43,12 +43,12 @@ request_is_plain o.End e = absurd (cc)
 request_is_plain op e = record { stays = refl; no_agree = refl }
 
 -- what one processor's request comes to
-abbrev OutcomeBy : {W : Type 0} → Class → Acting W → Step W → Acting W → Type 0
+abbrev pub OutcomeBy : {W : Type 0} → Class → Acting W → Step W → Acting W → Type 0
 OutcomeBy Local a step b = b ≡ a
 OutcomeBy Request a step b = (v : ℕ) × (b ≡ done step true (with_answer step.operation v a.runner.has))
 OutcomeBy Tree a step b = b ≡ a
 
-abbrev Outcome : {W : Type 0} → Acting W → Option (Step W) → Acting W → Type 0
+abbrev pub Outcome : {W : Type 0} → Acting W → Option (Step W) → Acting W → Type 0
 Outcome a None b = b ≡ a
 Outcome a (Some step) b = OutcomeBy (class_of step.operation) a step b
 
@@ -74,17 +74,17 @@ has_outcome s s' a b None e = passed s s' a b e
 has_outcome s s' a b (Some step) e = outcome_by s s' a b (class_of step.operation) step e
 
 -- the steps of a tree, with what a processor is told of it
-abbrev gone : {W : Type 0} → Step W → (highest lowest size : ℕ) → Runner W → Runner W
+abbrev pub gone : {W : Type 0} → Step W → (highest lowest size : ℕ) → Runner W → Runner W
 gone step highest lowest size r = record {
   left = step.rest (goes_onward step.operation highest lowest r.has);
   has = does step.operation highest size r.has;
 }
 
-abbrev gone_by : {W : Type 0} → Option (Step W) → (highest lowest size : ℕ) → Runner W → Runner W
+abbrev pub gone_by : {W : Type 0} → Option (Step W) → (highest lowest size : ℕ) → Runner W → Runner W
 gone_by None highest lowest size r = r
 gone_by (Some step) highest lowest size r = gone step highest lowest size r
 
-settled_as : {W : Type 0} (actings : List (Acting W)) (old new : t.Tree) (r : Runner W) (due : Option (Step W)) (n m : ℕ)
+pub settled_as : {W : Type 0} (actings : List (Acting W)) (old new : t.Tree) (r : Runner W) (due : Option (Step W)) (n m : ℕ)
     → old.places r.has.number ≡ n → new.places r.has.number ≡ m
     → settled_by actings old new r due ≡ gone_by due (agreed actings (t.members old n)) (lowest (t.members old n)) (length (t.members new m)) r
 settled_as actings old new r None n m e e' = refl
@@ -96,7 +96,7 @@ agree_alike o.Agree highest size p q e = refl
 agree_alike op highest size p q e = untrue e
 
 -- lists by their indices
-begin_at : {W : Type 0} (next : W → Option (Step W)) (set : Setting) (round : Round) (rs : List (Runner W)) (g c : ℕ) (r : Runner W)
+pub begin_at : {W : Type 0} (next : W → Option (Step W)) (set : Setting) (round : Round) (rs : List (Runner W)) (g c : ℕ) (r : Runner W)
     → slice_get round g ≡ Some c → slice_get rs g ≡ Some r → slice_get (begin_all next set round rs) g ≡ Some (begin next set c r)
 begin_at next set [] rs g c r e f = absurd (cc)
 begin_at next set (x ∷ round) [] g c r e f = absurd (cc)
@@ -106,12 +106,12 @@ begin_at next set (x ∷ round) (y ∷ rs) zero c r e f =
     ap₂ (λ (c' : ℕ) (r' : Runner _). Some (begin next set c' r')) same runner
 begin_at next set (x ∷ round) (y ∷ rs) (suc g) c r e f = begin_at next set round rs g c r e f
 
-map_at : {A B : Type 0} (f : A → B) (xs : List A) (g : ℕ) (x : A) → slice_get xs g ≡ Some x → slice_get (map f xs) g ≡ Some (f x)
+pub map_at : {A B : Type 0} (f : A → B) (xs : List A) (g : ℕ) (x : A) → slice_get xs g ≡ Some x → slice_get (map f xs) g ≡ Some (f x)
 map_at f [] g x e = absurd (cc)
 map_at f (y ∷ xs) zero x e = let same : y ≡ x = cc in ap (λ z. Some (f z)) same
 map_at f (y ∷ xs) (suc g) x e = map_at f xs g x e
 
-settled_at : {W : Type 0} (actings : List (Acting W)) (old new : t.Tree) (others : List (Acting W)) (g : ℕ) (b : Acting W)
+pub settled_at : {W : Type 0} (actings : List (Acting W)) (old new : t.Tree) (others : List (Acting W)) (g : ℕ) (b : Acting W)
     → slice_get others g ≡ Some b → slice_get (settled actings old new others) g ≡ Some (settled_by actings old new b.runner b.due)
 settled_at actings old new [] g b e = absurd (cc)
 settled_at actings old new (c ∷ others) zero b e =
@@ -119,12 +119,12 @@ settled_at actings old new (c ∷ others) zero b e =
 settled_at actings old new (c ∷ others) (suc g) b e = settled_at actings old new others g b e
 
 -- who passes the phase of requests
-record Passing {W : Type 0} (actings : List (Acting W)) (g : ℕ) (a : Acting W) : Type 0 where
-  acting : Acting W
-  at : slice_get actings g ≡ Some acting
-  comes : Outcome a a.due acting
+pub record Passing {W : Type 0} (actings : List (Acting W)) (g : ℕ) (a : Acting W) : Type 0 where
+  pub acting : Acting W
+  pub at : slice_get actings g ≡ Some acting
+  pub comes : Outcome a a.due acting
 
-asked_at : {W : Type 0} (number : ℕ) (actings : List (Acting W)) (s : Store) (g : ℕ) (a : Acting W)
+pub asked_at : {W : Type 0} (number : ℕ) (actings : List (Acting W)) (s : Store) (g : ℕ) (a : Acting W)
     → (all_requests number actings s).fault ≡ None → slice_get actings g ≡ Some a → Passing (all_requests number actings s).acting g a
 asked_at number [] s g a e at = absurd (cc)
 asked_at {W = W} number (a' ∷ actings) s zero a e at = by (request_phase s a' a'.due) refl e

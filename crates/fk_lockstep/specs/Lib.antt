@@ -4,3 +4,4 @@ pub mod Together
 pub mod AnyForm
 pub mod Untouched
 pub mod Keep
+pub mod Parts

@@ -6,6 +6,7 @@ ghost use Rattle.fk_lockstep.specs.Together.{GroupsGoOn};
 ghost use Rattle.fk_lockstep.specs.AnyForm.{FormsGoOn, EntriesGoAsCode};
 ghost use Rattle.fk_lockstep.specs.Untouched.{UntouchedNodesStay};
 ghost use Rattle.fk_lockstep.specs.Keep.{GroupsStayTogether};
+ghost use Rattle.fk_lockstep.specs.Parts.{RoundsGoThroughParts};
 
 /// Synchronous code is in step: a branch stands in it only directly behind an agree, and so does
 /// `shalloc`.
@@ -52,4 +53,11 @@ pub fn untouched_nodes_stay<W>()
 /// the tree, and are at the same node: they go one way by themselves.
 pub fn groups_stay_together()
     ensures { GroupsStayTogether }
+{}
+
+/// In a round without a fault a processor of a program stays in its parts and bodies by its local
+/// operations and its request, and in the groups round its own. Then it takes at most one step of the
+/// tree, by which it enters or leaves them as they are nested.
+pub fn rounds_go_through_parts()
+    ensures { RoundsGoThroughParts }
 {}
