@@ -18,7 +18,7 @@ use fk_operation::Operation;
 use fk_syntax::{Declared, Place};
 
 /// The group frame of a part of a token, where it has words.
-pub(crate) fn frame<V: Visitor>(known: &Known, visitor: &mut V, at: u32, second: bool, place: Place)
+pub fn frame<V: Visitor>(known: &Known, visitor: &mut V, at: u32, second: bool, place: Place)
     requires { IsSound known.now }
     ensures { Passes V.after V.counts (functions_of known.now) visitor.old visitor.new
         (e.framed (tables_of known.now) (functions_of known.now)

@@ -61,7 +61,7 @@ const NO_SLOT: Slot = Slot {
 
 impl<'p, 't> Known<'p, 't> {
     /// The note of a token.
-    pub(crate) fn note(&self, at: u32) -> Note
+    pub fn note(&self, at: u32) -> Note
         ensures { result ≡ t.note (tables_of self.now) at }
     {
         match self.notes.get(at as usize) {
@@ -112,7 +112,7 @@ impl<'p, 't> Known<'p, 't> {
     }
 
     /// Whether a token's first part has a group frame.
-    pub(crate) fn is_framed(&self, at: u32, second: bool) -> bool
+    pub fn is_framed(&self, at: u32, second: bool) -> bool
         ensures { result ≡ is_framed_by (slice_get self.now.framed.now at) second }
     {
         match self.framed.get(at as usize) {

@@ -15,11 +15,15 @@ mod tokens;
 mod types;
 mod visitor;
 
+pub use calls::frame;
 pub use expressions::{expression, value};
 pub use known::{Framed, Known};
 pub use standing::Standing;
+pub use standings::{GET, PUSH, agree, discard, end, give_address, name, put};
 pub use tally::Tally;
-pub use visitor::{Event, Mark, Visitor};
+pub use tokens::token_of;
+pub use types::is_nothing;
+pub use visitor::{Event, Mark, NOWHERE, Visitor, Ways, plain};
 
 #[cfg(test)]
 mod tests;

@@ -16,10 +16,11 @@ use fk_num::Op;
 use fk_operation::{Known as Value, Operation, Unary, Variable};
 use fk_syntax::{Name, Sign, Spot};
 
-/// Any number, word, operator and index.
-pub(crate) const PUSH: Operation = Operation::Push(0);
+/// Pushes any number.
+pub const PUSH: Operation = Operation::Push(0);
 
-pub(crate) const GET: Operation = Operation::Get(Value::Rank);
+/// Gets anything that a processor knows.
+pub const GET: Operation = Operation::Get(Value::Rank);
 
 const SET: Operation = Operation::Set(Variable::Private(0));
 
@@ -54,8 +55,8 @@ pub(crate) fn give_value<V: Visitor>(known: &Known, visitor: &mut V, standing: S
     }
 }
 
-// An expression as an address.
-pub(crate) fn give_address<V: Visitor>(known: &Known, visitor: &mut V, standing: Standing)
+/// Makes an expression an address.
+pub fn give_address<V: Visitor>(known: &Known, visitor: &mut V, standing: Standing)
     ensures { Passes V.after V.counts (functions_of known.now) visitor.old visitor.new
         (e.addressed (tables_of known.now) (functions_of known.now) (standing_of standing.entry)) }
 {
@@ -80,8 +81,8 @@ pub(crate) fn fetch<V: Visitor>(known: &Known, visitor: &mut V, standing: Standi
     }
 }
 
-// The new value of what was assigned to.
-pub(crate) fn put<V: Visitor>(known: &Known, visitor: &mut V, standing: Standing)
+/// Stores the new value of what was assigned to.
+pub fn put<V: Visitor>(known: &Known, visitor: &mut V, standing: Standing)
     ensures { Passes V.after V.counts (functions_of known.now) visitor.old visitor.new
         (e.assigned (tables_of known.now) (functions_of known.now) (standing_of standing.entry)) }
 {
@@ -92,8 +93,8 @@ pub(crate) fn put<V: Visitor>(known: &Known, visitor: &mut V, standing: Standing
     }
 }
 
-// A value that nobody uses is dropped, where there is one.
-pub(crate) fn discard<V: Visitor>(known: &Known, visitor: &mut V, at: u32)
+/// Drops a value that nobody uses, where the token tells that there is one.
+pub fn discard<V: Visitor>(known: &Known, visitor: &mut V, at: u32)
     ensures { Passes V.after V.counts (functions_of known.now) visitor.old visitor.new
         (e.dropped (tables_of known.now) (functions_of known.now) at) }
 {
@@ -128,8 +129,8 @@ pub(crate) fn operate<V: Visitor>(
     }
 }
 
-// A variable, or another name.
-pub(crate) fn name<'t, V: Visitor>(
+/// Shows the operations of a variable or another name, and tells how it stands.
+pub fn name<'t, V: Visitor>(
     known: &Known,
     visitor: &mut V,
     name: Name<'t>,
@@ -212,7 +213,7 @@ pub(crate) fn raise<V: Visitor>(
 }
 
 /// The agreement of a group in a synchronous region.
-pub(crate) fn agree<V: Visitor>(visitor: &mut V, sync: bool)
+pub fn agree<V: Visitor>(visitor: &mut V, sync: bool)
     ensures { (functions : (binding : ℕ) → e.Signature)
         → Passes V.after V.counts functions visitor.old visitor.new (e.agreed sync) }
 {
@@ -222,7 +223,7 @@ pub(crate) fn agree<V: Visitor>(visitor: &mut V, sync: bool)
 }
 
 /// The end of a part of a split.
-pub(crate) fn end<V: Visitor>(visitor: &mut V, ends: bool)
+pub fn end<V: Visitor>(visitor: &mut V, ends: bool)
     ensures { (functions : (binding : ℕ) → e.Signature)
         → visitor.new ≡ through V.after V.counts functions visitor.old (ending ends) }
 {

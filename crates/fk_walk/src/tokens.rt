@@ -46,7 +46,7 @@ fn last_suffix(suffixes: &[Suffix]) -> Option<u32>
 
 /// The token by which an expression is known: its sign, its name or its number; the last one of a
 /// chain or of suffixes.
-pub(crate) fn token_of(expression: &Expr) -> u32
+pub fn token_of(expression: &Expr) -> u32
     ensures { result ≡ e.token (tree_of expression.now) }
 {
     match expression {

@@ -7,7 +7,7 @@ ghost use Rattle.fk_forms.specs.Statements as s;
 use fk_syntax::{Base, TypeName};
 
 /// Whether a type is nothing at all.
-pub(crate) fn is_nothing(kind: &TypeName) -> bool
+pub fn is_nothing(kind: &TypeName) -> bool
     ensures { result ≡ s.is_nothing (type_of kind.now) }
 {
     match kind.base {

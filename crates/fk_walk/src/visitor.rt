@@ -21,6 +21,15 @@ pub struct Mark {
     pub deepest: u64,
 }
 
+/// A choice behind its first way: what was known before it, where its ways begin, and behind the
+/// first one.
+#[derive(Clone, Copy, PartialEq, Eq, Debug)]
+pub struct Ways {
+    pub before: Mark,
+    pub inside: Mark,
+    pub behind: Mark,
+}
+
 /// What a walk comes to.
 #[derive(Clone, Copy, PartialEq, Eq, Debug)]
 pub enum Event {
@@ -57,10 +66,10 @@ pub trait Visitor {
 }
 
 /// The place of an operation that can't fault.
-pub(crate) const NOWHERE: Place = Place { line: 0, column: 0 };
+pub const NOWHERE: Place = Place { line: 0, column: 0 };
 
 /// Shows an operation that has no place.
-pub(crate) fn plain<V: Visitor>(visitor: &mut V, operation: Operation)
+pub fn plain<V: Visitor>(visitor: &mut V, operation: Operation)
     ensures { visitor.new ≡ V.after visitor.old (Perform operation nowhere) }
 {
     visitor.meet(Event::Perform(operation, NOWHERE));
