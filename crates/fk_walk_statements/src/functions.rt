@@ -1,0 +1,89 @@
+//! The operations of functions, and of a text.
+
+ghost use Rattle.std.specs.Prelude.{◌≡◌, ◌∷◌, List, map, is_some};
+ghost use Rattle.fk_syntax.specs.Program.{ItemTree, statements_of};
+ghost use Rattle.fk_syntax.specs.ProgramView.{statement_of, function_of, item_of};
+ghost use Rattle.fk_forms.specs.Tables.{frame_at};
+ghost use Rattle.fk_forms.specs.Statements as s;
+ghost use Rattle.fk_forms.specs.Program as f;
+ghost use Rattle.fk_walk.specs.Known.{tables_of, functions_of, IsSound};
+ghost use Rattle.fk_walk.specs.Through.{through};
+ghost use Rattle.fk_walk_statements.specs.Inside.{inside_of};
+ghost use Rattle.fk_walk_statements.specs.Texts.{functions_in, code_in, through_all};
+
+use crate::inside::Inside;
+use crate::nested::statements;
+use crate::simple::finish;
+use fk_syntax::{Function, Item, Stmt};
+use fk_walk::{Known, Visitor, is_nothing};
+
+// What the statements of a function need to know of it.
+fn inside_function(known: &Known, whole: &Function) -> Inside
+    requires { IsSound known.now }
+    ensures main { result.main ≡ f.is_main (function_of whole.now) }
+    ensures framed { result.framed
+        ≡ is_some (frame_at (tables_of known.now) (function_of whole.now).name.at 0) }
+{
+    Inside {
+        main: whole.name.bytes == b"main".as_slice(),
+        framed: known.is_framed(whole.name.at, false),
+    }
+}
+
+// The statements of a function, and its end.
+fn body<V: Visitor>(known: &Known, visitor: &mut V, inside: Inside, void: bool, list: &[Stmt])
+    requires { IsSound known.now }
+    ensures { visitor.new ≡ through V.after V.counts (functions_of known.now) visitor.old
+        (s.body_of (tables_of known.now) (functions_of known.now) (inside_of inside) void
+        (statements_of (map statement_of list.now))) }
+{
+    if statements(known, visitor, inside, list).is_some() {
+        finish(known, visitor, inside, void);
+    }
+}
+
+/// Shows a visitor the operations of a function, that of its end included. One without a body has
+/// none.
+pub fn function<V: Visitor>(known: &Known, visitor: &mut V, whole: &Function)
+    requires { IsSound known.now }
+    ensures { visitor.new ≡ through V.after V.counts (functions_of known.now) visitor.old
+        (code_in known.now (function_of whole.now)) }
+{
+    if let Some(list) = &whole.body {
+        let inside = inside_function(known, whole);
+        body(known, visitor, inside, is_nothing(&whole.result), list);
+    }
+}
+
+// What stands in a text side by side.
+fn item<V: Visitor>(known: &Known, visitor: &mut V, whole: &Item)
+    requires { IsSound known.now }
+    ensures { (others : List ItemTree)
+        → through_all V.after V.counts known.now visitor.old
+        (f.functions_of (item_of whole.now ∷ others))
+        ≡ through_all V.after V.counts known.now visitor.new (f.functions_of others) }
+{
+    match whole {
+        Item::Function(whole) => function(known, visitor, whole),
+        Item::Struct(_, _) | Item::Variables(_) => {}
+    }
+}
+
+fn items<V: Visitor>(known: &Known, visitor: &mut V, list: &[Item])
+    requires { IsSound known.now }
+    ensures { visitor.new ≡ through_all V.after V.counts known.now visitor.old
+        (f.functions_of (map item_of list.now)) }
+{
+    for one in list {
+        item(known, visitor, one);
+    }
+}
+
+/// Shows a visitor all operations of the text, function by function in its order.
+pub fn text<V: Visitor>(known: &Known, visitor: &mut V)
+    requires { IsSound known.now }
+    ensures { visitor.new ≡ through_all V.after V.counts known.now visitor.old
+        (functions_in known.now) }
+{
+    items(known, visitor, known.items);
+}

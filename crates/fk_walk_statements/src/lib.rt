@@ -1,0 +1,19 @@
+//! A walk over the operations of statements, functions and texts, in the order in which their code
+//! has them.
+//!
+//! It takes no memory, and time linear in the tree.
+#![tactic(auto)]
+
+mod functions;
+mod inside;
+mod nested;
+mod simple;
+mod turns;
+mod types;
+
+pub use functions::{function, text};
+pub use inside::Inside;
+pub use nested::{statement, statements};
+
+#[cfg(test)]
+mod tests;
