@@ -2,10 +2,11 @@
 
 use crate::Environment;
 use fk_names::{Declaration, Meaning, Names};
-use fk_parts::{Signature, Thing};
+use fk_parts::Thing;
 use fk_signs::{ExpressionType, Value};
 use fk_structs::{DataType, Root, Structs};
 use fk_syntax::{Base, Declared, Function, Item, Mode, Name, Place, TypeName};
+use std::alloc::{AllocError, Global};
 use std::test::Fail;
 
 const INT: DataType = DataType {
@@ -46,59 +47,85 @@ fn header(
     }
 }
 
-// The type of a variable.
-fn kept(thing: Thing) -> Option<DataType> {
+// The declarations of items of one variable or function each.
+fn declarations<'p, 'a>(
+    alloc: Global,
+    items: &'p [Item<'a>],
+) -> Result<Vec<Declaration<'p, 'a>>, AllocError> {
+    let mut declarations = Vec::new(alloc);
+    for item in items {
+        match item {
+            Item::Variables(variables) => {
+                if let Some(variable) = variables.first() {
+                    declarations.push(Declaration::Variable(variable))?;
+                }
+            }
+            Item::Function(function) => declarations.push(Declaration::Function(function))?,
+            Item::Struct(_, _) => {}
+        }
+    }
+    Ok(declarations)
+}
+
+// What a name is.
+#[derive(PartialEq, Clone, Copy)]
+enum Shown {
+    Variable(Option<DataType>),
+    Function(Option<DataType>, Option<DataType>, Option<ExpressionType>),
+    Main,
+    Other,
+}
+
+fn told(thing: Thing) -> Shown {
     match thing {
-        Thing::Kept(kind) => kind,
-        _ => None,
+        Thing::Kept(kind) => Shown::Variable(kind),
+        Thing::Function(signature) => Shown::Function(
+            signature.parameters.get(0).copied().flatten(),
+            signature.parameters.get(1).copied().flatten(),
+            signature.result,
+        ),
+        Thing::Main => Shown::Main,
+        _ => Shown::Other,
     }
 }
 
-fn signature<'c>(thing: Thing<'c>) -> Option<&'c Signature> {
-    match thing {
-        Thing::Function(signature) => Some(signature),
-        _ => None,
-    }
+// What a name is that means the declaration of this number.
+fn thing_of<'p, 'a>(
+    alloc: Global,
+    items: &'p [Item<'a>],
+    number: u32,
+) -> Result<Shown, AllocError> {
+    let structs = Structs::new(alloc, items)?;
+    let names = Names {
+        declarations: declarations(alloc, items)?,
+        meanings: vec![in alloc; Some(Meaning::Declared(number))]?,
+    };
+    let environment = Environment::of(alloc, &structs, &names)?;
+    let scope = environment.scope(&structs, &names);
+    Ok(told(scope.look_up(&name(b"v", 0))))
 }
 
 // int x; void y; int f(int p, void q); void main(void);
 #[test]
 fn names_are_what_is_declared(rt: HostRuntime) -> Result<(), Fail> {
     let alloc = rt.alloc();
-    let items: [Item<'static>; 0] = [];
-    let structs = Structs::new(alloc, &items)?;
-    let x = declared(b"x", 0, Base::Int, 0);
-    let broken = declared(b"y", 1, Base::Void, 0);
+    let x = vec![in alloc; declared(b"x", 0, Base::Int, 0)]?;
+    let broken = vec![in alloc; declared(b"y", 1, Base::Void, 0)]?;
     let p = declared(b"p", 3, Base::Int, 0);
     let q = declared(b"q", 4, Base::Void, 0);
     let f = header(name(b"f", 2), Base::Int, vec![in alloc; p, q]?);
     let main = header(name(b"main", 5), Base::Void, Vec::new(alloc));
-    let names = Names {
-        declarations: vec![in alloc;
-            Declaration::Variable(&x),
-            Declaration::Variable(&broken),
-            Declaration::Function(&f),
-            Declaration::Function(&main),
-        ]?,
-        meanings: vec![in alloc;
-            Some(Meaning::Declared(0)),
-            Some(Meaning::Declared(1)),
-            Some(Meaning::Declared(2)),
-            Some(Meaning::Declared(3)),
-        ]?,
-    };
-    let environment = Environment::of(alloc, &structs, &names)?;
-    let scope = environment.scope(&structs, &names);
-    assert!(rt; kept(scope.look_up(&name(b"x", 0))) == Some(INT));
-    let broken = scope.look_up(&name(b"y", 1));
-    assert!(rt; matches!(&broken, Thing::Kept(None)));
-    let f = signature(scope.look_up(&name(b"f", 2))).ok_or("a function")?;
-    assert!(rt; f.parameters.len() == 2);
-    assert!(rt; f.parameters.get(0).copied().flatten() == Some(INT));
-    assert!(rt; f.parameters.get(1).copied().flatten().is_none());
-    assert!(rt; f.result == Some(ExpressionType::Computed(Value::Int)));
-    let main = scope.look_up(&name(b"main", 3));
-    assert!(rt; matches!(&main, Thing::Main));
+    let items = [
+        Item::Variables(x),
+        Item::Variables(broken),
+        Item::Function(f),
+        Item::Function(main),
+    ];
+    let gives = Some(ExpressionType::Computed(Value::Int));
+    assert!(rt; thing_of(alloc, &items, 0)? == Shown::Variable(Some(INT)));
+    assert!(rt; thing_of(alloc, &items, 1)? == Shown::Variable(None));
+    assert!(rt; thing_of(alloc, &items, 2)? == Shown::Function(Some(INT), None, gives));
+    assert!(rt; thing_of(alloc, &items, 3)? == Shown::Main);
     Ok(())
 }
 
