@@ -1,4 +1,4 @@
-use Rattle.std.proofs.Common.{◌≡◌, ◌∷◌, ◌∙◌, ap, sym}
+use Rattle.std.proofs.Common.{◌∷◌, ◌∙◌, ap, sym}
 use Rattle.fk_syntax.specs.declared.program.Item.{Item}
 use Rattle.fk_syntax.specs.ProgramView.{function_of, item_of}
 use Rattle.fk_forms.specs.Program.{functions_of}
