@@ -1,0 +1,47 @@
+//! How many operations a text has.
+
+ghost use Rattle.std.specs.Prelude.{◌≡◌, ◌-◌, ◌^◌, ◌<◌, ◌≤◌, IfOk, IfErr, length, min};
+ghost use Rattle.fk_walk.specs.Known.{IsSound};
+ghost use Rattle.fk_walk_statements.specs.Texts.{sites_of_text};
+
+use fk_walk::{Known, Tally};
+use fk_walk_statements::text;
+
+/// What a text asks for beyond the limits.
+#[derive(Clone, Copy, PartialEq, Eq, Debug)]
+pub enum LayoutFault {
+    /// It has so many operations, which are more than an image can name. Above 2^64 - 1 it is that
+    /// number.
+    TooManySites(u64),
+}
+
+/// How many operations an image can name.
+pub const MOST_SITES: u64 = 16_000;
+
+/// How many operations a text has. Above 2^64 - 1 it is that number. It takes no memory, and time
+/// linear in the text.
+pub fn count_sites(known: &Known) -> u64
+    requires { IsSound known.now }
+    ensures { result ≡ min (length (sites_of_text known.now)) (2 ^ 64 - 1) }
+{
+    let mut tally = Tally { count: 0 };
+    text(known, &mut tally);
+    tally.count
+}
+
+/// How many operations a text has, where an image can name them all; else that there are too many.
+pub fn fitting_sites(known: &Known) -> Result<u32, LayoutFault>
+    requires { IsSound known.now }
+    ensures fits { IfOk result (λ count. count ≡ length (sites_of_text known.now)) }
+    ensures few { IfOk result (λ count. count ≤ 16000) }
+    ensures told { IfErr result (λ fault. fault
+        ≡ LayoutFault.TooManySites (min (length (sites_of_text known.now)) (2 ^ 64 - 1))) }
+    ensures many { IfErr result (λ fault. 16000 < length (sites_of_text known.now)) }
+{
+    let count = count_sites(known);
+    if count > MOST_SITES {
+        Err(LayoutFault::TooManySites(count))
+    } else {
+        Ok(count as u32)
+    }
+}
