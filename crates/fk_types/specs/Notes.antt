@@ -1,0 +1,13 @@
+-- The notes that two tables make.
+use Rattle.std.specs.Prelude.{ℕ, false, List, [], ◌∷◌}
+use Rattle.fk_syntax.specs.declared.facts.Note.{Note}
+
+-- nothing is known yet of regions and sharing
+abbrev pub note_of : ℕ → ℕ → Note
+note_of kind binding = record { kind = kind; binding = binding; sync = false; shared = false; splits = false }
+
+-- a note of each token, by the number of its kind and what it names
+abbrev pub notes_of : List ℕ → List ℕ → List Note
+notes_of [] bindings = []
+notes_of (kind ∷ kinds) [] = []
+notes_of (kind ∷ kinds) (binding ∷ bindings) = note_of kind binding ∷ notes_of kinds bindings
