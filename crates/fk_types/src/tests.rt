@@ -43,13 +43,13 @@ fn declared(kind: TypeName<'static>, name: Name<'static>) -> Declared<'static> {
 
 fn function(
     alloc: Global,
-    result: Base<'static>,
+    gives: Base<'static>,
     name: Name<'static>,
     body: Option<Vec<Stmt<'static>>>,
 ) -> Item<'static> {
     Item::Function(Function {
         mode: Mode::Async,
-        result: kind(result, 0),
+        result: kind(gives, 0),
         name,
         params: Vec::new(alloc),
         body,
