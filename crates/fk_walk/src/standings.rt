@@ -130,11 +130,7 @@ pub(crate) fn operate<V: Visitor>(
 }
 
 /// Shows the operations of a variable or another name, and tells how it stands.
-pub fn name<'t, V: Visitor>(
-    known: &Known,
-    visitor: &mut V,
-    name: Name<'t>,
-) -> Option<Standing<'t>>
+pub fn name<'t, V: Visitor>(known: &Known, visitor: &mut V, name: Name<'t>) -> Option<Standing<'t>>
     ensures { Leads V.after V.counts (functions_of known.now) visitor.old visitor.new result
         (e.variable (tables_of known.now) (functions_of known.now) (named name.entry)) }
 {
