@@ -1,19 +1,19 @@
 //! The first rule that a text breaks.
 
+ghost use Rattle.std.specs.Prelude.{◌≤◌, ◌^◌};
 ghost use Rattle.fk_syntax.specs.ProgramView.{program_of};
 ghost use Rattle.fk_syntax.specs.WellFormed.{IsWellFormed};
 
-use fk_environment::Environment;
 use fk_lex::lex::lex;
 use fk_lex::token::LexFault;
-use fk_names::resolve;
 use fk_parse::{SyntaxFault, parse};
-use fk_structs::Structs;
-use fk_syntax::{Place, Program};
-use fk_type_check::program_fault;
+use fk_syntax::{CheckFault, Place, Program};
+use fk_types::types;
 use std::alloc::{AllocError, Global};
 
 const MOST_BYTES: usize = 1_048_576;
+
+const MOST_TOKENS: u32 = 1_048_576;
 
 /// What a text is, as far as rules about names and types go.
 pub enum Answer {
@@ -27,16 +27,13 @@ pub enum Answer {
 
 // The first rule that a program breaks.
 fn broken_rule(alloc: Global, program: &Program) -> Result<Answer, AllocError>
-    requires { IsWellFormed (program_of program.now) }
+    requires well_formed { IsWellFormed (program_of program.now) }
+    requires small { program.now.tokens ≤ 2 ^ 20 }
 {
-    let structs = Structs::new(alloc, &program.items)?;
-    let names = resolve(alloc, program)?;
-    let environment = Environment::of(alloc, &structs, &names)?;
-    let scope = environment.scope(&structs, &names);
-    let mut types = vec![in alloc; None; program.tokens as usize]?;
-    match program_fault(alloc, program, &scope, &mut types)? {
-        Some(fault) => Ok(Answer::Broken(fault.place, fault.rule.number())),
-        None => Ok(Answer::Kept),
+    match types(alloc, program) {
+        Ok(_) => Ok(Answer::Kept),
+        Err(CheckFault::Rule(place, rule)) => Ok(Answer::Broken(place, rule)),
+        Err(CheckFault::Memory) => Err(AllocError),
     }
 }
 
@@ -51,7 +48,8 @@ pub fn answer_for(alloc: Global, source: &[u8]) -> Result<Answer, AllocError> {
         Err(_) => return Ok(Answer::NoProgram),
     };
     match parse(alloc, tokens.as_slice()) {
-        Ok(program) => broken_rule(alloc, &program),
+        Ok(program) if program.tokens <= MOST_TOKENS => broken_rule(alloc, &program),
+        Ok(_) => Ok(Answer::NoProgram),
         Err(SyntaxFault::Memory(error)) => Err(error),
         Err(_) => Ok(Answer::NoProgram),
     }
