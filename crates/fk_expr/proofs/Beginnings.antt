@@ -67,7 +67,8 @@ shape_puts l =
     shape_making _ (shape_then (shape_token l kind.Puts)
     (λ r. example_in_parentheses (l + 1) (example_token (l + 1) kind.Text)))
 
-abbrev primaries : Kinds
+-- the kinds that begin the productions of a primary expression
+abbrev pub primaries : Kinds
 primaries = tells number_told ∪ (just kind.Word ∪ (just kind.At ∪ (just kind.Dollar ∪ (just kind.OpenParenthesis ∪ just kind.Puts))))
 
 pub shape_primary : {room : Type 0} (D : Deeper) (l : ℕ) → (room → Examples D (l + 1)) → Shape (primary D l) l begins_primary room
@@ -97,7 +98,8 @@ shape_sizeof l =
 pub shape_signed : {room : Type 0} (D : Deeper) (l : ℕ) → (room → Examples D (l + 1)) → Shape (telling (l + 1) prefix_told then D.prefix (l + 1)) (l + 1) (tells prefix_told) room
 shape_signed D l x = shape_then (shape_telling (l + 1) prefix_told kind.Minus sign.Minus refl) (λ r. (x r).prefix)
 
-abbrev prefixes : Kinds
+-- the kinds that begin the productions of a prefix expression
+abbrev pub prefixes : Kinds
 prefixes = tells prefix_told ∪ (just kind.OpenParenthesis ∪ (just kind.Sizeof ∪ begins_primary))
 
 pub shape_prefix : {room : Type 0} (D : Deeper) (l : ℕ) → (room → Examples D (l + 1)) → Shape (prefix D l) l begins_expression room

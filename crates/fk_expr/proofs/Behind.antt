@@ -6,15 +6,14 @@ use Rattle.fk_syntax.specs.declared.sign.Sign.{Sign}
 use Rattle.fk_syntax.specs.declared.sign.Sign.TheVariants as sign
 use Rattle.fk_syntax.specs.Tree.{Tree, LinkTree, SuffixTree}
 use Rattle.fk_reading.specs.Languages.{spot, Placed}
-use Rattle.fk_expr.specs.Grammar.{operator_at, linked, chained, suffixed, listed}
+use Rattle.fk_expr.specs.Grammar.{operator_at, linked, comma_linked, chained, suffixed, listed}
 use Rattle.fk_reading.specs.declared.fault.SyntaxFault.{SyntaxFault}
 use Rattle.fk_reading.specs.Readers.{after, giving, ◌and◌, either, next_is, tells, expect, expect_told, repeated}
 use Rattle.fk_expr.specs.Reading.{Readers, begins_suffix, begins_expression, read_primary, read_suffix, read_postfix, read_prefix, read_joined, read_assignment, read_comma, read_next_argument, read_arguments}
-use Rattle.fk_reading.specs.Ahead.{plenty}
 use Rattle.fk_expr.specs.Ahead.{read_link, read_links, read_comma_link, NoOperator}
 use Rattle.fk_reading.specs.Gives.{Halts}
 use Rattle.fk_reading.proofs.Halting.{halts_after}
-use Rattle.fk_reading.proofs.Repeats.{repeated_end}
+use Rattle.fk_reading.proofs.Repeats.{repeated_none}
 use Rattle.fk_reading.specs.Kinds.{just}
 use Rattle.fk_lex.specs.declared.token.TokenKind.TheVariants as kind
 use Rattle.fk_reading.proofs.Behind.{behind_reads, behind_halts}
@@ -25,82 +24,74 @@ link_made : (l : LinkTree) (s : Spot) (g : Sign) (r : Tree) → l.spot ≡ s →
 link_made l s g r e f h = rw (← e, ← f, ← h) refl
 
 pub comma_link_reads : (i : Option Readers) (ahead mid rest : List Placed) (s : Placed) (e : Tree) (l : LinkTree)
-    → expect kind.Comma ahead ≡ Ok (s, mid) → read_assignment plenty i mid ≡ Ok (e, rest) → l.spot ≡ spot s → l.sign ≡ sign.Comma → l.right ≡ e
-    → read_comma_link plenty i ahead ≡ Ok (l, rest)
+    → expect kind.Comma ahead ≡ Ok (s, mid) → read_assignment i mid ≡ Ok (e, rest) → l.spot ≡ spot s → l.sign ≡ sign.Comma → l.right ≡ e
+    → read_comma_link i ahead ≡ Ok (l, rest)
 comma_link_reads i ahead mid rest s e l g h a b c =
-    behind_reads (λ x. record { spot = spot x.0; sign = sign.Comma; right = x.1 }) (expect kind.Comma) (read_assignment plenty i) ahead mid rest s e g h
+    behind_reads comma_linked (expect kind.Comma) (read_assignment i) ahead mid rest s e g h
     ∙ ap (λ l. Ok (l, rest)) (link_made l _ _ _ a b c)
 
 pub comma_link_halts : (i : Option Readers) (ahead mid : List Placed) (s : Placed) (fault : SyntaxFault) (now : List Placed)
-    → expect kind.Comma ahead ≡ Ok (s, mid) → Halts (read_assignment plenty i mid) fault now → Halts (read_comma_link plenty i ahead) fault now
+    → expect kind.Comma ahead ≡ Ok (s, mid) → Halts (read_assignment i mid) fault now → Halts (read_comma_link i ahead) fault now
 comma_link_halts i ahead mid s fault now g h =
-    behind_halts (λ x. record { spot = spot x.0; sign = sign.Comma; right = x.1 }) (expect kind.Comma) (read_assignment plenty i) ahead mid s fault now g h
+    behind_halts comma_linked (expect kind.Comma) (read_assignment i) ahead mid s fault now g h
 
 pub link_reads : (i : Option Readers) (looseness tighter : ℕ) (ahead mid rest : List Placed) (s : Placed × Sign) (e : Tree) (l : LinkTree)
-    → expect_told (operator_at looseness) ahead ≡ Ok (s, mid) → read_joined plenty i tighter mid ≡ Ok (e, rest) → l.spot ≡ spot s.0 → l.sign ≡ s.1 → l.right ≡ e
-    → read_link plenty i looseness tighter ahead ≡ Ok (l, rest)
+    → expect_told (operator_at looseness) ahead ≡ Ok (s, mid) → read_joined i tighter mid ≡ Ok (e, rest) → l.spot ≡ spot s.0 → l.sign ≡ s.1 → l.right ≡ e
+    → read_link i looseness tighter ahead ≡ Ok (l, rest)
 link_reads i looseness tighter ahead mid rest s e l g h a b c =
-    behind_reads linked (expect_told (operator_at looseness)) (read_joined plenty i tighter) ahead mid rest s e g h
+    behind_reads linked (expect_told (operator_at looseness)) (read_joined i tighter) ahead mid rest s e g h
     ∙ ap (λ l. Ok (l, rest)) (link_made l _ _ _ a b c)
 
 pub link_halts : (i : Option Readers) (looseness tighter : ℕ) (ahead mid : List Placed) (s : Placed × Sign) (fault : SyntaxFault) (now : List Placed)
-    → expect_told (operator_at looseness) ahead ≡ Ok (s, mid) → Halts (read_joined plenty i tighter mid) fault now → Halts (read_link plenty i looseness tighter ahead) fault now
+    → expect_told (operator_at looseness) ahead ≡ Ok (s, mid) → Halts (read_joined i tighter mid) fault now → Halts (read_link i looseness tighter ahead) fault now
 link_halts i looseness tighter ahead mid s fault now g h =
-    behind_halts linked (expect_told (operator_at looseness)) (read_joined plenty i tighter) ahead mid s fault now g h
-
-pub next_argument_reads : (R : Readers) (ahead mid rest : List Placed) (s : Placed) (e : Tree)
-    → expect kind.Comma ahead ≡ Ok (s, mid) → R.assignment mid ≡ Ok (e, rest) → read_next_argument R ahead ≡ Ok (e, rest)
-next_argument_reads R ahead mid rest s e g h = behind_reads (λ x. x.1) (expect kind.Comma) R.assignment ahead mid rest s e g h
-
-pub next_argument_halts : (R : Readers) (ahead mid : List Placed) (s : Placed) (fault : SyntaxFault) (now : List Placed)
-    → expect kind.Comma ahead ≡ Ok (s, mid) → Halts (R.assignment mid) fault now → Halts (read_next_argument R ahead) fault now
-next_argument_halts R ahead mid s fault now g h = behind_halts (λ x. x.1) (expect kind.Comma) R.assignment ahead mid s fault now g h
+    behind_halts linked (expect_told (operator_at looseness)) (read_joined i tighter) ahead mid s fault now g h
 
 -- ---- a first part, and as many more as come
 
 pub comma_reads : (i : Option Readers) (ts mid rest : List Placed) (first : Tree) (links : List LinkTree) (e : Tree)
-    → read_assignment plenty i ts ≡ Ok (first, mid) → repeated plenty (just kind.Comma) (read_comma_link plenty i) mid ≡ Ok (links, rest) → e ≡ chained first links
-    → read_comma plenty i ts ≡ Ok (e, rest)
+    → read_assignment i ts ≡ Ok (first, mid) → repeated (just kind.Comma) (read_comma_link i) mid ≡ Ok (links, rest) → e ≡ chained first links
+    → read_comma i ts ≡ Ok (e, rest)
 unfolding read_comma
 comma_reads i ts mid rest first links e g h c =
-    behind_reads (λ x. chained x.0 x.1) (read_assignment plenty i) (repeated plenty (just kind.Comma) (read_comma_link plenty i)) ts mid rest first links g h ∙ ap (λ e. Ok (e, rest)) (sym c)
+    behind_reads (λ x. chained x.0 x.1) (read_assignment i) (repeated (just kind.Comma) (read_comma_link i)) ts mid rest first links g h ∙ ap (λ e. Ok (e, rest)) (sym c)
 
 pub comma_halts : (i : Option Readers) (ts mid : List Placed) (first : Tree) (fault : SyntaxFault) (now : List Placed)
-    → read_assignment plenty i ts ≡ Ok (first, mid) → Halts (repeated plenty (just kind.Comma) (read_comma_link plenty i) mid) fault now → Halts (read_comma plenty i ts) fault now
+    → read_assignment i ts ≡ Ok (first, mid) → Halts (repeated (just kind.Comma) (read_comma_link i) mid) fault now → Halts (read_comma i ts) fault now
 unfolding read_comma
 comma_halts i ts mid first fault now g h =
-    behind_halts (λ x. chained x.0 x.1) (read_assignment plenty i) (repeated plenty (just kind.Comma) (read_comma_link plenty i)) ts mid first fault now g h
+    behind_halts (λ x. chained x.0 x.1) (read_assignment i) (repeated (just kind.Comma) (read_comma_link i)) ts mid first fault now g h
 
 pub postfix_reads : (i : Option Readers) (ts mid rest : List Placed) (whole : Tree) (suffixes : List SuffixTree) (e : Tree)
-    → read_primary i ts ≡ Ok (whole, mid) → repeated plenty begins_suffix (read_suffix plenty i) mid ≡ Ok (suffixes, rest) → e ≡ suffixed whole suffixes
-    → read_postfix plenty i ts ≡ Ok (e, rest)
+    → read_primary i ts ≡ Ok (whole, mid) → repeated begins_suffix (read_suffix i) mid ≡ Ok (suffixes, rest) → e ≡ suffixed whole suffixes
+    → read_postfix i ts ≡ Ok (e, rest)
 unfolding read_postfix
 postfix_reads i ts mid rest whole suffixes e g h c =
-    behind_reads (λ x. suffixed x.0 x.1) (read_primary i) (repeated plenty begins_suffix (read_suffix plenty i)) ts mid rest whole suffixes g h ∙ ap (λ e. Ok (e, rest)) (sym c)
+    behind_reads (λ x. suffixed x.0 x.1) (read_primary i) (repeated begins_suffix (read_suffix i)) ts mid rest whole suffixes g h ∙ ap (λ e. Ok (e, rest)) (sym c)
 
 pub postfix_halts : (i : Option Readers) (ts mid : List Placed) (whole : Tree) (fault : SyntaxFault) (now : List Placed)
-    → read_primary i ts ≡ Ok (whole, mid) → Halts (repeated plenty begins_suffix (read_suffix plenty i) mid) fault now → Halts (read_postfix plenty i ts) fault now
+    → read_primary i ts ≡ Ok (whole, mid) → Halts (repeated begins_suffix (read_suffix i) mid) fault now → Halts (read_postfix i ts) fault now
 unfolding read_postfix
 postfix_halts i ts mid whole fault now g h =
-    behind_halts (λ x. suffixed x.0 x.1) (read_primary i) (repeated plenty begins_suffix (read_suffix plenty i)) ts mid whole fault now g h
+    behind_halts (λ x. suffixed x.0 x.1) (read_primary i) (repeated begins_suffix (read_suffix i)) ts mid whole fault now g h
 
 pub arguments_reads : (R : Readers) (ts mid rest : List Placed) (first : Tree) (others all : List Tree)
-    → next_is begins_expression ts ≡ true → R.assignment ts ≡ Ok (first, mid) → repeated plenty (just kind.Comma) (read_next_argument R) mid ≡ Ok (others, rest)
-    → all ≡ first ∷ others → read_arguments plenty R ts ≡ Ok (all, rest)
+    → next_is begins_expression ts ≡ true → R.assignment ts ≡ Ok (first, mid) → repeated (just kind.Comma) (read_next_argument R) mid ≡ Ok (others, rest)
+    → all ≡ first ∷ others → read_arguments R ts ≡ Ok (all, rest)
 unfolding read_arguments
 arguments_reads R ts mid rest first others all n g h a =
-    ap (λ b. giving listed (λ ts. either b (giving Some (R.assignment and repeated plenty (just kind.Comma) (read_next_argument R))) (λ ts. Ok (None, ts)) ts) ts) n
-    ∙ ap (λ r. after r (λ a rest. Ok (listed a, rest))) (behind_reads Some R.assignment (repeated plenty (just kind.Comma) (read_next_argument R)) ts mid rest first others g h)
+    ap (λ b. giving listed (λ ts. either b (giving Some (R.assignment and repeated (just kind.Comma) (read_next_argument R))) (λ ts. Ok (None, ts)) ts) ts) n
+    ∙ ap (λ r. after r (λ a rest. Ok (listed a, rest))) (behind_reads Some R.assignment (repeated (just kind.Comma) (read_next_argument R)) ts mid rest first others g h)
     ∙ ap (λ l. Ok (l, rest)) (sym a)
 
 pub arguments_halts : (R : Readers) (ts mid : List Placed) (first : Tree) (fault : SyntaxFault) (now : List Placed)
-    → next_is begins_expression ts ≡ true → R.assignment ts ≡ Ok (first, mid) → Halts (repeated plenty (just kind.Comma) (read_next_argument R) mid) fault now
-    → Halts (read_arguments plenty R ts) fault now
+    → next_is begins_expression ts ≡ true → R.assignment ts ≡ Ok (first, mid) → Halts (repeated (just kind.Comma) (read_next_argument R) mid) fault now
+    → Halts (read_arguments R ts) fault now
 unfolding read_arguments
 arguments_halts R ts mid first fault now n g h =
-    subst (λ b. Halts (giving listed (λ ts. either b (giving Some (R.assignment and repeated plenty (just kind.Comma) (read_next_argument R))) (λ ts. Ok (None, ts)) ts) ts) fault now) (sym n)
-    (halts_after (giving Some (R.assignment and repeated plenty (just kind.Comma) (read_next_argument R)) ts) (λ a rest. Ok (listed a, rest)) fault now
-    (behind_halts Some R.assignment (repeated plenty (just kind.Comma) (read_next_argument R)) ts mid first fault now g h))
+    subst (λ b. Halts (giving listed (λ ts. either b (giving Some (R.assignment and repeated (just kind.Comma) (read_next_argument R))) (λ ts. Ok (None, ts)) ts) ts) fault now) (sym n)
+    (halts_after (giving Some (R.assignment and repeated (just kind.Comma) (read_next_argument R)) ts) (λ a rest. Ok (listed a, rest)) fault now
+    (behind_halts Some R.assignment (repeated (just kind.Comma) (read_next_argument R)) ts mid first fault now g h))
 
 -- one more behind the first ones of a list
 pub more_behind : {X A : Type 0} (view : X → A) (items more : List X) (x : X) (start others : List A)
@@ -109,83 +100,83 @@ more_behind view items more x start others e h = ap (map view) e ∙ map-append 
 
 -- ---- operators, level by level
 
-tightest : (i : Option Readers) (ts : List Placed) → read_joined plenty i 0 ts ≡ read_prefix plenty i ts
+tightest : (i : Option Readers) (ts : List Placed) → read_joined i 0 ts ≡ read_prefix i ts
 unfolding read_joined
 tightest i ts = refl
 
-pub joined_start : (i : Option Readers) (ts rest : List Placed) (e : Tree) → read_prefix plenty i ts ≡ Ok (e, rest) → read_joined plenty i 0 ts ≡ Ok (e, rest)
+pub joined_start : (i : Option Readers) (ts rest : List Placed) (e : Tree) → read_prefix i ts ≡ Ok (e, rest) → read_joined i 0 ts ≡ Ok (e, rest)
 joined_start i ts rest e h = tightest i ts ∙ h
 
 looser_reads : (i : Option Readers) (tighter : ℕ) (ts mid rest : List Placed) (e : Tree) (links : List LinkTree)
-    → read_joined plenty i tighter ts ≡ Ok (e, mid) → read_links plenty i (suc tighter) tighter mid ≡ Ok (links, rest) → read_joined plenty i (suc tighter) ts ≡ Ok (chained e links, rest)
+    → read_joined i tighter ts ≡ Ok (e, mid) → read_links i (suc tighter) tighter mid ≡ Ok (links, rest) → read_joined i (suc tighter) ts ≡ Ok (chained e links, rest)
 unfolding read_joined
 looser_reads i tighter ts mid rest e links g h =
-    behind_reads (λ x. chained x.0 x.1) (read_joined plenty i tighter) (read_links plenty i (suc tighter) tighter) ts mid rest e links g h
+    behind_reads (λ x. chained x.0 x.1) (read_joined i tighter) (read_links i (suc tighter) tighter) ts mid rest e links g h
 
 looser_halts : (i : Option Readers) (tighter : ℕ) (ts mid : List Placed) (e : Tree) (fault : SyntaxFault) (now : List Placed)
-    → read_joined plenty i tighter ts ≡ Ok (e, mid) → Halts (read_links plenty i (suc tighter) tighter mid) fault now → Halts (read_joined plenty i (suc tighter) ts) fault now
+    → read_joined i tighter ts ≡ Ok (e, mid) → Halts (read_links i (suc tighter) tighter mid) fault now → Halts (read_joined i (suc tighter) ts) fault now
 unfolding read_joined
 looser_halts i tighter ts mid e fault now g h =
-    behind_halts (λ x. chained x.0 x.1) (read_joined plenty i tighter) (read_links plenty i (suc tighter) tighter) ts mid e fault now g h
+    behind_halts (λ x. chained x.0 x.1) (read_joined i tighter) (read_links i (suc tighter) tighter) ts mid e fault now g h
 
 halts_looser : (i : Option Readers) (tighter : ℕ) (ts : List Placed) (fault : SyntaxFault) (now : List Placed)
-    → Halts (read_joined plenty i tighter ts) fault now → Halts (read_joined plenty i (suc tighter) ts) fault now
+    → Halts (read_joined i tighter ts) fault now → Halts (read_joined i (suc tighter) ts) fault now
 unfolding read_joined
 halts_looser i tighter ts fault now h =
-    halts_after ((read_joined plenty i tighter and read_links plenty i (suc tighter) tighter) ts) (λ x rest. Ok (chained x.0 x.1, rest)) fault now
-    (halts_after (read_joined plenty i tighter ts) (λ e mid. after (read_links plenty i (suc tighter) tighter mid) (λ links rest. Ok ((e, links), rest))) fault now h)
+    halts_after ((read_joined i tighter and read_links i (suc tighter) tighter) ts) (λ x rest. Ok (chained x.0 x.1, rest)) fault now
+    (halts_after (read_joined i tighter ts) (λ e mid. after (read_links i (suc tighter) tighter mid) (λ links rest. Ok ((e, links), rest))) fault now h)
 
 passes_by : (i : Option Readers) (tighter more : ℕ) (ts mid : List Placed) (e : Tree)
-    → NoOperator tighter (more + tighter + 1) mid → read_joined plenty i tighter ts ≡ Ok (e, mid) → read_joined plenty i (more + tighter) ts ≡ Ok (e, mid)
-passes_by i tighter zero ts mid e none h = subst (λ n. read_joined plenty i n ts ≡ Ok (e, mid)) (omega arith) h
+    → NoOperator tighter (more + tighter + 1) mid → read_joined i tighter ts ≡ Ok (e, mid) → read_joined i (more + tighter) ts ≡ Ok (e, mid)
+passes_by i tighter zero ts mid e none h = subst (λ n. read_joined i n ts ≡ Ok (e, mid)) (omega arith) h
 passes_by i tighter (suc more) ts mid e none h =
-    let before : read_joined plenty i (more + tighter) ts ≡ Ok (e, mid) = passes_by i tighter more ts mid e (λ n g k. none n g (omega arith)) h in
+    let before : read_joined i (more + tighter) ts ≡ Ok (e, mid) = passes_by i tighter more ts mid e (λ n g k. none n g (omega arith)) h in
     let next : suc (more + tighter) ≡ suc more + tighter = omega arith in
-    subst (λ n. read_joined plenty i n ts ≡ Ok (e, mid)) next
-    (looser_reads i (more + tighter) ts mid mid e [] before (repeated_end plenty (tells (operator_at (suc (more + tighter)))) (read_link plenty i (suc (more + tighter)) (more + tighter)) mid (none (suc (more + tighter)) (omega arith) (omega arith))))
+    subst (λ n. read_joined i n ts ≡ Ok (e, mid)) next
+    (looser_reads i (more + tighter) ts mid mid e [] before (repeated_none (tells (operator_at (suc (more + tighter)))) (read_link i (suc (more + tighter)) (more + tighter)) mid (none (suc (more + tighter)) (omega arith) (omega arith))))
 
 -- levels whose operators don't come next are passed over
 pub joined_passes : (i : Option Readers) (tighter looseness : ℕ) (ts mid : List Placed) (e : Tree)
-    → tighter ≤ looseness → NoOperator tighter (looseness + 1) mid → read_joined plenty i tighter ts ≡ Ok (e, mid) → read_joined plenty i looseness ts ≡ Ok (e, mid)
+    → tighter ≤ looseness → NoOperator tighter (looseness + 1) mid → read_joined i tighter ts ≡ Ok (e, mid) → read_joined i looseness ts ≡ Ok (e, mid)
 joined_passes i tighter looseness ts mid e le none h =
     let n : (looseness - tighter) + tighter ≡ looseness = omega arith in
-    subst (λ n. read_joined plenty i n ts ≡ Ok (e, mid)) n (passes_by i tighter (looseness - tighter) ts mid e (λ l g k. none l g (omega (arith, k, n))) h)
+    subst (λ n. read_joined i n ts ≡ Ok (e, mid)) n (passes_by i tighter (looseness - tighter) ts mid e (λ l g k. none l g (omega (arith, k, n))) h)
 
 halts_by : (i : Option Readers) (tighter more : ℕ) (ts : List Placed) (fault : SyntaxFault) (now : List Placed)
-    → Halts (read_joined plenty i tighter ts) fault now → Halts (read_joined plenty i (more + tighter) ts) fault now
-halts_by i tighter zero ts fault now h = subst (λ n. Halts (read_joined plenty i n ts) fault now) (omega arith) h
+    → Halts (read_joined i tighter ts) fault now → Halts (read_joined i (more + tighter) ts) fault now
+halts_by i tighter zero ts fault now h = subst (λ n. Halts (read_joined i n ts) fault now) (omega arith) h
 halts_by i tighter (suc more) ts fault now h =
     let next : suc (more + tighter) ≡ suc more + tighter = omega arith in
-    subst (λ n. Halts (read_joined plenty i n ts) fault now) next (halts_looser i (more + tighter) ts fault now (halts_by i tighter more ts fault now h))
+    subst (λ n. Halts (read_joined i n ts) fault now) next (halts_looser i (more + tighter) ts fault now (halts_by i tighter more ts fault now h))
 
 -- where a tighter level stops, the looser ones do
 pub joined_halts : (i : Option Readers) (tighter looseness : ℕ) (ts : List Placed) (fault : SyntaxFault) (now : List Placed)
-    → tighter ≤ looseness → Halts (read_joined plenty i tighter ts) fault now → Halts (read_joined plenty i looseness ts) fault now
+    → tighter ≤ looseness → Halts (read_joined i tighter ts) fault now → Halts (read_joined i looseness ts) fault now
 joined_halts i tighter looseness ts fault now le h =
     let n : (looseness - tighter) + tighter ≡ looseness = omega arith in
-    subst (λ n. Halts (read_joined plenty i n ts) fault now) n (halts_by i tighter (looseness - tighter) ts fault now h)
+    subst (λ n. Halts (read_joined i n ts) fault now) n (halts_by i tighter (looseness - tighter) ts fault now h)
 
 pub prefix_halts : (i : Option Readers) (looseness : ℕ) (ts : List Placed) (fault : SyntaxFault) (now : List Placed)
-    → Halts (read_prefix plenty i ts) fault now → Halts (read_joined plenty i looseness ts) fault now
+    → Halts (read_prefix i ts) fault now → Halts (read_joined i looseness ts) fault now
 prefix_halts i looseness ts fault now h =
     joined_halts i 0 looseness ts fault now (omega arith) (subst (λ a. Halts a fault now) (sym (tightest i ts)) h)
 
 -- the levels tighter than an operator that comes next are passed over, and those that it joins are read
 pub level_reads : (i : Option Readers) (tighter next : ℕ) (ts mid rest : List Placed) (e : Tree) (links : List LinkTree)
-    → tighter < next → NoOperator tighter next mid → read_joined plenty i tighter ts ≡ Ok (e, mid) → read_links plenty i next (next - 1) mid ≡ Ok (links, rest)
-    → read_joined plenty i next ts ≡ Ok (chained e links, rest)
+    → tighter < next → NoOperator tighter next mid → read_joined i tighter ts ≡ Ok (e, mid) → read_links i next (next - 1) mid ≡ Ok (links, rest)
+    → read_joined i next ts ≡ Ok (chained e links, rest)
 level_reads i tighter next ts mid rest e links less none g h =
     let n : suc (next - 1) ≡ next = omega arith in
-    let before : read_joined plenty i (next - 1) ts ≡ Ok (e, mid) = joined_passes i tighter (next - 1) ts mid e (omega arith) (λ l a b. none l a (omega (arith, b, n))) g in
-    subst (λ m. read_joined plenty i m ts ≡ Ok (chained e links, rest)) n
-    (looser_reads i (next - 1) ts mid rest e links before (subst (λ m. read_links plenty i m (next - 1) mid ≡ Ok (links, rest)) (sym n) h))
+    let before : read_joined i (next - 1) ts ≡ Ok (e, mid) = joined_passes i tighter (next - 1) ts mid e (omega arith) (λ l a b. none l a (omega (arith, b, n))) g in
+    subst (λ m. read_joined i m ts ≡ Ok (chained e links, rest)) n
+    (looser_reads i (next - 1) ts mid rest e links before (subst (λ m. read_links i m (next - 1) mid ≡ Ok (links, rest)) (sym n) h))
 
 pub level_halts : (i : Option Readers) (tighter next looseness : ℕ) (ts mid : List Placed) (e : Tree) (fault : SyntaxFault) (now : List Placed)
-    → tighter < next → next ≤ looseness → NoOperator tighter next mid → read_joined plenty i tighter ts ≡ Ok (e, mid) → Halts (read_links plenty i next (next - 1) mid) fault now
-    → Halts (read_joined plenty i looseness ts) fault now
+    → tighter < next → next ≤ looseness → NoOperator tighter next mid → read_joined i tighter ts ≡ Ok (e, mid) → Halts (read_links i next (next - 1) mid) fault now
+    → Halts (read_joined i looseness ts) fault now
 level_halts i tighter next looseness ts mid e fault now less le none g h =
     let n : suc (next - 1) ≡ next = omega arith in
-    let before : read_joined plenty i (next - 1) ts ≡ Ok (e, mid) = joined_passes i tighter (next - 1) ts mid e (omega arith) (λ l a b. none l a (omega (arith, b, n))) g in
+    let before : read_joined i (next - 1) ts ≡ Ok (e, mid) = joined_passes i tighter (next - 1) ts mid e (omega arith) (λ l a b. none l a (omega (arith, b, n))) g in
     joined_halts i next looseness ts fault now le
-    (subst (λ m. Halts (read_joined plenty i m ts) fault now) n
-    (looser_halts i (next - 1) ts mid e fault now before (subst (λ m. Halts (read_links plenty i m (next - 1) mid) fault now) (sym n) h)))
+    (subst (λ m. Halts (read_joined i m ts) fault now) n
+    (looser_halts i (next - 1) ts mid e fault now before (subst (λ m. Halts (read_links i m (next - 1) mid) fault now) (sym n) h)))

@@ -43,8 +43,8 @@ within_again : (f g : Kinds) → Within (f ∪ (f ∪ g)) (f ∪ g)
 within_again f g = union_within f (f ∪ g) (f ∪ g) (within_left f g) (λ k h. h)
 
 -- joined operands are read exactly
-pub reads_joined : {levels : ℕ} {room : Type 0} (D : Deeper) (l : ℕ) (inner : ℕ → Option Readers) → Inner levels D l inner room → (looseness : ℕ) → looseness ≤ 10
-    → IsRead levels (joined D l looseness) (λ most. read_joined most (inner most) looseness) l begins_expression (goes_joined looseness) room
+pub reads_joined : {levels : ℕ} {room : Type 0} (D : Deeper) (l : ℕ) (inner : Option Readers) → Inner levels D l inner room → (looseness : ℕ) → looseness ≤ 10
+    → IsRead levels (joined D l looseness) (read_joined inner looseness) l begins_expression (goes_joined looseness) room
 unfolding read_joined
 reads_joined D l inner w zero h = reads_prefix D l inner w
 reads_joined D l inner w (suc n) h =
@@ -59,8 +59,8 @@ reads_joined D l inner w (suc n) h =
 -- ---- choices
 
 -- a choice is read exactly
-pub reads_choice : {levels : ℕ} {room : Type 0} (D : Deeper) (l : ℕ) (inner : ℕ → Option Readers) → Inner levels D l inner room
-    → IsRead levels (choice D l) (λ most. read_choice most (inner most)) l begins_expression goes_choice room
+pub reads_choice : {levels : ℕ} {room : Type 0} (D : Deeper) (l : ℕ) (inner : Option Readers) → Inner levels D l inner room
+    → IsRead levels (choice D l) (read_choice inner) l begins_expression goes_choice room
 unfolding read_choice just
 reads_choice D l inner w =
     reads_wider goes_choice
@@ -80,8 +80,8 @@ reads_choice D l inner w =
 -- ---- assignments
 
 -- an assignment is read exactly
-pub reads_assignment_at : {levels : ℕ} {room : Type 0} (D : Deeper) (l : ℕ) (inner : ℕ → Option Readers) → Inner levels D l inner room
-    → IsRead levels (assignment D l) (λ most. read_assignment most (inner most)) l begins_expression goes_assignment room
+pub reads_assignment_at : {levels : ℕ} {room : Type 0} (D : Deeper) (l : ℕ) (inner : Option Readers) → Inner levels D l inner room
+    → IsRead levels (assignment D l) (read_assignment inner) l begins_expression goes_assignment room
 unfolding read_assignment just
 reads_assignment_at D l inner w =
     reads_wider goes_assignment
@@ -96,8 +96,8 @@ reads_assignment_at D l inner w =
 -- ---- expressions with commas
 
 -- an expression with commas is read exactly
-pub reads_comma_at : {levels : ℕ} {room : Type 0} (D : Deeper) (l : ℕ) (inner : ℕ → Option Readers) → Inner levels D l inner room
-    → IsRead levels (comma D l) (λ most. read_comma most (inner most)) l begins_expression goes_comma room
+pub reads_comma_at : {levels : ℕ} {room : Type 0} (D : Deeper) (l : ℕ) (inner : Option Readers) → Inner levels D l inner room
+    → IsRead levels (comma D l) (read_comma inner) l begins_expression goes_comma room
 unfolding read_comma just
 reads_comma_at D l inner w =
     let apart : Apart goes_assignment (just kind.Comma) = apart_by goes_assignment (just kind.Comma) refl (λ v u. refl) in

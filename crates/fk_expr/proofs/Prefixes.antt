@@ -20,14 +20,14 @@ use Rattle.fk_reading.proofs.Then.{exact_wider}
 use Rattle.fk_reading.proofs.Productions.{IsRead, reads_token, reads_telling, reads_making, reads_then, reads_or, reads_in_parentheses, shape_in_parentheses, reads_lower, reads_kinds, reads_wider}
 use Rattle.fk_reading.proofs.TwoTokens.{two, StartsAt, exact_two, starts_at_token, starts_at_making, starts_at_then, starts_at_left, starts_at_right}
 use Rattle.fk_expr.proofs.TypeNames.{goes_type, shape_type_name, reads_type_name, example_type_name}
-use Rattle.fk_expr.proofs.Beginnings.{Examples, DeeperShapes, shape_puts, shape_cast, shape_sizeof, shape_signed}
+use Rattle.fk_expr.proofs.Beginnings.{Examples, DeeperShapes, shape_puts, shape_cast, shape_sizeof, shape_signed, prefixes}
 use Rattle.fk_expr.proofs.Inner.{Inner, examples_of, reads_opened}
 use Rattle.fk_expr.proofs.Suffixes.{reads_postfix}
 use Rattle.fk_reading.specs.Kinds.{just}
 
 -- a cast is read exactly
-pub reads_cast : {levels : ℕ} {room : Type 0} (D : Deeper) (l : ℕ) (inner : ℕ → Option Readers) → Inner levels D l inner room
-    → IsRead levels (cast D l) (λ most. read_cast most (inner most)) (l + 1) (just kind.OpenParenthesis) begins_suffix room
+pub reads_cast : {levels : ℕ} {room : Type 0} (D : Deeper) (l : ℕ) (inner : Option Readers) → Inner levels D l inner room
+    → IsRead levels (cast D l) (read_cast inner) (l + 1) (just kind.OpenParenthesis) begins_suffix room
 unfolding read_cast just
 reads_cast D l inner w =
     reads_opened _ w (shape_cast D l (examples_of w)) (λ v.
@@ -38,8 +38,8 @@ reads_cast D l inner w =
     (none_apart begins_type))).exact)
 
 -- `sizeof` is read exactly
-pub reads_sizeof : {levels : ℕ} {room : Type 0} (D : Deeper) (l : ℕ) (inner : ℕ → Option Readers) → Inner levels D l inner room
-    → IsRead levels (sizeof l) (λ most. read_sizeof most (inner most)) l (just kind.Sizeof) none room
+pub reads_sizeof : {levels : ℕ} {room : Type 0} (D : Deeper) (l : ℕ) (inner : Option Readers) → Inner levels D l inner room
+    → IsRead levels (sizeof l) (read_sizeof inner) l (just kind.Sizeof) none room
 unfolding read_sizeof just
 reads_sizeof D l inner w =
     reads_making _ (reads_then (reads_token l kind.Sizeof w.level)
@@ -51,8 +51,8 @@ reads_sizeof D l inner w =
 abbrev signed : Deeper → ℕ → Language Tree
 signed D l = making (λ x. Prefix (spot x.0.0) x.0.1 x.1) (telling (l + 1) prefix_told then D.prefix (l + 1))
 
-reads_signed : {levels : ℕ} {room : Type 0} (D : Deeper) (l : ℕ) (inner : ℕ → Option Readers) → Inner levels D l inner room
-    → IsRead levels (signed D l) (λ most. read_signed (inner most)) (l + 1) (tells prefix_told) begins_suffix room
+reads_signed : {levels : ℕ} {room : Type 0} (D : Deeper) (l : ℕ) (inner : Option Readers) → Inner levels D l inner room
+    → IsRead levels (signed D l) (read_signed inner) (l + 1) (tells prefix_told) begins_suffix room
 unfolding read_signed
 reads_signed D l inner w =
     reads_opened _ w (shape_making _ (shape_signed D l (examples_of w))) (λ v.
@@ -142,8 +142,8 @@ starts_other D l x t h =
 -- ---- prefix expressions
 
 -- what is no cast and has no sign is read exactly
-reads_other : {levels : ℕ} {room : Type 0} (D : Deeper) (l : ℕ) (inner : ℕ → Option Readers) → Inner levels D l inner room
-    → IsRead levels (sizeof l or postfix D l) (λ most. by_next (just kind.Sizeof) (read_sizeof most (inner most)) (read_postfix most (inner most))) l (just kind.Sizeof ∪ begins_primary) begins_suffix room
+reads_other : {levels : ℕ} {room : Type 0} (D : Deeper) (l : ℕ) (inner : Option Readers) → Inner levels D l inner room
+    → IsRead levels (sizeof l or postfix D l) (by_next (just kind.Sizeof) (read_sizeof inner) (read_postfix inner)) l (just kind.Sizeof ∪ begins_primary) begins_suffix room
 unfolding just
 reads_other D l inner w =
     reads_wider begins_suffix (λ k h. h)
@@ -153,9 +153,9 @@ reads_other D l inner w =
 abbrev unsigned : Kinds
 unsigned = just kind.OpenParenthesis ∪ (just kind.Sizeof ∪ begins_primary)
 
-reads_unsigned : {levels : ℕ} {room : Type 0} (D : Deeper) (l : ℕ) (inner : ℕ → Option Readers) → Inner levels D l inner room
+reads_unsigned : {levels : ℕ} {room : Type 0} (D : Deeper) (l : ℕ) (inner : Option Readers) → Inner levels D l inner room
     → IsRead levels (cast D l or (sizeof l or postfix D l))
-    (λ most ts. either (cast_is_next ts) (read_cast most (inner most)) (by_next (just kind.Sizeof) (read_sizeof most (inner most)) (read_postfix most (inner most))) ts)
+    (λ ts. either (cast_is_next ts) (read_cast inner) (by_next (just kind.Sizeof) (read_sizeof inner) (read_postfix inner)) ts)
     l unsigned begins_suffix room
 unfolding just
 reads_unsigned D l inner w =
@@ -170,13 +170,9 @@ reads_unsigned D l inner w =
           (λ r t h. (starts_cast D l (examples_of w r) t h, starts_other D l (examples_of w r) t h)));
     }
 
--- the kinds that begin a prefix expression
-abbrev prefixes : Kinds
-prefixes = tells prefix_told ∪ unsigned
-
 -- a prefix expression is read exactly
-pub reads_prefix : {levels : ℕ} {room : Type 0} (D : Deeper) (l : ℕ) (inner : ℕ → Option Readers) → Inner levels D l inner room
-    → IsRead levels (prefix D l) (λ most. read_prefix most (inner most)) l begins_expression begins_suffix room
+pub reads_prefix : {levels : ℕ} {room : Type 0} (D : Deeper) (l : ℕ) (inner : Option Readers) → Inner levels D l inner room
+    → IsRead levels (prefix D l) (read_prefix inner) l begins_expression begins_suffix room
 unfolding read_prefix just
 reads_prefix D l inner w =
     reads_kinds begins_expression (within_by prefixes begins_expression refl (λ v u. refl)) (within_by begins_expression prefixes refl (λ v u. refl))

@@ -1,5 +1,5 @@
 -- What was read of tokens, by their indices.
-use Rattle.std.proofs.Common.{◌≡◌, ℕ, ◌+◌, ◌-◌, ◌≤◌, ◌<◌, ◌^◌, List, [], ◌∷◌, ◌++◌, Some, Result, Ok, Err, IfOk, length, map, drop, ap, sym, ◌∙◌, subst, arith}
+use Rattle.std.proofs.Common.{◌≡◌, ℕ, ◌+◌, ◌-◌, ◌≤◌, List, [], ◌∷◌, ◌++◌, Some, Result, Ok, Err, IfOk, length, map, drop, ap, sym, ◌∙◌, subst, arith}
 use Rattle.std.proofs.lemmas.List.{drop-drop, length-append, length-drop}
 use Rattle.fk_lex.specs.declared.token.Token.{Token}
 use Rattle.fk_lex.specs.View.{spelled}
@@ -13,7 +13,6 @@ use Rattle.fk_reading.specs.Faults.{Tells, tokens_from}
 use Rattle.fk_reading.specs.Gives.{Halts, Gives, next_place}
 use Rattle.fk_expr.specs.Grammar.{base, Comma, Assignment}
 use Rattle.fk_expr.specs.Reading.{inner, read_base, read_comma, read_assignment}
-use Rattle.fk_reading.specs.Ahead.{plenty}
 use Rattle.fk_reading.proofs.Cursors.{length-numbered}
 use Rattle.fk_expr.proofs.TypeNames.{reads_base}
 use Rattle.fk_reading.proofs.Longest.{reads}
@@ -73,16 +72,6 @@ pub refuses : {A : Type 0} (L : Family A) (tokens : List Placed) (answer : Answe
     → Reads L tokens answer → Halts answer fault now → Tells (λ stop. Reads L tokens (Err stop)) fault
 refuses L tokens answer fault now r h = halts_tells (λ stop. Reads L tokens (Err stop)) answer fault now (stop_of L tokens answer r) h
 
-pub comma_from : (at level : ℕ) (ts : List Token) → length ts < 2 ^ 32 → level ≤ LEVELS
-    → Reads (Comma level) (tokens_from at ts) (read_comma plenty (inner plenty (LEVELS - level)) (tokens_from at ts))
-unfolding plenty
-comma_from at level ts few h = reads_comma level plenty (tokens_from at ts) h (omega (arith, short_from at ts))
-
-pub assignment_from : (at level : ℕ) (ts : List Token) → length ts < 2 ^ 32 → level ≤ LEVELS
-    → Reads (Assignment level) (tokens_from at ts) (read_assignment plenty (inner plenty (LEVELS - level)) (tokens_from at ts))
-unfolding plenty
-assignment_from at level ts few h = reads_assignment level plenty (tokens_from at ts) h (omega (arith, short_from at ts))
-
 -- ---- at a cursor
 
 -- what holds of an answer holds of the value that was read
@@ -98,22 +87,18 @@ not_given view (Ok x) now answer R g h = tt
 not_given view (Err fault) now answer R g h = halts_tells (λ stop. R (Err stop)) answer fault now (λ s e. subst R e h) g
 
 -- tokens are read so, where so many levels are left
-pub comma_where : (left : ℕ) (ts : List Placed) → length ts < 2 ^ 32 → left ≤ LEVELS → Reads (Comma (LEVELS - left)) ts (read_comma plenty (inner plenty left) ts)
-unfolding plenty
-comma_where left ts few h =
+pub comma_where : (left : ℕ) (ts : List Placed) → left ≤ LEVELS → Reads (Comma (LEVELS - left)) ts (read_comma (inner left) ts)
+comma_where left ts h =
     let same : LEVELS - (LEVELS - left) ≡ left = omega arith in
-    subst (λ n. Reads (Comma (LEVELS - left)) ts (read_comma plenty (inner plenty n) ts)) same (reads_comma (LEVELS - left) plenty ts (omega arith) (omega arith))
+    subst (λ n. Reads (Comma (LEVELS - left)) ts (read_comma (inner n) ts)) same (reads_comma (LEVELS - left) ts (omega arith))
 
-pub assignment_where : (left : ℕ) (ts : List Placed) → length ts < 2 ^ 32 → left ≤ LEVELS
-    → Reads (Assignment (LEVELS - left)) ts (read_assignment plenty (inner plenty left) ts)
-unfolding plenty
-assignment_where left ts few h =
+pub assignment_where : (left : ℕ) (ts : List Placed) → left ≤ LEVELS → Reads (Assignment (LEVELS - left)) ts (read_assignment (inner left) ts)
+assignment_where left ts h =
     let same : LEVELS - (LEVELS - left) ≡ left = omega arith in
-    subst (λ n. Reads (Assignment (LEVELS - left)) ts (read_assignment plenty (inner plenty n) ts)) same
-    (reads_assignment (LEVELS - left) plenty ts (omega arith) (omega arith))
+    subst (λ n. Reads (Assignment (LEVELS - left)) ts (read_assignment (inner n) ts)) same (reads_assignment (LEVELS - left) ts (omega arith))
 
 -- and the first words of a type
 pub base_where : (ts : List Placed) → Reads (λ bound. base 0) ts (read_base ts)
 base_where ts =
-    reads {L = λ bound. base 0} {P = λ most. read_base} {goes_on = (just kind.Int)} {room = λ bound. Unit {0}}
-    (record { enough = 0; has_room = tt; exact = λ bound. (reads_base 0 (omega arith)).exact }) (length ts) ts (omega arith)
+    reads {L = λ bound. base 0} {P = read_base} {goes_on = just kind.Int} {room = λ bound. Unit {0}}
+    (record { enough = 0; has_room = tt; exact = λ bound. (reads_base 0 (omega arith)).exact }) ts

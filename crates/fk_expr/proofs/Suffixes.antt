@@ -21,8 +21,8 @@ use Rattle.fk_reading.specs.Kinds.{just}
 abbrev goes_arguments : Kinds
 goes_arguments = (goes_assignment ∪ (goes_assignment ∪ just kind.Comma)) ∪ begins_expression
 
-reads_arguments : {levels : ℕ} {room : Type 0} (D : Deeper) (l : ℕ) (inner : ℕ → Option Readers) → (v : Below levels D l inner room)
-    → IsLooselyRead levels (arguments D (l + 1)) (λ most. read_arguments most (v.readers most)) (l + 1) begins_expression goes_arguments room
+reads_arguments : {levels : ℕ} {room : Type 0} (D : Deeper) (l : ℕ) (inner : Option Readers) → (v : Below levels D l inner room)
+    → IsLooselyRead levels (arguments D (l + 1)) (read_arguments v.readers) (l + 1) begins_expression goes_arguments room
 unfolding read_arguments just
 reads_arguments D l inner v =
     loosely_making _ (reads_maybe (reads_then_loose v.assignment
@@ -37,8 +37,8 @@ index D l = making (λ x. Index (spot x.0) x.1.0) (token (l + 1) kind.OpenBracke
 abbrev read_index : Option Readers → Reader SuffixTree
 read_index inner = opened (just kind.OpenBracket) inner (λ R. giving (λ x. Index (spot x.0) x.1.0) (expect kind.OpenBracket and R.comma and expect kind.CloseBracket))
 
-reads_index : {levels : ℕ} {room : Type 0} (D : Deeper) (l : ℕ) (inner : ℕ → Option Readers) → Inner levels D l inner room
-    → IsRead levels (index D l) (λ most. read_index (inner most)) (l + 1) (just kind.OpenBracket) none room
+reads_index : {levels : ℕ} {room : Type 0} (D : Deeper) (l : ℕ) (inner : Option Readers) → Inner levels D l inner room
+    → IsRead levels (index D l) (read_index inner) (l + 1) (just kind.OpenBracket) none room
 unfolding just
 reads_index D l inner w =
     reads_opened _ w
@@ -52,13 +52,13 @@ reads_index D l inner w =
 abbrev call : Deeper → ℕ → Language SuffixTree
 call D l = making (λ x. Call (spot x.0) (trees_of x.1.0)) (in_parentheses (l + 1) (arguments D (l + 1)))
 
-abbrev read_call : ℕ → Option Readers → Reader SuffixTree
-read_call most inner =
+abbrev read_call : Option Readers → Reader SuffixTree
+read_call inner =
     opened (just kind.OpenParenthesis) inner (λ R.
-    giving (λ x. Call (spot x.0) (trees_of x.1.0)) (expect kind.OpenParenthesis and read_arguments most R and expect kind.CloseParenthesis))
+    giving (λ x. Call (spot x.0) (trees_of x.1.0)) (expect kind.OpenParenthesis and read_arguments R and expect kind.CloseParenthesis))
 
-reads_call : {levels : ℕ} {room : Type 0} (D : Deeper) (l : ℕ) (inner : ℕ → Option Readers) → Inner levels D l inner room
-    → IsRead levels (call D l) (λ most. read_call most (inner most)) (l + 1) (just kind.OpenParenthesis) none room
+reads_call : {levels : ℕ} {room : Type 0} (D : Deeper) (l : ℕ) (inner : Option Readers) → Inner levels D l inner room
+    → IsRead levels (call D l) (read_call inner) (l + 1) (just kind.OpenParenthesis) none room
 unfolding just
 reads_call D l inner w =
     reads_opened _ w (shape_making _ (shape_in_parentheses (l + 1) (λ r. example_empty (empty_making _ (empty_maybe _))))) (λ v.
@@ -69,31 +69,19 @@ reads_call D l inner w =
 
 -- a name behind a sign
 reads_member : {levels : ℕ} {room : Type 0} (l : ℕ) (k : TokenKind) → l ≤ levels
-    → IsRead levels (token l k then token l kind.Word) (λ most. expect k and expect kind.Word) l (just k) none room
+    → IsRead levels (token l k then token l kind.Word) (expect k and expect kind.Word) l (just k) none room
 reads_member l k h = reads_then (reads_token l k h) (reads_token l kind.Word h) (none_apart (just kind.Word))
 
--- the kinds that begin the productions of a suffix, from each on
-abbrev from_increment : Kinds
-from_increment = just kind.Increment ∪ just kind.Decrement
-
-abbrev from_arrow : Kinds
-from_arrow = just kind.Arrow ∪ from_increment
-
-abbrev from_dot : Kinds
-from_dot = just kind.Dot ∪ from_arrow
-
-abbrev from_parenthesis : Kinds
-from_parenthesis = just kind.OpenParenthesis ∪ from_dot
-
-abbrev from_bracket : Kinds
-from_bracket = just kind.OpenBracket ∪ from_parenthesis
+-- the kinds that begin the productions of a suffix
+abbrev suffixes : Kinds
+suffixes = just kind.OpenBracket ∪ (just kind.OpenParenthesis ∪ (just kind.Dot ∪ (just kind.Arrow ∪ (just kind.Increment ∪ just kind.Decrement))))
 
 -- a suffix is read exactly
-pub reads_suffix : {levels : ℕ} {room : Type 0} (D : Deeper) (l : ℕ) (inner : ℕ → Option Readers) → Inner levels D l inner room
-    → IsRead levels (suffix D l) (λ most. read_suffix most (inner most)) l begins_suffix none room
+pub reads_suffix : {levels : ℕ} {room : Type 0} (D : Deeper) (l : ℕ) (inner : Option Readers) → Inner levels D l inner room
+    → IsRead levels (suffix D l) (read_suffix inner) l begins_suffix none room
 unfolding read_suffix just
 reads_suffix D l inner w =
-    reads_kinds begins_suffix (within_by from_bracket begins_suffix refl (λ v u. refl)) (within_by begins_suffix from_bracket refl (λ v u. refl))
+    reads_kinds begins_suffix (within_by suffixes begins_suffix refl (λ v u. refl)) (within_by begins_suffix suffixes refl (λ v u. refl))
     (reads_wider none (λ k h. h)
     (reads_or (reads_lower (omega arith) (reads_index D l inner w))
     (reads_or (reads_lower (omega arith) (reads_call D l inner w))
@@ -101,14 +89,14 @@ reads_suffix D l inner w =
     (reads_or (reads_making _ (reads_member l kind.Arrow w.level))
     (reads_or (reads_making _ (reads_token l kind.Increment w.level)) (reads_making _ (reads_token l kind.Decrement w.level))
     (apart_by (just kind.Increment) (just kind.Decrement) refl (λ v u. refl)))
-    (apart_by (just kind.Arrow) from_increment refl (λ v u. refl)))
-    (apart_by (just kind.Dot) from_arrow refl (λ v u. refl)))
-    (apart_by (just kind.OpenParenthesis) from_dot refl (λ v u. refl)))
-    (apart_by (just kind.OpenBracket) from_parenthesis refl (λ v u. refl))))
+    (apart_by (just kind.Arrow) _ refl (λ v u. refl)))
+    (apart_by (just kind.Dot) _ refl (λ v u. refl)))
+    (apart_by (just kind.OpenParenthesis) _ refl (λ v u. refl)))
+    (apart_by (just kind.OpenBracket) _ refl (λ v u. refl))))
 
 -- a primary expression with its suffixes is read exactly
-pub reads_postfix : {levels : ℕ} {room : Type 0} (D : Deeper) (l : ℕ) (inner : ℕ → Option Readers) → Inner levels D l inner room
-    → IsRead levels (postfix D l) (λ most. read_postfix most (inner most)) l begins_primary begins_suffix room
+pub reads_postfix : {levels : ℕ} {room : Type 0} (D : Deeper) (l : ℕ) (inner : Option Readers) → Inner levels D l inner room
+    → IsRead levels (postfix D l) (read_postfix inner) l begins_primary begins_suffix room
 unfolding read_postfix
 reads_postfix D l inner w =
     reads_wider begins_suffix (λ k h. h)

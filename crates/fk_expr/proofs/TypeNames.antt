@@ -15,7 +15,8 @@ use Rattle.fk_reading.specs.Kinds.{just}
 abbrev bases : Kinds
 bases = just kind.Int ∪ (just kind.Unsigned ∪ (just kind.Void ∪ just kind.Struct))
 
-shape_base : {room : Type 0} (l : ℕ) → Shape (base l) l begins_type room
+-- the first words of a type begin with these kinds
+pub shape_base : {room : Type 0} (l : ℕ) → Shape (base l) l begins_type room
 unfolding just
 shape_base l =
     shape_kinds begins_type (within_by bases begins_type refl (λ v u. refl)) (within_by begins_type bases refl (λ v u. refl))
@@ -33,7 +34,7 @@ abbrev after_base : Kinds
 after_base = none ∪ ((none ∪ (none ∪ just kind.Int)) ∪ (none ∪ none))
 
 -- a type without its stars is read exactly
-pub reads_base : {levels : ℕ} {room : Type 0} (l : ℕ) → l ≤ levels → IsRead levels (base l) (λ most. read_base) l begins_type (just kind.Int) room
+pub reads_base : {levels : ℕ} {room : Type 0} (l : ℕ) → l ≤ levels → IsRead levels (base l) read_base l begins_type (just kind.Int) room
 unfolding just
 reads_base l h =
     reads_kinds begins_type (within_by bases begins_type refl (λ v u. refl)) (within_by begins_type bases refl (λ v u. refl))
@@ -51,7 +52,7 @@ abbrev pub goes_type : Kinds
 goes_type = just kind.Int ∪ (none ∪ just kind.Star)
 
 -- a type is read exactly
-pub reads_type_name : {levels : ℕ} {room : Type 0} (l : ℕ) → l ≤ levels → IsRead levels (type_name l) (λ most. read_type_name most) l begins_type goes_type room
+pub reads_type_name : {levels : ℕ} {room : Type 0} (l : ℕ) → l ≤ levels → IsRead levels (type_name l) read_type_name l begins_type goes_type room
 unfolding just
 reads_type_name l h =
     reads_making _ (reads_then_loose (reads_base l h) (reads_many (reads_token l kind.Star h) (none_apart (just kind.Star))) (apart_by (just kind.Int) (just kind.Star) refl (λ v u. refl)))

@@ -5,11 +5,11 @@ use Rattle.fk_syntax.specs.declared.nodes.Index.TheVariants.{Node, StructName}
 use Rattle.fk_syntax.specs.declared.sign.Sign.{Sign}
 use Rattle.fk_syntax.specs.Nodes.{base_indices, type_indices, tree_indices, links_indices, trees_indices, suffixes_indices}
 use Rattle.fk_syntax.specs.Tree.{BaseType, TypeTree, Tree, LinkTree, SuffixTree, Index as AtIndex, Call, Dot, Arrow, Up, Down, links_of, trees_of, suffixes_of, suffix}
-use Rattle.fk_reading.specs.Languages.{Placed}
+use Rattle.fk_reading.specs.Languages.{Placed, Language, token, telling, ◌then◌, making}
 use Rattle.fk_expr.specs.Grammar as g
-use Rattle.fk_expr.specs.Grammar.{Deeper, deeper, chained, suffixed, chosen, assigned, listed}
+use Rattle.fk_expr.specs.Grammar.{Deeper, deeper, linked, comma_linked, chained, suffixed, chosen, assigned, listed}
 use Rattle.fk_expr.specs.Kinds.{number_told, prefix_told, assignment_told}
-use Rattle.fk_reading.proofs.Uses.{one, Measure, Held, uncounted, by_place, by_first, both, each, if_some, held_uncounted, held_token, held_telling, held_then, held_or, held_making, held_many, held_maybe, held_nothing}
+use Rattle.fk_reading.proofs.Uses.{one, Measure, Held, by_place, by_first, both, each, if_some, uncounted, held_uncounted, held_token, held_telling, ◌beside◌, held_or, held_making, held_many, held_maybe, held_nothing}
 use Rattle.fk_lex.specs.declared.token.TokenKind.TheVariants as kind
 
 -- a way to count the indices in a list: at most as often as they stand there
@@ -82,15 +82,16 @@ suffixes_count C (x ∷ xs) k = let a = suffix_before C x xs k in let b = suffix
 
 pub held_base : (C : Count) (l : ℕ) → Held (g.base l) (base_count C)
 held_base C l =
-    held_or _ _ _ (held_making _ _ by_place _ (held_token l kind.Int) (λ t k. let e = C.empty k in omega (arith, e)))
-    (held_or _ _ _ (held_making _ _ uncounted _ (held_uncounted _) (λ t k. let e = C.empty k in omega (arith, e)))
-    (held_or _ _ _ (held_making _ _ by_place _ (held_token l kind.Void) (λ t k. let e = C.empty k in omega (arith, e)))
-    (held_making _ _ (both by_place by_place) _ (held_then _ _ by_place by_place (held_token l kind.Struct) (held_token l kind.Word))
-    (λ x k. let a = C.name x.1.at k in omega (arith, a)))))
+    held_or (held_making _ held_uncounted none)
+    (held_or (held_making _ held_uncounted none)
+    (held_or (held_making _ held_uncounted none)
+    (held_making _ (held_token l kind.Struct beside held_token l kind.Word) (λ x k. let a = C.name x.1.at k in omega (arith, a)))))
+  where
+    none : {A : Type 0} (a : A) (k : ℕ) → C.of [] k ≤ 0
+    none a k = let e = C.empty k in omega (arith, e)
 
 pub held_type : (C : Count) (l : ℕ) → Held (g.type_name l) (type_count C)
-held_type C l =
-    held_making _ _ (both (base_count C) uncounted) _ (held_then _ _ (base_count C) uncounted (held_base C l) (held_uncounted _)) (λ x k. omega arith)
+held_type C l = held_making _ (held_base C l beside held_uncounted) (λ x k. omega arith)
 
 -- what stands one level deeper
 pub record HeldDeeper (C : Count) (D : Deeper) : Type 0 where
@@ -99,52 +100,39 @@ pub record HeldDeeper (C : Count) (D : Deeper) : Type 0 where
   pub choice : (l : ℕ) → Held (D.choice l) (tree_count C)
   pub prefix : (l : ℕ) → Held (D.prefix l) (tree_count C)
 
-pub held_parenthesized : (C : Count) (D : Deeper) → HeldDeeper C D → (l : ℕ) → Held (g.parenthesized D l) (tree_count C)
-held_parenthesized C D H l =
-    held_making _ _ (both uncounted (both (tree_count C) uncounted)) _
-    (held_then _ _ uncounted (both (tree_count C) uncounted) (held_uncounted _) (held_then _ _ (tree_count C) uncounted (H.comma (l + 1)) (held_uncounted _)))
-    (λ x k. omega arith)
+held_parenthesized : (C : Count) (D : Deeper) → HeldDeeper C D → (l : ℕ) → Held (g.parenthesized D l) (tree_count C)
+held_parenthesized C D H l = held_making _ (held_uncounted beside H.comma (l + 1) beside held_uncounted) (λ x k. omega arith)
 
-pub held_puts : (C : Count) (l : ℕ) → Held (g.puts l) (tree_count C)
-held_puts C l =
-    held_making _ _ (both by_place uncounted) _ (held_then _ _ by_place uncounted (held_token l kind.Puts) (held_uncounted _))
-    (λ x k. let a = C.node x.0.at k in omega (arith, a))
+held_puts : (C : Count) (l : ℕ) → Held (g.puts l) (tree_count C)
+held_puts C l = held_making _ (held_token l kind.Puts beside held_uncounted) (λ x k. let a = C.node x.0.at k in omega (arith, a))
 
-pub held_primary : (C : Count) (D : Deeper) → HeldDeeper C D → (l : ℕ) → Held (g.primary D l) (tree_count C)
+held_primary : (C : Count) (D : Deeper) → HeldDeeper C D → (l : ℕ) → Held (g.primary D l) (tree_count C)
 held_primary C D H l =
-    held_or _ _ _ (held_making _ _ by_first _ (held_telling l number_told) (λ x k. C.node x.0.at k))
-    (held_or _ _ _ (held_making _ _ by_place _ (held_token l kind.Word) (λ t k. C.node t.at k))
-    (held_or _ _ _ (held_making _ _ by_place _ (held_token l kind.At) (λ t k. C.node t.at k))
-    (held_or _ _ _ (held_making _ _ by_place _ (held_token l kind.Dollar) (λ t k. C.node t.at k))
-    (held_or _ _ _ (held_parenthesized C D H l) (held_puts C l)))))
+    held_or (held_making _ (held_telling l number_told) (λ x k. C.node x.0.at k))
+    (held_or (held_making _ (held_token l kind.Word) (λ t k. C.node t.at k))
+    (held_or (held_making _ (held_token l kind.At) (λ t k. C.node t.at k))
+    (held_or (held_making _ (held_token l kind.Dollar) (λ t k. C.node t.at k))
+    (held_or (held_parenthesized C D H l) (held_puts C l)))))
 
 listed_count : (C : Count) (o : Option (Tree × List Tree)) (k : ℕ) → each (tree_count C) (listed o) k ≤ if_some (both (tree_count C) (each (tree_count C))) o k
 listed_count C None k = omega arith
-listed_count C (Some x) k = omega arith
+listed_count C (Some (first, others)) k = omega arith
 
-pub held_arguments : (C : Count) (D : Deeper) → HeldDeeper C D → (l : ℕ) → Held (g.arguments D l) (each (tree_count C))
-held_arguments C D H l =
-    held_making _ _ (if_some (both (tree_count C) (each (tree_count C)))) _
-    (held_maybe _ (both (tree_count C) (each (tree_count C)))
-    (held_then _ _ (tree_count C) (each (tree_count C)) (H.assignment l)
-    (held_many _ (tree_count C)
-    (held_making _ _ (both uncounted (tree_count C)) _ (held_then _ _ uncounted (tree_count C) (held_uncounted _) (H.assignment l)) (λ x k. omega arith)))))
-    (listed_count C)
+-- an argument behind a comma
+held_next : (C : Count) (D : Deeper) → HeldDeeper C D → (l : ℕ) → Held (making (λ (comma, next). next) (token l kind.Comma then D.assignment l)) (tree_count C)
+held_next C D H l = held_making _ (held_uncounted beside H.assignment l) (λ x k. omega arith)
 
-pub held_suffix : (C : Count) (D : Deeper) → HeldDeeper C D → (l : ℕ) → Held (g.suffix D l) (suffix_count C)
+held_arguments : (C : Count) (D : Deeper) → HeldDeeper C D → (l : ℕ) → Held (g.arguments D l) (each (tree_count C))
+held_arguments C D H l = held_making _ (held_maybe (H.assignment l beside held_many (held_next C D H l))) (listed_count C)
+
+held_suffix : (C : Count) (D : Deeper) → HeldDeeper C D → (l : ℕ) → Held (g.suffix D l) (suffix_count C)
 held_suffix C D H l =
-    held_or _ _ _
-    (held_making _ _ (both by_place (both (tree_count C) uncounted)) _
-    (held_then _ _ by_place (both (tree_count C) uncounted) (held_token (l + 1) kind.OpenBracket) (held_then _ _ (tree_count C) uncounted (H.comma (l + 1)) (held_uncounted _)))
-    (λ x k. omega arith))
-    (held_or _ _ _
-    (held_making _ _ (both by_place (both (each (tree_count C)) uncounted)) _
-    (held_then _ _ by_place (both (each (tree_count C)) uncounted) (held_token (l + 1) kind.OpenParenthesis) (held_then _ _ (each (tree_count C)) uncounted (held_arguments C D H (l + 1)) (held_uncounted _)))
+    held_or (held_making _ (held_token (l + 1) kind.OpenBracket beside H.comma (l + 1) beside held_uncounted) (λ x k. omega arith))
+    (held_or (held_making _ (held_token (l + 1) kind.OpenParenthesis beside held_arguments C D H (l + 1) beside held_uncounted)
     (λ x k. let a = trees_count C x.1.0 k in omega (arith, a)))
-    (held_or _ _ _ (held_making _ _ (both by_place by_place) _ (held_then _ _ by_place by_place (held_token l kind.Dot) (held_token l kind.Word)) (λ x k. omega arith))
-    (held_or _ _ _ (held_making _ _ (both by_place by_place) _ (held_then _ _ by_place by_place (held_token l kind.Arrow) (held_token l kind.Word)) (λ x k. omega arith))
-    (held_or _ _ _ (held_making _ _ by_place _ (held_token l kind.Increment) (λ t k. omega arith))
-    (held_making _ _ by_place _ (held_token l kind.Decrement) (λ t k. omega arith))))))
+    (held_or (held_making _ (held_token l kind.Dot beside held_token l kind.Word) (λ x k. omega arith))
+    (held_or (held_making _ (held_token l kind.Arrow beside held_token l kind.Word) (λ x k. omega arith))
+    (held_or (held_making _ (held_token l kind.Increment) (λ t k. omega arith)) (held_making _ (held_token l kind.Decrement) (λ t k. omega arith))))))
 
 suffixed_count : (C : Count) (whole : Tree) (suffixes : List SuffixTree) (k : ℕ) → tree_count C (suffixed whole suffixes) k ≤ tree_count C whole k + each (suffix_count C) suffixes k
 suffixed_count C whole [] k = omega arith
@@ -153,33 +141,23 @@ suffixed_count C whole (x ∷ xs) k =
     let b = suffixes_count C (x ∷ xs) k in
     omega (arith, a, b)
 
-pub held_postfix : (C : Count) (D : Deeper) → HeldDeeper C D → (l : ℕ) → Held (g.postfix D l) (tree_count C)
-held_postfix C D H l =
-    held_making _ _ (both (tree_count C) (each (suffix_count C))) _
-    (held_then _ _ (tree_count C) (each (suffix_count C)) (held_primary C D H l) (held_many _ (suffix_count C) (held_suffix C D H l)))
-    (λ x k. suffixed_count C x.0 x.1 k)
+held_postfix : (C : Count) (D : Deeper) → HeldDeeper C D → (l : ℕ) → Held (g.postfix D l) (tree_count C)
+held_postfix C D H l = held_making _ (held_primary C D H l beside held_many (held_suffix C D H l)) (λ x k. suffixed_count C x.0 x.1 k)
 
-pub held_cast : (C : Count) (D : Deeper) → HeldDeeper C D → (l : ℕ) → Held (g.cast D l) (tree_count C)
+held_cast : (C : Count) (D : Deeper) → HeldDeeper C D → (l : ℕ) → Held (g.cast D l) (tree_count C)
 held_cast C D H l =
-    held_making _ _ (both by_place (both (type_count C) (both uncounted (tree_count C)))) _
-    (held_then _ _ by_place (both (type_count C) (both uncounted (tree_count C))) (held_token (l + 1) kind.OpenParenthesis)
-    (held_then _ _ (type_count C) (both uncounted (tree_count C)) (held_type C (l + 1))
-    (held_then _ _ uncounted (tree_count C) (held_uncounted _) (H.prefix (l + 1)))))
+    held_making _ (held_token (l + 1) kind.OpenParenthesis beside held_type C (l + 1) beside held_uncounted beside H.prefix (l + 1))
     (λ x k. let a = more_two C x.0.at (type_indices x.1.0) (tree_indices x.1.1.1) k in omega (arith, a))
 
-pub held_sizeof : (C : Count) (l : ℕ) → Held (g.sizeof l) (tree_count C)
+held_sizeof : (C : Count) (l : ℕ) → Held (g.sizeof l) (tree_count C)
 held_sizeof C l =
-    held_making _ _ (both by_place (both uncounted (both (type_count C) uncounted))) _
-    (held_then _ _ by_place (both uncounted (both (type_count C) uncounted)) (held_token l kind.Sizeof)
-    (held_then _ _ uncounted (both (type_count C) uncounted) (held_uncounted _) (held_then _ _ (type_count C) uncounted (held_type C (l + 1)) (held_uncounted _))))
+    held_making _ (held_token l kind.Sizeof beside held_uncounted beside held_type C (l + 1) beside held_uncounted)
     (λ x k. let a = more C x.0.at (type_indices x.1.1.0) k in omega (arith, a))
 
-pub held_prefix : (C : Count) (D : Deeper) → HeldDeeper C D → (l : ℕ) → Held (g.prefix D l) (tree_count C)
+held_prefix : (C : Count) (D : Deeper) → HeldDeeper C D → (l : ℕ) → Held (g.prefix D l) (tree_count C)
 held_prefix C D H l =
-    held_or _ _ _
-    (held_making _ _ (both by_first (tree_count C)) _ (held_then _ _ by_first (tree_count C) (held_telling (l + 1) prefix_told) (H.prefix (l + 1)))
-    (λ x k. let a = more C x.0.0.at (tree_indices x.1) k in omega (arith, a)))
-    (held_or _ _ _ (held_cast C D H l) (held_or _ _ _ (held_sizeof C l) (held_postfix C D H l)))
+    held_or (held_making _ (held_telling (l + 1) prefix_told beside H.prefix (l + 1)) (λ x k. let a = more C x.0.0.at (tree_indices x.1) k in omega (arith, a)))
+    (held_or (held_cast C D H l) (held_or (held_sizeof C l) (held_postfix C D H l)))
 
 chained_count : (C : Count) (first : Tree) (links : List LinkTree) (k : ℕ) → tree_count C (chained first links) k ≤ tree_count C first k + each (link_count C) links k
 chained_count C first [] k = omega arith
@@ -188,60 +166,52 @@ chained_count C first (x ∷ xs) k =
     let b = links_count C (x ∷ xs) k in
     omega (arith, a, b)
 
-pub held_joined : (C : Count) (D : Deeper) → HeldDeeper C D → (l looseness : ℕ) → Held (g.joined D l looseness) (tree_count C)
+-- an operator, and the operand on its right
+held_link : (C : Count) (l looseness : ℕ) {J : Language Tree} → Held J (tree_count C) → Held (making linked (telling l (g.operator_at looseness) then J)) (link_count C)
+held_link C l looseness h = held_making _ (held_telling l (g.operator_at looseness) beside h) (λ x k. omega arith)
+
+held_joined : (C : Count) (D : Deeper) → HeldDeeper C D → (l looseness : ℕ) → Held (g.joined D l looseness) (tree_count C)
 held_joined C D H l zero = held_prefix C D H l
 held_joined C D H l (suc looseness) =
-    held_making _ _ (both (tree_count C) (each (link_count C))) _
-    (held_then _ _ (tree_count C) (each (link_count C)) (held_joined C D H l looseness)
-    (held_many _ (link_count C)
-    (held_making _ _ (both by_first (tree_count C)) _ (held_then _ _ by_first (tree_count C) (held_telling l (g.operator_at (suc looseness))) (held_joined C D H l looseness))
-    (λ x k. omega arith))))
-    (λ x k. chained_count C x.0 x.1 k)
+    let operand = held_joined C D H l looseness in
+    held_making _ (operand beside held_many (held_link C l (suc looseness) operand)) (λ x k. chained_count C x.0 x.1 k)
 
 chosen_count : (C : Count) (condition : Tree) (o : Option (Placed × (Tree × (Placed × Tree)))) (k : ℕ)
     → tree_count C (chosen condition o) k ≤ tree_count C condition k + if_some (both by_place (both (tree_count C) (both uncounted (tree_count C)))) o k
 chosen_count C condition None k = omega arith
-chosen_count C condition (Some x) k =
-    let a = C.append (tree_indices condition ++ (Node x.0.at ∷ tree_indices x.1.0)) (tree_indices x.1.1.1) k in
-    let b = C.append (tree_indices condition) (Node x.0.at ∷ tree_indices x.1.0) k in
-    let c = more C x.0.at (tree_indices x.1.0) k in
+chosen_count C condition (Some (question, (first, (colon, second)))) k =
+    let a = C.append (tree_indices condition ++ (Node question.at ∷ tree_indices first)) (tree_indices second) k in
+    let b = C.append (tree_indices condition) (Node question.at ∷ tree_indices first) k in
+    let c = more C question.at (tree_indices first) k in
     omega (arith, a, b, c)
 
-pub held_choice : (C : Count) (D : Deeper) → HeldDeeper C D → (l : ℕ) → Held (g.choice D l) (tree_count C)
+held_choice : (C : Count) (D : Deeper) → HeldDeeper C D → (l : ℕ) → Held (g.choice D l) (tree_count C)
 held_choice C D H l =
-    held_making _ _ (both (tree_count C) (if_some (both by_place (both (tree_count C) (both uncounted (tree_count C)))))) _
-    (held_then _ _ (tree_count C) (if_some (both by_place (both (tree_count C) (both uncounted (tree_count C))))) (held_joined C D H l 10)
-    (held_maybe _ (both by_place (both (tree_count C) (both uncounted (tree_count C))))
-    (held_then _ _ by_place (both (tree_count C) (both uncounted (tree_count C))) (held_token (l + 1) kind.Question)
-    (held_then _ _ (tree_count C) (both uncounted (tree_count C)) (H.comma (l + 1))
-    (held_then _ _ uncounted (tree_count C) (held_uncounted _) (H.choice (l + 1)))))))
+    held_making _ (held_joined C D H l 10
+    beside held_maybe (held_token (l + 1) kind.Question beside H.comma (l + 1) beside held_uncounted beside H.choice (l + 1)))
     (λ x k. chosen_count C x.0 x.1 k)
 
 assigned_count : (C : Count) (target : Tree) (o : Option ((Placed × Sign) × Tree)) (k : ℕ) → tree_count C (assigned target o) k ≤ tree_count C target k + if_some (both by_first (tree_count C)) o k
 assigned_count C target None k = omega arith
-assigned_count C target (Some x) k =
-    let a = C.append (tree_indices target) (Node x.0.0.at ∷ tree_indices x.1) k in
-    let b = more C x.0.0.at (tree_indices x.1) k in
+assigned_count C target (Some ((at, operator), value)) k =
+    let a = C.append (tree_indices target) (Node at.at ∷ tree_indices value) k in
+    let b = more C at.at (tree_indices value) k in
     omega (arith, a, b)
 
 pub held_assignment : (C : Count) (D : Deeper) → HeldDeeper C D → (l : ℕ) → Held (g.assignment D l) (tree_count C)
 held_assignment C D H l =
-    held_making _ _ (both (tree_count C) (if_some (both by_first (tree_count C)))) _
-    (held_then _ _ (tree_count C) (if_some (both by_first (tree_count C))) (held_choice C D H l)
-    (held_maybe _ (both by_first (tree_count C)) (held_then _ _ by_first (tree_count C) (held_telling l assignment_told) (H.assignment (l + 1)))))
-    (λ x k. assigned_count C x.0 x.1 k)
+    held_making _ (held_choice C D H l beside held_maybe (held_telling l assignment_told beside H.assignment (l + 1))) (λ x k. assigned_count C x.0 x.1 k)
 
 pub held_comma : (C : Count) (D : Deeper) → HeldDeeper C D → (l : ℕ) → Held (g.comma D l) (tree_count C)
-held_comma C D H l =
-    held_making _ _ (both (tree_count C) (each (link_count C))) _
-    (held_then _ _ (tree_count C) (each (link_count C)) (held_assignment C D H l)
-    (held_many _ (link_count C)
-    (held_making _ _ (both by_place (tree_count C)) _ (held_then _ _ by_place (tree_count C) (held_token l kind.Comma) (held_assignment C D H l)) (λ x k. omega arith))))
-    (λ x k. chained_count C x.0 x.1 k)
+held_comma C D H l = held_making _ (held_assignment C D H l beside held_many link) (λ x k. chained_count C x.0 x.1 k)
+  where
+    link : Held (making comma_linked (token l kind.Comma then g.assignment D l)) (link_count C)
+    link = held_making _ (held_token l kind.Comma beside held_assignment C D H l) (λ x k. omega arith)
 
 pub held_deeper : (C : Count) (bound : ℕ) → HeldDeeper C (deeper bound)
 held_deeper C zero =
-    record { comma = λ l. held_nothing (tree_count C); assignment = λ l. held_nothing (tree_count C); choice = λ l. held_nothing (tree_count C); prefix = λ l. held_nothing (tree_count C) }
+    let none = held_nothing (tree_count C) in
+    record { comma = λ l. none; assignment = λ l. none; choice = λ l. none; prefix = λ l. none }
 held_deeper C (suc bound) =
     let H = held_deeper C bound in
     record {

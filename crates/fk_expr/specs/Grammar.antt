@@ -15,13 +15,13 @@ use Rattle.fk_lex.specs.declared.token.TokenKind.TheVariants as kind
 abbrev pub base : ℕ → Language BaseType
 base l =
     making (λ t. Int) (token l kind.Int)
-    or making (λ x. Unsigned) (token l kind.Unsigned then maybe (token l kind.Int))
+    or making (λ words. Unsigned) (token l kind.Unsigned then maybe (token l kind.Int))
     or making (λ t. Void) (token l kind.Void)
-    or making (λ x. Struct (name x.1)) (token l kind.Struct then token l kind.Word)
+    or making (λ (word, called). Struct (name called)) (token l kind.Struct then token l kind.Word)
 
 -- a type and its stars
 abbrev pub type_name : ℕ → Language TypeTree
-type_name l = making (λ x. record { base = x.0; stars = length x.1 }) (base l then many (token l kind.Star))
+type_name l = making (λ (words, stars). record { base = words; stars = length stars }) (base l then many (token l kind.Star))
 
 -- ---- expressions, where those that stand one level deeper are given
 
@@ -35,18 +35,18 @@ pub record Deeper : Type 1 where
 -- "(" comma ")", which leaves no trace
 abbrev pub parenthesized : Deeper → ℕ → Language Tree
 parenthesized D l =
-    making (λ x. x.1.0) (token (l + 1) kind.OpenParenthesis then D.comma (l + 1) then token (l + 1) kind.CloseParenthesis)
+    making (λ (opening, (tree, closing)). tree) (token (l + 1) kind.OpenParenthesis then D.comma (l + 1) then token (l + 1) kind.CloseParenthesis)
 
 -- "puts" "(" Text ")"
 abbrev pub puts : ℕ → Language Tree
 puts l =
-    making (λ x. Puts (spot x.0) x.1.1.0.bytes)
+    making (λ (word, (opening, (text, closing))). Puts (spot word) text.bytes)
     (token l kind.Puts then token (l + 1) kind.OpenParenthesis then token (l + 1) kind.Text then token (l + 1) kind.CloseParenthesis)
 
 -- primary = Number | Name | "@" | "$" | "(" comma ")" | "puts" "(" Text ")"
 abbrev pub primary : Deeper → ℕ → Language Tree
 primary D l =
-    making (λ x. Number (spot x.0) x.1.0 x.1.1) (telling l number_told)
+    making (λ (at, (value, unsigned)). Number (spot at) value unsigned) (telling l number_told)
     or making (λ t. Variable (name t)) (token l kind.Word)
     or making (λ t. GroupNumber (spot t)) (token l kind.At)
     or making (λ t. GroupRank (spot t)) (token l kind.Dollar)
@@ -55,19 +55,19 @@ primary D l =
 
 abbrev pub listed : {A : Type 0} → Option (A × List A) → List A
 listed None = []
-listed (Some x) = x.0 ∷ x.1
+listed (Some (first, others)) = first ∷ others
 
 -- [ assign { "," assign } ]
 abbrev pub arguments : Deeper → ℕ → Language (List Tree)
-arguments D l = making listed (maybe (D.assignment l then many (making (λ x. x.1) (token l kind.Comma then D.assignment l))))
+arguments D l = making listed (maybe (D.assignment l then many (making (λ (comma, next). next) (token l kind.Comma then D.assignment l))))
 
 -- "[" comma "]" | "(" arguments ")" | "." Name | "->" Name | "++" | "--"
 abbrev pub suffix : Deeper → ℕ → Language SuffixTree
 suffix D l =
-    making (λ x. Index (spot x.0) x.1.0) (token (l + 1) kind.OpenBracket then D.comma (l + 1) then token (l + 1) kind.CloseBracket)
-    or making (λ x. Call (spot x.0) (trees_of x.1.0)) (token (l + 1) kind.OpenParenthesis then arguments D (l + 1) then token (l + 1) kind.CloseParenthesis)
-    or making (λ x. Dot (spot x.0) (name x.1)) (token l kind.Dot then token l kind.Word)
-    or making (λ x. Arrow (spot x.0) (name x.1)) (token l kind.Arrow then token l kind.Word)
+    making (λ (opening, (by, closing)). Index (spot opening) by) (token (l + 1) kind.OpenBracket then D.comma (l + 1) then token (l + 1) kind.CloseBracket)
+    or making (λ (opening, (list, closing)). Call (spot opening) (trees_of list)) (token (l + 1) kind.OpenParenthesis then arguments D (l + 1) then token (l + 1) kind.CloseParenthesis)
+    or making (λ (mark, member). Dot (spot mark) (name member)) (token l kind.Dot then token l kind.Word)
+    or making (λ (mark, member). Arrow (spot mark) (name member)) (token l kind.Arrow then token l kind.Word)
     or making (λ t. Up (spot t)) (token l kind.Increment)
     or making (λ t. Down (spot t)) (token l kind.Decrement)
 
@@ -77,24 +77,24 @@ suffixed whole (s ∷ suffixes) = Postfix whole (suffixes_of (s ∷ suffixes))
 
 -- postfix = primary { suffix }
 abbrev pub postfix : Deeper → ℕ → Language Tree
-postfix D l = making (λ x. suffixed x.0 x.1) (primary D l then many (suffix D l))
+postfix D l = making (λ (whole, suffixes). suffixed whole suffixes) (primary D l then many (suffix D l))
 
 -- "(" type stars ")" prefix
 abbrev pub cast : Deeper → ℕ → Language Tree
 cast D l =
-    making (λ x. Cast (spot x.0) x.1.0 x.1.1.1)
+    making (λ (opening, (type, (closing, operand))). Cast (spot opening) type operand)
     (token (l + 1) kind.OpenParenthesis then type_name (l + 1) then token (l + 1) kind.CloseParenthesis then D.prefix (l + 1))
 
 -- "sizeof" "(" type stars ")"
 abbrev pub sizeof : ℕ → Language Tree
 sizeof l =
-    making (λ x. Sizeof (spot x.0) x.1.1.0)
+    making (λ (word, (opening, (type, closing))). Sizeof (spot word) type)
     (token l kind.Sizeof then token (l + 1) kind.OpenParenthesis then type_name (l + 1) then token (l + 1) kind.CloseParenthesis)
 
 -- prefix = sign prefix | "(" type stars ")" prefix | "sizeof" "(" type stars ")" | postfix
 abbrev pub prefix : Deeper → ℕ → Language Tree
 prefix D l =
-    making (λ x. Prefix (spot x.0.0) x.0.1 x.1) (telling (l + 1) prefix_told then D.prefix (l + 1))
+    making (λ ((at, operator), operand). Prefix (spot at) operator operand) (telling (l + 1) prefix_told then D.prefix (l + 1))
     or cast D l
     or sizeof l
     or postfix D l
@@ -108,7 +108,7 @@ abbrev pub operator_at : ℕ → TokenKind → Option Sign
 operator_at looseness kind = only looseness (operator_told kind)
 
 abbrev pub linked : (Placed × Sign) × Tree → LinkTree
-linked x = record { spot = spot x.0.0; sign = x.0.1; right = x.1 }
+linked = λ ((at, operator), operand). record { spot = spot at; sign = operator; right = operand }
 
 abbrev pub chained : Tree → List LinkTree → Tree
 chained first [] = first
@@ -118,34 +118,36 @@ chained first (link ∷ links) = Chain first (links_of (link ∷ links))
 abbrev pub joined : Deeper → ℕ → ℕ → Language Tree
 joined D l zero = prefix D l
 joined D l (suc looseness) =
-    making (λ x. chained x.0 x.1)
+    making (λ (first, links). chained first links)
     (joined D l looseness then many (making linked (telling l (operator_at (suc looseness)) then joined D l looseness)))
 
 abbrev pub chosen : Tree → Option (Placed × (Tree × (Placed × Tree))) → Tree
 chosen condition None = condition
-chosen condition (Some x) = Choose (spot x.0) condition x.1.0 x.1.1.1
+chosen condition (Some (question, (first, (colon, second)))) = Choose (spot question) condition first second
 
 -- choose = binary [ "?" comma ":" choose ]
 abbrev pub choice : Deeper → ℕ → Language Tree
 choice D l =
-    making (λ x. chosen x.0 x.1)
+    making (λ (condition, branches). chosen condition branches)
     (joined D l 10
     then maybe (token (l + 1) kind.Question then D.comma (l + 1) then token (l + 1) kind.Colon then D.choice (l + 1)))
 
 abbrev pub assigned : Tree → Option ((Placed × Sign) × Tree) → Tree
 assigned target None = target
-assigned target (Some x) = Assign (spot x.0.0) x.0.1 target x.1
+assigned target (Some ((at, operator), value)) = Assign (spot at) operator target value
 
 -- assign = choose [ asign assign ]
 abbrev pub assignment : Deeper → ℕ → Language Tree
-assignment D l = making (λ x. assigned x.0 x.1) (choice D l then maybe (telling l assignment_told then D.assignment (l + 1)))
+assignment D l = making (λ (target, value). assigned target value) (choice D l then maybe (telling l assignment_told then D.assignment (l + 1)))
+
+abbrev pub comma_linked : Placed × Tree → LinkTree
+comma_linked = λ (comma, operand). record { spot = spot comma; sign = sign.Comma; right = operand }
 
 -- comma = assign { "," assign }
 abbrev pub comma : Deeper → ℕ → Language Tree
 comma D l =
-    making (λ x. chained x.0 x.1)
-    (assignment D l
-    then many (making (λ x. record { spot = spot x.0; sign = sign.Comma; right = x.1 }) (token l kind.Comma then assignment D l)))
+    making (λ (first, links). chained first links)
+    (assignment D l then many (making comma_linked (token l kind.Comma then assignment D l)))
 
 -- ---- so many levels deeper
 

@@ -4,13 +4,13 @@
 //! by the function on lists of tokens that it computes, of which the functions of the grammar above
 //! are put together.
 
-ghost use Rattle.std.specs.Prelude.{◌<◌, ◌≤◌, ◌-◌, ◌^◌, Ok, Err, length, IfOk, IfErr};
+ghost use Rattle.std.specs.Prelude.{◌≤◌, ◌-◌, Ok, Err, IfOk, IfErr};
 ghost use Rattle.fk_syntax.specs.View.{base_of, tree_of};
 ghost use Rattle.fk_expr.specs.Grammar.{Assignment, Comma, base};
 ghost use Rattle.fk_expr.specs.Reading.{inner, read_base, read_comma, read_assignment};
 ghost use Rattle.fk_reading.specs.Reads.{Reads};
 ghost use Rattle.fk_reading.specs.Faults.{Tells};
-ghost use Rattle.fk_reading.specs.Ahead.{Shortens, plenty};
+ghost use Rattle.fk_reading.specs.Ahead.{Shortens};
 ghost use Rattle.fk_reading.specs.Gives.{Gives};
 
 use crate::{production, types};
@@ -21,7 +21,7 @@ use fk_syntax::expression::{Base, Expr};
 use std::alloc::Global;
 
 /// Reads the comma expression that comes next, where so many levels are left, and the others
-/// are open. No cursor has 2^32 tokens.
+/// are open.
 ///
 /// # Errors
 ///
@@ -31,12 +31,12 @@ pub fn comma<'a>(
     cursor: &mut Cursor<'_, 'a>,
     left: u32,
 ) -> Result<Expr<'a>, SyntaxFault>
-    ensures grammar { length cursor.old < 2 ^ 32 → left ≤ LEVELS → IfOk result (λ e.
+    ensures grammar { left ≤ LEVELS → IfOk result (λ e.
         Reads (Comma (LEVELS - left)) cursor.old (Ok (tree_of e, cursor.new))) }
-    ensures refused { length cursor.old < 2 ^ 32 → left ≤ LEVELS → IfErr result
+    ensures refused { left ≤ LEVELS → IfErr result
         (Tells (λ stop. Reads (Comma (LEVELS - left)) cursor.old (Err stop))) }
     ensures read { Gives tree_of result cursor.new
-        (read_comma plenty (inner plenty left) cursor.old) }
+        (read_comma (inner left) cursor.old) }
     ensures shorter { IfOk result (λ _. Shortens cursor.old cursor.new) }
 {
     production::comma(alloc, cursor, left)
@@ -52,12 +52,12 @@ pub fn assignment<'a>(
     cursor: &mut Cursor<'_, 'a>,
     left: u32,
 ) -> Result<Expr<'a>, SyntaxFault>
-    ensures grammar { length cursor.old < 2 ^ 32 → left ≤ LEVELS → IfOk result (λ e.
+    ensures grammar { left ≤ LEVELS → IfOk result (λ e.
         Reads (Assignment (LEVELS - left)) cursor.old (Ok (tree_of e, cursor.new))) }
-    ensures refused { length cursor.old < 2 ^ 32 → left ≤ LEVELS → IfErr result
+    ensures refused { left ≤ LEVELS → IfErr result
         (Tells (λ stop. Reads (Assignment (LEVELS - left)) cursor.old (Err stop))) }
     ensures read { Gives tree_of result cursor.new
-        (read_assignment plenty (inner plenty left) cursor.old) }
+        (read_assignment (inner left) cursor.old) }
     ensures shorter { IfOk result (λ _. Shortens cursor.old cursor.new) }
 {
     production::assignment(alloc, cursor, left)

@@ -3,7 +3,6 @@
 ghost use Rattle.std.specs.Prelude.{◌≡◌, ◌+◌, ◌<◌, length, IfOk};
 ghost use Rattle.fk_reading.specs.Kinds.{just};
 ghost use Rattle.fk_reading.specs.Readers.{tells};
-ghost use Rattle.fk_reading.specs.Ahead.{plenty};
 ghost use Rattle.fk_expr.specs.Kinds.{prefix_told};
 ghost use Rattle.fk_expr.specs.Reading.{inner, begins_expression};
 ghost use Rattle.fk_expr.specs.Gives.{Nests, Opens};
@@ -16,7 +15,7 @@ use fk_reading::fault::SyntaxFault;
 /// How many levels of nesting are left inside the next token, which has to be of this kind and
 /// opens a level, where so many are left outside.
 pub fn open(cursor: &Cursor, kind: TokenKind, left: u32) -> Result<u32, SyntaxFault>
-    ensures read { Opens (just kind) (inner plenty left) result cursor.now }
+    ensures read { Opens (just kind) (inner left) result cursor.now }
     ensures less { IfOk result (λ inside. inside + 1 ≡ left) }
 {
     if !cursor.next_is(kind) {
@@ -27,7 +26,7 @@ pub fn open(cursor: &Cursor, kind: TokenKind, left: u32) -> Result<u32, SyntaxFa
 
 /// The same inside a token that has to begin an expression.
 pub(crate) fn open_expression(cursor: &Cursor, left: u32) -> Result<u32, SyntaxFault>
-    ensures read { Opens begins_expression (inner plenty left) result cursor.now }
+    ensures read { Opens begins_expression (inner left) result cursor.now }
     ensures less { IfOk result (λ inside. inside + 1 ≡ left) }
 {
     if !expression_is_next(cursor) {
@@ -38,7 +37,7 @@ pub(crate) fn open_expression(cursor: &Cursor, left: u32) -> Result<u32, SyntaxF
 
 /// The same inside a sign before an operand.
 pub(crate) fn open_prefix(cursor: &Cursor, left: u32) -> Result<u32, SyntaxFault>
-    ensures read { Opens (tells prefix_told) (inner plenty left) result cursor.now }
+    ensures read { Opens (tells prefix_told) (inner left) result cursor.now }
     ensures less { IfOk result (λ inside. inside + 1 ≡ left) }
 {
     if !prefix_is_next(cursor) {
@@ -50,7 +49,7 @@ pub(crate) fn open_prefix(cursor: &Cursor, left: u32) -> Result<u32, SyntaxFault
 /// How many levels are left inside the next token, whatever it is, where so many are left outside.
 pub fn inside(cursor: &Cursor, left: u32) -> Result<u32, SyntaxFault>
     requires { 0 < length cursor.now }
-    ensures read { Nests (inner plenty left) result cursor.now }
+    ensures read { Nests (inner left) result cursor.now }
     ensures less { IfOk result (λ inside. inside + 1 ≡ left) }
 {
     if left == 0 {

@@ -16,6 +16,3 @@ pub mod types;
 
 pub use entry::{assignment, expression};
 pub use fk_reading::fault::SyntaxFault;
-
-#[cfg(test)]
-mod tests;

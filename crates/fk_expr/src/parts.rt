@@ -4,7 +4,7 @@ ghost use Rattle.std.specs.Prelude.{◌≡◌, map, IfOk};
 ghost use Rattle.fk_syntax.specs.View.{tree_of, link_of, suffix_of};
 ghost use Rattle.fk_expr.specs.Grammar.{chained, suffixed};
 ghost use Rattle.fk_expr.specs.Reading.{inner, read_sizeof, read_puts};
-ghost use Rattle.fk_reading.specs.Ahead.{Shortens, plenty};
+ghost use Rattle.fk_reading.specs.Ahead.{Shortens};
 ghost use Rattle.fk_reading.specs.Gives.{Gives};
 
 use crate::level::open;
@@ -19,7 +19,7 @@ use std::alloc::{AllocError, Global};
 #[tactic(auto, using(crate::proofs::Halting::halting), unfolding(crate::specs::Reading::read_sizeof))]
 pub(crate) fn size_of<'a>(cursor: &mut Cursor<'_, 'a>, left: u32) -> Result<Expr<'a>, SyntaxFault>
     ensures read { Gives tree_of result cursor.new
-        (read_sizeof plenty (inner plenty left) cursor.old) }
+        (read_sizeof (inner left) cursor.old) }
     ensures shorter { IfOk result (λ _. Shortens cursor.old cursor.new) }
 {
     let word = cursor.expect(TokenKind::Sizeof)?;
@@ -33,7 +33,7 @@ pub(crate) fn size_of<'a>(cursor: &mut Cursor<'_, 'a>, left: u32) -> Result<Expr
 /// "puts" "(" Text ")"
 #[tactic(auto, using(crate::proofs::Halting::halting))]
 pub(crate) fn puts<'a>(cursor: &mut Cursor<'_, 'a>, left: u32) -> Result<Expr<'a>, SyntaxFault>
-    ensures read { Gives tree_of result cursor.new (read_puts (inner plenty left) cursor.old) }
+    ensures read { Gives tree_of result cursor.new (read_puts (inner left) cursor.old) }
     ensures shorter { IfOk result (λ _. Shortens cursor.old cursor.new) }
 {
     let word = cursor.expect(TokenKind::Puts)?;

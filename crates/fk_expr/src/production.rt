@@ -21,7 +21,7 @@ ghost use Rattle.fk_expr.specs.Reading.{
 };
 ghost use Rattle.fk_expr.specs.Ahead.{readers, read_links};
 ghost use Rattle.fk_expr.specs.Grammar.{chained};
-ghost use Rattle.fk_reading.specs.Ahead.{Shortens, plenty};
+ghost use Rattle.fk_reading.specs.Ahead.{Shortens};
 ghost use Rattle.fk_reading.specs.Gives.{Gives, Makes};
 
 use crate::level::{open, open_expression, open_prefix};
@@ -51,13 +51,12 @@ pub fn comma<'a>(
     left: u32,
 ) -> Result<Expr<'a>, SyntaxFault>
     ensures read { Gives tree_of result cursor.new
-        (read_comma plenty (inner plenty left) cursor.old) }
+        (read_comma (inner left) cursor.old) }
     ensures shorter { IfOk result (λ _. Shortens cursor.old cursor.new) }
 {
     let first = assignment(alloc, cursor, left)?;
     let mut links = Vec::new(alloc);
-    while cursor.next_is(TokenKind::Comma) {
-        let sign = cursor.expect(TokenKind::Comma)?;
+    while let Some(sign) = cursor.accept(TokenKind::Comma) {
         let right = assignment(alloc, cursor, left)?;
         links.push(Link::new(sign.spot(), Sign::Comma, right))?;
     }
@@ -73,7 +72,7 @@ pub fn assignment<'a>(
     left: u32,
 ) -> Result<Expr<'a>, SyntaxFault>
     ensures read { Gives tree_of result cursor.new
-        (read_assignment plenty (inner plenty left) cursor.old) }
+        (read_assignment (inner left) cursor.old) }
     ensures shorter { IfOk result (λ _. Shortens cursor.old cursor.new) }
 {
     let target = choice(alloc, cursor, left)?;
@@ -95,7 +94,7 @@ fn choice<'a>(
     left: u32,
 ) -> Result<Expr<'a>, SyntaxFault>
     ensures read { Gives tree_of result cursor.new
-        (read_choice plenty (inner plenty left) cursor.old) }
+        (read_choice (inner left) cursor.old) }
     ensures shorter { IfOk result (λ _. Shortens cursor.old cursor.new) }
 {
     let condition = joined(alloc, cursor, left, LOOSEST)?;
@@ -122,7 +121,7 @@ fn joined<'a>(
 ) -> Result<Expr<'a>, SyntaxFault>
     requires { looseness ≤ 10 }
     ensures read { Gives tree_of result cursor.new
-        (read_joined plenty (inner plenty left) looseness cursor.old) }
+        (read_joined (inner left) looseness cursor.old) }
     ensures shorter { IfOk result (λ _. Shortens cursor.old cursor.new) }
 {
     let mut whole = prefix(alloc, cursor, left)?;
@@ -144,10 +143,9 @@ fn level<'a>(
     looseness: u32,
     first: Expr<'a>,
 ) -> Result<Expr<'a>, SyntaxFault>
-    requires looseness { (0 < looseness) × (looseness ≤ 10) }
-    requires few { length cursor.old < 2 ^ 32 }
+    requires { (0 < looseness) × (looseness ≤ 10) }
     ensures read { Makes (chained (tree_of first.entry)) tree_of result cursor.new
-        (read_links plenty (inner plenty left) looseness (looseness - 1) cursor.old) }
+        (read_links (inner left) looseness (looseness - 1) cursor.old) }
     ensures fewer { IfOk result (λ _. length cursor.new ≤ length cursor.old) }
 {
     // Most levels have one operator.
@@ -169,7 +167,7 @@ fn prefix<'a>(
     left: u32,
 ) -> Result<Expr<'a>, SyntaxFault>
     ensures read { Gives tree_of result cursor.new
-        (read_prefix plenty (inner plenty left) cursor.old) }
+        (read_prefix (inner left) cursor.old) }
     ensures shorter { IfOk result (λ _. Shortens cursor.old cursor.new) }
 {
     if prefix_is_next(cursor) {
@@ -192,7 +190,7 @@ fn prefix<'a>(
 #[tactic(auto, using(crate::proofs::Halting::halting), unfolding(crate::specs::Reading::read_cast))]
 fn cast<'a>(alloc: Global, cursor: &mut Cursor<'_, 'a>, left: u32) -> Result<Expr<'a>, SyntaxFault>
     ensures read { Gives tree_of result cursor.new
-        (read_cast plenty (inner plenty left) cursor.old) }
+        (read_cast (inner left) cursor.old) }
     ensures shorter { IfOk result (λ _. Shortens cursor.old cursor.new) }
 {
     let inside = open(cursor, TokenKind::OpenParenthesis, left)?;
@@ -212,7 +210,7 @@ fn postfix<'a>(
     left: u32,
 ) -> Result<Expr<'a>, SyntaxFault>
     ensures read { Gives tree_of result cursor.new
-        (read_postfix plenty (inner plenty left) cursor.old) }
+        (read_postfix (inner left) cursor.old) }
     ensures shorter { IfOk result (λ _. Shortens cursor.old cursor.new) }
 {
     let whole = primary(alloc, cursor, left)?;
@@ -231,21 +229,21 @@ fn primary<'a>(
     cursor: &mut Cursor<'_, 'a>,
     left: u32,
 ) -> Result<Expr<'a>, SyntaxFault>
-    ensures read { Gives tree_of result cursor.new (read_primary (inner plenty left) cursor.old) }
+    ensures read { Gives tree_of result cursor.new (read_primary (inner left) cursor.old) }
     ensures shorter { IfOk result (λ _. Shortens cursor.old cursor.new) }
 {
     if number_is_next(cursor) {
         let (token, (value, unsigned)) = expect_number(cursor)?;
         return Ok(Expr::Number(token.spot(), value, unsigned));
     }
-    if cursor.next_is(TokenKind::Word) {
-        return Ok(Expr::Named(cursor.expect(TokenKind::Word)?.name()));
+    if let Some(word) = cursor.accept(TokenKind::Word) {
+        return Ok(Expr::Named(word.name()));
     }
-    if cursor.next_is(TokenKind::At) {
-        return Ok(Expr::GroupNumber(cursor.expect(TokenKind::At)?.spot()));
+    if let Some(at) = cursor.accept(TokenKind::At) {
+        return Ok(Expr::GroupNumber(at.spot()));
     }
-    if cursor.next_is(TokenKind::Dollar) {
-        return Ok(Expr::GroupRank(cursor.expect(TokenKind::Dollar)?.spot()));
+    if let Some(dollar) = cursor.accept(TokenKind::Dollar) {
+        return Ok(Expr::GroupRank(dollar.spot()));
     }
     if !cursor.next_is(TokenKind::OpenParenthesis) {
         return puts(cursor, left);
@@ -266,7 +264,7 @@ fn suffix<'a>(
     left: u32,
 ) -> Result<Suffix<'a>, SyntaxFault>
     ensures read { Gives suffix_of result cursor.new
-        (read_suffix plenty (inner plenty left) cursor.old) }
+        (read_suffix (inner left) cursor.old) }
     ensures shorter { IfOk result (λ _. Shortens cursor.old cursor.new) }
 {
     if cursor.next_is(TokenKind::OpenBracket) {
@@ -283,16 +281,14 @@ fn suffix<'a>(
         cursor.expect(TokenKind::CloseParenthesis)?;
         return Ok(Suffix::call(open.spot(), arguments));
     }
-    if cursor.next_is(TokenKind::Dot) {
-        let dot = cursor.expect(TokenKind::Dot)?;
+    if let Some(dot) = cursor.accept(TokenKind::Dot) {
         return Ok(Suffix::Dot(dot.spot(), cursor.expect(TokenKind::Word)?.name()));
     }
-    if cursor.next_is(TokenKind::Arrow) {
-        let arrow = cursor.expect(TokenKind::Arrow)?;
+    if let Some(arrow) = cursor.accept(TokenKind::Arrow) {
         return Ok(Suffix::Arrow(arrow.spot(), cursor.expect(TokenKind::Word)?.name()));
     }
-    if cursor.next_is(TokenKind::Increment) {
-        return Ok(Suffix::Up(cursor.expect(TokenKind::Increment)?.spot()));
+    if let Some(up) = cursor.accept(TokenKind::Increment) {
+        return Ok(Suffix::Up(up.spot()));
     }
     Ok(Suffix::Down(cursor.expect(TokenKind::Decrement)?.spot()))
 }
@@ -306,7 +302,7 @@ fn arguments<'a>(
     left: u32,
 ) -> Result<Vec<Expr<'a>>, SyntaxFault>
     ensures read { Gives (λ v. map tree_of v.items) result cursor.new
-        (read_arguments plenty (readers left) cursor.old) }
+        (read_arguments (readers left) cursor.old) }
     ensures few { IfOk result (λ _. length cursor.new ≤ length cursor.old) }
 {
     let mut arguments = Vec::new(alloc);
@@ -314,8 +310,7 @@ fn arguments<'a>(
         return Ok(arguments);
     }
     arguments.push(assignment(alloc, cursor, left)?)?;
-    while cursor.next_is(TokenKind::Comma) {
-        cursor.expect(TokenKind::Comma)?;
+    while let Some(_comma) = cursor.accept(TokenKind::Comma) {
         arguments.push(assignment(alloc, cursor, left)?)?;
     }
     Ok(arguments)

@@ -4,7 +4,7 @@ ghost use Rattle.std.specs.Prelude.{length, IfOk};
 ghost use Rattle.fk_syntax.specs.View.{base_of, type_of};
 ghost use Rattle.fk_reading.specs.Kinds.{just};
 ghost use Rattle.fk_reading.specs.Readers.{expect, repeated};
-ghost use Rattle.fk_reading.specs.Ahead.{Shortens, Leaves, plenty};
+ghost use Rattle.fk_reading.specs.Ahead.{Shortens, Leaves};
 ghost use Rattle.fk_reading.specs.Gives.{Gives, Makes};
 ghost use Rattle.fk_expr.specs.Reading.{read_base, read_type_name};
 
@@ -15,7 +15,7 @@ use fk_syntax::expression::{Base, TypeName};
 
 /// Reads a type and its stars.
 pub fn type_name<'a>(cursor: &mut Cursor<'_, 'a>) -> Result<TypeName<'a>, SyntaxFault>
-    ensures read { Gives type_of result cursor.new (read_type_name plenty cursor.old) }
+    ensures read { Gives type_of result cursor.new (read_type_name cursor.old) }
     ensures shorter { IfOk result (λ _. Shortens cursor.old cursor.new) }
 {
     let base = base(cursor)?;
@@ -26,12 +26,11 @@ pub fn type_name<'a>(cursor: &mut Cursor<'_, 'a>) -> Result<TypeName<'a>, Syntax
 /// How many `*` come.
 pub fn stars(cursor: &mut Cursor) -> Result<u32, SyntaxFault>
     ensures read { Makes length (λ n. n) result cursor.new
-        (repeated plenty (just TokenKind.Star) (expect TokenKind.Star) cursor.old) }
+        (repeated (just TokenKind.Star) (expect TokenKind.Star) cursor.old) }
     ensures few { IfOk result (λ _. Leaves cursor.old cursor.new) }
 {
     let mut stars = 0;
-    while cursor.next_is(TokenKind::Star) {
-        cursor.expect(TokenKind::Star)?;
+    while let Some(_star) = cursor.accept(TokenKind::Star) {
         stars += 1;
     }
     Ok(stars)
@@ -42,19 +41,14 @@ pub fn base<'a>(cursor: &mut Cursor<'_, 'a>) -> Result<Base<'a>, SyntaxFault>
     ensures read { Gives base_of result cursor.new (read_base cursor.old) }
     ensures shorter { IfOk result (λ _. Shortens cursor.old cursor.new) }
 {
-    if cursor.next_is(TokenKind::Int) {
-        cursor.expect(TokenKind::Int)?;
+    if let Some(_int) = cursor.accept(TokenKind::Int) {
         return Ok(Base::Int);
     }
-    if cursor.next_is(TokenKind::Unsigned) {
-        cursor.expect(TokenKind::Unsigned)?;
-        if cursor.next_is(TokenKind::Int) {
-            cursor.expect(TokenKind::Int)?;
-        }
+    if let Some(_unsigned) = cursor.accept(TokenKind::Unsigned) {
+        let _int = cursor.accept(TokenKind::Int);
         return Ok(Base::Unsigned);
     }
-    if cursor.next_is(TokenKind::Void) {
-        cursor.expect(TokenKind::Void)?;
+    if let Some(_void) = cursor.accept(TokenKind::Void) {
         return Ok(Base::Void);
     }
     cursor.expect(TokenKind::Struct)?;

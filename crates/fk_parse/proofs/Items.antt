@@ -4,7 +4,7 @@ use Rattle.fk_syntax.specs.Tree.{BaseType, Struct}
 use Rattle.fk_syntax.specs.Program.{DeclaredTree, ItemTree, StructItem, VariablesItem}
 use Rattle.fk_lex.specs.declared.token.TokenKind.TheVariants as kind
 use Rattle.fk_reading.specs.Languages.{Placed, Stretch, tokens_of, Language, token, ◌then◌, ◌or◌, making, many, name}
-use Rattle.fk_reading.specs.Reads.{Unexpected, Answer}
+use Rattle.fk_reading.specs.Reads.{Answer}
 use Rattle.fk_reading.specs.declared.limits.TheConstants.{LEVELS}
 use Rattle.fk_expr.specs.Grammar.{base}
 use Rattle.fk_reading.specs.Readers.{Reader, after, giving, ◌and◌, next_is, either, by_next, expect, repeated, tells}
@@ -19,15 +19,16 @@ use Rattle.fk_reading.proofs.Then.{follows_shape, exact_wider}
 use Rattle.fk_reading.proofs.Or.{by_next-yes, by_next-no, local_like}
 use Rattle.fk_reading.proofs.Productions.{IsRead, reads_token, reads_making, reads_then, reads_loose_then, reads_or, reads_many, reads_kinds, reads_wider}
 use Rattle.fk_reading.proofs.Longest.{Faithful}
-use Rattle.fk_stmt.specs.Kinds.{sharing_told}
+use Rattle.fk_declarations.specs.Kinds.{sharing_told}
 use Rattle.fk_parse.specs.Kinds.{mode_told}
-use Rattle.fk_stmt.specs.Statements.{member, joined_lists}
+use Rattle.fk_declarations.specs.Grammar.{member, joined_lists}
 use Rattle.fk_parse.specs.Items.{struct_item, item, Items}
-use Rattle.fk_stmt.specs.Reading.{read_member, read_variables}
+use Rattle.fk_declarations.specs.Reading.{read_member, read_variables}
 use Rattle.fk_parse.specs.Reading.{read_struct, read_moded, read_bare, read_tail, read_item, read_items, begins_item, struct_is_next, made_of, Tail}
-use Rattle.fk_stmt.proofs.Declarations.{starred, reads_member}
-use Rattle.fk_stmt.proofs.Parameters.{next_none}
-use Rattle.fk_parse.proofs.Choices.{exact_test, local_behind}
+use Rattle.fk_declarations.proofs.Declarations.{starred, reads_member}
+use Rattle.fk_declarations.proofs.Parameters.{next_none}
+use Rattle.fk_reading.proofs.TwoTokens.{exact_test}
+use Rattle.fk_parse.proofs.Choices.{local_behind}
 use Rattle.fk_parse.proofs.Tails.{has_room, body_within, named, reads_named, tail, reads_tail, bare, moded}
 use Rattle.fk_parse.proofs.Words.{words, words_cases, read_typed, read_words, reads_words}
 use Rattle.fk_reading.specs.Kinds.{just}
@@ -43,9 +44,9 @@ abbrev members : Language Members
 members = token 0 kind.OpenBrace then member 0 then many (member 0) then token 0 kind.CloseBrace then token 0 kind.Semicolon
 
 -- how they are read
-abbrev read_members : ℕ → Reader Members
-read_members most =
-    expect kind.OpenBrace and read_member most and repeated most begins_type (read_member most) and expect kind.CloseBrace and expect kind.Semicolon
+abbrev read_members : Reader Members
+read_members =
+    expect kind.OpenBrace and read_member and repeated begins_type read_member and expect kind.CloseBrace and expect kind.Semicolon
 
 -- they are read exactly
 reads_members : {levels : ℕ} {room : Type 0} → IsRead levels members read_members 0 (just kind.OpenBrace) none room
@@ -60,7 +61,7 @@ reads_members =
     (none_apart begins_type)
 
 -- a struct is read exactly
-reads_struct : {levels : ℕ} {room : Type 0} → IsRead levels struct_item (λ most. read_struct most) 0 (just kind.Struct) none room
+reads_struct : {levels : ℕ} {room : Type 0} → IsRead levels struct_item read_struct 0 (just kind.Struct) none room
 unfolding read_struct
 reads_struct =
     reads_making _ (reads_then (reads_token 0 kind.Struct (omega arith))
@@ -144,8 +145,8 @@ abbrev Behind : Type 0
 Behind = List Placed × (Placed × Tail)
 
 -- how that is read
-abbrev read_behind : (left : ℕ) → ℕ → Reader Behind
-read_behind left most = repeated most (just kind.Star) (expect kind.Star) and expect kind.Word and read_tail most (inner most (suc (suc left))) (body_within left most)
+abbrev read_behind : (left : ℕ) → Reader Behind
+read_behind left = repeated (just kind.Star) (expect kind.Star) and expect kind.Word and read_tail (inner (suc (suc left))) (body_within left)
 
 -- an item that begins with `struct` and a name
 abbrev item_by : Placed → Members ⊎ Behind → ItemTree
@@ -153,12 +154,12 @@ item_by n (inl k) = StructItem (name n) (joined_lists (k.1.0 ∷ k.1.1.0))
 item_by n (inr w) = made_of (Struct (name n)) (length w.0) (name w.1.0) w.1.1
 
 -- what stands behind them
-abbrev read_either : (left : ℕ) → ℕ → Reader (Members ⊎ Behind)
-read_either left most = by_next (just kind.OpenBrace) (giving (λ k. inl k) (read_members most)) (giving (λ w. inr w) (read_behind left most))
+abbrev read_either : (left : ℕ) → Reader (Members ⊎ Behind)
+read_either left = by_next (just kind.OpenBrace) (giving (λ k. inl k) read_members) (giving (λ w. inr w) (read_behind left))
 
 -- from the name on
-abbrev read_from_name : (left : ℕ) → ℕ → Reader ItemTree
-read_from_name left most = giving (λ x. item_by x.0 x.1) (expect kind.Word and read_either left most)
+abbrev read_from_name : (left : ℕ) → Reader ItemTree
+read_from_name left = giving (λ x. item_by x.0 x.1) (expect kind.Word and read_either left)
 
 -- it is read exactly from the name on
 reads_from_name : (left : ℕ) (bound : ℕ)
@@ -229,41 +230,37 @@ base_then {A} {C} K f t ts h =
     by (Err stop) = refl
 
 -- what is read from `struct` on
-struct_read : (most : ℕ) (t : Placed) (ts : List Placed) → IsTrue (just kind.Struct t.kind)
-    → read_struct most (t ∷ ts) ≡ name_then (read_members most) (λ n k. item_by n (inl k)) ts
+struct_read : (t : Placed) (ts : List Placed) → IsTrue (just kind.Struct t.kind)
+    → read_struct (t ∷ ts) ≡ name_then read_members (λ n k. item_by n (inl k)) ts
 unfolding read_struct
-struct_read most t ts h = struct_then (read_members most) (λ x. StructItem (name x.1.0) (joined_lists (x.1.1.1.0 ∷ x.1.1.1.1.0))) t ts h
+struct_read t ts h = struct_then read_members (λ x. StructItem (name x.1.0) (joined_lists (x.1.1.1.0 ∷ x.1.1.1.1.0))) t ts h
 
 -- an item that is no struct
-words_read : (left : ℕ) (most : ℕ) (t : Placed) (ts : List Placed) → IsTrue (just kind.Struct t.kind)
-    → read_words left most (t ∷ ts) ≡ name_then (read_behind left most) (λ n w. item_by n (inr w)) ts
+words_read : (left : ℕ) (t : Placed) (ts : List Placed) → IsTrue (just kind.Struct t.kind)
+    → read_words left (t ∷ ts) ≡ name_then (read_behind left) (λ n w. item_by n (inr w)) ts
 unfolding read_bare just
-words_read left most t ts h =
-    by_next-no (tells sharing_told) (giving VariablesItem (read_variables most (inner most (suc (suc left))))) (read_typed left most) (t ∷ ts) (no_other (tells sharing_told) (apart_by (just kind.Struct) (tells sharing_told) refl (λ v u. refl)) t h)
-    ∙ by_next-no (tells mode_told) (read_moded most (body_within left most)) (read_bare most (inner most (suc (suc left))) (body_within left most)) (t ∷ ts) (no_other (tells mode_told) (apart_by (just kind.Struct) (tells mode_told) refl (λ v u. refl)) t h)
-    ∙ base_then (read_behind left most) (λ x. made_of x.0 (length x.1.0) (name x.1.1.0) x.1.1.1) t ts h
+words_read left t ts h =
+    by_next-no (tells sharing_told) (giving VariablesItem (read_variables (inner (suc (suc left))))) (read_typed left) (t ∷ ts) (no_other (tells sharing_told) (apart_by (just kind.Struct) (tells sharing_told) refl (λ v u. refl)) t h)
+    ∙ by_next-no (tells mode_told) (read_moded (body_within left)) (read_bare (inner (suc (suc left))) (body_within left)) (t ∷ ts) (no_other (tells mode_told) (apart_by (just kind.Struct) (tells mode_told) refl (λ v u. refl)) t h)
+    ∙ base_then (read_behind left) (λ x. made_of x.0 (length x.1.0) (name x.1.1.0) x.1.1.1) t ts h
 
 -- what is read from the name on, where what stands behind it is known
-from_name : (left : ℕ) {A : Type 0} (most : ℕ) (K : Reader A) (f : A → Members ⊎ Behind) (n : Placed) (ts : List Placed) → IsTrue (just kind.Word n.kind)
-    → read_either left most ts ≡ giving f K ts → read_from_name left most (n ∷ ts) ≡ name_then K (λ n k. item_by n (f k)) (n ∷ ts)
-from_name left {A} most K f n ts h e = rw (h, expect) (by (K ts) refl)
+from_name : (left : ℕ) {A : Type 0} (K : Reader A) (f : A → Members ⊎ Behind) (n : Placed) (ts : List Placed) → IsTrue (just kind.Word n.kind)
+    → read_either left ts ≡ giving f K ts → read_from_name left (n ∷ ts) ≡ name_then K (λ n k. item_by n (f k)) (n ∷ ts)
+from_name left {A} K f n ts h e = rw (h, expect) (by (K ts) refl)
   where
     whole : Answer (Members ⊎ Behind) → Answer ItemTree
     whole answer =
         let both : Answer (Placed × (Members ⊎ Behind)) = after answer (λ k more. Ok ((n, k), more)) in
         after both (λ x more. Ok (item_by x.0 x.1, more))
 
-    by : (answer : Answer A) → K ts ≡ answer → whole (read_either left most ts) ≡ after (K ts) (λ k more. Ok (item_by n (f k), more))
+    by : (answer : Answer A) → K ts ≡ answer → whole (read_either left ts) ≡ after (K ts) (λ k more. Ok (item_by n (f k), more))
     by (Ok x) d = rw (e, d) refl
     by (Err stop) d = rw (e, d) refl
 
--- where no name comes
-no_name : (left : ℕ) (most : ℕ) (n : Placed) (ts : List Placed) → just kind.Word n.kind ≡ false → read_from_name left most (n ∷ ts) ≡ Err (Unexpected (n ∷ ts))
-no_name left most n ts e = rw (e, expect) refl
-
 -- a struct, or an item that is none
-read_any : (left : ℕ) → ℕ → Reader ItemTree
-read_any left most ts = either (struct_is_next ts) (read_struct most) (read_words left most) ts
+read_any : (left : ℕ) → Reader ItemTree
+read_any left ts = either (struct_is_next ts) read_struct (read_words left) ts
 
 -- where three tokens say that a struct comes
 three_true : (t n : Placed) (ts : List Placed) → IsTrue (just kind.Struct t.kind) → IsTrue (just kind.Word n.kind) → IsTrue (next_is (just kind.OpenBrace) ts) → IsTrue (struct_is_next (t ∷ n ∷ ts))
@@ -271,34 +268,34 @@ three_true t n [] h i j = cc
 three_true t n (u ∷ ts) h i j = rw (h, i, j) refl
 
 -- from `struct` on items are read by what stands behind the name
-from_struct : (left : ℕ) (most : ℕ) (t : Placed) → IsTrue (just kind.Struct t.kind) → (ts : List Placed) → read_any left most (t ∷ ts) ≡ read_from_name left most ts
+from_struct : (left : ℕ) (t : Placed) → IsTrue (just kind.Struct t.kind) → (ts : List Placed) → read_any left (t ∷ ts) ≡ read_from_name left ts
 unfolding read_any
-from_struct left most t h [] = words_read left most t [] h
-from_struct left most t h (n ∷ ts) = by_name (just kind.Word n.kind) refl
+from_struct left t h [] = words_read left t [] h
+from_struct left t h (n ∷ ts) = by_name (just kind.Word n.kind) refl
   where
-    by_brace : IsTrue (just kind.Word n.kind) → (b : Bool) → next_is (just kind.OpenBrace) ts ≡ b → read_any left most (t ∷ n ∷ ts) ≡ read_from_name left most (n ∷ ts)
+    by_brace : IsTrue (just kind.Word n.kind) → (b : Bool) → next_is (just kind.OpenBrace) ts ≡ b → read_any left (t ∷ n ∷ ts) ≡ read_from_name left (n ∷ ts)
     by_brace i true j =
-        rw (three_true t n ts h i j) (struct_read most t (n ∷ ts) h
-        ∙ sym (from_name left most (read_members most) (λ k. inl k) n ts i (by_next-yes (just kind.OpenBrace) (giving (λ k. inl k) (read_members most)) (giving (λ w. inr w) (read_behind left most)) ts j)))
+        rw (three_true t n ts h i j) (struct_read t (n ∷ ts) h
+        ∙ sym (from_name left read_members (λ k. inl k) n ts i (by_next-yes (just kind.OpenBrace) (giving (λ k. inl k) read_members) (giving (λ w. inr w) (read_behind left)) ts j)))
     by_brace i false j =
-        rw (not_brace t n ts j) (words_read left most t (n ∷ ts) h
-        ∙ sym (from_name left most (read_behind left most) (λ w. inr w) n ts i (by_next-no (just kind.OpenBrace) (giving (λ k. inl k) (read_members most)) (giving (λ w. inr w) (read_behind left most)) ts j)))
+        rw (not_brace t n ts j) (words_read left t (n ∷ ts) h
+        ∙ sym (from_name left (read_behind left) (λ w. inr w) n ts i (by_next-no (just kind.OpenBrace) (giving (λ k. inl k) read_members) (giving (λ w. inr w) (read_behind left)) ts j)))
 
-    by_name : (b : Bool) → just kind.Word n.kind ≡ b → read_any left most (t ∷ n ∷ ts) ≡ read_from_name left most (n ∷ ts)
+    by_name : (b : Bool) → just kind.Word n.kind ≡ b → read_any left (t ∷ n ∷ ts) ≡ read_from_name left (n ∷ ts)
     by_name true i = by_brace i (next_is (just kind.OpenBrace) ts) refl
-    by_name false i = rw (not_named t n ts i) (words_read left most t (n ∷ ts) h ∙ rw (i, expect) refl)
+    by_name false i = rw (not_named t n ts i) (words_read left t (n ∷ ts) h ∙ rw (i, expect) refl)
 
 -- each answer rests on the tokens up to the one that it names
-any_local : (left : ℕ) (bound : ℕ) → has_room left bound → (most : ℕ) → IsLocal most (read_any left most)
+any_local : (left : ℕ) (bound : ℕ) → has_room left bound → (most : ℕ) → IsLocal most (read_any left)
 unfolding read_any read_bare
 any_local left bound r most [] fits = tt
 any_local left bound r most (t ∷ ts) fits = by (just kind.Struct t.kind) refl
   where
-    by : (b : Bool) → just kind.Struct t.kind ≡ b → Local most (read_any left most) (t ∷ ts) (read_any left most (t ∷ ts))
-    by true h = local_behind most (t ∷ []) (read_any left most) (read_from_name left most) (from_struct left most t h) (((reads_from_name left bound).exact.exact most).local r) ts fits
+    by : (b : Bool) → just kind.Struct t.kind ≡ b → Local most (read_any left) (t ∷ ts) (read_any left (t ∷ ts))
+    by true h = local_behind most (t ∷ []) (read_any left) (read_from_name left) (from_struct left t h) (((reads_from_name left bound).exact.exact most).local r) ts fits
     by false h =
-        let other : (others : List Placed) → read_any left most (t ∷ others) ≡ read_words left most (t ∷ others) = λ others. rw (not_struct t others h) refl in
-        rw (other ts) (local_like most (read_words left most) (read_any left most) t ts (read_words left most (t ∷ ts)) other (((reads_words left bound).exact.exact most).local r (t ∷ ts) fits))
+        let other : (others : List Placed) → read_any left (t ∷ others) ≡ read_words left (t ∷ others) = λ others. rw (not_struct t others h) refl in
+        rw (other ts) (local_like most (read_words left) (read_any left) t ts (read_words left (t ∷ ts)) other (((reads_words left bound).exact.exact most).local r (t ∷ ts) fits))
 
 -- ---- items
 
@@ -307,7 +304,7 @@ abbrev begins_any : Kinds
 begins_any = just kind.Struct ∪ begins_item
 
 -- an item is read exactly
-pub reads_item : (left : ℕ) (bound : ℕ) → IsRead (suc (suc left)) (item bound) (λ most. read_item most (inner most (suc (suc left))) (body_within left most)) 0 begins_item none (has_room left bound)
+pub reads_item : (left : ℕ) (bound : ℕ) → IsRead (suc (suc left)) (item bound) (read_item (inner (suc (suc left))) (body_within left)) 0 begins_item none (has_room left bound)
 unfolding read_item read_any just
 reads_item left bound =
     let v = reads_struct in
@@ -322,8 +319,8 @@ reads_item left bound =
 -- ---- any number of them
 
 -- how items are read where so many levels and two more may be open
-abbrev pub items_within : ℕ → ℕ → Reader (List ItemTree)
-items_within left most = repeated most begins_item (read_item most (inner most (suc (suc left))) (body_within left most))
+abbrev pub items_within : ℕ → Reader (List ItemTree)
+items_within left = repeated begins_item (read_item (inner (suc (suc left))) (body_within left))
 
 -- they are read exactly, however many that are
 pub faithful_within : (left : ℕ) → Faithful (suc (suc left)) Items (items_within left) begins_item (has_room left)

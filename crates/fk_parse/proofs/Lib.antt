@@ -1,3 +1,4 @@
+pub mod Pushed
 pub mod Uses
 pub mod Sound
 pub mod Choices

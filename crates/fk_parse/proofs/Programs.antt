@@ -13,7 +13,6 @@ use Rattle.fk_reading.specs.Reads.{Stop, Answer}
 use Rattle.fk_reading.specs.Readers.{unexpected}
 use Rattle.fk_reading.specs.Faults.{Tells}
 use Rattle.fk_reading.specs.Gives.{Halts}
-use Rattle.fk_reading.proofs.Cursors.{few}
 use Rattle.fk_expr.proofs.Public.{halts_tells}
 use Rattle.fk_parse.specs.Parses.{ReadsText, SpellsProgram, end_of, beginning}
 use Rattle.fk_parse.specs.Refusals.{RefusesTokens}
@@ -50,18 +49,17 @@ text_within : (tokens : List Placed) → read_text_within LEVELS tokens ≡ read
 unfolding read_items
 text_within tokens = refl
 
-reads_within : (tokens : List Placed) (answer : Result (List ItemTree) Stop) → length tokens < 2 ^ 32 → read_text_within LEVELS tokens ≡ answer → ReadsText tokens answer
-reads_within tokens answer small e = subst (λ a. ReadsText tokens a) (sym (text_within tokens) ∙ e) (reads_text tokens small)
+reads_within : (tokens : List Placed) (answer : Result (List ItemTree) Stop) → read_text_within LEVELS tokens ≡ answer → ReadsText tokens answer
+reads_within tokens answer e = subst (λ a. ReadsText tokens a) (sym (text_within tokens) ∙ e) (reads_text tokens)
 
-pub refuses : (tokens : List Token) (fault : SyntaxFault) → length tokens < 2 ^ 32
+pub refuses : (tokens : List Token) (fault : SyntaxFault)
     → Tells (λ stop. read_text_within LEVELS (numbered 0 (map spelled tokens)) ≡ Err stop) fault → RefusesTokens (map spelled tokens) fault
-refuses tokens fault small h =
-    tells_more _ _ fault (λ s e. reads_within (numbered 0 (map spelled tokens)) (Err s) (few 0 tokens (omega arith)) e) h
+refuses tokens fault h = tells_more _ _ fault (λ s e. reads_within (numbered 0 (map spelled tokens)) (Err s) e) h
 
-pub derives : (tokens : List Token) (p : ProgramTree) → length tokens < 2 ^ 32 → read_text_within LEVELS (numbered 0 (map spelled tokens)) ≡ Ok p.items
+pub derives : (tokens : List Token) (p : ProgramTree) → read_text_within LEVELS (numbered 0 (map spelled tokens)) ≡ Ok p.items
     → p.end ≡ end_of beginning (map spelled tokens) → p.tokens ≡ length tokens → SpellsProgram (map spelled tokens) p
-derives tokens p small e d n = record {
-  items = reads_within (numbered 0 (map spelled tokens)) (Ok p.items) (few 0 tokens (omega arith)) e;
+derives tokens p e d n = record {
+  items = reads_within (numbered 0 (map spelled tokens)) (Ok p.items) e;
   end = d;
   count = n ∙ sym (length-map tokens spelled);
 }

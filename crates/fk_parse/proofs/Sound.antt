@@ -153,13 +153,13 @@ items_sound tokens items r =
     let same : places r.stretch ≡ map (λ t. t.at) (numbered 0 tokens) = places-tokens r.stretch ∙ ap (map (λ t. t.at)) (sym r.is) in
     record {
       below = all_below (length tokens) (items_indices items) (λ k h.
-          let a = held_items by_tokens r.spelled.0 r.stretch items r.spelled.1 k in
+          let a = (held_items by_tokens r.spelled.0).holds r.stretch items r.spelled.1 k in
           let b = sign-some (times k (tokens_in (items_indices items))) h in
           let e = ap (times k) same in
           let c = numbered-within 0 k tokens (omega (arith, a, b, e)) in
           omega (arith, c));
       distinct = once_apart (nodes (items_indices items)) (λ k.
-          let a = held_items by_nodes r.spelled.0 r.stretch items r.spelled.1 k in
+          let a = (held_items by_nodes r.spelled.0).holds r.stretch items r.spelled.1 k in
           let e = ap (times k) same in
           let b = numbered-once 0 k tokens in
           omega (arith, a, e, b));

@@ -14,14 +14,15 @@ use Rattle.fk_expr.proofs.TypeNames.{reads_base}
 use Rattle.fk_reading.proofs.Or.{Includes}
 use Rattle.fk_reading.proofs.Productions.{IsRead, reads_token, reads_telling, reads_making, reads_then, reads_loose_then, reads_or, reads_many, reads_lower, reads_wider}
 use Rattle.fk_parse.specs.Kinds.{mode_told}
-use Rattle.fk_stmt.specs.Statements.{variable, parameters, block, statement_within, Declarator}
+use Rattle.fk_declarations.specs.Grammar.{variable, parameters, Declarator}
+use Rattle.fk_stmt.specs.Statements.{block, statement_within}
 use Rattle.fk_parse.specs.Items.{body}
 use Rattle.fk_parse.specs.Reading.{read_function_tail, read_variables_tail, read_tail, read_bare, read_moded, Tail, OfFunction, OfVariables, made_of}
 use Rattle.fk_stmt.specs.Reading.{read_block, statements_with}
-use Rattle.fk_stmt.proofs.Alike.{reads_same}
+use Rattle.fk_declarations.proofs.Alike.{reads_same}
 use Rattle.fk_stmt.proofs.Closing.{closing_room}
-use Rattle.fk_stmt.proofs.Declarations.{Expressions, expressions, after_variable, after_rest, starred, rest_of, reads_stars, reads_rest, reads_variable}
-use Rattle.fk_stmt.proofs.Parameters.{begins_parameters, reads_parameters}
+use Rattle.fk_declarations.proofs.Declarations.{Expressions, expressions, after_variable, after_rest, starred, rest_of, reads_stars, reads_rest, reads_variable}
+use Rattle.fk_declarations.proofs.Parameters.{begins_parameters, reads_parameters}
 use Rattle.fk_stmt.proofs.Statements.{reads_block, nested_deeper, closing_within}
 use Rattle.fk_reading.specs.Kinds.{just}
 
@@ -30,8 +31,8 @@ abbrev pub has_room : (left : ℕ) → ℕ → Type 0
 has_room left bound = left + 4 ≤ bound
 
 -- a body, where two levels more than so many may be open in a text
-abbrev pub body_within : ℕ → ℕ → Reader Statements
-body_within left most = read_block most (statements_with most (suc left))
+abbrev pub body_within : ℕ → Reader Statements
+body_within left = read_block (statements_with (suc left))
 
 -- expressions where no level is open
 pub outer : (left : ℕ) (bound : ℕ) → Expressions (suc (suc left)) 0 (suc (suc left)) bound (has_room left bound)
@@ -41,13 +42,13 @@ outer left bound = expressions (suc (suc left)) 0 bound (omega arith) (λ r. ome
 
 -- a body is level 1, and the statements in it open level 2, where so many are left
 body_at : {levels : ℕ} {room : Type 0} (left bound : ℕ) → left + 2 ≡ levels → (room → left + 3 ≤ bound)
-    → IsRead levels (block (statement_within bound) 1) (λ most. read_block most (statements_with most (suc left))) 1 (just kind.OpenBrace) none room
+    → IsRead levels (block (statement_within bound) 1) (read_block (statements_with (suc left))) 1 (just kind.OpenBrace) none room
 body_at left bound all enough =
-    reads_block (statement_within bound) (λ most. statements_with most (suc left)) (omega arith)
+    reads_block (statement_within bound) (statements_with (suc left)) (omega arith)
     (closing_room (λ r. let h : left + 3 ≤ bound = enough r in omega arith) (nested_deeper left 1 bound (closing_within left 2 bound all)))
 
 -- in a text, where all levels are left
-reads_body_block : (left : ℕ) (bound : ℕ) → IsRead (suc (suc left)) (block (statement_within bound) 1) (λ most. body_within left most) 0 (just kind.OpenBrace) none (has_room left bound)
+reads_body_block : (left : ℕ) (bound : ℕ) → IsRead (suc (suc left)) (block (statement_within bound) 1) (body_within left) 0 (just kind.OpenBrace) none (has_room left bound)
 reads_body_block left bound = reads_lower (omega arith) (body_at left bound (omega arith) (λ r. omega arith))
 
 -- block | ";", in the order of the reader
@@ -65,7 +66,7 @@ abbrev begins_body : Kinds
 begins_body = just kind.OpenBrace ∪ just kind.Semicolon
 
 -- a body is read exactly
-reads_body : (left : ℕ) (bound : ℕ) → IsRead (suc (suc left)) (body bound) (λ most. by_next (just kind.OpenBrace) (giving Some (body_within left most)) (giving (λ t. None) (expect kind.Semicolon))) 0 begins_body none (has_room left bound)
+reads_body : (left : ℕ) (bound : ℕ) → IsRead (suc (suc left)) (body bound) (by_next (just kind.OpenBrace) (giving Some (body_within left)) (giving (λ t. None) (expect kind.Semicolon))) 0 begins_body none (has_room left bound)
 unfolding just
 reads_body left bound =
     reads_same (body bound) (body_there bound) (body_back bound)
@@ -81,7 +82,7 @@ function_tail bound =
     making (λ x. (x.1.0, x.1.1.1)) (token 0 kind.OpenParenthesis then parameters 0 then token 0 kind.CloseParenthesis then body bound)
 
 -- it is read exactly
-pub reads_function_tail : (left : ℕ) (bound : ℕ) → IsRead (suc (suc left)) (function_tail bound) (λ most. read_function_tail most (body_within left most)) 0 (just kind.OpenParenthesis) none (has_room left bound)
+pub reads_function_tail : (left : ℕ) (bound : ℕ) → IsRead (suc (suc left)) (function_tail bound) (read_function_tail (body_within left)) 0 (just kind.OpenParenthesis) none (has_room left bound)
 unfolding read_function_tail
 reads_function_tail left bound =
     reads_making _ (reads_then (reads_token 0 kind.OpenParenthesis (omega arith))
@@ -107,7 +108,7 @@ abbrev begins_variables_tail : Kinds
 begins_variables_tail = (just kind.OpenBracket ∪ just kind.Assign) ∪ begins_others
 
 -- they are read exactly
-pub reads_variables_tail : (left : ℕ) (bound : ℕ) → IsRead (suc (suc left)) (variables_tail bound) (λ most. read_variables_tail most (inner most (suc (suc left)))) 0 begins_variables_tail none (has_room left bound)
+pub reads_variables_tail : (left : ℕ) (bound : ℕ) → IsRead (suc (suc left)) (variables_tail bound) (read_variables_tail (inner (suc (suc left)))) 0 begins_variables_tail none (has_room left bound)
 unfolding read_variables_tail just
 reads_variables_tail left bound =
     reads_making _ (reads_loose_then (reads_rest (outer left bound) (omega arith))
@@ -128,7 +129,7 @@ abbrev begins_tail : Kinds
 begins_tail = just kind.OpenParenthesis ∪ begins_variables_tail
 
 -- a parenthesis tells them apart
-pub reads_tail : (left : ℕ) (bound : ℕ) → IsRead (suc (suc left)) (tail bound) (λ most. read_tail most (inner most (suc (suc left))) (body_within left most)) 0 begins_tail none (has_room left bound)
+pub reads_tail : (left : ℕ) (bound : ℕ) → IsRead (suc (suc left)) (tail bound) (read_tail (inner (suc (suc left))) (body_within left)) 0 begins_tail none (has_room left bound)
 unfolding read_tail just
 reads_tail left bound =
     reads_wider none (λ k h. h)
@@ -139,8 +140,8 @@ abbrev pub named : {A : Type 0} → Language A → Language (List Placed × (Pla
 named L = many (token 0 kind.Star) then token 0 kind.Word then L
 
 -- they are read exactly, if what stands behind the name is
-pub reads_named : {levels : ℕ} {room : Type 0} {A : Type 0} {L : Language A} {P : ℕ → Reader A} {level : ℕ} {first f : Kinds} → IsRead levels L P level first f room
-    → IsRead levels (named L) (λ most. repeated most (just kind.Star) (expect kind.Star) and expect kind.Word and P most) 0 starred f room
+pub reads_named : {levels : ℕ} {room : Type 0} {A : Type 0} {L : Language A} {P : Reader A} {level : ℕ} {first f : Kinds} → IsRead levels L P level first f room
+    → IsRead levels (named L) (repeated (just kind.Star) (expect kind.Star) and expect kind.Word and P) 0 starred f room
 unfolding just
 reads_named {first = first} w =
     reads_loose_then (reads_stars 0 (omega arith)) (reads_then (reads_token 0 kind.Word (omega arith)) w (none_apart first))
@@ -153,7 +154,7 @@ abbrev pub bare : ℕ → Language ItemTree
 bare bound = making (λ x. made_of x.0 (length x.1.0) (name x.1.1.0) x.1.1.1) (base 0 then named (tail bound))
 
 -- an item without a word before its type is read exactly
-pub reads_bare : (left : ℕ) (bound : ℕ) → IsRead (suc (suc left)) (bare bound) (λ most. read_bare most (inner most (suc (suc left))) (body_within left most)) 0 begins_type none (has_room left bound)
+pub reads_bare : (left : ℕ) (bound : ℕ) → IsRead (suc (suc left)) (bare bound) (read_bare (inner (suc (suc left))) (body_within left)) 0 begins_type none (has_room left bound)
 unfolding read_bare just
 reads_bare left bound = reads_making _ (reads_then (reads_base 0 (omega arith)) (reads_named (reads_tail left bound)) (apart_by (just kind.Int) starred refl (λ v u. refl)))
 
@@ -170,7 +171,7 @@ moded bound =
     (telling 0 mode_told then base 0 then named (function_tail bound))
 
 -- a function with a word before its type is read exactly
-pub reads_moded : (left : ℕ) (bound : ℕ) → IsRead (suc (suc left)) (moded bound) (λ most. read_moded most (body_within left most)) 0 (tells mode_told) none (has_room left bound)
+pub reads_moded : (left : ℕ) (bound : ℕ) → IsRead (suc (suc left)) (moded bound) (read_moded (body_within left)) 0 (tells mode_told) none (has_room left bound)
 unfolding read_moded just
 reads_moded left bound =
     reads_making _ (reads_then (reads_telling 0 mode_told kind.Sync mode.Sync refl (omega arith))

@@ -1,7 +1,6 @@
 -- A text is read as the grammar says, and tokens have one answer.
-use Rattle.std.proofs.Common.{◌≡◌, ℕ, suc, ◌+◌, ◌<◌, ◌^◌, List, [], ◌∷◌, Option, Some, None, Result, Ok, Err, length, ◌⊎◌, inl, inr, refl, sym, ap, ◌∙◌, arith}
+use Rattle.std.proofs.Common.{◌≡◌, ℕ, suc, ◌+◌, List, [], ◌∷◌, Option, Some, None, Result, Ok, Err, length, ◌⊎◌, inl, inr, refl, sym, ap, ◌∙◌, arith}
 use Rattle.std.proofs.lemmas.List.{append-nil}
-use Rattle.fk_syntax.specs.declared.place.Place.{Place}
 use Rattle.fk_syntax.specs.Program.{ItemTree, ProgramTree}
 use Rattle.fk_lex.specs.Reading.{Spelled}
 use Rattle.fk_reading.specs.declared.fault.SyntaxFault.{SyntaxFault}
@@ -9,7 +8,6 @@ use Rattle.fk_reading.specs.declared.fault.SyntaxFault.TheVariants as fault
 use Rattle.fk_reading.specs.Languages.{Placed, Stretch, tokens_of, numbered}
 use Rattle.fk_reading.specs.Reads.{Stop, Unexpected, EndOfText, Nesting, Answer, IsLongest, Reads}
 use Rattle.fk_reading.specs.Faults.{IsMemory}
-use Rattle.fk_reading.specs.Ahead.{plenty}
 use Rattle.fk_reading.proofs.Longest.{reads, one_value}
 use Rattle.fk_reading.proofs.Stretches.{sum_of_levels, within_sum}
 use Rattle.fk_reading.proofs.Determined.{one_longest, longest_not_deep, one_answer}
@@ -40,10 +38,9 @@ whole_reads tokens items w = record {
   shallow = w.shallow;
 }
 
--- of a text of fewer than 2^32 tokens
-pub reads_text : (tokens : List Placed) → length tokens < 2 ^ 32 → ReadsText tokens (read_text tokens)
-unfolding plenty
-reads_text tokens small = ended_reads tokens (read_items plenty tokens) (reads faithful_items plenty tokens (omega arith))
+-- what is read of a text
+pub reads_text : (tokens : List Placed) → ReadsText tokens (read_text tokens)
+reads_text tokens = ended_reads tokens (read_items tokens) (reads faithful_items tokens)
 
 -- ---- one answer
 
@@ -66,11 +63,7 @@ matches tokens answer (Err (Unexpected (t ∷ rest))) r w = by answer r
 
 -- tokens have one answer as a text
 pub one_text : OneText
-one_text tokens =
-    let answer : Answer (List ItemTree) = read_items (length tokens) tokens in
-    let r : Reads Items tokens answer = reads faithful_items (length tokens) tokens (omega arith) in
-    let text : ReadsText tokens (ended answer) = ended_reads tokens answer r in
-    (ended answer, text, λ other w. sym (matches tokens answer other r w))
+one_text tokens = (read_text tokens, reads_text tokens, λ other w. sym (matches tokens (read_items tokens) other (reads faithful_items tokens) w))
 
 -- so two answers are one
 same_text : (tokens : List Placed) (x y : Result (List ItemTree) Stop) → ReadsText tokens x → ReadsText tokens y → x ≡ y
@@ -140,41 +133,25 @@ has_tree_or_fault tokens = let one = one_text (numbered 0 tokens) in by one.0 on
 
 -- ---- one fault
 
--- the place of a token at which reading stops
-abbrev place_of : Stop → Option Place
-place_of (Unexpected (t ∷ rest)) = Some t.place
-place_of (Nesting (t ∷ rest)) = Some t.place
-place_of stop = None
+-- the fault of the token at which reading stops
+abbrev fault_of : Stop → Option SyntaxFault
+fault_of (Unexpected (t ∷ rest)) = Some (fault.Unexpected t.place)
+fault_of EndOfText = Some fault.EndOfText
+fault_of (Nesting (t ∷ rest)) = Some (fault.Nesting t.place)
+fault_of stop = None
 
--- two faults that name one token
-same_place : (tokens : List Placed) (s r : Stop) (a b : Place) → ReadsText tokens (Err s) → ReadsText tokens (Err r) → place_of s ≡ Some a → place_of r ≡ Some b → a ≡ b
-same_place tokens s r a b v w e d =
-    let same : s ≡ r = let both = same_text tokens (Err s) (Err r) v w in cc in
-    let both : Some a ≡ Some b = sym e ∙ ap place_of same ∙ d in
-    cc
-
--- two faults of different kinds
-apart : {C : Type 0} (tokens : List Placed) (s r : Stop) → ReadsText tokens (Err s) → ReadsText tokens (Err r) → (s ≡ r → ⊥) → C
-apart tokens s r v w other = absurd (other (let both = same_text tokens (Err s) (Err r) v w in cc))
+-- what is told, but for want of memory, is the fault of a token at which reading stops
+stops_at : (tokens : List Spelled) (f : SyntaxFault) → RefusesTokens tokens f → ¬ IsMemory f → (stop : Stop) × ReadsText (numbered 0 tokens) (Err stop) × (fault_of stop ≡ Some f)
+stops_at tokens (fault.Unexpected place) r m = (Unexpected (r.0 ∷ r.1), r.3, ap (λ p. Some (fault.Unexpected p)) r.2)
+stops_at tokens fault.EndOfText r m = (EndOfText, r, refl)
+stops_at tokens (fault.Nesting place) r m = (Nesting (r.0 ∷ r.1), r.3, ap (λ p. Some (fault.Nesting p)) r.2)
+stops_at tokens (fault.Memory error) r m = absurd (m tt)
 
 -- tokens are refused by one fault
 pub one_fault : OneFault
-one_fault tokens = by
-  where
-    text : List Placed
-    text = numbered 0 tokens
-
-    by : (f g : SyntaxFault) → RefusesTokens tokens f → RefusesTokens tokens g → ¬ IsMemory f → ¬ IsMemory g → f ≡ g
-    by (fault.Memory e) g v w m n = absurd (m tt)
-    by f (fault.Memory e) v w m n = absurd (n tt)
-    by (fault.Unexpected a) (fault.Unexpected b) v w m n =
-        ap (λ z. fault.Unexpected z) (same_place text (Unexpected (v.0 ∷ v.1)) (Unexpected (w.0 ∷ w.1)) a b v.3 w.3 (ap (λ z. Some z) v.2) (ap (λ z. Some z) w.2))
-    by (fault.Unexpected a) fault.EndOfText v w m n = apart text (Unexpected (v.0 ∷ v.1)) EndOfText v.3 w (λ e. cc)
-    by (fault.Unexpected a) (fault.Nesting b) v w m n = apart text (Unexpected (v.0 ∷ v.1)) (Nesting (w.0 ∷ w.1)) v.3 w.3 (λ e. cc)
-    by fault.EndOfText (fault.Unexpected b) v w m n = apart text EndOfText (Unexpected (w.0 ∷ w.1)) v w.3 (λ e. cc)
-    by fault.EndOfText fault.EndOfText v w m n = refl
-    by fault.EndOfText (fault.Nesting b) v w m n = apart text EndOfText (Nesting (w.0 ∷ w.1)) v w.3 (λ e. cc)
-    by (fault.Nesting a) (fault.Unexpected b) v w m n = apart text (Nesting (v.0 ∷ v.1)) (Unexpected (w.0 ∷ w.1)) v.3 w.3 (λ e. cc)
-    by (fault.Nesting a) fault.EndOfText v w m n = apart text (Nesting (v.0 ∷ v.1)) EndOfText v.3 w (λ e. cc)
-    by (fault.Nesting a) (fault.Nesting b) v w m n =
-        ap (λ z. fault.Nesting z) (same_place text (Nesting (v.0 ∷ v.1)) (Nesting (w.0 ∷ w.1)) a b v.3 w.3 (ap (λ z. Some z) v.2) (ap (λ z. Some z) w.2))
+one_fault tokens f g v w m n =
+    let a = stops_at tokens f v m in
+    let b = stops_at tokens g w n in
+    let same : a.0 ≡ b.0 = let both = same_text (numbered 0 tokens) (Err a.0) (Err b.0) a.1 b.1 in cc in
+    let both : Some f ≡ Some g = sym a.2 ∙ ap fault_of same ∙ b.2 in
+    cc

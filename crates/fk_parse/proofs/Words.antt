@@ -14,15 +14,15 @@ use Rattle.fk_reading.proofs.Shapes.{shape_or}
 use Rattle.fk_reading.proofs.Then.{follows_shape}
 use Rattle.fk_reading.proofs.Or.{Includes}
 use Rattle.fk_reading.proofs.Productions.{IsRead, reads_making, reads_or, reads_kinds, reads_wider}
-use Rattle.fk_stmt.specs.Kinds.{sharing_told}
+use Rattle.fk_declarations.specs.Kinds.{sharing_told}
 use Rattle.fk_parse.specs.Kinds.{mode_told}
-use Rattle.fk_stmt.specs.Statements.{separated, Declarator, variable, variables, declared, is_shared, parameters}
+use Rattle.fk_declarations.specs.Grammar.{separated, Declarator, variable, variables, declared, is_shared, parameters}
 use Rattle.fk_parse.specs.Items.{body, mode_of, function_item}
-use Rattle.fk_stmt.specs.Reading.{read_variables, begins_parameter}
+use Rattle.fk_declarations.specs.Reading.{read_variables, begins_parameter}
 use Rattle.fk_parse.specs.Reading.{read_moded, read_bare, begins_item, OfFunction, OfVariables}
-use Rattle.fk_stmt.proofs.Alike.{shape_same}
-use Rattle.fk_stmt.proofs.Declarations.{rest_of, reads_variables}
-use Rattle.fk_stmt.proofs.Parameters.{next_none}
+use Rattle.fk_declarations.proofs.Alike.{shape_same}
+use Rattle.fk_declarations.proofs.Declarations.{rest_of, reads_variables}
+use Rattle.fk_declarations.proofs.Parameters.{next_none}
 use Rattle.fk_parse.proofs.Choices.{TellsApart, exact_choice}
 use Rattle.fk_parse.proofs.Tails.{has_room, body_within, outer, others_of, named, bare, reads_bare, moded, reads_moded, tail}
 use Rattle.fk_reading.specs.Kinds.{just}
@@ -230,12 +230,12 @@ abbrev begins_typed : Kinds
 begins_typed = tells mode_told ∪ begins_type
 
 -- either of them
-abbrev pub read_typed : (left : ℕ) → ℕ → Reader ItemTree
-read_typed left most = by_next (tells mode_told) (read_moded most (body_within left most)) (read_bare most (inner most (suc (suc left))) (body_within left most))
+abbrev pub read_typed : (left : ℕ) → Reader ItemTree
+read_typed left = by_next (tells mode_told) (read_moded (body_within left)) (read_bare (inner (suc (suc left))) (body_within left))
 
 -- variables with a word of sharing, or either of them
-abbrev pub read_words : (left : ℕ) → ℕ → Reader ItemTree
-read_words left most = by_next (tells sharing_told) (giving VariablesItem (read_variables most (inner most (suc (suc left))))) (read_typed left most)
+abbrev pub read_words : (left : ℕ) → Reader ItemTree
+read_words left = by_next (tells sharing_told) (giving VariablesItem (read_variables (inner (suc (suc left))))) (read_typed left)
 
 -- the word tells them apart
 reads_typed : (left : ℕ) (bound : ℕ) → IsRead (suc (suc left)) (moded bound or bare bound) (read_typed left) 0 begins_typed none (has_room left bound)
@@ -244,7 +244,7 @@ reads_typed left bound =
     reads_wider none (λ k h. h) (reads_or (reads_moded left bound) (reads_bare left bound) (apart_by (tells mode_told) begins_type refl (λ v u. refl)))
 
 -- variables as an item
-reads_variables_item : (left : ℕ) (bound : ℕ) → IsRead (suc (suc left)) (making VariablesItem (variables bound 0)) (λ most. giving VariablesItem (read_variables most (inner most (suc (suc left))))) 0 begins_parameter none (has_room left bound)
+reads_variables_item : (left : ℕ) (bound : ℕ) → IsRead (suc (suc left)) (making VariablesItem (variables bound 0)) (giving VariablesItem (read_variables (inner (suc (suc left))))) 0 begins_parameter none (has_room left bound)
 reads_variables_item left bound = reads_making VariablesItem (reads_variables (outer left bound) (omega arith))
 
 -- both are items

@@ -8,7 +8,8 @@ use Rattle.fk_reading.specs.Reads.{Family}
 use Rattle.fk_expr.specs.Grammar.{base}
 use Rattle.fk_parse.specs.Kinds.{mode_told}
 use Rattle.fk_lex.specs.declared.token.TokenKind.TheVariants as kind
-use Rattle.fk_stmt.specs.Statements.{variables, member, joined_lists, parameters, block, statement_within}
+use Rattle.fk_declarations.specs.Grammar.{variables, member, joined_lists, parameters}
+use Rattle.fk_stmt.specs.Statements.{block, statement_within}
 
 -- ---- items and programs, in whose own tokens no level is open. A function's body is level 1
 

@@ -1,4 +1,4 @@
--- Parts of items, with as many repetitions as there may be tokens.
+-- Parts of items.
 use Rattle.std.specs.Prelude.{ℕ, ◌-◌, List, Option, Some, None, Result}
 use Rattle.fk_syntax.specs.declared.program.Mode.{Mode}
 use Rattle.fk_syntax.specs.Tree.{Named, BaseType, TypeTree, Tree}
@@ -7,8 +7,7 @@ use Rattle.fk_reading.specs.Languages.{Placed}
 use Rattle.fk_reading.specs.Reads.{Stop}
 use Rattle.fk_reading.specs.Readers.{Reader, giving, expect, by_next, repeated}
 use Rattle.fk_expr.specs.Reading.{inner}
-use Rattle.fk_reading.specs.Ahead.{plenty}
-use Rattle.fk_stmt.specs.Statements.{Declarator}
+use Rattle.fk_declarations.specs.Grammar.{Declarator}
 use Rattle.fk_parse.specs.Reading.{begins_item, OfVariables, made_of, read_item, ended}
 use Rattle.fk_stmt.specs.Reading.{statements_with, read_block}
 use Rattle.fk_reading.specs.Kinds.{just}
@@ -17,14 +16,14 @@ use Rattle.fk_lex.specs.declared.token.TokenKind.TheVariants as kind
 -- ---- items, where so many levels may be open, of which a function's body opens the first
 
 abbrev pub read_body_within : ℕ → Reader Statements
-read_body_within left = read_block plenty (statements_with plenty (left - 1))
+read_body_within left = read_block (statements_with (left - 1))
 
 -- ";" | block
 abbrev pub read_optional_body : Reader Statements → Reader (Option Statements)
 read_optional_body B = by_next (just kind.OpenBrace) (giving Some B) (giving (λ t. None) (expect kind.Semicolon))
 
 abbrev pub read_item_within : ℕ → Reader ItemTree
-read_item_within left = read_item plenty (inner plenty left) (read_body_within left)
+read_item_within left = read_item (inner left) (read_body_within left)
 
 -- a function, by its mode, type and name, and what stands behind its name
 abbrev pub function_made : Mode → TypeTree → Named → List DeclaredTree × Option Statements → ItemTree
@@ -35,4 +34,4 @@ abbrev pub variables_made : BaseType → ℕ → Named → (Option ℕ × Option
 variables_made base stars name ((size, first), others) = made_of base stars name (OfVariables size first others)
 
 abbrev pub read_text_within : ℕ → List Placed → Result (List ItemTree) Stop
-read_text_within left tokens = ended (repeated plenty begins_item (read_item_within left) tokens)
+read_text_within left tokens = ended (repeated begins_item (read_item_within left) tokens)

@@ -9,14 +9,14 @@ use Rattle.fk_reading.specs.Languages.{Placed, name}
 use Rattle.fk_reading.specs.Reads.{Stop, Unexpected, Answer}
 use Rattle.fk_reading.specs.Readers.{Reader, giving, ◌and◌, tells, expect, expect_told, either, by_next, repeated}
 use Rattle.fk_expr.specs.Reading.{read_base, begins_type, Readers, inner}
-use Rattle.fk_reading.specs.Ahead.{plenty}
-use Rattle.fk_stmt.specs.Kinds.{sharing_told}
+use Rattle.fk_declarations.specs.Kinds.{sharing_told}
 use Rattle.fk_parse.specs.Kinds.{mode_told}
-use Rattle.fk_stmt.specs.Statements.{Declarator, declared, joined_lists}
+use Rattle.fk_declarations.specs.Grammar.{Declarator, declared, joined_lists}
 use Rattle.fk_parse.specs.Items.{mode_of}
 use Rattle.fk_reading.specs.Kinds.{just}
 use Rattle.fk_lex.specs.declared.token.TokenKind.TheVariants as kind
-use Rattle.fk_stmt.specs.Reading.{read_rest, read_variable, read_variables, read_member, begins_parameter, read_parameters, read_block, statements_with}
+use Rattle.fk_declarations.specs.Reading.{read_rest, read_variable, read_variables, read_member, begins_parameter, read_parameters}
+use Rattle.fk_stmt.specs.Reading.{read_block, statements_with}
 
 -- ---- items: E reads expressions with all levels left, B a function's body
 
@@ -25,24 +25,24 @@ abbrev pub struct_is_next : List Placed → Bool
 struct_is_next (s ∷ n ∷ t ∷ ts) = just kind.Struct s.kind && just kind.Word n.kind && just kind.OpenBrace t.kind
 struct_is_next ts = false
 
-unfoldable pub read_struct : ℕ → Reader ItemTree
-read_struct most =
+unfoldable pub read_struct : Reader ItemTree
+read_struct =
     giving (λ (word, (called, (opening, (first, (others, (closing, end)))))). StructItem (name called) (joined_lists (first ∷ others)))
-    (expect kind.Struct and expect kind.Word and expect kind.OpenBrace and read_member most and repeated most begins_type (read_member most)
+    (expect kind.Struct and expect kind.Word and expect kind.OpenBrace and read_member and repeated begins_type read_member
     and expect kind.CloseBrace and expect kind.Semicolon)
 
 -- behind a function's name
-unfoldable pub read_function_tail : ℕ → Reader Statements → Reader (List DeclaredTree × Option Statements)
-read_function_tail most B =
+unfoldable pub read_function_tail : Reader Statements → Reader (List DeclaredTree × Option Statements)
+read_function_tail B =
     giving (λ (opening, (list, (closing, inside))). (list, inside))
-    (expect kind.OpenParenthesis and read_parameters most and expect kind.CloseParenthesis
+    (expect kind.OpenParenthesis and read_parameters and expect kind.CloseParenthesis
     and by_next (just kind.OpenBrace) (giving Some B) (giving (λ t. None) (expect kind.Semicolon)))
 
 -- behind the name of the first variable: what belongs to it, and the other variables
-unfoldable pub read_variables_tail : ℕ → Option Readers → Reader ((Option ℕ × Option Tree) × List Declarator)
-read_variables_tail most E =
+unfoldable pub read_variables_tail : Option Readers → Reader ((Option ℕ × Option Tree) × List Declarator)
+read_variables_tail E =
     giving (λ (rest, (others, end)). (rest, others))
-    (read_rest most E and repeated most (just kind.Comma) (giving (λ (comma, next). next) (expect kind.Comma and read_variable most E)) and expect kind.Semicolon)
+    (read_rest E and repeated (just kind.Comma) (giving (λ (comma, next). next) (expect kind.Comma and read_variable E)) and expect kind.Semicolon)
 
 -- what stands behind the first name of an item: that of a function, or that of variables
 pub data Tail : Type 0 where
@@ -63,18 +63,18 @@ made_of base stars name (OfVariables length first others) =
     VariablesItem (map (declared false base) (record { stars = stars; name = name; length = length; first = first } ∷ others))
 
 -- a parenthesis behind the name says that it is a function
-unfoldable pub read_tail : ℕ → Option Readers → Reader Statements → Reader Tail
-read_tail most E B =
-    by_next (just kind.OpenParenthesis) (giving (λ (list, inside). OfFunction list inside) (read_function_tail most B))
-    (giving (λ ((size, first), others). OfVariables size first others) (read_variables_tail most E))
+unfoldable pub read_tail : Option Readers → Reader Statements → Reader Tail
+read_tail E B =
+    by_next (just kind.OpenParenthesis) (giving (λ (list, inside). OfFunction list inside) (read_function_tail B))
+    (giving (λ ((size, first), others). OfVariables size first others) (read_variables_tail E))
 
-unfoldable pub read_bare : ℕ → Option Readers → Reader Statements → Reader ItemTree
-read_bare most E B =
+unfoldable pub read_bare : Option Readers → Reader Statements → Reader ItemTree
+read_bare E B =
     giving (λ (words, (stars, (word, tail))). made_of words (length stars) (name word) tail)
-    (read_base and repeated most (just kind.Star) (expect kind.Star) and expect kind.Word and read_tail most E B)
+    (read_base and repeated (just kind.Star) (expect kind.Star) and expect kind.Word and read_tail E B)
 
-unfoldable pub read_moded : ℕ → Reader Statements → Reader ItemTree
-read_moded most B =
+unfoldable pub read_moded : Reader Statements → Reader ItemTree
+read_moded B =
     giving (λ ((at, mode), (words, (stars, (word, (list, inside))))). FunctionItem (record {
       mode = mode;
       result = record { base = words; stars = length stars };
@@ -82,25 +82,25 @@ read_moded most B =
       parameters = list;
       body = inside;
     }))
-    (expect_told mode_told and read_base and repeated most (just kind.Star) (expect kind.Star) and expect kind.Word and read_function_tail most B)
+    (expect_told mode_told and read_base and repeated (just kind.Star) (expect kind.Star) and expect kind.Word and read_function_tail B)
 
-unfoldable pub read_item : ℕ → Option Readers → Reader Statements → Reader ItemTree
-read_item most E B ts =
-    either (struct_is_next ts) (read_struct most)
-    (by_next (tells sharing_told) (giving VariablesItem (read_variables most E))
-    (by_next (tells mode_told) (read_moded most B)
-    (read_bare most E B))) ts
+unfoldable pub read_item : Option Readers → Reader Statements → Reader ItemTree
+read_item E B ts =
+    either (struct_is_next ts) read_struct
+    (by_next (tells sharing_told) (giving VariablesItem (read_variables E))
+    (by_next (tells mode_told) (read_moded B)
+    (read_bare E B))) ts
 
 -- the kinds that begin an item
 abbrev pub begins_item : TokenKind → Bool
 begins_item k = begins_parameter k || tells mode_told k
 
 -- a body is level 1, and a statement in it opens level 2
-abbrev pub read_body : ℕ → Reader Statements
-read_body most = read_block most (statements_with most (LEVELS - 1))
+abbrev pub read_body : Reader Statements
+read_body = read_block (statements_with (LEVELS - 1))
 
-unfoldable pub read_items : ℕ → Reader (List ItemTree)
-read_items most = repeated most begins_item (read_item most (inner most LEVELS) (read_body most))
+unfoldable pub read_items : Reader (List ItemTree)
+read_items = repeated begins_item (read_item (inner LEVELS) read_body)
 
 -- the items of a text, all of its tokens
 abbrev pub whole : List ItemTree → List Placed → Result (List ItemTree) Stop
@@ -112,4 +112,4 @@ ended (Ok x) = whole x.0 x.1
 ended (Err e) = Err e
 
 abbrev pub read_text : List Placed → Result (List ItemTree) Stop
-read_text tokens = ended (read_items plenty tokens)
+read_text tokens = ended (read_items tokens)

@@ -8,7 +8,7 @@ ghost use Rattle.fk_syntax.specs.View.{named, base_of, type_of};
 ghost use Rattle.fk_syntax.specs.Program.{statements_of};
 ghost use Rattle.fk_syntax.specs.ProgramView.{statement_of, item_of};
 ghost use Rattle.fk_reading.specs.Readers.{repeated};
-ghost use Rattle.fk_reading.specs.Ahead.{Shortens, plenty};
+ghost use Rattle.fk_reading.specs.Ahead.{Shortens};
 ghost use Rattle.fk_reading.specs.Gives.{Gives, Makes};
 ghost use Rattle.fk_expr.specs.Reading.{inner};
 ghost use Rattle.fk_parse.specs.Reading.{
@@ -28,16 +28,16 @@ ghost use Rattle.fk_parse.specs.Parts.{
 };
 
 use crate::told::{expect_mode, item_is_next, mode_is_next};
+use fk_declarations::declaration::{
+    Declarator, add_member, add_members, array_length, first_value, parameters, rows, variables,
+};
+use fk_declarations::told::sharing_is_next;
 use fk_expr::at_cursor::base;
 use fk_expr::types::stars;
 use fk_lex::token::TokenKind;
 use fk_reading::cursor::Cursor;
 use fk_reading::fault::SyntaxFault;
-use fk_stmt::declaration::{
-    Declarator, add_member, add_members, array_length, first_value, parameters, rows, variables,
-};
 use fk_stmt::statement::block;
-use fk_stmt::told::sharing_is_next;
 use fk_syntax::expression::{Base, TypeName};
 use fk_syntax::place::Name;
 use fk_syntax::program::{Function, Item, Mode, Stmt};
@@ -51,7 +51,7 @@ pub fn items<'a>(
 ) -> Result<Vec<Item<'a>>, SyntaxFault>
     requires { 0 < left }
     ensures read { Gives (λ items. map item_of items.items) result cursor.new
-        (repeated plenty begins_item (read_item_within left) cursor.old) }
+        (repeated begins_item (read_item_within left) cursor.old) }
 {
     let mut items = Vec::new(alloc);
     while item_is_next(cursor) {
@@ -82,7 +82,7 @@ fn item<'a>(alloc: Global, cursor: &mut Cursor<'_, 'a>, left: u32) -> Result<Ite
 /// "struct" Name "{" member { member } "}" ";"
 #[tactic(auto, using(fk_expr::proofs::Halting::halting), unfolding(crate::specs::Reading::read_struct))]
 fn struct_item<'a>(alloc: Global, cursor: &mut Cursor<'_, 'a>) -> Result<Item<'a>, SyntaxFault>
-    ensures read { Gives item_of result cursor.new (read_struct plenty cursor.old) }
+    ensures read { Gives item_of result cursor.new (read_struct cursor.old) }
     ensures shorter { IfOk result (λ _. Shortens cursor.old cursor.new) }
 {
     cursor.expect(TokenKind::Struct)?;
@@ -101,7 +101,7 @@ fn struct_item<'a>(alloc: Global, cursor: &mut Cursor<'_, 'a>) -> Result<Item<'a
 fn moded<'a>(alloc: Global, cursor: &mut Cursor<'_, 'a>, left: u32) -> Result<Item<'a>, SyntaxFault>
     requires { 0 < left }
     ensures read { Gives item_of result cursor.new
-        (read_moded plenty (read_body_within left) cursor.old) }
+        (read_moded (read_body_within left) cursor.old) }
     ensures shorter { IfOk result (λ _. Shortens cursor.old cursor.new) }
 {
     let (_, mode) = expect_mode(cursor)?;
@@ -116,7 +116,7 @@ fn moded<'a>(alloc: Global, cursor: &mut Cursor<'_, 'a>, left: u32) -> Result<It
 fn bare<'a>(alloc: Global, cursor: &mut Cursor<'_, 'a>, left: u32) -> Result<Item<'a>, SyntaxFault>
     requires { 0 < left }
     ensures read { Gives item_of result cursor.new
-        (read_bare plenty (inner plenty left) (read_body_within left) cursor.old) }
+        (read_bare (inner left) (read_body_within left) cursor.old) }
     ensures shorter { IfOk result (λ _. Shortens cursor.old cursor.new) }
 {
     let base = base(cursor)?;
@@ -130,7 +130,7 @@ fn bare<'a>(alloc: Global, cursor: &mut Cursor<'_, 'a>, left: u32) -> Result<Ite
 }
 
 /// Variables, from behind the name of the first.
-#[tactic(auto, using(fk_expr::proofs::Halting::halting), unfolding(crate::specs::Reading::read_variables_tail, fk_stmt::specs::Reading::read_rest))]
+#[tactic(auto, using(fk_expr::proofs::Halting::halting), unfolding(crate::specs::Reading::read_variables_tail, fk_declarations::specs::Reading::read_rest))]
 fn file_variables<'a>(
     alloc: Global,
     cursor: &mut Cursor<'_, 'a>,
@@ -141,7 +141,7 @@ fn file_variables<'a>(
 ) -> Result<Item<'a>, SyntaxFault>
     ensures read { Makes (variables_made (base_of base.entry) stars (named name.entry))
         item_of result cursor.new
-        (read_variables_tail plenty (inner plenty left) cursor.old) }
+        (read_variables_tail (inner left) cursor.old) }
     ensures shorter { IfOk result (λ _. Shortens cursor.old cursor.new) }
 {
     let length = array_length(cursor)?;
@@ -170,7 +170,7 @@ fn function<'a>(
     requires { 0 < left }
     ensures read { Makes (function_made mode (type_of kind.entry) (named name.entry))
         item_of result cursor.new
-        (read_function_tail plenty (read_body_within left) cursor.old) }
+        (read_function_tail (read_body_within left) cursor.old) }
     ensures shorter { IfOk result (λ _. Shortens cursor.old cursor.new) }
 {
     cursor.expect(TokenKind::OpenParenthesis)?;

@@ -9,6 +9,3 @@ mod told;
 
 pub use fk_reading::fault::SyntaxFault;
 pub use parser::parse;
-
-#[cfg(test)]
-mod tests;

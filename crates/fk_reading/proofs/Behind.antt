@@ -1,12 +1,18 @@
 -- What is read of two parts.
-use Rattle.std.proofs.Common.{◌≡◌, List, Result, Ok, Err, sym, ap, subst, ◌∙◌}
+use Rattle.std.proofs.Common.{◌≡◌, List, Option, Some, None, is_some, Result, Ok, Err, sym, ap, subst, ◌∙◌}
+use Rattle.std.specs.Option.{IfSome, IfNone, option_map}
 use Rattle.std.specs.Result.{IsErrAnd}
+use Rattle.fk_lex.specs.declared.token.TokenKind.{TokenKind}
+use Rattle.fk_reading.specs.declared.cursor.Numbered.{Numbered}
 use Rattle.fk_reading.specs.declared.fault.SyntaxFault.{SyntaxFault}
 use Rattle.fk_reading.specs.Languages.{Placed}
 use Rattle.fk_reading.specs.Reads.{Answer}
-use Rattle.fk_reading.specs.Readers.{Reader, after, giving, ◌and◌}
+use Rattle.fk_reading.specs.Kinds.{just}
+use Rattle.fk_reading.specs.Readers.{Reader, after, giving, ◌and◌, next_is, expect, optional}
+use Rattle.fk_reading.specs.Ahead.{seen}
 use Rattle.fk_reading.specs.Gives.{Gives, Makes, Halts}
 use Rattle.fk_reading.proofs.Halting.{halts_after}
+use Rattle.fk_reading.proofs.Or.{by_next-yes, by_next-no}
 
 pub behind_reads : {A B C : Type 0} (f : A × B → C) (P : Reader A) (Q : Reader B) (ts mid rest : List Placed) (a : A) (b : B)
     → P ts ≡ Ok (a, mid) → Q mid ≡ Ok (b, rest) → giving f (P and Q) ts ≡ Ok (f (a, b), rest)
@@ -31,3 +37,10 @@ pub makes_fault : {A B C : Type 0} (made : B → A) (view : C → A) (r : Result
     → IsErrAnd r (λ z. z ≡ fault) → Halts answer fault now → Makes made view r now answer
 makes_fault made view (Ok c) fault now answer e h = absurd e
 makes_fault made view (Err z) fault now answer e h = subst (λ z. Halts answer z now) (sym e) h
+
+-- what is accepted is read where it comes next
+pub accepted : (k : TokenKind) (old now : List Placed) (found : Option Numbered) → next_is (just k) old ≡ is_some found
+    → IfSome found (λ token. expect k old ≡ Ok (seen token, now)) → IfNone found (now ≡ old) → optional (just k) (expect k) old ≡ Ok (option_map seen found, now)
+accepted k old now None n read same = by_next-no (just k) (giving Some (expect k)) (λ ts. Ok (None, ts)) old n ∙ ap (λ ts. Ok (None, ts)) (sym same)
+accepted k old now (Some token) n read same =
+    by_next-yes (just k) (giving Some (expect k)) (λ ts. Ok (None, ts)) old n ∙ ap (λ t. after t (λ t rest. Ok (Some t, rest))) read

@@ -15,10 +15,6 @@ length-numbered at (t ∷ ts) = ap suc (length-numbered (at + 1) ts)
 pub few : (at : ℕ) (tokens : List Token) → at + length tokens < 2 ^ 32 → length (numbered at (map spelled tokens)) < 2 ^ 32
 few at tokens h = omega (arith, length-numbered at tokens)
 
--- a token comes before the others
-pub tail_shorter : (t : Placed) (ts others : List Placed) → ts ≡ t ∷ others → length others < length ts
-tail_shorter t ts others e = let h = ap (λ (xs : List Placed). length xs) e in omega arith
-
 -- what the kind of the next token tells of it
 pub next_by : (k n : TokenKind) (ts : List Placed) → Some n ≡ next_kind ts → just k n ≡ next_is (just k) ts
 next_by k n [] e = cc
@@ -39,9 +35,3 @@ triple_short f g h [] few = refl
 triple_short f g h (s ∷ []) few = refl
 triple_short f g h (s ∷ n ∷ []) few = refl
 triple_short f g h (s ∷ n ∷ t ∷ ts) few = absurd (omega arith)
-
-pub few_left : {m n : ℕ} → (n < m) × (m < 2 ^ 32) → n < 2 ^ 32
-few_left h = omega (arith, h.0, h.1)
-
-pub shorter_both : {k m n : ℕ} → (m < k) × (k < 2 ^ 32) → (n < m) × (m < 2 ^ 32) → n < k
-shorter_both h k = omega (arith, h.0, k.0)

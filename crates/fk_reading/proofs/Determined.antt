@@ -1,26 +1,15 @@
 -- A list of tokens has one answer: how far what comes first goes, what it spells, and the first token past the bound on levels.
-use Rattle.std.proofs.Common.{◌≡◌, ℕ, ◌≤◌, List, [], ◌∷◌, ◌++◌, Ok, Err, length, ◌⊎◌, inl, inr, refl, sym, ap, ◌∙◌, subst, append-nil, append_assoc, arith, length-append}
+use Rattle.std.proofs.Common.{◌≡◌, ℕ, ◌≤◌, List, [], ◌∷◌, ◌++◌, Ok, Err, length, inl, inr, refl, sym, ap, ◌∙◌, subst, append-nil, append_assoc, arith, length-append}
 use Rattle.fk_reading.specs.Languages.{Placed, Stretch, tokens_of}
 use Rattle.fk_reading.specs.Reads.{Unexpected, EndOfText, Nesting, Answer, Family, Begins, IsShallow, IsLongest, ReadsValue, ReadsNothing, ReadsDeep, Reads, HasOneAnswer}
 use Rattle.fk_reading.specs.declared.limits.TheConstants.{LEVELS}
 use Rattle.fk_reading.specs.Readers.{Reader}
 use Rattle.fk_reading.proofs.Sets.{Kinds}
 use Rattle.fk_reading.proofs.Exact.{from_deep, settled_by}
-use Rattle.fk_reading.proofs.Stretches.{tokens-append, tokens_regroup, from_deep-skip, length-from_deep, length-tokens}
+use Rattle.fk_reading.proofs.Stretches.{tokens-append, tokens_regroup, twice, from_deep-skip, length-from_deep, length-tokens}
 use Rattle.fk_reading.proofs.Longest.{Faithful, whole_read, read_deep, reads, one_value, not_unexpected}
 
 -- ---- the longest stretch
-
--- a list that is cut twice: the second cut comes no later than the first, or it comes later
-twice : (xs us ys vs : List Placed) → xs ++ us ≡ ys ++ vs
-    → ((between : List Placed) × (xs ≡ ys ++ between) × (vs ≡ between ++ us)) ⊎ ((x : Placed) × (between : List Placed) × (ys ≡ xs ++ x ∷ between) × (us ≡ x ∷ (between ++ vs)))
-twice xs us [] vs e = inl (xs, refl, sym e)
-twice [] us (y ∷ ys) vs e = inr (y, ys, refl, e)
-twice (x ∷ xs) us (y ∷ ys) vs e =
-    elim (twice xs us ys vs (cc)) [
-      | inl w ↦ inl (w.0, let tail = w.1 in cc, w.2)
-      | inr w ↦ inr (w.0, w.1, let tail = w.2 in cc, w.3)
-    ]
 
 -- what comes first and begins ends within the longest stretch
 within_longest : {A : Type 0} (L : Family A) (tokens : List Placed) (s t : Stretch) (rest others : List Placed)
@@ -52,7 +41,7 @@ one_longest L tokens s t rest others v w =
 -- ---- the first token past the bound on levels
 
 -- no token of what begins and nests within the bound opens a level past it
-not_deep : {A : Type 0} {L : Family A} {P : ℕ → Reader A} {goes_on : Kinds} {room : ℕ → Type 0} → Faithful LEVELS L P goes_on room
+not_deep : {A : Type 0} {L : Family A} {P : Reader A} {goes_on : Kinds} {room : ℕ → Type 0} → Faithful LEVELS L P goes_on room
     → (s : Stretch) (between ts rest : List Placed) → Begins L s → IsShallow s → (d : ReadsDeep L ts rest) → tokens_of s ≡ tokens_of d.stretch ++ d.deep.token ∷ between → ⊥
 not_deep {A} {L} {P} {goes_on} {room} w s between ts rest b shallow d all = by (from_deep LEVELS more) (length-from_deep LEVELS more) nested
   where
@@ -65,17 +54,14 @@ not_deep {A} {L} {P} {goes_on} {room} w s between ts rest b shallow d all = by (
     back : List Placed
     back = between ++ tokens_of more
 
-    most : ℕ
-    most = length (front ++ d.deep.token ∷ back)
-
     tokens : tokens_of (s ++ more) ≡ front ++ d.deep.token ∷ back
     tokens = tokens-append s more ∙ ap (λ z. z ++ tokens_of more) all ∙ append_assoc front (d.deep.token ∷ between) (tokens_of more)
 
-    read : P most (front ++ d.deep.token ∷ back) ≡ settled_by (from_deep LEVELS more) b.1 []
-    read = whole_read L P goes_on room w most b.2.0 (s ++ more) b.1 (front ++ d.deep.token ∷ back) b.2.1 tokens (omega arith) ∙ ap (λ z. settled_by z b.1 []) (from_deep-skip LEVELS s more shallow)
+    read : P (front ++ d.deep.token ∷ back) ≡ settled_by (from_deep LEVELS more) b.1 []
+    read = whole_read L P goes_on room w b.2.0 (s ++ more) b.1 (front ++ d.deep.token ∷ back) b.2.1 tokens ∙ ap (λ z. settled_by z b.1 []) (from_deep-skip LEVELS s more shallow)
 
     nested : settled_by (from_deep LEVELS more) b.1 [] ≡ Err (Nesting (d.deep.token ∷ back))
-    nested = sym read ∙ read_deep w d.stretch d.deep d.begins d.shallow d.past most back (omega arith)
+    nested = sym read ∙ read_deep w d.stretch d.deep d.begins d.shallow d.past back
 
     rest_of : Answer A → List Placed
     rest_of (Err (Nesting r)) = r
@@ -87,7 +73,7 @@ not_deep {A} {L} {P} {goes_on} {room} w s between ts rest b shallow d all = by (
         omega (arith, ap length (ap rest_of e), length-tokens (m ∷ t) [], length-tokens more [], ap length (append-nil (tokens_of more)), length-append between (tokens_of more))
 
 -- the longest stretch nests within the bound, or a token of it opens a level past it
-pub longest_not_deep : {A : Type 0} {L : Family A} {P : ℕ → Reader A} {goes_on : Kinds} {room : ℕ → Type 0} → Faithful LEVELS L P goes_on room
+pub longest_not_deep : {A : Type 0} {L : Family A} {P : Reader A} {goes_on : Kinds} {room : ℕ → Type 0} → Faithful LEVELS L P goes_on room
     → (ts : List Placed) (s : Stretch) (rest others : List Placed) → IsLongest L ts s rest → IsShallow s → ReadsDeep L ts others → ⊥
 longest_not_deep {L = L} w ts s rest others v shallow d =
     let front : Stretch = d.stretch ++ d.deep ∷ [] in
@@ -99,7 +85,7 @@ begins_front : {A : Type 0} (L : Family A) (s t : Stretch) → Begins L (s ++ t)
 begins_front L s t b = (t ++ b.0, b.1, (b.2.0, subst (λ z. L b.2.0 z b.1) (append_assoc s t b.0) b.2.1))
 
 -- the first token past the bound is one
-one_deep : {A : Type 0} {L : Family A} {P : ℕ → Reader A} {goes_on : Kinds} {room : ℕ → Type 0} → Faithful LEVELS L P goes_on room
+one_deep : {A : Type 0} {L : Family A} {P : Reader A} {goes_on : Kinds} {room : ℕ → Type 0} → Faithful LEVELS L P goes_on room
     → (ts rest others : List Placed) → ReadsDeep L ts rest → ReadsDeep L ts others → rest ≡ others
 one_deep {L = L} w ts rest others v d =
     elim (twice (tokens_of v.stretch) rest (tokens_of d.stretch) others (sym v.first ∙ d.first)) [
@@ -117,7 +103,7 @@ one_deep {L = L} w ts rest others v d =
 -- ---- answers
 
 -- of tokens two answers are one
-pub one_answer : {A : Type 0} {L : Family A} {P : ℕ → Reader A} {goes_on : Kinds} {room : ℕ → Type 0} → Faithful LEVELS L P goes_on room
+pub one_answer : {A : Type 0} {L : Family A} {P : Reader A} {goes_on : Kinds} {room : ℕ → Type 0} → Faithful LEVELS L P goes_on room
     → (ts : List Placed) (x y : Answer A) → Reads L ts x → Reads L ts y → x ≡ y
 one_answer {A} {L} w ts x y = by x y
   where
@@ -153,7 +139,7 @@ one_answer {A} {L} w ts x y = by x y
     by (Err (Nesting rest)) (Err (Nesting others)) v u = ap (λ z. Err (Nesting z)) (one_deep w ts rest others v u)
 
 -- tokens have one answer
-pub has_one_answer : {A : Type 0} {L : Family A} {P : ℕ → Reader A} {goes_on : Kinds} {room : ℕ → Type 0} → Faithful LEVELS L P goes_on room → HasOneAnswer L
+pub has_one_answer : {A : Type 0} {L : Family A} {P : Reader A} {goes_on : Kinds} {room : ℕ → Type 0} → Faithful LEVELS L P goes_on room → HasOneAnswer L
 has_one_answer {P = P} w tokens =
-    let answered = reads w (length tokens) tokens (omega arith) in
-    (P (length tokens) tokens, answered, λ other r. one_answer w tokens other (P (length tokens) tokens) r answered)
+    let answered = reads w tokens in
+    (P tokens, answered, λ other r. one_answer w tokens other (P tokens) r answered)

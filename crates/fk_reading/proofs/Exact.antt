@@ -151,10 +151,6 @@ Local most P ts (Err (Nesting rest)) = LocalStop most P ts (λ r. Nesting r) res
 abbrev pub IsLocal : {A : Type 0} → ℕ → Reader A → Type 0
 IsLocal most P = (ts : List Placed) → length ts ≤ most → Local most P ts (P ts)
 
--- of at most so many tokens two readers answer the same
-abbrev pub IsSame : {A : Type 0} → ℕ → Reader A → Reader A → Type 0
-IsSame most P Q = (ts : List Placed) → length ts ≤ most → Q ts ≡ P ts
-
 -- ---- a language is read exactly
 
 -- of at most so many tokens a reader reads a language exactly. A complete stretch goes on with these kinds alone
@@ -163,7 +159,6 @@ pub record ExactAt (levels : ℕ) {A : Type 0} (most : ℕ) (L : Language A) (P 
   pub complete : IsComplete levels most L P goes_on
   pub local : has_room → IsLocal most P
 
--- readers, one for each bound on the tokens, read a language exactly, and the bound doesn't show
-pub record Exact (levels : ℕ) {A : Type 0} (L : Language A) (P : ℕ → Reader A) (goes_on : Kinds) (has_room : Type 0) : Type 0 where
-  pub exact : (most : ℕ) → ExactAt levels most L (P most) goes_on has_room
-  pub same : has_room → (most more : ℕ) → most ≤ more → IsSame most (P most) (P more)
+-- of however many tokens
+pub record Exact (levels : ℕ) {A : Type 0} (L : Language A) (P : Reader A) (goes_on : Kinds) (has_room : Type 0) : Type 0 where
+  pub exact : (most : ℕ) → ExactAt levels most L P goes_on has_room

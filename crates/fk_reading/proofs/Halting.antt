@@ -7,11 +7,10 @@ use Rattle.fk_reading.specs.declared.fault.SyntaxFault.{SyntaxFault}
 use Rattle.fk_reading.specs.declared.fault.SyntaxFault.TheVariants.{Unexpected, EndOfText, Nesting, Memory}
 use Rattle.fk_reading.specs.Languages.{Placed, numbered}
 use Rattle.fk_reading.specs.Reads.{Stop, Answer, EndOfText as EndOfTextStop}
-use Rattle.fk_reading.specs.Readers.{Reader, after, unexpected, next_is, either, repeated, giving, ◌and◌}
+use Rattle.fk_reading.specs.Readers.{Reader, after, unexpected, next_is, either, repeated_within, repeated, giving, ◌and◌}
 use Rattle.fk_reading.specs.Gives.{Halts}
 use Rattle.fk_reading.specs.Faults.{IsMemory}
-use Rattle.fk_reading.specs.Ahead.{plenty}
-use Rattle.fk_reading.proofs.Repeats.{Going, going_start, going_more, going_end}
+use Rattle.fk_reading.proofs.Repeats.{Going}
 
 -- an answer without a value
 abbrev pub same : (A B : Type 0) → Answer A → Answer B
@@ -43,20 +42,17 @@ halts_memory a EndOfText now h = absurd h
 -- ---- loops
 
 stops_too_far : {A : Type 0} (fuel : ℕ) (is : TokenKind → Bool) (P : Reader A) (ahead : List Placed) (fault : SyntaxFault) (now : List Placed)
-    → length ahead ≤ fuel → next_is is ahead ≡ true → Halts (P ahead) fault now → Halts (repeated fuel is P ahead) fault now
+    → length ahead ≤ fuel → next_is is ahead ≡ true → Halts (P ahead) fault now → Halts (repeated_within fuel is P ahead) fault now
 stops_too_far zero is P [] fault now few n h = cc
 stops_too_far zero is P (t ∷ ts) fault now few n h = absurd (omega (arith, few))
 stops_too_far (suc fuel) is P ahead fault now few n h =
-    subst (λ b. Halts (either b (giving (λ x. x.0 ∷ x.1) (P and repeated fuel is P)) (λ rest. Ok ([], rest)) ahead) fault now) (sym n)
-    (halts_after (after (P ahead) (λ a rest. after (repeated fuel is P rest) (λ b others. Ok ((a, b), others)))) (λ x rest. Ok (x.0 ∷ x.1, rest)) fault now
-    (halts_after (P ahead) (λ a rest. after (repeated fuel is P rest) (λ b others. Ok ((a, b), others))) fault now h))
+    subst (λ b. Halts (either b (giving (λ x. x.0 ∷ x.1) (P and repeated_within fuel is P)) (λ rest. Ok ([], rest)) ahead) fault now) (sym n)
+    (halts_after (after (P ahead) (λ a rest. after (repeated_within fuel is P rest) (λ b others. Ok ((a, b), others)))) (λ x rest. Ok (x.0 ∷ x.1, rest)) fault now
+    (halts_after (P ahead) (λ a rest. after (repeated_within fuel is P rest) (λ b others. Ok ((a, b), others))) fault now h))
 
 -- where one of many stops, the loop stops
 pub halts_going : {A : Type 0} (is : TokenKind → Bool) (P : Reader A) (start ahead : List Placed) (items : List A) (fault : SyntaxFault) (now : List Placed)
-    → next_is is ahead ≡ true → Halts (P ahead) fault now → Going is P start items ahead → Halts (repeated plenty is P start) fault now
+    → next_is is ahead ≡ true → Halts (P ahead) fault now → Going is P start items ahead → Halts (repeated is P start) fault now
 halts_going is P start ahead items fault now n h g =
     subst (λ a. Halts a fault now) (sym g.goes)
-    (halts_after (repeated g.fuel is P ahead) (λ xs rest. Ok (items ++ xs, rest)) fault now (stops_too_far g.fuel is P ahead fault now g.enough n h))
-
--- what the functions that read go by
-pub ruleset stopping = (halts_after, halts_memory, halts_going, going_start, going_more, going_end)
+    (halts_after (repeated_within g.fuel is P ahead) (λ xs rest. Ok (items ++ xs, rest)) fault now (stops_too_far g.fuel is P ahead fault now g.enough n h))

@@ -1,14 +1,14 @@
 -- One or nothing, and any number: how they are read.
-use Rattle.std.proofs.Common.{◌≡◌, ℕ, zero, suc, ◌≤◌, List, [], ◌∷◌, Option, Some, None, Ok, Err, length, inl, inr, refl, ap, subst, arith, length-append, le_refl, le_trans}
-use Rattle.fk_reading.specs.Languages.{Placed, Language, ◌then◌, ◌or◌, making, many, maybe}
-use Rattle.fk_reading.specs.Reads.{Unexpected, EndOfText, Nesting, Answer}
-use Rattle.fk_reading.specs.Readers.{Reader, after, giving, ◌and◌, optional, repeated}
+use Rattle.std.proofs.Common.{◌≡◌, ℕ, zero, suc, ◌≤◌, List, [], ◌∷◌, ◌++◌, Option, Some, None, Bool, true, false, Ok, Err, length, inl, inr, refl, sym, ap, ◌∙◌, subst, arith, length-append, le_refl}
+use Rattle.fk_reading.specs.Languages.{Placed, tokens_of, Language, ◌then◌, ◌or◌, making, many, maybe}
+use Rattle.fk_reading.specs.Reads.{Unexpected, Answer}
+use Rattle.fk_reading.specs.Readers.{Reader, after, giving, ◌and◌, next_is, either, optional, repeated_within, repeated}
 use Rattle.fk_reading.proofs.Sets.{Kinds, none, ◌∪◌, Apart, next-union, within_left, within_itself}
-use Rattle.fk_reading.proofs.Exact.{Example, Shape, Sound, Stands, Local, IsSound, IsComplete, IsLocal, IsSame, ExactAt, Exact}
-use Rattle.fk_reading.proofs.Stretches.{length-tokens, shallow-nil}
+use Rattle.fk_reading.proofs.Exact.{Example, Shape, Sound, Stands, Local, IsSound, IsComplete, IsLocal, ExactAt, Exact}
+use Rattle.fk_reading.proofs.Stretches.{length-tokens, shallow-nil, local_by}
 use Rattle.fk_reading.proofs.Shapes.{shape_making, shape_then, loose_many, example_empty, empty_many}
-use Rattle.fk_reading.proofs.Then.{Spends, Follows, follows_loose, leaves_by, after_err, giving_at, giving_same, then_at, then_same, exact_making}
-use Rattle.fk_reading.proofs.Or.{Includes, same_at, IsWelcome, or_at, or_same, exact_or_by, exact_same, welcome}
+use Rattle.fk_reading.proofs.Then.{Spends, Follows, follows_loose, leaves_by, after_err, giving_at, then_at, exact_making}
+use Rattle.fk_reading.proofs.Or.{Includes, same_at, IsWelcome, or_at, exact_or_by, exact_same, welcome}
 
 -- ---- nothing
 
@@ -37,13 +37,13 @@ follows_empty v f is s a rest l ends = rw l.0 (next-union f is rest ends).1
 -- ---- one or nothing
 
 -- one or nothing is read exactly
-pub exact_maybe : {levels : ℕ} {room : Type 0} {A : Type 0} {L : Language A} {level : ℕ} {is : Kinds} {P : ℕ → Reader A} {f : Kinds} → Exact levels L P f room → Shape L level is room
-    → Exact levels (maybe L) (λ most. optional is (P most)) (f ∪ is) room
+pub exact_maybe : {levels : ℕ} {room : Type 0} {A : Type 0} {L : Language A} {level : ℕ} {is : Kinds} {P : Reader A} {f : Kinds} → Exact levels L P f room → Shape L level is room
+    → Exact levels (maybe L) (optional is P) (f ∪ is) room
 exact_maybe {room} {A} {L} {level} {is} {P} {f} p shape =
     exact_same (maybe L) there back
     (exact_or_by (f ∪ is)
     (exact_making Some p)
-    (record { exact = λ most. empty_at most None; same = λ r most more above ts fits. refl })
+    (record { exact = λ most. empty_at most None })
     (shape_making Some shape)
     (follows_empty None f is) (within_left f is) (λ k h. cc))
   where
@@ -56,30 +56,6 @@ exact_maybe {room} {A} {L} {level} {is} {P} {f} p shape =
     back s (Some a) l = inl (a, l, refl)
 
 -- ---- any number
-
--- of fewer tokens
-local_fewer : {A : Type 0} (less most : ℕ) (P : Reader A) → less ≤ most → (ts : List Placed) (answer : Answer A) → Local most P ts answer → Local less P ts answer
-local_fewer {A} less most P below ts answer w = by answer w
-  where
-    stands : (x : Placed) (rest : List Placed) (f : List Placed → Answer A) → Stands most P ts x rest f → Stands less P ts x rest f
-    stands x rest f v = record { front = v.front; is = v.is; stays = λ others h. v.stays others (le_trans h below) }
-
-    by : (answer : Answer A) → Local most P ts answer → Local less P ts answer
-    by (Ok (a, [])) v = λ x others h e. v x others (le_trans h below) e
-    by (Ok (a, x ∷ rest)) v = stands x rest (λ z. Ok (a, z)) v
-    by (Err (Unexpected [])) v = v
-    by (Err (Unexpected (x ∷ rest))) v = stands x rest (λ z. Err (Unexpected z)) v
-    by (Err EndOfText) v = tt
-    by (Err (Nesting [])) v = v
-    by (Err (Nesting (x ∷ rest))) v = stands x rest (λ z. Err (Nesting z)) v
-
--- what is read exactly of so many tokens is of fewer
-pub fewer_at : {levels : ℕ} {room : Type 0} {A : Type 0} (less most : ℕ) (L : Language A) (P : Reader A) (f : Kinds) → less ≤ most → ExactAt levels most L P f room → ExactAt levels less L P f room
-fewer_at less most L P f below p = record {
-  sound = λ r ts fits. p.sound r ts (le_trans fits below);
-  complete = λ s a rest l fits ends. p.complete s a rest l (le_trans fits below) ends;
-  local = λ r ts fits. local_fewer less most P below ts (P ts) (p.local r ts (le_trans fits below));
-}
 
 spends_one : {room : Type 0} {A : Type 0} (L : Language A) (level : ℕ) (first : Kinds) → Shape L level first room → (n : ℕ) → Spends L (suc n) n
 spends_one L level first shape n s a l = let w = shape.fronts s a l in omega (arith, ap length w.is)
@@ -112,69 +88,92 @@ many_back L s [] l = inr (l, refl)
 many_back L s (a ∷ list) l = inl ((a, list), l, refl)
 
 repeated_none : {levels : ℕ} {room : Type 0} {A : Type 0} (L : Language A) (level : ℕ) (is : Kinds) (P : Reader A) (f : Kinds)
-    → Shape L level is room → ExactAt levels zero (many L) (repeated zero is P) (f ∪ is) room
+    → Shape L level is room → ExactAt levels zero (many L) (repeated_within zero is P) (f ∪ is) room
 repeated_none {levels} {room} {A} L level is P f shape = record {
   sound = λ r ts fits. record { stretch = []; is = refl; spelled = refl; shallow = shallow-nil levels };
   complete = complete;
   local = λ r. local;
 }
   where
-    complete : IsComplete levels zero (many L) (repeated zero is P) (f ∪ is)
+    complete : IsComplete levels zero (many L) (repeated_within zero is P) (f ∪ is)
     complete s [] rest l fits ends = rw l refl
     complete s (a ∷ list) rest l fits ends =
         let w = shape.fronts l.0 a l.3 in
         absurd (omega (arith, length-tokens s rest, ap length l.2, ap length w.is, length-append l.0 l.1))
 
-    local : IsLocal zero (repeated zero is P)
+    local : IsLocal zero (repeated_within zero is P)
     local [] fits = λ x others h e. cc
     local (t ∷ ts) fits = absurd (omega arith)
 
 repeated_more : {levels : ℕ} {room : Type 0} {A : Type 0} (n : ℕ) (L : Language A) (level : ℕ) (is : Kinds) (P : Reader A) (f : Kinds)
-    → ExactAt levels (suc n) L P f room → Shape L level is room → (room → IsWelcome (suc n) is P) → Apart f is → ExactAt levels n (many L) (repeated n is P) (f ∪ is) room
-    → ExactAt levels (suc n) (many L) (repeated (suc n) is P) (f ∪ is) room
+    → ExactAt levels (suc n) L P f room → Shape L level is room → (room → IsWelcome (suc n) is P) → Apart f is → ExactAt levels n (many L) (repeated_within n is P) (f ∪ is) room
+    → ExactAt levels (suc n) (many L) (repeated_within (suc n) is P) (f ∪ is) room
 repeated_more {levels} {room} {A} n L level is P f p shape welcomes apart q =
-    same_at (suc n) (making joined_to (L then many L) or empty []) (many L) (repeated (suc n) is P) (f ∪ is) (many_there L) (many_back L)
-    (or_at (suc n) (making joined_to (L then many L)) (empty []) level is (giving joined_to (P and repeated n is P)) (stay []) (f ∪ is) none (f ∪ is)
-    (giving_at joined_to (suc n) (L then many L) (P and repeated n is P) (f ∪ is) both)
+    same_at (suc n) (making joined_to (L then many L) or empty []) (many L) (repeated_within (suc n) is P) (f ∪ is) (many_there L) (many_back L)
+    (or_at (suc n) (making joined_to (L then many L)) (empty []) level is (giving joined_to (P and repeated_within n is P)) (stay []) (f ∪ is) none (f ∪ is)
+    (giving_at joined_to (suc n) (L then many L) (P and repeated_within n is P) (f ∪ is) both)
     (empty_at (suc n) [])
     (shape_making joined_to (shape_then shape (λ r. none_yet)))
-    (λ r x others h fits e. then_welcome levels n L level is is P (repeated n is P) shape (p.sound r) (q.local r) (welcomes r) x others h fits
-    (after_err ((P and repeated n is P) (x ∷ others)) joined_to (Unexpected (x ∷ others)) e))
+    (λ r x others h fits e. then_welcome levels n L level is is P (repeated_within n is P) shape (p.sound r) (q.local r) (welcomes r) x others h fits
+    (after_err ((P and repeated_within n is P) (x ∷ others)) joined_to (Unexpected (x ∷ others)) e))
     (follows_empty [] f is) (within_itself (f ∪ is)) (λ k h. cc))
   where
     none_yet : Example (many L)
     none_yet = example_empty (empty_many L)
 
-    both : ExactAt levels (suc n) (L then many L) (P and repeated n is P) (f ∪ is) room
-    both = then_at (suc n) n L (many L) P (repeated n is P) f (f ∪ is) (f ∪ is) p q (spends_one L level is shape n)
+    both : ExactAt levels (suc n) (L then many L) (P and repeated_within n is P) (f ∪ is) room
+    both = then_at (suc n) n L (many L) P (repeated_within n is P) f (f ∪ is) (f ∪ is) p q (spends_one L level is shape n)
         (follows_loose f (f ∪ is) (loose_many shape) apart (within_left f is))
         (within_itself (f ∪ is)) (λ r. none_yet)
 
-repeated_at : {levels : ℕ} {room : Type 0} {A : Type 0} (n most : ℕ) (L : Language A) (level : ℕ) (is : Kinds) (P : Reader A) (f : Kinds) → n ≤ most
-    → ExactAt levels most L P f room → Shape L level is room → (room → IsWelcome most is P) → Apart f is → ExactAt levels n (many L) (repeated n is P) (f ∪ is) room
-repeated_at zero most L level is P f below p shape welcomes apart = repeated_none L level is P f shape
-repeated_at (suc n) most L level is P f below p shape welcomes apart =
-    repeated_more n L level is P f (fewer_at (suc n) most L P f below p) shape (λ r x others h fits e. welcomes r x others h (le_trans fits below) e) apart
-    (repeated_at n most L level is P f (omega arith) p shape welcomes apart)
+repeated_at : {levels : ℕ} {room : Type 0} {A : Type 0} {L : Language A} {level : ℕ} {is : Kinds} {P : Reader A} {f : Kinds} (n : ℕ)
+    → Exact levels L P f room → Shape L level is room → Apart f is → ExactAt levels n (many L) (repeated_within n is P) (f ∪ is) room
+repeated_at {L = L} {level} {is} {P} {f} zero p shape apart = repeated_none L level is P f shape
+repeated_at {L = L} {level} {is} {P} {f} (suc n) p shape apart =
+    repeated_more n L level is P f (p.exact (suc n)) shape (λ r. welcome shape p r (suc n)) apart (repeated_at n p shape apart)
 
-repeated_same : (levels : ℕ) {room : Type 0} {A : Type 0} (n m most : ℕ) (L : Language A) (level : ℕ) (is : Kinds) (P P' : Reader A) → n ≤ m → n ≤ most
-    → IsSound levels most L P → Shape L level is room → IsSame most P P' → IsSame n (repeated n is P) (repeated m is P')
-repeated_same levels zero zero most L level is P P' above below p shape same ts fits = refl
-repeated_same levels zero (suc m) most L level is P P' above below p shape same [] fits = refl
-repeated_same levels zero (suc m) most L level is P P' above below p shape same (t ∷ ts) fits = absurd (omega arith)
-repeated_same levels (suc n) zero most L level is P P' above below p shape same ts fits = absurd (omega arith)
-repeated_same levels (suc n) (suc m) most L level is P P' above below p shape same tokens small =
-    or_same (suc n) is (giving joined_to (P and repeated n is P)) (giving joined_to (P' and repeated m is P')) (stay []) (stay [])
-    (giving_same joined_to (suc n) (P and repeated n is P) (P' and repeated m is P')
-    (then_same (suc n) n P P' (repeated n is P) (repeated m is P') (λ ts fits. same ts (le_trans fits below))
-    (repeated_same levels n m most L level is P P' (omega arith) (omega arith) p shape same)
-    (leaves_by levels (suc n) n L P (spends_one L level is shape n) (λ ts fits. p ts (le_trans fits below)))))
-    (λ ts fits. refl) tokens small
+-- of so many tokens two readers answer the same
+abbrev IsSame : {A : Type 0} → ℕ → Reader A → Reader A → Type 0
+IsSame most P Q = (ts : List Placed) → length ts ≤ most → Q ts ≡ P ts
+
+same_more : (levels : ℕ) {room : Type 0} {A : Type 0} (n m : ℕ) (L : Language A) (level : ℕ) (is : Kinds) (P : Reader A) → IsSound levels (suc n) L P → Shape L level is room
+    → IsSame n (repeated_within n is P) (repeated_within m is P) → IsSame (suc n) (repeated_within (suc n) is P) (repeated_within (suc m) is P)
+same_more levels {A = A} n m L level is P p shape same ts fits = by (next_is is ts)
+  where
+    both : (answer : Answer A) → P ts ≡ answer
+        → after {B = A × List A} answer (λ a rest. after (repeated_within m is P rest) (λ b others. Ok ((a, b), others)))
+        ≡ after answer (λ a rest. after (repeated_within n is P rest) (λ b others. Ok ((a, b), others)))
+    both (Ok (a, rest)) e = rw (same rest (leaves_by levels (suc n) n L P (spends_one L level is shape n) p ts fits a rest e)) refl
+    both (Err stop) e = refl
+
+    by : (b : Bool) → either b (giving joined_to (P and repeated_within m is P)) (stay []) ts ≡ either b (giving joined_to (P and repeated_within n is P)) (stay []) ts
+    by true = ap (λ answer. after answer (λ x rest. Ok (joined_to x, rest))) (both (P ts) refl)
+    by false = refl
+
+repeated_same : (levels : ℕ) {room : Type 0} {A : Type 0} (n m : ℕ) (L : Language A) (level : ℕ) (is : Kinds) (P : Reader A) → n ≤ m
+    → IsSound levels n L P → Shape L level is room → IsSame n (repeated_within n is P) (repeated_within m is P)
+repeated_same levels zero zero L level is P above p shape ts fits = refl
+repeated_same levels zero (suc m) L level is P above p shape [] fits = refl
+repeated_same levels zero (suc m) L level is P above p shape (t ∷ ts) fits = absurd (omega arith)
+repeated_same levels (suc n) zero L level is P above p shape ts fits = absurd (omega arith)
+repeated_same levels (suc n) (suc m) L level is P above p shape tokens small =
+    same_more levels n m L level is P p shape (repeated_same levels n m L level is P (omega arith) (λ ts h. p ts (omega arith)) shape) tokens small
 
 -- any number is read exactly, if what goes on with one begins none
-pub exact_many : {levels : ℕ} {room : Type 0} {A : Type 0} {L : Language A} {level : ℕ} {is : Kinds} {P : ℕ → Reader A} {f : Kinds} → Exact levels L P f room → Shape L level is room → Apart f is
-    → Exact levels (many L) (λ most. repeated most is (P most)) (f ∪ is) room
-exact_many {levels} {L} {level} {is} {P} {f} p shape apart = record {
-  exact = λ most. repeated_at most most L level is (P most) f (le_refl most) (p.exact most) shape (λ r. welcome shape p r most) apart;
-  same = λ r most more above. repeated_same levels most more most L level is (P most) (P more) above (le_refl most) ((p.exact most).sound r) shape (p.same r most more above);
+pub exact_many : {levels : ℕ} {room : Type 0} {A : Type 0} {L : Language A} {level : ℕ} {is : Kinds} {P : Reader A} {f : Kinds} → Exact levels L P f room → Shape L level is room → Apart f is
+    → Exact levels (many L) (repeated is P) (f ∪ is) room
+unfolding repeated
+exact_many {levels} {room} {L = L} {level} {is} {P} {f} p shape apart = record {
+  exact = λ most. record {
+    sound = λ r ts fits. (repeated_at (length ts) p shape apart).sound r ts (le_refl (length ts));
+    complete = λ s list rest l fits ends. (repeated_at (length (tokens_of s ++ rest)) p shape apart).complete s list rest l (le_refl (length (tokens_of s ++ rest))) ends;
+    local = λ r ts fits.
+        local_by most most (repeated_within most is P) (repeated is P) ts ts
+        (λ x rest form v. record { front = v.front; is = v.is; stays = λ others h. same r most (v.front ++ x ∷ others) h ∙ v.stays others h })
+        (λ v x others h e. v x others h (sym (same r most (ts ++ x ∷ others) h) ∙ e)) (repeated is P ts)
+        (subst (λ answer. Local most (repeated_within most is P) ts answer) (sym (same r most ts fits)) ((repeated_at most p shape apart).local r ts fits));
+  };
 }
+  where
+    same : room → (most : ℕ) (ts : List Placed) → length ts ≤ most → repeated is P ts ≡ repeated_within most is P ts
+    same r most ts fits = sym (repeated_same levels (length ts) most L level is P fits ((p.exact (length ts)).sound r) shape ts (le_refl (length ts)))

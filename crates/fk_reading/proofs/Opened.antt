@@ -1,6 +1,5 @@
 -- What opens a level, where there may be one more and where there may not.
 use Rattle.std.proofs.Common.{◌≡◌, ℕ, ◌<◌, List, [], ◌∷◌, ◌++◌, Option, Some, None, Bool, true, false, Err, refl, sym, ◌∙◌, subst, le_trans}
-use mathlib.Core.Path.{fun_ext}
 use Rattle.fk_reading.specs.Languages.{Placed, tokens_of, Language}
 use Rattle.fk_reading.specs.Reads.{Nesting}
 use Rattle.fk_reading.specs.Readers.{Reader, next_is, either, by_next, unexpected, opened}
@@ -8,7 +7,7 @@ use Rattle.fk_reading.proofs.Sets.{Kinds}
 use Rattle.fk_reading.proofs.Exact.{Fronts, Starts, Example, Shape, Sound, Local, IsSound, IsComplete, IsLocal, Exact}
 use Rattle.fk_reading.proofs.Stretches.{shallow-nil, from_deep-past}
 use Rattle.fk_reading.proofs.Token.{sound_end, sound_unexpected}
-use Rattle.fk_reading.proofs.Or.{welcome, by_next-yes, or_local, or_same}
+use Rattle.fk_reading.proofs.Or.{welcome, by_next-yes, or_local}
 
 unexpected_local : (A : Type 0) (most : ℕ) → IsLocal {A = A} most unexpected
 unexpected_local A most [] fits = tt
@@ -61,14 +60,13 @@ too_deep_local A most is (t ∷ ts) fits = by (is t.kind) refl
 
 -- where each token nests too deep, what begins at this level is read exactly
 pub exact_too_deep : {levels : ℕ} {room : Type 0} {A : Type 0} {L : Language A} {level : ℕ} {is : Kinds} (goes_on : Kinds) → levels < level → Shape L level is room
-    → Exact levels L (λ most. by_next is too_deep unexpected) goes_on room
+    → Exact levels L (by_next is too_deep unexpected) goes_on room
 exact_too_deep {levels} {room} {A} {L} {level} {is} goes_on past shape = record {
   exact = λ most. record {
     sound = λ r. too_deep_sound levels most L level is past shape r;
     complete = too_deep_complete levels most L level is goes_on past shape;
     local = λ r. too_deep_local A most is;
   };
-  same = λ r most more above ts fits. refl;
 }
 
 -- ---- where there may be one
@@ -81,40 +79,33 @@ deeper_sound levels {A} most L is P x p ts fits = by (next_is is ts)
     by false = unexpected_sound levels L x ts
 
 -- where each other token is unexpected, a language is read as exactly
-pub exact_expected : {levels : ℕ} {room : Type 0} {A : Type 0} {L : Language A} {level : ℕ} {is : Kinds} {P : ℕ → Reader A} {f : Kinds} → Exact levels L P f room → Shape L level is room
-    → Exact levels L (λ most. by_next is (P most) unexpected) f room
+pub exact_expected : {levels : ℕ} {room : Type 0} {A : Type 0} {L : Language A} {level : ℕ} {is : Kinds} {P : Reader A} {f : Kinds} → Exact levels L P f room → Shape L level is room
+    → Exact levels L (by_next is P unexpected) f room
 exact_expected {levels} {room} {A} {L} {level} {is} {P} {f} p shape = record {
   exact = λ most. record {
-    sound = λ r. deeper_sound levels most L is (P most) (shape.example r) ((p.exact most).sound r);
+    sound = λ r. deeper_sound levels most L is P (shape.example r) ((p.exact most).sound r);
     complete = λ s a rest l fits ends.
         let w : Fronts is level s = shape.fronts s a l in
-        by_next-yes is (P most) unexpected (tokens_of s ++ rest) (rw w.is w.kind) ∙ (p.exact most).complete s a rest l fits ends;
-    local = λ r. or_local most is (P most) unexpected ((p.exact most).local r) (unexpected_local A most) (welcome shape p r most);
+        by_next-yes is P unexpected (tokens_of s ++ rest) (rw w.is w.kind) ∙ (p.exact most).complete s a rest l fits ends;
+    local = λ r. or_local most is P unexpected ((p.exact most).local r) (unexpected_local A most) (welcome shape p r most);
   };
-  same = λ r most more above. or_same most is (P most) (P more) unexpected unexpected (p.same r most more above) (λ ts fits. refl);
 }
 
 -- ---- either way
 
 -- no readers for what stands deeper, and this level is past the bound
-pub record Bottom (levels : ℕ) {R : Type 0} (inner : ℕ → Option R) (level : ℕ) : Type 0 where
-  pub is : (most : ℕ) → inner most ≡ None
+pub record Bottom (levels : ℕ) {R : Type 0} (inner : Option R) (level : ℕ) : Type 0 where
+  pub is : inner ≡ None
   pub past : levels < level
 
--- readers for what stands deeper
-pub record Deep {R : Type 0} (inner : ℕ → Option R) (readers : ℕ → R) : Type 0 where
-  pub is : (most : ℕ) → inner most ≡ Some (readers most)
-
 -- what opens a level is read exactly where there may be none
-pub exact_opened_none : {levels : ℕ} {room : Type 0} {R A : Type 0} {L : Language A} {level : ℕ} {is : Kinds} {inner : ℕ → Option R} (f : ℕ → R → Reader A) (goes_on : Kinds)
-    → Shape L level is room → Bottom levels inner level → Exact levels L (λ most. opened is (inner most) (f most)) goes_on room
-exact_opened_none {levels} {room} {L} {level} {is} {inner} f goes_on shape w =
-    subst (λ i. Exact levels L (λ most. opened is (i most) (f most)) goes_on room) (sym (fun_ext w.is)) (exact_too_deep goes_on w.past shape)
+pub exact_opened_none : {levels : ℕ} {room : Type 0} {R A : Type 0} {L : Language A} {level : ℕ} {is : Kinds} {inner : Option R} (f : R → Reader A) (goes_on : Kinds)
+    → Shape L level is room → Bottom levels inner level → Exact levels L (opened is inner f) goes_on room
+exact_opened_none {levels} {room} {L = L} {is = is} f goes_on shape w =
+    subst (λ i. Exact levels L (opened is i f) goes_on room) (sym w.is) (exact_too_deep goes_on w.past shape)
 
 -- what opens a level is read exactly where it is by the readers of that level
-pub exact_opened_some : {levels : ℕ} {room : Type 0} {R A : Type 0} {L : Language A} {level : ℕ} {is : Kinds} {inner : ℕ → Option R} (f : ℕ → R → Reader A) {goes_on : Kinds} {readers : ℕ → R}
-    → Shape L level is room → Deep inner readers → Exact levels L (λ most. f most (readers most)) goes_on room
-    → Exact levels L (λ most. opened is (inner most) (f most)) goes_on room
-exact_opened_some {levels} {room} {L} {level} {is} {inner} f {goes_on} {readers} shape w p =
-    subst (λ i. Exact levels L (λ most. opened is (i most) (f most)) goes_on room) (sym (fun_ext w.is))
-    (exact_expected p shape)
+pub exact_opened_some : {levels : ℕ} {room : Type 0} {R A : Type 0} {L : Language A} {level : ℕ} {is : Kinds} {inner : Option R} (f : R → Reader A) {goes_on : Kinds} (readers : R)
+    → Shape L level is room → inner ≡ Some readers → Exact levels L (f readers) goes_on room → Exact levels L (opened is inner f) goes_on room
+exact_opened_some {levels} {room} {L = L} {is = is} f {goes_on} readers shape e p =
+    subst (λ i. Exact levels L (opened is i f) goes_on room) (sym e) (exact_expected p shape)

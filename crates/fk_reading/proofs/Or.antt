@@ -1,12 +1,12 @@
 -- One language or another, told apart by the next token: its shape is in Shapes; how it is read.
 use Rattle.std.proofs.Common.{◌≡◌, ℕ, ◌+◌, ◌≤◌, List, [], ◌∷◌, ◌++◌, Bool, true, false, IsTrue, Ok, Err, length, inl, inr, refl, sym, ap, ◌∙◌, subst, arith, length-append, le_refl}
 use Rattle.fk_reading.specs.Languages.{Placed, Stretch, tokens_of, Language, ◌or◌}
-use Rattle.fk_reading.specs.Reads.{Stop, Unexpected, EndOfText, Nesting, Answer}
+use Rattle.fk_reading.specs.Reads.{Stop, Unexpected, Answer}
 use Rattle.fk_reading.specs.Readers.{Reader, next_is, either, by_next}
 use Rattle.fk_reading.proofs.Sets.{Kinds, ◌∪◌, Apart, Within, next-within, within_left, within_right}
-use Rattle.fk_reading.proofs.Exact.{Fronts, Starts, Goes, Shape, Sound, Stands, Local, IsSound, IsComplete, IsLocal, IsSame, ExactAt, Exact, settled}
-use Rattle.fk_reading.proofs.Then.{Follows, follows_shape}
-use Rattle.fk_reading.proofs.Stretches.{nil_cut, same_head, settled_read}
+use Rattle.fk_reading.proofs.Exact.{Fronts, Shape, Sound, Stands, Local, IsSound, IsComplete, IsLocal, ExactAt, Exact, settled}
+use Rattle.fk_reading.proofs.Then.{Follows, follows_shape, stop_more}
+use Rattle.fk_reading.proofs.Stretches.{nil_cut, same_head, settled_read, local_by}
 
 -- ---- a larger language
 
@@ -16,25 +16,9 @@ Includes {A} L M = (s : Stretch) (a : A) → L s a → M s a
 
 -- what is so of a language is so of a larger one
 pub sound_more : (levels : ℕ) {A : Type 0} (L M : Language A) → Includes L M → (ts : List Placed) (answer : Answer A) → Sound levels L ts answer → Sound levels M ts answer
-sound_more levels {A} L M includes ts answer w = by answer w
-  where
-    goes : (s : Stretch) → Goes L s → Goes M s
-    goes s g = record { more = g.more; value = g.value; spelled = includes (s ++ g.more) g.value g.spelled }
-
-    by : (answer : Answer A) → Sound levels L ts answer → Sound levels M ts answer
-    by (Ok (a, rest)) w = record { stretch = w.stretch; is = w.is; spelled = includes w.stretch a w.spelled; shallow = w.shallow }
-    by (Err (Unexpected rest)) w = (record { stretch = w.0.stretch; is = w.0.is; goes = goes w.0.stretch w.0.goes; shallow = w.0.shallow }, w.1)
-    by (Err EndOfText) w = record { stretch = w.stretch; is = w.is; goes = goes w.stretch w.goes; shallow = w.shallow }
-    by (Err (Nesting rest)) w = record {
-      stretch = w.stretch;
-      deep = w.deep;
-      others = w.others;
-      is = w.is;
-      next = w.next;
-      goes = goes (w.stretch ++ w.deep ∷ []) w.goes;
-      shallow = w.shallow;
-      past = w.past;
-    }
+sound_more levels L M includes ts (Ok x) w = record { stretch = w.stretch; is = w.is; spelled = includes w.stretch x.0 w.spelled; shallow = w.shallow }
+sound_more levels L M includes ts (Err stop) w =
+    stop_more levels M L ts (λ s rest is g. record { more = g.more; value = g.value; spelled = includes (s ++ g.more) g.value g.spelled }) stop w
 
 -- two languages with the same stretches
 pub same_at : {levels : ℕ} {room : Type 0} {A : Type 0} (most : ℕ) (L M : Language A) (P : Reader A) (f : Kinds) → Includes L M → Includes M L
@@ -46,8 +30,8 @@ same_at {levels} most L M P f includes included p = record {
 }
 
 -- a language with the same stretches is read as exactly
-pub exact_same : {levels : ℕ} {room : Type 0} {A : Type 0} {L : Language A} (M : Language A) {P : ℕ → Reader A} {f : Kinds} → Includes L M → Includes M L → Exact levels L P f room → Exact levels M P f room
-exact_same {L} M {P} {f} includes included p = record { exact = λ most. same_at most L M (P most) f includes included (p.exact most); same = p.same }
+pub exact_same : {levels : ℕ} {room : Type 0} {A : Type 0} {L : Language A} (M : Language A) {P : Reader A} {f : Kinds} → Includes L M → Includes M L → Exact levels L P f room → Exact levels M P f room
+exact_same {L} M {P} {f} includes included p = record { exact = λ most. same_at most L M P f includes included (p.exact most) }
 
 -- ---- a token that begins a language isn't unexpected
 
@@ -61,31 +45,26 @@ no_front [] x rest others e = refl
 no_front (y ∷ front) x rest others e = absurd (omega (arith, ap length e, length-append front (x ∷ rest)))
 
 -- what is answered at the first token is answered whatever comes behind it
-pub stays_anywhere : {levels : ℕ} {room : Type 0} {A : Type 0} {L : Language A} {P : ℕ → Reader A} {f : Kinds} → Exact levels L P f room → room
+pub stays_anywhere : {levels : ℕ} {room : Type 0} {A : Type 0} {L : Language A} {P : Reader A} {f : Kinds} → Exact levels L P f room → room
     → (x : Placed) (others : List Placed) (stop : List Placed → Stop)
-    → ((most : ℕ) → Local most (P most) (x ∷ others) (Err (stop (x ∷ others))) → Stands most (P most) (x ∷ others) x others (λ z. Err (stop z)))
-    → (most : ℕ) → length (x ∷ others) ≤ most → P most (x ∷ others) ≡ Err (stop (x ∷ others))
-    → (much : ℕ) (long : List Placed) → length (x ∷ long) ≤ much → P much (x ∷ long) ≡ Err (stop (x ∷ long))
-stays_anywhere {room} {A} {L} {P} {f} p r x others stop stand most fits e much long small =
-    let more : ℕ = most + much in
-    let there : P more (x ∷ others) ≡ Err (stop (x ∷ others)) = p.same r most more (omega arith) (x ∷ others) fits ∙ e in
-    let stands : Stands more (P more) (x ∷ others) x others (λ z. Err (stop z)) =
-    stand more (subst (λ answer. Local more (P more) (x ∷ others) answer) there ((p.exact more).local r (x ∷ others) (omega arith))) in
+    → ((most : ℕ) → Local most P (x ∷ others) (Err (stop (x ∷ others))) → Stands most P (x ∷ others) x others (λ z. Err (stop z)))
+    → P (x ∷ others) ≡ Err (stop (x ∷ others)) → (long : List Placed) → P (x ∷ long) ≡ Err (stop (x ∷ long))
+stays_anywhere {P = P} p r x others stop stand e long =
+    let more : ℕ = length (x ∷ others) + length (x ∷ long) in
+    let stands : Stands more P (x ∷ others) x others (λ z. Err (stop z)) =
+    stand more (subst (λ answer. Local more P (x ∷ others) answer) e ((p.exact more).local r (x ∷ others) (omega arith))) in
     let front : stands.front ++ x ∷ long ≡ x ∷ long = no_front stands.front x others long stands.is in
-    let stays : P more (x ∷ long) ≡ Err (stop (x ∷ long)) = rw front at (stands.stays long (rw front (omega arith))) in
-    sym (p.same r much more (omega arith) (x ∷ long) small) ∙ stays
+    rw front at (stands.stays long (rw front (omega arith)))
 
 -- a token that begins a language is welcome
-pub welcome : {levels : ℕ} {room : Type 0} {A : Type 0} {L : Language A} {level : ℕ} {is : Kinds} {P : ℕ → Reader A} {f : Kinds}
-    → Shape L level is room → Exact levels L P f room → room → (most : ℕ) → IsWelcome most is (P most)
-welcome {levels} {room} {A} {L} {level} {is} {P} {f} shape p r most x others h fits e =
-    let w : Starts L level x = shape.starts r x h in
+pub welcome : {levels : ℕ} {room : Type 0} {A : Type 0} {L : Language A} {level : ℕ} {is : Kinds} {P : Reader A} {f : Kinds}
+    → Shape L level is room → Exact levels L P f room → room → (most : ℕ) → IsWelcome most is P
+welcome {levels} {P = P} shape p r most x others h fits e =
+    let w = shape.starts r x h in
     let s : Stretch = record { token = x; level = w.at } ∷ w.others in
     let long : List Placed = tokens_of w.others ++ [] in
-    let much : ℕ = length (x ∷ long) in
-    let stays : P much (x ∷ long) ≡ Err (Unexpected (x ∷ long)) =
-    stays_anywhere p r x others (λ z. Unexpected z) (λ more z. z) most fits e much long (le_refl much) in
-    let read : P much (x ∷ long) ≡ settled levels s w.value [] = (p.exact much).complete s w.value [] w.spelled (le_refl much) refl in
+    let stays : P (x ∷ long) ≡ Err (Unexpected (x ∷ long)) = stays_anywhere p r x others (λ z. Unexpected z) (λ more z. z) e long in
+    let read : P (x ∷ long) ≡ settled levels s w.value [] = (p.exact (length (x ∷ long))).complete s w.value [] w.spelled (le_refl (length (x ∷ long))) refl in
     settled_read levels s w.value [] (x ∷ long) (sym read ∙ stays)
 
 -- ---- one or the other
@@ -117,7 +96,8 @@ or_complete levels most L M level is P Q f g goes_on p q shape follows in_f in_g
 -- of tokens that begin with this one two readers answer the same
 pub local_like : {A : Type 0} (most : ℕ) (P R : Reader A) (t : Placed) (ts : List Placed) (answer : Answer A)
     → ((others : List Placed) → R (t ∷ others) ≡ P (t ∷ others)) → Local most P (t ∷ ts) answer → Local most R (t ∷ ts) answer
-local_like {A} most P R t ts answer same w = by answer w
+local_like {A} most P R t ts answer same w =
+    local_by most most P R (t ∷ ts) (t ∷ ts) stands (λ v x others h e. v x others h (sym (same (ts ++ x ∷ others)) ∙ e)) answer w
   where
     stands : (x : Placed) (rest : List Placed) (f : List Placed → Answer A) → Stands most P (t ∷ ts) x rest f → Stands most R (t ∷ ts) x rest f
     stands x rest f v = record {
@@ -129,45 +109,21 @@ local_like {A} most P R t ts answer same w = by answer w
           same_there ∙ v.stays others h;
     }
 
-    by : (answer : Answer A) → Local most P (t ∷ ts) answer → Local most R (t ∷ ts) answer
-    by (Ok (a, [])) v = λ x others h e. v x others h (sym (same (ts ++ x ∷ others)) ∙ e)
-    by (Ok (a, x ∷ rest)) v = stands x rest (λ z. Ok (a, z)) v
-    by (Err (Unexpected [])) v = v
-    by (Err (Unexpected (x ∷ rest))) v = stands x rest (λ z. Err (Unexpected z)) v
-    by (Err EndOfText) v = tt
-    by (Err (Nesting [])) v = v
-    by (Err (Nesting (x ∷ rest))) v = stands x rest (λ z. Err (Nesting z)) v
-
 -- an answer of one or the other rests on the tokens up to it
 pub or_local : {A : Type 0} (most : ℕ) (is : Kinds) (P Q : Reader A) → IsLocal most P → IsLocal most Q → IsWelcome most is P → IsLocal most (by_next is P Q)
-or_local {A} most is P Q p q welcomes [] fits = by (Q []) (q [] fits)
+or_local {A} most is P Q p q welcomes [] fits =
+    local_by most most Q (by_next is P Q) [] [] (λ x rest answer v. nil_cut v.front x rest v.is) (λ v x others h u. closes x others h (v x others h) (is x.kind) refl u)
+    (Q []) (q [] fits)
   where
     closes : (x : Placed) (others : List Placed) → length (x ∷ others) ≤ most → (Q (x ∷ others) ≡ Err (Unexpected (x ∷ others)) → ⊥)
         → (b : Bool) → is x.kind ≡ b → either b P Q (x ∷ others) ≡ Err (Unexpected (x ∷ others)) → ⊥
     closes x others h v true e u = welcomes x others e h u
     closes x others h v false e u = v u
-
-    by : (answer : Answer A) → Local most Q [] answer → Local most (by_next is P Q) [] answer
-    by (Ok (a, [])) v = λ x others h u. closes x others h (v x others h) (is x.kind) refl u
-    by (Ok (a, x ∷ rest)) v = nil_cut v.front x rest v.is
-    by (Err (Unexpected [])) v = v
-    by (Err (Unexpected (x ∷ rest))) v = nil_cut v.front x rest v.is
-    by (Err EndOfText) v = tt
-    by (Err (Nesting [])) v = v
-    by (Err (Nesting (x ∷ rest))) v = nil_cut v.front x rest v.is
 or_local {A} most is P Q p q welcomes (t ∷ ts) fits = by (is t.kind) refl
   where
     by : (b : Bool) → is t.kind ≡ b → Local most (by_next is P Q) (t ∷ ts) (either b P Q (t ∷ ts))
     by true e = local_like most P (by_next is P Q) t ts (P (t ∷ ts)) (λ others. by_next-yes is P Q (t ∷ others) e) (p (t ∷ ts) fits)
     by false e = local_like most Q (by_next is P Q) t ts (Q (t ∷ ts)) (λ others. by_next-no is P Q (t ∷ others) e) (q (t ∷ ts) fits)
-
--- one or the other answers the same
-pub or_same : {A : Type 0} (most : ℕ) (is : Kinds) (P P' Q Q' : Reader A) → IsSame most P P' → IsSame most Q Q' → IsSame most (by_next is P Q) (by_next is P' Q')
-or_same most is P P' Q Q' p q ts fits = by (next_is is ts)
-  where
-    by : (b : Bool) → either b P' Q' ts ≡ either b P Q ts
-    by true = p ts fits
-    by false = q ts fits
 
 -- one or the other is read exactly, of so many tokens
 pub or_at : {levels : ℕ} {room : Type 0} {A : Type 0} (most : ℕ) (L M : Language A) (level : ℕ) (is : Kinds) (P Q : Reader A) (f g goes_on : Kinds)
@@ -180,18 +136,15 @@ or_at {levels} most L M level is P Q f g goes_on p q shape welcomes follows in_f
 }
 
 -- one or the other is read exactly, if the first kinds of the one don't come first where the other is
-pub exact_or_by : {levels : ℕ} {room : Type 0} {A : Type 0} {L M : Language A} {level : ℕ} {is : Kinds} {P Q : ℕ → Reader A} {f g : Kinds} (goes_on : Kinds)
+pub exact_or_by : {levels : ℕ} {room : Type 0} {A : Type 0} {L M : Language A} {level : ℕ} {is : Kinds} {P Q : Reader A} {f g : Kinds} (goes_on : Kinds)
     → Exact levels L P f room → Exact levels M Q g room → Shape L level is room → Follows is M goes_on → Within f goes_on → Within g goes_on
-    → Exact levels (L or M) (λ most. by_next is (P most) (Q most)) goes_on room
+    → Exact levels (L or M) (by_next is P Q) goes_on room
 exact_or_by {L} {M} {level} {is} {P} {Q} {f} {g} goes_on p q shape follows in_f in_g = record {
-  exact = λ most. or_at most L M level is (P most) (Q most) f g goes_on (p.exact most) (q.exact most) shape
-      (λ r. welcome shape p r most) follows in_f in_g;
-  same = λ r most more above. or_same most is (P most) (P more) (Q most) (Q more) (p.same r most more above) (q.same r most more above);
+  exact = λ most. or_at most L M level is P Q f g goes_on (p.exact most) (q.exact most) shape (λ r. welcome shape p r most) follows in_f in_g;
 }
 
 -- two languages neither of which has the empty stretch, with no first kind in common
-pub exact_or : {levels : ℕ} {room : Type 0} {A : Type 0} {L M : Language A} {level : ℕ} {is first : Kinds} {P Q : ℕ → Reader A} {f g : Kinds}
+pub exact_or : {levels : ℕ} {room : Type 0} {A : Type 0} {L M : Language A} {level : ℕ} {is first : Kinds} {P Q : Reader A} {f g : Kinds}
     → Exact levels L P f room → Exact levels M Q g room → Shape L level is room → Shape M level first room → Apart is first
-    → Exact levels (L or M) (λ most. by_next is (P most) (Q most)) (f ∪ g) room
-exact_or {L} {M} {level} {is} {first} {P} {Q} {f} {g} p q shape other apart =
-    exact_or_by (f ∪ g) p q shape (follows_shape is (f ∪ g) other apart) (within_left f g) (within_right f g)
+    → Exact levels (L or M) (by_next is P Q) (f ∪ g) room
+exact_or {is = is} {f = f} {g = g} p q shape other apart = exact_or_by (f ∪ g) p q shape (follows_shape is (f ∪ g) other apart) (within_left f g) (within_right f g)

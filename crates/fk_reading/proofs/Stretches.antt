@@ -1,12 +1,12 @@
 -- Stretches one after the other: their tokens, their levels, and what has to be answered of them.
-use Rattle.std.proofs.Common.{ℕ, ◌≡◌, ◌+◌, ◌≤◌, ◌<◌, List, [], ◌∷◌, ◌++◌, Bool, true, false, Ok, Err, length, nat_le, cond, ◌⊎◌, inl, inr, refl, ap, ◌∙◌, append_assoc, arith, length-append, le-leb, le_refl}
+use Rattle.std.proofs.Common.{ℕ, ◌≡◌, ◌+◌, ◌≤◌, ◌<◌, List, [], ◌∷◌, ◌++◌, Bool, true, false, Ok, Err, length, nat_le, cond, ◌⊎◌, inl, inr, refl, sym, ap, ◌∙◌, subst, append_assoc, arith, length-append, le-leb, le_refl}
 use Rattle.std.proofs.lemmas.Bool.{lt-leb}
 use Rattle.std.proofs.lemmas.List.{map-append, length-map}
 use Rattle.std.proofs.lemmas.List.Elements.{All-append, All-nil, All-cons, All-head, All-tail}
 use Rattle.fk_reading.specs.Languages.{Placed, Marked, Stretch, tokens_of}
-use Rattle.fk_reading.specs.Reads.{Answer, Unexpected}
+use Rattle.fk_reading.specs.Reads.{Answer, Unexpected, EndOfText, Nesting}
 use Rattle.fk_reading.specs.Readers.{Reader, after}
-use Rattle.fk_reading.proofs.Exact.{StaysWithin, from_deep, settled_by, settled}
+use Rattle.fk_reading.proofs.Exact.{StaysWithin, Closes, Stands, Local, from_deep, settled_by, settled}
 
 -- ---- tokens
 
@@ -23,34 +23,16 @@ length-tokens s rest = length-append (tokens_of s) rest ∙ ap (λ n. n + length
 
 -- ---- two lists that are one
 
--- a list that is cut in two ways at an element: the first cut comes earlier, at the same place or later
-pub record Earlier (xs : List Placed) (x : Placed) (us : List Placed) (ys : List Placed) (y : Placed) (vs : List Placed) : Type 0 where
-  pub between : List Placed
-  pub front : xs ≡ ys ++ y ∷ between
-  pub back : vs ≡ between ++ x ∷ us
-
--- at the same place
-pub record Same (xs : List Placed) (x : Placed) (us : List Placed) (ys : List Placed) (y : Placed) (vs : List Placed) : Type 0 where
-  pub front : xs ≡ ys
-  pub at : x ≡ y
-  pub back : us ≡ vs
-
--- one of these is so
-pub cuts : (xs : List Placed) (x : Placed) (us : List Placed) (ys : List Placed) (y : Placed) (vs : List Placed)
-    → xs ++ x ∷ us ≡ ys ++ y ∷ vs → Earlier xs x us ys y vs ⊎ Same xs x us ys y vs ⊎ Earlier ys y vs xs x us
-cuts [] x us [] y vs e = inr (inl (record { front = refl; at = cc; back = cc }))
-cuts [] x us (b ∷ ys) y vs e = inr (inr (record { between = ys; front = cc; back = cc }))
-cuts (a ∷ xs) x us [] y vs e = inl (record { between = xs; front = cc; back = cc })
-cuts (a ∷ xs) x us (b ∷ ys) y vs e =
-    elim (cuts xs x us ys y vs (cc)) [
-      | inl w ↦ inl (record { between = w.between; front = cc; back = w.back })
-      | inr (inl w) ↦ inr (inl (record { front = cc; at = w.at; back = w.back }))
-      | inr (inr w) ↦ inr (inr (record { between = w.between; front = cc; back = w.back }))
+-- a list that is cut twice: the second cut comes no later than the first, or it comes later
+pub twice : (xs us ys vs : List Placed) → xs ++ us ≡ ys ++ vs
+    → ((between : List Placed) × (xs ≡ ys ++ between) × (vs ≡ between ++ us)) ⊎ ((x : Placed) × (between : List Placed) × (ys ≡ xs ++ x ∷ between) × (us ≡ x ∷ (between ++ vs)))
+twice xs us [] vs e = inl (xs, refl, sym e)
+twice [] us (y ∷ ys) vs e = inr (y, ys, refl, e)
+twice (x ∷ xs) us (y ∷ ys) vs e =
+    elim (twice xs us ys vs (cc)) [
+      | inl w ↦ inl (w.0, let tail = w.1 in cc, w.2)
+      | inr w ↦ inr (w.0, w.1, let tail = w.2 in cc, w.3)
     ]
-
--- what comes behind a token is shorter
-pub not_longer : (front : List Placed) (x : Placed) (rest : List Placed) → length rest < length (front ++ x ∷ rest)
-not_longer front x rest = omega (arith, length-append front (x ∷ rest))
 
 -- no cut of nothing
 pub nil_cut : {C : Type 0} (front : List Placed) (x : Placed) (rest : List Placed) → [] ≡ front ++ x ∷ rest → C
@@ -141,3 +123,32 @@ settled_read levels {A} s a rest others e = by (from_deep levels s) e
     by : (t : Stretch) → settled_by t a rest ≡ Err (Unexpected others) → ⊥
     by [] e = cc
     by (m ∷ t) e = cc
+
+-- ---- what an answer rests on
+
+-- what is made of an answer rests on as many tokens, if a reader stops at each token at which the other does
+pub local_made : {A B : Type 0} (f : A → B) (most less : ℕ) (P : Reader A) (R : Reader B) (ts us : List Placed)
+    → ((x : Placed) (rest : List Placed) (answer : List Placed → Answer A) → Stands most P ts x rest answer → Stands less R us x rest (λ z. after (answer z) (λ a others. Ok (f a, others))))
+    → (Closes most P ts → Closes less R us)
+    → (answer : Answer A) → Local most P ts answer → Local less R us (after answer (λ a others. Ok (f a, others)))
+local_made f most less P R ts us stands closes (Ok (a, [])) w = closes w
+local_made f most less P R ts us stands closes (Ok (a, x ∷ rest)) w = stands x rest (λ z. Ok (a, z)) w
+local_made f most less P R ts us stands closes (Err (Unexpected [])) w = w
+local_made f most less P R ts us stands closes (Err (Unexpected (x ∷ rest))) w = stands x rest (λ z. Err (Unexpected z)) w
+local_made f most less P R ts us stands closes (Err EndOfText) w = tt
+local_made f most less P R ts us stands closes (Err (Nesting [])) w = w
+local_made f most less P R ts us stands closes (Err (Nesting (x ∷ rest))) w = stands x rest (λ z. Err (Nesting z)) w
+
+after_same : {A : Type 0} (answer : Answer A) → after answer (λ a rest. Ok (a, rest)) ≡ answer
+after_same (Ok x) = refl
+after_same (Err stop) = refl
+
+-- so does the same answer of another reader
+pub local_by : {A : Type 0} (most less : ℕ) (P R : Reader A) (ts us : List Placed)
+    → ((x : Placed) (rest : List Placed) (answer : List Placed → Answer A) → Stands most P ts x rest answer → Stands less R us x rest answer)
+    → (Closes most P ts → Closes less R us) → (answer : Answer A) → Local most P ts answer → Local less R us answer
+local_by most less P R ts us stands closes answer w =
+    subst (λ z. Local less R us z) (after_same answer)
+    (local_made (λ a. a) most less P R ts us
+    (λ x rest form v. let s = stands x rest form v in record { front = s.front; is = s.is; stays = λ others h. s.stays others h ∙ sym (after_same (form (x ∷ others))) })
+    closes answer w)

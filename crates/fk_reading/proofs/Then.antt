@@ -4,13 +4,57 @@ use Rattle.fk_reading.specs.Languages.{Placed, Stretch, tokens_of, Language, ◌
 use Rattle.fk_reading.specs.Reads.{Stop, Unexpected, EndOfText, Nesting, Answer}
 use Rattle.fk_reading.specs.Readers.{Reader, after, giving, ◌and◌, next_is}
 use Rattle.fk_reading.proofs.Sets.{Kinds, ◌∪◌, Apart, Within, next-within, apart-false, within_left, within_right}
-use Rattle.fk_reading.proofs.Exact.{Fronts, Example, Goes, Shape, LooseShape, Sound, SoundValue, Closes, Stands, Local, IsSound, IsComplete, IsLocal, IsSame, ExactAt, Exact, settled}
-use Rattle.fk_reading.proofs.Stretches.{tokens_regroup, length-tokens, cuts, nil_cut, same_head, shallow-append, settled_giving, settled_then}
+use Rattle.fk_reading.proofs.Exact.{Fronts, Example, Goes, Shape, LooseShape, StaysWithin, Sound, SoundValue, Closes, Stands, Local, IsSound, IsComplete, IsLocal, ExactAt, Exact, settled}
+use Rattle.fk_reading.proofs.Stretches.{tokens_regroup, length-tokens, twice, nil_cut, same_head, shallow-nil, shallow-append, settled_giving, settled_then, local_made}
+
+-- ---- where nothing is read
+
+-- a stretch, and what comes first in the tokens behind it
+tokens_behind : (s t : Stretch) (ts r rest : List Placed) → ts ≡ tokens_of s ++ r → r ≡ tokens_of t ++ rest → ts ≡ tokens_of (s ++ t) ++ rest
+tokens_behind s t ts r rest e d = rw (e, d) (sym (tokens_regroup s t rest))
+
+-- behind a shallow stretch, where with it a language goes on as another does
+stop_behind : (levels : ℕ) {A B : Type 0} (L : Language A) (M : Language B) (s : Stretch) (ts r : List Placed) → StaysWithin levels s → ts ≡ tokens_of s ++ r
+    → ((t : Stretch) (rest : List Placed) → r ≡ tokens_of t ++ rest → Goes M t → Goes L (s ++ t))
+    → (stop : Stop) → Sound levels M r (Err stop) → Sound levels L ts (Err stop)
+stop_behind levels L M s ts r shallow is goes (Unexpected rest) w = (
+  record {
+    stretch = s ++ w.0.stretch;
+    is = tokens_behind s w.0.stretch ts r rest is w.0.is;
+    goes = goes w.0.stretch rest w.0.is w.0.goes;
+    shallow = shallow-append levels s w.0.stretch shallow w.0.shallow;
+  },
+  w.1,
+)
+stop_behind levels L M s ts r shallow is goes EndOfText w = record {
+  stretch = s ++ w.stretch;
+  is = tokens_behind s w.stretch ts r [] is w.is;
+  goes = goes w.stretch [] w.is w.goes;
+  shallow = shallow-append levels s w.stretch shallow w.shallow;
+}
+stop_behind levels L M s ts r shallow is goes (Nesting rest) w =
+    let whole : r ≡ tokens_of (w.stretch ++ w.deep ∷ []) ++ w.others =
+    w.is ∙ ap (λ z. tokens_of w.stretch ++ z) w.next ∙ sym (tokens_regroup w.stretch (w.deep ∷ []) w.others) in
+    record {
+      stretch = s ++ w.stretch;
+      deep = w.deep;
+      others = w.others;
+      is = tokens_behind s w.stretch ts r rest is w.is;
+      next = w.next;
+      goes = rw (append_assoc s w.stretch (w.deep ∷ [])) (goes (w.stretch ++ w.deep ∷ []) w.others whole w.goes);
+      shallow = shallow-append levels s w.stretch shallow w.shallow;
+      past = w.past;
+    }
+
+-- where a language goes on as another does
+pub stop_more : (levels : ℕ) {A B : Type 0} (L : Language A) (M : Language B) (ts : List Placed)
+    → ((s : Stretch) (rest : List Placed) → ts ≡ tokens_of s ++ rest → Goes M s → Goes L s) → (stop : Stop) → Sound levels M ts (Err stop) → Sound levels L ts (Err stop)
+stop_more levels L M ts goes stop w = stop_behind levels L M [] ts ts (shallow-nil levels) refl goes stop w
 
 -- ---- what is made of a language
 
 -- what goes on to one goes on to what is made of it
-pub goes_making : {A B : Type 0} (f : A → B) (L : Language A) (s : Stretch) → Goes L s → Goes (making f L) s
+goes_making : {A B : Type 0} (f : A → B) (L : Language A) (s : Stretch) → Goes L s → Goes (making f L) s
 goes_making f L s g = record { more = g.more; value = f g.value; spelled = (g.value, g.spelled, refl) }
 
 giving_sound : (levels : ℕ) {A B : Type 0} (f : A → B) (most : ℕ) (L : Language A) (P : Reader A) → IsSound levels most L P → IsSound levels most (making f L) (giving f P)
@@ -18,18 +62,7 @@ giving_sound levels {A} {B} f most L P p ts fits = by (P ts) (p ts fits)
   where
     by : (answer : Answer A) → Sound levels L ts answer → Sound levels (making f L) ts (after answer (λ a rest. Ok (f a, rest)))
     by (Ok (a, rest)) w = record { stretch = w.stretch; is = w.is; spelled = (a, w.spelled, refl); shallow = w.shallow }
-    by (Err (Unexpected rest)) w = (record { stretch = w.0.stretch; is = w.0.is; goes = goes_making f L w.0.stretch w.0.goes; shallow = w.0.shallow }, w.1)
-    by (Err EndOfText) w = record { stretch = w.stretch; is = w.is; goes = goes_making f L w.stretch w.goes; shallow = w.shallow }
-    by (Err (Nesting rest)) w = record {
-      stretch = w.stretch;
-      deep = w.deep;
-      others = w.others;
-      is = w.is;
-      next = w.next;
-      goes = goes_making f L (w.stretch ++ w.deep ∷ []) w.goes;
-      shallow = w.shallow;
-      past = w.past;
-    }
+    by (Err stop) w = stop_more levels (making f L) L ts (λ s rest is g. goes_making f L s g) stop w
 
 giving_complete : (levels : ℕ) {A B : Type 0} (f : A → B) (most : ℕ) (L : Language A) (P : Reader A) (goes_on : Kinds)
     → IsComplete levels most L P goes_on → IsComplete levels most (making f L) (giving f P) goes_on
@@ -42,20 +75,9 @@ after_err (Ok (a, rest)) f stop e = cc
 after_err (Err stop') f stop e = cc
 
 giving_local : {A B : Type 0} (f : A → B) (most : ℕ) (P : Reader A) → IsLocal most P → IsLocal most (giving f P)
-giving_local {A} {B} f most P p ts fits = by (P ts) (p ts fits)
-  where
-    by : (answer : Answer A) → Local most P ts answer → Local most (giving f P) ts (after answer (λ a rest. Ok (f a, rest)))
-    by (Ok (a, [])) w = λ x others h e. w x others h (after_err (P (ts ++ x ∷ others)) f (Unexpected (x ∷ others)) e)
-    by (Ok (a, x ∷ rest)) w = record { front = w.front; is = w.is; stays = λ others h. rw (w.stays others h) refl }
-    by (Err (Unexpected [])) w = w
-    by (Err (Unexpected (x ∷ rest))) w = record { front = w.front; is = w.is; stays = λ others h. rw (w.stays others h) refl }
-    by (Err EndOfText) w = tt
-    by (Err (Nesting [])) w = w
-    by (Err (Nesting (x ∷ rest))) w = record { front = w.front; is = w.is; stays = λ others h. rw (w.stays others h) refl }
-
--- readers that answer the same do so where something is made of it
-pub giving_same : {A B : Type 0} (f : A → B) (most : ℕ) (P P' : Reader A) → IsSame most P P' → IsSame most (giving f P) (giving f P')
-giving_same f most P P' same ts fits = ap (λ answer. after answer (λ a rest. Ok (f a, rest))) (same ts fits)
+giving_local {A} {B} f most P p ts fits =
+    local_made f most most P (giving f P) ts ts (λ x rest answer w. record { front = w.front; is = w.is; stays = λ others h. rw (w.stays others h) refl })
+    (λ w x others h e. w x others h (after_err (P (ts ++ x ∷ others)) f (Unexpected (x ∷ others)) e)) (P ts) (p ts fits)
 
 -- what is made of a language is read exactly, of so many tokens
 pub giving_at : {levels : ℕ} {room : Type 0} {A B : Type 0} (f : A → B) (most : ℕ) (L : Language A) (P : Reader A) (goes_on : Kinds)
@@ -67,12 +89,9 @@ giving_at {levels} f most L P goes_on p = record {
 }
 
 -- what is made of a language is read exactly
-pub exact_making : {levels : ℕ} {room : Type 0} {A B : Type 0} (f : A → B) {L : Language A} {P : ℕ → Reader A} {goes_on : Kinds}
-    → Exact levels L P goes_on room → Exact levels (making f L) (λ most. giving f (P most)) goes_on room
-exact_making f {L} {P} {goes_on} p = record {
-  exact = λ most. giving_at f most L (P most) goes_on (p.exact most);
-  same = λ r most more above. giving_same f most (P most) (P more) (p.same r most more above);
-}
+pub exact_making : {levels : ℕ} {room : Type 0} {A B : Type 0} (f : A → B) {L : Language A} {P : Reader A} {goes_on : Kinds}
+    → Exact levels L P goes_on room → Exact levels (making f L) (giving f P) goes_on room
+exact_making f {L} {P} {goes_on} p = record { exact = λ most. giving_at f most L P goes_on (p.exact most) }
 
 -- ---- one language after another
 
@@ -130,10 +149,6 @@ goes_behind L M s t a l g = record {
   spelled = (s, t ++ g.more, append_assoc s t g.more, l, g.spelled);
 }
 
--- where the first is read, and what comes first in the rest
-tokens_behind : (s t : Stretch) (ts r rest : List Placed) → ts ≡ tokens_of s ++ r → r ≡ tokens_of t ++ rest → ts ≡ tokens_of (s ++ t) ++ rest
-tokens_behind s t ts r rest e d = rw (e, d) (sym (tokens_regroup s t rest))
-
 pub then_sound_second : (levels : ℕ) {A B : Type 0} (L : Language A) (M : Language B) (ts r : List Placed) (a : A) → SoundValue levels L ts a r
     → (answer : Answer B) → Sound levels M r answer → Sound levels (L then M) ts (after answer (λ b others. Ok ((a, b), others)))
 then_sound_second levels L M ts r a v (Ok (b, rest)) w = record {
@@ -142,31 +157,8 @@ then_sound_second levels L M ts r a v (Ok (b, rest)) w = record {
   spelled = (v.stretch, w.stretch, refl, v.spelled, w.spelled);
   shallow = shallow-append levels v.stretch w.stretch v.shallow w.shallow;
 }
-then_sound_second levels L M ts r a v (Err (Unexpected rest)) w = (
-  record {
-    stretch = v.stretch ++ w.0.stretch;
-    is = tokens_behind v.stretch w.0.stretch ts r rest v.is w.0.is;
-    goes = goes_behind L M v.stretch w.0.stretch a v.spelled w.0.goes;
-    shallow = shallow-append levels v.stretch w.0.stretch v.shallow w.0.shallow;
-  },
-  w.1,
-)
-then_sound_second levels L M ts r a v (Err EndOfText) w = record {
-  stretch = v.stretch ++ w.stretch;
-  is = tokens_behind v.stretch w.stretch ts r [] v.is w.is;
-  goes = goes_behind L M v.stretch w.stretch a v.spelled w.goes;
-  shallow = shallow-append levels v.stretch w.stretch v.shallow w.shallow;
-}
-then_sound_second levels L M ts r a v (Err (Nesting rest)) w = record {
-  stretch = v.stretch ++ w.stretch;
-  deep = w.deep;
-  others = w.others;
-  is = tokens_behind v.stretch w.stretch ts r rest v.is w.is;
-  next = w.next;
-  goes = rw (append_assoc v.stretch w.stretch (w.deep ∷ [])) (goes_behind L M v.stretch (w.stretch ++ w.deep ∷ []) a v.spelled w.goes);
-  shallow = shallow-append levels v.stretch w.stretch v.shallow w.shallow;
-  past = w.past;
-}
+then_sound_second levels L M ts r a v (Err stop) w =
+    stop_behind levels (L then M) M v.stretch ts r v.shallow v.is (λ t rest is g. goes_behind L M v.stretch t a v.spelled g) stop w
 
 then_sound : (levels : ℕ) {A B : Type 0} (most less : ℕ) (L : Language A) (M : Language B) (P : Reader A) (Q : Reader B)
     → IsSound levels most L P → IsSound levels less M Q → Leaves most P less → Example M → IsSound levels most (L then M) (P and Q)
@@ -175,18 +167,7 @@ then_sound levels {A} {B} most less L M P Q p q leaves x ts fits = by (P ts) ref
     by : (answer : Answer A) → P ts ≡ answer → Sound levels L ts answer
         → Sound levels (L then M) ts (after answer (λ a rest. after (Q rest) (λ b others. Ok ((a, b), others))))
     by (Ok (a, rest)) e w = then_sound_second levels L M ts rest a w (Q rest) (q rest (leaves ts fits a rest e))
-    by (Err (Unexpected rest)) e w = (record { stretch = w.0.stretch; is = w.0.is; goes = goes_before L M w.0.stretch w.0.goes x; shallow = w.0.shallow }, w.1)
-    by (Err EndOfText) e w = record { stretch = w.stretch; is = w.is; goes = goes_before L M w.stretch w.goes x; shallow = w.shallow }
-    by (Err (Nesting rest)) e w = record {
-      stretch = w.stretch;
-      deep = w.deep;
-      others = w.others;
-      is = w.is;
-      next = w.next;
-      goes = goes_before L M (w.stretch ++ w.deep ∷ []) w.goes x;
-      shallow = w.shallow;
-      past = w.past;
-    }
+    by (Err stop) e w = stop_more levels (L then M) L ts (λ s rest is g. goes_before L M s g x) stop w
 
 pub then_complete : (levels : ℕ) {A B : Type 0} (most less : ℕ) (L : Language A) (M : Language B) (P : Reader A) (Q : Reader B) (f g goes_on : Kinds)
     → IsComplete levels most L P f → IsComplete levels less M Q g → Spends L most less → Follows f M goes_on → Within g goes_on
@@ -242,11 +223,20 @@ then_closes_at_end : {A B : Type 0} (most less : ℕ) (P : Reader A) (Q : Reader
 unfolding left_of
 then_closes_at_end {A} {B} most less P Q ts a p q leaves small e w v x others fits u = by (P (ts ++ x ∷ others)) refl (p (ts ++ x ∷ others) fits) u
   where
-    stop : Answer B
-    stop = Err (Unexpected (x ∷ others))
-
     inner : (r : List Placed) → length r ≤ less → Q r ≡ Err (Unexpected (x ∷ others)) → Stands less Q r x others (λ z. Err (Unexpected z))
     inner r h d = subst (λ answer. Local less Q r answer) d (q r h)
+
+    -- the first reads a part of the tokens, or all of them
+    cut : (a' : A) (y : Placed) (r front : List Placed) → ((between : List Placed) → length (front ++ y ∷ between) ≤ most → P (front ++ y ∷ between) ≡ Ok (a', y ∷ between))
+        → length (y ∷ r) ≤ less → Q (y ∷ r) ≡ Err (Unexpected (x ∷ others)) → (between : List Placed) → ts ≡ front ++ between → y ∷ r ≡ between ++ x ∷ others → ⊥
+    cut a' y r front stays left read [] is same = v x others (omega (arith, left, ap length same)) (cc)
+    cut a' y r front stays left read (z ∷ between) is same =
+        let head : z ≡ y = cc in
+        let here : ts ≡ front ++ y ∷ between = is ∙ ap (λ t. front ++ t ∷ between) head in
+        let whole : P (front ++ y ∷ between) ≡ Ok (a', y ∷ between) = stays between (rw (← here) small) in
+        let there : P ts ≡ Ok (a', y ∷ between) = rw here whole in
+        let nothing_left : [] ≡ y ∷ between = ap left_of (sym e ∙ there) in
+        absurd (cc)
 
     by : (answer : Answer A) → P (ts ++ x ∷ others) ≡ answer → Local most P (ts ++ x ∷ others) answer
         → after {B = A × B} answer (λ a rest. after (Q rest) (λ b more. Ok ((a, b), more))) ≡ Err (Unexpected (x ∷ others)) → ⊥
@@ -257,52 +247,41 @@ then_closes_at_end {A} {B} most less P Q ts a p q leaves small e w v x others fi
     by (Ok (a', y ∷ r)) d l u =
         let read : Q (y ∷ r) ≡ Err (Unexpected (x ∷ others)) = after_err (Q (y ∷ r)) (λ b. (a', b)) (Unexpected (x ∷ others)) u in
         let left : length (y ∷ r) ≤ less = leaves (ts ++ x ∷ others) fits a' (y ∷ r) d in
-        elim (cuts ts x others l.front y r l.is) [
-          | inl c ↦
-              let whole : P (l.front ++ y ∷ c.between) ≡ Ok (a', y ∷ c.between) = l.stays c.between (rw (← c.front) small) in
-              let there : P ts ≡ Ok (a', y ∷ c.between) = rw c.front whole in
-              let nothing_left : [] ≡ y ∷ c.between = ap left_of (sym e ∙ there) in
-              absurd (cc)
-          | inr (inl c) ↦ v x others (omega (arith, ap length c.back)) (cc)
-          | inr (inr c) ↦
+        elim (twice ts (x ∷ others) l.front (y ∷ r) l.is) [
+          | inl c ↦ cut a' y r l.front l.stays left read c.0 c.1 c.2
+          | inr c ↦
               let f = inner (y ∷ r) left read in
-              absurd (omega (arith, ap length f.is, ap length c.back, length-append f.front (x ∷ others), length-append c.between (y ∷ r)))
+              absurd (omega (arith, ap length f.is, ap length c.3, length-append f.front (x ∷ others), length-append c.1 (y ∷ r)))
         ]
 
 pub then_local : {A B : Type 0} (most less : ℕ) (P : Reader A) (Q : Reader B) → IsLocal most P → IsLocal less Q → Leaves most P less → IsLocal most (P and Q)
 then_local {A} {B} most less P Q p q leaves ts fits = by (P ts) refl (p ts fits)
   where
     -- the second reads nothing, where nothing is left
-    at_end : (a : A) → P ts ≡ Ok (a, []) → Closes most P ts → (answer : Answer B) → Local less Q [] answer
-        → Local most (P and Q) ts (after answer (λ b others. Ok ((a, b), others)))
-    at_end a e w (Ok (b, [])) v = then_closes_at_end most less P Q ts a p q leaves fits e w v
-    at_end a e w (Ok (b, x ∷ rest)) v = nil_cut v.front x rest v.is
-    at_end a e w (Err (Unexpected [])) v = v
-    at_end a e w (Err (Unexpected (x ∷ rest))) v = nil_cut v.front x rest v.is
-    at_end a e w (Err EndOfText) v = tt
-    at_end a e w (Err (Nesting [])) v = v
-    at_end a e w (Err (Nesting (x ∷ rest))) v = nil_cut v.front x rest v.is
+    at_end : (a : A) → P ts ≡ Ok (a, []) → Closes most P ts → Local most (P and Q) ts (after (Q []) (λ b others. Ok ((a, b), others)))
+    at_end a e w =
+        local_made (λ b. (a, b)) less most Q (P and Q) [] ts (λ x rest answer v. nil_cut v.front x rest v.is)
+        (then_closes_at_end most less P Q ts a p q leaves fits e w) (Q []) (q [] zero-le)
 
     -- the second goes on at a token
-    on : (a : A) (x : Placed) (r : List Placed) → Stands most P ts x r (λ z. Ok (a, z)) → (answer : Answer B) → Local less Q (x ∷ r) answer
-        → Local most (P and Q) ts (after answer (λ b others. Ok ((a, b), others)))
-    on a x r w (Ok (b, [])) v = λ y others h u.
-        let split : ts ++ y ∷ others ≡ w.front ++ x ∷ (r ++ y ∷ others) = ap (λ z. z ++ y ∷ others) w.is ∙ append_assoc w.front (x ∷ r) (y ∷ others) in
-        let small : length (w.front ++ x ∷ (r ++ y ∷ others)) ≤ most = rw split at h in
-        let first : P (w.front ++ x ∷ (r ++ y ∷ others)) ≡ Ok (a, x ∷ (r ++ y ∷ others)) = w.stays (r ++ y ∷ others) small in
-        let left : length (x ∷ (r ++ y ∷ others)) ≤ less = leaves (w.front ++ x ∷ (r ++ y ∷ others)) small a (x ∷ (r ++ y ∷ others)) first in
-        v y others left (after_err (Q (x ∷ (r ++ y ∷ others))) (λ b. (a, b)) (Unexpected (y ∷ others)) (rw (split, first) at u))
-    on a x r w (Ok (b, y ∷ rest)) v = then_stands most less P Q ts a x r y rest (λ z. Ok (b, z)) leaves w v
-    on a x r w (Err (Unexpected [])) v = v
-    on a x r w (Err (Unexpected (y ∷ rest))) v = then_stands most less P Q ts a x r y rest (λ z. Err (Unexpected z)) leaves w v
-    on a x r w (Err EndOfText) v = tt
-    on a x r w (Err (Nesting [])) v = v
-    on a x r w (Err (Nesting (y ∷ rest))) v = then_stands most less P Q ts a x r y rest (λ z. Err (Nesting z)) leaves w v
+    on : (a : A) (x : Placed) (r : List Placed) → length (x ∷ r) ≤ less → Stands most P ts x r (λ z. Ok (a, z))
+        → Local most (P and Q) ts (after (Q (x ∷ r)) (λ b others. Ok ((a, b), others)))
+    on a x r left w =
+        local_made (λ b. (a, b)) less most Q (P and Q) (x ∷ r) ts (λ y rest answer v. then_stands most less P Q ts a x r y rest answer leaves w v)
+        closes (Q (x ∷ r)) (q (x ∷ r) left)
+      where
+        closes : Closes less Q (x ∷ r) → Closes most (P and Q) ts
+        closes v y others h u =
+            let split : ts ++ y ∷ others ≡ w.front ++ x ∷ (r ++ y ∷ others) = ap (λ z. z ++ y ∷ others) w.is ∙ append_assoc w.front (x ∷ r) (y ∷ others) in
+            let small : length (w.front ++ x ∷ (r ++ y ∷ others)) ≤ most = rw split at h in
+            let first : P (w.front ++ x ∷ (r ++ y ∷ others)) ≡ Ok (a, x ∷ (r ++ y ∷ others)) = w.stays (r ++ y ∷ others) small in
+            let left : length (x ∷ (r ++ y ∷ others)) ≤ less = leaves (w.front ++ x ∷ (r ++ y ∷ others)) small a (x ∷ (r ++ y ∷ others)) first in
+            v y others left (after_err (Q (x ∷ (r ++ y ∷ others))) (λ b. (a, b)) (Unexpected (y ∷ others)) (rw (split, first) at u))
 
     by : (answer : Answer A) → P ts ≡ answer → Local most P ts answer
         → Local most (P and Q) ts (after answer (λ a rest. after (Q rest) (λ b others. Ok ((a, b), others))))
-    by (Ok (a, [])) e w = at_end a e w (Q []) (q [] zero-le)
-    by (Ok (a, x ∷ r)) e w = on a x r w (Q (x ∷ r)) (q (x ∷ r) (leaves ts fits a (x ∷ r) e))
+    by (Ok (a, [])) e w = at_end a e w
+    by (Ok (a, x ∷ r)) e w = on a x r (leaves ts fits a (x ∷ r) e) w
     by (Err (Unexpected [])) e w = w
     by (Err (Unexpected (x ∷ rest))) e w = then_stands_first most P Q ts x rest (λ z. Unexpected z) w
     by (Err EndOfText) e w = tt
@@ -310,15 +289,6 @@ then_local {A} {B} most less P Q p q leaves ts fits = by (P ts) refl (p ts fits)
     by (Err (Nesting (x ∷ rest))) e w = then_stands_first most P Q ts x rest (λ z. Nesting z) w
 
 -- ---- one language after another is read exactly
-
--- one after the other answers the same
-pub then_same : {A B : Type 0} (most less : ℕ) (P P' : Reader A) (Q Q' : Reader B) → IsSame most P P' → IsSame less Q Q' → Leaves most P less → IsSame most (P and Q) (P' and Q')
-then_same {A} {B} most less P P' Q Q' p q leaves ts fits = rw (p ts fits) (by (P ts) refl)
-  where
-    by : (answer : Answer A) → P ts ≡ answer
-        → after {B = A × B} answer (λ a rest. after (Q' rest) (λ b others. Ok ((a, b), others))) ≡ after answer (λ a rest. after (Q rest) (λ b others. Ok ((a, b), others)))
-    by (Ok (a, rest)) e = rw (q rest (leaves ts fits a rest e)) refl
-    by (Err stop) e = refl
 
 -- one after the other is read exactly, of so many tokens
 pub then_at : {levels : ℕ} {room : Type 0} {A B : Type 0} (most less : ℕ) (L : Language A) (M : Language B) (P : Reader A) (Q : Reader B) (f g goes_on : Kinds)
@@ -331,48 +301,43 @@ then_at {levels} most less L M P Q f g goes_on p q spends follows within x = rec
 }
 
 -- one after the other is read exactly, if what follows the first doesn't go on with it
-pub exact_then_by : {levels : ℕ} {room : Type 0} {A B : Type 0} {L : Language A} {M : Language B} {P : ℕ → Reader A} {Q : ℕ → Reader B} {f g : Kinds} (goes_on : Kinds)
+pub exact_then_by : {levels : ℕ} {room : Type 0} {A B : Type 0} {L : Language A} {M : Language B} {P : Reader A} {Q : Reader B} {f g : Kinds} (goes_on : Kinds)
     → Exact levels L P f room → Exact levels M Q g room → Follows f M goes_on → Within g goes_on → (room → Example M)
-    → Exact levels (L then M) (λ most. P most and Q most) goes_on room
-exact_then_by {levels} {L} {M} {P} {Q} {f} {g} goes_on p q follows within x = record {
-  exact = λ most. then_at most most L M (P most) (Q most) f g goes_on (p.exact most) (q.exact most) (spends_any L most) follows within x;
-  same = λ r most more above. then_same most most (P most) (P more) (Q most) (Q more) (p.same r most more above) (q.same r most more above)
-      (leaves_by levels most most L (P most) (spends_any L most) ((p.exact most).sound r));
+    → Exact levels (L then M) (P and Q) goes_on room
+exact_then_by {L} {M} {P} {Q} {f} {g} goes_on p q follows within x = record {
+  exact = λ most. then_at most most L M P Q f g goes_on (p.exact most) (q.exact most) (spends_any L most) follows within x;
 }
 
 -- where the second isn't empty, and none of its first kinds goes on with the first
-pub exact_then : {levels : ℕ} {room : Type 0} {A B : Type 0} {L : Language A} {M : Language B} {P : ℕ → Reader A} {Q : ℕ → Reader B} {f g : Kinds} {level : ℕ} {first : Kinds}
+pub exact_then : {levels : ℕ} {room : Type 0} {A B : Type 0} {L : Language A} {M : Language B} {P : Reader A} {Q : Reader B} {f g : Kinds} {level : ℕ} {first : Kinds}
     → Exact levels L P f room → Exact levels M Q g room → Shape M level first room → Apart f first
-    → Exact levels (L then M) (λ most. P most and Q most) g room
-exact_then {L} {M} {P} {Q} {f} {g} {level} {first} p q shape apart =
-    exact_then_by g p q (follows_shape f g shape apart) (λ k h. h) shape.example
+    → Exact levels (L then M) (P and Q) g room
+exact_then {f = f} {g = g} p q shape apart = exact_then_by g p q (follows_shape f g shape apart) (λ k h. h) shape.example
 
 -- where the second may be empty
-pub exact_then_loose : {levels : ℕ} {room : Type 0} {A B : Type 0} {L : Language A} {M : Language B} {P : ℕ → Reader A} {Q : ℕ → Reader B} {f g : Kinds} {level : ℕ} {first : Kinds}
+pub exact_then_loose : {levels : ℕ} {room : Type 0} {A B : Type 0} {L : Language A} {M : Language B} {P : Reader A} {Q : Reader B} {f g : Kinds} {level : ℕ} {first : Kinds}
     → Exact levels L P f room → Exact levels M Q g room → LooseShape M level first room → Apart f first
-    → Exact levels (L then M) (λ most. P most and Q most) (f ∪ g) room
-exact_then_loose {L} {M} {P} {Q} {f} {g} {level} {first} p q shape apart =
+    → Exact levels (L then M) (P and Q) (f ∪ g) room
+exact_then_loose {f = f} {g = g} p q shape apart =
     exact_then_by (f ∪ g) p q (follows_loose f (f ∪ g) shape apart (within_left f g)) (within_right f g)
     (λ r. let e = shape.empty r in record { stretch = []; value = e.value; spelled = e.spelled })
 
 -- more kinds may go on
-pub exact_wider : {levels : ℕ} {room : Type 0} {A : Type 0} {L : Language A} {P : ℕ → Reader A} {f : Kinds} (g : Kinds) → Within f g → Exact levels L P f room → Exact levels L P g room
-exact_wider {L} {P} {f} g within p = record {
+pub exact_wider : {levels : ℕ} {room : Type 0} {A : Type 0} {L : Language A} {P : Reader A} {f : Kinds} (g : Kinds) → Within f g → Exact levels L P f room → Exact levels L P g room
+exact_wider {f = f} g within p = record {
   exact = λ most. record {
     sound = (p.exact most).sound;
     complete = λ s a rest l fits ends. (p.exact most).complete s a rest l fits (next-within f g within rest ends);
     local = (p.exact most).local;
   };
-  same = p.same;
 }
 
 -- less room
-pub exact_room : {levels : ℕ} {small large : Type 0} {A : Type 0} {L : Language A} {P : ℕ → Reader A} {f : Kinds} → (small → large) → Exact levels L P f large → Exact levels L P f small
-exact_room {L} {P} {f} enough p = record {
+pub exact_room : {levels : ℕ} {small large : Type 0} {A : Type 0} {L : Language A} {P : Reader A} {f : Kinds} → (small → large) → Exact levels L P f large → Exact levels L P f small
+exact_room enough p = record {
   exact = λ most. record {
     sound = λ r. (p.exact most).sound (enough r);
     complete = (p.exact most).complete;
     local = λ r. (p.exact most).local (enough r);
   };
-  same = λ r. p.same (enough r);
 }

@@ -105,14 +105,13 @@ local_one most L level P one (t ∷ u ∷ ts) fits =
 
 -- such a reader reads the language exactly
 pub exact_one : {levels : ℕ} {room : Type 0} {A : Type 0} (L : Language A) (level : ℕ) (P : Reader A) → level ≤ levels → TakesOne L level P → (room → Example L)
-    → Exact levels L (λ most. P) none room
+    → Exact levels L P none room
 exact_one {levels} L level P h one x = record {
   exact = λ most. record {
     sound = λ r. sound_one levels most L level P h one (x r);
     complete = complete_one levels most L level P h one;
     local = λ r. local_one most L level P one;
   };
-  same = λ r most more above ts fits. refl;
 }
 
 -- ---- a token of a kind
@@ -130,7 +129,7 @@ expect_takes level k = record {
     by t false e = inr (λ ts. rw (e, expect) refl)
 
 -- a token of a kind is read exactly
-pub exact_token : {levels : ℕ} {room : Type 0} (level : ℕ) (k : TokenKind) → level ≤ levels → Exact levels (token level k) (λ most. expect k) none room
+pub exact_token : {levels : ℕ} {room : Type 0} (level : ℕ) (k : TokenKind) → level ≤ levels → Exact levels (token level k) (expect k) none room
 exact_token level k h = exact_one (token level k) level (expect k) h (expect_takes level k) (λ r. example_token level k)
 
 -- ---- a token whose kind tells something
@@ -149,5 +148,5 @@ expect_told_takes {A} level told = record {
 
 -- a token whose kind tells something is read exactly: name a kind, and what it tells
 pub exact_telling : {levels : ℕ} {room : Type 0} {A : Type 0} (level : ℕ) (told : TokenKind → Option A) (k : TokenKind) (a : A) → told k ≡ Some a → level ≤ levels
-    → Exact levels (telling level told) (λ most. expect_told told) none room
+    → Exact levels (telling level told) (expect_told told) none room
 exact_telling level told k a e h = exact_one (telling level told) level (expect_told told) h (expect_told_takes level told) (λ r. example_telling level told k a e)

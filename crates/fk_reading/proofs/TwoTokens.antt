@@ -59,29 +59,29 @@ settled_later levels {A} x level s a shallow e = by (from_deep levels s) (length
     by [] h d = cc
     by (m ∷ t) h d = omega (arith, ap length (ap deep_of d), length-tokens (m ∷ t) [], length-tokens s [])
 
+-- what is read of the stretch that a token begins
+read_start : {levels : ℕ} {room : Type 0} {A : Type 0} {L : Language A} {P : Reader A} {f : Kinds} → Exact levels L P f room
+    → (x : Placed) (level : ℕ) (w : StartsAt L level x) → P (x ∷ (tokens_of w.others ++ [])) ≡ settled levels (record { token = x; level = level } ∷ w.others) w.value []
+read_start p x level w =
+    let much : ℕ = length (x ∷ (tokens_of w.others ++ [])) in
+    (p.exact much).complete (record { token = x; level = level } ∷ w.others) w.value [] w.spelled (le_refl much) refl
+
 -- at a level past the bound a token that begins a language nests too deep, whatever comes behind it
-pub nests : {levels : ℕ} {room : Type 0} {A : Type 0} {L : Language A} {P : ℕ → Reader A} {f : Kinds} → Exact levels L P f room → room
-    → (x : Placed) (level : ℕ) → StartsAt L level x → levels < level
-    → (most : ℕ) (others : List Placed) → length (x ∷ others) ≤ most → P most (x ∷ others) ≡ Err (Nesting (x ∷ others))
-nests {levels} {room} {A} {L} {P} {f} p r x level w past most others fits =
+pub nests : {levels : ℕ} {room : Type 0} {A : Type 0} {L : Language A} {P : Reader A} {f : Kinds} → Exact levels L P f room → room
+    → (x : Placed) (level : ℕ) → StartsAt L level x → levels < level → (others : List Placed) → P (x ∷ others) ≡ Err (Nesting (x ∷ others))
+nests {levels} {P = P} p r x level w past others =
     let m : Marked = record { token = x; level = level } in
     let long : List Placed = tokens_of w.others ++ [] in
-    let much : ℕ = length (x ∷ long) in
-    let read : P much (x ∷ long) ≡ settled levels (m ∷ w.others) w.value [] = (p.exact much).complete (m ∷ w.others) w.value [] w.spelled (le_refl much) refl in
-    let deep : P much (x ∷ long) ≡ Err (Nesting (x ∷ long)) = rw (from_deep-past levels m w.others past) at read in
-    stays_anywhere p r x long (λ z. Nesting z) (λ more z. z) much (le_refl much) deep most others fits
+    let deep : P (x ∷ long) ≡ Err (Nesting (x ∷ long)) = rw (from_deep-past levels m w.others past) at (read_start p x level w) in
+    stays_anywhere p r x long (λ z. Nesting z) (λ more z. z) deep others
 
 -- at a level within the bound it doesn't
-pub not_nests : {levels : ℕ} {room : Type 0} {A : Type 0} {L : Language A} {P : ℕ → Reader A} {f : Kinds} → Exact levels L P f room → room
-    → (x : Placed) (level : ℕ) → StartsAt L level x → level ≤ levels
-    → (most : ℕ) (others : List Placed) → length (x ∷ others) ≤ most → P most (x ∷ others) ≡ Err (Nesting (x ∷ others)) → ⊥
-not_nests {levels} {room} {A} {L} {P} {f} p r x level w shallow most others fits e =
-    let m : Marked = record { token = x; level = level } in
+pub not_nests : {levels : ℕ} {room : Type 0} {A : Type 0} {L : Language A} {P : Reader A} {f : Kinds} → Exact levels L P f room → room
+    → (x : Placed) (level : ℕ) → StartsAt L level x → level ≤ levels → (others : List Placed) → P (x ∷ others) ≡ Err (Nesting (x ∷ others)) → ⊥
+not_nests {levels} {P = P} p r x level w shallow others e =
     let long : List Placed = tokens_of w.others ++ [] in
-    let much : ℕ = length (x ∷ long) in
-    let read : P much (x ∷ long) ≡ settled levels (m ∷ w.others) w.value [] = (p.exact much).complete (m ∷ w.others) w.value [] w.spelled (le_refl much) refl in
-    let stays : P much (x ∷ long) ≡ Err (Nesting (x ∷ long)) = stays_anywhere p r x others (λ z. Nesting z) (λ more z. z) most fits e much long (le_refl much) in
-    settled_later levels x level w.others w.value shallow (sym read ∙ stays)
+    let stays : P (x ∷ long) ≡ Err (Nesting (x ∷ long)) = stays_anywhere p r x others (λ z. Nesting z) (λ more z. z) e long in
+    settled_later levels x level w.others w.value shallow (sym (read_start p x level w) ∙ stays)
 
 -- ---- the two readers
 
@@ -97,10 +97,10 @@ takes_some levels {room} {A} most {L} {level} {first} P shape p ts fits a rest e
     by w = let v = shape.fronts w.stretch a w.spelled in omega (arith, ap length w.is, length-tokens w.stretch rest, ap length v.is)
 
 -- both readers find that a token nests too deep, or neither does
-abbrev Agree : {A : Type 0} → ℕ → Reader A → Reader A → Placed → Type 0
-Agree most P Q t =
-    ((others : List Placed) → length (t ∷ others) ≤ most → (P (t ∷ others) ≡ Err (Nesting (t ∷ others))) × (Q (t ∷ others) ≡ Err (Nesting (t ∷ others))))
-    ⊎ ((others : List Placed) → length (t ∷ others) ≤ most → (P (t ∷ others) ≡ Err (Nesting (t ∷ others)) → ⊥) × (Q (t ∷ others) ≡ Err (Nesting (t ∷ others)) → ⊥))
+abbrev Agree : {A : Type 0} → Reader A → Reader A → Placed → Type 0
+Agree P Q t =
+    ((others : List Placed) → (P (t ∷ others) ≡ Err (Nesting (t ∷ others))) × (Q (t ∷ others) ≡ Err (Nesting (t ∷ others))))
+    ⊎ ((others : List Placed) → (P (t ∷ others) ≡ Err (Nesting (t ∷ others)) → ⊥) × (Q (t ∷ others) ≡ Err (Nesting (t ∷ others)) → ⊥))
 
 abbrev by_two : {A : Type 0} → Kinds → Kinds → Reader A → Reader A → Reader A
 by_two f g P Q ts = either (two f g ts) P Q ts
@@ -126,7 +126,7 @@ stands_two {A} most R S t ts x rest answer chosen w first = by w.front w.is w.st
 local_chosen : {A : Type 0} (most : ℕ) (R S : Reader A) (t : Placed) (ts : List Placed) → length (t ∷ ts) ≤ most
     → ((u : Placed) (us : List Placed) → ts ≡ u ∷ us → (others : List Placed) → R (t ∷ u ∷ others) ≡ S (t ∷ u ∷ others))
     → TakesSome most S → (ts ≡ [] → (a : A) → S (t ∷ ts) ≡ Ok (a, []) → ⊥) → (S (t ∷ ts) ≡ Err (Unexpected (t ∷ ts)) → ⊥)
-    → (S (t ∷ ts) ≡ Err (Nesting (t ∷ ts)) → (others : List Placed) → length (t ∷ others) ≤ most → R (t ∷ others) ≡ Err (Nesting (t ∷ others)))
+    → (S (t ∷ ts) ≡ Err (Nesting (t ∷ ts)) → (others : List Placed) → R (t ∷ others) ≡ Err (Nesting (t ∷ others)))
     → (answer : Answer A) → S (t ∷ ts) ≡ answer → Local most S (t ∷ ts) answer → Local most R (t ∷ ts) answer
 local_chosen {A} most R S t ts fits chosen takes alone welcomes deep answer e w = by answer e w
   where
@@ -153,7 +153,7 @@ local_chosen {A} most R S t ts fits chosen takes alone welcomes deep answer e w 
         (λ none.
         let same = same_as x rest v.front v.is none in
         let past : S (t ∷ ts) ≡ Err (Nesting (t ∷ ts)) = rw (same.0, same.1) (rw (same.0, same.1) at e) in
-        record { front = []; is = rw (same.0, same.1) refl; stays = λ others h. rw (← same.0) (deep past others h) })
+        record { front = []; is = rw (same.0, same.1) refl; stays = λ others h. rw (← same.0) (deep past others) })
 
 by_two-choice : {A : Type 0} (f g : Kinds) (P Q : Reader A) (t u : Placed) (b : Bool) → IsTrue (f t.kind) → g u.kind ≡ b → (ts : List Placed)
     → by_two f g P Q (t ∷ u ∷ ts) ≡ either b P Q (t ∷ u ∷ ts)
@@ -176,7 +176,7 @@ by_two-deep {A} f g P Q t ts e = by (two f g (t ∷ ts))
 
 two_local : {A : Type 0} (most : ℕ) (f g : Kinds) (P Q : Reader A) → IsLocal most P → IsLocal most Q → TakesSome most P → TakesSome most Q
     → IsWelcome most f P → IsWelcome most f Q → ((t : Placed) → IsTrue (f t.kind) → (a : A) → Q (t ∷ []) ≡ Ok (a, []) → length (t ∷ []) ≤ most → ⊥)
-    → ((t : Placed) → IsTrue (f t.kind) → Agree most P Q t) → IsLocal most (by_two f g P Q)
+    → ((t : Placed) → IsTrue (f t.kind) → Agree P Q t) → IsLocal most (by_two f g P Q)
 two_local {A} most f g P Q p q takes_p takes_q welcomes_p welcomes_q alone agree [] fits = by (Q []) refl (q [] fits)
   where
     by : (answer : Answer A) → Q [] ≡ answer → Local most Q [] answer → Local most (by_two f g P Q) [] answer
@@ -192,11 +192,11 @@ two_local {A} most f g P Q p q takes_p takes_q welcomes_p welcomes_q alone agree
     R = by_two f g P Q
 
     -- what one reader finds too deep both do
-    deep_p : IsTrue (f t.kind) → P (t ∷ ts) ≡ Err (Nesting (t ∷ ts)) → (others : List Placed) → length (t ∷ others) ≤ most → R (t ∷ others) ≡ Err (Nesting (t ∷ others))
-    deep_p h e others small = elim (agree t h) [ inl w ↦ by_two-deep f g P Q t others (w others small) | inr w ↦ absurd ((w ts fits).0 e) ]
+    deep_p : IsTrue (f t.kind) → P (t ∷ ts) ≡ Err (Nesting (t ∷ ts)) → (others : List Placed) → R (t ∷ others) ≡ Err (Nesting (t ∷ others))
+    deep_p h e others = elim (agree t h) [ inl w ↦ by_two-deep f g P Q t others (w others) | inr w ↦ absurd ((w ts).0 e) ]
 
-    deep_q : IsTrue (f t.kind) → Q (t ∷ ts) ≡ Err (Nesting (t ∷ ts)) → (others : List Placed) → length (t ∷ others) ≤ most → R (t ∷ others) ≡ Err (Nesting (t ∷ others))
-    deep_q h e others small = elim (agree t h) [ inl w ↦ by_two-deep f g P Q t others (w others small) | inr w ↦ absurd ((w ts fits).1 e) ]
+    deep_q : IsTrue (f t.kind) → Q (t ∷ ts) ≡ Err (Nesting (t ∷ ts)) → (others : List Placed) → R (t ∷ others) ≡ Err (Nesting (t ∷ others))
+    deep_q h e others = elim (agree t h) [ inl w ↦ by_two-deep f g P Q t others (w others) | inr w ↦ absurd ((w ts).1 e) ]
 
     by_second : IsTrue (f t.kind) → (us : List Placed) → ts ≡ us → Local most R (t ∷ ts) (R (t ∷ ts))
     by_second h [] e =
@@ -221,53 +221,56 @@ two_local {A} most f g P Q p q takes_p takes_q welcomes_p welcomes_q alone agree
 
 -- ---- one or the other
 
-agree_by : {levels : ℕ} {room : Type 0} {A : Type 0} {L M : Language A} {P Q : ℕ → Reader A} {a b : Kinds} → Exact levels L P a room → Exact levels M Q b room → room
-    → (t : Placed) (n : ℕ) → StartsAt L n t → StartsAt M n t → (most : ℕ) → Agree most (P most) (Q most) t
-agree_by {levels} p q r t n v w most =
+-- one language or another, by a test of the tokens, if the answers rest on the tokens up to the one that they name
+pub exact_test : {levels : ℕ} {room : Type 0} {A : Type 0} {L M : Language A} {P Q : Reader A} {f g : Kinds} (test : List Placed → Bool)
+    → Exact levels L P f room → Exact levels M Q g room
+    → ((s : Stretch) (a : A) (rest : List Placed) → L s a → IsTrue (test (tokens_of s ++ rest)))
+    → ((s : Stretch) (a : A) (rest : List Placed) → M s a → test (tokens_of s ++ rest) ≡ false)
+    → (room → (most : ℕ) → IsLocal most (λ ts. either (test ts) P Q ts))
+    → Exact levels (L or M) (λ ts. either (test ts) P Q ts) (f ∪ g) room
+exact_test {levels} {room} {A} {L} {M} {P} {Q} {f} {g} test p q chooses clears local = record {
+  exact = λ most. record {
+    sound = λ r ts fits. sound most r ts fits (test ts);
+    complete = complete most;
+    local = λ r. local r most;
+  };
+}
+  where
+    sound : (most : ℕ) → room → (ts : List Placed) → length ts ≤ most → (b : Bool) → Sound levels (L or M) ts (either b P Q ts)
+    sound most r ts fits true = sound_more levels L (L or M) (λ s a l. inl l) ts (P ts) ((p.exact most).sound r ts fits)
+    sound most r ts fits false = sound_more levels M (L or M) (λ s a m. inr m) ts (Q ts) ((q.exact most).sound r ts fits)
+
+    complete : (most : ℕ) → IsComplete levels most (L or M) (λ ts. either (test ts) P Q ts) (f ∪ g)
+    complete most s a rest (inl l) fits ends = rw (chooses s a rest l) ((p.exact most).complete s a rest l fits (next-within f (f ∪ g) (within_left f g) rest ends))
+    complete most s a rest (inr m) fits ends = rw (clears s a rest m) ((q.exact most).complete s a rest m fits (next-within g (f ∪ g) (within_right f g) rest ends))
+
+agree_by : {levels : ℕ} {room : Type 0} {A : Type 0} {L M : Language A} {P Q : Reader A} {a b : Kinds} → Exact levels L P a room → Exact levels M Q b room → room
+    → (t : Placed) (n : ℕ) → StartsAt L n t → StartsAt M n t → Agree P Q t
+agree_by {levels} p q r t n v w =
     elim (cases_lt levels n) [
-      | inl past ↦ inl (λ others h. (nests p r t n v past most others h, nests q r t n w past most others h))
-      | inr shallow ↦ inr (λ others h. (not_nests p r t n v shallow most others h, not_nests q r t n w shallow most others h))
+      | inl past ↦ inl (λ others. (nests p r t n v past others, nests q r t n w past others))
+      | inr shallow ↦ inr (λ others. (not_nests p r t n v shallow others, not_nests q r t n w shallow others))
     ]
 
 -- the two tokens tell the stretches of two languages apart, and where the first alone doesn't, both nest it alike
-pub exact_two : {levels : ℕ} {room : Type 0} {A : Type 0} {L M : Language A} {P Q : ℕ → Reader A} {level lower : ℕ} {first second a b : Kinds} (f g : Kinds) (k : TokenKind) → IsTrue (g k)
+pub exact_two : {levels : ℕ} {room : Type 0} {A : Type 0} {L M : Language A} {P Q : Reader A} {level lower : ℕ} {first second a b : Kinds} (f g : Kinds) (k : TokenKind) → IsTrue (g k)
     → Exact levels L P a room → Exact levels M Q b room → Shape L level first room → Shape M lower second room → Within f first → Within f second
     → ((s : Stretch) (v : A) (rest : List Placed) → L s v → IsTrue (two f g (tokens_of s ++ rest)))
     → ((s : Stretch) (v : A) (rest : List Placed) → M s v → two f g (tokens_of s ++ rest) ≡ false)
     → (n : ℕ) → (room → (t : Placed) → IsTrue (f t.kind) → StartsAt L n t × StartsAt M n t)
-    → Exact levels (L or M) (λ most. by_two f g (P most) (Q most)) (a ∪ b) room
-exact_two {levels} {room} {A} {L} {M} {P} {Q} {level} {lower} {first} {second} {a} {b} f g k has p q shape other in_first in_second chooses clears n starts = record {
-  exact = λ most. record {
-    sound = λ r ts fits. sound most r ts fits (two f g ts);
-    complete = complete most;
-    local = λ r. two_local most f g (P most) (Q most) ((p.exact most).local r) ((q.exact most).local r)
-        (takes_some levels most (P most) shape ((p.exact most).sound r)) (takes_some levels most (Q most) other ((q.exact most).sound r))
-        (λ x others h. welcome shape p r most x others (in_first x.kind h)) (λ x others h. welcome other q r most x others (in_second x.kind h))
-        (λ t h v e fits. alone most r t h v (subst (λ answer. Sound levels M (t ∷ []) answer) e ((q.exact most).sound r (t ∷ []) fits)))
-        (λ t h. agree_by p q r t n (starts r t h).0 (starts r t h).1 most);
-  };
-  same = λ r most more above ts fits. same r most more above ts fits (two f g ts);
-}
+    → Exact levels (L or M) (by_two f g P Q) (a ∪ b) room
+exact_two {levels} {room} {A} {L} {M} {P} {Q} f g k has p q shape other in_first in_second chooses clears n starts =
+    exact_test (two f g) p q chooses clears (λ r most.
+    two_local most f g P Q ((p.exact most).local r) ((q.exact most).local r)
+    (takes_some levels most P shape ((p.exact most).sound r)) (takes_some levels most Q other ((q.exact most).sound r))
+    (λ x others h. welcome shape p r most x others (in_first x.kind h)) (λ x others h. welcome other q r most x others (in_second x.kind h))
+    (λ t h v e fits. alone r t h v (subst (λ answer. Sound levels M (t ∷ []) answer) e ((q.exact most).sound r (t ∷ []) fits)))
+    (λ t h. agree_by p q r t n (starts r t h).0 (starts r t h).1))
   where
-    sound : (most : ℕ) → room → (ts : List Placed) → length ts ≤ most → (choice : Bool) → Sound levels (L or M) ts (either choice (P most) (Q most) ts)
-    sound most r ts fits true = sound_more levels L (L or M) (λ s v l. inl l) ts (P most ts) ((p.exact most).sound r ts fits)
-    sound most r ts fits false = sound_more levels M (L or M) (λ s v m. inr m) ts (Q most ts) ((q.exact most).sound r ts fits)
-
-    complete : (most : ℕ) → IsComplete levels most (L or M) (by_two f g (P most) (Q most)) (a ∪ b)
-    complete most s v rest (inl l) fits ends =
-        rw (chooses s v rest l) ((p.exact most).complete s v rest l fits (next-within a (a ∪ b) (within_left a b) rest ends))
-    complete most s v rest (inr m) fits ends =
-        rw (clears s v rest m) ((q.exact most).complete s v rest m fits (next-within b (a ∪ b) (within_right a b) rest ends))
-
-    alone : (most : ℕ) → room → (t : Placed) → IsTrue (f t.kind) → (v : A) → SoundValue levels M (t ∷ []) v [] → ⊥
-    alone most r t h v w =
+    alone : room → (t : Placed) → IsTrue (f t.kind) → (v : A) → SoundValue levels M (t ∷ []) v [] → ⊥
+    alone r t h v w =
         let tokens : tokens_of w.stretch ≡ t ∷ [] = sym (append-nil (tokens_of w.stretch)) ∙ sym w.is in
         let clear : two f g (tokens_of w.stretch ++ some_token k ∷ []) ≡ false = clears w.stretch v (some_token k ∷ []) w.spelled in
         let there : (f t.kind && g k) ≡ false = rw tokens at clear in
         let both : false ≡ true = rw (h, has) at (sym there) in
         absurd (cc)
-
-    same : room → (most more : ℕ) → most ≤ more → (ts : List Placed) → length ts ≤ most → (choice : Bool)
-        → either choice (P more) (Q more) ts ≡ either choice (P most) (Q most) ts
-    same r most more above ts fits true = p.same r most more above ts fits
-    same r most more above ts fits false = q.same r most more above ts fits

@@ -32,8 +32,8 @@ abbrev pub Measure : Type 0 → Type 0
 Measure A = A → ℕ → ℕ
 
 -- each number counts for a value at most as often as it is the index of a token of its stretch
-abbrev pub Held : {A : Type 0} → Language A → Measure A → Type 0
-Held {A} L u = (s : Stretch) (a : A) → L s a → (k : ℕ) → u a k ≤ times k (places s)
+pub record Held {A : Type 0} (L : Language A) (u : Measure A) : Type 0 where
+  pub holds : (s : Stretch) (a : A) → L s a → (k : ℕ) → u a k ≤ times k (places s)
 
 -- nothing counts
 abbrev pub uncounted : {A : Type 0} → Measure A
@@ -57,44 +57,61 @@ abbrev pub if_some : {A : Type 0} → Measure A → Measure (Option A)
 if_some u None k = 0
 if_some u (Some a) k = u a k
 
-pub held_uncounted : {A : Type 0} (L : Language A) → Held L (λ a. uncounted a)
-held_uncounted L s a l k = omega arith
+pub held_uncounted : {A : Type 0} {L : Language A} → Held L (λ a. uncounted a)
+held_uncounted = record { holds = λ s a l k. omega arith }
 
 pub held_token : (level : ℕ) (is : TokenKind) → Held (token level is) by_place
-held_token level is s t l k = rw (l.0) (omega arith)
+held_token level is = record { holds = λ s t l k. rw (l.0) (omega arith) }
 
 pub held_telling : {A : Type 0} (level : ℕ) (told : TokenKind → Option A) → Held (telling level told) (λ x. by_first x)
-held_telling level told s x l k = rw (l.0) (omega arith)
+held_telling level told = record { holds = λ s x l k. rw (l.0) (omega arith) }
 
-pub held_then : {A B : Type 0} (L : Language A) (M : Language B) (u : Measure A) (v : Measure B) → Held L u → Held M v → Held (L then M) (both u v)
-held_then L M u v h g s x l k =
-    let e = times-places k l.0 l.1 in
-    let a = h l.0 x.0 l.3 k in
-    let b = g l.1 x.1 l.4 k in
-    rw (l.2) (omega (arith, e, a, b))
+infixr 40 ◌beside◌
+pub ◌beside◌ : {A B : Type 0} {L : Language A} {M : Language B} {u : Measure A} {v : Measure B} → Held L u → Held M v → Held (L then M) (both u v)
+h beside g = record {
+  holds = λ s x l k.
+      let e = times-places k l.0 l.1 in
+      let a = h.holds l.0 x.0 l.3 k in
+      let b = g.holds l.1 x.1 l.4 k in
+      rw (l.2) (omega (arith, e, a, b));
+}
 
-pub held_or : {A : Type 0} (L M : Language A) (u : Measure A) → Held L u → Held M u → Held (L or M) u
-held_or L M u h g s a (inl x) k = h s a x k
-held_or L M u h g s a (inr x) k = g s a x k
+pub held_or : {A : Type 0} {L M : Language A} {u : Measure A} → Held L u → Held M u → Held (L or M) u
+held_or {A} {L} {M} {u} h g = record { holds = holds }
+  where
+    holds : (s : Stretch) (a : A) → (L or M) s a → (k : ℕ) → u a k ≤ times k (places s)
+    holds s a (inl l) = h.holds s a l
+    holds s a (inr m) = g.holds s a m
 
-pub held_making : {A B : Type 0} (f : A → B) (L : Language A) (u : Measure A) (v : Measure B) → Held L u
-    → ((a : A) (k : ℕ) → v (f a) k ≤ u a k) → Held (making f L) v
-held_making f L u v h g s b l k =
-    let a = h s l.0 l.1 k in
-    let c = g l.0 k in
-    rw (l.2) (omega (arith, a, c))
+pub held_making : {A B : Type 0} (f : A → B) {L : Language A} {u : Measure A} {v : Measure B} → Held L u → ((a : A) (k : ℕ) → v (f a) k ≤ u a k) → Held (making f L) v
+held_making f h g = record {
+  holds = λ s b l k.
+      let a = h.holds s l.0 l.1 k in
+      let c = g l.0 k in
+      rw (l.2) (omega (arith, a, c));
+}
 
-pub held_many : {A : Type 0} (L : Language A) (u : Measure A) → Held L u → Held (many L) (each u)
-held_many L u h s [] l k = omega arith
-held_many L u h s (x ∷ xs) l k =
-    let e = times-places k l.0 l.1 in
-    let a = h l.0 x l.3 k in
-    let b = held_many L u h l.1 xs l.4 k in
-    rw (l.2) (omega (arith, e, a, b))
+pub held_many : {A : Type 0} {L : Language A} {u : Measure A} → Held L u → Held (many L) (each u)
+held_many {A} {L} {u} h = record { holds = holds }
+  where
+    holds : (s : Stretch) (list : List A) → many L s list → (k : ℕ) → each u list k ≤ times k (places s)
+    holds s [] l k = omega arith
+    holds s (x ∷ xs) l k =
+        let e = times-places k l.0 l.1 in
+        let a = h.holds l.0 x l.3 k in
+        let b = holds l.1 xs l.4 k in
+        rw (l.2) (omega (arith, e, a, b))
 
-pub held_maybe : {A : Type 0} (L : Language A) (u : Measure A) → Held L u → Held (maybe L) (if_some u)
-held_maybe L u h s None l k = omega arith
-held_maybe L u h s (Some a) l k = h s a l k
+pub held_maybe : {A : Type 0} {L : Language A} {u : Measure A} → Held L u → Held (maybe L) (if_some u)
+held_maybe {A} {L} {u} h = record { holds = holds }
+  where
+    holds : (s : Stretch) (o : Option A) → maybe L s o → (k : ℕ) → if_some u o k ≤ times k (places s)
+    holds s None l k = omega arith
+    holds s (Some a) l k = h.holds s a l k
 
 pub held_nothing : {A : Type 0} (u : Measure A) → Held (nothing {A = A}) u
-held_nothing u s a l k = absurd l
+held_nothing u = record { holds = λ s a l. absurd l }
+
+-- what counts less is held too
+pub held_less : {A : Type 0} {L : Language A} {u : Measure A} (v : Measure A) → ((a : A) (k : ℕ) → v a k ≤ u a k) → Held L u → Held L v
+held_less v less h = record { holds = λ s a l k. let x = less a k in let y = h.holds s a l k in omega (arith, x, y) }

@@ -1,5 +1,5 @@
 -- Tokens of the code as those of the definitions.
-use Rattle.std.specs.Prelude.{ℕ, ◌^◌, ◌<◌, ◌≤◌, length, List, [], ◌∷◌, Option, Some, None, Bool, false, ◌&&◌}
+use Rattle.std.specs.Prelude.{◌^◌, ◌<◌, ◌≤◌, length, List, [], ◌∷◌, Option, Some, None, Bool, false, ◌&&◌}
 use Rattle.fk_lex.specs.declared.token.TokenKind.{TokenKind}
 use Rattle.fk_lex.specs.View.{spelled}
 use Rattle.fk_reading.specs.declared.cursor.Numbered.{Numbered}
@@ -9,10 +9,6 @@ use Rattle.fk_reading.specs.Kinds.{just}
 
 abbrev pub seen : Numbered → Placed
 seen token = placed token.at (spelled token.token)
-
--- more than the tokens of any text: a bound on repetitions
-unfoldable pub plenty : ℕ
-plenty = 2 ^ 32
 
 -- of fewer tokens than 2^32 at least one was read
 abbrev pub Shortens : List Placed → List Placed → Type 0

@@ -1,5 +1,5 @@
 -- Readers of tokens, and how they are put together. The contracts of private functions say by them what is read.
-use Rattle.std.specs.Prelude.{ℕ, zero, suc, List, [], ◌∷◌, Option, Some, None, Bool, true, false, Ok, Err}
+use Rattle.std.specs.Prelude.{ℕ, zero, suc, List, [], ◌∷◌, Option, Some, None, Bool, true, false, Ok, Err, length}
 use Rattle.fk_lex.specs.declared.token.TokenKind.{TokenKind}
 use Rattle.fk_reading.specs.Languages.{Placed}
 use Rattle.fk_reading.specs.Reads.{Unexpected, EndOfText, Nesting, Answer}
@@ -73,11 +73,15 @@ by_next is P Q ts = either (next_is is ts) P Q ts
 abbrev pub optional : {A : Type 0} → (TokenKind → Bool) → Reader A → Reader (Option A)
 optional is P = by_next is (giving Some P) (λ ts. Ok (None, ts))
 
--- as many as come, at most so many
-abbrev pub repeated : {A : Type 0} → ℕ → (TokenKind → Bool) → Reader A → Reader (List A)
-repeated zero is P ts = Ok ([], ts)
-repeated (suc most) is P ts =
-    by_next is (giving (λ x. x.0 ∷ x.1) (P and repeated most is P)) (λ rest. Ok ([], rest)) ts
+-- at most so many, as long as they come
+abbrev pub repeated_within : {A : Type 0} → ℕ → (TokenKind → Bool) → Reader A → Reader (List A)
+repeated_within zero is P ts = Ok ([], ts)
+repeated_within (suc most) is P ts =
+    by_next is (giving (λ (first, others). first ∷ others) (P and repeated_within most is P)) (λ rest. Ok ([], rest)) ts
+
+-- as many as come: there are no more than tokens, since each has one
+unfoldable pub repeated : {A : Type 0} → (TokenKind → Bool) → Reader A → Reader (List A)
+repeated is P ts = repeated_within (length ts) is P ts
 
 -- ---- levels
 

@@ -9,9 +9,13 @@ ghost use Rattle.std.specs.Prelude.{
   [],
   ◌∷◌,
   Err,
+  Ok,
   drop,
   length,
   map,
+  is_some,
+  IfSome,
+  IfNone,
   IfOk,
   IfErr,
 };
@@ -24,6 +28,7 @@ ghost use Rattle.fk_reading.specs.Readers.{next_is, expect, unexpected};
 ghost use Rattle.fk_reading.specs.Ahead.{
   seen,
   Shortens,
+  Leaves,
   next_kind,
   second_kind,
   pair_is,
@@ -195,6 +200,23 @@ impl<'t, 'a> Cursor<'t, 'a> {
         match self.rest {
             [token, ..] => SyntaxFault::Nesting(token.place),
             [] => SyntaxFault::EndOfText,
+        }
+    }
+
+    /// Reads the next token where it is of this kind.
+    pub fn accept(&mut self, kind: TokenKind) -> Option<Numbered<'a>>
+        ensures next { next_is (just kind) self.old ≡ is_some result }
+        ensures read { IfSome result (λ token. expect kind self.old ≡ Ok (seen token, self.new)) }
+        ensures shorter { IfSome result (λ _. Shortens self.old self.new) }
+        ensures same { IfNone result (self.new ≡ self.old) }
+        ensures few { Leaves self.old self.new }
+    {
+        if !self.next_is(kind) {
+            return None;
+        }
+        match self.next() {
+            Ok(token) => Some(token),
+            Err(_) => None,
         }
     }
 

@@ -10,13 +10,13 @@ use Rattle.fk_reading.specs.Readers.{Reader, after, giving, ◌and◌, next_is, 
 use Rattle.fk_reading.proofs.Sets.{Kinds, none, ◌∪◌, none_apart, within_itself}
 use Rattle.fk_reading.proofs.Exact.{Fronts, Starts, Shape, Sound, SoundValue, IsComplete, Exact}
 use Rattle.fk_reading.proofs.Shapes.{shape_then}
-use Rattle.fk_reading.proofs.Then.{Leaves, spends_any, leaves_by, then_sound_second, then_complete, then_local, then_same, exact_then_loose}
+use Rattle.fk_reading.proofs.Then.{Leaves, spends_any, leaves_by, then_sound_second, then_complete, then_local, exact_then_loose}
 use Rattle.fk_reading.proofs.Many.{empty, stay, exact_maybe}
 use Rattle.fk_reading.proofs.Or.{Includes, sound_more, by_next-yes, by_next-no}
 use Rattle.fk_reading.proofs.Productions.{IsRead, reads_token}
 use Rattle.fk_stmt.specs.Statements.{accepted, is_closed, condition, if_statement}
 use Rattle.fk_stmt.proofs.Closing.{Ends, IsClosing, ok_parts, closing_making, closing_then, closing_same, ends_then}
-use Rattle.fk_stmt.proofs.Parameters.{reads_nothing, next_none}
+use Rattle.fk_declarations.proofs.Parameters.{reads_nothing, next_none}
 use Rattle.fk_reading.specs.Kinds.{just}
 
 -- "else" stmt
@@ -33,9 +33,9 @@ last None = false
 last (Some s) = is_closed s
 
 -- it is closed where the statement is
-closing_otherwise : {levels : ℕ} {room : Type 0} {S : Language Statement} {P : ℕ → Reader Statement} {lower : ℕ} {first : Kinds} (l : ℕ) → l ≤ levels
+closing_otherwise : {levels : ℕ} {room : Type 0} {S : Language Statement} {P : Reader Statement} {lower : ℕ} {first : Kinds} (l : ℕ) → l ≤ levels
     → IsClosing levels S is_closed P lower first room
-    → IsClosing levels (otherwise l S) last (λ most. giving Some (giving (λ x. x.1) (expect kind.Else and P most))) l (just kind.Else) room
+    → IsClosing levels (otherwise l S) last (giving Some (giving (λ x. x.1) (expect kind.Else and P))) l (just kind.Else) room
 closing_otherwise {first = first} l h w =
     closing_making Some (λ a. refl) (closing_making (λ x. x.1) {closed = is_closed} (λ a. refl) (closing_then (reads_token l kind.Else h) w (none_apart first)))
 
@@ -50,7 +50,7 @@ abbrev read_else : Reader Statement → Reader (Option Statement)
 read_else P = giving Some (giving (λ x. x.1) (expect kind.Else and P))
 
 -- they begin as statements do
-shape_branches : {levels : ℕ} {room : Type 0} {S : Language Statement} {P : ℕ → Reader Statement} {lower : ℕ} {first : Kinds} (l : ℕ) → l ≤ levels
+shape_branches : {levels : ℕ} {room : Type 0} {S : Language Statement} {P : Reader Statement} {lower : ℕ} {first : Kinds} (l : ℕ) → l ≤ levels
     → IsClosing levels S is_closed P lower first room → Shape (branches l S) lower first room
 shape_branches {room} {S} {P} {lower} {first} l h w = record { fronts = fronts; starts = starts; example = λ r. let x = alone.example r in record { stretch = x.stretch; value = x.value; spelled = inl x.spelled } }
   where
@@ -77,107 +77,105 @@ some_read : (P : Reader Statement) (ts : List Placed) → IsTrue (next_is (just 
 some_read P ts e = by_next-yes (just kind.Else) (read_else P) (stay None) ts e
 
 -- what is answered is so: a statement before an `else` is closed
-sound_branches : {levels : ℕ} {room : Type 0} {S : Language Statement} {P : ℕ → Reader Statement} {lower : ℕ} {first : Kinds} (l : ℕ) → l ≤ levels
+sound_branches : {levels : ℕ} {room : Type 0} {S : Language Statement} {P : Reader Statement} {lower : ℕ} {first : Kinds} (l : ℕ) → l ≤ levels
     → IsClosing levels S is_closed P lower first room → room → (most : ℕ) (ts : List Placed) → length ts ≤ most
-    → Sound levels (branches l S) ts ((P most and read_otherwise (P most)) ts)
-sound_branches {levels} {room} {S} {P} {lower} {first} l h w r most ts fits = by (P most ts) refl (sound ts fits)
+    → Sound levels (branches l S) ts ((P and read_otherwise P) ts)
+sound_branches {levels} {room} {S} {P} {lower} {first} l h w r most ts fits = by (P ts) refl (sound ts fits)
   where
-    sound : (us : List Placed) → length us ≤ most → Sound levels S us (P most us)
+    sound : (us : List Placed) → length us ≤ most → Sound levels S us (P us)
     sound = (w.exact.exact most).sound r
 
-    alone : Sound levels (S then empty {A = Option Statement} None) ts ((P most and stay None) ts)
+    alone : Sound levels (S then empty {A = Option Statement} None) ts ((P and stay None) ts)
     alone = ((exact_then_loose w.exact (reads_nothing None lower).exact (reads_nothing {levels = levels} {room = room} None lower).shape (λ k i j. cc)).exact most).sound r ts fits
 
     -- what stands behind a statement
-    behind : (a : Statement) (rest : List Placed) → P most ts ≡ Ok (a, rest) → SoundValue levels S ts a rest → (b : Bool) → next_is (just kind.Else) rest ≡ b
-        → Sound levels (branches l S) ts (after (read_otherwise (P most) rest) (λ o others. Ok ((a, o), others)))
-    behind a rest e v false k = rw (none_read (P most) rest k) (record {
+    behind : (a : Statement) (rest : List Placed) → P ts ≡ Ok (a, rest) → SoundValue levels S ts a rest → (b : Bool) → next_is (just kind.Else) rest ≡ b
+        → Sound levels (branches l S) ts (after (read_otherwise P rest) (λ o others. Ok ((a, o), others)))
+    behind a rest e v false k = rw (none_read P rest k) (record {
       stretch = v.stretch ++ [];
       is = rw (append-nil v.stretch) v.is;
       spelled = inl (v.stretch, [], refl, v.spelled, (refl, refl));
       shallow = rw (append-nil v.stretch) v.shallow;
     })
     behind a rest e v true k =
-        let closed : IsTrue (is_closed a) = w.ends r most ts a rest e k in
-        let less : length rest ≤ most = leaves_by levels most most S (P most) (spends_any S most) sound ts fits a rest e in
-        rw (some_read (P most) rest k)
-        (sound_more levels (accepted is_closed S then otherwise l S) (branches l S) (λ s x m. inr m) ts (after (read_else (P most) rest) (λ o others. Ok ((a, o), others)))
+        let closed : IsTrue (is_closed a) = w.ends r ts a rest e k in
+        let less : length rest ≤ most = leaves_by levels most most S P (spends_any S most) sound ts fits a rest e in
+        rw (some_read P rest k)
+        (sound_more levels (accepted is_closed S then otherwise l S) (branches l S) (λ s x m. inr m) ts (after (read_else P rest) (λ o others. Ok ((a, o), others)))
         (then_sound_second levels (accepted is_closed S) (otherwise l S) ts rest a
         (record { stretch = v.stretch; is = v.is; spelled = (v.spelled, closed); shallow = v.shallow })
-        (read_else (P most) rest) (((closing_otherwise l h w).exact.exact most).sound r rest less)))
+        (read_else P rest) (((closing_otherwise l h w).exact.exact most).sound r rest less)))
 
-    by : (answer : Answer Statement) → P most ts ≡ answer → Sound levels S ts answer
-        → Sound levels (branches l S) ts (after answer (λ a rest. after (read_otherwise (P most) rest) (λ o others. Ok ((a, o), others))))
+    by : (answer : Answer Statement) → P ts ≡ answer → Sound levels S ts answer
+        → Sound levels (branches l S) ts (after answer (λ a rest. after (read_otherwise P rest) (λ o others. Ok ((a, o), others))))
     by (Ok (a, rest)) e v = behind a rest e v (next_is (just kind.Else) rest) refl
     by (Err stop) e v = sound_more levels (S then empty {A = Option Statement} None) (branches l S) (λ s x m. inl m) ts (Err stop) (rw e at alone)
 
 -- each stretch is read where no `else` comes behind it
-complete_branches : {levels : ℕ} {room : Type 0} {S : Language Statement} {P : ℕ → Reader Statement} {lower : ℕ} {first : Kinds} (l : ℕ) → l ≤ levels
-    → IsClosing levels S is_closed P lower first room → (most : ℕ) → IsComplete levels most (branches l S) (P most and read_otherwise (P most)) (just kind.Else)
+complete_branches : {levels : ℕ} {room : Type 0} {S : Language Statement} {P : Reader Statement} {lower : ℕ} {first : Kinds} (l : ℕ) → l ≤ levels
+    → IsClosing levels S is_closed P lower first room → (most : ℕ) → IsComplete levels most (branches l S) (P and read_otherwise P) (just kind.Else)
 complete_branches {levels} {room} {S} {P} l h w most s x rest (inl m) fits ends =
-    then_complete levels most most S (empty None) (P most) (read_otherwise (P most)) (just kind.Else) (just kind.Else) (just kind.Else) (w.exact.exact most).complete
-    (λ s o rest e fits ends. rw (e.0, e.1) (none_read (P most) rest ends))
+    then_complete levels most most S (empty None) P (read_otherwise P) (just kind.Else) (just kind.Else) (just kind.Else) (w.exact.exact most).complete
+    (λ s o rest e fits ends. rw (e.0, e.1) (none_read P rest ends))
     (spends_any S most) (λ s o rest e ends. rw e.0 ends) (within_itself (just kind.Else)) s x rest m fits ends
 complete_branches {levels} {room} {S} {P} l h w most s x rest (inr m) fits ends =
     let o = closing_otherwise l h w in
-    then_complete levels most most (accepted is_closed S) (otherwise l S) (P most) (read_otherwise (P most)) none (just kind.Else) (just kind.Else) (w.firm most)
+    then_complete levels most most (accepted is_closed S) (otherwise l S) P (read_otherwise P) none (just kind.Else) (just kind.Else) (w.firm most)
     (λ s v rest e fits ends.
     let front : Fronts (just kind.Else) l s = o.shape.fronts s v e in
-    some_read (P most) (tokens_of s ++ rest) (rw front.is front.kind) ∙ (o.exact.exact most).complete s v rest e fits ends)
+    some_read P (tokens_of s ++ rest) (rw front.is front.kind) ∙ (o.exact.exact most).complete s v rest e fits ends)
     (spends_any (accepted is_closed S) most) (λ s v rest e ends. next_none (tokens_of s ++ rest)) (within_itself (just kind.Else)) s x rest m fits ends
 
 -- and whatever comes where what stands last is closed
-firm_branches : {levels : ℕ} {room : Type 0} {S : Language Statement} {P : ℕ → Reader Statement} {lower : ℕ} {first : Kinds} (l : ℕ) → l ≤ levels
-    → IsClosing levels S is_closed P lower first room → (most : ℕ) → IsComplete levels most (accepted (λ x. last x.1) (branches l S)) (P most and read_otherwise (P most)) none
+firm_branches : {levels : ℕ} {room : Type 0} {S : Language Statement} {P : Reader Statement} {lower : ℕ} {first : Kinds} (l : ℕ) → l ≤ levels
+    → IsClosing levels S is_closed P lower first room → (most : ℕ) → IsComplete levels most (accepted (λ x. last x.1) (branches l S)) (P and read_otherwise P) none
 firm_branches {levels} l h w most s x rest (inl m, k) fits ends = let open_end : IsTrue (last None) = rw m.4.1 at k in absurd (cc)
 firm_branches {levels} {room} {S} {P} l h w most s x rest (inr m, k) fits ends =
     let o = closing_otherwise l h w in
-    then_complete levels most most (accepted is_closed S) (accepted last (otherwise l S)) (P most) (read_otherwise (P most)) none none none (w.firm most)
+    then_complete levels most most (accepted is_closed S) (accepted last (otherwise l S)) P (read_otherwise P) none none none (w.firm most)
     (λ s v rest e fits ends.
     let front : Fronts (just kind.Else) l s = o.shape.fronts s v e.0 in
-    some_read (P most) (tokens_of s ++ rest) (rw front.is front.kind) ∙ o.firm most s v rest e fits ends)
+    some_read P (tokens_of s ++ rest) (rw front.is front.kind) ∙ o.firm most s v rest e fits ends)
     (spends_any (accepted is_closed S) most) (λ s v rest e ends. next_none (tokens_of s ++ rest)) (within_itself none)
     s x rest (m.0, m.1, m.2, m.3, (m.4, k)) fits ends
 
 -- what is left before an `else` has one of its own
-ends_otherwise : {levels : ℕ} {room : Type 0} {S : Language Statement} {P : ℕ → Reader Statement} {lower : ℕ} {first : Kinds} (l : ℕ) → l ≤ levels
-    → IsClosing levels S is_closed P lower first room → room → (most : ℕ) → Ends last (read_otherwise (P most))
-ends_otherwise {P = P} l h w r most ts o rest e k = by (next_is (just kind.Else) ts) refl e
+ends_otherwise : {levels : ℕ} {room : Type 0} {S : Language Statement} {P : Reader Statement} {lower : ℕ} {first : Kinds} (l : ℕ) → l ≤ levels
+    → IsClosing levels S is_closed P lower first room → room → Ends last (read_otherwise P)
+ends_otherwise {P = P} l h w r ts o rest e k = by (next_is (just kind.Else) ts) refl e
   where
-    by : (b : Bool) → next_is (just kind.Else) ts ≡ b → either b (read_else (P most)) (stay None) ts ≡ Ok (o, rest) → IsTrue (last o)
-    by true d e = (closing_otherwise l h w).ends r most ts o rest e k
+    by : (b : Bool) → next_is (just kind.Else) ts ≡ b → either b (read_else P) (stay None) ts ≡ Ok (o, rest) → IsTrue (last o)
+    by true d e = (closing_otherwise l h w).ends r ts o rest e k
     by false d e =
         let parts = ok_parts None o ts rest e in
         let still : next_is (just kind.Else) ts ≡ true = rw (← parts.1) at k in
         absurd (cc)
 
 -- a statement with or without an `else` is read exactly
-pub closing_branches : {levels : ℕ} {room : Type 0} {S : Language Statement} {P : ℕ → Reader Statement} {lower : ℕ} {first : Kinds} (l : ℕ) → l ≤ levels
+pub closing_branches : {levels : ℕ} {room : Type 0} {S : Language Statement} {P : Reader Statement} {lower : ℕ} {first : Kinds} (l : ℕ) → l ≤ levels
     → IsClosing levels S is_closed P lower first room
-    → IsClosing levels (branches l S) (λ x. last x.1) (λ most. P most and read_otherwise (P most)) lower first room
+    → IsClosing levels (branches l S) (λ x. last x.1) (P and read_otherwise P) lower first room
 closing_branches {levels} {room} {S} {P} {lower} {first} l h w = record {
   shape = shape_branches l h w;
   exact = record {
     exact = λ most. record {
       sound = λ r. sound_branches l h w r most;
       complete = complete_branches l h w most;
-      local = λ r. then_local most most (P most) (read_otherwise (P most)) ((w.exact.exact most).local r) ((tail.exact most).local r) (leaves r most);
+      local = λ r. then_local most most P (read_otherwise P) ((w.exact.exact most).local r) ((tail.exact most).local r) (leaves r most);
     };
-    same = λ r most more above. then_same most most (P most) (P more) (read_otherwise (P most)) (read_otherwise (P more))
-        (w.exact.same r most more above) (tail.same r most more above) (leaves r most);
   };
   firm = firm_branches l h w;
-  ends = λ r most. ends_then last (P most) (read_otherwise (P most)) (ends_otherwise l h w r most);
+  ends = λ r. ends_then last P (read_otherwise P) (ends_otherwise l h w r);
 }
   where
-    one : IsClosing levels (making (λ x. x.1) (token l kind.Else then S)) is_closed (λ most. giving (λ x. x.1) (expect kind.Else and P most)) l (just kind.Else) room
+    one : IsClosing levels (making (λ x. x.1) (token l kind.Else then S)) is_closed (giving (λ x. x.1) (expect kind.Else and P)) l (just kind.Else) room
     one = closing_making (λ x. x.1) (λ a. refl) (closing_then (reads_token l kind.Else h) w (none_apart first))
 
-    tail : Exact levels (maybe (making (λ x. x.1) (token l kind.Else then S))) (λ most. read_otherwise (P most)) (just kind.Else ∪ just kind.Else) room
+    tail : Exact levels (maybe (making (λ x. x.1) (token l kind.Else then S))) (read_otherwise P) (just kind.Else ∪ just kind.Else) room
     tail = exact_maybe one.exact one.shape
 
-    leaves : room → (most : ℕ) → Leaves most (P most) most
-    leaves r most = leaves_by levels most most S (P most) (spends_any S most) ((w.exact.exact most).sound r)
+    leaves : room → (most : ℕ) → Leaves most P most
+    leaves r most = leaves_by levels most most S P (spends_any S most) ((w.exact.exact most).sound r)
 
 -- ---- "if" "(" comma ")" stmt [ "else" stmt ]
 
@@ -217,9 +215,9 @@ branch_closed at c s None = refl
 branch_closed at c s (Some t) = refl
 
 -- it is read exactly, if its condition and its statements are
-pub closing_if : {levels : ℕ} {room : Type 0} (bound l : ℕ) (S : ℕ → Language Statement) {P : ℕ → Reader Statement} {C : ℕ → Reader Tree} {first : Kinds} → l ≤ levels
+pub closing_if : {levels : ℕ} {room : Type 0} (bound l : ℕ) (S : ℕ → Language Statement) {P : Reader Statement} {C : Reader Tree} {first : Kinds} → l ≤ levels
     → IsRead levels (condition bound l) C l (just kind.OpenParenthesis) none room → IsClosing levels (S (l + 1)) is_closed P (l + 1) first room
-    → IsClosing levels (if_statement bound S l) is_closed (λ most. giving chosen_by (expect kind.If and C most and P most and read_otherwise (P most))) l (just kind.If) room
+    → IsClosing levels (if_statement bound S l) is_closed (giving chosen_by (expect kind.If and C and P and read_otherwise P)) l (just kind.If) room
 closing_if bound l S {first = first} h c w =
     closing_same (if_statement bound S l) (if_there bound S l) (if_back bound S l)
     (closing_making chosen_by (λ x. branch_closed (spot x.0) x.1.0 x.1.1.0 x.1.1.1)

@@ -11,9 +11,9 @@ use Rattle.fk_reading.proofs.Shapes.{shape_kinds, shape_room, shape_nothing, sha
 use Rattle.fk_reading.proofs.Then.{spends_any, follows_shape, then_complete, exact_making, exact_then, exact_wider, exact_room}
 use Rattle.fk_reading.proofs.Or.{Includes, exact_same, by_next-yes, by_next-no, exact_or_by}
 use Rattle.fk_reading.proofs.Opened.{exact_too_deep, exact_expected}
-use Rattle.fk_reading.proofs.Productions.{IsRead, IsLooselyRead}
+use Rattle.fk_reading.proofs.Productions.{IsRead, IsLooselyRead, exact_nothing}
 use Rattle.fk_stmt.specs.Statements.{accepted}
-use Rattle.fk_stmt.proofs.Alike.{shape_same}
+use Rattle.fk_declarations.proofs.Alike.{shape_same}
 use Rattle.fk_reading.specs.Kinds.{just}
 use Rattle.fk_lex.specs.declared.token.TokenKind.TheVariants as kind
 
@@ -22,20 +22,20 @@ abbrev pub Ends : {A : Type 0} → (A → Bool) → Reader A → Type 0
 Ends {A} closed P = (ts : List Placed) (a : A) (rest : List Placed) → P ts ≡ Ok (a, rest) → IsTrue (next_is (just kind.Else) rest) → IsTrue (closed a)
 
 -- a language is read exactly where no `else` comes behind it, and its closed values whatever comes
-pub record IsClosing (levels : ℕ) {A : Type 0} (L : Language A) (closed : A → Bool) (P : ℕ → Reader A) (level : ℕ) (first : Kinds) (room : Type 0) : Type 0 where
+pub record IsClosing (levels : ℕ) {A : Type 0} (L : Language A) (closed : A → Bool) (P : Reader A) (level : ℕ) (first : Kinds) (room : Type 0) : Type 0 where
   pub shape : Shape L level first room
   pub exact : Exact levels L P (just kind.Else) room
-  pub firm : (most : ℕ) → IsComplete levels most (accepted closed L) (P most) none
-  pub ends : room → (most : ℕ) → Ends closed (P most)
+  pub firm : (most : ℕ) → IsComplete levels most (accepted closed L) P none
+  pub ends : room → Ends closed P
 
 -- a language all of whose values are closed
-pub closing_any : {levels : ℕ} {room : Type 0} {A : Type 0} {L : Language A} {P : ℕ → Reader A} {level : ℕ} {first : Kinds}
+pub closing_any : {levels : ℕ} {room : Type 0} {A : Type 0} {L : Language A} {P : Reader A} {level : ℕ} {first : Kinds}
     → IsRead levels L P level first none room → IsClosing levels L (λ a. true) P level first room
 closing_any w = record {
   shape = w.shape;
   exact = exact_wider (just kind.Else) (λ k h. cc) w.exact;
   firm = λ most s a rest l fits ends. (w.exact.exact most).complete s a rest l.0 fits ends;
-  ends = λ r most ts a rest e h. refl;
+  ends = λ r ts a rest e h. refl;
 }
 
 -- two answers that are one
@@ -64,13 +64,13 @@ firm_making levels f closed c same most L P p s b rest l fits ends =
     rw l.0.2 (settled_giving levels f s a rest (P (tokens_of s ++ rest)) (p s a rest (l.0.1, sym (same a) ∙ is) fits ends))
 
 -- what is made of a language is closed where its value is
-pub closing_making : {levels : ℕ} {room : Type 0} {A B : Type 0} (f : A → B) {closed : B → Bool} {c : A → Bool} {L : Language A} {P : ℕ → Reader A} {level : ℕ} {first : Kinds}
-    → ((a : A) → closed (f a) ≡ c a) → IsClosing levels L c P level first room → IsClosing levels (making f L) closed (λ most. giving f (P most)) level first room
+pub closing_making : {levels : ℕ} {room : Type 0} {A B : Type 0} (f : A → B) {closed : B → Bool} {c : A → Bool} {L : Language A} {P : Reader A} {level : ℕ} {first : Kinds}
+    → ((a : A) → closed (f a) ≡ c a) → IsClosing levels L c P level first room → IsClosing levels (making f L) closed (giving f P) level first room
 closing_making {levels} f {closed} {c} {L} {P} same w = record {
   shape = shape_making f w.shape;
   exact = exact_making f w.exact;
-  firm = λ most. firm_making levels f closed c same most L (P most) (w.firm most);
-  ends = λ r most. ends_making f closed c same (P most) (w.ends r most);
+  firm = λ most. firm_making levels f closed c same most L P (w.firm most);
+  ends = λ r. ends_making f closed c same P (w.ends r);
 }
 
 -- ---- one after another: the second is what may be open
@@ -100,25 +100,25 @@ firm_then levels c most L M P Q f p q shape apart s x rest l fits ends =
     s x rest (l.0.0, l.0.1, l.0.2, l.0.3, (l.0.4, l.1)) fits ends
 
 -- two languages are closed where the second is
-pub closing_then : {levels : ℕ} {room : Type 0} {A B : Type 0} {c : B → Bool} {L : Language A} {M : Language B} {P : ℕ → Reader A} {Q : ℕ → Reader B} {level lower : ℕ} {first second f : Kinds}
+pub closing_then : {levels : ℕ} {room : Type 0} {A B : Type 0} {c : B → Bool} {L : Language A} {M : Language B} {P : Reader A} {Q : Reader B} {level lower : ℕ} {first second f : Kinds}
     → IsRead levels L P level first f room → IsClosing levels M c Q lower second room → Apart f second
-    → IsClosing levels (L then M) (λ x. c x.1) (λ most. P most and Q most) level first room
+    → IsClosing levels (L then M) (λ x. c x.1) (P and Q) level first room
 closing_then {levels} {c} {L} {M} {P} {Q} {f} v w apart = record {
   shape = shape_then v.shape w.shape.example;
   exact = exact_then v.exact w.exact w.shape apart;
-  firm = λ most. firm_then levels c most L M (P most) (Q most) f (v.exact.exact most).complete (w.firm most) w.shape apart;
-  ends = λ r most. ends_then c (P most) (Q most) (w.ends r most);
+  firm = λ most. firm_then levels c most L M P Q f (v.exact.exact most).complete (w.firm most) w.shape apart;
+  ends = λ r. ends_then c P Q (w.ends r);
 }
 
 -- the first may be empty
-pub closing_loose_then : {levels : ℕ} {room : Type 0} {A B : Type 0} {c : B → Bool} {L : Language A} {M : Language B} {P : ℕ → Reader A} {Q : ℕ → Reader B} {level : ℕ} {first second f : Kinds}
+pub closing_loose_then : {levels : ℕ} {room : Type 0} {A B : Type 0} {c : B → Bool} {L : Language A} {M : Language B} {P : Reader A} {Q : Reader B} {level : ℕ} {first second f : Kinds}
     → IsLooselyRead levels L P level first f room → IsClosing levels M c Q level second room → Apart f second
-    → IsClosing levels (L then M) (λ x. c x.1) (λ most. P most and Q most) level (first ∪ second) room
+    → IsClosing levels (L then M) (λ x. c x.1) (P and Q) level (first ∪ second) room
 closing_loose_then {levels} {c} {L} {M} {P} {Q} {f} v w apart = record {
   shape = shape_loose_then v.shape w.shape;
   exact = exact_then v.exact w.exact w.shape apart;
-  firm = λ most. firm_then levels c most L M (P most) (Q most) f (v.exact.exact most).complete (w.firm most) w.shape apart;
-  ends = λ r most. ends_then c (P most) (Q most) (w.ends r most);
+  firm = λ most. firm_then levels c most L M P Q f (v.exact.exact most).complete (w.firm most) w.shape apart;
+  ends = λ r. ends_then c P Q (w.ends r);
 }
 
 -- ---- one or another
@@ -142,23 +142,23 @@ firm_or levels closed most L M level lower is second P Q p q shape other apart s
     by_next-no is P Q (tokens_of s ++ rest) (follows_shape is none other apart s a rest m ends) ∙ q s a rest (m, h) fits ends
 
 -- one language or another, told apart by the next token
-pub closing_or : {levels : ℕ} {room : Type 0} {A : Type 0} {closed : A → Bool} {L M : Language A} {P Q : ℕ → Reader A} {level : ℕ} {first second : Kinds}
+pub closing_or : {levels : ℕ} {room : Type 0} {A : Type 0} {closed : A → Bool} {L M : Language A} {P Q : Reader A} {level : ℕ} {first second : Kinds}
     → IsClosing levels L closed P level first room → IsClosing levels M closed Q level second room → Apart first second
-    → IsClosing levels (L or M) closed (λ most. by_next first (P most) (Q most)) level (first ∪ second) room
+    → IsClosing levels (L or M) closed (by_next first P Q) level (first ∪ second) room
 closing_or {levels} {closed} {L} {M} {P} {Q} {level} {first} {second} v w apart = record {
   shape = shape_or v.shape w.shape;
   exact = exact_or_by (just kind.Else) v.exact w.exact v.shape (follows_shape first (just kind.Else) w.shape apart) (within_itself (just kind.Else)) (within_itself (just kind.Else));
-  firm = λ most. firm_or levels closed most L M level level first second (P most) (Q most) (v.firm most) (w.firm most) v.shape w.shape apart;
-  ends = λ r most. ends_either closed first (P most) (Q most) (v.ends r most) (w.ends r most);
+  firm = λ most. firm_or levels closed most L M level level first second P Q (v.firm most) (w.firm most) v.shape w.shape apart;
+  ends = λ r. ends_either closed first P Q (v.ends r) (w.ends r);
 }
 
 -- two sets of the same first kinds
-pub closing_kinds : {levels : ℕ} {room : Type 0} {A : Type 0} {closed : A → Bool} {L : Language A} {P : ℕ → Reader A} {level : ℕ} {first : Kinds} (other : Kinds) → Within first other → Within other first
+pub closing_kinds : {levels : ℕ} {room : Type 0} {A : Type 0} {closed : A → Bool} {L : Language A} {P : Reader A} {level : ℕ} {first : Kinds} (other : Kinds) → Within first other → Within other first
     → IsClosing levels L closed P level first room → IsClosing levels L closed P level other room
 closing_kinds other there back w = record { shape = shape_kinds other there back w.shape; exact = w.exact; firm = w.firm; ends = w.ends }
 
 -- the same stretches
-pub closing_same : {levels : ℕ} {room : Type 0} {A : Type 0} {closed : A → Bool} {L : Language A} (M : Language A) {P : ℕ → Reader A} {level : ℕ} {first : Kinds} → Includes L M → Includes M L
+pub closing_same : {levels : ℕ} {room : Type 0} {A : Type 0} {closed : A → Bool} {L : Language A} (M : Language A) {P : Reader A} {level : ℕ} {first : Kinds} → Includes L M → Includes M L
     → IsClosing levels L closed P level first room → IsClosing levels M closed P level first room
 closing_same M includes included w = record {
   shape = shape_same M includes included w.shape;
@@ -168,25 +168,22 @@ closing_same M includes included w = record {
 }
 
 -- less room
-pub closing_room : {levels : ℕ} {small large : Type 0} {A : Type 0} {closed : A → Bool} {L : Language A} {P : ℕ → Reader A} {level : ℕ} {first : Kinds} → (small → large)
+pub closing_room : {levels : ℕ} {small large : Type 0} {A : Type 0} {closed : A → Bool} {L : Language A} {P : Reader A} {level : ℕ} {first : Kinds} → (small → large)
     → IsClosing levels L closed P level first large → IsClosing levels L closed P level first small
 closing_room enough w = record { shape = shape_room enough w.shape; exact = exact_room enough w.exact; firm = w.firm; ends = λ r. w.ends (enough r) }
 
 -- no stretch, where there is no room
-pub closing_nothing : {levels : ℕ} {room : Type 0} {A : Type 0} (closed : A → Bool) (P : ℕ → Reader A) (level : ℕ) (first : Kinds) → (room → ⊥)
+pub closing_nothing : {levels : ℕ} {room : Type 0} {A : Type 0} (closed : A → Bool) (P : Reader A) (level : ℕ) (first : Kinds) → (room → ⊥)
     → IsClosing levels nothing closed P level first room
 closing_nothing closed P level first no_room = record {
   shape = shape_nothing level first no_room;
-  exact = record {
-    exact = λ most. record { sound = λ r. absurd (no_room r); complete = λ s a rest l fits ends. absurd l; local = λ r. absurd (no_room r) };
-    same = λ r. absurd (no_room r);
-  };
+  exact = exact_nothing no_room;
   firm = λ most s a rest l fits ends. absurd l.0;
   ends = λ r. absurd (no_room r);
 }
 
 -- as a language that something goes on with
-pub read_of : {levels : ℕ} {room : Type 0} {A : Type 0} {closed : A → Bool} {L : Language A} {P : ℕ → Reader A} {level : ℕ} {first : Kinds}
+pub read_of : {levels : ℕ} {room : Type 0} {A : Type 0} {closed : A → Bool} {L : Language A} {P : Reader A} {level : ℕ} {first : Kinds}
     → IsClosing levels L closed P level first room → IsRead levels L P level first (just kind.Else) room
 read_of w = record { shape = w.shape; exact = w.exact }
 
@@ -194,12 +191,12 @@ read_of w = record { shape = w.shape; exact = w.exact }
 
 -- where no level is left
 pub closing_bottom : {levels : ℕ} {room : Type 0} {A : Type 0} (closed : A → Bool) {L : Language A} {level : ℕ} {first : Kinds} → levels < level → Shape L level first room
-    → IsClosing levels L closed (λ most. opened {R = Reader A} first None (λ P. P)) level first room
+    → IsClosing levels L closed (opened {R = Reader A} first None (λ P. P)) level first room
 closing_bottom {room} {A} closed {L} {level} {first} past shape = record {
   shape = shape;
   exact = exact_too_deep (just kind.Else) past shape;
   firm = λ most s a rest l fits ends. ((exact_too_deep none past shape).exact most).complete s a rest l.0 fits ends;
-  ends = λ r most ts a rest e h. by ts (next_is first ts) e;
+  ends = λ r ts a rest e h. by ts (next_is first ts) e;
 }
   where
     by : (ts : List Placed) (b : Bool) {a : A} {rest : List Placed} {C : Type 0} → either b (λ others. Err (Nesting others)) unexpected ts ≡ Ok (a, rest) → C
@@ -208,15 +205,15 @@ closing_bottom {room} {A} closed {L} {level} {first} past shape = record {
     by (t ∷ ts) false e = absurd (cc)
 
 -- where one is left
-pub closing_deeper : {levels : ℕ} {room : Type 0} {A : Type 0} {closed : A → Bool} {L : Language A} {P : ℕ → Reader A} {level : ℕ} {first : Kinds}
-    → IsClosing levels L closed P level first room → IsClosing levels L closed (λ most. opened first (Some (P most)) (λ P. P)) level first room
+pub closing_deeper : {levels : ℕ} {room : Type 0} {A : Type 0} {closed : A → Bool} {L : Language A} {P : Reader A} {level : ℕ} {first : Kinds}
+    → IsClosing levels L closed P level first room → IsClosing levels L closed (opened first (Some P) (λ P. P)) level first room
 closing_deeper {room} {A} {closed} {L} {P} {level} {first} w = record {
   shape = w.shape;
   exact = exact_expected w.exact w.shape;
   firm = λ most s a rest l fits ends.
       let front : Fronts first level s = w.shape.fronts s a l.0 in
-      by_next-yes first (P most) unexpected (tokens_of s ++ rest) (rw front.is front.kind) ∙ w.firm most s a rest l fits ends;
-  ends = λ r most. ends_either closed first (P most) unexpected (w.ends r most) not_read;
+      by_next-yes first P unexpected (tokens_of s ++ rest) (rw front.is front.kind) ∙ w.firm most s a rest l fits ends;
+  ends = λ r. ends_either closed first P unexpected (w.ends r) not_read;
 }
   where
     not_read : Ends closed (unexpected {A = A})

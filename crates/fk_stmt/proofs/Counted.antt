@@ -6,14 +6,14 @@ use Rattle.fk_syntax.specs.Program.{Statement, Start}
 use Rattle.fk_lex.specs.declared.token.TokenKind.{TokenKind}
 use Rattle.fk_lex.specs.declared.token.TokenKind.TheVariants as kind
 use Rattle.fk_reading.specs.Languages.{Placed, Stretch, tokens_of, Language, token, ◌then◌, ◌or◌, making, maybe, spot}
-use Rattle.fk_reading.specs.Reads.{Unexpected, EndOfText, Nesting, Answer}
+use Rattle.fk_reading.specs.Reads.{Answer}
 use Rattle.fk_reading.specs.Readers.{Reader, after, giving, ◌and◌, next_is, expect, optional}
 use Rattle.fk_reading.proofs.SameKind.{just_same, just_other}
 use Rattle.fk_reading.proofs.Sets.{Kinds, none, ◌∪◌, none_apart}
 use Rattle.fk_reading.proofs.Exact.{Fronts, Starts, Example, Goes, Shape, Sound, IsSound, IsComplete, Exact, settled}
-use Rattle.fk_reading.proofs.Stretches.{tokens_regroup, shallow-nil, settled_then}
+use Rattle.fk_reading.proofs.Stretches.{shallow-nil, settled_then}
 use Rattle.fk_reading.proofs.Token.{example_goes}
-use Rattle.fk_reading.proofs.Then.{spends_any, leaves_by, then_sound_second, then_local, then_same, Leaves}
+use Rattle.fk_reading.proofs.Then.{stop_more, spends_any, leaves_by, then_sound_second, then_local, Leaves}
 use Rattle.fk_reading.proofs.Many.{empty, stay, exact_maybe}
 use Rattle.fk_reading.proofs.Or.{Includes, sound_more, by_next-yes, by_next-no}
 use Rattle.fk_reading.proofs.Productions.{IsRead, reads_token, reads_making}
@@ -38,19 +38,7 @@ goes_past k L (m ∷ s) rest x e g = record { more = g.more; value = g.value; sp
 sound_past : (levels : ℕ) {A : Type 0} (k : TokenKind) (L : Language A) (ts : List Placed) (answer : Answer A) → Example (not_before k L) → next_is (just k) ts ≡ false
     → Sound levels L ts answer → Sound levels (not_before k L) ts answer
 sound_past levels k L ts (Ok (a, rest)) x e w = record { stretch = w.stretch; is = w.is; spelled = (w.spelled, front_next k w.stretch rest (rw w.is at e)); shallow = w.shallow }
-sound_past levels k L ts (Err (Unexpected rest)) x e w =
-    (record { stretch = w.0.stretch; is = w.0.is; goes = goes_past k L w.0.stretch rest x (rw w.0.is at e) w.0.goes; shallow = w.0.shallow }, w.1)
-sound_past levels k L ts (Err EndOfText) x e w = record { stretch = w.stretch; is = w.is; goes = goes_past k L w.stretch [] x (rw w.is at e) w.goes; shallow = w.shallow }
-sound_past levels k L ts (Err (Nesting rest)) x e w = record {
-  stretch = w.stretch;
-  deep = w.deep;
-  others = w.others;
-  is = w.is;
-  next = w.next;
-  goes = goes_past k L (w.stretch ++ w.deep ∷ []) w.others x (rw (tokens_regroup w.stretch (w.deep ∷ []) w.others, ← w.next) (rw w.is at e)) w.goes;
-  shallow = w.shallow;
-  past = w.past;
-}
+sound_past levels k L ts (Err stop) x e w = stop_more levels (not_before k L) L ts (λ s rest is g. goes_past k L s rest x (rw is at e) g) stop w
 
 -- ---- how it is read
 
@@ -71,13 +59,13 @@ some_counted : (C : Reader Tree) (ts : List Placed) → IsTrue (next_is (just ki
 some_counted C ts e = by_next-yes (just kind.OpenParenthesis) (giving Some C) (stay None) ts e
 
 -- a count, and a statement
-closing_some : {levels : ℕ} {room : Type 0} {C : Language Tree} {S : Language Statement} {PC : ℕ → Reader Tree} {P : ℕ → Reader Statement} {l lower : ℕ} {first : Kinds}
+closing_some : {levels : ℕ} {room : Type 0} {C : Language Tree} {S : Language Statement} {PC : Reader Tree} {P : Reader Statement} {l lower : ℕ} {first : Kinds}
     → IsRead levels C PC l (just kind.OpenParenthesis) none room → IsClosing levels S is_closed P lower first room
-    → IsClosing levels (making Some C then S) (λ x. is_closed x.1) (λ most. giving Some (PC most) and P most) l (just kind.OpenParenthesis) room
+    → IsClosing levels (making Some C then S) (λ x. is_closed x.1) (giving Some PC and P) l (just kind.OpenParenthesis) room
 closing_some {first = first} c w = closing_then (reads_making Some c) w (none_apart first)
 
 -- a token that begins a count or a statement begins both
-starts_counted : {levels : ℕ} {room : Type 0} {C : Language Tree} {S : Language Statement} {PC : ℕ → Reader Tree} {P : ℕ → Reader Statement} {l lower : ℕ} {first : Kinds} → l ≤ lower
+starts_counted : {levels : ℕ} {room : Type 0} {C : Language Tree} {S : Language Statement} {PC : Reader Tree} {P : Reader Statement} {l lower : ℕ} {first : Kinds} → l ≤ lower
     → IsRead levels C PC l (just kind.OpenParenthesis) none room → IsClosing levels S is_closed P lower first room
     → room → (t : Placed) → IsTrue ((just kind.OpenParenthesis ∪ first) t.kind) → Starts (counted C S) l t
 starts_counted {C = C} {S = S} {l = l} {lower = lower} {first = first} below c w r t h = by (just kind.OpenParenthesis t.kind) refl h
@@ -95,7 +83,7 @@ starts_counted {C = C} {S = S} {l = l} {lower = lower} {first = first} below c w
         }
 
 -- it begins with a count or a statement
-shape_counted : {levels : ℕ} {room : Type 0} {C : Language Tree} {S : Language Statement} {PC : ℕ → Reader Tree} {P : ℕ → Reader Statement} {l lower : ℕ} {first : Kinds} → l ≤ lower
+shape_counted : {levels : ℕ} {room : Type 0} {C : Language Tree} {S : Language Statement} {PC : Reader Tree} {P : Reader Statement} {l lower : ℕ} {first : Kinds} → l ≤ lower
     → IsRead levels C PC l (just kind.OpenParenthesis) none room → IsClosing levels S is_closed P lower first room → Shape (counted C S) l (just kind.OpenParenthesis ∪ first) room
 shape_counted {room} {C} {S} {l = l} {lower = lower} {first = first} below c w = record {
   fronts = fronts;
@@ -110,21 +98,21 @@ shape_counted {room} {C} {S} {l = l} {lower = lower} {first = first} below c w =
         record { front = v.front; others = v.others; is = rw (m.2, m.3.0) v.is; kind = or_right (just kind.OpenParenthesis v.front.token.kind) (first v.front.token.kind) v.kind; deep = le_trans below v.deep }
 
 -- what is answered is so
-sound_counted : {levels : ℕ} {room : Type 0} {C : Language Tree} {S : Language Statement} {PC : ℕ → Reader Tree} {P : ℕ → Reader Statement} {l lower : ℕ} {first : Kinds}
+sound_counted : {levels : ℕ} {room : Type 0} {C : Language Tree} {S : Language Statement} {PC : Reader Tree} {P : Reader Statement} {l lower : ℕ} {first : Kinds}
     → IsRead levels C PC l (just kind.OpenParenthesis) none room → IsClosing levels S is_closed P lower first room → (room → Example (not_before kind.OpenParenthesis S))
-    → room → (most : ℕ) → IsSound levels most (counted C S) (read_count (PC most) and P most)
+    → room → (most : ℕ) → IsSound levels most (counted C S) (read_count PC and P)
 sound_counted {levels} {C = C} {S = S} {PC = PC} {P = P} c w x r most ts fits = by (next_is (just kind.OpenParenthesis) ts) refl
   where
     past : Language Statement
     past = not_before kind.OpenParenthesis S
 
-    by : (b : Bool) → next_is (just kind.OpenParenthesis) ts ≡ b → Sound levels (counted C S) ts ((read_count (PC most) and P most) ts)
-    by true e = rw (some_counted (PC most) ts e)
-        (sound_more levels (making Some C then S) (counted C S) (λ s v m. inl m) ts ((giving Some (PC most) and P most) ts) (((closing_some c w).exact.exact most).sound r ts fits))
-    by false e = rw (none_counted (PC most) ts e)
-        (sound_more levels (empty None then past) (counted C S) (λ s v m. inr m) ts (after (P most ts) (λ b others. Ok ((None, b), others)))
+    by : (b : Bool) → next_is (just kind.OpenParenthesis) ts ≡ b → Sound levels (counted C S) ts ((read_count PC and P) ts)
+    by true e = rw (some_counted PC ts e)
+        (sound_more levels (making Some C then S) (counted C S) (λ s v m. inl m) ts ((giving Some PC and P) ts) (((closing_some c w).exact.exact most).sound r ts fits))
+    by false e = rw (none_counted PC ts e)
+        (sound_more levels (empty None then past) (counted C S) (λ s v m. inr m) ts (after (P ts) (λ b others. Ok ((None, b), others)))
         (then_sound_second levels (empty None) past ts ts None (record { stretch = []; is = refl; spelled = (refl, refl); shallow = shallow-nil levels })
-        (P most ts) (sound_past levels kind.OpenParenthesis S ts (P most ts) (x r) e ((w.exact.exact most).sound r ts fits))))
+        (P ts) (sound_past levels kind.OpenParenthesis S ts (P ts) (x r) e ((w.exact.exact most).sound r ts fits))))
 
 -- what is read where a parenthesis comes next, and where none does
 counted_yes : (C : Reader Tree) (P : Reader Statement) (ts : List Placed) → IsTrue (next_is (just kind.OpenParenthesis) ts)
@@ -143,54 +131,52 @@ past_read : (levels : ℕ) (C : Reader Tree) (P : Reader Statement) (s back : St
 past_read levels C P s back o a rest same d e read = rw (same, d, none_counted C (tokens_of back ++ rest) e) (settled_then levels [] back None a rest P read)
 
 -- each stretch is read where no `else` comes behind it
-complete_counted : {levels : ℕ} {room : Type 0} {C : Language Tree} {S : Language Statement} {PC : ℕ → Reader Tree} {P : ℕ → Reader Statement} {l lower : ℕ} {first : Kinds}
-    → IsRead levels C PC l (just kind.OpenParenthesis) none room → IsClosing levels S is_closed P lower first room → (most : ℕ) → IsComplete levels most (counted C S) (read_count (PC most) and P most) (just kind.Else)
+complete_counted : {levels : ℕ} {room : Type 0} {C : Language Tree} {S : Language Statement} {PC : Reader Tree} {P : Reader Statement} {l lower : ℕ} {first : Kinds}
+    → IsRead levels C PC l (just kind.OpenParenthesis) none room → IsClosing levels S is_closed P lower first room → (most : ℕ) → IsComplete levels most (counted C S) (read_count PC and P) (just kind.Else)
 complete_counted {levels} {PC = PC} {P = P} {l = l} c w most s x rest (inl m) fits ends =
     let one = closing_some c w in
     let front : Fronts (just kind.OpenParenthesis) l s = one.shape.fronts s x m in
-    counted_yes (PC most) (P most) (tokens_of s ++ rest) (rw front.is front.kind) ∙ (one.exact.exact most).complete s x rest m fits ends
+    counted_yes PC P (tokens_of s ++ rest) (rw front.is front.kind) ∙ (one.exact.exact most).complete s x rest m fits ends
 complete_counted {levels} {PC = PC} {P = P} c w most s x rest (inr m) fits ends =
     let same : s ≡ m.1 = m.2 ∙ ap (λ z. z ++ m.1) m.3.0 in
-    past_read levels (PC most) (P most) s m.1 x.0 x.1 rest same m.3.1 (past_front m.1 rest (w.shape.fronts m.1 x.1 m.4.0) m.4.1)
+    past_read levels PC P s m.1 x.0 x.1 rest same m.3.1 (past_front m.1 rest (w.shape.fronts m.1 x.1 m.4.0) m.4.1)
     ((w.exact.exact most).complete m.1 x.1 rest m.4.0 (rw same at fits) ends)
 
 -- and whatever comes where the statement is closed
-firm_counted : {levels : ℕ} {room : Type 0} {C : Language Tree} {S : Language Statement} {PC : ℕ → Reader Tree} {P : ℕ → Reader Statement} {l lower : ℕ} {first : Kinds}
+firm_counted : {levels : ℕ} {room : Type 0} {C : Language Tree} {S : Language Statement} {PC : Reader Tree} {P : Reader Statement} {l lower : ℕ} {first : Kinds}
     → IsRead levels C PC l (just kind.OpenParenthesis) none room → IsClosing levels S is_closed P lower first room → (most : ℕ)
-    → IsComplete levels most (accepted (λ x. is_closed x.1) (counted C S)) (read_count (PC most) and P most) none
+    → IsComplete levels most (accepted (λ x. is_closed x.1) (counted C S)) (read_count PC and P) none
 firm_counted {levels} {PC = PC} {P = P} {l = l} c w most s x rest (inl m, k) fits ends =
     let one = closing_some c w in
     let front : Fronts (just kind.OpenParenthesis) l s = one.shape.fronts s x m in
-    counted_yes (PC most) (P most) (tokens_of s ++ rest) (rw front.is front.kind) ∙ one.firm most s x rest (m, k) fits ends
+    counted_yes PC P (tokens_of s ++ rest) (rw front.is front.kind) ∙ one.firm most s x rest (m, k) fits ends
 firm_counted {levels} {PC = PC} {P = P} c w most s x rest (inr m, k) fits ends =
     let same : s ≡ m.1 = m.2 ∙ ap (λ z. z ++ m.1) m.3.0 in
-    past_read levels (PC most) (P most) s m.1 x.0 x.1 rest same m.3.1 (past_front m.1 rest (w.shape.fronts m.1 x.1 m.4.0) m.4.1)
+    past_read levels PC P s m.1 x.0 x.1 rest same m.3.1 (past_front m.1 rest (w.shape.fronts m.1 x.1 m.4.0) m.4.1)
     (w.firm most m.1 x.1 rest (m.4.0, k) (rw same at fits) ends)
 
 -- a statement with or without a count is read exactly
-pub closing_counted : {levels : ℕ} {room : Type 0} {C : Language Tree} {S : Language Statement} {PC : ℕ → Reader Tree} {P : ℕ → Reader Statement} {l lower : ℕ} {first : Kinds} → l ≤ lower
+pub closing_counted : {levels : ℕ} {room : Type 0} {C : Language Tree} {S : Language Statement} {PC : Reader Tree} {P : Reader Statement} {l lower : ℕ} {first : Kinds} → l ≤ lower
     → IsRead levels C PC l (just kind.OpenParenthesis) none room → IsClosing levels S is_closed P lower first room → (room → Example (not_before kind.OpenParenthesis S))
-    → IsClosing levels (counted C S) (λ x. is_closed x.1) (λ most. read_count (PC most) and P most) l (just kind.OpenParenthesis ∪ first) room
+    → IsClosing levels (counted C S) (λ x. is_closed x.1) (read_count PC and P) l (just kind.OpenParenthesis ∪ first) room
 closing_counted {levels} {room} {C} {S} {PC} {P} below c w x = record {
   shape = shape_counted below c w;
   exact = record {
     exact = λ most. record {
       sound = λ r. sound_counted c w x r most;
       complete = complete_counted c w most;
-      local = λ r. then_local most most (read_count (PC most)) (P most) ((count.exact most).local r) ((w.exact.exact most).local r) (leaves r most);
+      local = λ r. then_local most most (read_count PC) P ((count.exact most).local r) ((w.exact.exact most).local r) (leaves r most);
     };
-    same = λ r most more above. then_same most most (read_count (PC most)) (read_count (PC more)) (P most) (P more)
-        (count.same r most more above) (w.exact.same r most more above) (leaves r most);
   };
   firm = firm_counted c w;
-  ends = λ r most. ends_then is_closed (read_count (PC most)) (P most) (w.ends r most);
+  ends = λ r. ends_then is_closed (read_count PC) P (w.ends r);
 }
   where
-    count : Exact levels (maybe C) (λ most. read_count (PC most)) (none ∪ just kind.OpenParenthesis) room
+    count : Exact levels (maybe C) (read_count PC) (none ∪ just kind.OpenParenthesis) room
     count = exact_maybe c.exact c.shape
 
-    leaves : room → (most : ℕ) → Leaves most (read_count (PC most)) most
-    leaves r most = leaves_by levels most most (maybe C) (read_count (PC most)) (spends_any (maybe C) most) ((count.exact most).sound r)
+    leaves : room → (most : ℕ) → Leaves most (read_count PC) most
+    leaves r most = leaves_by levels most most (maybe C) (read_count PC) (spends_any (maybe C) most) ((count.exact most).sound r)
 
 -- ---- "start" [ "(" comma ")" ] stmt
 
@@ -218,9 +204,9 @@ start_back bound S l s a (inr (x, m, e)) =
     ((x.0, (None, x.1)), (m.0, m.1, m.2, m.3, inr ([], m.1, refl, (refl, refl), m.4)), e)
 
 -- it is read exactly, if its count and its statement are
-pub closing_start : {levels : ℕ} {room : Type 0} (bound l : ℕ) (S : ℕ → Language Statement) {P : ℕ → Reader Statement} {C : ℕ → Reader Tree} {first : Kinds} → l ≤ levels
+pub closing_start : {levels : ℕ} {room : Type 0} (bound l : ℕ) (S : ℕ → Language Statement) {P : Reader Statement} {C : Reader Tree} {first : Kinds} → l ≤ levels
     → IsRead levels (condition bound l) C l (just kind.OpenParenthesis) none room → IsClosing levels (S (l + 1)) is_closed P (l + 1) first room → (room → Example (not_before kind.OpenParenthesis (S (l + 1))))
-    → IsClosing levels (start_statement bound S l) is_closed (λ most. giving started (expect kind.Start and read_count (C most) and P most)) l (just kind.Start) room
+    → IsClosing levels (start_statement bound S l) is_closed (giving started (expect kind.Start and read_count C and P)) l (just kind.Start) room
 closing_start bound l S {first = first} h c w x =
     closing_same (start_statement bound S l) (start_there bound S l) (start_back bound S l)
     (closing_making started (λ x. refl)

@@ -7,14 +7,16 @@ use Rattle.fk_reading.specs.Languages.{Placed, spot}
 use Rattle.fk_reading.specs.Reads.{Answer}
 use Rattle.fk_reading.specs.Kinds.{just}
 use Rattle.fk_reading.specs.Readers.{Reader, after, giving, ◌and◌, expect, next_is, either, by_next, unexpected}
-use Rattle.fk_reading.specs.Ahead.{plenty}
 use Rattle.fk_reading.proofs.Sets.{Kinds, ◌∪◌, Apart}
 use Rattle.fk_reading.proofs.EachKind.{apart_by}
 use Rattle.fk_reading.proofs.Or.{by_next-yes, by_next-no}
 use Rattle.fk_expr.specs.Reading.{inner}
-use Rattle.fk_stmt.specs.Reading.{begins_parameter, begins_statement, statements_with, read_while, read_for, read_start, read_fork, read_statement}
-use Rattle.fk_stmt.specs.Parts.{read_nested, read_worded}
-use Rattle.fk_stmt.specs.Headers.{Header, OfFarm, OfSeq, headed, begins_header, read_while_header, read_for_header, read_start_header, read_fork_header, read_headed, read_any}
+use Rattle.fk_declarations.specs.Reading.{begins_parameter}
+use Rattle.fk_stmt.specs.Reading.{begins_statement, statements_with, read_while, read_for, read_start, read_fork, read_statement}
+use Rattle.fk_stmt.specs.Parts.{read_nested}
+use Rattle.fk_declarations.specs.Parts.{read_worded}
+use Rattle.fk_declarations.specs.Headers.{Header, OfFarm, OfSeq, headed, begins_header, read_while_header, read_for_header, read_start_header, read_fork_header}
+use Rattle.fk_stmt.specs.Parts.{read_headed, read_any}
 
 -- ---- a header is read as a whole
 
@@ -42,15 +44,15 @@ ruleset steps = (after_is, bind_bind, bind_done)
 abbrev whole : ℕ → Reader Header → Reader Statement
 whole left P = giving (λ (header, body). headed header body) (P and read_nested left)
 
-while_is : (left : ℕ) (ts : List Placed) → read_while plenty (inner plenty left) (statements_with plenty left) ts ≡ whole left (read_while_header left) ts
+while_is : (left : ℕ) (ts : List Placed) → read_while (inner left) (statements_with left) ts ≡ whole left (read_while_header left) ts
 unfolding read_while
 while_is left ts = simp steps
 
-for_is : (left : ℕ) (ts : List Placed) → read_for plenty (inner plenty left) (statements_with plenty left) ts ≡ whole left (read_for_header left) ts
+for_is : (left : ℕ) (ts : List Placed) → read_for (inner left) (statements_with left) ts ≡ whole left (read_for_header left) ts
 unfolding read_for
 for_is left ts = simp steps
 
-start_is : (left : ℕ) (ts : List Placed) → read_start plenty (inner plenty left) (statements_with plenty left) ts ≡ whole left (read_start_header left) ts
+start_is : (left : ℕ) (ts : List Placed) → read_start (inner left) (statements_with left) ts ≡ whole left (read_start_header left) ts
 unfolding read_start
 start_is left ts = simp steps
 
@@ -60,7 +62,7 @@ farm_is left ts = simp steps
 seq_is : (left : ℕ) (ts : List Placed) → giving (λ (word, inside). Seq (spot word) inside) (expect kind.Seq and read_nested left) ts ≡ whole left (giving (λ t. OfSeq (spot t)) (expect kind.Seq)) ts
 seq_is left ts = simp steps
 
-fork_is : (left : ℕ) (ts : List Placed) → read_fork plenty (inner plenty left) (statements_with plenty left) ts ≡ whole left (read_fork_header left) ts
+fork_is : (left : ℕ) (ts : List Placed) → read_fork (inner left) (statements_with left) ts ≡ whole left (read_fork_header left) ts
 unfolding read_fork
 fork_is left ts = simp steps
 
@@ -159,7 +161,7 @@ parameter_apart_header = apart_by begins_parameter begins_header refl (λ v u. r
 
 -- those that begin with a header, from the last on
 abbrev with_fork : ℕ → Reader Statement → Reader Statement
-with_fork left R = by_next (just kind.Fork) (read_fork plenty (inner plenty left) (statements_with plenty left)) R
+with_fork left R = by_next (just kind.Fork) (read_fork (inner left) (statements_with left)) R
 
 abbrev seq_header : Reader Header
 seq_header = giving (λ t. OfSeq (spot t)) (expect kind.Seq)
@@ -174,7 +176,7 @@ seq_on : (left : ℕ) (R : Reader Statement) (ts : List Placed)
     → with_seq left R ts ≡ by_next (just kind.Seq ∪ just kind.Fork) (whole left (by_next (just kind.Seq) seq_header (read_fork_header left))) R ts
 seq_on left R ts =
     alike (just kind.Seq) (seq_statement left) (whole left seq_header) (with_fork left R) (by_next (just kind.Fork) (whole left (read_fork_header left)) R) (seq_is left)
-    (alike (just kind.Fork) (read_fork plenty (inner plenty left) (statements_with plenty left)) (whole left (read_fork_header left)) R R (fork_is left) (λ ts. refl)) ts
+    (alike (just kind.Fork) (read_fork (inner left) (statements_with left)) (whole left (read_fork_header left)) R R (fork_is left) (λ ts. refl)) ts
     ∙ joined left (just kind.Seq) (just kind.Fork) seq_header (read_fork_header left) R ts
 
 -- one more word before them
@@ -185,15 +187,15 @@ word_on left f g S X R P Q s x ts = alike f S (whole left P) X (by_next g (whole
 
 -- all of them, where `do` stands behind `while`
 headers : (left : ℕ) (D R : Reader Statement) (ts : List Placed)
-    → by_next (just kind.While) (read_while plenty (inner plenty left) (statements_with plenty left))
+    → by_next (just kind.While) (read_while (inner left) (statements_with left))
     (by_next (just kind.Do) D
-    (by_next (just kind.For) (read_for plenty (inner plenty left) (statements_with plenty left))
-    (by_next (just kind.Start) (read_start plenty (inner plenty left) (statements_with plenty left))
+    (by_next (just kind.For) (read_for (inner left) (statements_with left))
+    (by_next (just kind.Start) (read_start (inner left) (statements_with left))
     (by_next (just kind.Farm) (giving (λ (word, inside). Farm (spot word) inside) (expect kind.Farm and read_nested left))
     (with_seq left R))))) ts
     ≡ by_next (just kind.Do) D (by_next begins_header (read_headed left) R) ts
 headers left D R ts =
-    later (just kind.While) (just kind.Do) while_apart (read_while plenty (inner plenty left) (statements_with plenty left)) D _ ts
+    later (just kind.While) (just kind.Do) while_apart (read_while (inner left) (statements_with left)) D _ ts
     ∙ other (just kind.Do) D _ _
     (word_on left (just kind.While) _ _ _ R (read_while_header left) _ (while_is left)
     (word_on left (just kind.For) _ _ _ R (read_for_header left) _ (for_is left)
@@ -202,7 +204,7 @@ headers left D R ts =
     (seq_on left R))))) ts
 
 -- any statement is read so
-pub any_is : (left : ℕ) (ts : List Placed) → read_statement plenty (inner plenty left) (statements_with plenty left) ts ≡ read_any left ts
+pub any_is : (left : ℕ) (ts : List Placed) → read_statement (inner left) (statements_with left) ts ≡ read_any left ts
 unfolding read_statement
 any_is left ts =
     other (just kind.OpenBrace) _ _ _ (λ ts.
@@ -216,4 +218,4 @@ pub nested_reads : (left inside : ℕ) (ts : List Placed) → next_is begins_sta
 nested_reads zero inside ts n h = absurd (omega arith)
 nested_reads (suc left) inside ts n h =
     let same : left ≡ inside = omega arith in
-    by_next-yes begins_statement (read_statement plenty (inner plenty left) (statements_with plenty left)) unexpected ts n ∙ any_is left ts ∙ ap (λ k. read_any k ts) same
+    by_next-yes begins_statement (read_statement (inner left) (statements_with left)) unexpected ts n ∙ any_is left ts ∙ ap (λ k. read_any k ts) same

@@ -1,15 +1,8 @@
 pub mod Uses
-pub mod Alike
 pub mod Closing
-pub mod Declarations
-pub mod Parameters
 pub mod Branches
 pub mod Counted
 pub mod StatementShapes
 pub mod Statements
-pub mod Steps
-pub mod Commas
-pub mod Optional
-pub mod Pushed
 pub mod Headers
 pub mod Blocks

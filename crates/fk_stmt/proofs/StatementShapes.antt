@@ -4,7 +4,7 @@ use Rattle.fk_syntax.specs.Program.{Statement, Block, Empty, Declare}
 use Rattle.fk_lex.specs.declared.token.TokenKind.{TokenKind}
 use Rattle.fk_lex.specs.declared.token.TokenKind.TheVariants as kind
 use Rattle.fk_reading.specs.Languages.{Stretch, Language, ◌or◌}
-use Rattle.fk_expr.specs.Grammar.{deeper, base, Comma}
+use Rattle.fk_expr.specs.Grammar.{deeper, Comma}
 use Rattle.fk_reading.specs.Readers.{tells}
 use Rattle.fk_expr.specs.Reading.{begins_type, begins_expression}
 use Rattle.fk_reading.proofs.Sets.{Kinds, ◌∪◌}
@@ -12,10 +12,13 @@ use Rattle.fk_reading.proofs.EachKind.{within_by}
 use Rattle.fk_reading.proofs.Exact.{Fronts, Starts, Example, Shape}
 use Rattle.fk_reading.proofs.Token.{some_token, example_token, shape_token, shape_telling}
 use Rattle.fk_reading.proofs.Shapes.{example_making, example_then, example_left, example_empty, empty_many, empty_maybe, shape_kinds, shape_nothing, shape_making, shape_then, shape_loose_then, shape_or, loose_maybe}
+use Rattle.fk_expr.proofs.TypeNames.{shape_base}
 use Rattle.fk_expr.proofs.Beginnings.{examples, example_comma, shape_comma}
-use Rattle.fk_stmt.specs.Kinds.{sharing_told}
-use Rattle.fk_stmt.specs.Statements.{variable, variables, block, condition, if_statement, while_statement, do_statement, for_statement, start_statement, fork_statement, plain, statement, statement_within, not_before}
-use Rattle.fk_stmt.specs.Reading.{begins_parameter, begins_statement}
+use Rattle.fk_declarations.specs.Kinds.{sharing_told}
+use Rattle.fk_declarations.specs.Grammar.{variable, variables}
+use Rattle.fk_stmt.specs.Statements.{block, condition, if_statement, while_statement, do_statement, for_statement, start_statement, fork_statement, plain, statement, statement_within, not_before}
+use Rattle.fk_declarations.specs.Reading.{begins_parameter}
+use Rattle.fk_stmt.specs.Reading.{begins_statement}
 use Rattle.fk_reading.specs.Kinds.{just}
 
 -- ---- what statements are made of
@@ -33,20 +36,6 @@ example_condition : (bound l : ℕ) → Example (condition bound l)
 example_condition bound l =
     example_making _ (example_then (example_token l kind.OpenParenthesis)
     (example_then (example_expression bound l) (example_token l kind.CloseParenthesis)))
-
--- the kinds that begin a type
-abbrev bases : Kinds
-bases = just kind.Int ∪ (just kind.Unsigned ∪ (just kind.Void ∪ just kind.Struct))
-
--- what the first words of a type begin with
-shape_base : {room : Type 0} (l : ℕ) → Shape (base l) l begins_type room
-unfolding just
-shape_base l =
-    shape_kinds begins_type (within_by bases begins_type refl (λ v u. refl)) (within_by begins_type bases refl (λ v u. refl))
-    (shape_or (shape_making _ (shape_token l kind.Int))
-    (shape_or (shape_making _ (shape_then (shape_token l kind.Unsigned) (λ r. example_empty (empty_maybe _))))
-    (shape_or (shape_making _ (shape_token l kind.Void))
-    (shape_making _ (shape_then (shape_token l kind.Struct) (λ r. example_token l kind.Word))))))
 
 -- there is a variable
 example_variable : (bound l : ℕ) → Example (variable bound l)

@@ -1,57 +1,31 @@
--- Parts of what is read, with as many repetitions as there may be tokens.
-use Rattle.std.specs.Prelude.{ℕ, List, Option, Bool}
-use Rattle.fk_syntax.specs.Tree.{Tree}
-use Rattle.fk_syntax.specs.Program.{Statement, Empty, Declare, Barrier, Break, Continue}
-use Rattle.fk_reading.specs.Languages.{Placed, spot}
-use Rattle.fk_reading.specs.Readers.{Reader, giving, ◌and◌, tells, expect, expect_told, by_next, optional, repeated}
-use Rattle.fk_expr.specs.Reading.{inner, read_assignment}
-use Rattle.fk_reading.specs.Ahead.{plenty}
-use Rattle.fk_stmt.specs.Kinds.{sharing_told}
-use Rattle.fk_stmt.specs.Statements.{Declarator}
-use Rattle.fk_stmt.specs.Reading.{nested, statements_with, begins_parameter, read_condition, read_length, read_variable, read_variables, read_plain, read_return, read_expression}
-use Rattle.fk_reading.specs.Kinds.{just}
+-- How statements are read by what stands before the last statement in them: what is read so is what Reading says.
+use Rattle.fk_declarations.specs.Headers.{headed, begins_header, read_header}
+use Rattle.fk_declarations.specs.Parts.{read_simple}
+use Rattle.fk_expr.specs.Reading.{inner}
 use Rattle.fk_lex.specs.declared.token.TokenKind.TheVariants as kind
-
--- [ "sh" | "pr" ]
-abbrev pub read_sharing : Reader (Option (Placed × Bool))
-read_sharing = optional (tells sharing_told) (expect_told sharing_told)
-
--- [ "[" Number "]" ]
-abbrev pub read_array_length : Reader (Option ℕ)
-read_array_length = optional (just kind.OpenBracket) read_length
-
--- [ "=" assign ]
-abbrev pub read_first_value : ℕ → Reader (Option Tree)
-read_first_value left = optional (just kind.Assign) (giving (λ (equals, value). value) (expect kind.Assign and read_assignment plenty (inner plenty left)))
-
--- { "," variable }
-abbrev pub read_others : ℕ → Reader (List Declarator)
-read_others left = repeated plenty (just kind.Comma) (giving (λ (comma, next). next) (expect kind.Comma and read_variable plenty (inner plenty left)))
-
--- a statement that begins with a word and has no others in it, or an expression
-abbrev pub read_worded : ℕ → Reader Statement
-read_worded left =
-    by_next (just kind.Barrier) (giving (λ t. Barrier (spot t)) (read_plain kind.Barrier))
-    (by_next (just kind.Break) (giving (λ t. Break (spot t)) (read_plain kind.Break))
-    (by_next (just kind.Continue) (giving (λ t. Continue (spot t)) (read_plain kind.Continue))
-    (by_next (just kind.Return) (read_return plenty (inner plenty left))
-    (read_expression plenty (inner plenty left)))))
-
--- a statement that has no others in it
-abbrev pub read_simple : ℕ → Reader Statement
-read_simple left =
-    by_next (just kind.Semicolon) (giving (λ t. Empty) (expect kind.Semicolon))
-    (by_next begins_parameter (giving Declare (read_variables plenty (inner plenty left)))
-    (read_worded left))
+use Rattle.fk_reading.specs.Kinds.{just}
+use Rattle.fk_reading.specs.Readers.{Reader, giving, ◌and◌, expect, by_next, optional}
+use Rattle.fk_stmt.specs.Reading.{nested, statements_with, read_block, read_if, read_do}
+use Rattle.fk_syntax.specs.Program.{Statement, Block}
+use Rattle.std.specs.Prelude.{ℕ, Option}
 
 -- a statement in a statement, where so many levels are left
 abbrev pub read_nested : ℕ → Reader Statement
-read_nested left = nested (statements_with plenty left)
+read_nested left = nested (statements_with left)
 
 -- [ "else" stmt ]
 abbrev pub read_otherwise : ℕ → Reader (Option Statement)
 read_otherwise left = optional (just kind.Else) (giving (λ (mark, inside). inside) (expect kind.Else and read_nested left))
 
--- "while" "(" comma ")" ";", behind the body of a `do`
-abbrev pub read_do_condition : ℕ → Reader (Placed × (Tree × Placed))
-read_do_condition left = expect kind.While and read_condition plenty (inner plenty left) and expect kind.Semicolon
+-- a header, and the statement behind it
+abbrev pub read_headed : ℕ → Reader Statement
+read_headed left = giving (λ (header, body). headed header body) (read_header left and read_nested left)
+
+-- any statement, where so many levels are left in it
+abbrev pub read_any : ℕ → Reader Statement
+read_any left =
+    by_next (just kind.OpenBrace) (giving Block (read_block (statements_with left)))
+    (by_next (just kind.If) (read_if (inner left) (statements_with left))
+    (by_next (just kind.Do) (read_do (inner left) (statements_with left))
+    (by_next begins_header (read_headed left)
+    (read_simple left))))

@@ -10,17 +10,18 @@ ghost use Rattle.std.specs.declared.alloc.Global.{Global};
 ghost use Rattle.fk_syntax.specs.declared.program.Stmt.{Stmt};
 ghost use Rattle.fk_syntax.specs.Program.{statements_of};
 ghost use Rattle.fk_syntax.specs.ProgramView.{statement_of};
-ghost use Rattle.fk_reading.specs.Ahead.{Shortens, Leaves, plenty};
+ghost use Rattle.fk_reading.specs.Ahead.{Shortens, Leaves};
 ghost use Rattle.fk_reading.specs.Gives.{Gives};
 ghost use Rattle.fk_expr.specs.Reading.{inner};
 ghost use Rattle.fk_stmt.specs.Reading.{statements_with, read_block, read_if, read_do};
 ghost use Rattle.fk_stmt.specs.Parts.{read_nested, read_otherwise};
-ghost use Rattle.fk_stmt.specs.Headers.{read_headed, read_any};
+ghost use Rattle.fk_stmt.specs.Parts.{read_headed, read_any};
 
-use crate::expressions::{condition, do_condition};
-use crate::header::any_header;
-use crate::simple::simple;
-use crate::told::{header_is_next, open_statement, statement_is_next};
+use crate::told::{open_statement, statement_is_next};
+use fk_declarations::expressions::{condition, do_condition};
+use fk_declarations::header::any_header;
+use fk_declarations::simple::simple;
+use fk_declarations::told::header_is_next;
 use fk_lex::token::TokenKind;
 use fk_reading::cursor::Cursor;
 use fk_reading::fault::SyntaxFault;
@@ -36,7 +37,7 @@ pub fn block<'a>(
     left: u32,
 ) -> Result<Vec<Stmt<'a>>, SyntaxFault>
     ensures read { Gives (λ b. statements_of (map statement_of b.items)) result cursor.new
-        (read_block plenty (statements_with plenty left) cursor.old) }
+        (read_block (statements_with left) cursor.old) }
     ensures shorter { IfOk result (λ _. Shortens cursor.old cursor.new) }
 {
     cursor.expect(TokenKind::OpenBrace)?;
@@ -112,7 +113,7 @@ fn if_else<'a>(
     left: u32,
 ) -> Result<Stmt<'a>, SyntaxFault>
     ensures read { Gives statement_of result cursor.new
-        (read_if plenty (inner plenty left) (statements_with plenty left) cursor.old) }
+        (read_if (inner left) (statements_with left) cursor.old) }
     ensures shorter { IfOk result (λ _. Shortens cursor.old cursor.new) }
 {
     let word = cursor.expect(TokenKind::If)?;
@@ -134,10 +135,9 @@ fn otherwise<'a>(
         cursor.new (read_otherwise left cursor.old) }
     ensures few { IfOk result (λ _. Leaves cursor.old cursor.new) }
 {
-    if !cursor.next_is(TokenKind::Else) {
+    let Some(_else) = cursor.accept(TokenKind::Else) else {
         return Ok(None);
-    }
-    cursor.expect(TokenKind::Else)?;
+    };
     Ok(Some(boxed(alloc, cursor, left)?))
 }
 
@@ -150,7 +150,7 @@ fn do_while<'a>(
     left: u32,
 ) -> Result<Stmt<'a>, SyntaxFault>
     ensures read { Gives statement_of result cursor.new
-        (read_do plenty (inner plenty left) (statements_with plenty left) cursor.old) }
+        (read_do (inner left) (statements_with left) cursor.old) }
     ensures shorter { IfOk result (λ _. Shortens cursor.old cursor.new) }
 {
     let word = cursor.expect(TokenKind::Do)?;

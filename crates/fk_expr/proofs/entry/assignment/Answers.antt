@@ -5,17 +5,17 @@ use Rattle.fk_reading.specs.Languages.{Placed}
 use Rattle.fk_expr.specs.Grammar.{Assignment}
 use Rattle.fk_reading.specs.Reads.{Reads}
 use Rattle.fk_expr.specs.Reading.{inner, read_assignment}
-use Rattle.fk_reading.specs.Ahead.{plenty}
 use Rattle.fk_reading.specs.Gives.{Halts}
 use Rattle.fk_reading.specs.Faults.{tokens_from}
-use Rattle.fk_expr.proofs.Public.{read_to, refuses, tells_fault, short_from, assignment_from}
+use Rattle.fk_expr.proofs.Public.{read_to, refuses, tells_fault, short_from}
+use Rattle.fk_expr.proofs.Expressions.{reads_assignment}
 use Rattle.fk_expr.proofs.entry.assignment.Goals as goal
 
 pub returns-in_err-value-clause-refused : goal.returns-in_err-value-clause-refused
 returns-in_err-value-clause-refused c =
     tells_fault (λ stop. Reads (Assignment c.args.level) (tokens_from c.args.at c.args.tokens.now) (Err stop)) _ _ c.from_residual.ensures.1
-    (refuses (Assignment c.args.level) _ _ _ c.assignment.new.cursor (assignment_from c.args.at c.args.level c.args.tokens.now c.requires.few c.requires.levels)
-    (subst (λ ts. Halts (read_assignment plenty (inner plenty (LEVELS - c.args.level)) ts) c.in_err-value.field-0.0 c.assignment.new.cursor) c.new-cursor.ensures c.in_err-value.ensures.read))
+    (refuses (Assignment c.args.level) _ _ _ c.assignment.new.cursor (reads_assignment c.args.level (tokens_from c.args.at c.args.tokens.now) c.requires.levels)
+    (subst (λ ts. Halts (read_assignment (inner (LEVELS - c.args.level)) ts) c.in_err-value.field-0.0 c.assignment.new.cursor) c.new-cursor.ensures c.in_err-value.ensures.read))
 
 pub overflow_sub-result : goal.overflow_sub-result
 overflow_sub-result c =
@@ -24,5 +24,5 @@ overflow_sub-result c =
 pub returns-clause-read : goal.returns-clause-read
 returns-clause-read c =
     subst (λ n. Reads (Assignment c.args.level) (tokens_from c.args.at c.args.tokens.now) (Ok (tree_of c.in_ok-value.value, tokens_from (length c.args.tokens.now - n) c.args.tokens.now))) (sym c.len.ensures)
-    (read_to (Assignment c.args.level) c.args.at c.args.tokens.now _ _ _ c.requires.begins (assignment_from c.args.at c.args.level c.args.tokens.now c.requires.few c.requires.levels)
-    (ap (λ ts. read_assignment plenty (inner plenty (LEVELS - c.args.level)) ts) (sym c.new-cursor.ensures) ∙ c.in_ok-value.ensures.read))
+    (read_to (Assignment c.args.level) c.args.at c.args.tokens.now _ _ _ c.requires.begins (reads_assignment c.args.level (tokens_from c.args.at c.args.tokens.now) c.requires.levels)
+    (ap (λ ts. read_assignment (inner (LEVELS - c.args.level)) ts) (sym c.new-cursor.ensures) ∙ c.in_ok-value.ensures.read))

@@ -4,7 +4,7 @@ use Rattle.fk_syntax.specs.View.{tree_of, link_of, suffix_of}
 use Rattle.fk_expr.specs.Grammar.{operator_at}
 use Rattle.fk_expr.specs.Reading.{inner, begins_suffix, read_suffix, read_next_argument, read_joined}
 use Rattle.fk_reading.specs.Readers.{tells}
-use Rattle.fk_reading.specs.Ahead.{plenty, Shortens}
+use Rattle.fk_reading.specs.Ahead.{Shortens}
 use Rattle.fk_expr.specs.Ahead.{readers, read_link, read_comma_link}
 use Rattle.fk_reading.proofs.Repeats.{Going}
 use Rattle.fk_expr.proofs.production.+expression.Given as goal
@@ -44,28 +44,28 @@ decreases-suffix l = 64 * l.left + 2
 abbrev pub decreases-arguments : goal.decreases-arguments
 decreases-arguments l = 64 * l.left + 30
 
-abbrev pub invariant-arguments-loop-alloc : goal.invariant-arguments-loop-alloc
-invariant-arguments-loop-alloc l = record {
+abbrev pub invariant-arguments-loop-comma : goal.invariant-arguments-loop-comma
+invariant-arguments-loop-comma l = record {
   others : List Tree;
   all : map tree_of l.arguments.items ≡ map tree_of l.initial.arguments.items ++ others;
   going : Going (just kind.Comma) (read_next_argument (readers l.left)) l.initial.cursor others l.cursor;
 }
 
-abbrev pub decreases-arguments-loop-alloc : goal.decreases-arguments-loop-alloc
-decreases-arguments-loop-alloc l = length l.cursor
+abbrev pub decreases-arguments-loop-comma : goal.decreases-arguments-loop-comma
+decreases-arguments-loop-comma l = length l.cursor
 
-abbrev pub invariant-comma-loop-cursor : goal.invariant-comma-loop-cursor
-invariant-comma-loop-cursor l = record {
+abbrev pub invariant-comma-loop-sign : goal.invariant-comma-loop-sign
+invariant-comma-loop-sign l = record {
   same : tree_of l.first ≡ tree_of l.initial.first;
-  going : Going (just kind.Comma) (read_comma_link plenty (inner plenty l.left)) l.initial.cursor (map link_of l.links.items) l.cursor;
+  going : Going (just kind.Comma) (read_comma_link (inner l.left)) l.initial.cursor (map link_of l.links.items) l.cursor;
 }
 
-abbrev pub decreases-comma-loop-cursor : goal.decreases-comma-loop-cursor
-decreases-comma-loop-cursor l = length l.cursor
+abbrev pub decreases-comma-loop-sign : goal.decreases-comma-loop-sign
+decreases-comma-loop-sign l = length l.cursor
 
 abbrev pub invariant-joined-loop-next : goal.invariant-joined-loop-next
 invariant-joined-loop-next l = record {
-  read : read_joined plenty (inner plenty l.left) l.tighter l.fn.cursor ≡ Ok (tree_of l.whole, l.cursor);
+  read : read_joined (inner l.left) l.tighter l.fn.cursor ≡ Ok (tree_of l.whole, l.cursor);
   within : l.tighter ≤ l.looseness;
   shorter : Shortens l.fn.cursor l.cursor;
 }
@@ -76,7 +76,7 @@ decreases-joined-loop-next l = l.looseness - l.tighter
 abbrev pub invariant-level-loop-cursor : goal.invariant-level-loop-cursor
 invariant-level-loop-cursor l = record {
   same : tree_of l.first ≡ tree_of l.initial.first;
-  going : Going (tells (operator_at l.looseness)) (read_link plenty (inner plenty l.left) l.looseness (l.looseness - 1)) l.initial.cursor (map link_of l.links.items) l.cursor;
+  going : Going (tells (operator_at l.looseness)) (read_link (inner l.left) l.looseness (l.looseness - 1)) l.initial.cursor (map link_of l.links.items) l.cursor;
 }
 
 abbrev pub decreases-level-loop-cursor : goal.decreases-level-loop-cursor
@@ -85,7 +85,7 @@ decreases-level-loop-cursor l = length l.cursor
 abbrev pub invariant-postfix-loop-suffixes : goal.invariant-postfix-loop-suffixes
 invariant-postfix-loop-suffixes l = record {
   same : tree_of l.whole ≡ tree_of l.initial.whole;
-  going : Going begins_suffix (read_suffix plenty (inner plenty l.left)) l.initial.cursor (map suffix_of l.suffixes.items) l.cursor;
+  going : Going begins_suffix (read_suffix (inner l.left)) l.initial.cursor (map suffix_of l.suffixes.items) l.cursor;
 }
 
 abbrev pub decreases-postfix-loop-suffixes : goal.decreases-postfix-loop-suffixes

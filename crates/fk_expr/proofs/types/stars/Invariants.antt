@@ -6,12 +6,12 @@ use Rattle.fk_expr.proofs.types.stars.Given as goal
 use Rattle.fk_reading.specs.Kinds.{just}
 use Rattle.fk_lex.specs.declared.token.TokenKind.TheVariants as kind
 
-abbrev pub invariant-loop-cursor : goal.invariant-loop-cursor
-invariant-loop-cursor l = record {
+abbrev pub invariant-loop-star : goal.invariant-loop-star
+invariant-loop-star l = record {
   stars : List Placed;
   counted : length stars ≡ l.stars;
   loops : Loops (just kind.Star) (expect kind.Star) l.initial.cursor stars l.cursor;
 }
 
-abbrev pub decreases-loop-cursor : goal.decreases-loop-cursor
-decreases-loop-cursor l = length l.cursor
+abbrev pub decreases-loop-star : goal.decreases-loop-star
+decreases-loop-star l = length l.cursor

@@ -1,6 +1,7 @@
-use Rattle.std.proofs.Common.{sym, ◌∙◌, rules}
-use Rattle.fk_reading.proofs.Loops.{loops_end, loops_stop}
-use Rattle.fk_stmt.proofs.Pushed.{pushed_start, pushed_more}
+use Rattle.std.proofs.Common.{refl, sym, ◌∙◌, rules}
+use Rattle.fk_reading.proofs.Loops.{loops_end}
+use Rattle.fk_reading.proofs.Halting.{halts_going}
+use Rattle.fk_parse.proofs.Pushed.{pushed_start, pushed_more}
 use Rattle.fk_parse.proofs.item.items.Goals as goal
 
 pub loop-alloc-init : goal.loop-alloc-init
@@ -12,10 +13,10 @@ loop-alloc-preserved c =
 
 pub returns-in_err-item : goal.returns-in_err-item
 returns-in_err-item c =
-    let r = loops_stop _ _ _ _ _ _ _ (sym c.item_is_next.ensures.next ∙ c.loop-alloc-test.true) c.item_is_next.ensures.few c.in_err-item.ensures.read c.loop-alloc.invariant in
+    let r = halts_going _ _ _ _ _ _ _ (sym c.item_is_next.ensures.next ∙ c.loop-alloc-test.true) c.in_err-item.ensures.read c.loop-alloc.invariant.going in
     search rules
 
 pub returns : goal.returns
 returns c = record {
-  read = (loops_end _ _ _ _ _ (sym c.item_is_next.ensures.next ∙ c.loop-alloc-test.false) c.item_is_next.ensures.few c.loop-alloc.invariant).0;
+  read = (loops_end _ _ _ _ _ _ (sym c.item_is_next.ensures.next ∙ c.loop-alloc-test.false) refl c.item_is_next.ensures.few c.loop-alloc.invariant).0;
 }

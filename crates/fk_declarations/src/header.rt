@@ -1,0 +1,158 @@
+//! What stands before the last statement in a statement.
+
+ghost use Rattle.std.specs.Prelude.{◌≡◌, IfOk};
+ghost use Rattle.fk_syntax.specs.View.{tree_of};
+ghost use Rattle.fk_syntax.specs.ProgramView.{statement_of};
+ghost use Rattle.fk_reading.specs.Ahead.{Shortens};
+ghost use Rattle.fk_reading.specs.Gives.{Gives};
+ghost use Rattle.fk_declarations.specs.Headers.{headed, read_header, read_while_header, read_for_header, read_start_header, read_parts, read_fork_header};
+ghost use Rattle.fk_declarations.specs.View.{header_of};
+
+use crate::expressions::{assigned, condition, count, part, rank};
+use fk_expr::at_cursor::comma;
+use fk_lex::token::TokenKind;
+use fk_reading::cursor::Cursor;
+use fk_reading::fault::SyntaxFault;
+use fk_syntax::expression::Expr;
+use fk_syntax::place::Spot;
+use fk_syntax::program::Stmt;
+use std::alloc::Global;
+
+/// What stands before the last statement in a statement.
+#[derive(Drop)]
+pub enum Header<'a> {
+    While(Spot, Expr<'a>),
+    For(Spot, Option<Expr<'a>>, Option<Expr<'a>>, Option<Expr<'a>>),
+    Start(Spot, Option<Expr<'a>>),
+    Farm(Spot),
+    Seq(Spot),
+    Fork(Spot, Expr<'a>, Expr<'a>, Option<Expr<'a>>),
+}
+
+impl<'a> Header<'a> {
+    /// The whole statement.
+    pub fn complete(self, body: Box<Stmt<'a>>) -> Stmt<'a>
+        ensures { statement_of result
+            ≡ headed (header_of self.entry) (statement_of body.entry.value) }
+    {
+        match self {
+            Header::While(at, condition) => Stmt::While(at, condition, body),
+            Header::For(at, before, condition, after) => {
+                Stmt::For(at, before, condition, after, body)
+            }
+            Header::Start(at, count) => Stmt::Start(at, count, body),
+            Header::Farm(at) => Stmt::Farm(at, body),
+            Header::Seq(at) => Stmt::Seq(at, body),
+            Header::Fork(at, parts, part, rank) => Stmt::Fork(at, parts, part, rank, body),
+        }
+    }
+}
+
+/// What stands before the statement that ends a `while`, `for`, `start`, `farm`, `seq` or `fork`.
+#[tactic(auto, using(fk_expr::proofs::Halting::halting))]
+pub fn any_header<'a>(
+    alloc: Global,
+    cursor: &mut Cursor<'_, 'a>,
+    left: u32,
+) -> Result<Header<'a>, SyntaxFault>
+    ensures read { Gives header_of result cursor.new (read_header left cursor.old) }
+    ensures shorter { IfOk result (λ _. Shortens cursor.old cursor.new) }
+{
+    if cursor.next_is(TokenKind::While) {
+        return while_header(alloc, cursor, left);
+    }
+    if cursor.next_is(TokenKind::For) {
+        return for_header(alloc, cursor, left);
+    }
+    if cursor.next_is(TokenKind::Start) {
+        return start_header(alloc, cursor, left);
+    }
+    if let Some(farm) = cursor.accept(TokenKind::Farm) {
+        return Ok(Header::Farm(farm.spot()));
+    }
+    if let Some(seq) = cursor.accept(TokenKind::Seq) {
+        return Ok(Header::Seq(seq.spot()));
+    }
+    fork_header(alloc, cursor, left)
+}
+
+/// "while" "(" comma ")"
+#[tactic(auto, using(fk_expr::proofs::Halting::halting))]
+fn while_header<'a>(
+    alloc: Global,
+    cursor: &mut Cursor<'_, 'a>,
+    left: u32,
+) -> Result<Header<'a>, SyntaxFault>
+    ensures read { Gives header_of result cursor.new (read_while_header left cursor.old) }
+    ensures shorter { IfOk result (λ _. Shortens cursor.old cursor.new) }
+{
+    let word = cursor.expect(TokenKind::While)?;
+    Ok(Header::While(word.spot(), condition(alloc, cursor, left)?))
+}
+
+/// "start" [ "(" comma ")" ]
+#[tactic(auto, using(fk_expr::proofs::Halting::halting))]
+fn start_header<'a>(
+    alloc: Global,
+    cursor: &mut Cursor<'_, 'a>,
+    left: u32,
+) -> Result<Header<'a>, SyntaxFault>
+    ensures read { Gives header_of result cursor.new (read_start_header left cursor.old) }
+    ensures shorter { IfOk result (λ _. Shortens cursor.old cursor.new) }
+{
+    let word = cursor.expect(TokenKind::Start)?;
+    Ok(Header::Start(word.spot(), count(alloc, cursor, left)?))
+}
+
+/// "for" "(" [ comma ] ";" [ comma ] ";" [ comma ] ")"
+#[tactic(auto, using(fk_expr::proofs::Halting::halting))]
+fn for_header<'a>(
+    alloc: Global,
+    cursor: &mut Cursor<'_, 'a>,
+    left: u32,
+) -> Result<Header<'a>, SyntaxFault>
+    ensures read { Gives header_of result cursor.new (read_for_header left cursor.old) }
+    ensures shorter { IfOk result (λ _. Shortens cursor.old cursor.new) }
+{
+    let word = cursor.expect(TokenKind::For)?;
+    cursor.expect(TokenKind::OpenParenthesis)?;
+    let before = part(alloc, cursor, left, TokenKind::Semicolon)?;
+    let condition = part(alloc, cursor, left, TokenKind::Semicolon)?;
+    let after = part(alloc, cursor, left, TokenKind::CloseParenthesis)?;
+    Ok(Header::For(word.spot(), before, condition, after))
+}
+
+/// "fork" "(" comma ";" "@" "=" comma [ ";" "$" "=" comma ] ")"
+#[tactic(auto, using(fk_expr::proofs::Halting::halting))]
+fn fork_header<'a>(
+    alloc: Global,
+    cursor: &mut Cursor<'_, 'a>,
+    left: u32,
+) -> Result<Header<'a>, SyntaxFault>
+    ensures read { Gives header_of result cursor.new (read_fork_header left cursor.old) }
+    ensures shorter { IfOk result (λ _. Shortens cursor.old cursor.new) }
+{
+    let (at, parts) = parts(alloc, cursor, left)?;
+    let part = assigned(alloc, cursor, left, TokenKind::At)?;
+    let rank = rank(alloc, cursor, left)?;
+    cursor.expect(TokenKind::CloseParenthesis)?;
+    Ok(Header::Fork(at, parts, part, rank))
+}
+
+/// "fork" "(" comma ";"
+#[tactic(auto, using(fk_expr::proofs::Halting::halting))]
+fn parts<'a>(
+    alloc: Global,
+    cursor: &mut Cursor<'_, 'a>,
+    left: u32,
+) -> Result<(Spot, Expr<'a>), SyntaxFault>
+    ensures read { Gives (λ x. (x.0, tree_of x.1)) result cursor.new
+        (read_parts left cursor.old) }
+    ensures shorter { IfOk result (λ _. Shortens cursor.old cursor.new) }
+{
+    let word = cursor.expect(TokenKind::Fork)?;
+    cursor.expect(TokenKind::OpenParenthesis)?;
+    let parts = comma(alloc, cursor, left)?;
+    cursor.expect(TokenKind::Semicolon)?;
+    Ok((word.spot(), parts))
+}

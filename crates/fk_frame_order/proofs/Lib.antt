@@ -1,0 +1,5 @@
+mod Picked
+mod Ordered
+mod Listed
+mod Statements
+mod Programs

@@ -1,0 +1,58 @@
+-- The frames of a program stand in the order of its tokens.
+use Rattle.std.proofs.Common.{◌≡◌, ℕ, ◌+◌, ◌<◌, List, [], ◌∷◌, map, arith, refl, ap, subst, ◌∙◌}
+use Rattle.std.specs.Prelude.{All}
+use Rattle.std.proofs.lemmas.Simd.{map-map}
+use Rattle.std.proofs.lemmas.List.Kept.{AllPairs-cons}
+use Rattle.std.proofs.lemmas.List.Elements.{All-nil, All-cons}
+use Rattle.fk_syntax.specs.Program.{ItemTree}
+use Rattle.fk_lex.specs.Reading.{Spelled}
+use Rattle.fk_lex.specs.declared.token.TokenKind.TheVariants as kind
+use Rattle.fk_reading.specs.Languages.{Stretch, numbered}
+use Rattle.fk_reading.proofs.Uses.{places}
+use Rattle.fk_parse.specs.Items as g
+use Rattle.fk_parse.specs.Parses.{SpellsItems}
+use Rattle.fk_frame_order.specs.Order.{body_tokens, item_tokens, frame_tokens, Ascend}
+use Rattle.fk_frame_order.proofs.Ordered as ordered
+use Rattle.fk_frame_order.proofs.Picked.{picked_pairs}
+use Rattle.fk_frame_order.specs.Program.{FramesStandInOrder}
+use Rattle.fk_frame_order.proofs.Listed.{Lists, Among, lists_none, lists_token, ◌next_to◌, lists_or, lists_making, lists_many}
+use Rattle.fk_frame_order.proofs.Statements.{lists_block, lists_within}
+
+-- ---- items
+
+lists_body : (bound : ℕ) → Lists (g.body bound) body_tokens
+lists_body bound = lists_or (lists_making _ lists_none (λ t. refl)) (lists_making _ (lists_block _ (lists_within bound) 1) (λ x. refl))
+
+lists_function : (bound : ℕ) → Lists (g.function_item bound) item_tokens
+lists_function bound =
+    lists_making _ (lists_none next_to lists_none next_to lists_none next_to lists_token 0 kind.Word
+    next_to lists_none next_to lists_none next_to lists_none next_to lists_body bound)
+    (λ x. refl)
+
+lists_item : (bound : ℕ) → Lists (g.item bound) item_tokens
+lists_item bound = lists_or (lists_making _ lists_none (λ x. refl)) (lists_or (lists_making _ lists_none (λ x. refl)) (lists_function bound))
+
+-- the tokens of the items of a text at which frames may stand are among those that spell them
+among : (bound : ℕ) (s : Stretch) (items : List ItemTree) → g.Items bound s items → Among (frame_tokens items) (places s)
+among bound s items w = (lists_many (lists_item bound)).lists s items w
+
+-- ---- the tokens of a text
+
+above : (low at : ℕ) (ts : List Spelled) → low < at → All (λ n. low < n) (map (λ t. t.at) (numbered at ts))
+above low at [] h = All-nil (λ n. low < n)
+above low at (t ∷ ts) h = All-cons (λ n. low < n) at (map (λ u. u.at) (numbered (at + 1) ts)) h (above low (at + 1) ts (omega (arith, h)))
+
+-- their indices ascend
+numbers_ascend : (at : ℕ) (ts : List Spelled) → Ascend (map (λ t. t.at) (numbered at ts))
+numbers_ascend at [] = λ i j d less within. absurd (omega (arith, within))
+numbers_ascend at (t ∷ ts) =
+    AllPairs-cons (λ x y. x < y) at (map (λ u. u.at) (numbered (at + 1) ts)) (above at (at + 1) ts (omega arith)) (numbers_ascend (at + 1) ts)
+
+tokens_ascend : (tokens : List Spelled) (items : List ItemTree) → SpellsItems (numbered 0 tokens) items → Ascend (frame_tokens items)
+tokens_ascend tokens items r =
+    let same : map (λ t. t.at) (numbered 0 tokens) ≡ places r.stretch = ap (map (λ t. t.at)) r.is ∙ map-map (λ t. t.at) (λ m. m.token) r.stretch in
+    picked_pairs (λ (n : ℕ). n) (λ x y. x < y) (frame_tokens items) (places r.stretch)
+    (among r.spelled.0 r.stretch items r.spelled.1) (subst Ascend same (numbers_ascend 0 tokens))
+
+pub frames_stand_in_order : FramesStandInOrder
+frames_stand_in_order told tokens program d = ordered.frames_in_order told program.items (tokens_ascend tokens program.items d.items)
