@@ -1,19 +1,22 @@
 -- What is set at tokens that are apart is what they name.
-use Rattle.std.proofs.Common.{◌≡◌, ℕ, ◌<◌, List, length, Some, refl, sym, subst, ◌∙◌, arith}
+use Rattle.std.proofs.Common.{◌≡◌, ℕ, ◌<◌, List, length, Option, Some, refl, sym, subst, ◌∙◌, arith}
 use Rattle.std.specs.Prelude.{Contains, slice_get}
 use Rattle.std.proofs.lemmas.Option.{slice_get_read, slice_get_within, get_or_from_slice_get}
 use Rattle.fk_syntax.specs.Program.{ProgramTree}
 use Rattle.fk_syntax.specs.WellFormed.{IsWellFormed}
-use Rattle.fk_names.specs.Outline.{declarations}
+use Rattle.fk_names.specs.Outline.{declarations, outline}
+use Rattle.fk_names.specs.Means.{binding}
 use Rattle.fk_typing.specs.Names.{Env}
 use Rattle.fk_pieces.specs.Pieces.{pieces}
 use Rattle.fk_type_rules.specs.Bound.{IsBound, refers, declares, AreBound, pieces_references, token_of}
 use Rattle.fk_token_laws.specs.Apart.{AreTokensApart}
+use Rattle.fk_bindings.specs.Bodies.{AreBodies}
 use Rattle.fk_bindings.specs.Bound.{AreDeclared, AreReferred, name_token}
 use Rattle.fk_bindings.proofs.Below.{references_below, declared_below}
+use Rattle.fk_bindings.proofs.BodyLemmas.{declared_here, meant-stands}
 
-module _ (env : Env) (program : ProgramTree) (start mid end : List ℕ) (sound : IsWellFormed program) (apart : AreTokensApart program) (size : length start ≡ program.tokens)
-    (declared : AreDeclared (declarations program) start mid) (referred : AreReferred env program (pieces_references (pieces program)) mid end) where
+module _ (env : Env) (program : ProgramTree) (bodies : List ℕ → Option ℕ) (start mid end : List ℕ) (sound : IsWellFormed program) (apart : AreTokensApart program) (size : length start ≡ program.tokens)
+    (are : AreBodies (declarations program) bodies) (declared : AreDeclared bodies (declarations program) start mid) (referred : AreReferred env program (pieces_references (pieces program)) mid end) where
   pub all-bound : AreBound env program end
   all-bound = λ at number bound. by at bound
     where
@@ -23,10 +26,13 @@ module _ (env : Env) (program : ProgramTree) (start mid end : List ℕ) (sound :
           let found : slice_get rs there.0 ≡ Some r = slice_get_read rs (length rs) there.0 r refl there.1 (sym there.2) in
           let inside : token_of r < length mid = omega (arith, references_below program sound r there, size, declared.same_length) in
           subst (λ k. slice_get end k ≡ Some number) here (referred.each apart.references there.0 r number found inside is)
-      by at (declares d number there here) =
+      by at (declares d here meant there token stands) =
           let ds = declarations program in
-          let held : Contains ds d = (number, slice_get_within ds number d there, get_or_from_slice_get ds number d d there) in
+          let i = binding (outline program) here in
+          let number = binding (outline program) meant in
+          let found : slice_get ds i ≡ Some d = declared_here (outline program) here d there in
+          let held : Contains ds d = (i, slice_get_within ds i d found, get_or_from_slice_get ds i d d found) in
           let inside : name_token d < length start = omega (arith, declared_below program sound d held, size) in
-          let own : slice_get mid (name_token d) ≡ Some number = declared.each apart.declared number d number there inside refl in
+          let own : slice_get mid (name_token d) ≡ Some number = declared.each apart.declared i d number found inside (sym (meant-stands (outline program) bodies are here meant d stands)) in
           let kept : slice_get end (name_token d) ≡ slice_get mid (name_token d) = referred.others (name_token d) (λ r named same. apart.never_both d r held named (sym same)) in
-          subst (λ k. slice_get end k ≡ Some number) here (kept ∙ own)
+          subst (λ k. slice_get end k ≡ Some number) token (kept ∙ own)

@@ -2,4 +2,5 @@ pub mod SizeLemmas
 pub mod KnownLemmas
 pub mod SetLemmas
 pub mod Below
+pub mod BodyLemmas
 pub mod BoundLemmas

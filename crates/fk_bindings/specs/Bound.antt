@@ -5,6 +5,7 @@ use Rattle.fk_names.specs.Outline.{DeclarationTree, name_of}
 use Rattle.fk_typing.specs.Names.{Env}
 use Rattle.fk_references.specs.References.{ReferenceTree}
 use Rattle.fk_type_rules.specs.Bound.{Refers, token_of}
+use Rattle.fk_bindings.specs.Bodies.{meant_by}
 
 -- numbers with one more, where one is told
 abbrev pub with_told : List ℕ → ℕ → Option ℕ → List ℕ
@@ -21,12 +22,12 @@ pub record AreSet {X : Type 0} (token : X → ℕ) (Has : ℕ → X → ℕ → 
   pub each : AreApart token xs → (i : ℕ) (x : X) (number : ℕ) → slice_get xs i ≡ Some x → token x < length old → Has i x number → slice_get new (token x) ≡ Some number
   pub others : (at : ℕ) → ((x : X) → Contains xs x → token x ≢ at) → slice_get new at ≡ slice_get old at
 
--- declarations are known by their index, at their names
+-- declarations have the numbers of what they stand for, at their names
 abbrev pub name_token : DeclarationTree → ℕ
 name_token declaration = (name_of declaration).at
 
-abbrev pub AreDeclared : List DeclarationTree → List ℕ → List ℕ → Type 0
-AreDeclared declared old new = AreSet name_token (λ i d number. number ≡ i) declared old new
+abbrev pub AreDeclared : (List ℕ → Option ℕ) → List DeclarationTree → List ℕ → List ℕ → Type 0
+AreDeclared bodies declared old new = AreSet name_token (λ i d number. number ≡ meant_by bodies i d) declared old new
 
 -- references have the number of what they refer to
 abbrev pub AreReferred : Env → ProgramTree → List ReferenceTree → List ℕ → List ℕ → Type 0

@@ -1,2 +1,3 @@
 pub mod Known
+pub mod Bodies
 pub mod Bound

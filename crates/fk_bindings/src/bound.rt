@@ -6,6 +6,7 @@ ghost use Rattle.fk_syntax.specs.WellFormed.{IsWellFormed};
 ghost use Rattle.fk_structs.specs.Whole.{structs_in, IsSound};
 ghost use Rattle.fk_names.specs.Names.{AreNames};
 ghost use Rattle.fk_names.specs.View.{declaration_of};
+ghost use Rattle.fk_names.specs.TableView.{shown};
 ghost use Rattle.fk_typing.specs.Names.{Env};
 ghost use Rattle.fk_pieces.specs.Pieces as p;
 ghost use Rattle.fk_pieces.specs.View.{piece_of};
@@ -14,11 +15,13 @@ ghost use Rattle.fk_type_rules.specs.Noted.{AreTypes};
 ghost use Rattle.fk_type_rules.specs.Bound.{token_of, pieces_references, AreBound};
 ghost use Rattle.fk_token_laws.specs.Apart.{AreTokensApart};
 ghost use Rattle.fk_bindings.specs.Known.{IsKnown};
+ghost use Rattle.fk_bindings.specs.Bodies.{AreBodies};
 ghost use Rattle.fk_bindings.specs.Bound.{with_told, name_token, AreDeclared, AreReferred};
 
+use crate::bodies::{bodies, meant};
 use crate::found::references_in;
 use crate::known::Known;
-use fk_names::{Declaration, Names};
+use fk_names::{Declaration, Names, Table};
 use fk_pieces::Piece;
 use fk_references::Reference;
 use fk_signs::ExpressionType;
@@ -61,13 +64,16 @@ fn set(numbers: &mut [u32], at: u32, told: Option<u32>)
     }
 }
 
-// Sets the numbers of declarations, at their names.
-fn set_declared(numbers: &mut [u32], declared: &[Declaration])
-    requires { length declared.now < 2 ^ 32 }
-    ensures { AreDeclared (map declaration_of declared.now) numbers.old numbers.new }
+// Sets the numbers of what declarations stand for, at their names.
+fn set_declared(numbers: &mut [u32], bodies: &Table, declared: &[Declaration])
+    requires bodies { AreBodies (map declaration_of declared.now) (shown bodies.now) }
+    requires few { length declared.now < 2 ^ 32 }
+    ensures { AreDeclared (shown bodies.now) (map declaration_of declared.now)
+        numbers.old numbers.new }
 {
     for (number, declaration) in declared.iter().enumerate() {
-        set(numbers, name_token(declaration), Some(number as u32));
+        let meant = meant(bodies, number, declaration);
+        set(numbers, name_token(declaration), Some(meant as u32));
     }
 }
 
@@ -83,22 +89,25 @@ fn set_referred(numbers: &mut [u32], known: &Known, references: &[Reference])
 }
 
 // Sets what the tokens of a program name.
-fn set_all(numbers: &mut [u32], known: &Known, references: &[Reference])
+fn set_all(numbers: &mut [u32], known: &Known, bodies: &Table, references: &[Reference])
     requires sound { IsSound known.now.structs.now }
+    requires bodies { AreBodies
+        (map declaration_of known.now.names.now.declarations.items) (shown bodies.now) }
     requires few { length known.now.names.now.declarations.items < 2 ^ 32 }
     ensures { (env : Env) (program : ProgramTree) → IsWellFormed program → AreTokensApart program
         → length numbers.old ≡ program.tokens
         → map reference_of references.now ≡ pieces_references (p.pieces program)
         → IsKnown env program known.now → AreBound env program numbers.new }
 {
-    set_declared(numbers, &known.names.declarations);
+    set_declared(numbers, bodies, &known.names.declarations);
     set_referred(numbers, known, references);
 }
 
 /// What each token of a program names, as a number, by the index of the token:
 /// - for the name of a variable, a parameter or a function, where it is declared or in an
 ///   expression, the number of the declaration that it means, from 0 in the order in which their
-///   names stand in the text, or 2^32 - 1 for a name that is declared before each text;
+///   names stand in the text, or 2^32 - 1 for a name that is declared before each text. The name of a
+///   function means the header that has the body, at its other headers too;
 /// - for a member after `.` or `->`, the words that lie before it in its struct;
 /// - for `sizeof`, the bytes that it gives;
 /// - for every other token any number.
@@ -124,6 +133,7 @@ pub fn bindings<'k, 'p, 'a>(
     if names.declarations.len() > MOST {
         return Err(AllocError);
     }
+    let bodies = bodies(alloc, &names.declarations)?;
     let references = references_in(alloc, pieces)?;
     let mut numbers = vec![in alloc; 0u32; types.len()]?;
     let known = Known {
@@ -131,6 +141,6 @@ pub fn bindings<'k, 'p, 'a>(
         names,
         types,
     };
-    set_all(&mut numbers, &known, references.list());
+    set_all(&mut numbers, &known, &bodies, references.list());
     Ok(numbers)
 }

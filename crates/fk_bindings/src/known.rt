@@ -1,7 +1,6 @@
 //! The number of what is named.
 
 ghost use Rattle.std.specs.Prelude.{◌≡◌, ℕ, Some};
-ghost use Rattle.std.specs.Option.{option_and_then};
 ghost use Rattle.fk_syntax.specs.declared.place.Spot.{Spot};
 ghost use Rattle.fk_syntax.specs.Program.{ProgramTree};
 ghost use Rattle.fk_syntax.specs.View.{named, type_of as type_tree};
@@ -11,7 +10,6 @@ ghost use Rattle.fk_structs.specs.Sizes.{HasOffset};
 ghost use Rattle.fk_structs.specs.Whole.{structs_in, IsSound};
 ghost use Rattle.fk_names.specs.Names.{meaning_in};
 ghost use Rattle.fk_typing.specs.Names.{Env};
-ghost use Rattle.fk_typing.specs.Typing as y;
 ghost use Rattle.fk_references.specs.References as r;
 ghost use Rattle.fk_references.specs.View.{reference_of};
 ghost use Rattle.fk_type_rules.specs.Noted as noted;
@@ -19,9 +17,10 @@ ghost use Rattle.fk_type_rules.specs.Bound as b;
 ghost use Rattle.fk_bindings.specs.Known.{IsKnown, IsTold, number_meant};
 
 use fk_names::{Meaning, Names};
+use fk_parts::{struct_at, struct_in};
 use fk_references::Reference;
-use fk_signs::{ExpressionType, Value};
-use fk_structs::{Root, Structs};
+use fk_signs::ExpressionType;
+use fk_structs::Structs;
 use fk_syntax::{Name, TypeName};
 
 // The number of a name that is declared before each text.
@@ -47,44 +46,6 @@ fn number_meant(meaning: Option<Meaning>) -> Option<u32>
     }
 }
 
-// A struct, by its index.
-fn struct_of_root(root: Root, stars: u64) -> Option<usize>
-    ensures { result ≡ y.struct_of_root root stars }
-{
-    if stars > 0 {
-        return None;
-    }
-    match root {
-        Root::Struct(index) => Some(index),
-        Root::Int | Root::Unsigned | Root::Void => None,
-    }
-}
-
-// The struct that an expression of a type is.
-fn struct_of(kind: ExpressionType) -> Option<usize>
-    ensures { result ≡ y.struct_of kind }
-{
-    match kind {
-        ExpressionType::Stored(stored) => {
-            if stored.length.is_some() {
-                return None;
-            }
-            struct_of_root(stored.root, stored.stars)
-        }
-        ExpressionType::Computed(_) | ExpressionType::Nothing => None,
-    }
-}
-
-// The struct that a value points to.
-fn struct_at(value: Option<Value>) -> Option<usize>
-    ensures { result ≡ option_and_then y.struct_at value }
-{
-    match value {
-        Some(Value::Pointer(target)) => struct_of_root(target.root, target.stars),
-        Some(Value::Int | Value::Unsigned) | None => None,
-    }
-}
-
 // The struct whose member is named after an expression of a type.
 fn struct_before(is_arrow: bool, kind: ExpressionType) -> Option<usize>
     ensures { result ≡ b.struct_before is_arrow kind }
@@ -92,7 +53,7 @@ fn struct_before(is_arrow: bool, kind: ExpressionType) -> Option<usize>
     if is_arrow {
         struct_at(kind.value())
     } else {
-        struct_of(kind)
+        struct_in(Some(kind))
     }
 }
 

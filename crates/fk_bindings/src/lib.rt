@@ -2,11 +2,9 @@
 //! types by their size.
 #![tactic(auto)]
 
+mod bodies;
 mod bound;
 mod found;
 mod known;
 
 pub use bound::bindings;
-
-#[cfg(test)]
-mod tests;

@@ -7,6 +7,3 @@ mod thing;
 
 pub use class::{is_assigned_shared, is_call_shared, is_joined_shared, is_shared};
 pub use thing::{Thing, is_name_shared, thing_at};
-
-#[cfg(test)]
-mod tests;

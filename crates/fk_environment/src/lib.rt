@@ -7,6 +7,3 @@ mod environment;
 mod types;
 
 pub use environment::Environment;
-
-#[cfg(test)]
-mod tests;

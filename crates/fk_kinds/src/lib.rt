@@ -7,6 +7,3 @@ mod numbers;
 
 pub use kind::kind_of;
 pub use numbers::Kinds;
-
-#[cfg(test)]
-mod tests;

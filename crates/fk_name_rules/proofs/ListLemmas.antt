@@ -1,15 +1,12 @@
--- What stands at an index of a list, and faults that are told where something holds.
-use Rattle.std.proofs.Common.{◌≡◌, ◌↔◌, ℕ, zero, suc, ◌<◌, List, [], ◌∷◌, length, get_or, map, Bool, IsTrue, Option, Some, None, refl, sym, ap, subst, ◌∙◌, arith}
+-- What stands at an index of a list, and what the mark there breaks.
+use Rattle.std.proofs.Common.{◌≡◌, ℕ, zero, suc, ◌<◌, List, [], ◌∷◌, length, get_or, map, Option, Some, None, refl, sym, ap, subst, ◌∙◌, arith}
 use Rattle.std.specs.Prelude.{IsSomeAnd, slice_get}
 use Rattle.std.specs.Option.{option_map}
 use Rattle.std.proofs.lemmas.Option.{slice_get-map, slice_get_read, slice_get_within}
-use Rattle.fk_syntax.specs.declared.place.Place.{Place}
-use Rattle.fk_rules.specs.declared.rule.Rule.{Rule}
 use Rattle.fk_rules.specs.declared.fault.Fault.{Fault}
 use Rattle.fk_rules.specs.Least.{IsLeast}
-use Rattle.fk_rules.proofs.LeastLemmas.{IsLeast-same}
 use Rattle.fk_names.specs.Outline.{MarkTree}
-use Rattle.fk_name_rules.specs.Found.{told, MarkBreaks}
+use Rattle.fk_name_rules.specs.Found.{MarkBreaks}
 
 module _ {X Y : Type 0} (f : X → Y) (xs : List X) (i : ℕ) (x : X) where
   pub map_at : i < length xs → x ≡ get_or xs i x → slice_get (map f xs) i ≡ Some (f x)
@@ -36,11 +33,6 @@ module _ {X : Type 0} (P : X → Type 0) (xs : List X) (i : ℕ) where
 
   pub at_within : IsSomeAnd (slice_get xs i) P → i < length xs
   at_within p = let s = at_some p in slice_get_within xs i s.0 s.1
-
--- a fault that is told where a test is true is told where what the test says holds
-pub told_where : (rule : Rule) (here : Place) (b : Bool) (P : Type 0) → (IsTrue b ↔ P) → (r : Option Fault) → IsLeast (told rule here (IsTrue b)) r → IsLeast (told rule here P) r
-told_where rule here b P same r l = IsLeast-same (told rule here (IsTrue b)) (told rule here P)
-    (λ place broken h. (h.0, (same.0 h.1.0, h.1.1))) (λ place broken h. (h.0, (same.1 h.1.0, h.1.1))) r l
 
 -- what the mark of an index breaks, whichever it is
 same_mark : (m n : MarkTree) → Some m ≡ Some n → m ≡ n

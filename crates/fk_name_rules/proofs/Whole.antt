@@ -7,10 +7,11 @@ use Rattle.fk_rules.specs.declared.rule.Rule.{Rule}
 use Rattle.fk_rules.specs.declared.rule.Rule.TheVariants as r
 use Rattle.fk_rules.specs.declared.fault.Fault.{Fault}
 use Rattle.fk_rules.specs.Least.{Breaks, IsLeast, either, among}
+use Rattle.fk_rules.specs.Told.{told}
 use Rattle.fk_rules.proofs.LeastLemmas.{IsLeast-same}
 use Rattle.fk_names.specs.Outline.{MarkTree, Opens, Closes, Declares, Uses, outline}
 use Rattle.fk_name_rules.specs.Headers.{HasNoMain}
-use Rattle.fk_name_rules.specs.Found.{told, MarkBreaks, ItemBreaks}
+use Rattle.fk_name_rules.specs.Found.{MarkBreaks, ItemBreaks}
 use Rattle.fk_name_rules.specs.Broken.{NamesBreak}
 
 module _ (program : ProgramTree) where

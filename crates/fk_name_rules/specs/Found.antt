@@ -1,10 +1,9 @@
 -- What one mark or one item breaks.
-use Rattle.std.specs.Prelude.{◌≡◌, ◌⊎◌, ℕ, List}
-use Rattle.fk_syntax.specs.declared.place.Place.{Place}
+use Rattle.std.specs.Prelude.{◌⊎◌, ℕ, List}
 use Rattle.fk_syntax.specs.Program.{ItemTree, StructItem, VariablesItem, FunctionItem}
-use Rattle.fk_rules.specs.declared.rule.Rule.{Rule}
 use Rattle.fk_rules.specs.declared.rule.Rule.TheVariants as r
-use Rattle.fk_rules.specs.Least.{Breaks, only, either}
+use Rattle.fk_rules.specs.Least.{Breaks, either}
+use Rattle.fk_rules.specs.Told.{told}
 use Rattle.fk_names.specs.declared.names.Meaning.TheVariants.{Undeclared}
 use Rattle.fk_names.specs.Outline.{MarkTree, Opens, Closes, Declares, Uses, name_of}
 use Rattle.fk_names.specs.Means.{MeansAt}
@@ -14,10 +13,6 @@ use Rattle.fk_name_rules.specs.Headers.{IsWrongHeader, IsWrongMain}
 -- nothing is broken
 abbrev pub nothing : Breaks
 nothing place rule = ⊥
-
--- a rule is broken at a place where something holds
-abbrev pub told : Rule → Place → Type 0 → Breaks
-told forbidden here P = only forbidden (λ place. P × (place ≡ here))
 
 abbrev pub MarkBreaks : List MarkTree → ℕ → MarkTree → Breaks
 MarkBreaks marks at Opens = nothing

@@ -8,10 +8,10 @@ ghost use Rattle.fk_name_rules.specs.Found.{MarkBreaks, ItemBreaks};
 ghost use Rattle.fk_name_rules.specs.Known.{AreHeaders};
 ghost use Rattle.fk_name_rules.specs.Broken.{NamesBreak};
 
-use crate::headers::{Headers, fault_where};
+use crate::headers::Headers;
 use crate::named::mark_fault;
 use fk_names::{Mark, Outline, Reader};
-use fk_rules::{Fault, Rule, first_of};
+use fk_rules::{Fault, Rule, fault_if, first_of};
 use fk_syntax::{Item, Program};
 use std::alloc::{AllocError, Global};
 
@@ -52,10 +52,10 @@ pub fn name_fault(alloc: Global, program: &Program) -> Result<Option<Fault>, All
     let outline = Outline::of(alloc, &program.items)?;
     let marks = marks_fault(alloc, outline.marks())?;
     let headers = Headers::of(alloc, &program.items)?;
-    let main = fault_where(
-        headers.has_no_main(&program.items),
-        program.end,
+    let main = fault_if(
         Rule::NoMain,
+        program.end,
+        headers.has_no_main(&program.items),
     );
     let functions = first_of(main, headers_fault(&headers, &program.items));
     Ok(first_of(marks, functions))

@@ -8,13 +8,13 @@ ghost use Rattle.fk_rules.specs.Least.{IsLeast};
 ghost use Rattle.fk_names.specs.Locals.{IsFirstOf};
 ghost use Rattle.fk_names.specs.TableView.{shown};
 ghost use Rattle.fk_name_rules.specs.Headers.{HeaderHere, BodyHere, HasHeaderAt, HasBodyAt, HasLaterAt, Differs, RepeatsBody, LacksBody, IsWrongHeader, IsWrongMain, HasNoMain};
-ghost use Rattle.fk_name_rules.specs.Found.{told, ItemBreaks};
+ghost use Rattle.fk_name_rules.specs.Found.{ItemBreaks};
 ghost use Rattle.fk_name_rules.specs.Known.{AreHeaders};
 
 use crate::agree::agree;
 use fk_names::Table;
-use fk_rules::{Fault, Rule, first_of};
-use fk_syntax::{Function, Item, Mode, Place};
+use fk_rules::{Fault, Rule, fault_if, first_of};
+use fk_syntax::{Function, Item, Mode};
 use std::alloc::{AllocError, Global};
 
 // The name of the function whose header an item is.
@@ -93,17 +93,6 @@ fn second_headers<'a>(
         seconds.set_first(later_name(item, at, firsts), at)?;
     }
     Ok(seconds)
-}
-
-/// A rule that is broken at a place, or isn't.
-pub(crate) fn fault_where(broken: bool, place: Place, rule: Rule) -> Option<Fault>
-    ensures { IsLeast (told rule place (IsTrue broken)) result }
-{
-    if broken {
-        Some(Fault { place, rule })
-    } else {
-        None
-    }
 }
 
 // Whether a header is one of `main` in another form than it has.
@@ -203,8 +192,8 @@ impl<'a> Headers<'a> {
                 let wrong = self.is_wrong(items, at, function);
                 let main = is_wrong_main(function);
                 first_of(
-                    fault_where(wrong, place, Rule::HeadersDiffer),
-                    fault_where(main, place, Rule::NoMain),
+                    fault_if(Rule::HeadersDiffer, place, wrong),
+                    fault_if(Rule::NoMain, place, main),
                 )
             }
             Item::Struct(_, _) | Item::Variables(_) => None,

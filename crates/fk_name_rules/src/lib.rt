@@ -8,6 +8,3 @@ mod headers;
 mod named;
 
 pub use check::name_fault;
-
-#[cfg(test)]
-mod tests;

@@ -10,9 +10,8 @@ ghost use Rattle.fk_names.specs.Reading.{IsAt, marks_of};
 ghost use Rattle.fk_name_rules.specs.Named.{are_headers, IsAgain, IsTaken};
 ghost use Rattle.fk_name_rules.specs.Found.{MarkBreaks};
 
-use crate::headers::fault_where;
 use fk_names::{Declaration, Mark, Reader, is_predeclared};
-use fk_rules::{Fault, Rule};
+use fk_rules::{Fault, Rule, fault_if};
 use fk_syntax::Place;
 
 // The place of a declaration's name.
@@ -98,11 +97,11 @@ pub(crate) fn mark_fault(reader: &Reader, marks: &[Mark], at: usize) -> Option<F
         Mark::Opens | Mark::Closes => None,
         Mark::Uses(name) => {
             let broken = is_undeclared(reader, name.bytes);
-            fault_where(broken, name.place, Rule::Undeclared)
+            fault_if(Rule::Undeclared, name.place, broken)
         }
         Mark::Declares(declaration) => {
             let broken = is_twice(reader, marks, at, declaration);
-            fault_where(broken, name_place(declaration), Rule::DeclaredTwice)
+            fault_if(Rule::DeclaredTwice, name_place(declaration), broken)
         }
     }
 }

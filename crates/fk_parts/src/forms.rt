@@ -24,8 +24,8 @@ use crate::operands::{
     is_not_counted, is_not_prefixed, joined, last_of, pointed_by, sizeof_type, struct_at,
     struct_in, with_prefix,
 };
-use crate::parts::{Arguments, Part, fault_if, made, stored};
-use fk_rules::{Fault, Rule, first_of};
+use crate::parts::{Arguments, Part, made, stored};
+use fk_rules::{Fault, Rule, fault_if, first_of};
 use fk_signs::{ExpressionType, Value};
 use fk_struct_rules::{no_struct, sizeof_fault};
 use fk_syntax::{Name, Place, Sign, Spot, TypeName};

@@ -10,4 +10,5 @@ mod parts;
 
 pub use calls::Parameter;
 pub use names::{Known, Scope, Signature, Thing};
+pub use operands::{struct_at, struct_in};
 pub use parts::{Arguments, Part};

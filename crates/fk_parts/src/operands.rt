@@ -255,7 +255,7 @@ fn struct_of_root(root: Root, stars: u64) -> Option<usize>
 }
 
 /// The struct that an expression of a type is.
-pub(crate) fn struct_in(kind: Option<ExpressionType>) -> Option<usize>
+pub fn struct_in(kind: Option<ExpressionType>) -> Option<usize>
     ensures { result ≡ option_and_then y.struct_of kind }
 {
     match kind {
@@ -270,7 +270,7 @@ pub(crate) fn struct_in(kind: Option<ExpressionType>) -> Option<usize>
 }
 
 /// The struct that a value points to.
-pub(crate) fn struct_at(value: Option<Value>) -> Option<usize>
+pub fn struct_at(value: Option<Value>) -> Option<usize>
     ensures { result ≡ option_and_then y.struct_at value }
 {
     match value {

@@ -5,11 +5,11 @@ ghost use Rattle.fk_rules.specs.Least.{IsLeast};
 ghost use Rattle.fk_typing.specs.Term.{Term};
 ghost use Rattle.fk_typing.specs.Names.{Env};
 ghost use Rattle.fk_typing.specs.Typing.{value_in, operand_in};
-ghost use Rattle.fk_typing.specs.Broken.{where_so, as_value, as_condition, as_statement, Broken};
+ghost use Rattle.fk_typing.specs.Broken.{as_value, as_condition, as_statement, Broken};
 ghost use Rattle.fk_parts.specs.Parts.{IsPart};
 
 use crate::operands::{is_no_value, is_struct, operand_in, value_in};
-use fk_rules::{Fault, Rule, first_of};
+use fk_rules::{Fault, Rule, fault_if, first_of};
 use fk_signs::{ExpressionType, Operand, Value};
 use fk_syntax::{Name, Place};
 
@@ -28,16 +28,6 @@ pub struct Part<'a> {
     pub(crate) name: Option<Name<'a>>,
     /// The first that it breaks, however it is used.
     pub fault: Option<Fault>,
-}
-
-// A rule that is broken at a place, where a test holds.
-pub(crate) fn fault_if(rule: Rule, place: Place, holds: bool) -> Option<Fault>
-    ensures { IsLeast (where_so rule place holds) result }
-{
-    if holds {
-        return Some(Fault { place, rule });
-    }
-    None
 }
 
 impl<'a> Part<'a> {

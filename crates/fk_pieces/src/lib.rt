@@ -7,6 +7,3 @@ mod pieces;
 
 pub use piece::{Piece, Role};
 pub use pieces::Pieces;
-
-#[cfg(test)]
-mod tests;

@@ -12,6 +12,3 @@ mod token;
 
 pub use around::{Region, region_of};
 pub use check::{regions, regions_by};
-
-#[cfg(test)]
-mod tests;

@@ -1,46 +1,28 @@
-//! A table of pieces of programs, and which rule about regions and sharing each breaks first: the
-//! lines of the input, and those of the output.
+//! A table of texts, and what the front end says of each: the lines of the input, and those of the
+//! output.
 //!
-//! Each line of the input is the place of a piece, a tab and the piece. It stands in a text of its
-//! own on line 6: beside functions, in the body of `main`, or in the body of its `start`.
+//! A line of the input is what is asked, a tab, the place of a piece, a tab and the piece. Asked for
+//! `rules`, the program tells the first rule that the text breaks. Of a text that breaks none it
+//! tells, asked for `facts`, its kinds and the notes of its tokens; asked for `sites`, its operations
+//! and the frames of its functions; asked for `layout`, where its variables and group frames lie.
 #![tactic(auto)]
 
+mod laid;
+mod row;
 mod rules;
+mod told;
 
-use rules::{Answer, answer_for};
-use std::alloc::{AllocError, Global};
+use row::Row;
+use rules::answer_for;
 use std::io;
-
-const DECLARED: &str = "struct In { int x; };
-struct S { int a; struct In in; int v[3]; };
-struct T { int t; };
-sh struct S st; sh struct S so[2]; sh int x0, ar[4]; sh unsigned x1; int f0;";
-
-// The lines before and behind a piece, by its place.
-fn around(place: &str) -> (&'static str, &'static str) {
-    match place {
-        "item" => ("void main(void) { start { x0 = $; } }", ""),
-        "asynchronous" => ("void main(void) {", "start { x0 = $; } }"),
-        _ => ("void main(void) { start {", "} }"),
-    }
-}
-
-fn text_of(alloc: Global, line: &str) -> Result<String, AllocError> {
-    let (place, piece) = line.split_once("\t").unwrap_or(("item", line));
-    let (before, behind) = around(place);
-    format!(in alloc; "{DECLARED}\n{before}\n{piece}\n{behind}\n")
-}
 
 fn main(rt: HostRuntime) -> io::Result<()> {
     for line in rt.lines(rt.alloc()) {
-        let text = text_of(rt.alloc(), line?.as_str())?;
-        match answer_for(rt.alloc(), text.as_str().as_bytes())? {
-            Answer::NoProgram => println!(rt; "no program")?,
-            Answer::Kept => println!(rt; "keeps them")?,
-            Answer::Broken(place, rule) => {
-                println!(rt; "breaks {rule} at {}:{}", place.line, place.column)?
-            }
-        }
+        let line = line?;
+        let row = Row::of(line.as_str());
+        let text = row.text(rt.alloc())?;
+        let answer = answer_for(rt.alloc(), row.question, text.as_str().as_bytes())?;
+        print!(rt; "{answer}")?;
     }
     Ok(())
 }

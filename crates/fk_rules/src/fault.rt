@@ -1,7 +1,9 @@
 //! Broken rules, and which of several comes first.
 
 ghost use Rattle.std.specs.Bool.{OnTrue, OnFalse};
-ghost use Rattle.fk_rules.specs.Least.{IsNoLater, IsEarlier};
+ghost use Rattle.std.specs.Prelude.{IsTrue};
+ghost use Rattle.fk_rules.specs.Least.{IsNoLater, IsEarlier, IsLeast};
+ghost use Rattle.fk_rules.specs.Told.{told};
 
 use crate::rule::Rule;
 use fk_syntax::Place;
@@ -27,6 +29,16 @@ impl Fault {
         }
         self.rule.number() <= other.rule.number()
     }
+}
+
+/// A rule that is broken at a place, where a test holds.
+pub fn fault_if(rule: Rule, place: Place, holds: bool) -> Option<Fault>
+    ensures { IsLeast (told rule place (IsTrue holds)) result }
+{
+    if holds {
+        return Some(Fault { place, rule });
+    }
+    None
 }
 
 /// The first of two faults, by place and then by the number of the rule.

@@ -4,7 +4,7 @@
 mod fault;
 mod rule;
 
-pub use fault::{Fault, first_of};
+pub use fault::{Fault, fault_if, first_of};
 pub use rule::Rule;
 
 #[cfg(test)]

@@ -11,6 +11,3 @@ mod marks;
 mod token;
 
 pub use check::{sharing, sharing_by};
-
-#[cfg(test)]
-mod tests;

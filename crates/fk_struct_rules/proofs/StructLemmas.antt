@@ -1,8 +1,6 @@
 -- What structs and members break, one after the other.
-use Rattle.std.specs.Prelude.{◌↔◌, IsTrue, if◌then◌else◌}
-use Rattle.std.proofs.Common.{◌≡◌, ℕ, ◌+◌, ◌<◌, ◌≤◌, inl, inr, Bool, true, false, List, Option, Some, None, map, length, slice_get, get_or, refl, sym, ap, subst, ◌∙◌, arith}
+use Rattle.std.proofs.Common.{◌≡◌, ℕ, ◌+◌, ◌<◌, ◌≤◌, inl, inr, List, Option, Some, None, map, length, slice_get, get_or, refl, sym, ap, subst, ◌∙◌, arith}
 use Rattle.std.specs.Option.{option_map}
-use Rattle.std.proofs.lemmas.Bool.{false≢true}
 use Rattle.std.proofs.lemmas.List.{length-map}
 use Rattle.std.proofs.lemmas.Option.{same_Some, none-some, slice_get-map, slice_get_read}
 use Rattle.std.proofs.Math.Nat.{eq-or-lt_of_le}
@@ -13,15 +11,7 @@ use Rattle.fk_rules.specs.Least.{IsNoLater, IsEarlier, Breaks, IsLeast, only, ei
 use Rattle.fk_rules.proofs.LeastLemmas.{IsNoLater-refl, IsNoLater-trans, IsLeast-same, IsLeast-either, IsLeast-one_more, IsLeast-whole}
 use Rattle.fk_struct_rules.specs.Declarations.{At}
 use Rattle.fk_struct_rules.specs.Holding.{told}
-use Rattle.fk_struct_rules.proofs.DeclarationLemmas.{At-so, At-not}
-
--- a fact that is told at a place where a test says so
-pub At-test : (rule : Rule) (here : Place) (P : Type 0) (b : Bool) (r : Option Fault) → IsTrue b ↔ P → r ≡ (if b then Some (record { place = here; rule = rule }) else None) → IsLeast (only rule (At here P)) r
-At-test rule here P b r test is = subst (IsLeast (only rule (At here P))) (sym is) (by b test)
-  where
-    by : (b : Bool) → IsTrue b ↔ P → IsLeast (only rule (At here P)) (if b then Some (record { place = here; rule = rule }) else None)
-    by true t = At-so rule here P (t.0 refl)
-    by false t = At-not rule here P (λ p. false≢true (t.1 p))
+use Rattle.fk_struct_rules.proofs.DeclarationLemmas.{At-so}
 
 -- a list of the code is seen as one of the definitions
 module _ {X Y : Type 0} (view : X → Y) (P : ℕ → Y → Breaks) (xs : List X) where

@@ -31,8 +31,8 @@ pub fn no_struct(structs: &Structs, kind: &TypeName) -> Option<Fault>
     }
 }
 
-// Whether a type is `void`, and no pointer.
-fn is_void(kind: &TypeName) -> bool
+/// Whether a type is `void`, and no pointer.
+pub fn is_void(kind: &TypeName) -> bool
     ensures { IsTrue result ↔ IsVoid (type_of kind.now) }
 {
     matches!(
@@ -44,8 +44,8 @@ fn is_void(kind: &TypeName) -> bool
     )
 }
 
-// Whether a type is a struct, and no pointer.
-fn is_struct(kind: &TypeName) -> bool
+/// Whether a type is a struct, and no pointer.
+pub fn is_struct(kind: &TypeName) -> bool
     ensures { IsTrue result ↔ IsStruct (type_of kind.now) }
 {
     match kind.base {

@@ -7,8 +7,7 @@ mod holding;
 mod members;
 mod structs;
 
-pub use declarations::{declaration_fault, no_struct, parameter_fault, result_fault, sizeof_fault};
+pub use declarations::{
+    declaration_fault, is_struct, is_void, no_struct, parameter_fault, result_fault, sizeof_fault,
+};
 pub use structs::structs_fault;
-
-#[cfg(test)]
-mod tests;

@@ -1,6 +1,6 @@
 //! The rules about structs and their members: what is declared twice or is too large.
 
-ghost use Rattle.std.specs.Prelude.{◌≡◌, ◌↔◌, if◌then◌else◌, map, IsTrue};
+ghost use Rattle.std.specs.Prelude.{◌↔◌, map, IsTrue};
 ghost use Rattle.fk_syntax.specs.ProgramView.{declared_of};
 ghost use Rattle.fk_rules.specs.Least.{IsLeast, among};
 ghost use Rattle.fk_structs.specs.View.{outline_tree};
@@ -8,19 +8,9 @@ ghost use Rattle.fk_structs.specs.Whole.{structs_in, IsSound};
 ghost use Rattle.fk_struct_rules.specs.Structs.{IsSecondStruct, IsSecondMember, NameBreaks, MemberBreaks, StructBreaks};
 
 use crate::declarations::{declaration_fault, is_too_large};
-use fk_rules::{Fault, Rule, first_of};
+use fk_rules::{Fault, Rule, fault_if, first_of};
 use fk_structs::{DataType, Outline, Root, Structs};
-use fk_syntax::{Declared, Place};
-
-// A fault, where something is broken.
-fn fault_if(is_broken: bool, place: Place, rule: Rule) -> Option<Fault>
-    ensures { result ≡ (if is_broken then Some (record { place = place; rule = rule }) else None) }
-{
-    if is_broken {
-        return Some(Fault { place, rule });
-    }
-    None
-}
+use fk_syntax::Declared;
 
 // Whether a struct is declared again.
 fn is_second_struct(structs: &Structs, index: usize, outline: &Outline) -> bool
@@ -59,8 +49,8 @@ fn name_fault(structs: &Structs, index: usize, outline: &Outline) -> Option<Faul
     };
     let place = outline.name.place;
     let is_second = is_second_struct(structs, index, outline);
-    let second = fault_if(is_second, place, Rule::DeclaredTwice);
-    let large = fault_if(is_too_large(structs, &kind), place, Rule::WrongSize);
+    let second = fault_if(Rule::DeclaredTwice, place, is_second);
+    let large = fault_if(Rule::WrongSize, place, is_too_large(structs, &kind));
     first_of(second, large)
 }
 
@@ -71,7 +61,7 @@ fn member_fault(structs: &Structs, index: usize, place: usize, member: &Declared
         (MemberBreaks (structs_in structs.now) index place (declared_of member.now)) result }
 {
     let is_second = is_second_member(structs, index, place, member);
-    let second = fault_if(is_second, member.name.place, Rule::DeclaredTwice);
+    let second = fault_if(Rule::DeclaredTwice, member.name.place, is_second);
     first_of(second, declaration_fault(structs, member))
 }
 

@@ -14,6 +14,3 @@ mod words;
 pub use outline::Outline;
 pub use structs::Structs;
 pub use types::{DataType, Root};
-
-#[cfg(test)]
-mod tests;

@@ -9,6 +9,3 @@ mod values;
 
 pub use check::program_fault;
 pub use judge::pieces_fault;
-
-#[cfg(test)]
-mod tests;

@@ -6,10 +6,9 @@ ghost use Rattle.fk_syntax.specs.View.{tree_of, type_of};
 ghost use Rattle.fk_syntax.specs.ProgramView.{declared_of};
 ghost use Rattle.fk_rules.specs.Least.{IsLeast};
 ghost use Rattle.fk_structs.specs.Whole.{IsSound};
-ghost use Rattle.fk_struct_rules.specs.Declarations.{IsVoid, IsStruct};
+ghost use Rattle.fk_struct_rules.specs.Declarations.{IsStruct};
 ghost use Rattle.fk_typing.specs.Term.{Term, term_of};
 ghost use Rattle.fk_typing.specs.Names.{Env};
-ghost use Rattle.fk_typing.specs.Broken.{where_so};
 ghost use Rattle.fk_parts.specs.Parts.{IsPart};
 ghost use Rattle.fk_parts.specs.Scope.{env_in};
 ghost use Rattle.fk_type_rules.specs.Pieces as b;
@@ -19,20 +18,11 @@ ghost use Rattle.fk_type_rules.specs.Constant.{ConstantBreaks};
 use crate::constant::is_more;
 use fk_parts::{Part, Scope};
 use fk_pieces::Role;
-use fk_rules::{Fault, Rule, first_of};
+use fk_rules::{Fault, Rule, fault_if, first_of};
 use fk_signs::{ExpressionType, Operand, Value, converts};
+use fk_struct_rules::{is_struct, is_void};
 use fk_structs::DataType;
-use fk_syntax::{Base, Declared, Expr, Place, Spot, TypeName};
-
-// A rule that is broken at a place, where a test holds.
-fn fault_if(rule: Rule, place: Place, holds: bool) -> Option<Fault>
-    ensures { IsLeast (where_so rule place holds) result }
-{
-    if holds {
-        return Some(Fault { place, rule });
-    }
-    None
-}
+use fk_syntax::{Declared, Expr, Place, Spot, TypeName};
 
 // What is stored, as a value, where it is neither an array nor a struct.
 fn scalar(kind: Option<DataType>) -> Option<Value>
@@ -62,29 +52,6 @@ fn conversion_fault(part: &Part, kind: Option<DataType>, place: Place) -> Option
 {
     let is_wrong = is_not_converted(part.operand(), scalar(kind));
     fault_if(Rule::NoConversion, place, is_wrong)
-}
-
-// Whether a type is `void`, and no pointer.
-fn is_void(kind: &TypeName) -> bool
-    ensures { IsTrue result ↔ IsVoid (type_of kind.now) }
-{
-    matches!(
-        kind,
-        TypeName {
-            base: Base::Void,
-            stars: 0
-        }
-    )
-}
-
-// Whether a type is a struct, and no pointer.
-fn is_struct(kind: &TypeName) -> bool
-    ensures { IsTrue result ↔ IsStruct (type_of kind.now) }
-{
-    match kind.base {
-        Base::Struct(_) => kind.stars == 0,
-        Base::Int | Base::Unsigned | Base::Void => false,
-    }
 }
 
 // Whether a variable is an array or a struct.

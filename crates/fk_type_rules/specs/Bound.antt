@@ -9,8 +9,8 @@ use Rattle.fk_structs.specs.Types.{type_spelled, member_named}
 use Rattle.fk_structs.specs.Words.{capped}
 use Rattle.fk_structs.specs.Sizes.{HasTypeWords, HasOffset}
 use Rattle.fk_names.specs.declared.names.Meaning.TheVariants as m
-use Rattle.fk_names.specs.Outline.{DeclarationTree, declarations, name_of}
-use Rattle.fk_names.specs.Means.{Means}
+use Rattle.fk_names.specs.Outline.{DeclarationTree, Declares, outline, name_of}
+use Rattle.fk_names.specs.Means.{Means, StandsFor, binding}
 use Rattle.fk_signs.specs.declared.values.ExpressionType.{ExpressionType}
 use Rattle.fk_signs.specs.Values.{value_of}
 use Rattle.fk_typing.specs.Names.{Env}
@@ -57,10 +57,12 @@ token_of (Name name) = name.at
 token_of (Member whole is_arrow name) = name.at
 token_of (Size spot type) = spot.at
 
--- what the token of an index names: what stands there refers to it, or is its declaration
+-- what the token of an index names: what stands there refers to it, or is the name of a declaration
+-- that stands for it
 pub data IsBound (env : Env) (program : ProgramTree) (at : ℕ) : ℕ → Type 0 where
   refers : (r : ReferenceTree) (number : ℕ) → Contains (pieces_references (pieces program)) r → token_of r ≡ at → Refers env program r number → IsBound env program at number
-  declares : (d : DeclarationTree) (number : ℕ) → slice_get (declarations program) number ≡ Some d → (name_of d).at ≡ at → IsBound env program at number
+  declares : (d : DeclarationTree) (here meant : ℕ) → slice_get (outline program) here ≡ Some (Declares d) → (name_of d).at ≡ at
+      → StandsFor (outline program) (name_of d).bytes here d meant → IsBound env program at (binding (outline program) meant)
 
 -- each token that names anything has its number
 abbrev pub AreBound : Env → ProgramTree → List ℕ → Type 0

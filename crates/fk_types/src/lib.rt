@@ -6,6 +6,3 @@ mod check;
 mod facts;
 
 pub use check::{types, types_by};
-
-#[cfg(test)]
-mod tests;

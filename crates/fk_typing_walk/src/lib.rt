@@ -5,6 +5,3 @@ mod walk;
 
 pub use fk_parts::{Known, Part, Scope, Signature};
 pub use walk::expression;
-
-#[cfg(test)]
-mod tests;

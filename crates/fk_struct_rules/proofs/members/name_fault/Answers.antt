@@ -1,11 +1,11 @@
 use Rattle.fk_rules.specs.declared.rule.Rule.TheVariants as rules
 use Rattle.fk_rules.specs.Least.{only}
 use Rattle.fk_rules.proofs.LeastLemmas.{IsLeast-either}
+use Rattle.fk_rules.proofs.ToldLemmas.{told_where}
 use Rattle.fk_structs.specs.View.{outline_tree}
 use Rattle.fk_structs.specs.Whole.{structs_in}
 use Rattle.fk_struct_rules.specs.Declarations.{At, IsTooLarge}
 use Rattle.fk_struct_rules.specs.Structs.{whole, IsSecondStruct}
-use Rattle.fk_struct_rules.proofs.StructLemmas.{At-test}
 use Rattle.fk_struct_rules.proofs.members.name_fault.Goals as goal
 
 pub returns : goal.returns
@@ -16,6 +16,6 @@ returns c =
     let Q = IsTooLarge structs (whole c.args.index) in
     IsLeast-either (only rules.DeclaredTwice (At s.name.place P)) (only rules.WrongSize (At s.name.place Q))
     c.fault_if-second.result c.fault_if-large.result c.first_of.result
-    (At-test rules.DeclaredTwice s.name.place P c.is_second_struct-is_second.result c.fault_if-second.result c.is_second_struct-is_second.ensures c.fault_if-second.ensures)
-    (At-test rules.WrongSize s.name.place Q c.is_too_large.result c.fault_if-large.result c.is_too_large.ensures c.fault_if-large.ensures)
+    (told_where rules.DeclaredTwice s.name.place c.is_second_struct-is_second.result P c.is_second_struct-is_second.ensures c.fault_if-second.result c.fault_if-second.ensures)
+    (told_where rules.WrongSize s.name.place c.is_too_large.result Q c.is_too_large.ensures c.fault_if-large.result c.fault_if-large.ensures)
     c.first_of.ensures

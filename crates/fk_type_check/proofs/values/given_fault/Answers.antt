@@ -3,9 +3,9 @@ use Rattle.fk_syntax.specs.View.{type_of}
 use Rattle.fk_rules.specs.declared.rule.Rule.TheVariants as rules
 use Rattle.fk_rules.specs.Least.{IsLeast, only, either}
 use Rattle.fk_rules.proofs.LeastLemmas.{IsLeast-either}
+use Rattle.fk_rules.proofs.ToldLemmas.{told_where}
 use Rattle.fk_structs.specs.Types.{type_spelled}
 use Rattle.fk_struct_rules.specs.Declarations.{At, IsVoid}
-use Rattle.fk_name_rules.proofs.ListLemmas.{told_where}
 use Rattle.fk_typing.specs.Term.{term_of}
 use Rattle.fk_typing.specs.Broken.{Broken, as_value}
 use Rattle.fk_parts.specs.Scope.{env_in}

@@ -2,8 +2,8 @@ use Rattle.std.proofs.Common.{not}
 use Rattle.std.proofs.lemmas.Bool.Decides.{Decides-not}
 use Rattle.fk_syntax.specs.View.{type_of}
 use Rattle.fk_rules.specs.declared.rule.Rule.TheVariants as rules
+use Rattle.fk_rules.proofs.ToldLemmas.{told_where}
 use Rattle.fk_struct_rules.specs.Declarations.{IsVoid}
-use Rattle.fk_name_rules.proofs.ListLemmas.{told_where}
 use Rattle.fk_type_check.proofs.values.lacking_fault.Goals as goal
 
 pub returns : goal.returns

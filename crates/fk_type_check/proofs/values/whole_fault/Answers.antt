@@ -1,8 +1,8 @@
 use Rattle.std.proofs.Common.{◌⊎◌, IsSome}
 use Rattle.fk_syntax.specs.ProgramView.{declared_of}
 use Rattle.fk_rules.specs.declared.rule.Rule.TheVariants as rules
+use Rattle.fk_rules.proofs.ToldLemmas.{told_where}
 use Rattle.fk_struct_rules.specs.Declarations.{IsStruct}
-use Rattle.fk_name_rules.proofs.ListLemmas.{told_where}
 use Rattle.fk_type_check.proofs.values.whole_fault.Goals as goal
 
 pub returns : goal.returns

@@ -1,0 +1,13 @@
+//! Laws of the definitions.
+
+ghost use Rattle.fk_check.specs.Laws.{BreaksOneFirst, KeepsOrBreaks};
+
+/// A program that keeps all rules breaks none first.
+pub fn keeps_or_breaks()
+    ensures { KeepsOrBreaks }
+{}
+
+/// A program breaks at most one rule first, at one place.
+pub fn breaks_one_first()
+    ensures { BreaksOneFirst }
+{}
