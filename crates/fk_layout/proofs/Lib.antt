@@ -1,1 +1,4 @@
 pub mod Counted
+pub mod Written
+pub mod Sizing
+mod Framed

@@ -1,9 +1,12 @@
-//! How large what a text asks for is.
+//! How large what a text asks for is, and where it lies.
 #![tactic(auto)]
 
+mod frames;
+mod layout;
+mod listed;
 mod sites;
 
+pub use frames::MOST_PRIVATE_WORDS;
+pub use layout::{Layout, lay_out};
+pub use listed::{Listing, Site, all_sites};
 pub use sites::{LayoutFault, MOST_SITES, count_sites, fitting_sites};
-
-#[cfg(test)]
-mod tests;

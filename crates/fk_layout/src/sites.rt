@@ -4,19 +4,36 @@ ghost use Rattle.std.specs.Prelude.{◌≡◌, ◌-◌, ◌^◌, ◌<◌, ◌≤
 ghost use Rattle.fk_walk.specs.Known.{IsSound};
 ghost use Rattle.fk_walk_statements.specs.Texts.{sites_of_text};
 
+use fk_syntax::Place;
 use fk_walk::{Known, Tally};
 use fk_walk_statements::text;
+use std::alloc::AllocError;
 
-/// What a text asks for beyond the limits.
+/// Why a text has no layout.
 #[derive(Clone, Copy, PartialEq, Eq, Debug)]
 pub enum LayoutFault {
     /// It has so many operations, which are more than an image can name. Above 2^64 - 1 it is that
     /// number.
     TooManySites(u64),
+    /// The private frame of a function has so many words, which are more than a frame may have. Its
+    /// name stands at this place. Above 2^32 - 1 it is that number.
+    FrameTooLarge(Place, u32),
+    /// Its shared variables of file scope have so many words, which are more than an image can
+    /// have. Above 2^64 - 1 it is that number.
+    GlobalsTooLarge(u64),
+    /// There is no memory for what is told of it.
+    Memory,
 }
 
 /// How many operations an image can name.
 pub const MOST_SITES: u64 = 16_000;
+
+// There is no memory.
+pub(crate) fn out_of_memory(_refused: AllocError) -> LayoutFault
+    ensures { result ≡ LayoutFault.Memory }
+{
+    LayoutFault::Memory
+}
 
 /// How many operations a text has. Above 2^64 - 1 it is that number. It takes no memory, and time
 /// linear in the text.

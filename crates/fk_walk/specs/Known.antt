@@ -1,8 +1,9 @@
 -- What is known of a program, as the forms have it.
-use Rattle.std.specs.Prelude.{◌≡◌, ℕ, Bool, false, List, map, slice_get, Option, Some, None, is_some, if◌then◌else◌}
+use Rattle.std.specs.Prelude.{◌≡◌, ℕ, Bool, List, map, slice_get, Option, Some, None, if◌then◌else◌}
 use Rattle.fk_syntax.specs.Program as p
 use Rattle.fk_syntax.specs.Program.{FunctionTree, ItemTree}
 use Rattle.fk_syntax.specs.ProgramView.{item_of}
+use Rattle.fk_forms.specs.declared.tables.Region.{Region}
 use Rattle.fk_forms.specs.Tables.{Tables, frame_at}
 use Rattle.fk_forms.specs.Expressions.{Signature}
 use Rattle.fk_forms.specs.Program as f
@@ -38,15 +39,15 @@ abbrev pub called : Option (Option ℕ) → List ItemTree → Option FunctionTre
 called (Some (Some i)) items = function_in (slice_get items i)
 called index items = None
 
--- whether a part of a token has a group frame
-abbrev pub is_framed : Option Framed → (second : Bool) → Bool
-is_framed None second = false
-is_framed (Some framed) second = if second then framed.second else framed.first
+-- the group frame that a part of a token has
+abbrev pub framed_in : Option Framed → (second : Bool) → Option Region
+framed_in None second = None
+framed_in (Some framed) second = if second then framed.second else framed.first
 
 abbrev pub part_of : (second : Bool) → ℕ
 part_of second = if second then 1 else 0
 
--- the indices tell the same functions as the bindings do, and the same group frames as the regions do
+-- the indices tell the same functions as the bindings do, and the tokens the same group frames as the regions do
 pub record IsSound (known : Known) : Type 0 where
   pub callees : (binding : ℕ) → functions_of known binding ≡ signature_at (called (slice_get known.callees.now binding) (items_in known))
-  pub frames : (at : ℕ) (second : Bool) → is_some (frame_at (tables_of known) at (part_of second)) ≡ is_framed (slice_get known.framed.now at) second
+  pub frames : (at : ℕ) (second : Bool) → frame_at (tables_of known) at (part_of second) ≡ framed_in (slice_get known.framed.now at) second

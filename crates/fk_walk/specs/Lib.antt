@@ -1,6 +1,7 @@
 pub mod Known
 pub mod Standing
-pub mod Bare
+pub mod Shown
+pub mod Event
 pub mod Through
 pub mod Ways
 pub mod Suffix

@@ -1,6 +1,7 @@
 //! How a call is entered.
 
-ghost use Rattle.std.specs.Prelude.{◌≡◌, ℕ, map, length};
+ghost use Rattle.std.specs.Prelude.{◌≡◌, ◌+◌, ◌∷◌, List, map, length};
+ghost use Rattle.fk_syntax.specs.Program.{DeclaredTree};
 ghost use Rattle.fk_syntax.specs.ProgramView.{declared_of};
 ghost use Rattle.fk_syntax.specs.declared.place.Place.{Place};
 ghost use Rattle.fk_forms.specs.Expressions as e;
@@ -12,9 +13,8 @@ ghost use Rattle.fk_walk.specs.Known.{tables_of, functions_of, part_of, IsSound}
 ghost use Rattle.fk_walk.specs.Through.{through, Passes};
 
 use crate::known::Known;
-use crate::standings::GET;
-use crate::visitor::{Event, Visitor, plain};
-use fk_operation::Operation;
+use crate::visitor::{Event, NOWHERE, Visitor, perform, plain};
+use fk_operation::{Known as Value, Operation, Variable};
 use fk_syntax::{Declared, Place};
 
 /// The group frame of a part of a token, where it has words.
@@ -24,12 +24,32 @@ pub fn frame<V: Visitor>(known: &Known, visitor: &mut V, at: u32, second: bool, 
         (e.framed (tables_of known.now) (functions_of known.now)
         (frame_at (tables_of known.now) at (part_of second)) place) }
 {
-    if known.is_framed(at, second) {
+    if let Some(region) = known.frame_at(at, second) {
         let operation = Operation::Frame {
-            nesting: 0,
-            words: 0,
+            nesting: region.level,
+            words: region.words,
         };
-        visitor.meet(Event::Perform(operation, place));
+        perform(visitor, operation, place);
+    }
+}
+
+// A parameter with this number is put into the frame, where it is `sh`. A number above 2^32 - 1 is
+// shown as that one.
+fn keep<V: Visitor>(known: &Known, visitor: &mut V, number: usize, parameter: &Declared)
+    ensures { (others : List DeclaredTree)
+        → through V.after V.counts (functions_of known.now) visitor.old
+        (e.parameters (tables_of known.now) (functions_of known.now) number
+        (declared_of parameter.now ∷ others))
+        ≡ through V.after V.counts (functions_of known.now) visitor.new
+        (e.parameters (tables_of known.now) (functions_of known.now) (number + 1) others) }
+{
+    if parameter.shared {
+        let slot = known.slot(known.note(parameter.name.at).binding);
+        plain(visitor, Operation::Get(Value::FrameAddress(0, slot.index)));
+        let word = Variable::Private(number.min(u32::MAX as usize) as u32);
+        visitor.meet(Event::Perform(Operation::Get(Value::Value(word)), NOWHERE));
+        plain(visitor, Operation::Write);
+        plain(visitor, Operation::DropLast);
     }
 }
 
@@ -39,27 +59,24 @@ fn fill<V: Visitor>(known: &Known, visitor: &mut V, parameters: &[Declared])
         (e.parameters (tables_of known.now) (functions_of known.now) 0
         (map declared_of parameters.now)) }
 {
-    for parameter in parameters {
-        if parameter.shared {
-            plain(visitor, GET);
-            plain(visitor, GET);
-            plain(visitor, Operation::Write);
-            plain(visitor, Operation::DropLast);
-        }
+    for (index, parameter) in parameters.iter().enumerate() {
+        keep(known, visitor, index, parameter);
     }
 }
 
-/// The beginning of a call of a function whose name has this token, with these parameters.
+/// A call of the function of a binding, whose name has this token, with these parameters. If it has
+/// more than 2^32 - 1 of them, so many are shown.
 pub(crate) fn enter<V: Visitor>(
     known: &Known,
     visitor: &mut V,
     place: Place,
+    binding: u32,
     at: u32,
     parameters: &[Declared],
     void: bool,
 )
     requires { IsSound known.now }
-    ensures { (binding : ℕ) (rest : Coded) → (functions_of known.now binding).void ≡ void
+    ensures { (rest : Coded) → (functions_of known.now binding).void ≡ void
         → through V.after V.counts (functions_of known.now) visitor.old
         (c.call place (o.Enter (length (map declared_of parameters.now))) binding
         (e.framed (tables_of known.now) (functions_of known.now)
@@ -69,7 +86,7 @@ pub(crate) fn enter<V: Visitor>(
         ≡ through V.after V.counts (functions_of known.now) visitor.new rest }
 {
     let count = parameters.len().min(u32::MAX as usize) as u32;
-    visitor.meet(Event::Perform(Operation::Enter(count), place));
+    visitor.meet(Event::Call(Operation::Enter(count), place, binding));
     let entered = visitor.mark();
     frame(known, visitor, at, false, place);
     fill(known, visitor, parameters);

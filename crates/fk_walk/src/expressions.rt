@@ -1,6 +1,6 @@
 //! The operations of expressions.
 
-ghost use Rattle.std.specs.Prelude.{◌≡◌, ℕ, map};
+ghost use Rattle.std.specs.Prelude.{◌≡◌, map, if◌then◌else◌};
 ghost use Rattle.fk_syntax.specs.Tree.{links_of, suffixes_of, trees_of};
 ghost use Rattle.fk_syntax.specs.View.{tree_of, link_of, suffix_of, named};
 ghost use Rattle.fk_syntax.specs.ProgramView.{declared_of};
@@ -11,21 +11,23 @@ ghost use Rattle.fk_walk.specs.Known.{tables_of, functions_of, IsSound};
 ghost use Rattle.fk_walk.specs.Standing.{standing_of, behind_value, ending};
 ghost use Rattle.fk_walk.specs.Suffix as s;
 ghost use Rattle.fk_walk.specs.Suffix.{one_link, assigned_to, chained, followed};
-ghost use Rattle.fk_walk.specs.Bare.{bare};
 ghost use Rattle.fk_walk.specs.Through.{through, Leads, LeadsOn};
+ghost use Rattle.fk_walk.specs.Ways.{behind_first, other_arm, rejoined};
+ghost use Rattle.fk_operation.specs.declared.operation.Operation.TheVariants as o;
 
 use crate::calls::enter;
 use crate::known::{Known, PREDECLARED};
 use crate::standing::Standing;
 use crate::standings::{
-    GET, INDEX, JOIN, PUSH, agree, discard, end, fetch, give_address, give_value, is_deep, name,
-    operate, put, raise,
+    agree, discard, end, enter_member, fetch, give_address, give_value, is_deep, name, operate,
+    put, raise, raise_and_undo,
 };
 use crate::texts::put_bytes;
 use crate::tokens::{suffix_token, token_of};
 use crate::types::is_nothing;
-use crate::visitor::{Event, Visitor, plain};
-use fk_operation::{Multiprefix, Operation, Split, Unary};
+use crate::visitor::{Event, NOWHERE, Visitor, Ways, choose, plain};
+use fk_num::Op;
+use fk_operation::{Known as Value, Multiprefix, Operation, Split, Unary};
 use fk_syntax::{Declared, Expr, Link, Name, Sign, Spot, Suffix};
 
 /// Shows a visitor the operations of an expression, and tells how it stands behind them. It is
@@ -42,19 +44,18 @@ pub fn expression<'t, V: Visitor>(
         (e.stands (tables_of known.now) (functions_of known.now) (tree_of whole.now)) }
 {
     match whole {
-        Expr::Number(_, _, _) | Expr::Sizeof(_, _) => {
-            plain(visitor, PUSH);
-            Some(Standing::OnList)
+        Expr::Number(_, number, _) => single(known, visitor, Operation::Push(*number)),
+        Expr::Sizeof(spot, _) => {
+            let bytes = known.note(spot.at).binding;
+            single(known, visitor, Operation::Push(bytes))
         }
         Expr::Puts(_, text) => {
             put_bytes(known, visitor, text);
             Some(Standing::OnList)
         }
         Expr::Named(variable) => name(known, visitor, *variable),
-        Expr::GroupNumber(_) | Expr::GroupRank(_) => {
-            plain(visitor, GET);
-            Some(Standing::OnList)
-        }
+        Expr::GroupNumber(_) => single(known, visitor, Operation::Get(Value::GroupNumber)),
+        Expr::GroupRank(_) => single(known, visitor, Operation::Get(Value::Rank)),
         Expr::Prefix(spot, sign, operand) => prefix(known, visitor, *spot, *sign, operand),
         Expr::Cast(_, _, operand) => {
             value(known, visitor, operand)?;
@@ -74,30 +75,9 @@ pub fn expression<'t, V: Visitor>(
         }
         Expr::Choose(spot, condition, first, second) => {
             value(known, visitor, condition)?;
-            let here = known.note(spot.at);
-            if here.splits {
-                let before = visitor.mark();
-                visitor.meet(Event::Perform(Operation::Divide(Split::IfElse), spot.place));
-                let inside = visitor.mark();
-                arm(known, visitor, first, true);
-                let behind = visitor.mark();
-                visitor.meet(Event::Aside(inside));
-                arm(known, visitor, second, true);
-                visitor.meet(Event::Joined(before, behind));
-                plain(visitor, Operation::Resume);
-                Some(Standing::OnList)
-            } else {
-                agree(visitor, here.sync);
-                let before = visitor.mark();
-                plain(visitor, Operation::Branch(true));
-                let inside = visitor.mark();
-                arm(known, visitor, first, false);
-                let behind = visitor.mark();
-                visitor.meet(Event::Aside(inside));
-                arm(known, visitor, second, false);
-                visitor.meet(Event::Joined(before, behind));
-                Some(Standing::OnList)
-            }
+            let ways = first_arm(known, visitor, *spot, first);
+            second_arm(known, visitor, *spot, second, ways);
+            Some(Standing::OnList)
         }
     }
 }
@@ -131,21 +111,9 @@ fn prefix<'t, V: Visitor>(
         (e.token (tree_of operand.now))) }
 {
     match sign {
-        Sign::Minus => {
-            value(known, visitor, operand)?;
-            plain(visitor, Operation::Apply(Unary::Negate));
-            Some(Standing::OnList)
-        }
-        Sign::Tilde => {
-            value(known, visitor, operand)?;
-            plain(visitor, Operation::Apply(Unary::Complement));
-            Some(Standing::OnList)
-        }
-        Sign::Exclamation => {
-            value(known, visitor, operand)?;
-            plain(visitor, Operation::Apply(Unary::Not));
-            Some(Standing::OnList)
-        }
+        Sign::Minus => unary(known, visitor, Unary::Negate, operand),
+        Sign::Tilde => unary(known, visitor, Unary::Complement, operand),
+        Sign::Exclamation => unary(known, visitor, Unary::Not, operand),
         Sign::Star => {
             value(known, visitor, operand)?;
             Some(Standing::AtAddress(true, spot))
@@ -155,35 +123,64 @@ fn prefix<'t, V: Visitor>(
             give_address(known, visitor, standing);
             Some(Standing::OnList)
         }
-        Sign::Increment => {
-            let standing = expression(known, visitor, operand)?;
-            raise(
-                known,
-                visitor,
-                Sign::Plus,
-                standing,
-                token_of(operand),
-                spot.at,
-            );
-            Some(Standing::OnList)
-        }
-        Sign::Decrement => {
-            let standing = expression(known, visitor, operand)?;
-            raise(
-                known,
-                visitor,
-                Sign::Minus,
-                standing,
-                token_of(operand),
-                spot.at,
-            );
-            Some(Standing::OnList)
-        }
+        Sign::Increment => increase(known, visitor, Sign::Plus, spot, operand),
+        Sign::Decrement => increase(known, visitor, Sign::Minus, spot, operand),
         _ => {
             value(known, visitor, operand)?;
             Some(Standing::OnList)
         }
     }
+}
+
+// One operation, which leaves a value.
+fn single<'t, V: Visitor>(
+    known: &Known,
+    visitor: &mut V,
+    operation: Operation,
+) -> Option<Standing<'t>>
+    ensures { Leads V.after V.counts (functions_of known.now) visitor.old visitor.new result
+        (λ k. e.plain operation (k e.OnList)) }
+{
+    plain(visitor, operation);
+    Some(Standing::OnList)
+}
+
+// A sign in front that is one operation on a value.
+#[cycle(expression)]
+fn unary<'t, V: Visitor>(
+    known: &Known,
+    visitor: &mut V,
+    by: Unary,
+    operand: &Expr<'t>,
+) -> Option<Standing<'t>>
+    requires { IsSound known.now }
+    ensures { Leads V.after V.counts (functions_of known.now) visitor.old visitor.new result
+        (λ k. e.value (tables_of known.now) (functions_of known.now) (tree_of operand.now)
+        (e.plain (o.Apply by) (k e.OnList))) }
+{
+    value(known, visitor, operand)?;
+    single(known, visitor, Operation::Apply(by))
+}
+
+// `++` or `--` in front, as the sum or difference with 1.
+#[cycle(expression)]
+fn increase<'t, V: Visitor>(
+    known: &Known,
+    visitor: &mut V,
+    sign: Sign,
+    spot: Spot,
+    operand: &Expr<'t>,
+) -> Option<Standing<'t>>
+    requires { IsSound known.now }
+    ensures { Leads V.after V.counts (functions_of known.now) visitor.old visitor.new result
+        (e.updated (tables_of known.now) (functions_of known.now) sign
+        (e.stands (tables_of known.now) (functions_of known.now) (tree_of operand.now))
+        (e.token (tree_of operand.now)) spot.at
+        (e.one (tables_of known.now) (functions_of known.now))) }
+{
+    let standing = expression(known, visitor, operand)?;
+    raise(known, visitor, sign, standing, token_of(operand), spot.at);
+    Some(Standing::OnList)
 }
 
 // The links of a chain, behind what stands before them.
@@ -276,9 +273,10 @@ fn logical<V: Visitor>(
     right: &Expr,
 )
     requires { IsSound known.now }
-    ensures { (other : ℕ) (k : e.Standing → Coded)
+    ensures { (k : e.Standing → Coded)
         → through V.after V.counts (functions_of known.now) visitor.old
-        (e.logical (tables_of known.now) (functions_of known.now) spot split onward other
+        (e.logical (tables_of known.now) (functions_of known.now) spot split onward
+        (if onward then 0 else 1)
         (λ j. j (standing_of left.entry))
         (e.stands (tables_of known.now) (functions_of known.now) (tree_of right.now)) k)
         ≡ through V.after V.counts (functions_of known.now) visitor.new (k e.OnList) }
@@ -287,7 +285,7 @@ fn logical<V: Visitor>(
     let here = known.note(spot.at);
     if here.splits {
         let before = visitor.mark();
-        visitor.meet(Event::Perform(Operation::Divide(split), spot.place));
+        choose(visitor, Operation::Divide(split), spot.place);
         let inside = visitor.mark();
         truth(known, visitor, right, true);
         let behind = visitor.mark();
@@ -297,14 +295,21 @@ fn logical<V: Visitor>(
     } else {
         agree(visitor, here.sync);
         let before = visitor.mark();
-        plain(visitor, Operation::Branch(onward));
+        choose(visitor, Operation::Branch(onward), NOWHERE);
         let inside = visitor.mark();
         truth(known, visitor, right, false);
         let behind = visitor.mark();
         visitor.meet(Event::Aside(inside));
-        plain(visitor, PUSH);
+        plain(visitor, Operation::Push(other_value(onward)));
         visitor.meet(Event::Joined(before, behind));
     }
+}
+
+// The value of `&&` or `||` where its right side is left out.
+fn other_value(onward: bool) -> u32
+    ensures { result ≡ (if onward then 0 else 1) }
+{
+    if onward { 0 } else { 1 }
 }
 
 // The right side of `&&` or `||`, whose value becomes 0 or 1. A part of a split ends behind it.
@@ -317,8 +322,8 @@ fn truth<V: Visitor>(known: &Known, visitor: &mut V, right: &Expr, ends: bool)
         (ending ends)) }
 {
     if value(known, visitor, right).is_some() {
-        plain(visitor, PUSH);
-        plain(visitor, JOIN);
+        plain(visitor, Operation::Push(0));
+        plain(visitor, Operation::Join(Op::Ne, false));
         end(visitor, ends);
     }
 }
@@ -333,6 +338,67 @@ fn arm<V: Visitor>(known: &Known, visitor: &mut V, whole: &Expr, ends: bool)
 {
     if value(known, visitor, whole).is_some() {
         end(visitor, ends);
+    }
+}
+
+// The first of the two values of `?:`, behind its condition. In a synchronous region the group
+// agrees before it branches, or splits.
+#[cycle(expression)]
+fn first_arm<V: Visitor>(known: &Known, visitor: &mut V, spot: Spot, first: &Expr) -> Ways
+    requires { IsSound known.now }
+    ensures { (second : e.Stands) (k : e.Standing → Coded)
+        → through V.after V.counts (functions_of known.now) visitor.old
+        (e.chosen (tables_of known.now) (functions_of known.now) spot (λ j. j e.OnList)
+        (e.stands (tables_of known.now) (functions_of known.now) (tree_of first.now)) second k)
+        ≡ behind_first V.after V.counts (functions_of known.now) visitor.new result
+        (other_arm (tables_of known.now) (functions_of known.now) spot second)
+        (rejoined (tables_of known.now) spot (k e.OnList)) }
+{
+    let here = known.note(spot.at);
+    if here.splits {
+        let before = visitor.mark();
+        choose(visitor, Operation::Divide(Split::IfElse), spot.place);
+        let inside = visitor.mark();
+        arm(known, visitor, first, true);
+        let behind = visitor.mark();
+        Ways {
+            before,
+            inside,
+            behind,
+        }
+    } else {
+        agree(visitor, here.sync);
+        let before = visitor.mark();
+        choose(visitor, Operation::Branch(true), NOWHERE);
+        let inside = visitor.mark();
+        arm(known, visitor, first, false);
+        let behind = visitor.mark();
+        Ways {
+            before,
+            inside,
+            behind,
+        }
+    }
+}
+
+// The second value of `?:`, and where both ways meet.
+#[cycle(expression)]
+fn second_arm<V: Visitor>(known: &Known, visitor: &mut V, spot: Spot, second: &Expr, ways: Ways)
+    requires { IsSound known.now }
+    ensures { (rest : Coded) → behind_first V.after V.counts (functions_of known.now) visitor.old
+        ways (other_arm (tables_of known.now) (functions_of known.now) spot
+        (e.stands (tables_of known.now) (functions_of known.now) (tree_of second.now)))
+        (rejoined (tables_of known.now) spot rest)
+        ≡ through V.after V.counts (functions_of known.now) visitor.new rest }
+{
+    visitor.meet(Event::Aside(ways.inside));
+    if known.note(spot.at).splits {
+        arm(known, visitor, second, true);
+        visitor.meet(Event::Joined(ways.before, ways.behind));
+        plain(visitor, Operation::Resume);
+    } else {
+        arm(known, visitor, second, false);
+        visitor.meet(Event::Joined(ways.before, ways.behind));
     }
 }
 
@@ -411,31 +477,26 @@ fn one_suffix<'t, V: Visitor>(
         Suffix::Index(spot, by) => {
             give_value(known, visitor, standing);
             value(known, visitor, by)?;
-            plain(visitor, INDEX);
+            let element = Operation::Index(known.bytes_at(spot.at));
+            visitor.meet(Event::Perform(element, NOWHERE));
             Some(Standing::AtAddress(true, *spot))
         }
         Suffix::Call(_, arguments) => call(known, visitor, standing, arguments),
-        Suffix::Dot(spot, _) => {
-            plain(visitor, PUSH);
-            plain(visitor, JOIN);
+        Suffix::Dot(spot, member) => {
+            enter_member(known, visitor, member.at);
             Some(Standing::AtAddress(is_deep(standing), *spot))
         }
-        Suffix::Arrow(spot, _) => {
+        Suffix::Arrow(spot, member) => {
             give_value(known, visitor, standing);
-            plain(visitor, PUSH);
-            plain(visitor, JOIN);
+            enter_member(known, visitor, member.at);
             Some(Standing::AtAddress(true, *spot))
         }
         Suffix::Up(_) => {
-            raise(known, visitor, Sign::Plus, standing, at, 0);
-            plain(visitor, PUSH);
-            plain(visitor, JOIN);
+            raise_and_undo(known, visitor, Sign::Plus, Sign::Minus, standing, at);
             Some(Standing::OnList)
         }
         Suffix::Down(_) => {
-            raise(known, visitor, Sign::Minus, standing, at, 0);
-            plain(visitor, PUSH);
-            plain(visitor, JOIN);
+            raise_and_undo(known, visitor, Sign::Minus, Sign::Plus, standing, at);
             Some(Standing::OnList)
         }
     }
@@ -492,6 +553,7 @@ fn call_declared<'t, V: Visitor>(
                 known,
                 visitor,
                 name.place,
+                binding,
                 function.name.at,
                 &function.params,
                 void,
@@ -499,7 +561,7 @@ fn call_declared<'t, V: Visitor>(
             Some(Standing::OnList)
         }
         None => {
-            enter(known, visitor, name.place, 0, &[], true);
+            enter(known, visitor, name.place, binding, 0, &[], true);
             Some(Standing::OnList)
         }
     }
@@ -555,7 +617,7 @@ fn call_predeclared<'t, V: Visitor>(
     } else if bytes == b"mpor".as_slice() {
         multiprefix(known, visitor, name, Multiprefix::MpOr, arguments)
     } else if bytes == b"groupsize".as_slice() {
-        plain(visitor, GET);
+        plain(visitor, Operation::Get(Value::GroupSize));
         Some(Standing::OnList)
     } else if bytes == b"putint".as_slice() {
         with_one(known, visitor, false, Operation::PrintNumber, arguments)
@@ -606,8 +668,7 @@ fn with_one<'t, V: Visitor>(
     operation: Operation,
     arguments: &[Expr<'t>],
 ) -> Option<Standing<'t>>
-    requires sound { IsSound known.now }
-    requires bare { bare operation ≡ operation }
+    requires { IsSound known.now }
     ensures { Leads V.after V.counts (functions_of known.now) visitor.old visitor.new result
         (e.with_one (tables_of known.now) (functions_of known.now)
         (λ rest. e.agreed agreed (e.plain operation rest))

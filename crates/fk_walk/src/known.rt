@@ -1,10 +1,11 @@
 //! What a walk asks of a program's names, types and places.
 
-ghost use Rattle.std.specs.Prelude.{◌≡◌, ◌==◌, slice_get};
+ghost use Rattle.std.specs.Prelude.{◌≡◌, ◌+◌, ◌*◌, slice_get, is_some};
 ghost use Rattle.fk_forms.specs.Tables as t;
 ghost use Rattle.std.specs.Option.{option_map};
 ghost use Rattle.fk_syntax.specs.ProgramView.{function_of};
-ghost use Rattle.fk_walk.specs.Known.{tables_of, items_in, called, is_framed as is_framed_by};
+ghost use Rattle.fk_walk.specs.Known.{tables_of, items_in, called, framed_in};
+ghost use Rattle.fk_walk.specs.Shown.{as_word};
 
 use fk_forms::{Home, Region, Slot};
 use fk_syntax::{Function, Item, Kind, Note};
@@ -12,12 +13,12 @@ use fk_syntax::{Function, Item, Kind, Note};
 /// The binding of a name that is declared before each text.
 pub(crate) const PREDECLARED: u32 = u32::MAX;
 
-/// Which parts of a token have a group frame.
+/// The group frames of a token, where its parts have them.
 #[derive(Clone, Copy, PartialEq, Eq, Debug)]
 pub struct Framed {
-    pub first: bool,
-    /// The part of an `else`.
-    pub second: bool,
+    pub first: Option<Region>,
+    /// That of the part of an `else`.
+    pub second: Option<Region>,
 }
 
 /// What is known of a program.
@@ -35,7 +36,7 @@ pub struct Known<'p, 't> {
     pub items: &'p [Item<'t>],
     /// The index among these of the function that a binding means.
     pub callees: &'p [Option<usize>],
-    /// Of each token whether it has group frames.
+    /// The group frames of each token.
     pub framed: &'p [Framed],
 }
 
@@ -59,6 +60,13 @@ const NO_SLOT: Slot = Slot {
     index: 0,
 };
 
+const NO_REGION: Region = Region {
+    at: 0,
+    part: 0,
+    level: 0,
+    words: 0,
+};
+
 impl<'p, 't> Known<'p, 't> {
     /// The note of a token.
     pub fn note(&self, at: u32) -> Note
@@ -70,8 +78,8 @@ impl<'p, 't> Known<'p, 't> {
         }
     }
 
-    // The type that a token tells.
-    fn kind_at(&self, at: u32) -> Kind
+    /// The type that a token tells.
+    pub(crate) fn kind_at(&self, at: u32) -> Kind
         ensures { result ≡ t.kind_at (tables_of self.now) at }
     {
         match self.kinds.get(self.note(at).kind as usize) {
@@ -94,11 +102,26 @@ impl<'p, 't> Known<'p, 't> {
         self.kind_at(at).words == 0
     }
 
-    /// Whether a token tells what is no pointer with steps.
-    pub(crate) fn is_plain(&self, at: u32) -> bool
-        ensures { result ≡ ((t.kind_at (tables_of self.now) at).step == 0) }
+    /// Whether the numbers that a token tells have no sign.
+    pub(crate) fn is_unsigned(&self, at: u32) -> bool
+        ensures { result ≡ t.is_unsigned (tables_of self.now) at }
     {
-        self.kind_at(at).step == 0
+        let kind = self.kind_at(at);
+        kind.unsigned || kind.array
+    }
+
+    /// How many bytes what a token tells has, of four in a word. Above 2^32 - 1 it is that number.
+    pub(crate) fn bytes_at(&self, at: u32) -> u32
+        ensures { result ≡ as_word (4 * (t.kind_at (tables_of self.now) at).words) }
+    {
+        self.kind_at(at).words.saturating_mul(4)
+    }
+
+    /// How many bytes lie before a member in its struct. Above 2^32 - 1 it is that number.
+    pub(crate) fn bytes_before(&self, member: u32) -> u32
+        ensures { result ≡ as_word (4 * (t.note (tables_of self.now) member).binding) }
+    {
+        self.note(member).binding.saturating_mul(4)
     }
 
     /// The slot of a declaration.
@@ -111,14 +134,31 @@ impl<'p, 't> Known<'p, 't> {
         }
     }
 
-    /// Whether a token's first part has a group frame.
-    pub fn is_framed(&self, at: u32, second: bool) -> bool
-        ensures { result ≡ is_framed_by (slice_get self.now.framed.now at) second }
+    /// The group frame with a number.
+    pub(crate) fn region(&self, number: u32) -> Region
+        ensures { result ≡ t.region (tables_of self.now) number }
+    {
+        match self.regions.get(number as usize) {
+            Some(region) => *region,
+            None => NO_REGION,
+        }
+    }
+
+    /// The group frame that a part of a token has.
+    pub(crate) fn frame_at(&self, at: u32, second: bool) -> Option<Region>
+        ensures { result ≡ framed_in (slice_get self.now.framed.now at) second }
     {
         match self.framed.get(at as usize) {
             Some(framed) => if second { framed.second } else { framed.first },
-            None => false,
+            None => None,
         }
+    }
+
+    /// Whether a part of a token has a group frame.
+    pub fn is_framed(&self, at: u32, second: bool) -> bool
+        ensures { result ≡ is_some (framed_in (slice_get self.now.framed.now at) second) }
+    {
+        self.frame_at(at, second).is_some()
     }
 
     /// The function that a binding means.

@@ -1,7 +1,7 @@
-//! A walk over the operations of an expression, in the order in which its code has them.
+//! A walk over the code of an expression, in its order.
 //!
-//! A visitor is shown each operation with its place, and where the ways of a choice part and meet
-//! again. No code is made, and no memory is taken.
+//! A visitor is shown each operation with its place, and how it stands in choices, loops and calls.
+//! No code is made, and no memory is taken.
 #![tactic(auto)]
 
 mod calls;
@@ -19,11 +19,8 @@ pub use calls::frame;
 pub use expressions::{expression, value};
 pub use known::{Framed, Known};
 pub use standing::Standing;
-pub use standings::{GET, PUSH, agree, discard, end, give_address, name, put};
+pub use standings::{agree, discard, end, give_address, name, put};
 pub use tally::Tally;
 pub use tokens::token_of;
 pub use types::is_nothing;
-pub use visitor::{Event, Mark, NOWHERE, Visitor, Ways, plain};
-
-#[cfg(test)]
-mod tests;
+pub use visitor::{Event, Mark, NOWHERE, Visitor, Ways, choose, ends, perform, plain};

@@ -1,32 +1,23 @@
 //! How what an expression came to is used.
 
-ghost use Rattle.std.specs.Prelude.{◌≡◌, ℕ, Some};
+ghost use Rattle.std.specs.Prelude.{◌≡◌, ◌+◌, ◌*◌, ◌||◌, ℕ, Some, if◌then◌else◌};
 ghost use Rattle.fk_syntax.specs.View.{named};
 ghost use Rattle.fk_forms.specs.Expressions as e;
+ghost use Rattle.fk_forms.specs.Signs.{operator_of as operator_by, is_shift as is_a_shift};
+ghost use Rattle.fk_forms.specs.Tables as t;
 ghost use Rattle.fk_walk.specs.Known.{tables_of, functions_of};
+ghost use Rattle.fk_walk.specs.Shown.{as_word};
 ghost use Rattle.fk_walk.specs.Standing.{standing_of, ending};
 ghost use Rattle.fk_forms.specs.Tables.{Tables};
 ghost use Rattle.fk_walk.specs.Through.{through, Leads, Passes};
 
 use crate::known::{Known, PREDECLARED};
 use crate::standing::Standing;
-use crate::visitor::{Event, Visitor, plain};
-use fk_forms::{Home, Move, move_of};
+use crate::visitor::{Event, NOWHERE, Visitor, plain};
+use fk_forms::{Home, Move, is_shift, move_of, operator_of};
 use fk_num::Op;
 use fk_operation::{Known as Value, Operation, Unary, Variable};
 use fk_syntax::{Name, Sign, Spot};
-
-/// Pushes any number.
-pub const PUSH: Operation = Operation::Push(0);
-
-/// Gets anything that a processor knows.
-pub const GET: Operation = Operation::Get(Value::Rank);
-
-const SET: Operation = Operation::Set(Variable::Private(0));
-
-pub(crate) const JOIN: Operation = Operation::Join(Op::Add, false);
-
-pub(crate) const INDEX: Operation = Operation::Index(0);
 
 // The check of an address that lies behind a dereference or an index.
 pub(crate) fn check<V: Visitor>(known: &Known, visitor: &mut V, deep: bool, spot: Spot)
@@ -50,7 +41,7 @@ pub(crate) fn give_value<V: Visitor>(known: &Known, visitor: &mut V, standing: S
                 plain(visitor, Operation::Read);
             }
         }
-        Standing::InWord(_) => plain(visitor, GET),
+        Standing::InWord(variable) => plain(visitor, Operation::Get(Value::Value(variable))),
         Standing::OnList | Standing::ToCall(_) => {}
     }
 }
@@ -76,7 +67,7 @@ pub(crate) fn fetch<V: Visitor>(known: &Known, visitor: &mut V, standing: Standi
             plain(visitor, Operation::CopyLast);
             plain(visitor, Operation::Read);
         }
-        Standing::InWord(_) => plain(visitor, GET),
+        Standing::InWord(variable) => plain(visitor, Operation::Get(Value::Value(variable))),
         Standing::OnList | Standing::ToCall(_) => {}
     }
 }
@@ -88,7 +79,7 @@ pub fn put<V: Visitor>(known: &Known, visitor: &mut V, standing: Standing)
 {
     match standing {
         Standing::AtAddress(_, _) => plain(visitor, Operation::Write),
-        Standing::InWord(_) => plain(visitor, SET),
+        Standing::InWord(variable) => plain(visitor, Operation::Set(variable)),
         Standing::OnList | Standing::ToCall(_) => {}
     }
 }
@@ -103,30 +94,54 @@ pub fn discard<V: Visitor>(known: &Known, visitor: &mut V, at: u32)
     }
 }
 
-/// The operator of a sign between the values of two tokens. The right one only tells its sign,
-/// which no visitor is shown.
-pub(crate) fn operate<V: Visitor>(
-    known: &Known,
-    visitor: &mut V,
-    sign: Sign,
-    left: u32,
-    _right: u32,
-)
-    ensures { Passes V.after V.counts (functions_of known.now) visitor.old visitor.new
-        (e.operate (tables_of known.now) (functions_of known.now) sign left _right) }
+// The operation of a sign on the values of two tokens, by their types.
+fn operator(known: &Known, sign: Sign, left: u32, right: u32) -> Operation
+    ensures { result ≡ operator_by sign (if is_a_shift sign
+        then t.is_unsigned (tables_of known.now) left
+        else t.is_unsigned (tables_of known.now) left || t.is_unsigned (tables_of known.now) right) }
 {
-    if known.is_plain(left) {
-        plain(visitor, JOIN);
-        return;
+    if is_shift(sign) {
+        operator_of(sign, known.is_unsigned(left))
+    } else {
+        let unsigned = known.is_unsigned(left) || known.is_unsigned(right);
+        operator_of(sign, unsigned)
     }
-    match move_of(sign) {
-        Move::Forth => plain(visitor, INDEX),
+}
+
+// The same of a pointer with steps, which an index moves.
+fn advance<V: Visitor>(visitor: &mut V, by: Move, step: u32, otherwise: Operation)
+    ensures { (functions : (binding : ℕ) → e.Signature)
+        → Passes V.after V.counts functions visitor.old visitor.new (e.moved by step otherwise) }
+{
+    match by {
+        Move::Forth => plain(visitor, Operation::Index(step)),
         Move::Back => {
             plain(visitor, Operation::Apply(Unary::Negate));
-            plain(visitor, INDEX);
+            plain(visitor, Operation::Index(step));
         }
-        Move::NoMove => plain(visitor, JOIN),
+        Move::NoMove => plain(visitor, otherwise),
     }
+}
+
+/// The operator of a sign between the values of two tokens.
+pub(crate) fn operate<V: Visitor>(known: &Known, visitor: &mut V, sign: Sign, left: u32, right: u32)
+    ensures { Passes V.after V.counts (functions_of known.now) visitor.old visitor.new
+        (e.operate (tables_of known.now) (functions_of known.now) sign left right) }
+{
+    let operation = operator(known, sign, left, right);
+    let step = known.kind_at(left).step;
+    if step == 0 {
+        plain(visitor, operation);
+    } else {
+        advance(visitor, move_of(sign), step, operation);
+    }
+}
+
+// The address of a word of shared data. Above 2^32 - 1 it is that number.
+fn global_address(index: u32) -> u32
+    ensures { result ≡ as_word (0x10000000 + 4 * index) }
+{
+    index.saturating_mul(4).saturating_add(0x1000_0000)
 }
 
 /// Shows the operations of a variable or another name, and tells how it stands.
@@ -142,13 +157,18 @@ pub fn name<'t, V: Visitor>(known: &Known, visitor: &mut V, name: Name<'t>) -> O
     let slot = known.slot(binding);
     Some(match slot.home {
         Home::Global => {
-            plain(visitor, PUSH);
+            let address = Operation::Push(global_address(slot.index));
+            visitor.meet(Event::Perform(address, NOWHERE));
             Standing::AtAddress(false, spot)
         }
         Home::FilePrivate => Standing::InWord(Variable::OfFile(slot.index)),
         Home::Private => Standing::InWord(Variable::Private(slot.index)),
-        Home::Group(_) => {
-            plain(visitor, GET);
+        Home::Group(number) => {
+            let level = known.region(number).level;
+            plain(
+                visitor,
+                Operation::Get(Value::FrameAddress(level, slot.index)),
+            );
             Standing::AtAddress(false, spot)
         }
         Home::NoWord => Standing::ToCall(name),
@@ -164,14 +184,17 @@ pub(crate) fn predeclared<'t, V: Visitor>(
     ensures { Leads V.after V.counts (functions_of known.now) visitor.old visitor.new (Some result)
         (e.predeclared (tables_of known.now) (functions_of known.now) (named name.entry)) }
 {
-    if name.bytes == b"__PROC_NR__".as_slice()
-        || name.bytes == b"__STARTED_PROCS__".as_slice()
-        || name.bytes == b"__inputs".as_slice()
-    {
-        plain(visitor, GET);
+    if name.bytes == b"__PROC_NR__".as_slice() {
+        plain(visitor, Operation::Get(Value::ProcessorNumber));
+        Standing::OnList
+    } else if name.bytes == b"__STARTED_PROCS__".as_slice() {
+        plain(visitor, Operation::Get(Value::Processors));
+        Standing::OnList
+    } else if name.bytes == b"__inputs".as_slice() {
+        plain(visitor, Operation::Get(Value::InputLength));
         Standing::OnList
     } else if name.bytes == b"__input".as_slice() {
-        plain(visitor, GET);
+        plain(visitor, Operation::Get(Value::InputAddress));
         Standing::AtAddress(false, spot_of(name))
     } else {
         Standing::ToCall(name)
@@ -203,9 +226,47 @@ pub(crate) fn raise<V: Visitor>(
         (e.one (tables_of known.now) (functions_of known.now)) (λ j. rest)) }
 {
     fetch(known, visitor, standing);
-    plain(visitor, PUSH);
+    plain(visitor, Operation::Push(1));
     operate(known, visitor, sign, at, right);
     put(known, visitor, standing);
+}
+
+// By how much `++` behind a value is undone: by 1, or for a pointer by the bytes of its step.
+fn step_back(known: &Known, at: u32) -> u32
+    ensures { result ≡ e.step_back (tables_of known.now) (functions_of known.now) at }
+{
+    match known.kind_at(at).step {
+        0 => 1,
+        step => step,
+    }
+}
+
+// `++` or `--` behind a value: as in front, and then undone by the sign that leads back.
+pub(crate) fn raise_and_undo<V: Visitor>(
+    known: &Known,
+    visitor: &mut V,
+    sign: Sign,
+    back: Sign,
+    standing: Standing,
+    at: u32,
+)
+    ensures { Passes V.after V.counts (functions_of known.now) visitor.old visitor.new
+        (λ rest. e.raised (tables_of known.now) (functions_of known.now) sign back
+        (λ j. j (standing_of standing.entry)) at (λ j. rest)) }
+{
+    raise(known, visitor, sign, standing, at, 0);
+    plain(visitor, Operation::Push(step_back(known, at)));
+    plain(visitor, operator_of(back, false));
+}
+
+/// The place of a member, behind that of its struct.
+pub(crate) fn enter_member<V: Visitor>(known: &Known, visitor: &mut V, member: u32)
+    ensures { Passes V.after V.counts (functions_of known.now) visitor.old visitor.new
+        (e.member (tables_of known.now) (functions_of known.now) member) }
+{
+    let before = Operation::Push(known.bytes_before(member));
+    visitor.meet(Event::Perform(before, NOWHERE));
+    plain(visitor, Operation::Join(Op::Add, false));
 }
 
 /// The agreement of a group in a synchronous region.

@@ -16,7 +16,7 @@ impl Visitor for Tally {
     ghost counts = { no_mark };
 
     fn meet(&mut self, event: Event) {
-        if let Event::Perform(_, _) = event {
+        if event.operation().is_some() {
             self.count = self.count.saturating_add(1);
         }
     }

@@ -1,8 +1,9 @@
-//! What a walk shows the operations of a program to.
+//! What a walk shows the code of a program to.
 
 ghost use Rattle.std.specs.Prelude.{◌≡◌};
-ghost use Rattle.fk_walk.specs.Bare.{bare};
-ghost use Rattle.fk_walk.specs.declared.visitor.Event.TheVariants.{Perform};
+ghost use Rattle.fk_walk.specs.Event.{operation_of};
+ghost use Rattle.fk_walk.specs.Shown.{shown};
+ghost use Rattle.fk_walk.specs.declared.visitor.Event.TheVariants as v;
 ghost use Rattle.fk_forms.specs.Expressions.{nowhere};
 
 use fk_operation::Operation;
@@ -30,22 +31,56 @@ pub struct Ways {
     pub behind: Mark,
 }
 
-/// What a walk comes to.
+/// What a walk comes to. An operation has the numbers that the code has; one that has no room in a
+/// word is 2^32 - 1.
 #[derive(Clone, Copy, PartialEq, Eq, Debug)]
 pub enum Event {
-    /// An operation, without the numbers and words that it names, and its place. Most have none,
-    /// which is 0:0.
+    /// An operation, with its place. Most have none, which is 0:0.
     Perform(Operation, Place),
+    /// An operation that goes one of two ways. The first way comes next.
+    Choose(Operation, Place),
     /// The second way of a choice, which begins as the first one began.
     Aside(Mark),
     /// What stands behind a choice: how it was before the choice, and behind the first way.
     Joined(Mark, Mark),
+    /// An operation that goes on in its loop, or leaves it.
+    Quit(Operation, Place),
+    /// A call of the function of a binding. What it does at its beginning comes next.
+    Call(Operation, Place, u32),
     /// What stands behind a call: how it was when the call began, and whether the function gives
     /// nothing.
     Returned(Mark, bool),
+    /// An operation that ends the function.
+    Ends(Operation, Place),
+    /// A loop that begins with its test; then come its body and its step.
+    While,
+    /// A loop that begins with its body; then comes its test.
+    Until,
+    /// The next part of the innermost loop.
+    Part,
+    /// What stands behind that loop.
+    Behind,
+    Break,
+    Continue,
 }
 
-/// What a walk shows operations to.
+impl Event {
+    /// The operation of an event that has one, with its place.
+    pub fn operation(&self) -> Option<(Operation, Place)>
+        ensures { result ≡ operation_of self.now }
+    {
+        match self {
+            Event::Perform(operation, place)
+            | Event::Choose(operation, place)
+            | Event::Quit(operation, place)
+            | Event::Call(operation, place, _)
+            | Event::Ends(operation, place) => Some((*operation, *place)),
+            _ => None,
+        }
+    }
+}
+
+/// What a walk shows code to.
 pub trait Visitor {
     ghost use Rattle.fk_walk.specs.declared.visitor.Event.{Event};
     ghost use Rattle.fk_walk.specs.declared.visitor.Mark.{Mark};
@@ -68,9 +103,30 @@ pub trait Visitor {
 /// The place of an operation that can't fault.
 pub const NOWHERE: Place = Place { line: 0, column: 0 };
 
+/// Shows an operation with its place.
+pub fn perform<V: Visitor>(visitor: &mut V, operation: Operation, place: Place)
+    ensures { visitor.new ≡ V.after visitor.old (v.Perform (shown operation) place) }
+{
+    visitor.meet(Event::Perform(operation, place));
+}
+
 /// Shows an operation that has no place.
 pub fn plain<V: Visitor>(visitor: &mut V, operation: Operation)
-    ensures { visitor.new ≡ V.after visitor.old (Perform operation nowhere) }
+    ensures { visitor.new ≡ V.after visitor.old (v.Perform (shown operation) nowhere) }
 {
-    visitor.meet(Event::Perform(operation, NOWHERE));
+    perform(visitor, operation, NOWHERE);
+}
+
+/// Shows an operation that goes one of two ways.
+pub fn choose<V: Visitor>(visitor: &mut V, operation: Operation, place: Place)
+    ensures { visitor.new ≡ V.after visitor.old (v.Choose (shown operation) place) }
+{
+    visitor.meet(Event::Choose(operation, place));
+}
+
+/// Shows an operation that ends the function.
+pub fn ends<V: Visitor>(visitor: &mut V, operation: Operation)
+    ensures { visitor.new ≡ V.after visitor.old (v.Ends (shown operation) nowhere) }
+{
+    visitor.meet(Event::Ends(operation, NOWHERE));
 }

@@ -1,5 +1,4 @@
-//! A walk over the operations of statements, functions and texts, in the order in which their code
-//! has them.
+//! A walk over the code of statements, functions and texts, in its order.
 //!
 //! It takes no memory, and time linear in the tree.
 #![tactic(auto)]
@@ -14,6 +13,3 @@ mod types;
 pub use functions::{function, text};
 pub use inside::Inside;
 pub use nested::{statement, statements};
-
-#[cfg(test)]
-mod tests;

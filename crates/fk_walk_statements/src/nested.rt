@@ -1,6 +1,7 @@
 //! The operations of statements.
 
 ghost use Rattle.std.specs.Prelude.{◌≡◌, map, true};
+ghost use Rattle.std.specs.Option.{option_map};
 ghost use Rattle.fk_syntax.specs.View.{tree_of};
 ghost use Rattle.fk_syntax.specs.Program as p;
 ghost use Rattle.fk_syntax.specs.Program.{Statement, statements_of};
@@ -10,7 +11,6 @@ ghost use Rattle.fk_forms.specs.Code as c;
 ghost use Rattle.fk_forms.specs.Expressions as e;
 ghost use Rattle.fk_forms.specs.Expressions.{Coded};
 ghost use Rattle.fk_forms.specs.Statements as s;
-ghost use Rattle.fk_walk.specs.Bare.{bare};
 ghost use Rattle.fk_walk.specs.Known.{tables_of, functions_of, part_of, IsSound};
 ghost use Rattle.fk_walk.specs.Standing.{behind_value, ending};
 ghost use Rattle.fk_walk.specs.Through.{through, LeadsOn, Passes};
@@ -20,12 +20,13 @@ ghost use Rattle.fk_walk_statements.specs.Nested.{part_of_group, loop_of, other_
 
 use crate::inside::Inside;
 use crate::simple::{
-    barrier, count_or_all, declare_all, give_back, numbers, step, test, test_or, used, used_or,
+    barrier, break_off, count_or_all, declare_all, give_back, go_on, numbers, step, test, test_or,
+    used, used_or,
 };
 use crate::turns::Turns;
 use fk_operation::{Operation, Split};
 use fk_syntax::{Expr, Place, Spot, Stmt};
-use fk_walk::{Event, Known, NOWHERE, Visitor, Ways, agree, end, frame, plain, value};
+use fk_walk::{Event, Known, NOWHERE, Visitor, Ways, agree, choose, end, frame, plain, value};
 
 /// Shows a visitor the operations of a statement in a function, and tells whether something follows
 /// them: nothing does behind a call of what is no function.
@@ -42,7 +43,7 @@ pub fn statement<V: Visitor>(
         (statement_of whole.now)) }
 {
     match whole {
-        Stmt::Empty | Stmt::Break(_) | Stmt::Continue(_) => Some(()),
+        Stmt::Empty => Some(()),
         Stmt::Expression(expression) => used(known, visitor, expression),
         Stmt::Block(list) => statements(known, visitor, inside, list),
         Stmt::Declare(variables) => declare_all(known, visitor, variables),
@@ -61,27 +62,10 @@ pub fn statement<V: Visitor>(
         }
         Stmt::For(spot, before, condition, after, body) => {
             used_or(known, visitor, before)?;
-            repeat(
-                known,
-                visitor,
-                inside,
-                *spot,
-                body,
-                Turns::For(condition, after),
-            )
+            let turns = Turns::For(condition, after);
+            repeat(known, visitor, inside, *spot, body, turns)
         }
-        Stmt::Start(spot, count, body) => {
-            count_or_all(known, visitor, count)?;
-            group(
-                known,
-                visitor,
-                inside,
-                Operation::Begin,
-                NOWHERE,
-                *spot,
-                body,
-            )
-        }
+        Stmt::Start(spot, count, body) => start(known, visitor, inside, *spot, count, body),
         Stmt::Fork(spot, parts, part, rank, body) => {
             numbers(known, visitor, parts, part, rank)?;
             let divide = Operation::Divide(Split::Fork);
@@ -90,6 +74,8 @@ pub fn statement<V: Visitor>(
         Stmt::Farm(_, body) => meeting(known, visitor, inside, Operation::Farm, body),
         Stmt::Seq(_, body) => meeting(known, visitor, inside, Operation::Seq, body),
         Stmt::Barrier(_) => barrier(known, visitor),
+        Stmt::Break(_) => break_off(known, visitor),
+        Stmt::Continue(_) => go_on(known, visitor),
         Stmt::Return(_, given) => give_back(known, visitor, inside, given),
     }
 }
@@ -112,6 +98,26 @@ pub fn statements<V: Visitor>(
         statement(known, visitor, inside, one)?;
     }
     Some(())
+}
+
+// A `start`, whose part has a place for its frame alone.
+#[cycle(statement)]
+fn start<V: Visitor>(
+    known: &Known,
+    visitor: &mut V,
+    inside: Inside,
+    spot: Spot,
+    count: &Option<Expr>,
+    body: &Stmt,
+) -> Option<()>
+    requires { IsSound known.now }
+    ensures { LeadsOn V.after V.counts (functions_of known.now) visitor.old visitor.new result
+        (s.executed (tables_of known.now) (functions_of known.now) (inside_of inside)
+        (p.Start spot (option_map tree_of count.now) (statement_of body.now))) }
+{
+    count_or_all(known, visitor, count)?;
+    let begin = Operation::Begin;
+    group(known, visitor, inside, begin, NOWHERE, spot, body)
 }
 
 // A statement that is one way of a choice or the body of a loop, behind which the way ends.
@@ -157,15 +163,14 @@ fn group<V: Visitor>(
     spot: Spot,
     body: &Stmt,
 ) -> Option<()>
-    requires sound { IsSound known.now }
-    requires bare { bare begin ≡ begin }
+    requires { IsSound known.now }
     ensures { LeadsOn V.after V.counts (functions_of known.now) visitor.old visitor.new result
         (λ rest. c.choose place begin
         (part_of_group (tables_of known.now) (functions_of known.now) (inside_of inside) spot 0
         (statement_of body.now)) c.done (e.plain o.Resume rest)) }
 {
     let before = visitor.mark();
-    visitor.meet(Event::Perform(begin, place));
+    choose(visitor, begin, place);
     let within = visitor.mark();
     part(known, visitor, inside, spot, false, body);
     let behind = visitor.mark();
@@ -178,15 +183,14 @@ fn group<V: Visitor>(
 // A statement that an operation leads to, or past it.
 #[cycle(statement)]
 fn apart<V: Visitor>(known: &Known, visitor: &mut V, inside: Inside, begin: Operation, body: &Stmt)
-    requires sound { IsSound known.now }
-    requires bare { bare begin ≡ begin }
+    requires { IsSound known.now }
     ensures { Passes V.after V.counts (functions_of known.now) visitor.old visitor.new
         (λ rest. c.choose e.nowhere begin
         (s.executed (tables_of known.now) (functions_of known.now) (inside_of inside)
         (statement_of body.now) c.done) c.done rest) }
 {
     let before = visitor.mark();
-    plain(visitor, begin);
+    choose(visitor, begin, NOWHERE);
     let within = visitor.mark();
     way(known, visitor, inside, body, false);
     let behind = visitor.mark();
@@ -203,8 +207,7 @@ fn meeting<V: Visitor>(
     begin: Operation,
     body: &Stmt,
 ) -> Option<()>
-    requires sound { IsSound known.now }
-    requires bare { bare begin ≡ begin }
+    requires { IsSound known.now }
     ensures { LeadsOn V.after V.counts (functions_of known.now) visitor.old visitor.new result
         (λ rest. c.choose e.nowhere begin
         (s.executed (tables_of known.now) (functions_of known.now) (inside_of inside)
@@ -264,7 +267,7 @@ fn first_way<V: Visitor>(
     let here = known.note(spot.at);
     if here.splits {
         let before = visitor.mark();
-        visitor.meet(Event::Perform(Operation::Divide(Split::IfElse), spot.place));
+        choose(visitor, Operation::Divide(Split::IfElse), spot.place);
         let within = visitor.mark();
         part(known, visitor, inside, spot, false, first);
         let behind = visitor.mark();
@@ -276,7 +279,7 @@ fn first_way<V: Visitor>(
     } else {
         agree(visitor, here.sync);
         let before = visitor.mark();
-        plain(visitor, Operation::Branch(true));
+        choose(visitor, Operation::Branch(true), NOWHERE);
         let within = visitor.mark();
         way(known, visitor, inside, first, false);
         let behind = visitor.mark();
@@ -337,7 +340,7 @@ fn repeat<V: Visitor>(
 {
     if known.note(spot.at).splits {
         let before = visitor.mark();
-        visitor.meet(Event::Perform(Operation::Divide(Split::Loop), spot.place));
+        choose(visitor, Operation::Divide(Split::Loop), spot.place);
         let within = visitor.mark();
         frame(known, visitor, spot.at, false, spot.place);
         turn(known, visitor, inside, spot, body, turns);
@@ -352,7 +355,7 @@ fn repeat<V: Visitor>(
     }
 }
 
-// What a loop does in a turn.
+// A loop: its test, its body and its step, in the order in which a turn does them.
 #[cycle(statement)]
 fn turn<V: Visitor>(
     known: &Known,
@@ -370,17 +373,28 @@ fn turn<V: Visitor>(
 {
     match turns {
         Turns::While(condition) => {
+            visitor.meet(Event::While);
             test(known, visitor, spot, condition);
+            visitor.meet(Event::Part);
             way(known, visitor, inside, body, false);
+            visitor.meet(Event::Part);
+            visitor.meet(Event::Behind);
         }
         Turns::Until(condition) => {
+            visitor.meet(Event::Until);
             way(known, visitor, inside, body, false);
+            visitor.meet(Event::Part);
             test(known, visitor, spot, condition);
+            visitor.meet(Event::Behind);
         }
         Turns::For(condition, after) => {
+            visitor.meet(Event::While);
             test_or(known, visitor, spot, condition);
+            visitor.meet(Event::Part);
             way(known, visitor, inside, body, false);
+            visitor.meet(Event::Part);
             step(known, visitor, after);
+            visitor.meet(Event::Behind);
         }
     }
 }

@@ -10,17 +10,17 @@ ghost use Rattle.fk_forms.specs.Code as c;
 ghost use Rattle.fk_forms.specs.Tables as t;
 ghost use Rattle.fk_forms.specs.Expressions as e;
 ghost use Rattle.fk_forms.specs.Statements as s;
-ghost use Rattle.fk_walk.specs.Bare.{bare};
 ghost use Rattle.fk_walk.specs.Known.{tables_of, functions_of, IsSound};
 ghost use Rattle.fk_walk.specs.Through.{through, LeadsOn, Passes};
 ghost use Rattle.fk_walk_statements.specs.Inside.{inside_of};
 
 use crate::inside::Inside;
 use crate::types::is_scalar;
-use fk_operation::Operation;
+use fk_operation::{Known as Value, Operation};
 use fk_syntax::{Declared, Expr, Spot};
 use fk_walk::{
-    GET, Known, PUSH, Visitor, agree, discard, give_address, name, plain, put, token_of, value,
+    Event, Known, NOWHERE, Visitor, agree, discard, ends, give_address, name, plain, put, token_of,
+    value,
 };
 
 /// An expression that stands as a statement.
@@ -72,8 +72,7 @@ fn value_or<V: Visitor>(
     absent: Operation,
     whole: &Option<Expr>,
 ) -> Option<()>
-    requires sound { IsSound known.now }
-    requires bare { bare absent ≡ absent }
+    requires { IsSound known.now }
     ensures { LeadsOn V.after V.counts (functions_of known.now) visitor.old visitor.new result
         (s.value_or (tables_of known.now) (functions_of known.now) (e.plain absent)
         (option_map tree_of whole.now)) }
@@ -98,7 +97,7 @@ fn declare<V: Visitor>(known: &Known, visitor: &mut V, declared: &Declared) -> O
     }
     let standing = name(known, visitor, declared.name)?;
     give_address(known, visitor, standing);
-    value_or(known, visitor, PUSH, &declared.first)?;
+    value_or(known, visitor, Operation::Push(0), &declared.first)?;
     put(known, visitor, standing);
     plain(visitor, Operation::DropLast);
     Some(())
@@ -129,10 +128,10 @@ fn leave_loop<V: Visitor>(known: &Known, visitor: &mut V, spot: Spot)
 {
     let here = known.note(spot.at);
     if here.splits {
-        plain(visitor, Operation::Shrink);
+        visitor.meet(Event::Quit(Operation::Shrink, NOWHERE));
     } else {
         agree(visitor, here.sync);
-        plain(visitor, Operation::Branch(true));
+        visitor.meet(Event::Quit(Operation::Branch(true), NOWHERE));
     }
 }
 
@@ -163,7 +162,7 @@ pub(crate) fn test_or<V: Visitor>(
     match condition {
         Some(condition) => test(known, visitor, spot, condition),
         None => {
-            plain(visitor, PUSH);
+            plain(visitor, Operation::Push(1));
             leave_loop(known, visitor, spot);
         }
     }
@@ -180,13 +179,7 @@ pub(crate) fn count_or_all<V: Visitor>(
         (s.value_or (tables_of known.now) (functions_of known.now)
         (e.plain (o.Get n.Processors)) (option_map tree_of count.now)) }
 {
-    match count {
-        Some(count) => value(known, visitor, count),
-        None => {
-            plain(visitor, GET);
-            Some(())
-        }
-    }
+    value_or(known, visitor, Operation::Get(Value::Processors), count)
 }
 
 /// The numbers of a `fork`: of its parts, of the part that a processor enters, and of its rank
@@ -209,7 +202,7 @@ pub(crate) fn numbers<V: Visitor>(
     value(known, visitor, parts)?;
     plain(visitor, Operation::Agree);
     value(known, visitor, part)?;
-    value_or(known, visitor, GET, rank)
+    value_or(known, visitor, Operation::Get(Value::Rank), rank)
 }
 
 /// `barrier`.
@@ -221,18 +214,43 @@ pub(crate) fn barrier<V: Visitor>(known: &Known, visitor: &mut V) -> Option<()>
     Some(())
 }
 
+/// `break`.
+pub(crate) fn break_off<V: Visitor>(known: &Known, visitor: &mut V) -> Option<()>
+    ensures { LeadsOn V.after V.counts (functions_of known.now) visitor.old visitor.new result
+        c.break }
+{
+    visitor.meet(Event::Break);
+    Some(())
+}
+
+/// `continue`.
+pub(crate) fn go_on<V: Visitor>(known: &Known, visitor: &mut V) -> Option<()>
+    ensures { LeadsOn V.after V.counts (functions_of known.now) visitor.old visitor.new result
+        c.continue }
+{
+    visitor.meet(Event::Continue);
+    Some(())
+}
+
 // The operation that ends a call, with a value or without; that of `main` has none.
+fn ending_by(inside: Inside, gives: bool) -> Operation
+    ensures { result ≡ (if inside.main then o.Halt else o.Leave gives inside.framed) }
+{
+    if inside.main {
+        Operation::Halt
+    } else {
+        let framed = inside.framed;
+        Operation::Leave { gives, framed }
+    }
+}
+
+// The end of a call.
 fn end_call<V: Visitor>(known: &Known, visitor: &mut V, inside: Inside, gives: bool)
     ensures { Passes V.after V.counts (functions_of known.now) visitor.old visitor.new
         (λ rest. c.ends e.nowhere (if inside.main then o.Halt else o.Leave gives inside.framed)
         rest) }
 {
-    if inside.main {
-        plain(visitor, Operation::Halt);
-    } else {
-        let framed = inside.framed;
-        plain(visitor, Operation::Leave { gives, framed });
-    }
+    ends(visitor, ending_by(inside, gives));
 }
 
 // What a `return` does behind its value, which `main` drops.
@@ -243,16 +261,9 @@ fn hand_over<V: Visitor>(known: &Known, visitor: &mut V, inside: Inside)
 {
     if inside.main {
         plain(visitor, Operation::DropLast);
-        plain(visitor, Operation::Halt);
+        ends(visitor, Operation::Halt);
     } else {
-        let framed = inside.framed;
-        plain(
-            visitor,
-            Operation::Leave {
-                gives: true,
-                framed,
-            },
-        );
+        end_call(known, visitor, inside, true);
     }
 }
 
@@ -286,25 +297,12 @@ pub(crate) fn finish<V: Visitor>(known: &Known, visitor: &mut V, inside: Inside,
     ensures { visitor.new ≡ through V.after V.counts (functions_of known.now) visitor.old
         (s.end_of (tables_of known.now) (functions_of known.now) (inside_of inside) void) }
 {
-    let framed = inside.framed;
     if inside.main {
-        plain(visitor, Operation::Halt);
+        ends(visitor, Operation::Halt);
     } else if void {
-        plain(
-            visitor,
-            Operation::Leave {
-                gives: false,
-                framed,
-            },
-        );
+        ends(visitor, ending_by(inside, false));
     } else {
-        plain(visitor, PUSH);
-        plain(
-            visitor,
-            Operation::Leave {
-                gives: true,
-                framed,
-            },
-        );
+        plain(visitor, Operation::Push(0));
+        ends(visitor, ending_by(inside, true));
     }
 }

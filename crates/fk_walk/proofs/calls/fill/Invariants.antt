@@ -6,5 +6,5 @@ use Rattle.fk_walk.specs.Known.{tables_of, functions_of}
 use Rattle.fk_walk.specs.Through.{through}
 use Rattle.fk_walk.proofs.calls.fill.Given as goal
 
-abbrev pub invariant-loop-parameter : goal.invariant-loop-parameter
-invariant-loop-parameter g l = through g.V.Visitor.after g.V.Visitor.counts (functions_of l.known) l.visitor (parameters (tables_of l.known) (functions_of l.known) l.parameter-index (map declared_of (drop l.parameter-index l.parameters))) ≡ through g.V.Visitor.after g.V.Visitor.counts (functions_of l.known) l.fn.visitor (parameters (tables_of l.known) (functions_of l.known) 0 (map declared_of l.parameters))
+abbrev pub invariant-loop-index : goal.invariant-loop-index
+invariant-loop-index g l = through g.V.Visitor.after g.V.Visitor.counts (functions_of l.known) l.visitor (parameters (tables_of l.known) (functions_of l.known) l.index (map declared_of (drop l.index l.parameters))) ≡ through g.V.Visitor.after g.V.Visitor.counts (functions_of l.known) l.fn.visitor (parameters (tables_of l.known) (functions_of l.known) 0 (map declared_of l.parameters))

@@ -42,4 +42,16 @@ statement-returns-in_ok-numbers-in-Fork g t c = λ rest.
     let whole : statement_of c.args.whole.now ≡ p.Fork c.in-Fork.spot (tree_of c.in-Fork.parts) (tree_of c.in-Fork.part) (option_map tree_of c.in-Fork.rank) (statement_of c.deref-in-Fork.result.now) = first_of (grind (arith, common_steps, the_lemmas), search (rules, the_lemmas)) in
     ap (λ (x : Statement). through g.V.Visitor.after g.V.Visitor.counts (functions_of c.args.known.now) c.args.visitor.now (executed (tables_of c.args.known.now) (functions_of c.args.known.now) (inside_of c.args.inside) x rest)) whole
     ∙ c.in_ok-numbers-in-Fork.ensures (choose c.in-Fork.spot.place (o.Divide Fork) (part_of_group (tables_of c.args.known.now) (functions_of c.args.known.now) (inside_of c.args.inside) c.in-Fork.spot 0 (statement_of c.deref-in-Fork.result.now)) done (plain o.Resume rest))
-    ∙ c.group-in-Fork.ensures rest
+    ∙ c.group.ensures rest
+
+pub statement-returns-in-While : goal.statement-returns-in-While
+statement-returns-in-While g t c = λ rest.
+    let whole : statement_of c.args.whole.now ≡ p.While c.in-While.spot (tree_of c.in-While.condition) (statement_of c.deref-in-While.result.now) = first_of (grind (arith, common_steps, the_lemmas), search (rules, the_lemmas)) in
+    ap (λ (x : Statement). through g.V.Visitor.after g.V.Visitor.counts (functions_of c.args.known.now) c.args.visitor.now (executed (tables_of c.args.known.now) (functions_of c.args.known.now) (inside_of c.args.inside) x rest)) whole
+    ∙ c.repeat.ensures rest
+
+pub statement-returns-in-DoWhile : goal.statement-returns-in-DoWhile
+statement-returns-in-DoWhile g t c = λ rest.
+    let whole : statement_of c.args.whole.now ≡ p.DoWhile c.in-DoWhile.spot (statement_of c.deref-in-DoWhile.result.now) (tree_of c.in-DoWhile.condition) = first_of (grind (arith, common_steps, the_lemmas), search (rules, the_lemmas)) in
+    ap (λ (x : Statement). through g.V.Visitor.after g.V.Visitor.counts (functions_of c.args.known.now) c.args.visitor.now (executed (tables_of c.args.known.now) (functions_of c.args.known.now) (inside_of c.args.inside) x rest)) whole
+    ∙ c.repeat-in-DoWhile.ensures rest

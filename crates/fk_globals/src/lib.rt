@@ -1,0 +1,15 @@
+//! The variables of file scope: where the shared ones stand among the words of shared data, and what
+//! all of them begin as.
+#![tactic(auto)]
+
+mod constants;
+pub mod laws;
+mod layout;
+mod rows;
+mod types;
+mod variables;
+
+pub use constants::constant;
+pub use layout::{Globals, GlobalsFault, MOST_WORDS, lay_globals};
+pub use rows::GlobalRow;
+pub use types::Types;

@@ -1,0 +1,4 @@
+pub mod Listing
+pub mod Frames
+pub mod Refusal
+pub mod Layout

@@ -1,0 +1,155 @@
+//! Where all that a program has lies.
+
+ghost use Rattle.std.specs.Prelude.{◌≡◌, ◌≤◌, IfOk, IfErr, OnOk, None};
+ghost use Rattle.fk_syntax.specs.ProgramView.{program_of};
+ghost use Rattle.fk_walk.specs.Known.{tables_of, items_in};
+ghost use Rattle.fk_slots.specs.Slots.{owns_of};
+ghost use Rattle.fk_layout.specs.Frames.{told_in, first_large};
+ghost use Rattle.fk_layout.specs.Refusal.{IsRefusal, Fits, count_of_sites};
+ghost use Rattle.fk_layout.specs.Layout.{IsLayout, ArePlaces, AreGlobals, AreSizes, tables_by};
+
+use crate::frames::fitting_frames;
+use crate::listed::{Site, all_sites};
+use crate::sites::{LayoutFault, out_of_memory};
+use fk_forms::{FrameSize, Region, Slot};
+use fk_globals::{GlobalRow, Globals, GlobalsFault, lay_globals};
+use fk_lookup::Lookup;
+use fk_slots::{Own, Slots, slots};
+use fk_syntax::{Facts, Program};
+use fk_walk::Known;
+use std::alloc::Global;
+
+/// Where all that a program has lies.
+#[derive(Drop)]
+pub struct Layout<'a> {
+    /// The shared variables of file scope, in the order of the text.
+    pub rows: Vec<GlobalRow<'a>>,
+    /// What all words of these rows begin as.
+    pub words: Vec<u32>,
+    /// What the private variables of file scope begin as, in the order of the text.
+    pub firsts: Vec<u32>,
+    /// A place for each variable, parameter and function, in the order of their names.
+    pub slots: Vec<Slot>,
+    /// The group frames that have words, in the order of their tokens.
+    pub regions: Vec<Region>,
+    /// The frames of all functions with a body, in the order of the text.
+    pub frames: Vec<FrameSize>,
+    /// All operations, in the order of the code.
+    pub sites: Vec<Site>,
+}
+
+// The operations and frames of a text.
+#[derive(Drop)]
+pub(crate) struct Sizes {
+    pub(crate) sites: Vec<Site>,
+    pub(crate) frames: Vec<FrameSize>,
+}
+
+// Where the words of a program lie, and how much its functions take.
+fn places_of(alloc: Global, program: &Program, facts: &Facts) -> Result<Slots, LayoutFault>
+    ensures places { IfOk result (ArePlaces (program_of program.now) facts.now) }
+    ensures refused { IfErr result (λ fault. fault ≡ LayoutFault.Memory) }
+{
+    slots(alloc, &program.items, &facts.notes, &facts.kinds).map_err(out_of_memory)
+}
+
+// The variables of file scope, of a program that has not too much of anything else.
+fn globals_of<'a>(
+    alloc: Global,
+    program: &Program<'a>,
+    facts: &Facts,
+) -> Result<Globals<'a>, LayoutFault>
+    requires few { count_of_sites (tables_by (program_of program.now) facts.now)
+        (program_of program.now).items ≤ 16000 }
+    requires small { first_large (tables_by (program_of program.now) facts.now)
+        (program_of program.now).items ≡ None }
+    ensures globals { IfOk result (AreGlobals (program_of program.now) facts.now) }
+    ensures refused { IfErr result (IsRefusal (tables_by (program_of program.now) facts.now)
+        (program_of program.now).items) }
+{
+    match lay_globals(alloc, &program.items, &facts.notes, &facts.kinds) {
+        Ok(globals) => Ok(globals),
+        Err(GlobalsFault::TooLarge(words)) => Err(LayoutFault::GlobalsTooLarge(words)),
+        Err(GlobalsFault::Memory) => Err(LayoutFault::Memory),
+    }
+}
+
+// What is known of a program of which nothing is looked up yet.
+fn known_of<'p, 'a>(program: &'p Program<'a>, facts: &'p Facts, places: &'p Slots) -> Known<'p, 'a>
+    requires { ArePlaces (program_of program.now) facts.now places.now }
+    ensures tables { tables_of result ≡ tables_by (program_of program.now) facts.now }
+    ensures items { items_in result ≡ (program_of program.now).items }
+{
+    Known {
+        notes: &facts.notes,
+        kinds: &facts.kinds,
+        slots: &places.slots,
+        regions: &places.regions,
+        items: &program.items,
+        callees: &[],
+        framed: &[],
+    }
+}
+
+// The operations and frames of a text of which nothing is looked up yet.
+fn sizes_in(alloc: Global, known: Known, owns: &[Own]) -> Result<Sizes, LayoutFault>
+    requires { owns.now ≡ owns_of (told_in (tables_of known)) (items_in known) }
+    ensures sizes { IfOk result (AreSizes (tables_of known.entry) (items_in known.entry)) }
+    ensures refused { IfErr result (IsRefusal (tables_of known.entry) (items_in known.entry)) }
+{
+    let lookup = Lookup::of(alloc, &known).map_err(out_of_memory)?;
+    let whole = lookup.complete(known);
+    let sites = all_sites(alloc, &whole)?;
+    let frames = fitting_frames(alloc, &whole, owns)?;
+    Ok(Sizes { sites, frames })
+}
+
+// The operations and frames of a program.
+fn sizes_of<'p>(
+    alloc: Global,
+    program: &'p Program,
+    facts: &'p Facts,
+    places: &'p Slots,
+) -> Result<Sizes, LayoutFault>
+    requires { ArePlaces (program_of program.now) facts.now places.now }
+    ensures sizes { IfOk result (AreSizes (tables_by (program_of program.now) facts.now)
+        (program_of program.now).items) }
+    ensures refused { IfErr result (IsRefusal (tables_by (program_of program.now) facts.now)
+        (program_of program.now).items) }
+{
+    sizes_in(alloc, known_of(program, facts, places), &places.owns)
+}
+
+/// Where all that a program has lies, by its facts, of whatever program and facts. By facts of its
+/// own it takes time and memory linear in the text and the words of its shared variables.
+///
+/// # Errors
+/// In this order: `TooManySites` exactly where it has more than 16,000 operations, with their
+/// number; `FrameTooLarge` exactly where a function has a private frame of more than 64 words, with
+/// the place of the name of the first one and its words; `GlobalsTooLarge` exactly where the shared
+/// variables of file scope have more than 524,288 words, with their number. `Memory` where there is
+/// no memory.
+pub fn lay_out<'a>(
+    alloc: Global,
+    program: &Program<'a>,
+    facts: &Facts,
+) -> Result<Layout<'a>, LayoutFault>
+    ensures laid { IfOk result (IsLayout (program_of program.now) facts.now) }
+    ensures fits { OnOk result (Fits (tables_by (program_of program.now) facts.now)
+        (program_of program.now).items) }
+    ensures refused { IfErr result (IsRefusal (tables_by (program_of program.now) facts.now)
+        (program_of program.now).items) }
+{
+    let places = places_of(alloc, program, facts)?;
+    let sizes = sizes_of(alloc, &*program, &*facts, &places)?;
+    let globals = globals_of(alloc, program, facts)?;
+    Ok(Layout {
+        rows: globals.rows,
+        words: globals.words,
+        firsts: globals.firsts,
+        slots: places.slots,
+        regions: places.regions,
+        frames: sizes.frames,
+        sites: sizes.sites,
+    })
+}

@@ -1,0 +1,83 @@
+//! The operations of a text, one by one.
+
+ghost use Rattle.std.specs.Prelude.{◌≡◌, ◌≤◌, IfOk, IfErr, length, map};
+ghost use Rattle.fk_walk.specs.Known.{tables_of, items_in, IsSound};
+ghost use Rattle.fk_walk_statements.specs.Texts.{sites_of_text};
+ghost use Rattle.fk_layout.specs.Listing.{site};
+ghost use Rattle.fk_layout.specs.Refusal.{HasTooMany};
+
+use crate::sites::{LayoutFault, fitting_sites};
+use fk_syntax::Place;
+use fk_walk::{Event, Known, Mark, NOWHERE, Visitor};
+use fk_walk_statements::text;
+use std::alloc::Global;
+
+/// An operation of a text, by which a fault or a commit names it.
+#[derive(Clone, Copy, PartialEq, Eq, Debug)]
+pub struct Site {
+    /// The number of its kind, from 1 to 34.
+    pub kind: u8,
+    /// Where it stands in the text, if it can fault; else 0:0.
+    pub place: Place,
+}
+
+const NO_SITE: Site = Site {
+    kind: 0,
+    place: NOWHERE,
+};
+
+/// A visitor that writes down what it is shown, as long as there is room.
+#[derive(Drop)]
+pub struct Listing {
+    pub sites: Vec<Site>,
+    /// How many of them are written.
+    pub filled: usize,
+}
+
+impl Visitor for Listing {
+    ghost use Rattle.fk_layout.specs.Listing.{listing_after, no_mark};
+
+    ghost after = { listing_after };
+
+    ghost counts = { no_mark };
+
+    fn meet(&mut self, event: Event) {
+        if let Some((operation, place)) = event.operation() {
+            if self.filled < self.sites.len() {
+                let kind = operation.kind();
+                self.sites[self.filled] = Site { kind, place };
+                self.filled += 1;
+            }
+        }
+    }
+
+    fn mark(&self) -> Mark {
+        Mark {
+            values: 0,
+            most: 0,
+            nesting: 0,
+            deepest: 0,
+        }
+    }
+}
+
+/// All operations of a text in the order of its code, function by function. It takes time linear in
+/// the text.
+///
+/// # Errors
+/// `TooManySites` where there are more than 16,000, with their number; `Memory` where there is no
+/// memory.
+pub fn all_sites(alloc: Global, known: &Known) -> Result<Vec<Site>, LayoutFault>
+    requires { IsSound known.now }
+    ensures listed { IfOk result (λ sites. sites.items ≡ map site (sites_of_text known.now)) }
+    ensures few { IfOk result (λ sites. length sites.items ≤ 16000) }
+    ensures refused { IfErr result (HasTooMany (tables_of known.now) (items_in known.now)) }
+{
+    let count = fitting_sites(known)?;
+    let Ok(sites) = vec![in alloc; NO_SITE; count as usize] else {
+        return Err(LayoutFault::Memory);
+    };
+    let mut listing = Listing { sites, filled: 0 };
+    text(known, &mut listing);
+    Ok(listing.sites)
+}

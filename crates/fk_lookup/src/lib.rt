@@ -1,0 +1,9 @@
+//! What a walk over a text finds in one step.
+#![tactic(auto)]
+
+mod lookup;
+
+pub use lookup::Lookup;
+
+#[cfg(test)]
+mod tests;
