@@ -13,14 +13,15 @@ use Rattle.fk_operation.specs.declared.operation.Split.TheVariants.{IfAlone, IfE
 use Rattle.fk_forms.specs.Code as c
 use Rattle.fk_forms.specs.Code.{Code, done, perform, choose, while, until, turn, again, quit, break, continue, call, ends, size, numbered}
 use Rattle.fk_forms.specs.Tables.{Tables, note, frame_at}
-use Rattle.fk_forms.specs.Expressions.{Coded, Standing, nowhere, plain, agreed, token, Signature, addressed, assigned, dropped, variable, value}
-use Rattle.fk_forms.specs.Statements.{Inside, is_nothing, is_scalar, used, used_or, value_or, declared, all_declared, part_frame, leaving, tested, looping, left_by, executed, all_executed, end_of, body_of}
+use Rattle.fk_forms.specs.Expressions.{Coded, nowhere, plain, agreed, Signature, value}
+use Rattle.fk_forms.specs.Statements.{Inside, is_nothing, used_or, value_or, part_frame, leaving, tested, looping, left_by, executed, all_executed, end_of, body_of}
 use Rattle.fk_forms.specs.Program.{functions_of, binding_of, signature_in, is_main, code_of, body_in}
 use Rattle.fk_nesting.specs.Shape.{Exits, none, of_function, of_test, of_turn, of_arm, of_way, splits, has_two_parts, ends_part, Either, Shape, begins}
 use Rattle.fk_nesting.specs.Behind.{opens_body}
-use Rattle.fk_nesting.specs.Shaped.{is_split, of_branch, Fits, OptionFits, VariablesFit, StatementShaped, StatementsShaped, BodyShaped, FunctionsShaped, ProgramsAreNested}
+use Rattle.fk_nesting.specs.Shaped.{Takes, is_split, of_branch, OptionFits, StatementShaped, StatementsShaped, BodyShaped, FunctionsShaped, ProgramsAreNested}
 use Rattle.fk_nesting.proofs.Spine.{untrue}
-use Rattle.fk_nesting.proofs.Forms.{Ok, Keeps, either, ended, end, agrees, addresses, assigns, drops, names, frames, values_nested}
+use Rattle.fk_nesting.proofs.Kept.{IsKept, either, agrees, values_kept, uses, uses_or, gives_or, declares, part_frames}
+use Rattle.fk_nesting.proofs.Forms.{Nests, ended, end, kept}
 
 -- what a statement may do, in code that is no test
 abbrev Plain : Exits → Type 0
@@ -38,53 +39,23 @@ branch_plain false x h = h
 
 module _ (tables : Tables) (functions : (binding : ℕ) → Signature) where
   abbrev Fine : (part : Bool) → Exits → Coded → Type 0
-  Fine part x code = Ok tables functions part x code
+  Fine part x code = Nests (part, x) code
 
-  abbrev Carries : (Coded → Coded) → Type 0
-  Carries f = Keeps tables functions f
+  all : IsKept tables functions (Takes tables) (Bool × Exits) Nests
+  all = kept tables functions
 
   -- before code that takes some exits
   abbrev Leads : Exits → (Coded → Coded) → Type 0
   Leads x f = (part : Bool) (rest : Coded) → Fine part x rest → Fine part x (f rest)
 
-  uses : (e : Tree) → Fits tables functions e → Carries (used tables functions e)
-  uses e fits part x rest q =
-      values_nested tables functions e fits part x (dropped tables functions (token e) rest) (drops tables functions (token e) part x rest q)
-
-  uses_or : (e : Option Tree) → OptionFits tables functions e → Carries (used_or tables functions e)
-  uses_or None fits part x rest q = q
-  uses_or (Some e) fits part x rest q = uses e fits part x rest q
-
-  gives_or : (absent : Coded → Coded) → Carries absent → (e : Option Tree) → OptionFits tables functions e → Carries (value_or tables functions absent e)
-  gives_or absent keeps None fits part x rest q = keeps part x rest q
-  gives_or absent keeps (Some e) fits part x rest q = values_nested tables functions e fits part x rest q
-
-  declares_one : (v : DeclaredTree) → OptionFits tables functions v.first → Carries (declared tables functions v)
-  declares_one v fits part x rest q =
-      let k : Standing → Coded = λ s. addressed tables functions s (value_or tables functions (plain (o.Push 0)) v.first (assigned tables functions s (plain o.DropLast rest))) in
-      either tables functions part x (is_scalar v) (variable tables functions v.name k) rest
-      (names tables functions v.name part x k
-      (λ s.
-      let new = assigned tables functions s (plain o.DropLast rest) in
-      addresses tables functions s part x (value_or tables functions (plain (o.Push 0)) v.first new)
-      (gives_or (plain (o.Push 0)) (λ part' x' rest' q'. (refl, refl, q')) v.first fits part x new (assigns tables functions s part x (plain o.DropLast rest) (refl, refl, q)))))
-      q
-
-  declares : (xs : List DeclaredTree) → VariablesFit tables functions xs → Carries (all_declared tables functions xs)
-  declares [] fits part x rest q = q
-  declares (v ∷ vs) fits part x rest q = declares_one v fits.0 part x (all_declared tables functions vs rest) (declares vs fits.1 part x rest q)
-
-  part_frames : (spot : Spot) (number : ℕ) → Carries (part_frame tables functions spot number)
-  part_frames spot number part x rest q = frames tables functions (frame_at tables spot.at number) spot.place part x rest q
-
   -- tests of loops
   leaves : (here : Note) (b : Bool) → Fine false (of_test b) (if b then quit nowhere o.Shrink done else agreed here.sync (quit nowhere (o.Branch true) done))
   leaves here true = (refl, refl, refl, refl, refl, refl)
-  leaves here false = agrees tables functions here.sync false (of_test false) (quit nowhere (o.Branch true) done) (refl, refl, refl, refl, refl, refl)
+  leaves here false = agrees all here.sync (false, of_test false) (quit nowhere (o.Branch true) done) (refl, refl, refl, refl, refl, refl)
 
   tests : (spot : Spot) (condition : Option Tree) → OptionFits tables functions condition → Fine false (of_test (is_split tables functions spot.at)) (tested tables functions spot condition)
   tests spot condition fits =
-      gives_or (plain (o.Push 1)) (λ part x rest q. (refl, refl, q)) condition fits false (of_test (is_split tables functions spot.at)) (leaving tables functions (note tables spot.at))
+      gives_or all (plain (o.Push 1)) (λ w rest q. (refl, refl, q)) condition fits (false, of_test (is_split tables functions spot.at)) (leaving tables functions (note tables spot.at))
       (leaves (note tables spot.at) (is_split tables functions spot.at))
 
   -- loops
@@ -101,7 +72,7 @@ module _ (tables : Tables) (functions : (binding : ℕ) → Signature) where
       → (part : Bool) (rest : Coded) → Fine part x rest
       → Fine part x (if b then choose spot.place (o.Divide Loop) (part_frame tables functions spot 0 (loop done)) done (plain o.Resume rest) else loop rest)
   loops spot x loop true keeps part rest q =
-      (refl, refl, part_frames spot 0 true none (loop done) (keeps true none done refl (refl, refl, refl)), ended tables functions none refl, (λ e. refl), (λ e. refl), (refl, refl, q))
+      (refl, refl, part_frames all spot 0 (true, none) (loop done) (keeps true none done refl (refl, refl, refl)), ended none refl, (λ e. refl), (λ e. refl), (refl, refl, q))
   loops spot x loop false keeps part rest q = keeps part x rest refl q
 
   halts : (inside : Inside) (main : Bool) (part : Bool) (x : Exits) (rest : Coded) → x.returns ≡ true → Fine part x rest
@@ -114,17 +85,17 @@ module _ (tables : Tables) (functions : (binding : ℕ) → Signature) where
   returns inside (Some e) fits x may part rest q =
       let halt = plain o.DropLast (ends nowhere o.Halt rest) in
       let leave = ends nowhere (o.Leave true inside.framed) rest in
-      values_nested tables functions e fits part x (if inside.main then halt else leave)
-      (either tables functions part x inside.main halt leave (refl, refl, (refl, refl, may, q)) (refl, refl, may, q))
+      values_kept all e fits (part, x) (if inside.main then halt else leave)
+      (either all (part, x) inside.main halt leave (refl, refl, (refl, refl, may, q)) (refl, refl, may, q))
 
   -- a body that ends its part
   parts : (spot : Spot) (number : ℕ) (body : Coded → Coded) → Leads none body → Fine true none (part_frame tables functions spot number (body (plain o.End done)))
   parts spot number body keeps =
-      part_frames spot number true none (body (plain o.End done)) (keeps true (plain o.End done) (end tables functions none refl))
+      part_frames all spot number (true, none) (body (plain o.End done)) (keeps true (plain o.End done) (end none refl))
 
   -- the arm of a branch
   arms : (x : Exits) → Plain x → (body : Coded → Coded) → Leads x body → Fine false (of_arm x) (body done)
-  arms x plain' body keeps = subst (λ y. Fine false y (body done)) (sym plain'.1) (keeps false done (ended tables functions x plain'.0))
+  arms x plain' body keeps = subst (λ y. Fine false y (body done)) (sym plain'.1) (keeps false done (ended x plain'.0))
 
   arm_done : (x : Exits) → Fine false (of_arm x) done
   arm_done x = (refl, refl, refl)
@@ -135,9 +106,9 @@ module _ (tables : Tables) (functions : (binding : ℕ) → Signature) where
       then choose spot.place (o.Divide IfAlone) (part_frame tables functions spot 0 (body (plain o.End done))) done (plain o.Resume rest)
       else agreed sync (choose nowhere (o.Branch true) (body done) done rest))
   ifs spot sync x plain' true body keeps part rest q =
-      (refl, refl, parts spot 0 body keeps, ended tables functions none refl, (λ e. refl), (λ e. refl), (refl, refl, q))
+      (refl, refl, parts spot 0 body keeps, ended none refl, (λ e. refl), (λ e. refl), (refl, refl, q))
   ifs spot sync x plain' false body keeps part rest q =
-      agrees tables functions sync part x (choose nowhere (o.Branch true) (body done) done rest)
+      agrees all sync (part, x) (choose nowhere (o.Branch true) (body done) done rest)
       (refl, refl, arms x plain' body keeps, arm_done x, (λ e. untrue e), (λ e. untrue e), q)
 
   if_elses : (spot : Spot) (sync : Bool) (x : Exits) → Plain x → (b : Bool) (first second : Coded → Coded) → Leads (if b then none else x) first → Leads (if b then none else x) second
@@ -148,20 +119,20 @@ module _ (tables : Tables) (functions : (binding : ℕ) → Signature) where
   if_elses spot sync x plain' true first second one two part rest q =
       (refl, refl, parts spot 0 first one, parts spot 1 second two, (λ e. untrue e), (λ e. refl), (refl, refl, q))
   if_elses spot sync x plain' false first second one two part rest q =
-      agrees tables functions sync part x (choose nowhere (o.Branch true) (first done) (second done) rest)
+      agrees all sync (part, x) (choose nowhere (o.Branch true) (first done) (second done) rest)
       (refl, refl, arms x plain' first one, arms x plain' second two, (λ e. untrue e), (λ e. untrue e), q)
 
   mutual
     statement : (inside : Inside) (x : Exits) → Plain x → (s : Statement) → StatementShaped tables functions x s → Leads x (executed tables functions inside s)
     statement inside x plain' p.Empty shaped part rest q = q
-    statement inside x plain' (p.Expression e) shaped part rest q = uses e shaped part x rest q
+    statement inside x plain' (p.Expression e) shaped part rest q = uses all e shaped (part, x) rest q
     statement inside x plain' (p.Block statements) shaped part rest q = all_statements inside x plain' statements shaped part rest q
-    statement inside x plain' (p.Declare variables) shaped part rest q = declares variables shaped part x rest q
+    statement inside x plain' (p.Declare variables) shaped part rest q = declares all variables shaped (part, x) rest q
     statement inside x plain' (p.If spot condition first) shaped part rest q =
         let here = note tables spot.at in
         let body = executed tables functions inside first in
         let inner = branch_plain here.splits x plain' in
-        values_nested tables functions condition shaped.0 part x
+        values_kept all condition shaped.0 (part, x)
         (if here.splits
         then choose spot.place (o.Divide IfAlone) (part_frame tables functions spot 0 (body (plain o.End done))) done (plain o.Resume rest)
         else agreed here.sync (choose nowhere (o.Branch true) (body done) done rest))
@@ -171,7 +142,7 @@ module _ (tables : Tables) (functions : (binding : ℕ) → Signature) where
         let a = executed tables functions inside first in
         let b = executed tables functions inside second in
         let inner = branch_plain here.splits x plain' in
-        values_nested tables functions condition shaped.0 part x
+        values_kept all condition shaped.0 (part, x)
         (if here.splits
         then choose spot.place (o.Divide IfElse) (part_frame tables functions spot 0 (a (plain o.End done))) (part_frame tables functions spot 1 (b (plain o.End done))) (plain o.Resume rest)
         else agreed here.sync (choose nowhere (o.Branch true) (a done) (b done) rest))
@@ -181,45 +152,45 @@ module _ (tables : Tables) (functions : (binding : ℕ) → Signature) where
     statement inside x plain' (p.While spot condition body) shaped part rest q =
         let b = is_split tables functions spot.at in
         let run = executed tables functions inside body done in
-        let ran = statement inside (of_turn b x) (turn_plain b x) body shaped.1 false done (ended tables functions (of_turn b x) refl) in
+        let ran = statement inside (of_turn b x) (turn_plain b x) body shaped.1 false done (ended (of_turn b x) refl) in
         loops spot x (c.while (tested tables functions spot (Some condition)) run done) b
         (λ part' x' rest' same e'. while_shape part' b x' (tested tables functions spot (Some condition)) run done rest' (tests spot (Some condition) shaped.0)
-        (subst (λ y. Fine false y run) (sym same) ran) (ended tables functions none refl) e') part rest q
+        (subst (λ y. Fine false y run) (sym same) ran) (ended none refl) e') part rest q
     statement inside x plain' (p.DoWhile spot body condition) shaped part rest q =
         let b = is_split tables functions spot.at in
         let run = executed tables functions inside body done in
-        let ran = statement inside (of_turn b x) (turn_plain b x) body shaped.1 false done (ended tables functions (of_turn b x) refl) in
+        let ran = statement inside (of_turn b x) (turn_plain b x) body shaped.1 false done (ended (of_turn b x) refl) in
         loops spot x (c.until run (tested tables functions spot (Some condition))) b
         (λ part' x' rest' same e'. until_shape part' b x' (tested tables functions spot (Some condition)) run rest' (tests spot (Some condition) shaped.0)
         (subst (λ y. Fine false y run) (sym same) ran) e') part rest q
     statement inside x plain' (p.For spot before condition after body) shaped part rest q =
         let b = is_split tables functions spot.at in
         let run = executed tables functions inside body done in
-        let ran = statement inside (of_turn b x) (turn_plain b x) body shaped.3 false done (ended tables functions (of_turn b x) refl) in
+        let ran = statement inside (of_turn b x) (turn_plain b x) body shaped.3 false done (ended (of_turn b x) refl) in
         let step = used_or tables functions after done in
-        uses_or before shaped.0 part x (looping tables functions spot (c.while (tested tables functions spot condition) run step) rest)
+        uses_or all before shaped.0 (part, x) (looping tables functions spot (c.while (tested tables functions spot condition) run step) rest)
         (loops spot x (c.while (tested tables functions spot condition) run step) b
         (λ part' x' rest' same e'. while_shape part' b x' (tested tables functions spot condition) run step rest' (tests spot condition shaped.1)
-        (subst (λ y. Fine false y run) (sym same) ran) (uses_or after shaped.2 false none done (ended tables functions none refl)) e') part rest q)
+        (subst (λ y. Fine false y run) (sym same) ran) (uses_or all after shaped.2 (false, none) done (ended none refl)) e') part rest q)
     statement inside x plain' (p.Start spot count body) shaped part rest q =
         let run = executed tables functions inside body in
-        gives_or (plain (o.Get n.Processors)) (λ part' x' rest' q'. (refl, refl, q')) count shaped.0 part x
+        gives_or all (plain (o.Get n.Processors)) (λ w rest' q'. (refl, refl, q')) count shaped.0 (part, x)
         (choose nowhere o.Begin (part_frame tables functions spot 0 (run (plain o.End done))) done (plain o.Resume rest))
-        (refl, refl, parts spot 0 run (statement inside none none_plain body shaped.1), ended tables functions none refl, (λ e. refl), (λ e. refl), (refl, refl, q))
+        (refl, refl, parts spot 0 run (statement inside none none_plain body shaped.1), ended none refl, (λ e. refl), (λ e. refl), (refl, refl, q))
     statement inside x plain' (p.Fork spot k number rank body) shaped part rest q =
         let run = executed tables functions inside body in
         let split = choose spot.place (o.Divide Fork) (part_frame tables functions spot 0 (run (plain o.End done))) done (plain o.Resume rest) in
         let ranked = value_or tables functions (plain (o.Get n.Rank)) rank split in
         let numbered' = value tables functions number ranked in
         let forked : Fine part x split
-        = (refl, refl, parts spot 0 run (statement inside none none_plain body shaped.3), ended tables functions none refl, (λ e. refl), (λ e. refl), (refl, refl, q)) in
+        = (refl, refl, parts spot 0 run (statement inside none none_plain body shaped.3), ended none refl, (λ e. refl), (λ e. refl), (refl, refl, q)) in
         let number_fine : Fine part x numbered'
-        = values_nested tables functions number shaped.1 part x ranked (gives_or (plain (o.Get n.Rank)) (λ part' x' rest' q'. (refl, refl, q')) rank shaped.2 part x split forked) in
-        values_nested tables functions k shaped.0 part x (plain o.Agree numbered') (refl, refl, number_fine)
+        = values_kept all number shaped.1 (part, x) ranked (gives_or all (plain (o.Get n.Rank)) (λ w rest' q'. (refl, refl, q')) rank shaped.2 (part, x) split forked) in
+        values_kept all k shaped.0 (part, x) (plain o.Agree numbered') (refl, refl, number_fine)
     statement inside x plain' (p.Farm spot body) shaped part rest q =
-        (refl, refl, statement inside none none_plain body shaped false done (ended tables functions none refl), ended tables functions none refl, (λ e. refl), (λ e. untrue e), (refl, refl, q))
+        (refl, refl, statement inside none none_plain body shaped false done (ended none refl), ended none refl, (λ e. refl), (λ e. untrue e), (refl, refl, q))
     statement inside x plain' (p.Seq spot body) shaped part rest q =
-        (refl, refl, statement inside none none_plain body shaped false done (ended tables functions none refl), ended tables functions none refl, (λ e. refl), (λ e. untrue e), (refl, refl, q))
+        (refl, refl, statement inside none none_plain body shaped false done (ended none refl), ended none refl, (λ e. refl), (λ e. untrue e), (refl, refl, q))
     statement inside x plain' (p.Barrier spot) shaped part rest q = (refl, refl, q)
     statement inside x plain' (p.Break spot) shaped part rest q = (refl, shaped, q)
     statement inside x plain' (p.Continue spot) shaped part rest q = (refl, shaped, q)

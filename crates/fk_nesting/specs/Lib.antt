@@ -1,3 +1,4 @@
 pub mod Behind
 pub mod Shape
+pub mod Calls
 pub mod Shaped

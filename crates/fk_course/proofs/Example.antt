@@ -1,0 +1,84 @@
+-- A program in place: void f(void) {} void main(void) { if (1) ; start { while ($) if ($) f(); farm { f(); barrier; } } start f(); }
+use Rattle.std.specs.Prelude.{ℕ, ◌==◌, Bool, true, false, [], ◌∷◌, codes, Some, None}
+use Rattle.std.proofs.Common.{refl}
+use Rattle.fk_syntax.specs.declared.facts.Note.{Note}
+use Rattle.fk_syntax.specs.declared.program.Mode.TheVariants as m
+use Rattle.fk_syntax.specs.Tree as t
+use Rattle.fk_syntax.specs.Program as p
+use Rattle.fk_syntax.specs.Program.{Statement, Statements, ProgramTree}
+use Rattle.fk_forms.specs.Tables.{Tables}
+use Rattle.fk_forms.proofs.Short.{place, sp, nm, ty, function, nn, nt}
+use Rattle.fk_source.specs.Program.{next_in, main_work}
+use Rattle.fk_nesting.proofs.Spine.{untrue}
+use Rattle.fk_together.specs.Course.{ByItself, Follows}
+use Rattle.fk_course.specs.Ahead.{all_outs}
+use Rattle.fk_course.specs.InPlace.{IsInPlace}
+use Rattle.fk_course.proofs.Programs.{programs_follow}
+
+-- `f` has binding 1, and `main` 0
+abbrev called_f : (token : ℕ) → Statement
+called_f token = p.Expression (t.Postfix (t.Variable (nm (codes "f") token 1 1)) (t.call (sp 0 1 1) t.no_trees t.no_suffixes))
+
+abbrev rank : t.Tree
+rank = t.GroupRank (sp 0 1 1)
+
+abbrev in_start : Statements
+in_start =
+    p.statement (p.While (sp 3 1 1) rank (p.If (sp 4 1 1) rank (called_f 5)))
+    (p.statement (p.Farm (sp 0 1 1) (p.Block (p.statement (called_f 6) (p.statement (p.Barrier (sp 0 1 1)) p.no_statements)))) p.no_statements)
+
+abbrev in_main : Statements
+in_main =
+    p.statement (p.If (sp 0 1 1) (t.Number (sp 0 1 1) 1 false) p.Empty)
+    (p.statement (p.Start (sp 0 1 1) None (p.Block in_start)) (p.statement (p.Start (sp 0 1 1) None (called_f 7)) p.no_statements))
+
+abbrev program : ProgramTree
+program = record {
+  items = p.FunctionItem (function m.Sync (ty t.Void 0) (nm (codes "f") 1 1 1) [] (Some p.no_statements))
+      ∷ p.FunctionItem (function m.Async (ty t.Void 0) (nm (codes "main") 2 1 1) [] (Some in_main)) ∷ [];
+  end = place 1 1;
+  tokens = 8;
+}
+
+abbrev of_f : Note
+of_f = nt 0 1 false false false
+
+abbrev tables : Tables
+tables = record {
+  notes = nn ∷ of_f ∷ nn ∷ nt 0 0 true false true ∷ nt 0 0 true false true ∷ of_f ∷ of_f ∷ of_f ∷ [];
+  kinds = [];
+  slots = [];
+  regions = [];
+}
+
+abbrev may_call : (in_group : Bool) → (binding : ℕ) → Bool
+may_call in_group binding = binding == 1
+
+is_in_place : IsInPlace tables program may_call
+is_in_place = record {
+  shaped = (tt, (((tt, tt), ((tt, ((tt, (tt, (tt, (((λ k. refl), (λ e. untrue e)), tt, tt)))), (((tt, (((λ k. refl), (λ e. untrue e)), tt, tt)), (tt, tt)), tt))), ((tt, (tt, (((λ k. refl), (λ e. untrue e)), tt, tt))), tt))), tt));
+  noted = ((λ e. tt), ((λ e. untrue e), tt));
+  in_place = (
+    (λ e. (refl, tt)),
+    (λ e. (refl, tt)),
+    (λ e. untrue e),
+    (
+      (λ e. untrue e),
+      (λ e. untrue e),
+      (λ e. (
+        refl,
+        (
+          ((λ f. untrue f), tt, tt),
+          (
+            (refl, tt, (((λ f. refl), tt, ((λ f. refl), tt, (refl, (tt, tt)))), ((refl, ((refl, (tt, tt)), (tt, tt))), tt)), ((refl, tt, (refl, tt, (refl, (tt, tt)))), (tt, tt))),
+            ((refl, tt, (refl, (tt, tt)), (refl, (tt, tt))), tt),
+          ),
+        ),
+      )),
+      tt,
+    ),
+  );
+}
+
+follows : Follows (next_in tables program) all_outs (ByItself false) (main_work tables program)
+follows = programs_follow tables program may_call is_in_place

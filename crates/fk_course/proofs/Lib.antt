@@ -1,0 +1,11 @@
+pub mod Even
+pub mod Far
+pub mod Behind
+pub mod First
+pub mod Loops
+pub mod Walk
+pub mod Main
+pub mod Forms
+pub mod Texts
+pub mod Programs
+mod Example

@@ -1,0 +1,5 @@
+mod Ok
+mod Forms
+pub mod Programs
+mod Examples
+pub mod FlatPrograms

@@ -1,0 +1,875 @@
+-- The steps of a round that change the tree, one node after the other.
+use Rattle.std.proofs.Common.{◌≡◌, ◌≢◌, inr, ⊎_elim, ℕ, zero, suc, ◌+◌, ◌<◌, ◌≤◌, ◌==◌, ◌&&◌, ◌||◌, nat_lt, min, Bool, true, false, not, true≢false, List, [], ◌∷◌, length, slice_get, Option, Some, None, is_some, refl, sym, ap, ◌∙◌, subst, subst₂, arith, if◌then◌else◌}
+use Rattle.std.specs.Prelude.{option_map}
+use Rattle.std.proofs.lemmas.Bool.{cases_Bool, cases_eq, cases_lt, eqb-true, eq-eqb, lt-ltb, le-ltb}
+use Rattle.fk_operation.specs.declared.operation.Operation.{Operation}
+use Rattle.fk_operation.specs.declared.operation.Operation.TheVariants as o
+use Rattle.fk_operation.specs.declared.operation.Split.{Split}
+use Rattle.fk_operation.specs.declared.operation.Split.TheVariants as split_by
+use Rattle.fk_tree.specs.declared.node.Kind.{Kind}
+use Rattle.fk_tree.specs.declared.node.Kind.TheVariants.{Lockstep, Waiting, Asynchronous}
+use Rattle.fk_tree.specs.Tree as t
+use Rattle.fk_tree.specs.Tree.{Tree, members, members_of, parent, kind, is_member, first_part, kind_after}
+use Rattle.fk_tree.specs.Sound.{Has, awaits}
+use Rattle.fk_tree.proofs.Shapes.{has_some, some-given}
+use Rattle.fk_tree.proofs.Turns.{IsLeaf, idle-lockstep, idle-asynchronous, idle-after, free-asynchronous, free-after}
+use Rattle.fk_tree.proofs.SplitSound.{CanSplit}
+use Rattle.fk_tree.proofs.ShrinkSound.{CanShrink}
+use Rattle.fk_tree.proofs.Begins.{length-root}
+use Rattle.fk_run.specs.Processor.{Processor, Setting, values, last}
+use Rattle.fk_run.specs.Group.{not_negative, parts, part, enters, stays, goes_onward, changes}
+use Rattle.fk_run.specs.Round.{Step, Runner, State, Round, Acting, lowest, agreed, who, change_by, all_changes, is_possible}
+use Rattle.fk_lockstep.specs.Untouched.{changes_tree}
+use Rattle.fk_together.specs.Course.{Stand, InGroup, Waits, ByItself, after_waiting, Parts, Does, FollowsFor, Follows}
+use Rattle.fk_together.proofs.Acting.{untrue, Here, HasValue, Is, without, within, is_changing, Grouped, Parted, Loner, ahead_of, Apart, does_so, going_on}
+use Rattle.fk_together.proofs.Nodes.{Frame, kind_frame, shrink_frame, split_frame}
+use Rattle.fk_together.proofs.Trees.{NodeIs, IsThere, ThereAt, inv_same, turned_here, turned_inv, shrunk_here, shrunk_inv, parted_here, parted_behind, parted_inv}
+use Rattle.fk_together.proofs.Round.{first_is, some_at, who_is, lowest_member, actings as actings_of, settle as settle_of, has_at, quiet as quiet_of, now_has as now_has_of, now_here, now_inv, Sound, Ordered, Moving, all_move, number_at, acting_length}
+
+-- splits other than `fork`
+one_of_one : (b : Bool) (j : ℕ) → (if b then None else Some 0) ≡ Some j → j < 1
+one_of_one true j e = absurd (cc)
+one_of_one false j e = let same = first_is 0 j e in omega (arith, same)
+
+pub one_of_none : (b : Bool) (j : ℕ) → (if b then Some 0 else None) ≡ Some j → j < 1
+one_of_none true j e = let same = first_is 0 j e in omega (arith, same)
+one_of_none false j e = absurd (cc)
+
+one_of_two : (b : Bool) (j : ℕ) → (if b then Some 1 else Some 0) ≡ Some j → j < 2
+one_of_two true j e = let same = first_is 1 j e in omega (arith, same)
+one_of_two false j e = let same = first_is 0 j e in omega (arith, same)
+
+pub few : (by : Split) → by ≢ split_by.Fork → (vs vs' : List ℕ) (j : ℕ) → part by vs ≡ Some j → j < parts by vs'
+few split_by.Fork isnt vs vs' j e = absurd (isnt refl)
+few split_by.IfElse isnt vs vs' j e = one_of_two (last vs == 0) j e
+few split_by.IfAlone isnt vs vs' j e = one_of_one (last vs == 0) j e
+few split_by.AndThen isnt vs vs' j e = one_of_one (last vs == 0) j e
+few split_by.OrElse isnt vs vs' j e = one_of_none (last vs == 0) j e
+few split_by.Loop isnt vs vs' j e = let same = first_is 0 j e in omega (arith, same)
+
+never_none : {A : Type 0} (b : Bool) → ◌≡◌ {A = Option ℕ} (if b then Some 1 else Some 0) None → A
+never_none true e = absurd (cc)
+never_none false e = absurd (cc)
+
+lt_suc : (l i : ℕ) → l ≢ i → nat_lt l (suc i) ≡ nat_lt l i
+lt_suc l i ne =
+    ⊎_elim
+    (λ lt. let more : l < suc i = omega arith in lt-ltb l (suc i) more ∙ sym (lt-ltb l i lt))
+    (λ le. let more : suc i ≤ l = omega (arith, le, ne) in le-ltb l (suc i) more ∙ sym (le-ltb l i le))
+    (cases_lt l i)
+
+pub step_of_none : (n : ℕ) (whose : ℕ → Processor) (highest low : ℕ) (tree : Tree) (op : Operation) → changes_tree op ≡ false → changes op n whose highest low tree ≡ tree
+step_of_none n whose highest low tree o.Begin e = absurd (true≢false e)
+step_of_none n whose highest low tree (o.Divide by) e = absurd (true≢false e)
+step_of_none n whose highest low tree o.Shrink e = absurd (true≢false e)
+step_of_none n whose highest low tree o.End e = absurd (true≢false e)
+step_of_none n whose highest low tree o.Farm e = absurd (true≢false e)
+step_of_none n whose highest low tree o.Seq e = absurd (true≢false e)
+step_of_none n whose highest low tree (o.Meet true) e = absurd (true≢false e)
+step_of_none n whose highest low tree o.Resume e = absurd (true≢false e)
+step_of_none n whose highest low tree (o.Meet false) e = refl
+step_of_none n whose highest low tree op e = refl
+
+module _ {W : Type 0} (next : W → Option (Step W)) (outs : W → List W) where
+  pub record Parting (by : Split) (here : W) (rest : Bool → W) : Type 0 where
+    pub waiter : W
+    pub waiter_outs : outs waiter ≡ outs here
+    pub waits : Follows next outs (Waits true) waiter
+    pub outs_in : (j : ℕ) → outs (rest (enters by (Some j))) ≡ waiter ∷ outs here
+    pub follows_in : (j : ℕ) → Follows next outs (InGroup false) (rest (enters by (Some j)))
+    pub aside : (vs : List ℕ) → part by vs ≡ None → rest (enters by None) ≡ waiter
+    pub no_fork : by ≢ split_by.Fork
+
+  parting : (by : Split) (here : W) (rest : Bool → W) (os : List W) → outs (rest true) ≡ os → ((n : ℕ) → Parts next outs (FollowsFor next outs n) by here rest os) → Parting by here rest
+  parting by here rest [] e h = absurd (h 0)
+  parting split_by.Fork here rest (w ∷ ws) e h = absurd (h 0)
+  parting split_by.IfElse here rest (w ∷ ws) e h = record {
+    waiter = w;
+    waiter_outs = (h 0).1;
+    waits = λ n. (h n).2;
+    outs_in = λ j. first_outs (j == 0);
+    follows_in = λ j. first_follows (j == 0);
+    aside = λ vs none. never_none (last vs == 0) none;
+    no_fork = λ same_one. cc;
+  }
+    where
+      first_outs : (b : Bool) → outs (rest b) ≡ w ∷ outs here
+      first_outs true = e ∙ ap (λ (bs : List W). w ∷ bs) (h 0).0
+      first_outs false = (h 0).5 ∙ ap (λ (bs : List W). w ∷ bs) (h 0).0
+
+      first_follows : (b : Bool) → Follows next outs (InGroup false) (rest b)
+      first_follows true = λ n. (h n).3
+      first_follows false = λ n. (h n).4
+  parting by here rest (w ∷ ws) e h = record {
+    waiter = w;
+    waiter_outs = (h 0).1;
+    waits = λ n. (h n).2;
+    outs_in = λ j. e ∙ ap (λ (bs : List W). w ∷ bs) (h 0).0;
+    follows_in = λ j n. (h n).3;
+    aside = λ vs none. (h 0).4;
+    no_fork = λ same_one. cc;
+  }
+
+within_some : (n : ℕ) → n ≢ 0 → within n ≡ true
+within_some zero ne = absurd (ne refl)
+within_some (suc n) ne = refl
+
+pub first_same : (h len a : ℕ) → h < len → nat_lt h (min a len) ≡ nat_lt h a
+first_same h len a lt =
+    ⊎_elim
+    (λ below. let both : h < min a len = omega (arith, below, lt) in lt-ltb h (min a len) both ∙ sym (lt-ltb h a below))
+    (λ above. let both : min a len ≤ h = omega (arith, above) in le-ltb h (min a len) both ∙ sym (le-ltb h a above))
+    (cases_lt h a)
+
+module _ {W : Type 0} (next : W → Option (Step W)) (outs : W → List W) (set : Setting) (round : Round) (s : State W) (p : ℕ) (here0 : ℕ → Here W) (behind0 : ℕ → List W)
+    (inv0 : Sound next outs set round s p s.tree (has_at next outs set round s) here0 behind0) (ordered : Ordered next outs set round s p) (possible : is_possible next set round s ≡ true) where
+  abbrev actings : List (Acting W)
+  actings = actings_of next outs set round s
+
+  abbrev settle : Runner W → Option (Step W) → Runner W
+  settle r due = settle_of next outs set round s r due
+
+  abbrev Held : (tree : Tree) (has : ℕ → Option (Runner W)) (here : ℕ → Here W) (behind : ℕ → List W) → Type 0
+  Held tree has here behind = Sound next outs set round s p tree has here behind
+
+  abbrev Moves : (g : ℕ) (op : Operation) (n : ℕ) → Type 0
+  Moves g op n = Moving next outs set round s p here0 behind0 inv0 ordered possible g op n
+
+  abbrev pub low : ℕ → ℕ
+  low h = lowest (members s.tree (s.tree.places h))
+
+  -- whose node has been changed has gone on, as who changes nothing
+  abbrev pub mid : (gone : Bool) → Acting W → Runner W
+  mid gone b = if is_changing b.due && not gone then b.runner else settle b.runner b.due
+
+  abbrev pub mids : ℕ → ℕ → Option (Runner W)
+  mids i h = option_map (mid (nat_lt (low h) i)) (slice_get actings h)
+
+  pub record Stage (i : ℕ) (tree : Tree) : Type 0 where
+    pub here : ℕ → Here W
+    pub behind : ℕ → List W
+    pub inv : Held tree (mids i) here behind
+    pub given : s.tree.given ≤ tree.given
+    pub nodes : (n : ℕ) → n < s.tree.given → i ≤ lowest (members s.tree n) → tree.nodes n ≡ s.tree.nodes n
+    pub places : (h : ℕ) → h < p → i ≤ low h → tree.places h ≡ s.tree.places h
+
+  same_mid : (b : Acting W) (gone gone' : Bool) → is_changing b.due ≡ false → mid gone b ≡ mid gone' b
+  same_mid b gone gone' e =
+      ap (λ (c : Bool). if c && not gone then b.runner else settle b.runner b.due) e
+      ∙ sym (ap (λ (c : Bool). if c && not gone' then b.runner else settle b.runner b.due) e)
+
+  at_mid : (h : ℕ) (b : Acting W) (gone : Bool) → slice_get actings h ≡ Some b → option_map (mid gone) (slice_get actings h) ≡ Some (mid gone b)
+  at_mid h b gone at = ap (option_map (mid gone)) at
+
+  pub there : (h : ℕ) → h < p → (b : Acting W) × (slice_get actings h ≡ Some b)
+  there h lt =
+      let many = acting_length next outs set round s p here0 behind0 inv0 ordered possible in
+      some_at actings h (omega (arith, many))
+
+  pub first_stage : Stage 0 s.tree
+  first_stage = record {
+    here = now_here next outs set round s p here0 behind0 inv0 ordered possible;
+    behind = behind0;
+    inv = inv_same (λ (x : Here W). x.left) (Grouped next outs) (Parted next outs) (Apart next outs) Is p s.tree
+        (now_has_of next outs set round s p here0 behind0 inv0 ordered possible) (mids 0)
+        (now_here next outs set round s p here0 behind0 inv0 ordered possible) behind0
+        (λ h lt.
+        let b = there h lt in
+        at_mid h b.0 (nat_lt (low h) 0) b.1
+        ∙ ap (λ (r : Runner W). Some r) (quiet_is b.0 (nat_lt (low h) 0) (le-ltb (low h) 0 (omega arith)) (is_changing b.0.due))
+        ∙ sym (ap (option_map (quiet_of next outs set round s p here0 behind0 inv0 ordered possible)) b.1))
+        (now_inv next outs set round s p here0 behind0 inv0 ordered possible);
+    given = omega arith;
+    nodes = λ n lt le. refl;
+    places = λ h lt le. refl;
+  }
+    where
+      quiet_is : (b : Acting W) (gone : Bool) → gone ≡ false → (c : Bool) → (if c && not gone then b.runner else settle b.runner b.due) ≡ (if c then b.runner else settle b.runner b.due)
+      quiet_is b gone e true = ap (λ (g : Bool). if not g then b.runner else settle b.runner b.due) e
+      quiet_is b gone e false = refl
+
+  -- nobody at a node whose lowest member is i changes it
+  module _ (i : ℕ) (a : Acting W) (at : slice_get actings i ≡ Some a) (quiet : is_changing a.due ≡ true → lowest (members s.tree (s.tree.places i)) ≢ i) where
+    abbrev due_changes : Acting W → Bool
+    due_changes b = is_changing b.due
+
+    pub clash : {A : Type 0} (h : ℕ) → h < p → (b : Acting W) → slice_get actings h ≡ Some b → low h ≡ i → (due : Option (Step W)) → b.due ≡ due → is_changing due ≡ true → A
+    clash h lt b at_h low_h None e changing = untrue changing
+    clash h lt b at_h low_h (Some step) e changing =
+        let n = s.tree.places h in
+        let in_low = lowest_member h (members s.tree n) (inv0.sound.placed h lt).member in
+        let m = all_move next outs set round s p here0 behind0 inv0 ordered possible h lt b at_h step e changing (low h) in_low in
+        let same : m.acting ≡ a = first_is m.acting a (sym m.at ∙ ap (slice_get actings) low_h ∙ at) in
+        let changing' : is_changing a.due ≡ true = ap due_changes (sym same) ∙ ap is_changing m.due ∙ ap changes_tree m.same ∙ changing in
+        let place : s.tree.places i ≡ n = ap s.tree.places (sym low_h) ∙ m.place in
+        absurd (quiet changing' (ap (λ (k : ℕ). lowest (members s.tree k)) place ∙ low_h))
+
+    still : (h : ℕ) → h < p → mids (suc i) h ≡ mids i h
+    still h lt =
+        let b = there h lt in
+        ⊎_elim
+        (λ same. ⊎_elim
+        (λ changing. clash h lt b.0 b.1 same b.0.due refl changing)
+        (λ not_so. at_mid h b.0 (nat_lt (low h) (suc i)) b.1 ∙ ap (λ (r : Runner W). Some r) (same_mid b.0 (nat_lt (low h) (suc i)) (nat_lt (low h) i) not_so) ∙ sym (at_mid h b.0 (nat_lt (low h) i) b.1))
+        (cases_Bool (is_changing b.0.due)))
+        (λ ne. ap (λ (gone : Bool). option_map (mid gone) (slice_get actings h)) (lt_suc (low h) i ne))
+        (cases_eq (low h) i)
+
+    pub same_stage : (tree : Tree) → Stage i tree → Stage (suc i) tree
+    same_stage tree st = record {
+      here = st.here;
+      behind = st.behind;
+      inv = inv_same (λ (x : Here W). x.left) (Grouped next outs) (Parted next outs) (Apart next outs) Is p tree (mids i) (mids (suc i)) st.here st.behind still st.inv;
+      given = st.given;
+      nodes = λ n lt le. st.nodes n lt (omega arith);
+      places = λ h lt le. st.places h lt (omega arith);
+    }
+
+  -- the lowest member of a node brings a change of it
+  module _ (i : ℕ) (lt : i < p) (a : Acting W) (at : slice_get actings i ≡ Some a) (step : Step W) (due : a.due ≡ Some step) (changing : changes_tree step.operation ≡ true)
+      (n : ℕ) (place : s.tree.places i ≡ n) (is_low : lowest (members s.tree n) ≡ i) (tree : Tree) (st : Stage i tree) where
+    abbrev op : Operation
+    op = step.operation
+
+    abbrev value : ℕ
+    value = agreed actings (members s.tree n)
+
+    pub moves : (g : ℕ) → Has s.tree n g → Moves g op n
+    moves g in_g =
+        subst (λ (m : ℕ). Moves g op m) place
+        (all_move next outs set round s p here0 behind0 inv0 ordered possible i lt a at step due changing g (subst (λ (m : ℕ). Has s.tree m g) (sym place) in_g))
+
+    pub in_i : Has s.tree n i
+    in_i = subst (λ (m : ℕ). Has s.tree m i) place (inv0.sound.placed i lt).member
+
+    pub n_given : n < s.tree.given
+    n_given = some-given p s.tree inv0.sound n (has_some s.tree n i in_i)
+
+    pub nodes_n : tree.nodes n ≡ s.tree.nodes n
+    nodes_n = st.nodes n n_given (omega (arith, is_low))
+
+    pub had : (h : ℕ) → Has tree n h → Has s.tree n h
+    had h is = subst (λ (ms : List ℕ). is_member h ms ≡ true) (ap members_of nodes_n) is
+
+    pub has : (h : ℕ) → Has s.tree n h → Has tree n h
+    has h is = subst (λ (ms : List ℕ). is_member h ms ≡ true) (sym (ap members_of nodes_n)) is
+
+    pub low_of : (h : ℕ) → Has s.tree n h → low h ≡ i
+    low_of h is = ap (λ (m : ℕ). lowest (members s.tree m)) (moves h is).place ∙ is_low
+
+    pub place_of : (h : ℕ) → Has s.tree n h → tree.places h ≡ n
+    place_of h is = let e = low_of h is in st.places h (inv0.sound.within n h is) (omega (arith, e)) ∙ (moves h is).place
+
+    some_member : (ms : List ℕ) → ms ≢ [] → (h : ℕ) × (is_member h ms ≡ true)
+    some_member [] ne = absurd (ne refl)
+    some_member (h ∷ ms) ne = (h, ap (λ (c : Bool). c || is_member h ms) (eq-eqb h h refl))
+
+    pub leaf : IsLeaf tree n
+    leaf m ne some up =
+        let found = some_member (members tree m) (λ empty. some (st.inv.sound.living m empty)) in
+        let h = found.0 in
+        let in_n : Has tree n h = subst (λ (q : ℕ). Has tree q h) up (st.inv.sound.among m h ne found.1) in
+        let lt' = st.inv.sound.within m h found.1 in
+        (st.inv.sound.placed h lt').own m ne (up ∙ sym (place_of h (had h in_n))) found.1
+
+    -- a member before and after
+    record Moved (h : ℕ) (r' : Runner W) : Type 0 where
+      before : Runner W
+      was : mids i h ≡ Some before
+      known : who actings h ≡ before.has
+      number : before.has.number ≡ h
+      step' : Step W
+      stands : next before.left ≡ Some step'
+      same : step'.operation ≡ op
+      left : r'.left ≡ step'.rest (goes_onward op value i before.has)
+
+    moved : (h : ℕ) (r' : Runner W) → Has tree n h → mids (suc i) h ≡ Some r' → Moved h r'
+    moved h r' is e =
+        let m = moves h (had h is) in
+        let b = m.acting in
+        let e_low = low_of h (had h is) in
+        let number = number_at next outs set round s p here0 behind0 inv0 ordered possible h b m.at in
+        let not_gone : nat_lt (low h) i ≡ false = le-ltb (low h) i (omega (arith, e_low)) in
+        let gone : nat_lt (low h) (suc i) ≡ true = lt-ltb (low h) (suc i) (omega (arith, e_low)) in
+        let changes' : is_changing b.due ≡ true = ap is_changing m.due ∙ ap changes_tree m.same ∙ changing in
+        let after : r' ≡ settle b.runner b.due
+        = first_is r' (settle b.runner b.due) (sym e ∙ at_mid h b (nat_lt (low h) (suc i)) m.at
+        ∙ ap (λ (r : Runner W). Some r) (past b (is_changing b.due) (nat_lt (low h) (suc i)) changes' gone)) in
+        record {
+          before = b.runner;
+          was = at_mid h b (nat_lt (low h) i) m.at ∙ ap (λ (r : Runner W). Some r) (not_past b (is_changing b.due) (nat_lt (low h) i) changes' not_gone);
+          known = who_is actings h b m.at;
+          number = number;
+          step' = m.step;
+          stands = m.stands;
+          same = m.same;
+          left = ap (λ (r : Runner W). r.left) (after ∙ ap (settle b.runner) m.due)
+              ∙ settled_left b.runner m.step (ap s.tree.places number ∙ m.place) m.same;
+        }
+      where
+        past : (b : Acting W) (c g : Bool) → c ≡ true → g ≡ true → (if c && not g then b.runner else settle b.runner b.due) ≡ settle b.runner b.due
+        past b c g e' e'' = subst₂ (λ (c' g' : Bool). (if c' && not g' then b.runner else settle b.runner b.due) ≡ settle b.runner b.due) (sym e') (sym e'') refl
+
+        not_past : (b : Acting W) (c g : Bool) → c ≡ true → g ≡ false → (if c && not g then b.runner else settle b.runner b.due) ≡ b.runner
+        not_past b c g e' e'' = subst₂ (λ (c' g' : Bool). (if c' && not g' then b.runner else settle b.runner b.due) ≡ b.runner) (sym e') (sym e'') refl
+
+        settled_left : (r : Runner W) (u : Step W) → s.tree.places r.has.number ≡ n → u.operation ≡ op → (settle r (Some u)).left ≡ u.rest (goes_onward op value i r.has)
+        settled_left r u place' same' =
+            ap (λ (m : ℕ). u.rest (goes_onward u.operation (agreed actings (members s.tree m)) (lowest (members s.tree m)) r.has)) place'
+            ∙ ap (λ (l : ℕ). u.rest (goes_onward u.operation value l r.has)) is_low
+            ∙ ap (λ (op' : Operation). u.rest (goes_onward op' value i r.has)) same'
+
+    others : (h : ℕ) → h < p → is_member h (members tree n) ≡ false → mids (suc i) h ≡ mids i h
+    others h lt' out =
+        let b = there h lt' in
+        ⊎_elim
+        (λ same. ⊎_elim
+        (λ changes'. clashes b.0 b.1 same b.0.due refl changes')
+        (λ not_so. at_mid h b.0 (nat_lt (low h) (suc i)) b.1 ∙ ap (λ (r : Runner W). Some r) (same_mid b.0 (nat_lt (low h) (suc i)) (nat_lt (low h) i) not_so) ∙ sym (at_mid h b.0 (nat_lt (low h) i) b.1))
+        (cases_Bool (is_changing b.0.due)))
+        (λ ne. ap (λ (gone : Bool). option_map (mid gone) (slice_get actings h)) (lt_suc (low h) i ne))
+        (cases_eq (low h) i)
+      where
+        clashes : {A : Type 0} (b : Acting W) → slice_get actings h ≡ Some b → low h ≡ i → (due' : Option (Step W)) → b.due ≡ due' → is_changing due' ≡ true → A
+        clashes b at_h low_h None e changes' = untrue changes'
+        clashes b at_h low_h (Some step'') e changes' =
+            let q = s.tree.places h in
+            let in_q = (inv0.sound.placed h lt').member in
+            let m = all_move next outs set round s p here0 behind0 inv0 ordered possible h lt' b at_h step'' e changes' (low h) (lowest_member h (members s.tree q) in_q) in
+            let same : q ≡ n = sym m.place ∙ ap s.tree.places low_h ∙ place in
+            absurd (true≢false (sym (has h (subst (λ (j : ℕ). Has s.tree j h) same in_q)) ∙ out))
+
+    pub record Next (tree' : Tree) : Type 0 where
+      pub here' : ℕ → Here W
+      pub behind' : ℕ → List W
+      pub inv' : Held tree' (mids (suc i)) here' behind'
+      pub frame : Frame n tree tree'
+
+    pub next_stage : (tree' : Tree) → Next tree' → Stage (suc i) tree'
+    next_stage tree' x = record {
+      here = x.here';
+      behind = x.behind';
+      inv = x.inv';
+      given = let more = x.frame.given in let before = st.given in omega (arith, more, before);
+      nodes = λ q lt' le.
+          let other : q ≢ n = λ e. let same : lowest (members s.tree q) ≡ i = ap (λ (j : ℕ). lowest (members s.tree j)) e ∙ is_low in absurd (omega (arith, le, same)) in
+          let before = st.given in
+          x.frame.nodes q (omega (arith, lt', before)) other ∙ st.nodes q lt' (omega (arith, le));
+      places = λ h lt' le.
+          let out : is_member h (members tree n) ≡ false
+          = ⊎_elim (λ is. let e = low_of h (had h is) in absurd (omega (arith, le, e))) (λ isnt. isnt) (cases_Bool (is_member h (members tree n))) in
+          x.frame.places h out ∙ st.places h lt' (omega (arith, le));
+    }
+
+    abbrev x : Here W
+    x = st.here n
+
+    abbrev b : List W
+    b = st.behind n
+
+    abbrev IsAtKind : Option Kind → Runner W → Type 0
+    IsAtKind k r = IsThere (λ (y : Here W). y.left) (Grouped next outs) (Parted next outs) (Apart next outs) Is p n k b x r
+
+    abbrev NodeKind : Option Kind → Type 0
+    NodeKind k = NodeIs (λ (y : Here W). y.left) (Grouped next outs) (Parted next outs) (Apart next outs) Is p n k b x
+
+    is_there : (k : Option Kind) → kind tree n ≡ k → (h : ℕ) → Has tree n h → (r : Runner W) → mids i h ≡ Some r → IsAtKind k r
+    is_there k e h is r was =
+        subst (λ (k' : Option Kind). IsAtKind k' r) e
+        (subst (λ (q : ℕ). ThereAt (λ (y : Here W). y.left) (Grouped next outs) (Parted next outs) (Apart next outs) Is p tree st.here st.behind q r) (place_of h (had h is))
+        (st.inv.there h r (inv0.sound.within n h (had h is)) was))
+
+    -- a member after an operation that all of them do, and what is left on its ways
+    record Fin (op' : Operation) (rest : Bool → W) (h : ℕ) (r' : Runner W) : Type 0 where
+      before : Runner W
+      known : who actings h ≡ before.has
+      number : before.has.number ≡ h
+      left : r'.left ≡ rest (goes_onward op' value i before.has)
+
+    abbrev AllFin : (op' : Operation) (rest : Bool → W) → Type 0
+    AllFin op' rest = (h : ℕ) (r' : Runner W) → Has tree n h → mids (suc i) h ≡ Some r' → Fin op' rest h r'
+
+    -- where all have the same left
+    all_fin : (w : W) → ((h : ℕ) → Has tree n h → (r : Runner W) → mids i h ≡ Some r → (u : Step W) → next r.left ≡ Some u → u.operation ≡ op → r.left ≡ w) → (u : Step W) → next w ≡ Some u → AllFin op u.rest
+    all_fin w same u stands h r' is e =
+        let m = moved h r' is e in
+        let equal : m.step' ≡ u = first_is m.step' u (sym m.stands ∙ ap next (same h is m.before m.was m.step' m.stands m.same) ∙ stands) in
+        record {
+          before = m.before;
+          known = m.known;
+          number = m.number;
+          left = m.left ∙ ap (λ (v : Step W). v.rest (goes_onward op value i m.before.has)) equal;
+        }
+
+    mine : (r' : Runner W) × (mids (suc i) i ≡ Some r')
+    mine = let c = there i lt in (mid (nat_lt (low i) (suc i)) c.0, at_mid i c.0 (nat_lt (low i) (suc i)) c.1)
+
+    my_move : Moved i mine.0
+    my_move = moved i mine.0 (has i in_i) mine.1
+
+    some_n : tree.nodes n ≢ None
+    some_n = has_some tree n i (has i in_i)
+
+    unit : (w : W) (r' : Runner W) → r'.left ≡ w → Is (without w) r'
+    unit w r' e = record { left = e; value = tt }
+
+    -- a group in lockstep
+    module _ (locked : kind tree n ≡ Some Lockstep) (g : Grouped next outs b x) (rest : Bool → W) where
+      lower : n ≢ 0
+      lower zero' = st.inv.sound.free (sym (ap (kind tree) zero') ∙ locked)
+
+      can_shrink : CanShrink n tree
+      can_shrink = record { lower = lower; there = some_n; leaf = leaf }
+
+      up_parted : Parted next outs (parent tree n) (st.behind (parent tree n)) (st.here (parent tree n))
+      up_parted = by (kind tree (parent tree n)) (st.inv.sound.awaited n lower some_n) (st.inv.node (parent tree n))
+        where
+          by : (k : Option Kind) → awaits k n ≡ true
+              → NodeIs (λ (y : Here W). y.left) (Grouped next outs) (Parted next outs) (Apart next outs) Is p (parent tree n) k (st.behind (parent tree n)) (st.here (parent tree n))
+              → Parted next outs (parent tree n) (st.behind (parent tree n)) (st.here (parent tree n))
+          by None e h = untrue e
+          by (Some Lockstep) e h = untrue e
+          by (Some (Waiting first k)) e h = h
+          by (Some (Asynchronous alone)) e h = untrue e
+
+      -- who leaves has what those have who wait
+      is_up : (w : W) (r' : Runner W) → outs x.left ≡ w ∷ outs w → r'.left ≡ w → Is (st.here (parent tree n)) r'
+      is_up w r' e is =
+          let lists : w ∷ outs w ≡ (st.here (parent tree n)).left ∷ st.behind (parent tree n) = sym e ∙ g.outs_are ∙ st.inv.chain n lower some_n in
+          record { left = is ∙ cons_first lists; value = plain (st.here (parent tree n)).agreed up_parted.unagreed }
+        where
+          cons_first : {v w' : W} {vs ws : List W} → v ∷ vs ≡ w' ∷ ws → v ≡ w'
+          cons_first e' = cc
+
+          plain : (o' : Option ℕ) → o' ≡ None → HasValue o' r'
+          plain None e' = tt
+          plain (Some v) e' = absurd (cc)
+
+      group_splits : (by : Split) → Parting next outs by x.left rest → AllFin (o.Divide by) rest → Next (changes (o.Divide by) n (who actings) value i tree)
+      group_splits by d fin =
+          let vs = values (who actings i) in
+          let k = parts by vs in
+          let into : ℕ → Option ℕ = λ h. part by (values (who actings h)) in
+          let can : CanSplit n k into tree = record { there = some_n; leaf = leaf; few = λ h j e. few by d.no_fork (values (who actings h)) vs j e } in
+          let waits : Parted next outs n b (without d.waiter)
+          = record { outs_are = d.waiter_outs ∙ g.outs_are; follows = subst (λ (w : Bool). Follows next outs (Waits w) d.waiter) (sym (within_some n lower)) d.waits; unagreed = refl } in
+          let inside : ℕ → Here W = λ j. without (rest (enters by (Some j))) in
+          let parts_in : (j : ℕ) → Grouped next outs (d.waiter ∷ b) (inside j)
+          = λ j. record { outs_are = d.outs_in j ∙ ap (λ (bs : List W). d.waiter ∷ bs) g.outs_are; follows = d.follows_in j } in
+          let way_in : (h : ℕ) (o' : Option ℕ) (r' : Runner W) → Has tree n h → into h ≡ o' → mids (suc i) h ≡ Some r' → r'.left ≡ rest (enters by o')
+          = λ h o' r' is e e'. let f = fin h r' is e' in f.left ∙ ap (λ (q : Processor). rest (enters by (part by (values q)))) (sym f.known) ∙ ap (λ (o'' : Option ℕ). rest (enters by o'')) e in
+          let enter : (h j : ℕ) (r' : Runner W) → Has tree n h → into h ≡ Some j → mids (suc i) h ≡ Some r' → Is (inside j) r'
+          = λ h j r' is e e'. unit (rest (enters by (Some j))) r' (way_in h (Some j) r' is e e') in
+          let stay : (h : ℕ) (r' : Runner W) → Has tree n h → into h ≡ None → mids (suc i) h ≡ Some r' → Is (without d.waiter) r'
+          = λ h r' is e e'. unit d.waiter r' (way_in h None r' is e e' ∙ d.aside (values (who actings h)) e) in
+          record {
+            here' = parted_here (λ (y : Here W). y.left) (Grouped next outs) (Parted next outs) (Apart next outs) Is p tree (mids i) st.here st.behind st.inv n k into can (without d.waiter) b inside (mids (suc i)) (λ ne. refl) waits parts_in enter stay others;
+            behind' = parted_behind (λ (y : Here W). y.left) (Grouped next outs) (Parted next outs) (Apart next outs) Is p tree (mids i) st.here st.behind st.inv n k into can (without d.waiter) b inside (mids (suc i)) (λ ne. refl) waits parts_in enter stay others;
+            inv' = parted_inv (λ (y : Here W). y.left) (Grouped next outs) (Parted next outs) (Apart next outs) Is p tree (mids i) st.here st.behind st.inv n k into can (without d.waiter) b inside (mids (suc i)) (λ ne. refl) waits parts_in enter stay others;
+            frame = split_frame n k into tree;
+          }
+
+      group_shrinks : (keep : ℕ → Bool) (new : Here W) → Grouped next outs b new
+          → ((h : ℕ) (r' : Runner W) → Has tree n h → keep h ≡ true → mids (suc i) h ≡ Some r' → Is new r')
+          → ((h : ℕ) (r' : Runner W) → Has tree n h → keep h ≡ false → mids (suc i) h ≡ Some r' → Is (st.here (parent tree n)) r')
+          → Next (t.shrink n keep tree)
+      group_shrinks keep new fits stayers leavers = record {
+        here' = shrunk_here (λ (y : Here W). y.left) (Grouped next outs) (Parted next outs) (Apart next outs) Is p tree (mids i) st.here st.behind st.inv n keep can_shrink new (mids (suc i)) locked fits stayers leavers others;
+        behind' = st.behind;
+        inv' = shrunk_inv (λ (y : Here W). y.left) (Grouped next outs) (Parted next outs) (Apart next outs) Is p tree (mids i) st.here st.behind st.inv n keep can_shrink new (mids (suc i)) locked fits stayers leavers others;
+        frame = shrink_frame n keep tree;
+      }
+
+      shrinks : Does next outs (FollowsFor next outs 0) (InGroup (is_some x.agreed)) o.Shrink x.left rest → Follows next outs (InGroup false) (rest true) → AllFin o.Shrink rest
+          → Next (changes o.Shrink n (who actings) value i tree)
+      shrinks d follows fin =
+          group_shrinks (λ h. stays (who actings h)) (without (rest true)) (record { outs_are = d.0 ∙ g.outs_are; follows = follows })
+          (λ h r' is keep e. unit (rest true) r' (at_way h true r' is keep e))
+          (λ h r' is keep e. is_up (rest false) r' d.2 (at_way h false r' is keep e))
+        where
+          at_way : (h : ℕ) (way : Bool) (r' : Runner W) → Has tree n h → stays (who actings h) ≡ way → mids (suc i) h ≡ Some r' → r'.left ≡ rest way
+          at_way h way r' is keep e = let f = fin h r' is e in f.left ∙ ap (λ (q : Processor). rest (stays q)) (sym f.known) ∙ ap rest keep
+
+      finishes : outs x.left ≡ rest true ∷ outs (rest true) → AllFin o.End rest → Next (changes o.End n (who actings) value i tree)
+      finishes d fin =
+          group_shrinks (λ h. false) x g (λ h r' is keep e. untrue keep) (λ h r' is keep e. is_up (rest true) r' d (fin h r' is e).left)
+
+      opens : (alone : Bool) (op' : Operation) → outs (rest true) ≡ rest false ∷ outs x.left → outs (rest false) ≡ rest false ∷ outs x.left
+          → Follows next outs (ByItself true) (rest true) → Follows next outs (ByItself true) (rest false) → AllFin op' rest → Next (t.with_kind n (Asynchronous alone) tree)
+      opens alone op' first second follows_first follows_second fin =
+          let new : Here W = without (rest false) in
+          let inside : (h : ℕ) (r' : Runner W) → Has tree n h → mids (suc i) h ≡ Some r' → Apart next outs n b new r'
+          = λ h r' is e. let f = fin h r' is e in lone n lower r' (goes_onward op' value i f.before.has) f.left in
+          record {
+            here' = turned_here (λ (y : Here W). y.left) (Grouped next outs) (Parted next outs) (Apart next outs) Is p tree (mids i) st.here st.behind st.inv n (Asynchronous alone) new (mids (suc i)) leaf (idle-asynchronous alone) (λ zero'. free-asynchronous alone) some_n tt inside others;
+            behind' = st.behind;
+            inv' = turned_inv (λ (y : Here W). y.left) (Grouped next outs) (Parted next outs) (Apart next outs) Is p tree (mids i) st.here st.behind st.inv n (Asynchronous alone) new (mids (suc i)) leaf (idle-asynchronous alone) (λ zero'. free-asynchronous alone) some_n tt inside others;
+            frame = kind_frame n (Asynchronous alone) tree;
+          }
+        where
+          by_way : (way : Bool) → Loner next outs true (rest false ∷ b) (rest way)
+          by_way true = record { outs_are = first ∙ ap (λ (bs : List W). rest false ∷ bs) g.outs_are; follows = follows_first }
+          by_way false = record { outs_are = second ∙ ap (λ (bs : List W). rest false ∷ bs) g.outs_are; follows = follows_second }
+
+          lone : (m : ℕ) → m ≢ 0 → (r' : Runner W) (way : Bool) → r'.left ≡ rest way → Apart next outs m b (without (rest false)) r'
+          lone zero ne r' way e = absurd (ne refl)
+          lone (suc m) ne r' way e = inr (subst (Loner next outs true (rest false ∷ b)) (sym e) (by_way way))
+
+      group_by : (op' : Operation) → changes_tree op' ≡ true → ((k : ℕ) → Does next outs (FollowsFor next outs k) (InGroup (is_some x.agreed)) op' x.left rest) → AllFin op' rest
+          → Next (changes op' n (who actings) value i tree)
+      group_by (o.Divide by) c d fin = group_splits by (parting next outs by x.left rest (outs (rest true)) refl d) fin
+      group_by o.Shrink c d fin = shrinks (d 0) (λ k. (d k).1) fin
+      group_by o.End c d fin = finishes (d 0) fin
+      group_by o.Farm c d fin = opens false o.Farm (d 0).0 (d 0).1 (λ k. (d k).2) (λ k. (d k).3) fin
+      group_by o.Seq c d fin = opens true o.Seq (d 0).0 (d 0).1 (λ k. (d k).2) (λ k. (d k).3) fin
+      group_by o.Begin c d fin = absurd (d 0)
+      group_by o.Resume c d fin = absurd (d 0)
+      group_by (o.Meet true) c d fin = absurd (d 0)
+      group_by (o.Meet false) c d fin = untrue c
+      group_by op' c d fin = untrue c
+
+    in_group : kind tree n ≡ Some Lockstep → Next (changes op n (who actings) value i tree)
+    in_group locked =
+        let g : Grouped next outs b x = subst NodeKind locked (st.inv.node n) in
+        let u = my_move.step' in
+        let is_mine : Is x my_move.before = is_there (Some Lockstep) locked i (has i in_i) my_move.before my_move.was in
+        let stands : next x.left ≡ Some u = ap next (sym is_mine.left) ∙ my_move.stands in
+        let so = does_so next outs (InGroup (is_some x.agreed)) x.left u g.follows stands in
+        group_by locked g u.rest op changing
+        (λ k. subst (λ (op' : Operation). Does next outs (FollowsFor next outs k) (InGroup (is_some x.agreed)) op' x.left u.rest) my_move.same (so k))
+        (all_fin x.left (λ h is r was v e same. (is_there (Some Lockstep) locked h is r was).left) u stands)
+
+    abbrev NodeKind' : Here W → Type 0
+    NodeKind' y = NodeIs (λ (z : Here W). z.left) (Grouped next outs) (Parted next outs) (Apart next outs) Is p n (Some (kind_after n)) b y
+
+    abbrev IsKind' : Here W → Runner W → Type 0
+    IsKind' y r = IsThere (λ (z : Here W). z.left) (Grouped next outs) (Parted next outs) (Apart next outs) Is p n (Some (kind_after n)) b y r
+
+    -- a node that waited goes on
+    resumed : (rest : Bool → W) → Parted next outs n b x → outs (rest true) ≡ outs x.left → Follows next outs (after_waiting (within n)) (rest true) → AllFin o.Resume rest
+        → Next (t.with_kind n (kind_after n) tree)
+    resumed rest g same follows fin =
+        let new : Here W = without (rest true) in
+        let fits : NodeKind' new = node_by n (rest true) (same ∙ g.outs_are) follows in
+        let inside : (h : ℕ) (r' : Runner W) → Has tree n h → mids (suc i) h ≡ Some r' → IsKind' new r'
+        = λ h r' is e. there_by n (rest true) (same ∙ g.outs_are) follows r' (fin h r' is e).left in
+        record {
+          here' = turned_here (λ (y : Here W). y.left) (Grouped next outs) (Parted next outs) (Apart next outs) Is p tree (mids i) st.here st.behind st.inv n (kind_after n) new (mids (suc i)) leaf (idle-after n) (free-after n) some_n fits inside others;
+          behind' = st.behind;
+          inv' = turned_inv (λ (y : Here W). y.left) (Grouped next outs) (Parted next outs) (Apart next outs) Is p tree (mids i) st.here st.behind st.inv n (kind_after n) new (mids (suc i)) leaf (idle-after n) (free-after n) some_n fits inside others;
+          frame = kind_frame n (kind_after n) tree;
+        }
+      where
+        node_by : (m : ℕ) (w : W) → outs w ≡ b → Follows next outs (after_waiting (within m)) w
+            → NodeIs (λ (z : Here W). z.left) (Grouped next outs) (Parted next outs) (Apart next outs) Is p m (Some (kind_after m)) b (without w)
+        node_by zero w e f = tt
+        node_by (suc m) w e f = record { outs_are = e; follows = f }
+
+        there_by : (m : ℕ) (w : W) → outs w ≡ b → Follows next outs (after_waiting (within m)) w → (r : Runner W) → r.left ≡ w
+            → IsThere (λ (z : Here W). z.left) (Grouped next outs) (Parted next outs) (Apart next outs) Is p m (Some (kind_after m)) b (without w) r
+        there_by zero w e f r is = inr (subst (Loner next outs false b) (sym is) (record { outs_are = e; follows = f }))
+        there_by (suc m) w e f r is = unit w r is
+
+    waiting_by : (op' : Operation) (rest : Bool → W) → ((k : ℕ) → Does next outs (FollowsFor next outs k) (Waits (within n)) op' x.left rest) → Parted next outs n b x → AllFin op' rest
+        → Next (changes op' n (who actings) value i tree)
+    waiting_by o.Resume rest d g fin = resumed rest g (d 0).0 (λ k. (d k).1) fin
+    waiting_by op' rest d g fin = absurd (d 0)
+
+    in_waiting : (first k : ℕ) → kind tree n ≡ Some (Waiting first k) → Next (changes op n (who actings) value i tree)
+    in_waiting first k waiting =
+        let g : Parted next outs n b x = subst NodeKind waiting (st.inv.node n) in
+        let u = my_move.step' in
+        let is_mine : Is x my_move.before = is_there (Some (Waiting first k)) waiting i (has i in_i) my_move.before my_move.was in
+        let stands : next x.left ≡ Some u = ap next (sym is_mine.left) ∙ my_move.stands in
+        let so = does_so next outs (Waits (within n)) x.left u g.follows stands in
+        waiting_by op u.rest
+        (λ m. subst (λ (op' : Operation). Does next outs (FollowsFor next outs m) (Waits (within n)) op' x.left u.rest) my_move.same (so m)) g
+        (all_fin x.left (λ h is r was v e same. (is_there (Some (Waiting first k)) waiting h is r was).left) u stands)
+
+    -- a meeting of those who run by themselves
+    meets_first : (alone : Bool) (op' : Operation) (w : W) (rest : Bool → W) → changes_tree op' ≡ true → Does next outs (FollowsFor next outs 0) (ByItself alone) op' w rest → (ws : List W) × (outs w ≡ w ∷ ws)
+    meets_first true o.Begin w rest c d = absurd d
+    meets_first false o.Begin w rest c d = (outs (rest false), d.0)
+    meets_first true (o.Meet true) w rest c d = (outs (rest true), d.0)
+    meets_first false (o.Meet true) w rest c d = absurd d
+    meets_first true (o.Meet false) w rest c d = untrue c
+    meets_first false (o.Meet false) w rest c d = untrue c
+    meets_first true (o.Divide by) w rest c d = absurd d
+    meets_first true o.Shrink w rest c d = absurd d
+    meets_first true o.End w rest c d = absurd d
+    meets_first true o.Farm w rest c d = absurd d
+    meets_first true o.Seq w rest c d = absurd d
+    meets_first true o.Resume w rest c d = absurd d
+    meets_first false (o.Divide by) w rest c d = absurd d
+    meets_first false o.Shrink w rest c d = absurd d
+    meets_first false o.End w rest c d = absurd d
+    meets_first false o.Farm w rest c d = absurd d
+    meets_first false o.Seq w rest c d = absurd d
+    meets_first false o.Resume w rest c d = absurd d
+    meets_first true op' w rest c d = untrue c
+    meets_first false op' w rest c d = untrue c
+
+    abbrev ahead : List W
+    ahead = ahead_of next outs n b x
+
+    cons_same : (v w : W) (vs ws : List W) → v ∷ vs ≡ w ∷ ws → v ≡ w
+    cons_same v w vs ws e = cc
+
+    cons_rest : (v w : W) (vs ws : List W) → v ∷ vs ≡ w ∷ ws → vs ≡ ws
+    cons_rest v w vs ws e = cc
+
+    ahead_inside : (m : ℕ) → within m ≡ true → ahead_of next outs m b x ≡ x.left ∷ b
+    ahead_inside zero e = untrue e
+    ahead_inside (suc m) e = refl
+
+    outside_root : (m : ℕ) → within m ≡ false → m ≡ 0
+    outside_root zero e = refl
+    outside_root (suc m) e = absurd (true≢false e)
+
+    inside_lower : (m : ℕ) → within m ≡ true → m ≢ 0
+    inside_lower zero e same = untrue e
+    inside_lower (suc m) e same = omega (arith, same)
+
+    meets : (w : W) (rest : Bool → W) → within n ≡ true → outs w ≡ ahead → outs w ≡ w ∷ outs (rest true) → Follows next outs (InGroup false) (rest true) → AllFin (o.Meet true) rest
+        → Next (t.with_kind n Lockstep tree)
+    meets w rest inner is d follows fin =
+        let new : Here W = without (rest true) in
+        let same : outs (rest true) ≡ b = cons_rest w x.left (outs (rest true)) b (sym d ∙ is ∙ ahead_inside n inner) in
+        let fits : Grouped next outs b new = record { outs_are = same; follows = follows } in
+        let inside : (h : ℕ) (r' : Runner W) → Has tree n h → mids (suc i) h ≡ Some r' → Is new r' = λ h r' in_h e. unit (rest true) r' (fin h r' in_h e).left in
+        let free : n ≡ 0 → Lockstep ≢ Lockstep = λ zero'. absurd (inside_lower n inner zero') in
+        record {
+          here' = turned_here (λ (y : Here W). y.left) (Grouped next outs) (Parted next outs) (Apart next outs) Is p tree (mids i) st.here st.behind st.inv n Lockstep new (mids (suc i)) leaf idle-lockstep free some_n fits inside others;
+          behind' = st.behind;
+          inv' = turned_inv (λ (y : Here W). y.left) (Grouped next outs) (Parted next outs) (Apart next outs) Is p tree (mids i) st.here st.behind st.inv n Lockstep new (mids (suc i)) leaf idle-lockstep free some_n fits inside others;
+          frame = kind_frame n Lockstep tree;
+        }
+
+    first_in : (h count j : ℕ) → first_part count h ≡ Some j → nat_lt h count ≡ true
+    first_in h count j e = by (nat_lt h count) e
+      where
+        by : (c : Bool) → (if c then Some 0 else None) ≡ Some j → c ≡ true
+        by true e' = refl
+        by false e' = absurd (cc)
+
+    first_out : (h count : ℕ) → first_part count h ≡ None → nat_lt h count ≡ false
+    first_out h count e = by (nat_lt h count) e
+      where
+        by : (c : Bool) → ◌≡◌ {A = Option ℕ} (if c then Some 0 else None) None → c ≡ false
+        by true e' = absurd (cc)
+        by false e' = refl
+
+    begins : (w : W) (rest : Bool → W) → within n ≡ false → outs (rest true) ≡ rest false ∷ outs (rest false) → Follows next outs (Waits false) (rest false) → Follows next outs (InGroup false) (rest true)
+        → AllFin o.Begin rest → Next (changes o.Begin n (who actings) value i tree)
+    begins w rest outer d waits_on follows fin = subst (λ (q : ℕ). Next (t.split q 1 (first_part count) tree)) root next'
+      where
+        root : n ≡ 0
+        root = outside_root n outer
+
+        count : ℕ
+        count = min (not_negative value) (length (members tree n))
+
+        size : length (members tree n) ≡ p
+        size = ap (λ (q : ℕ). length (members tree q)) root ∙ length-root p tree st.inv.sound
+
+        can : CanSplit n 1 (first_part count) tree
+        can = record { there = some_n; leaf = leaf; few = λ h j e. one_of_none (nat_lt h count) j e }
+
+        waits : Parted next outs n (outs (rest false)) (without (rest false))
+        waits = record { outs_are = refl; follows = subst (λ (c : Bool). Follows next outs (Waits c) (rest false)) (sym outer) waits_on; unagreed = refl }
+
+        parts_in : (j : ℕ) → Grouped next outs (rest false ∷ outs (rest false)) (without (rest true))
+        parts_in j = record { outs_are = d; follows = follows }
+
+        keeps : n ≢ 0 → outs (rest false) ≡ b
+        keeps ne = absurd (ne root)
+
+        way_is : (h : ℕ) (c : Bool) (r' : Runner W) → Has tree n h → nat_lt h count ≡ c → mids (suc i) h ≡ Some r' → r'.left ≡ rest c
+        way_is h c r' in_h is e =
+            let f = fin h r' in_h e in
+            let small : h < length (members tree n) = let lt' = st.inv.sound.within n h in_h in omega (arith, lt', size) in
+            f.left ∙ ap rest (ap (λ (q : ℕ). nat_lt q (not_negative value)) f.number ∙ sym (first_same h (length (members tree n)) (not_negative value) small) ∙ is)
+
+        enter : (h j : ℕ) (r' : Runner W) → Has tree n h → first_part count h ≡ Some j → mids (suc i) h ≡ Some r' → Is (without (rest true)) r'
+        enter h j r' in_h e e' = unit (rest true) r' (way_is h true r' in_h (first_in h count j e) e')
+
+        stay : (h : ℕ) (r' : Runner W) → Has tree n h → first_part count h ≡ None → mids (suc i) h ≡ Some r' → Is (without (rest false)) r'
+        stay h r' in_h e e' = unit (rest false) r' (way_is h false r' in_h (first_out h count e) e')
+
+        next' : Next (t.split n 1 (first_part count) tree)
+        next' = record {
+          here' = parted_here (λ (y : Here W). y.left) (Grouped next outs) (Parted next outs) (Apart next outs) Is p tree (mids i) st.here st.behind st.inv n 1 (first_part count) can (without (rest false)) (outs (rest false)) (λ j. without (rest true)) (mids (suc i)) keeps waits parts_in enter stay others;
+          behind' = parted_behind (λ (y : Here W). y.left) (Grouped next outs) (Parted next outs) (Apart next outs) Is p tree (mids i) st.here st.behind st.inv n 1 (first_part count) can (without (rest false)) (outs (rest false)) (λ j. without (rest true)) (mids (suc i)) keeps waits parts_in enter stay others;
+          inv' = parted_inv (λ (y : Here W). y.left) (Grouped next outs) (Parted next outs) (Apart next outs) Is p tree (mids i) st.here st.behind st.inv n 1 (first_part count) can (without (rest false)) (outs (rest false)) (λ j. without (rest true)) (mids (suc i)) keeps waits parts_in enter stay others;
+          frame = split_frame n 1 (first_part count) tree;
+        }
+
+    alone_by : (alone : Bool) → within n ≡ alone → (op' : Operation) (w : W) (rest : Bool → W) → changes_tree op' ≡ true → outs w ≡ ahead
+        → ((k : ℕ) → Does next outs (FollowsFor next outs k) (ByItself alone) op' w rest) → AllFin op' rest → Next (changes op' n (who actings) value i tree)
+    alone_by true e o.Begin w rest c is d fin = absurd (d 0)
+    alone_by false e o.Begin w rest c is d fin = begins w rest e (d 0).2 (λ k. (d k).1) (λ k. (d k).3) fin
+    alone_by true e (o.Meet true) w rest c is d fin = meets w rest e is (d 0).0 (λ k. (d k).1) fin
+    alone_by false e (o.Meet true) w rest c is d fin = absurd (d 0)
+    alone_by true e (o.Meet false) w rest c is d fin = untrue c
+    alone_by false e (o.Meet false) w rest c is d fin = untrue c
+    alone_by true e (o.Divide by) w rest c is d fin = absurd (d 0)
+    alone_by true e o.Shrink w rest c is d fin = absurd (d 0)
+    alone_by true e o.End w rest c is d fin = absurd (d 0)
+    alone_by true e o.Farm w rest c is d fin = absurd (d 0)
+    alone_by true e o.Seq w rest c is d fin = absurd (d 0)
+    alone_by true e o.Resume w rest c is d fin = absurd (d 0)
+    alone_by false e (o.Divide by) w rest c is d fin = absurd (d 0)
+    alone_by false e o.Shrink w rest c is d fin = absurd (d 0)
+    alone_by false e o.End w rest c is d fin = absurd (d 0)
+    alone_by false e o.Farm w rest c is d fin = absurd (d 0)
+    alone_by false e o.Seq w rest c is d fin = absurd (d 0)
+    alone_by false e o.Resume w rest c is d fin = absurd (d 0)
+    alone_by true e op' w rest c is d fin = untrue c
+    alone_by false e op' w rest c is d fin = untrue c
+
+    in_body : (alone : Bool) → kind tree n ≡ Some (Asynchronous alone) → Next (changes op n (who actings) value i tree)
+    in_body alone body =
+        let lone : (h : ℕ) → Has tree n h → (r : Runner W) → mids i h ≡ Some r → (u : Step W) → next r.left ≡ Some u → Loner next outs (within n) ahead r.left
+        = λ h in_h r was u stands. going_on next outs (within n) ahead r.left (is_there (Some (Asynchronous alone)) body h in_h r was) u stands in
+        let w = my_move.before.left in
+        let u = my_move.step' in
+        let mine' = lone i (has i in_i) my_move.before my_move.was u my_move.stands in
+        let so = does_so next outs (ByItself (within n)) w u mine'.follows my_move.stands in
+        let does_op : (k : ℕ) → Does next outs (FollowsFor next outs k) (ByItself (within n)) op w u.rest
+        = λ k. subst (λ (op' : Operation). Does next outs (FollowsFor next outs k) (ByItself (within n)) op' w u.rest) my_move.same (so k) in
+        let my_first = meets_first (within n) op w u.rest changing (does_op 0) in
+        let equal : (h : ℕ) → Has tree n h → (r : Runner W) → mids i h ≡ Some r → (v : Step W) → next r.left ≡ Some v → v.operation ≡ op → r.left ≡ w
+        = λ h in_h r was v stands same.
+        let l = lone h in_h r was v stands in
+        let does_v = subst (λ (op' : Operation). Does next outs (FollowsFor next outs 0) (ByItself (within n)) op' r.left v.rest) same (does_so next outs (ByItself (within n)) r.left v l.follows stands 0) in
+        let first' = meets_first (within n) op r.left v.rest changing does_v in
+        cons_same r.left w first'.0 my_first.0 (sym first'.1 ∙ l.outs_are ∙ sym mine'.outs_are ∙ my_first.1) in
+        alone_by (within n) refl op w u.rest changing mine'.outs_are does_op (all_fin w equal u my_move.stands)
+
+    none_of : (o' : Option t.Node) → t.kind_of o' ≡ None → o' ≡ None
+    none_of None e = refl
+    none_of (Some c) e = cc
+
+    -- a `start` is at the root, and no split is a `fork`
+    pub record Allowed : Type 0 where
+      pub root : op ≡ o.Begin → n ≡ 0
+      pub no_fork : op ≡ o.Divide split_by.Fork → ⊥
+      pub shrunk : op ≡ o.Shrink → n ≢ 0
+      pub ended : op ≡ o.End → n ≢ 0
+
+    fork_parts : (F : Stand → W → Type 0) (w : W) (rest : Bool → W) (os : List W) → Parts next outs F split_by.Fork w rest os → ⊥
+    fork_parts F w rest [] d = d
+    fork_parts F w rest (w' ∷ ws) d = d
+
+    alone_root : (alone : Bool) → within n ≡ alone → (w : W) (rest : Bool → W) → Does next outs (FollowsFor next outs 0) (ByItself alone) o.Begin w rest → n ≡ 0
+    alone_root true e w rest d = absurd d
+    alone_root false e w rest d = outside_root n e
+
+    alone_fork : (alone : Bool) (w : W) (rest : Bool → W) → Does next outs (FollowsFor next outs 0) (ByItself alone) (o.Divide split_by.Fork) w rest → ⊥
+    alone_fork true w rest d = d
+    alone_fork false w rest d = d
+
+    alone_shrink : (alone : Bool) (w : W) (rest : Bool → W) → Does next outs (FollowsFor next outs 0) (ByItself alone) o.Shrink w rest → ⊥
+    alone_shrink true w rest d = d
+    alone_shrink false w rest d = d
+
+    alone_end : (alone : Bool) (w : W) (rest : Bool → W) → Does next outs (FollowsFor next outs 0) (ByItself alone) o.End w rest → ⊥
+    alone_end true w rest d = d
+    alone_end false w rest d = d
+
+    pub allowed : Allowed
+    allowed = by (kind tree n) refl
+      where
+        u : Step W
+        u = my_move.step'
+
+        by : (k : Option Kind) → kind tree n ≡ k → Allowed
+        by None e = absurd (some_n (none_of (tree.nodes n) e))
+        by (Some Lockstep) e =
+            let g : Grouped next outs b x = subst NodeKind e (st.inv.node n) in
+            let is_mine : Is x my_move.before = is_there (Some Lockstep) e i (has i in_i) my_move.before my_move.was in
+            let so = does_so next outs (InGroup (is_some x.agreed)) x.left u g.follows (ap next (sym is_mine.left) ∙ my_move.stands) 0 in
+            let does_op : (op' : Operation) → op ≡ op' → Does next outs (FollowsFor next outs 0) (InGroup (is_some x.agreed)) op' x.left u.rest
+            = λ op' e'. subst (λ (op'' : Operation). Does next outs (FollowsFor next outs 0) (InGroup (is_some x.agreed)) op'' x.left u.rest) (my_move.same ∙ e') so in
+            record {
+              root = λ e'. absurd (does_op o.Begin e');
+              no_fork = λ e'. fork_parts (FollowsFor next outs 0) x.left u.rest (outs (u.rest true)) (does_op (o.Divide split_by.Fork) e');
+              shrunk = λ e'. lower e g u.rest;
+              ended = λ e'. lower e g u.rest;
+            }
+        by (Some (Waiting first k)) e =
+            let g : Parted next outs n b x = subst NodeKind e (st.inv.node n) in
+            let is_mine : Is x my_move.before = is_there (Some (Waiting first k)) e i (has i in_i) my_move.before my_move.was in
+            let so = does_so next outs (Waits (within n)) x.left u g.follows (ap next (sym is_mine.left) ∙ my_move.stands) 0 in
+            let does_op : (op' : Operation) → op ≡ op' → Does next outs (FollowsFor next outs 0) (Waits (within n)) op' x.left u.rest
+            = λ op' e'. subst (λ (op'' : Operation). Does next outs (FollowsFor next outs 0) (Waits (within n)) op'' x.left u.rest) (my_move.same ∙ e') so in
+            record {
+              root = λ e'. absurd (does_op o.Begin e');
+              no_fork = λ e'. does_op (o.Divide split_by.Fork) e';
+              shrunk = λ e'. absurd (does_op o.Shrink e');
+              ended = λ e'. absurd (does_op o.End e');
+            }
+        by (Some (Asynchronous alone)) e =
+            let w = my_move.before.left in
+            let lone = going_on next outs (within n) ahead w (is_there (Some (Asynchronous alone)) e i (has i in_i) my_move.before my_move.was) u my_move.stands in
+            let so = does_so next outs (ByItself (within n)) w u lone.follows my_move.stands 0 in
+            let does_op : (op' : Operation) → op ≡ op' → Does next outs (FollowsFor next outs 0) (ByItself (within n)) op' w u.rest
+            = λ op' e'. subst (λ (op'' : Operation). Does next outs (FollowsFor next outs 0) (ByItself (within n)) op'' w u.rest) (my_move.same ∙ e') so in
+            record {
+              root = λ e'. alone_root (within n) refl w u.rest (does_op o.Begin e');
+              no_fork = λ e'. alone_fork (within n) w u.rest (does_op (o.Divide split_by.Fork) e');
+              shrunk = λ e'. absurd (alone_shrink (within n) w u.rest (does_op o.Shrink e'));
+              ended = λ e'. absurd (alone_end (within n) w u.rest (does_op o.End e'));
+            }
+
+    pub brought : Stage (suc i) (changes op n (who actings) value i tree)
+    brought = by (kind tree n) refl
+      where
+        by : (k : Option Kind) → kind tree n ≡ k → Stage (suc i) (changes op n (who actings) value i tree)
+        by None e = absurd (some_n (none_of (tree.nodes n) e))
+        by (Some Lockstep) e = next_stage (changes op n (who actings) value i tree) (in_group e)
+        by (Some (Waiting first k)) e = next_stage (changes op n (who actings) value i tree) (in_waiting first k e)
+        by (Some (Asynchronous alone)) e = next_stage (changes op n (who actings) value i tree) (in_body alone e)
+
+  -- one processor's step, whoever it is
+  pub stage_after : (i : ℕ) → i < p → (a : Acting W) → slice_get actings i ≡ Some a → (tree : Tree) → Stage i tree → Stage (suc i) (change_by actings s.tree i a.due tree)
+  stage_after i lt a at tree st = by_due a.due refl
+    where
+      by_due : (due : Option (Step W)) → a.due ≡ due → Stage (suc i) (change_by actings s.tree i due tree)
+      by_due None e = same_stage i a at (λ changing. untrue (sym (ap is_changing e) ∙ changing)) tree st
+      by_due (Some step) e = by_low (i == lowest (members s.tree (s.tree.places i))) refl
+        where
+          n : ℕ
+          n = s.tree.places i
+
+          by_change : lowest (members s.tree n) ≡ i → (c : Bool) → changes_tree step.operation ≡ c
+              → Stage (suc i) (changes step.operation n (who actings) (agreed actings (members s.tree n)) i tree)
+          by_change low_i true e' = brought i lt a at step e e' n refl low_i tree st
+          by_change low_i false e' =
+              subst (Stage (suc i)) (sym (step_of_none n (who actings) (agreed actings (members s.tree n)) i tree step.operation e'))
+              (same_stage i a at (λ changing. absurd (true≢false (sym changing ∙ ap is_changing e ∙ e'))) tree st)
+
+          by_low : (c : Bool) → (i == lowest (members s.tree n)) ≡ c
+              → Stage (suc i) (if c then changes step.operation n (who actings) (agreed actings (members s.tree n)) i tree else tree)
+          by_low true e' = by_change (sym (eqb-true i (lowest (members s.tree n)) e')) (changes_tree step.operation) refl
+          by_low false e' =
+              same_stage i a at (λ changing low_i. absurd (true≢false (sym (eq-eqb i (lowest (members s.tree n)) (sym low_i)) ∙ e'))) tree st
+
+  all_stages : (others' : List (Acting W)) (i : ℕ) (tree : Tree) → ((j : ℕ) → slice_get others' j ≡ slice_get actings (i + j)) → i + length others' ≡ p
+      → Stage i tree → Stage p (all_changes actings s.tree others' tree)
+  all_stages [] i tree same size st = let e : i ≡ p = omega (arith, size) in subst (λ (k : ℕ). Stage k tree) e st
+  all_stages (a ∷ others') i tree same size st =
+      let zero_more : i + 0 ≡ i = omega arith in
+      let at : slice_get actings i ≡ Some a = ap (slice_get actings) (sym zero_more) ∙ sym (same 0) in
+      let lt : i < p = omega (arith, size) in
+      let number : a.runner.has.number ≡ i = number_at next outs set round s p here0 behind0 inv0 ordered possible i a at in
+      let one : Stage (suc i) (change_by actings s.tree a.runner.has.number a.due tree)
+      = subst (λ (k : ℕ). Stage (suc i) (change_by actings s.tree k a.due tree)) (sym number) (stage_after i lt a at tree st) in
+      all_stages others' (suc i) (change_by actings s.tree a.runner.has.number a.due tree)
+      (λ j. let e : i + suc j ≡ suc i + j = omega arith in same (suc j) ∙ ap (slice_get actings) e)
+      (omega (arith, size)) one
+
+  pub last_stage : Stage p (all_changes actings s.tree actings s.tree)
+  last_stage =
+      let many = acting_length next outs set round s p here0 behind0 inv0 ordered possible in
+      all_stages actings 0 s.tree (λ j. let e : j ≡ 0 + j = omega arith in ap (slice_get actings) e) (omega (arith, many)) first_stage
