@@ -71,7 +71,7 @@ group_frame_depths : all_deep group_frame_core (setting_of 2 (0 ∷ []) []) grou
 group_frame_depths = refl
 
 -- int f(int n) { return n ? 1 + f(n - 1) : 0; } void main(void) { putint(f(3)); }
-abbrev recursion_core : List CoreOp
+abbrev pub recursion_core : List CoreOp
 recursion_core =
     op 2 0 0 0 0 ∷ op 9 1 1 10 1 ∷ op 1 2 1 0 0 ∷ op 2 3 0 0 1 ∷ op 1 4 1 0 2 ∷ op 7 5 2 0 3 ∷
     op 22 6 1 0 2 ∷ op 0 0 0 0 0 ∷ op 7 7 0 0 2 ∷ op 0 0 0 11 0 ∷ op 1 8 0 0 0 ∷ op 11 9 2 0 1 ∷
@@ -90,7 +90,7 @@ recursion_depths : all_deep recursion_core (setting_of 1 [] []) recursion_rounds
 recursion_depths = refl
 
 -- void main(void) { int i; int s = 0; for (i = 0; i < 9; i++) { if (i == 1) continue; if (i == 4) break; s += i; } do { s = s * 2; } while (s < 30); putint(s); puts("a\n"); }
-abbrev loops_core : List CoreOp
+abbrev pub loops_core : List CoreOp
 loops_core =
     op 1 0 0 0 0 ∷ op 3 1 0 0 1 ∷ op 4 2 0 0 1 ∷ op 1 3 0 0 0 ∷ op 3 4 2 0 1 ∷ op 4 5 0 0 1 ∷
     op 1 6 0 0 0 ∷ op 3 7 0 0 1 ∷ op 4 8 0 0 1 ∷ op 2 9 0 0 0 ∷ op 1 10 9 0 1 ∷ op 7 11 32 0 2 ∷

@@ -1,6 +1,6 @@
 pub mod Leading
 pub mod Running
 pub mod KeepsRuns
-mod Examples
+pub mod Examples
 mod StandsExample
 mod CodeExample

@@ -1,0 +1,4 @@
+pub mod Items
+pub mod Flat
+pub mod Shape
+pub mod Laws

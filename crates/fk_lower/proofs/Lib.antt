@@ -1,0 +1,7 @@
+mod Starts
+mod Back
+mod Measuring
+mod Writing
+pub mod Whole
+mod Built
+mod Shown

@@ -1,0 +1,33 @@
+-- The functions of a program, each at its binding, one behind the other in one list.
+use Rattle.std.specs.Prelude.{ℕ, ◌+◌, List, [], ◌∷◌, ◌++◌, slice_get, Option, Some, None, false}
+use Rattle.fk_forms.specs.Code.{Code, done}
+use Rattle.fk_flat.specs.Items.{Item}
+use Rattle.fk_lower.specs.Spans.{place}
+use Rattle.fk_lower.specs.Tree.{Part, code_of, IsPartMeasured}
+use Rattle.fk_lower.specs.Written.{written}
+
+abbrev pub body_by : Option Part → Code ℕ
+body_by None = done
+body_by (Some part) = code_of part.pieces
+
+-- the code of each function, and none where there is no function
+abbrev pub bodies_in : List Part → (binding : ℕ) → Code ℕ
+bodies_in parts binding = body_by (slice_get parts binding)
+
+abbrev pub AreMeasured : List Part → Type 0
+AreMeasured [] = Unit {0}
+AreMeasured (part ∷ parts) = IsPartMeasured part × AreMeasured parts
+
+-- how long all lists are together
+abbrev pub total : List Part → ℕ
+total [] = 0
+total (part ∷ parts) = part.spans.far.extent + total parts
+
+-- where functions begin that are written from an index on, in a list with this end
+abbrev pub entries_from : (at end : ℕ) → List Part → List ℕ
+entries_from at end [] = []
+entries_from at end (part ∷ parts) = place part.spans.far.start None at end ∷ entries_from (at + part.spans.far.extent) end parts
+
+abbrev pub written_from : (entry : (binding : ℕ) → ℕ) → (at end : ℕ) → List Part → List (Option Item)
+written_from entry at end [] = []
+written_from entry at end (part ∷ parts) = written entry false None at end part.pieces ++ written_from entry (at + part.spans.far.extent) end parts

@@ -1,0 +1,46 @@
+-- What is known of code before its place is: whether it begins where it is written, how long its list is, and where it begins.
+use Rattle.std.specs.Prelude.{ℕ, ◌+◌, Bool, true, false, if◌then◌else◌}
+use Rattle.fk_forms.specs.Code.{Code, done, until, break, continue}
+use Rattle.fk_core.specs.Stands.{Around}
+use Rattle.fk_flat.specs.Flat.{begins_here, extent, behind, onward}
+use Rattle.fk_lower.specs.declared.span.Start.{Start}
+use Rattle.fk_lower.specs.declared.span.Start.TheVariants as s
+use Rattle.fk_lower.specs.declared.span.Span.{Span}
+use Rattle.fk_lower.specs.declared.span.Spans.{Spans}
+
+-- the index where code begins that is written at an index i and goes on at an index k
+abbrev pub place : Start → Around → (i k : ℕ) → ℕ
+place (s.At offset) c i k = i + offset
+place s.Next c i k = k
+place s.Behind c i k = behind c
+place s.Onward c i k = onward c
+
+-- the beginning of code that stands further on
+abbrev pub moved : (by : ℕ) → Start → Start
+moved by (s.At offset) = s.At (by + offset)
+moved by s.Next = s.Next
+moved by s.Behind = s.Behind
+moved by s.Onward = s.Onward
+
+-- the beginning of a loop whose body so begins, and has such an extent; where the body is left at once, it is that of the rest
+abbrev pub round : Start → (body whole : ℕ) → (rest : Start) → Start
+round (s.At offset) body whole rest = s.At offset
+round s.Next body whole rest = s.At body
+round s.Onward body whole rest = s.At body
+round s.Behind body whole rest = moved whole rest
+
+abbrev pub start_of : Code ℕ → Start
+start_of done = s.Next
+start_of (until body test rest) = round (start_of body) (extent true body) (extent true body + extent false test) (start_of rest)
+start_of (break rest) = s.Behind
+start_of (continue rest) = s.Onward
+start_of code = s.At 0
+
+abbrev pub span_of : (near : Bool) → Code ℕ → Span
+span_of near code = record { here = begins_here near code; extent = extent near code; start = start_of code }
+
+abbrev pub spans_of : Code ℕ → Spans
+spans_of code = record { far = span_of false code; near = span_of true code }
+
+abbrev pub span_in : Spans → (near : Bool) → Span
+span_in spans near = if near then spans.near else spans.far

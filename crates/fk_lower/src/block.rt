@@ -1,0 +1,54 @@
+//! Code in memory.
+
+ghost use Rattle.std.specs.Prelude.{◌≡◌};
+ghost use Rattle.fk_lower.specs.View.{part_of};
+
+use crate::span::Spans;
+use fk_operation::Operation;
+
+/// An operation of a program.
+#[derive(Clone, Copy, PartialEq, Eq, Debug)]
+pub struct Act {
+    /// The number of its site.
+    pub site: u32,
+    pub operation: Operation,
+    /// How many values the running call has before it.
+    pub depth: u32,
+}
+
+/// What code consists of, one behind the other.
+#[cycle(code)]
+#[derive(Drop)]
+pub enum Piece {
+    Perform(Act),
+    /// An operation that goes one of two ways, onward and aside.
+    Choose(Act, Block, Block),
+    /// A loop: its test, what a turn does, and the step to the next turn.
+    While(Block, Block, Block),
+    /// A loop that begins with a turn, and its test.
+    Until(Block, Block),
+    /// An operation that goes on in the loop round it, or leaves it.
+    Quit(Act),
+    Break,
+    Continue,
+    /// Enters the function of a binding. The block is what is done at its beginning for this call.
+    Call(Act, u32, Block),
+    /// Ends the function.
+    Ends(Act),
+}
+
+/// Pieces of code, and their measures.
+#[cycle(code)]
+#[derive(Drop)]
+pub struct Block {
+    pub(crate) pieces: Vec<Piece>,
+    pub(crate) spans: Spans,
+}
+
+impl Block {
+    pub fn spans(&self) -> Spans
+        ensures { result ≡ (part_of self.now).spans }
+    {
+        self.spans
+    }
+}

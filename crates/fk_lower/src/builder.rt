@@ -1,0 +1,324 @@
+//! Builds blocks of code that is shown step by step.
+
+ghost use Rattle.std.specs.Prelude.{◌≡◌, suc, ◌∷◌, [], map, Some, None, Err, OnOk, IfOk, IfSome};
+ghost use Rattle.fk_forms.specs.Code as c;
+ghost use Rattle.fk_lower.specs.Tree.{code_before, IsPieceMeasured};
+ghost use Rattle.fk_lower.specs.View.{piece_of};
+ghost use Rattle.fk_lower.specs.Building.{after, IsShown};
+ghost use Rattle.fk_lower.specs.Building as b;
+ghost use Rattle.fk_lower.specs.BuilderView.{event_of, building_of, open_by, outer_of, shown_code, block_code, IsBlockMeasured, IsOpenedMeasured, IsBuilderMeasured};
+
+use crate::block::{Act, Block, Piece};
+use crate::event::CodeEvent;
+use crate::fault::{LowerFault, further};
+use fk_operation::Operation;
+use std::alloc::Global;
+use std::mem;
+
+// What is open round a block, with its parts that are closed.
+#[derive(Drop)]
+enum Opened {
+    Onward(Act),
+    Aside(Act, Block),
+    Test,
+    Body(Block),
+    Step(Block, Block),
+    FirstBody,
+    LastTest(Block),
+    Opening(Act, u32),
+}
+
+// That, and the pieces before it.
+#[derive(Drop)]
+struct Frame {
+    before: Vec<Piece>,
+    opened: Opened,
+}
+
+/// Code that is being built: each operation has the next number as its site.
+#[derive(Drop)]
+pub struct Builder {
+    alloc: Global,
+    site: u32,
+    pieces: Vec<Piece>,
+    outer: Vec<Frame>,
+    fault: Option<LowerFault>,
+}
+
+impl Builder {
+    /// One that is shown a function, whose first operation has this site.
+    pub fn new(alloc: Global, site: u32) -> Builder
+        ensures built { building_of result ≡ b.building site [] c.done }
+        ensures fault { result.fault ≡ None }
+        ensures measured { IsBuilderMeasured result }
+    {
+        Builder {
+            alloc,
+            site,
+            pieces: Vec::new(alloc),
+            outer: Vec::new(alloc),
+            fault: None,
+        }
+    }
+
+    fn act(&mut self, operation: Operation, depth: u32) -> Result<Act, LowerFault>
+        ensures act { IfOk result (λ act. act.site ≡ self.old.site) }
+        ensures operation { IfOk result (λ act. act.operation ≡ operation) }
+        ensures site { OnOk result (self.new.site ≡ suc self.old.site) }
+        ensures pieces { self.new.pieces ≡ self.old.pieces }
+        ensures outer { self.new.outer ≡ self.old.outer }
+    {
+        let site = self.site;
+        self.site = further(site, 1)?;
+        Ok(Act {
+            site,
+            operation,
+            depth,
+        })
+    }
+
+    #[tactic(auto, using(crate::proofs::Shown::shown_more, crate::proofs::Shown::pieces_measured))]
+    fn add(&mut self, piece: Piece) -> Result<(), LowerFault>
+        requires builder { IsBuilderMeasured self.now }
+        requires piece { IsPieceMeasured (piece_of piece) }
+        ensures built { OnOk result (building_of self.new
+            ≡ b.joined self.old.site (outer_of self.old.outer.items)
+            (shown_code self.old.pieces.items) (code_before (piece_of piece) c.done)) }
+        ensures measured { IsBuilderMeasured self.new }
+    {
+        match self.pieces.push(piece) {
+            Ok(()) => Ok(()),
+            Err(_) => Err(LowerFault::Memory),
+        }
+    }
+
+    // Opens a block behind what there is.
+    #[tactic(auto, using(crate::proofs::Shown::outer_more, crate::proofs::Shown::frames_measured))]
+    fn open(&mut self, opened: Opened) -> Result<(), LowerFault>
+        requires builder { IsBuilderMeasured self.now }
+        requires opened { IsOpenedMeasured opened }
+        ensures built { OnOk result (building_of self.new ≡ b.opened self.old.site
+            (open_by (shown_code self.old.pieces.items) opened) (outer_of self.old.outer.items)) }
+        ensures measured { IsBuilderMeasured self.new }
+    {
+        let before = mem::replace(&mut self.pieces, Vec::new(self.alloc));
+        match self.outer.push(Frame { before, opened }) {
+            Ok(()) => Ok(()),
+            Err(_) => Err(LowerFault::Memory),
+        }
+    }
+
+    // Closes the innermost block: what there is behind is what stood before it.
+    #[tactic(auto, using(crate::proofs::Shown::outer_more, crate::proofs::Shown::last_measured))]
+    fn close(&mut self) -> Result<(Block, Opened), LowerFault>
+        requires { IsBuilderMeasured self.now }
+        ensures site { self.new.site ≡ self.old.site }
+        ensures outer { IfOk result (λ closed. outer_of self.old.outer.items
+            ≡ open_by (shown_code self.new.pieces.items) closed.1 ∷ outer_of self.new.outer.items) }
+        ensures block { IfOk result (λ closed. block_code closed.0 ≡ shown_code self.old.pieces.items) }
+        ensures measured { IsBuilderMeasured self.new }
+        ensures closed { IfOk result (λ closed. IsBlockMeasured closed.0) }
+        ensures opened { IfOk result (λ closed. IsOpenedMeasured closed.1) }
+    {
+        let Some(frame) = self.outer.pop() else {
+            return Err(LowerFault::Misplaced);
+        };
+        let pieces = mem::replace(&mut self.pieces, frame.before);
+        Ok((Block::of(pieces)?, frame.opened))
+    }
+
+    fn perform(&mut self, operation: Operation, depth: u32) -> Result<(), LowerFault>
+        requires { IsBuilderMeasured self.now }
+        ensures built { OnOk result
+            (building_of self.new ≡ after (building_of self.old) (b.Perform operation)) }
+        ensures measured { IsBuilderMeasured self.new }
+    {
+        let act = self.act(operation, depth)?;
+        self.add(Piece::Perform(act))
+    }
+
+    fn choose(&mut self, operation: Operation, depth: u32) -> Result<(), LowerFault>
+        requires { IsBuilderMeasured self.now }
+        ensures built { OnOk result
+            (building_of self.new ≡ after (building_of self.old) (b.Choose operation)) }
+        ensures measured { IsBuilderMeasured self.new }
+    {
+        let act = self.act(operation, depth)?;
+        self.open(Opened::Onward(act))
+    }
+
+    fn aside(&mut self) -> Result<(), LowerFault>
+        requires { IsBuilderMeasured self.now }
+        ensures built { OnOk result
+            (building_of self.new ≡ after (building_of self.old) b.Aside) }
+        ensures measured { IsBuilderMeasured self.new }
+    {
+        match self.close()? {
+            (first, Opened::Onward(act)) => self.open(Opened::Aside(act, first)),
+            _ => Err(LowerFault::Misplaced),
+        }
+    }
+
+    fn joined(&mut self) -> Result<(), LowerFault>
+        requires { IsBuilderMeasured self.now }
+        ensures built { OnOk result
+            (building_of self.new ≡ after (building_of self.old) b.Joined) }
+        ensures measured { IsBuilderMeasured self.new }
+    {
+        match self.close()? {
+            (second, Opened::Aside(act, first)) => self.add(Piece::Choose(act, first, second)),
+            _ => Err(LowerFault::Misplaced),
+        }
+    }
+
+    fn quit(&mut self, operation: Operation, depth: u32) -> Result<(), LowerFault>
+        requires { IsBuilderMeasured self.now }
+        ensures built { OnOk result
+            (building_of self.new ≡ after (building_of self.old) (b.Quit operation)) }
+        ensures measured { IsBuilderMeasured self.new }
+    {
+        let act = self.act(operation, depth)?;
+        self.add(Piece::Quit(act))
+    }
+
+    fn call(&mut self, operation: Operation, depth: u32, function: u32) -> Result<(), LowerFault>
+        requires { IsBuilderMeasured self.now }
+        ensures built { OnOk result
+            (building_of self.new ≡ after (building_of self.old) (b.Call operation function)) }
+        ensures measured { IsBuilderMeasured self.new }
+    {
+        let act = self.act(operation, depth)?;
+        self.open(Opened::Opening(act, function))
+    }
+
+    fn returned(&mut self) -> Result<(), LowerFault>
+        requires { IsBuilderMeasured self.now }
+        ensures built { OnOk result
+            (building_of self.new ≡ after (building_of self.old) b.Returned) }
+        ensures measured { IsBuilderMeasured self.new }
+    {
+        match self.close()? {
+            (opening, Opened::Opening(act, function)) => {
+                self.add(Piece::Call(act, function, opening))
+            }
+            _ => Err(LowerFault::Misplaced),
+        }
+    }
+
+    fn end(&mut self, operation: Operation, depth: u32) -> Result<(), LowerFault>
+        requires { IsBuilderMeasured self.now }
+        ensures built { OnOk result
+            (building_of self.new ≡ after (building_of self.old) (b.Ends operation)) }
+        ensures measured { IsBuilderMeasured self.new }
+    {
+        let act = self.act(operation, depth)?;
+        self.add(Piece::Ends(act))
+    }
+
+    fn part(&mut self) -> Result<(), LowerFault>
+        requires { IsBuilderMeasured self.now }
+        ensures built { OnOk result
+            (building_of self.new ≡ after (building_of self.old) b.Part) }
+        ensures measured { IsBuilderMeasured self.new }
+    {
+        match self.close()? {
+            (test, Opened::Test) => self.open(Opened::Body(test)),
+            (body, Opened::Body(test)) => self.open(Opened::Step(test, body)),
+            (body, Opened::FirstBody) => self.open(Opened::LastTest(body)),
+            _ => Err(LowerFault::Misplaced),
+        }
+    }
+
+    fn behind(&mut self) -> Result<(), LowerFault>
+        requires { IsBuilderMeasured self.now }
+        ensures built { OnOk result
+            (building_of self.new ≡ after (building_of self.old) b.Behind) }
+        ensures measured { IsBuilderMeasured self.new }
+    {
+        match self.close()? {
+            (step, Opened::Step(test, body)) => self.add(Piece::While(test, body, step)),
+            (test, Opened::LastTest(body)) => self.add(Piece::Until(body, test)),
+            _ => Err(LowerFault::Misplaced),
+        }
+    }
+
+    fn take(&mut self, event: CodeEvent) -> Result<(), LowerFault>
+        requires { IsBuilderMeasured self.now }
+        ensures built { OnOk result
+            (building_of self.new ≡ after (building_of self.old) (event_of event)) }
+        ensures measured { IsBuilderMeasured self.new }
+    {
+        match event {
+            CodeEvent::Perform { operation, depth } => self.perform(operation, depth),
+            CodeEvent::Choose { operation, depth } => self.choose(operation, depth),
+            CodeEvent::Aside => self.aside(),
+            CodeEvent::Joined => self.joined(),
+            CodeEvent::Quit { operation, depth } => self.quit(operation, depth),
+            CodeEvent::Call {
+                operation,
+                depth,
+                function,
+            } => self.call(operation, depth, function),
+            CodeEvent::Returned => self.returned(),
+            CodeEvent::Ends { operation, depth } => self.end(operation, depth),
+            CodeEvent::While => self.open(Opened::Test),
+            CodeEvent::Until => self.open(Opened::FirstBody),
+            CodeEvent::Part => self.part(),
+            CodeEvent::Behind => self.behind(),
+            CodeEvent::Break => self.add(Piece::Break),
+            CodeEvent::Continue => self.add(Piece::Continue),
+        }
+    }
+
+    /// Shows what comes next. A fault is kept for the end, and behind it nothing is built any more.
+    pub fn show(&mut self, event: CodeEvent)
+        requires { IsBuilderMeasured self.now }
+        ensures built { self.new.fault ≡ None
+            → building_of self.new ≡ after (building_of self.old) (event_of event) }
+        ensures kept { IfSome self.old.fault (λ fault. self.new.fault ≡ Some fault) }
+        ensures measured { IsBuilderMeasured self.new }
+    {
+        if self.fault.is_none() {
+            self.fault = self.take(event).err();
+        }
+    }
+
+    /// The block that was built.
+    ///
+    /// # Errors
+    /// The first fault: `TooLong` where there are more than 2^32 - 1 sites, or a list would have more
+    /// operations and jumps than that; `Misplaced` where something ends that isn't open, or is open
+    /// at the end; and `Memory`.
+    pub fn finish(self) -> Result<Block, LowerFault>
+        requires { IsBuilderMeasured self }
+        ensures fault { IfSome self.fault (λ fault. result ≡ Err fault) }
+        ensures built { IfOk result
+            (λ block. building_of self ≡ b.building self.site [] (block_code block)) }
+        ensures measured { IfOk result (λ block. IsBlockMeasured block) }
+    {
+        if let Some(fault) = self.fault {
+            return Err(fault);
+        }
+        if !self.outer.is_empty() {
+            return Err(LowerFault::Misplaced);
+        }
+        Block::of(self.pieces)
+    }
+}
+
+/// The block of code that is shown, its operations numbered from a first site on. It takes time
+/// linear in what is shown.
+///
+/// # Errors
+/// As `Builder::finish`.
+pub fn build(alloc: Global, site: u32, events: &[CodeEvent]) -> Result<Block, LowerFault>
+    ensures built { IfOk result
+        (λ block. IsShown site (map event_of events.now) (block_code block)) }
+    ensures measured { IfOk result (λ block. IsBlockMeasured block) }
+{
+    let mut builder = Builder::new(alloc, site);
+    for event in events {
+        builder.show(*event);
+    }
+    builder.finish()
+}

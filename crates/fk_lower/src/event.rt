@@ -1,0 +1,50 @@
+//! What is shown of code.
+
+use fk_operation::Operation;
+
+/// What is shown of code, from its beginning. An operation comes with how many values the running
+/// call has before it.
+#[derive(Clone, Copy, PartialEq, Eq, Debug)]
+pub enum CodeEvent {
+    Perform {
+        operation: Operation,
+        depth: u32,
+    },
+    /// An operation that goes one of two ways. Its first way comes next.
+    Choose {
+        operation: Operation,
+        depth: u32,
+    },
+    /// The second way of a choice comes next.
+    Aside,
+    /// The ways of a choice are joined.
+    Joined,
+    /// An operation that goes on in the loop round it, or leaves it.
+    Quit {
+        operation: Operation,
+        depth: u32,
+    },
+    /// A call of the function of a binding. What is done at its beginning for this call comes next.
+    Call {
+        operation: Operation,
+        depth: u32,
+        function: u32,
+    },
+    /// That has ended.
+    Returned,
+    /// An operation that ends the function.
+    Ends {
+        operation: Operation,
+        depth: u32,
+    },
+    /// A loop that begins with its test; then come its body and its step.
+    While,
+    /// A loop that begins with its body; then comes its test.
+    Until,
+    /// The next part of the innermost loop comes next.
+    Part,
+    /// The innermost loop has ended.
+    Behind,
+    Break,
+    Continue,
+}

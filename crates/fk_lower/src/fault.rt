@@ -1,0 +1,23 @@
+//! Why code has no list.
+
+ghost use Rattle.std.specs.Prelude.{◌≡◌, ◌+◌, IfOk};
+
+/// Why code has no list.
+#[derive(Clone, Copy, PartialEq, Eq, Debug)]
+pub enum LowerFault {
+    /// It would have more than 2^32 - 1 operations and jumps.
+    TooLong,
+    /// A constant of an operation is too large for its number.
+    OutOfRange,
+    /// Something is shown where it may not be.
+    Misplaced,
+    /// There is no memory for it.
+    Memory,
+}
+
+// A sum, where it fits.
+pub(crate) fn further(from: u32, by: u32) -> Result<u32, LowerFault>
+    ensures { IfOk result (λ sum. sum ≡ from + by) }
+{
+    from.checked_add(by).ok_or(LowerFault::TooLong)
+}

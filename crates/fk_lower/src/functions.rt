@@ -1,0 +1,97 @@
+//! The flat list of all functions of a program.
+
+ghost use Rattle.std.specs.Prelude.{◌≡◌, ◌++◌, IfOk, OnOk, None, map};
+ghost use Rattle.fk_flat.specs.Laws.{IsFlat};
+ghost use Rattle.fk_lower.specs.View.{part_of};
+ghost use Rattle.fk_lower.specs.Written.{items_of, entry_of};
+ghost use Rattle.fk_lower.specs.Lowered.{bodies_in, AreMeasured, total, entries_from, written_from};
+
+use crate::block::Block;
+use crate::fault::{LowerFault, further};
+use crate::write::{Entries, Place, Writer};
+use fk_core::CoreOp;
+use std::alloc::Global;
+
+/// A program as a flat list.
+#[derive(Drop)]
+pub struct Lowered {
+    pub ops: Vec<CoreOp>,
+    pub entries: Entries,
+}
+
+// A place outside loops.
+fn outside(at: u32, next: u32) -> Place
+    ensures { result ≡ record { around = None; at = at; next = next } }
+{
+    Place {
+        around: None,
+        at,
+        next,
+    }
+}
+
+// How long all lists are together.
+fn total(bodies: &[Block]) -> Result<u32, LowerFault>
+    ensures { IfOk result (λ end. end ≡ total (map part_of bodies.now)) }
+{
+    let mut end = 0;
+    for body in bodies {
+        end = further(end, body.spans().far.extent)?;
+    }
+    Ok(end)
+}
+
+// Where functions begin.
+fn entries(alloc: Global, bodies: &[Block], end: u32) -> Result<Vec<u32>, LowerFault>
+    ensures { IfOk result (λ entries. entries.items ≡ entries_from 0 end (map part_of bodies.now)) }
+{
+    let mut entries = Vec::new(alloc);
+    let mut at = 0;
+    for body in bodies {
+        let span = body.spans().far;
+        let entry = outside(at, end).target(span.start, at, end)?;
+        if entries.push(entry).is_err() {
+            return Err(LowerFault::Memory);
+        }
+        at = further(at, span.extent)?;
+    }
+    Ok(entries)
+}
+
+// Writes functions one behind the other.
+fn write_all(writer: &mut Writer, entries: &Entries, bodies: &[Block]) -> Result<(), LowerFault>
+    ensures { OnOk result (items_of writer.new.ops.items ≡ items_of writer.old.ops.items
+        ++ written_from (entry_of entries.now.of_bindings.items entries.now.end) 0 entries.now.end
+        (map part_of bodies.now)) }
+{
+    let mut at = 0;
+    for body in bodies {
+        writer.block(entries, body, false, outside(at, entries.end))?;
+        at = further(at, body.spans().far.extent)?;
+    }
+    Ok(())
+}
+
+/// The flat list of functions, given by their bindings. One without a body has an empty block, and
+/// its entry at the end of the list. It takes time linear in the blocks.
+///
+/// # Errors
+/// `TooLong` where the list would have more than 2^32 - 1 operations and jumps, `OutOfRange` where
+/// a constant of an operation is too large for its number, and `Memory`.
+pub fn lower(alloc: Global, bodies: &[Block]) -> Result<Lowered, LowerFault>
+    ensures { AreMeasured (map part_of bodies.now) → IfOk result (λ lowered.
+        IsFlat (bodies_in (map part_of bodies.now)) lowered.ops.items
+        (entry_of lowered.entries.of_bindings.items lowered.entries.end)) }
+{
+    let end = total(bodies)?;
+    let entries = Entries {
+        of_bindings: entries(alloc, bodies, end)?,
+        end,
+    };
+    let mut writer = Writer::new(alloc);
+    write_all(&mut writer, &entries, bodies)?;
+    Ok(Lowered {
+        ops: writer.ops,
+        entries,
+    })
+}

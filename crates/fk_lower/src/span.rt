@@ -1,0 +1,77 @@
+//! What is known of code before its place is.
+
+ghost use Rattle.std.specs.Prelude.{◌≡◌, ◌≤◌, IfOk};
+ghost use Rattle.fk_flat.specs.Flat.{gap};
+ghost use Rattle.fk_lower.specs.Spans.{moved, round, span_in};
+
+use crate::fault::{LowerFault, further};
+
+/// Where code begins.
+#[derive(Clone, Copy, PartialEq, Eq, Debug)]
+pub enum Start {
+    /// So many operations and jumps behind where it is written.
+    At(u32),
+    /// Where it goes on: it does nothing.
+    Next,
+    /// Behind the loop round it: it begins with a `break`.
+    Behind,
+    /// At the next turn of the loop round it: it begins with a `continue`.
+    Onward,
+}
+
+impl Start {
+    // The same of code that stands so much further on.
+    pub(crate) fn moved(self, by: u32) -> Result<Start, LowerFault>
+        ensures { IfOk result (λ start. start ≡ moved by self) }
+    {
+        match self {
+            Start::At(offset) => Ok(Start::At(further(by, offset)?)),
+            _ => Ok(self),
+        }
+    }
+
+    // Where a `do` loop begins: with its body, which so begins and so long is, or where that is left
+    // at once, with the test behind it or the code behind the whole loop.
+    pub(crate) fn round(self, body: u32, whole: u32, rest: Start) -> Result<Start, LowerFault>
+        ensures { IfOk result (λ start. start ≡ round self body whole rest) }
+    {
+        match self {
+            Start::At(offset) => Ok(Start::At(offset)),
+            Start::Next | Start::Onward => Ok(Start::At(body)),
+            Start::Behind => rest.moved(whole),
+        }
+    }
+}
+
+/// What is known of code before its place is.
+#[derive(Clone, Copy, PartialEq, Eq, Debug)]
+pub struct Span {
+    /// Whether its first operation stands where it is written.
+    pub here: bool,
+    /// How many operations and jumps its list has.
+    pub extent: u32,
+    pub start: Start,
+}
+
+/// The same where code goes on elsewhere than directly behind its list, and where it goes on there.
+#[derive(Clone, Copy, PartialEq, Eq, Debug)]
+pub struct Spans {
+    pub far: Span,
+    pub near: Span,
+}
+
+impl Spans {
+    pub fn of(&self, near: bool) -> Span
+        ensures { result ≡ span_in self.now near }
+    {
+        if near { self.near } else { self.far }
+    }
+}
+
+// How many jumps stand before what is here, or isn't.
+pub(crate) fn gap(here: bool) -> u32
+    ensures jumps { result ≡ gap here }
+    ensures few { result ≤ 1 }
+{
+    if here { 0 } else { 1 }
+}
