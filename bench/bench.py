@@ -10,8 +10,8 @@ built by gcc -O2, with the ratio of the two. Bytes compiled per second, for text
 the time of runs that stop before the first cycle, less that of an empty `main`. And where tcc is
 there (Debian: tcc), the time and memory of `fork95 build` over those of `tcc -c`, for a text of
 1 MiB of declarations and for one of sums, each with the same text in C. And where the program of
-the table of types is built (`rt ci` builds it), the time in which the rules about names and types
-are checked in a text of 1 MB with 60,000 names in nested scopes.
+the table of texts is built (`rt ci` builds it), the time in which all rules of the language are
+checked in a text of 1 MB with 60,000 names in nested scopes.
 """
 import itertools
 import os
@@ -27,7 +27,7 @@ BENCH = os.path.dirname(os.path.abspath(__file__))
 TOP = os.path.dirname(BENCH)
 FORK95 = os.path.join(TOP, "fork95")
 PROGRAM = os.path.join(TOP, "crates", "fork95", "out", "fork95")
-TYPES = os.path.join(TOP, "crates", "fk_type_cases", "out", "fk_type_cases")
+RULES = os.path.join(TOP, "crates", "fk_rule_cases", "out", "fk_rule_cases")
 HARTS = (1, 64, 1024)
 # how many hart-instructions a run of the image has
 LOOPED = 2**26
@@ -204,17 +204,17 @@ def print_ratios_to_tcc(folder, runs):
 
 
 def print_checking(folder, runs):
-    if not os.path.exists(TYPES):
-        print("the program of the table of types isn't built, so its check isn't timed")
+    if not os.path.exists(RULES):
+        print("the program of the table of texts isn't built, so its check isn't timed")
         return
     seconds = []
     for piece in (nested_scopes(600, 100), ";"):
-        lines = write(folder, "piece", "asynchronous\t" + piece + "\n")
+        lines = write(folder, "piece", "rules\tasynchronous\t" + piece + "\n")
         best = float("inf")
         for _ in range(runs):
             with open(lines, "rb") as given:
                 start = time.perf_counter()
-                ended = subprocess.run([TYPES], stdin=given, capture_output=True, text=True)
+                ended = subprocess.run([RULES], stdin=given, capture_output=True, text=True)
             best = min(best, time.perf_counter() - start)
         assert ended.stdout == "keeps them\n", ended.stdout
         seconds.append(best)

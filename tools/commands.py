@@ -15,6 +15,9 @@ import tempfile
 from dataclasses import dataclass, field
 from pathlib import Path
 
+sys.dont_write_bytecode = True
+from texts import FAULTS, NO_TOKENS, OPENERS, TEXTS
+
 TOP = Path(__file__).resolve().parent.parent
 SECONDS = 120
 
@@ -66,6 +69,77 @@ FILES = {
     "commit.image": image([DEVICES, HALT], commits=[(4, 0)]),
 }
 
+# for each rule a text that breaks it first: its number, where the piece stands, and the piece, with a mark before the
+# token at whose place the rule is broken
+MARK = "»"
+DECLARED = "struct In { int x; };\nstruct S { int a; struct In in; int v[3]; };\nsh struct S st; sh int x0, ar[4]; int f0;\n"
+ALONE = "%s\n"
+BESIDE = DECLARED + "%s\nvoid main(void) { }\n"
+IN_MAIN = DECLARED + "void main(void) {\n%s\nstart ; }\n"
+IN_START = DECLARED + "void main(void) { start {\n%s\n} }\n"
+RULES = [
+    (1, IN_MAIN, "x0 = »undeclared + 1;"),
+    (2, BESIDE, "struct R { int a, »a; };"),
+    (3, BESIDE, "void two(void) { } void »two(void) { }"),
+    (4, ALONE, "sync void »main(void) { }"),
+    (5, IN_MAIN, "x0 = »main() + 1;"),
+    (6, BESIDE, "struct »Own { struct Own o; };"),
+    (7, BESIDE, "void fs(struct S »a) { }"),
+    (8, BESIDE, "struct L { int »a[0]; };"),
+    (9, BESIDE, "sh int iv = »f0 + 1;"),
+    (10, IN_MAIN, "x0 = 1 »+ &x0;"),
+    (11, IN_MAIN, "x0 + 1 »= 2;"),
+    (12, BESIDE, "int *n4(void) { »return 1; }"),
+    (13, IN_MAIN, "putint»(1, 2);"),
+    (14, IN_MAIN, "x0»(1);"),
+    (15, IN_MAIN, "st».nope;"),
+    (16, IN_MAIN, "x0»[1];"),
+    (17, IN_MAIN, "if (»st) ;"),
+    (18, BESIDE, "int n3(void) { »return; }"),
+    (19, IN_MAIN, "putint(»st);"),
+    (20, IN_MAIN, "ar »= 0;"),
+    (21, IN_MAIN, "if (1) »start ;"),
+    (22, IN_MAIN, "»farm ;"),
+    (23, IN_MAIN, "»seq ;"),
+    (24, IN_MAIN, "»fork (1; @=0) ;"),
+    (25, IN_START, "»barrier;"),
+    (26, BESIDE, "void y3(void) { »yy(); } sync void yy(void) { }"),
+    (27, BESIDE, "sync void y2(void) { »aa(); } void aa(void) { }"),
+    (28, BESIDE, "straight int s4(void) { return 1 »&& 2; }"),
+    (29, IN_MAIN, "»shalloc(4);"),
+    (30, IN_MAIN, "»break;"),
+    (31, IN_START, "farm { »return; }"),
+    (32, IN_START, "while (1) { farm { »break; } }"),
+    (33, BESIDE, "sync void y4(void) { if ($) »return; }"),
+    (34, IN_START, "while ($) »break;"),
+    (35, IN_START, "while (1) { if ($) »continue; }"),
+    (36, IN_MAIN, "»&f0;"),
+    (37, BESIDE, "int »ib[2];"),
+    (38, BESIDE, "struct S »ic;"),
+    (39, IN_MAIN, "sh int »sa;"),
+    (40, BESIDE, "void sp(sh int »a) { }"),
+    (4, ALONE, "int f0;»"),
+    # the rules about names and types come first, and those about regions before those about what is shared
+    (1, ALONE, "int ib[2]; void main(void) { farm ; »y = 1; }"),
+    (22, ALONE, "int ib[2]; void main(void) { »farm ; }"),
+    (33, ALONE, "sync void f(void) { if ($) »return; } void main(void) { start f(); }"),
+    (26, ALONE, "sync void f(void) { } void main(void) { start farm »f(); }"),
+]
+
+
+def is_image(there):
+    return (there or b"").startswith(b"FK95")
+
+
+def has_kinds(kinds):
+    """Whether an image has sites of these kinds."""
+
+    def has(there):
+        code, of_globals, sites = struct.unpack_from("<3I", there, 8)
+        return [struct.unpack_from("<I", there, 24 + 4 * (code + of_globals) + 12 * row)[0] for row in range(sites)] == kinds
+
+    return has
+
 
 @dataclass
 class Row:
@@ -75,7 +149,7 @@ class Row:
     status: int
     out: bytes = b""
     report: str = ""
-    # files that must be there afterwards with these bytes, or not at all
+    # files that must be there afterwards with these bytes (or of which a function holds), or not at all
     files: dict = field(default_factory=dict)
     # where standard output and error go, if not to us, and the most memory in bytes
     out_to: str = ""
@@ -153,7 +227,7 @@ ROWS = [
     Row(run("text.f95"), 1, b"", r"refused 3 OpenString at 1:1\n"),
     Row(run("wide.f95"), 1, b"", r"refused 4 WideNumber at 1:1\n"),
     Row(run("deep.f95"), 1, b"", r"refused 7 Nesting at 1:158\n"),
-    Row(run("undeclared.f95"), 1, b"", r"refused 22 NotBuilt\n"),
+    Row(run("undeclared.f95"), 1, b"", r"refused 8 Rule 1 at 1:26\n"),
     Row(run("long.f95"), 1, b"", r"refused 12 SourceTooLong 1048577\n"),
     *[Row(words, 2, b"", r"refused command line\n") for words in NO_COMMAND],
     Row(run("absent.f95"), 3, b"", r"read fault\n"),
@@ -192,13 +266,226 @@ ROWS = [
         r"listed 2 words\n",
     ),
     # a refused text puts nothing, and leaves what was there
-    Row(build("undeclared.f95", "refused.image"), 1, b"", r"refused 22 NotBuilt\n", files={"refused.image": None}),
+    Row(build("undeclared.f95", "refused.image"), 1, b"", r"refused 8 Rule 1 at 1:26\n", files={"refused.image": None}),
     Row(build("open.f95", "atomic.image"), 1, b"", r"refused 6 EndOfText\n", files={"atomic.image": ATOMIC}),
     # what is built replaces a file, and runs as the text does
     Row(build("sums.f95", "tail.image"), 0, b"", r"built \d+ words\n"),
     Row(execute("tail.image", harts=3), 0, b"5\n5\n5\n", FINISHED),
     Row(build("wraps.f95", "new.image"), 0, b"", r"built \d+ words\n"),
     Row(execute("new.image"), 0, b"-1\n0\n", FINISHED),
+]
+
+
+# The words of lines with blanks between them. F, -F, -- and - are one text, and I and é one image.
+FILES.update({name: SUMS for name in ("F", "-F", "--", "-")})
+FILES.update({name: FILES["halt.image"] for name in ("I", "é")})
+NO_COMMAND_LINES = [
+    "",
+    "-h",
+    "run --help",
+    "help run",
+    "-- list I",
+    "trace F --harts 1 --cycles 9",
+    "Run F --harts 1 --cycles 9",
+    "run F --harts 1 --harts 1 --cycles 9",
+    "run F --harts 1 --cycles 9 --cycles=9",
+    "run F --harts 1",
+    "run F --harts --cycles 9",
+    "run F --harts 1 --cycles",
+    "run F --harts -1 --cycles 9",
+    "run F --harts 4294967297 --cycles 9",
+    "run F --harts  --cycles 9",
+    "run F --harts= --cycles 9",
+    "run F --hart 1 --cycles 9",
+    "run F --harts 1 --cycles 9 -o I",
+    "run F G --harts 1 --cycles 9",
+    "run F --harts 1 --cycles 9 --show -- x",
+    "run F -- --harts 1 --cycles 9",
+    "build F -o",
+    "build F -o I -oJ",
+    "build F --output I",
+    "list -I",
+    "list -é",
+    "list --",
+]
+ROWS += [Row(line.split(" "), 2, b"", r"refused command line\n") for line in NO_COMMAND_LINES]
+AT_ONCE = r"stopped after 0 cycles\n"
+LINES = [
+    ("run F --harts 4 --cycles 9999", 0, b"5\n" * 4, FINISHED),
+    ("run F --cycles=3 --harts 1", 7, b"", r"stopped after 3 cycles\n"),
+    ("run --harts=1024 F --cycles=4294967295", 0, b"5\n" * 1024, FINISHED),
+    ("run --harts=1 F --cycles 9999", 0, b"5\n", FINISHED),
+    ("run --cycles 9999 --harts 1 -- F", 0, b"5\n", FINISHED),
+    ("run --show x --harts 0001 --cycles 0 F", 7, b"x = 0\n", AT_ONCE),
+    ("run F --show= --harts 1 --cycles 0", 1, b"", r"refused 23 NoGlobal \n"),
+    ("run F --show=-x --harts 1 --cycles 0", 1, b"", r"refused 23 NoGlobal -x\n"),
+    ("run F --show - --harts 1 --cycles 0", 1, b"", r"refused 23 NoGlobal -\n"),
+    ("run --harts 1 --cycles 0 -- -F", 7, b"", AT_ONCE),
+    ("run --harts 1 --cycles 0 -- --", 7, b"", AT_ONCE),
+    ("run - --harts 1 --cycles 0", 7, b"", AT_ONCE),
+    ("exec I --harts 2 --cycles 7", 0, b"", r"finished after 2 cycles\n"),
+    ("list I", 0, LISTED, r"listed 2 words\n"),
+    ("list -- I", 0, LISTED, r"listed 2 words\n"),
+    ("list I --", 0, LISTED, r"listed 2 words\n"),
+    ("list é", 0, LISTED, r"listed 2 words\n"),
+    ("build -o= F", 4, b"", ""),
+]
+ROWS += [Row(line.split(" "), status, out, report) for line, status, out, report in LINES]
+BUILDS = {
+    "build F -o J": "J",
+    "build -oK F": "K",
+    "build -o=L F": "L",
+    "build -o==I F": "=I",
+    "build -o-I F": "-I",
+    "build -oo F": "o",
+}
+ROWS += [Row(line.split(" "), 0, b"", r"built \d+ words\n", files={to: is_image}) for line, to in BUILDS.items()]
+
+# What texts and images are, and in which order they and the input are read.
+LONG = 60000
+NUMBERS = {
+    b"0": 0,
+    b"010": 8,
+    b"10": 10,
+    b"0xFfu": 255,
+    b"0X1a": 26,
+    b"1U": 1,
+    b"2147483647": 2147483647,
+    b"2147483648": -2147483648,
+    b"4294967295": -1,
+    b"' '": 32,
+    b"'\\n'": 10,
+    b"'\\t'": 9,
+    b"'\\0'": 0,
+    b"'\\\\'": 92,
+    b"'\\''": 39,
+}
+FILES.update(
+    {
+        "numbers.f95": b"void main(void) { %s }" % b" ".join(b"putint(%s);" % spelled for spelled in NUMBERS),
+        "spellings.f95": b"#include <fork.h>\n// hex, octal\nvoid main(void) { putint(0x10 + 010 /* and */ + 'a' + 1u); }",
+        "second.f95": b"sh int y; sh int x; void main(void) { x = 4294967295; }",
+        "first.f95": b"sh int x; sh int y; void main(void) { y = 1; }",
+        "start.f95": b"void main(void) { start { } }",
+        "far.f95": b"/*" + b" " * 300000 + b"*/ " + SUMS,
+        "globals.f95": b"".join(b"sh int v%d;" % number for number in range(LONG)) + b"void main(void) { putint(1); }",
+        "long.image": image([0] * LONG),
+    }
+)
+EMPTY = image([DEVICES, HALT], sites=[(34, 0, 0)], commits=[(4, 1)])
+UNKNOWN_WORDS = b"".join(b"%08x: 00000000  .word 0x00000000\n" % (4 * number) for number in range(LONG))
+ROWS += [
+    Row(run("spellings.f95"), 0, b"122\n", FINISHED),
+    Row(run("numbers.f95"), 0, b"".join(b"%d\n" % number for number in NUMBERS.values()), FINISHED),
+    # the code of no statements is that of `halt`
+    Row(build("empty.f95", "empty.image"), 0, b"", r"built 2 words\n", files={"empty.image": EMPTY}),
+    # by hand: const, const, const, binary, write, drop, const, read, outint, halt
+    Row(
+        build("sums.f95", "kinds.image"),
+        0,
+        b"",
+        r"built \d+ words\n",
+        files={"kinds.image": has_kinds([1, 1, 1, 7, 14, 4, 1, 13, 19, 34])},
+    ),
+    Row(execute("absent.image"), 3, b"", r"read fault\n"),
+    Row(build("absent.f95", "none.image"), 3, b"", r"read fault\n", files={"none.image": None}),
+    Row(run("second.f95") + ["--show", "x"], 0, b"x = -1\n", FINISHED, given=b"7"),
+    Row(run("second.f95", cycles=0) + ["--show", "x"], 7, b"x = 0\n", AT_ONCE, given=b"7"),
+    Row(run("second.f95") + ["--show", "y"], 0, b"y = 0\n", FINISHED),
+    Row(run("first.f95") + ["--show", "x"], 0, b"x = 0\n", FINISHED),
+    Row(run("first.f95") + ["--show", "y"], 0, b"y = 1\n", FINISHED),
+    Row(run("empty.f95") + ["--show", "main"], 1, b"", r"refused 23 NoGlobal main\n", given=b"x"),
+    Row(run("start.f95") + ["--show", "y"], 1, b"", r"refused 22 NotBuilt\n", given=b"x"),
+    Row(execute("halt.image"), 0, b"", r"finished after 2 cycles\n", given=b"1 -2 3"),
+    # more bytes than are moved at once
+    Row(run("far.f95"), 0, b"5\n", FINISHED),
+    Row(build("globals.f95", "globals.image"), 0, b"", r"built \d+ words\n"),
+    Row(execute("globals.image"), 0, b"1\n", FINISHED),
+    Row(["list", "long.image"], 0, UNKNOWN_WORDS, r"listed 60000 words\n"),
+]
+
+
+def refused(text, report):
+    """A row of a text of its own that is refused."""
+    name = f"text {len(FILES)}.f95"
+    FILES[name] = text
+    return Row(build(name, "none.image"), 1, b"", report)
+
+
+def broken(marked):
+    """A text that breaks at its mark."""
+    text, column = marked.replace(b"`", b""), marked.index(b"`") + 1
+    return refused(text, r"refused 6 EndOfText\n" if column > len(text) else rf"refused 5 Unexpected at 1:{column}\n")
+
+
+ROWS += [refused(text, rf"refused {report} at {line}:{column}\n") for text, report, line, column in NO_TOKENS]
+# they have no fault of tokens or syntax
+ROWS += [refused(text, r"refused (?![1-7] ).*\n") for text in TEXTS]
+ROWS += [broken(marked) for marked in FAULTS]
+for unit, tail, most, column in OPENERS:
+    ROWS += [
+        refused(b"void f() {" + unit * most + tail, r"refused 6 EndOfText\n"),
+        refused(b"void f() {" + unit * (most + 1) + tail, rf"refused 7 Nesting at 1:{column}\n"),
+    ]
+
+
+def breaking(number, around, piece):
+    """The text of a row of RULES, and the line that it is refused by."""
+    text = around % piece
+    lines = text[: text.index(MARK)].split("\n")
+    place = f"{len(lines)}:{len(lines[-1]) + 1}"
+    return text.replace(MARK, "").encode(), rf"refused 8 Rule {number} at {place}\n"
+
+
+for index, rule in enumerate(RULES):
+    name = f"rule{index}.f95"
+    FILES[name], line = breaking(*rule)
+    ROWS.append(Row(run(name), 1, b"", line))
+# a text that keeps all rules and isn't of the form that is built; and mistakes of several kinds in one text
+FILES["valid.f95"] = b"void main(void) { start ; }"
+FILES["all.f95"] = b"int ib[2]; void main(void) { farm ; y = ? }"
+ROWS += [
+    Row(run("valid.f95"), 1, b"", r"refused 22 NotBuilt\n"),
+    Row(run("valid.f95") + ["--show", "y"], 1, b"", r"refused 22 NotBuilt\n"),
+    Row(run("undeclared.f95") + ["--show", "y"], 1, b"", r"refused 8 Rule 1 at 1:26\n", given=b"x"),
+    Row(run("all.f95"), 1, b"", r"refused 5 Unexpected at 1:41\n"),
+]
+
+
+def prints(count):
+    """Statements of two operations each; with the one that halts `main` has one more."""
+    return b"putint(1);" * count
+
+
+def privates(count):
+    """Private variables of three operations and a word each; a frame has 8 words beside them, and one for the value."""
+    return b"".join(b"int v%d;" % number for number in range(count))
+
+
+def main_of(body):
+    return b"void main(void) {" + body + b"}"
+
+
+# more than an image can name, than a private frame may have, and than an image has for variables; and which is told
+LARGE, LARGEST = b"sh int a[524288]; sh int b;", b"sh int a[524288];"
+FILES["sites.f95"] = main_of(prints(8000))
+FILES["frame.f95"] = main_of(privates(64))
+FILES["shared.f95"] = LARGE + main_of(b"")
+FILES["full.f95"] = main_of(prints(7999))
+ROWS += [
+    Row(run("sites.f95"), 1, b"", r"refused 9 TooManySites 16001\n"),
+    Row(run("sites.f95") + ["--show", "y"], 1, b"", r"refused 9 TooManySites 16001\n", given=b"x"),
+    Row(build("full.f95", "full.image"), 0, b"", r"built \d+ words\n", files={"full.image": is_image}),
+    Row(run("frame.f95"), 1, b"", r"refused 10 FrameTooLarge main 73\n"),
+    Row(run("shared.f95"), 1, b"", r"refused 11 GlobalsTooLarge 524289\n"),
+    refused(main_of(privates(55)), r"refused 22 NotBuilt\n"),
+    refused(LARGEST + main_of(b""), r"refused 22 NotBuilt\n"),
+    refused(LARGE + main_of(b"start ;"), r"refused 11 GlobalsTooLarge 524289\n"),
+    refused(LARGE + main_of(privates(64)), r"refused 10 FrameTooLarge main 73\n"),
+    refused(main_of(privates(64) + prints(8000)), r"refused 9 TooManySites 16193\n"),
+    refused(b"void first(void) {" + privates(65) + b"}" + main_of(privates(64)), r"refused 10 FrameTooLarge first 74\n"),
+    refused(b"void none(void) { }" + main_of(privates(64)), r"refused 10 FrameTooLarge main 73\n"),
+    refused(main_of(prints(8000) + b"x = 1;"), r"refused 8 Rule 1 at 1:80018\n"),
 ]
 
 
@@ -227,7 +514,8 @@ def faults(program, row, folder):
         yield f"standard error {report[:200]!r}, not {row.report!r}"
     for name, wanted in row.files.items():
         path = Path(folder, name)
-        if (path.read_bytes() if path.exists() else None) != wanted:
+        there = path.read_bytes() if path.exists() else None
+        if not (wanted(there) if callable(wanted) else there == wanted):
             yield f"the file {name} isn't as it must be"
 
 

@@ -11,7 +11,8 @@ use Rattle.fk_machine.specs.Step.{perform}
 use Rattle.fk_machine.proofs.Places.{place_of-shared, place_of-local, place_of-out_int, place_of-halt}
 use Rattle.fk_machine.proofs.Performs.{writes, moves, lw-shared, sw-shared, sw-out_int, sw-halt}
 use Rattle.fk_compile.specs.Code.{Block, block, push_block, high_part, low_part}
-use Rattle.fk_compile.proofs.Walk.{local_index, IsLocalAddress, GoesAlone, after, walk, AreQuiet, quiet_performs}
+use Rattle.fk_nodes.specs.Alone.{GoesAlone}
+use Rattle.fk_compile.proofs.Walk.{local_index, IsLocalAddress, after, walk, AreQuiet, quiet_performs}
 
 -- ---- what a block has to do
 

@@ -11,7 +11,7 @@ use Rattle.fk_lex.specs.Reading.{Spelled, Cuts, tokens_in, Tokens}
 use Rattle.fk_lex.proofs.Extents.{short_line}
 use Rattle.fk_reading.specs.Languages.{Stretch, Language, numbered, token, many}
 use Rattle.fk_expr.specs.Grammar.{base}
-use Rattle.fk_stmt.specs.Statements.{variables}
+use Rattle.fk_declarations.specs.Grammar.{variables}
 use Rattle.fk_parse.specs.Items.{struct_item, function_item, item}
 use Rattle.fk_parse.specs.Parses.{SpellsProgram, beginning, end_of}
 

@@ -9,7 +9,7 @@ use Rattle.fk_machine.specs.Hart.{Hart, Shared, Setting, Effect, Stops}
 use Rattle.fk_machine.specs.Step.{step}
 use Rattle.fk_machine.specs.Cycle.{Turns, before, no_address, after_effect, turn, turns}
 use Rattle.fk_machine.specs.Run.{count_of}
-use Rattle.fk_compile.proofs.Walk.{Holds}
+use Rattle.fk_nodes.specs.Alone.{Holds}
 use Rattle.fk_compile.proofs.Blocks.{Shows, shows_alone}
 use Rattle.fk_compile.proofs.Linked.{Bound, AtCommit, Serves, Faults, bound_after}
 use Rattle.fk_compile.proofs.Rounds.{in_turn, in_turn-served, in_turn-faulted}

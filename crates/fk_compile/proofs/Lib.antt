@@ -34,3 +34,9 @@ pub mod Generated
 pub mod Bounds
 -- the answers of its parts are those of the compiler
 pub mod Parts
+-- what is too much of a text tells of its functions, and refuses it
+pub mod Large
+-- the variables of a straight-line program have a word each
+pub mod Shared
+-- a search has met none so far
+pub mod Searches

@@ -11,7 +11,9 @@ use Rattle.fk_machine.specs.Hart.{Hart, Shared, Setting, Stops}
 use Rattle.fk_machine.specs.Step.{step}
 use Rattle.fk_machine.specs.Run.{count_in}
 use Rattle.fk_compile.specs.Code.{Block, block}
-use Rattle.fk_compile.proofs.Walk.{Holds, BlockAt, step_at, walk, PrivateRun, join_runs, walked}
+use Rattle.fk_nodes.specs.Alone.{Holds}
+use Rattle.fk_nodes.proofs.InPlace.{step_at}
+use Rattle.fk_compile.proofs.Walk.{BlockAt, walk, PrivateRun, join_runs, walked}
 use Rattle.fk_compile.proofs.Blocks.{Shows, GoesShowing, effect, HasValues, Shape, HasShape, Fitting, shape_after, IsReady, is_halt, Commits, block_does, shape_kept, short_block}
 use Rattle.fk_compile.proofs.Flat.{flat, flat_next, flat_none}
 

@@ -11,13 +11,10 @@ use Rattle.fk_lex.specs.declared.token.Token.{Token}
 use Rattle.fk_reading.specs.declared.fault.SyntaxFault.{SyntaxFault}
 use Rattle.fk_parse.specs.Parses.{SpellsProgram}
 use Rattle.fk_parse.specs.Refusals as syntax
-use Rattle.fk_straight.specs.declared.fault.StraightFault.{StraightFault}
-use Rattle.fk_straight.specs.declared.fault.StraightFault.TheVariants.{NotStraight}
-use Rattle.fk_straight.specs.Straight as trees
 use Rattle.fk_meaning.specs.declared.syntax.Program.{Program}
 use Rattle.fk_image.specs.declared.Image.{Image}
 use Rattle.fk_compile.specs.declared.refusal.Refusal.{Refusal}
-use Rattle.fk_compile.specs.Text.{HasTree, HasSyntaxFault, IsStraight, IsNotStraight}
+use Rattle.fk_compile.specs.Text.{HasTree, HasSyntaxFault, IsStraight}
 use Rattle.fk_compile.specs.Faithful.{IsFaithful, IsFaithfulTo}
 
 -- what holds of the value of a call, where its fault was made another
@@ -38,11 +35,6 @@ pub parsed : (source : List ℕ) (tokens list : List Token) (tree : ProgramTree)
     → Tokens source (map spelled tokens) → SpellsProgram (map spelled list) tree → HasTree source tree
 parsed source tokens list tree same lexed derived =
     record { tokens = map spelled list; spelled = subst (λ ts. Tokens source (map spelled ts)) (sym same) lexed; derived = derived }
-
--- where a tree has no program, neither has its text
-pub not_straight : {A : Type 0} (source : List ℕ) (tree : ProgramTree) (r : Result A StraightFault)
-    → HasTree source tree → (r ≡ Err NotStraight → trees.IsNotStraight tree) → r ≡ Err NotStraight → IsNotStraight source
-not_straight source tree r parsed none refused = record { tree = tree; parsed = parsed; none = none refused }
 
 -- an image that was made for the program of a text
 pub passed : (source : List ℕ) (program : Program) (made : Result Image AllocError) (r : Result Image Refusal) (D : AllocError → Refusal → Type 0)

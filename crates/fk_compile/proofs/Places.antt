@@ -12,7 +12,8 @@ use Rattle.fk_asm.specs.Block.{MarkedLine, entry_at, entries_from}
 use Rattle.fk_meaning.specs.declared.operations.Operation.{Operation}
 use Rattle.fk_machine.specs.Run.{count_in}
 use Rattle.fk_compile.specs.Code.{Block, block, quiet, commits, marked, all_marked, depth_after, rows}
-use Rattle.fk_compile.proofs.Walk.{IsAt, QuietAt, BlockAt}
+use Rattle.fk_nodes.specs.Alone.{IsAt}
+use Rattle.fk_compile.proofs.Walk.{QuietAt, BlockAt}
 use Rattle.fk_compile.proofs.Blocks.{Shape, shape_after, is_halt}
 use Rattle.fk_compile.proofs.Linked.{Placed, block_size}
 use Rattle.fk_compile.proofs.Ready.{AllReady, depth_same}

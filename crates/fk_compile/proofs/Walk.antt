@@ -1,26 +1,20 @@
 -- How a hart runs straight code. No line here knows an operation of the source.
-use Rattle.std.proofs.Common.{◌≡◌, ℕ, zero, suc, ◌+◌, ◌-◌, ◌*◌, ◌/◌, ◌%◌, ◌<◌, List, [], ◌∷◌, length, Some, false, sym, ap, subst, ◌∙◌, arith, refl}
-use Rattle.std.specs.Prelude.{map, slice_get}
+use Rattle.std.proofs.Common.{◌≡◌, ℕ, zero, suc, ◌+◌, ◌-◌, ◌*◌, ◌/◌, ◌%◌, List, [], ◌∷◌, length, false, sym, ap, subst, ◌∙◌, arith, refl}
 use Rattle.fk_num.specs.Word.{put, word_sum}
 use Rattle.fk_image.specs.declared.Image.{Image}
 use Rattle.fk_isa.specs.declared.instruction.Instruction.{Instruction}
 use Rattle.fk_isa.specs.declared.instruction.Instruction.TheVariants.{Lui, Addi, Add, Lw, Sw}
-use Rattle.fk_isa.specs.Find.{row}
 use Rattle.fk_machine.specs.declared.place.Place.TheVariants.{LocalWord}
 use Rattle.fk_machine.specs.Place.{place_of}
-use Rattle.fk_machine.specs.Hart.{Hart, Shared, Setting, Reservations, Effect, Goes}
-use Rattle.fk_machine.specs.Step.{perform, on_fetch, step}
+use Rattle.fk_machine.specs.Hart.{Hart, Shared, Setting}
+use Rattle.fk_machine.specs.Step.{perform, step}
 use Rattle.fk_machine.specs.Run.{count_in}
 use Rattle.fk_machine.proofs.Performs.{writes, moves, lw-local, sw-local}
+use Rattle.fk_nodes.specs.Alone.{Holds, IsAt, GoesAlone}
+use Rattle.fk_nodes.proofs.InPlace.{step_at}
 use Rattle.fk_compile.specs.Code.{Block}
 
 -- ---- code in its place
-
--- word k of the code is this instruction, and its address has this count
-pub record IsAt (image : Image) (k : ℕ) (i : Instruction) (count : ℕ) : Type 0 where
-  pub within : k < 262144
-  pub fetched : slice_get (map row image.code.items) k ≡ Some (Some i)
-  pub counted : count_in image.commits.items (4 * k) ≡ count
 
 -- these instructions stand from word k on, and none of them commits
 abbrev pub QuietAt : Image → ℕ → List Instruction → Type 0
@@ -33,23 +27,7 @@ pub record BlockAt (image : Image) (k : ℕ) (b : Block) : Type 0 where
   pub commit_at : IsAt image (k + length b.before) b.commit 1
   pub after_at : QuietAt image (suc (k + length b.before)) b.after
 
--- a machine of this image
-abbrev pub Holds : Image → Setting → Type 0
-Holds image t = t.code ≡ map row image.code.items
-
-pub step_at : (image : Image) (k count : ℕ) (i : Instruction) → IsAt image k i count → (t : Setting) → Holds image t
-    → (number : ℕ) (h : Hart) (s : Shared) → h.pc ≡ 4 * k → step t number h s ≡ perform t number i h s
-step_at image k count i at t runs number h s e =
-    let place : h.pc / 4 ≡ k = omega arith in
-    ap (λ a. on_fetch t number (slice_get t.code a) h s) place
-    ∙ ap (λ code. on_fetch t number (slice_get code k) h s) runs
-    ∙ ap (λ r. on_fetch t number r h s) at.fetched
-
 -- ---- instructions that touch nothing but their hart
-
--- a hart goes on, and of what is shared only reservations may change
-abbrev pub GoesAlone : Effect → Hart → Shared → Type 0
-GoesAlone effect h s = (reserved : Reservations) × (effect ≡ Goes h (record s { reserved = reserved }))
 
 abbrev pub local_index : ℕ → ℕ
 local_index a = (a - 0x20000000) / 4

@@ -1,11 +1,20 @@
 -- What a text is: its tokens, its tree, and its program.
-use Rattle.std.specs.Prelude.{◌≡◌, ℕ, Bool, true, List, Option}
-use Rattle.std.specs.Option.{option_map}
-use Rattle.fk_syntax.specs.Program.{ProgramTree}
+use Rattle.std.specs.Prelude.{◌≡◌, ◌≢◌, ℕ, List, Option, Some, None, All, Contains}
+use Rattle.fk_syntax.specs.declared.facts.Facts.{Facts}
+use Rattle.fk_syntax.specs.declared.place.Place.{Place}
+use Rattle.fk_syntax.specs.Program.{ItemTree, FunctionItem, ProgramTree}
 use Rattle.fk_lex.specs.Reading.{Spelled, Tokens}
 use Rattle.fk_reading.specs.declared.fault.SyntaxFault.{SyntaxFault}
 use Rattle.fk_parse.specs.Parses as parses
 use Rattle.fk_parse.specs.Refusals as refusals
+use Rattle.fk_check.specs.Rules.{Keeps, BreaksFirst}
+use Rattle.fk_check.specs.Known.{AreAllFacts}
+use Rattle.fk_globals.specs.Constants.{told}
+use Rattle.fk_globals.specs.Rows.{Row, rows}
+use Rattle.fk_layout.specs.declared.sites.LayoutFault.{LayoutFault}
+use Rattle.fk_layout.specs.declared.sites.LayoutFault.TheVariants as layout
+use Rattle.fk_layout.specs.Layout.{tables_by}
+use Rattle.fk_layout.specs.Refusal.{IsRefusal, Fits}
 use Rattle.fk_meaning.specs.declared.syntax.Program.{Program}
 use Rattle.fk_straight.specs.Straight as trees
 
@@ -21,36 +30,75 @@ pub record HasSyntaxFault (source : List ℕ) (fault : SyntaxFault) : Type 0 whe
   pub spelled : Tokens source tokens
   pub refused : refusals.RefusesTokens tokens fault
 
+-- a text has a tree, and of the forty rules it breaks the one of this number first, at this place
+pub record HasBrokenRule (source : List ℕ) (place : Place) (number : ℕ) : Type 0 where
+  pub tree : ProgramTree
+  pub parsed : HasTree source tree
+  pub broken : BreaksFirst tree place number
+
+-- a text has a tree, which keeps all rules, and this is known of it
+pub record IsChecked (source : List ℕ) (tree : ProgramTree) (facts : Facts) : Type 0 where
+  pub parsed : HasTree source tree
+  pub kept : Keeps tree
+  pub known : AreAllFacts tree facts
+
+-- a text has a tree, and it keeps all rules
+pub record KeepsRules (source : List ℕ) : Type 0 where
+  pub tree : ProgramTree
+  pub parsed : HasTree source tree
+  pub kept : Keeps tree
+
 -- a text has a tree, and it is that of a straight-line program
 pub record IsStraight (source : List ℕ) (program : Program) : Type 0 where
   pub tree : ProgramTree
   pub parsed : HasTree source tree
   pub straight : trees.Derives tree program
 
--- a text has a tree, and it is that of no straight-line program
-pub record IsNotStraight (source : List ℕ) : Type 0 where
-  pub tree : ProgramTree
-  pub parsed : HasTree source tree
+-- a text that keeps all rules, but is that of no straight-line program
+pub record IsOther (source : List ℕ) (tree : ProgramTree) (facts : Facts) : Type 0 where
+  pub checked : IsChecked source tree facts
   pub none : trees.IsNotStraight tree
 
--- where a shared variable of file scope stands among the words of shared data: from its first word on so many, which
--- are shown as signed or as unsigned numbers
-pub record Row : Type 0 where
-  pub name : List ℕ
-  pub first : ℕ
-  pub words : ℕ
-  pub signed : Bool
+-- and this is too much of it, as the layout tells it
+pub record HasTooMuch (source : List ℕ) (fault : LayoutFault) : Type 0 where
+  pub tree : ProgramTree
+  pub facts : Facts
+  pub other : IsOther source tree facts
+  pub refused : IsRefusal (tables_by tree facts) tree.items fault
 
--- the variable of a number is an `int`: its one word is the word of that number
-abbrev pub int_row : List ℕ → ℕ → Row
-int_row name number = record { name = name; first = number; words = 1; signed = true }
+-- an item is a function of this name, which stands at this place
+abbrev pub IsFunctionAt : Place → List ℕ → ItemTree → Type 0
+IsFunctionAt place name (FunctionItem function) = (function.name.place ≡ place) × (function.name.bytes ≡ name)
+IsFunctionAt place name item = ⊥
 
--- a text has the tree of a straight-line program, and the variable that it declares under a name has this row, if it
--- declares one
+abbrev pub HasFunctionAt : List ItemTree → Place → List ℕ → Type 0
+HasFunctionAt items place name = (item : ItemTree) × Contains items item × IsFunctionAt place name item
+
+-- or a private frame of so many words is too large: the first such frame is that of a function of this name
+pub record HasLargeFrame (source name : List ℕ) (words : ℕ) : Type 0 where
+  pub tree : ProgramTree
+  pub facts : Facts
+  pub other : IsOther source tree facts
+  pub place : Place
+  pub refused : IsRefusal (tables_by tree facts) tree.items (layout.FrameTooLarge place words)
+  pub named : HasFunctionAt tree.items place name
+
+-- or nothing is too much of it
+pub record IsNotBuilt (source : List ℕ) : Type 0 where
+  pub tree : ProgramTree
+  pub facts : Facts
+  pub other : IsOther source tree facts
+  pub fits : Fits (tables_by tree facts) tree.items
+
+-- the one of these rows that has a name, and none where none has it
+abbrev pub IsRowOf : List Row → List ℕ → Option Row → Type 0
+IsRowOf all name (Some row) = Contains all row × (row.name ≡ name)
+IsRowOf all name None = All (λ (row : Row). row.name ≢ name) all
+
+-- a text is that of a straight-line program, and this is the row of a name among those of its layout, if there is one
 pub record HasGlobal (source name : List ℕ) (row : Option Row) : Type 0 where
   pub tree : ProgramTree
-  pub parsed : HasTree source tree
+  pub facts : Facts
+  pub checked : IsChecked source tree facts
   pub straight : trees.IsStraight tree
-  pub number : Option ℕ
-  pub variable : trees.HasVariable tree name number
-  pub is : row ≡ option_map (int_row name) number
+  pub is : IsRowOf (rows (told facts.notes.items facts.kinds.items) tree.items) name row

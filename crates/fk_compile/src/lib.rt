@@ -11,11 +11,11 @@ pub mod generate;
 mod global;
 pub mod laws;
 mod lower;
+mod other;
 pub mod refusal;
-#[cfg(test)]
-mod tests;
 mod text;
 
 pub use compiler::compile;
-pub use global::{GlobalRow, find_global};
+pub use fk_globals::GlobalRow;
+pub use global::find_global;
 pub use refusal::Refusal;

@@ -28,10 +28,24 @@ pub enum Refusal {
     /// A token that opens level 129 of nesting.
     #[error("too deep a nesting")]
     Nesting(Place),
+    /// It breaks this rule of the language, by its number, here first.
+    #[error("rule {1} is broken")]
+    Rule(Place, u8),
+    /// It has so many operations, which are more than 16,000. Above 2^64 - 1 it is that number.
+    #[error("{0} operations are too many")]
+    TooManySites(u64),
+    /// A function has a private frame of more than 64 words: the name of the first one, and its words.
+    /// Above 2^32 - 1 it is that number.
+    #[error("a private frame of {1} words is too large")]
+    FrameTooLarge(Vec<u8>, u32),
+    /// The shared variables of file scope have so many words, which are more than 524,288. Above
+    /// 2^64 - 1 it is that number.
+    #[error("shared variables of {0} words are too large")]
+    GlobalsTooLarge(u64),
     /// It has more than 1,048,576 bytes: how many.
     #[error("a text of {0} bytes is too long")]
     SourceTooLong(u64),
-    /// It is a text of the Fork95 grammar, but not of the form that is built so far.
+    /// It is a text of the language, but not of the form that is built so far.
     #[error("not built")]
     NotBuilt,
     /// There is no memory for the image.

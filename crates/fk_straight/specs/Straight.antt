@@ -1,5 +1,5 @@
 -- Syntax trees of straight-line programs: shared `int` variables, sums, assignments and `putint`.
-use Rattle.std.specs.Prelude.{◌≡◌, ℕ, ◌≤◌, ◌<◌, true, List, [], ◌∷◌, ◌++◌, Option, Some, None, All, Contains, codes, length, slice_get}
+use Rattle.std.specs.Prelude.{◌≡◌, ℕ, ◌≤◌, ◌<◌, true, List, [], ◌∷◌, ◌++◌, Some, None, All, Contains, codes, length, slice_get}
 use Rattle.std.specs.List.{AllZip}
 use Rattle.fk_syntax.specs.declared.place.Spot.{Spot}
 use Rattle.fk_syntax.specs.declared.program.Mode.TheVariants.{Async}
@@ -121,20 +121,6 @@ pub record Derives (tree : ProgramTree) (program : Program) : Type 0 where
   pub statements : IsBody names body program.body.items
   pub count : length names ≡ program.variables
   pub short : length (operations program) ≤ 16000
-
--- the name has this number among the names, from 0, or is none of them
-abbrev pub HasNumber : Names → List ℕ → Option ℕ → Type 0
-HasNumber names name (Some number) = slice_get names number ≡ Some name
-HasNumber names name None = ¬ Contains names name
-
--- the variable that the items of a tree before its last one declare under a name, if they declare one
-pub record HasVariable (tree : ProgramTree) (name : List ℕ) (number : Option ℕ) : Type 0 where
-  pub names : Names
-  pub declarations : List ItemTree
-  pub main : ItemTree
-  pub items : tree.items ≡ declarations ++ main ∷ []
-  pub declared : AreDeclarations names declarations
-  pub is : HasNumber names name number
 
 -- a tree is that of at most one program: so many variables, and these operations
 abbrev pub DerivesOnce : Type 0

@@ -10,8 +10,6 @@ mod only;
 mod statements;
 mod sums;
 mod tree;
-mod variable;
 
 pub use fault::StraightFault;
 pub use tree::straight;
-pub use variable::find_variable;

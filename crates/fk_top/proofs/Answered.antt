@@ -3,7 +3,7 @@ use Rattle.std.proofs.Common.{◌≡◌, ◌≢◌, ℕ, List, Option, Some, Non
 use Rattle.std.specs.Option.{option_map}
 use Rattle.fk_ports.specs.Files.{Files}
 use Rattle.fk_image.specs.declared.Image.{Image}
-use Rattle.fk_compile.specs.Text.{Row}
+use Rattle.fk_globals.specs.Rows.{Row}
 use Rattle.fk_top.specs.declared.ending.Ending.{Ending}
 use Rattle.fk_top.specs.declared.ending.PutFile.{PutFile}
 use Rattle.fk_top.specs.declared.report.Report.TheVariants as reports

@@ -1,6 +1,6 @@
 -- Which answers come where no fault rose.
 use Rattle.std.proofs.Common.{◌≡◌, ℕ, ◌≤◌, Bool, true, false, List, [], ◌∷◌, Option, Some, None, Ok, Err, IsSome, take, length, refl, sym, ap, subst, ◌∙◌, arith, ◌⊎◌, inl, inr}
-use Rattle.std.specs.Prelude.{IfSome, IsSomeAnd, nat_lt, option_map, vec_len}
+use Rattle.std.specs.Prelude.{IfSome, IsSomeAnd, nat_lt, vec_len}
 use Rattle.std.proofs.lemmas.Bool.{ltb-true, ltb-false, lt-ltb}
 use Rattle.std.proofs.lemmas.List.{take_all, length-take, length-replicate}
 use Rattle.fk_syntax.specs.Program.{ProgramTree}
@@ -16,15 +16,15 @@ use Rattle.fk_words.specs.Command.{Command, Run, Build, Exec, ListCode, Reads}
 use Rattle.fk_words.proofs.OneCommand.{one_command}
 use Rattle.fk_meaning.specs.declared.syntax.Program.{Program}
 use Rattle.fk_straight.specs.Straight as trees
-use Rattle.fk_straight.specs.Straight.{HasVariable}
 use Rattle.fk_straight.proofs.TreeLemmas.{one_program}
-use Rattle.fk_compile.specs.Text.{IsStraight, Row, int_row, HasGlobal}
+use Rattle.fk_globals.specs.Rows.{Row}
+use Rattle.fk_compile.specs.Text.{IsStraight, HasGlobal}
 use Rattle.fk_compile.specs.Faithful.{IsFaithful}
 use Rattle.fk_top.specs.declared.status.Status.{Status}
 use Rattle.fk_top.specs.declared.status.Status.TheVariants.{Done, Refused, Usage, ReadFault, WriteFault, Memory, SourceFault, CycleBound, Trap, ImageRefused, InputRefused}
 use Rattle.fk_top.specs.Words.{Runs, IsBuild, file_of, most_bytes, most_input}
 use Rattle.fk_top.specs.Outcome.{Outcome, EndsOn, ComesTo, RefusesSource, RefusesImage, LacksGlobal, IsShown, IsBuiltFrom, most_numbers}
-use Rattle.fk_top.specs.Refused.{IsRefusedAs, IsNoImageAs}
+use Rattle.fk_top.specs.Refused.{IsRefusedBy, IsNoImageAs}
 use Rattle.fk_top.specs.Call.{Call, Request, Ends, IsUnread, IsFileUnread, IsInputUnread, IsCut, IsOutOfMemory, HasEnded, HasCause, IsInOrder, IsReadable, IsAccepted, IsInputBeside, IsOfStand, IsOfAccepted, IsOfUnreadable, IsOfUnaccepted, IsText, IsImage, Puts, AreCut}
 use Rattle.fk_top.proofs.Readable.{whole, same_tree, variable_there, text_accepted, image_accepted, image_short}
 
@@ -180,7 +180,7 @@ read_short source short = whole 1048577 source (omega arith)
 
 read_built : (source : List ℕ) (image : Image) → IsBuiltFrom (take 1048577 source) image → IsText source
 read_built source image b =
-    subst IsText (read_short source b.short) (record { short = b.short; program = b.faithful.program; straight = b.faithful.straight })
+    subst IsText (read_short source b.short) (record { short = b.short; kept = b.kept; program = b.faithful.program; straight = b.faithful.straight })
 
 read_image : (bytes : List ℕ) (image : Image) → IsImageOf bytes image → take 5434905 bytes ≡ bytes
 read_image bytes image is = let short = image_short bytes image is in take_all 5434905 bytes (omega arith)
@@ -194,36 +194,18 @@ image_read bytes image is = (image, subst (λ (b : List ℕ). IsImageOf b image)
 -- what is in order is not refused
 not_refused : (source : List ℕ) (outcome : Outcome) → IsText source → RefusesSource (take 1048577 source) outcome → ⊥
 not_refused source outcome text r =
-    text_accepted source r.report text (subst (λ (s : List ℕ). IsRefusedAs s r.report) (read_text source text) r.refused)
+    text_accepted source r.line text (subst (λ (s : List ℕ). IsRefusedBy s r.line) (read_text source text) r.refused)
 
 not_image_refused : (bytes : List ℕ) (outcome : Outcome) → IsImage bytes → RefusesImage (take 5434905 bytes) outcome → ⊥
 not_image_refused bytes outcome image r =
     image_accepted bytes r.report image (subst (λ (b : List ℕ). IsNoImageAs b r.report) (read_image bytes image.0 image.1) r.refused)
-
--- there is a row exactly where there is a number
-no_number : (name : List ℕ) (number : Option ℕ) → None ≡ option_map (int_row name) number → number ≡ None
-no_number name None e = refl
-no_number name (Some n) e = absurd cc
-
-a_number : (name : List ℕ) (row : Row) (number : Option ℕ) → Some row ≡ option_map (int_row name) number → (n : ℕ) × (number ≡ Some n)
-a_number name row None e = absurd cc
-a_number name row (Some n) e = (n, refl)
-
--- a variable of a name is one that the tree has
-global_there : (source name : List ℕ) (row : Row) → HasGlobal source name None → HasGlobal source name (Some row) → ⊥
-global_there source name row none some =
-    let n = a_number name row some.number some.is in
-    let same = same_tree source some.tree none.tree some.parsed none.parsed in
-    let here = subst (λ (k : Option ℕ). HasVariable some.tree name k) n.1 some.variable in
-    let absent = subst (λ (k : Option ℕ). HasVariable none.tree name k) (no_number name none.number none.is) none.variable in
-    variable_there none.tree name n.0 absent (subst (λ (t : ProgramTree). HasVariable t name (Some n.0)) same here)
 
 asked_there : (source : List ℕ) (show : Option Text) (shown : Option Row) (name : Text) → IsShown source show shown → show ≡ Some name → HasGlobal source name None → ⊥
 asked_there source None shown name is e none = absurd (cc)
 asked_there source (Some other) None name is e none = absurd is
 asked_there source (Some other) (Some row) name is e none =
     let same : other ≡ name = cc in
-    global_there source name row none (subst (λ (n : Text). HasGlobal source n (Some row)) same is)
+    variable_there source name row none (subst (λ (n : Text). HasGlobal source n (Some row)) same is)
 
 not_lacking : (source : List ℕ) (show : Option Text) (outcome : Outcome) (shown : Option Row) → IsText source → IsShown source show shown → LacksGlobal (take 1048577 source) show outcome → ⊥
 not_lacking source show outcome shown text is r =

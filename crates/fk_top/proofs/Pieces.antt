@@ -1,6 +1,6 @@
 -- Pieces that are given one after the other, where each has its bytes.
 use Rattle.std.proofs.Common.{◌≡◌, ℕ, zero, suc, ◌+◌, ◌<◌, List, [], ◌∷◌, ◌++◌, Option, Result, Ok, Err, flat_map, get_or, take, drop, length, refl, sym, ap, subst, ◌∙◌, append_assoc, append-nil, take-append-drop, drop-cons, arith}
-use Rattle.std.specs.Prelude.{OnErr}
+use Rattle.std.specs.Prelude.{OnErr, OnOk}
 use Rattle.std.specs.Io.KnownBytes.{append_known}
 use Rattle.std.proofs.lemmas.List.{take_more}
 use Rattle.std.proofs.lemmas.List.Concat.{flat_map-append}
@@ -58,6 +58,10 @@ same_within (x ∷ xs) (suc i) d e lt = same_within xs i d e (omega arith)
 -- a part of some bytes is one of the same bytes
 pub part_of_same : (before now : Option (List ℕ)) (bytes other : List ℕ) → bytes ≡ other → TakesPrefix before now bytes → TakesPrefix before now other
 part_of_same before now bytes other same took = subst (TakesPrefix before now) same took
+
+-- what was given is also the same bytes by another name
+pub told : {A E : Type 0} (r : Result A E) (before now : Option (List ℕ)) (bytes other : List ℕ) → bytes ≡ other → OnOk r (now ≡ append_known before bytes) → OnOk r (now ≡ append_known before other)
+told r before now bytes other same taken = subst (λ (b : List ℕ). OnOk r (now ≡ append_known before b)) same taken
 
 -- one holds after an error, and so does what follows from it
 pub err_then : {A E : Type 0} (r : Result A E) (P Q : Type 0) → (P → Q) → OnErr r P → OnErr r Q

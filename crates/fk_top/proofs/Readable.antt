@@ -1,8 +1,10 @@
 -- What is read whole, and that what is in order is not refused.
-use Rattle.std.proofs.Common.{◌≡◌, ℕ, zero, suc, ◌+◌, ◌*◌, ◌≤◌, ◌<◌, List, [], ◌∷◌, ◌++◌, codes, length, take, flat_map, None, Some, Contains, sym, ap, subst, ◌∙◌, arith}
-use Rattle.std.specs.Prelude.{slice_get}
+use Rattle.std.proofs.Common.{◌≡◌, ◌≢◌, ℕ, ◌+◌, ◌*◌, ◌≤◌, ◌<◌, true, List, [], ◌∷◌, ◌++◌, codes, length, take, flat_map, None, Some, Contains, inl, inr, sym, ap, subst, ◌∙◌, arith}
 use Rattle.std.proofs.lemmas.List.{length-append, length-take, take_all}
-use Rattle.fk_syntax.specs.Program.{ItemTree, ProgramTree}
+use Rattle.std.proofs.lemmas.List.Elements.{All-contains}
+use Rattle.fk_syntax.specs.declared.facts.Facts.{Facts}
+use Rattle.fk_syntax.specs.declared.place.Place.{Place}
+use Rattle.fk_syntax.specs.Program.{DeclaredTree, ProgramTree}
 use Rattle.fk_lex.specs.Reading.{Spelled}
 use Rattle.fk_lex.proofs.Determined as lexed
 use Rattle.fk_reading.specs.declared.fault.SyntaxFault.{SyntaxFault}
@@ -10,20 +12,25 @@ use Rattle.fk_reading.specs.declared.fault.SyntaxFault.TheVariants as syntax_fau
 use Rattle.fk_reading.specs.Faults.{IsMemory}
 use Rattle.fk_parse.specs.Parses.{SpellsProgram}
 use Rattle.fk_parse.proofs.Texts.{one_tree, tree_or_fault}
+use Rattle.fk_check.specs.Rules.{BreaksFirst}
+use Rattle.fk_check.proofs.Apart.{keeps_or_breaks}
 use Rattle.fk_straight.specs.Straight as trees
-use Rattle.fk_straight.proofs.ItemLemmas.{same_names}
-use Rattle.fk_straight.proofs.Same.{same_last}
+use Rattle.fk_straight.proofs.NameLemmas.{Contains-head, Contains-tail, Contains-cons_cases, Contains-nil}
+use Rattle.fk_forms.specs.Tables.{Tables}
+use Rattle.fk_globals.specs.Constants.{told}
+use Rattle.fk_globals.specs.Variables.{variables_of}
+use Rattle.fk_globals.specs.Rows.{Row, words_of, row_at, rows_from, rows}
 use Rattle.fk_image.specs.declared.Image.{Image}
 use Rattle.fk_image.specs.Spelling.{IsImageOf, word_bytes, image_words, site_words, commit_words}
 use Rattle.fk_image.proofs.Accepted.{no_refusal}
 use Rattle.fk_image.proofs.Commits.{few_of_image}
 use Rattle.fk_image.proofs.Images.{length-words, length-sites, length-commits}
 use Rattle.fk_compile.specs.declared.refusal.Refusal.{Refusal}
-use Rattle.fk_compile.specs.declared.refusal.Refusal.TheVariants.{BadByte, OpenComment, OpenString, WideNumber, Unexpected, EndOfText, Nesting, SourceTooLong, NotBuilt, Memory}
+use Rattle.fk_compile.specs.declared.refusal.Refusal.TheVariants.{BadByte, OpenComment, OpenString, WideNumber, Unexpected, EndOfText, Nesting, Rule, TooManySites, FrameTooLarge, GlobalsTooLarge, SourceTooLong, NotBuilt, Memory}
 use Rattle.fk_compile.specs.Refusal.{IsRefused}
-use Rattle.fk_compile.specs.Text.{HasTree, HasSyntaxFault, IsNotStraight}
+use Rattle.fk_compile.specs.Text.{HasTree, HasSyntaxFault, HasBrokenRule, HasGlobal, IsOther, KeepsRules}
 use Rattle.fk_top.specs.declared.report.Report.{Report}
-use Rattle.fk_top.specs.Refused.{IsRefusedAs, IsNoImageAs, report_of}
+use Rattle.fk_top.specs.Refused.{IsRefusedBy, IsNoImageAs, refusal_line}
 use Rattle.fk_top.specs.Call.{IsText, IsImage}
 
 -- what was read short of its bound was read whole
@@ -44,25 +51,34 @@ same_tree source tree other a b =
     let same = lexed.one_reading.tokens source a.tokens b.tokens a.spelled b.spelled in
     one_tree b.tokens tree other (subst (λ (ts : List Spelled). SpellsProgram ts tree) same a.derived) b.derived
 
-straight_or_not : (source : List ℕ) → IsText source → IsNotStraight source → ⊥
-straight_or_not source text not =
-    let same = same_tree source text.straight.tree not.tree text.straight.parsed not.parsed in
-    not.none (text.program, subst (λ (tree : ProgramTree). trees.Derives tree text.program) same text.straight.straight)
+kept_or_not : (source : List ℕ) (place : Place) (number : ℕ) → KeepsRules source → HasBrokenRule source place number → ⊥
+kept_or_not source place number keeps breaks =
+    let same = same_tree source breaks.tree keeps.tree breaks.parsed keeps.parsed in
+    keeps_or_breaks keeps.tree place number keeps.kept (subst (λ (tree : ProgramTree). BreaksFirst tree place number) same breaks.broken)
 
-not_refused : (source : List ℕ) (refusal : Refusal) (report : Report) → IsText source → IsRefused source refusal → report_of refusal ≡ Some report → ⊥
-not_refused source (BadByte place) report text refused says = lexed.one_reading.apart source text.straight.parsed.tokens _ text.straight.parsed.spelled refused.1
-not_refused source (OpenComment place) report text refused says = lexed.one_reading.apart source text.straight.parsed.tokens _ text.straight.parsed.spelled refused.1
-not_refused source (OpenString place) report text refused says = lexed.one_reading.apart source text.straight.parsed.tokens _ text.straight.parsed.spelled refused.1
-not_refused source (WideNumber place) report text refused says = lexed.one_reading.apart source text.straight.parsed.tokens _ text.straight.parsed.spelled refused.1
-not_refused source (Unexpected place) report text refused says = not_faulty source text.straight.tree (syntax_fault.Unexpected place) text.straight.parsed refused.1
-not_refused source EndOfText report text refused says = not_faulty source text.straight.tree syntax_fault.EndOfText text.straight.parsed refused.1
-not_refused source (Nesting place) report text refused says = not_faulty source text.straight.tree (syntax_fault.Nesting place) text.straight.parsed refused.1
-not_refused source (SourceTooLong bytes) report text refused says = let short = text.short in absurd (omega (arith, refused.0, refused.1))
-not_refused source NotBuilt report text refused says = straight_or_not source text refused.1
-not_refused source (Memory e) report text refused says = cc
+straight_or_other : (source : List ℕ) (tree : ProgramTree) (facts : Facts) → IsText source → IsOther source tree facts → ⊥
+straight_or_other source tree facts text other =
+    let same = same_tree source text.straight.tree tree text.straight.parsed other.checked.parsed in
+    other.none (text.program, subst (λ (tree : ProgramTree). trees.Derives tree text.program) same text.straight.straight)
 
-pub text_accepted : (source : List ℕ) (report : Report) → IsText source → IsRefusedAs source report → ⊥
-text_accepted source report text r = not_refused source r.refusal report text r.refused r.says
+not_refused : (source : List ℕ) (refusal : Refusal) (line : List ℕ) → IsText source → IsRefused source refusal → refusal_line refusal ≡ Some line → ⊥
+not_refused source (BadByte place) line text refused says = lexed.one_reading.apart source text.straight.parsed.tokens _ text.straight.parsed.spelled refused.1
+not_refused source (OpenComment place) line text refused says = lexed.one_reading.apart source text.straight.parsed.tokens _ text.straight.parsed.spelled refused.1
+not_refused source (OpenString place) line text refused says = lexed.one_reading.apart source text.straight.parsed.tokens _ text.straight.parsed.spelled refused.1
+not_refused source (WideNumber place) line text refused says = lexed.one_reading.apart source text.straight.parsed.tokens _ text.straight.parsed.spelled refused.1
+not_refused source (Unexpected place) line text refused says = not_faulty source text.straight.tree (syntax_fault.Unexpected place) text.straight.parsed refused.1
+not_refused source EndOfText line text refused says = not_faulty source text.straight.tree syntax_fault.EndOfText text.straight.parsed refused.1
+not_refused source (Nesting place) line text refused says = not_faulty source text.straight.tree (syntax_fault.Nesting place) text.straight.parsed refused.1
+not_refused source (Rule place number) line text refused says = kept_or_not source place number text.kept refused.1
+not_refused source (TooManySites count) line text refused says = straight_or_other source refused.1.tree refused.1.facts text refused.1.other
+not_refused source (FrameTooLarge name words) line text refused says = straight_or_other source refused.1.tree refused.1.facts text refused.1.other
+not_refused source (GlobalsTooLarge words) line text refused says = straight_or_other source refused.1.tree refused.1.facts text refused.1.other
+not_refused source (SourceTooLong bytes) line text refused says = let short = text.short in absurd (omega (arith, refused.0, refused.1))
+not_refused source NotBuilt line text refused says = straight_or_other source refused.1.tree refused.1.facts text refused.1.other
+not_refused source (Memory e) line text refused says = cc
+
+pub text_accepted : (source : List ℕ) (line : List ℕ) → IsText source → IsRefusedBy source line → ⊥
+text_accepted source line text r = not_refused source r.refusal line text r.refused r.says
 
 -- ---- images
 
@@ -87,15 +103,24 @@ image_accepted bytes report image r = no_refusal bytes image.0 r.fault image.1 r
 
 -- ---- variables
 
-contains_at : {X : Type 0} (xs : List X) (i : ℕ) (x : X) → slice_get xs i ≡ Some x → Contains xs x
-contains_at [] i x e = absurd cc
-contains_at (y ∷ xs) zero x e = (0, omega arith, let same : y ≡ x = cc in same)
-contains_at (y ∷ xs) (suc i) x e = let h = contains_at xs i x e in (suc h.0, omega (arith, h.1), h.2)
+-- a row has a counterpart of its name among the rows by other facts
+other_row : (tables other : Tables) (variables : List DeclaredTree) (first second : ℕ) (row : Row) → Contains (rows_from tables first variables) row
+    → (counterpart : Row) × Contains (rows_from other second variables) counterpart × (counterpart.name ≡ row.name)
+other_row tables other [] first second row h = absurd (Contains-nil row h)
+other_row tables other (v ∷ vs) first second row h =
+    elim (Contains-cons_cases (row_at tables first v) row (rows_from tables (first + words_of tables v) vs) h) [
+      | inl same ↦ (row_at other second v, Contains-head (row_at other second v) (rows_from other (second + words_of other v) vs), ap (λ (r : Row). r.name) same)
+      | inr rest ↦
+          let found = other_row tables other vs (first + words_of tables v) (second + words_of other v) row rest in
+          (found.0, Contains-tail (row_at other second v) found.0 (rows_from other (second + words_of other v) vs) found.1, found.2)
+    ]
 
--- a tree that has no variable of a name has none of any number
-pub variable_there : (tree : ProgramTree) (name : List ℕ) (n : ℕ) → trees.HasVariable tree name None → trees.HasVariable tree name (Some n) → ⊥
-variable_there tree name n none some =
-    let same = same_last some.declarations none.declarations some.main none.main (sym some.items ∙ none.items) in
-    let declared = subst (λ (items : List ItemTree). trees.AreDeclarations some.names items) same.0 some.declared in
-    let names = same_names some.names none.names none.declarations declared.each none.declared.each in
-    none.is (subst (λ (ns : trees.Names). Contains ns name) names (contains_at some.names n name some.is))
+-- a text that has no variable of a name has no row of it
+pub variable_there : (source name : List ℕ) (row : Row) → HasGlobal source name None → HasGlobal source name (Some row) → ⊥
+variable_there source name row none some =
+    let tables = told some.facts.notes.items some.facts.kinds.items in
+    let other = told none.facts.notes.items none.facts.kinds.items in
+    let same = same_tree source some.tree none.tree some.checked.parsed none.checked.parsed in
+    let found = other_row tables other (variables_of true some.tree.items) 0 0 row some.is.0 in
+    let here = subst (λ (tree : ProgramTree). Contains (rows other tree.items) found.0) same found.1 in
+    All-contains (λ (r : Row). r.name ≢ name) (rows other none.tree.items) found.0 none.is here (found.2 ∙ some.is.1)

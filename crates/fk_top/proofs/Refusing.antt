@@ -1,6 +1,7 @@
 -- A source, bytes that are no image, or an input text that is refused ends a call with the report of why.
 use Rattle.std.proofs.Common.{◌≡◌, ℕ, List, Result, Ok, Err, IfOk, Option, Some, None, sym, ap, ◌∙◌, ◌⊎◌, inl, inr}
 use Rattle.std.specs.Prelude.{IsErr, IsOkAnd, MatchOption}
+use Rattle.std.specs.Option.{option_map}
 use Rattle.std.specs.declared.alloc.AllocError.{AllocError}
 use Rattle.fk_image.specs.declared.Image.{Image}
 use Rattle.fk_image.specs.declared.fault.ImageFault.{ImageFault}
@@ -14,18 +15,19 @@ use Rattle.fk_compile.specs.Refusal.{IsRefused}
 use Rattle.fk_top.specs.declared.ending.Ending.{Ending}
 use Rattle.fk_top.specs.declared.report.Report.{Report}
 use Rattle.fk_top.specs.declared.status.Status.TheVariants.{Refused, ImageRefused, InputRefused}
-use Rattle.fk_top.specs.Ending.{outcome_of}
+use Rattle.fk_top.specs.declared.ending.LastLine.{LastLine}
+use Rattle.fk_top.specs.Ending.{last_line, outcome_of}
 use Rattle.fk_top.specs.Report.{line_of}
 use Rattle.fk_top.specs.Outcome.{silent, numbers_for, RefusesSource, RefusesImage, RefusesInput}
-use Rattle.fk_top.specs.Refused.{report_of, image_report_of, input_report_of}
+use Rattle.fk_top.specs.Refused.{refusal_line, image_report_of, input_report_of}
 
-pub refusing : (source : List ℕ) (refusal : Refusal) (report : Option Report) (r : Result Ending AllocError) (Q : Ending → Type 0)
-    → IsRefused source refusal → report ≡ report_of refusal → MatchOption report (IsErr r) (λ x. IsOkAnd r (λ e. outcome_of e ≡ silent Refused (line_of x)))
+pub refusing : (source : List ℕ) (refusal : Refusal) (line : Option LastLine) (r : Result Ending AllocError) (Q : Ending → Type 0)
+    → IsRefused source refusal → option_map last_line line ≡ refusal_line refusal → MatchOption line (IsErr r) (λ x. IsOkAnd r (λ e. outcome_of e ≡ silent Refused (last_line x)))
     → IfOk r (λ e. RefusesSource source (outcome_of e) ⊎ Q e)
 refusing source refusal (Some x) (Ok e) Q refused says is =
-    inl (record { report = x; refused = record { refusal = refusal; refused = refused; says = sym says }; is = is })
+    inl (record { line = last_line x; refused = record { refusal = refusal; refused = refused; says = sym says }; is = is })
 refusing source refusal None (Ok e) Q refused says is = absurd (cc)
-refusing source refusal report (Err error) Q refused says is = tt
+refusing source refusal line (Err error) Q refused says is = tt
 
 -- a fault of bytes that has a report says why they are no image
 no_image : (bytes : List ℕ) (fault : ImageFault) (report : Report) → IsFault bytes fault → image_report_of fault ≡ Some report → images.IsRefused bytes fault

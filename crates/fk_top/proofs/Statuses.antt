@@ -11,7 +11,7 @@ use Rattle.fk_compile.specs.Laws.{IsUnfaulted}
 use Rattle.fk_compile.proofs.Unfaulted.{never_faults}
 use Rattle.fk_words.specs.Arguments.{Text}
 use Rattle.fk_words.specs.Command.{Command, Run, Build, Exec, ListCode, Reads, ReadsRun}
-use Rattle.fk_compile.specs.Text.{Row}
+use Rattle.fk_globals.specs.Rows.{Row}
 use Rattle.fk_top.specs.declared.status.Status.{Status}
 use Rattle.fk_top.specs.declared.status.Status.TheVariants.{Done, Refused, SourceFault, CycleBound, Trap, ImageRefused, InputRefused}
 use Rattle.fk_top.specs.Words.{Runs, IsRun, IsExec}

@@ -8,7 +8,8 @@ use Rattle.fk_meaning.specs.declared.syntax.Program.{Program}
 use Rattle.fk_image.specs.declared.Image.{Image}
 use Rattle.fk_image.specs.Spelling.{IsImageOf}
 use Rattle.fk_machine.specs.Run.{machine}
-use Rattle.fk_compile.specs.Text.{IsStraight, Row}
+use Rattle.fk_globals.specs.Rows.{Row}
+use Rattle.fk_compile.specs.Text.{IsStraight, KeepsRules}
 use Rattle.fk_input.specs.Input.{input_of}
 use Rattle.fk_words.specs.Command.{Command, Run, Build, Exec, ListCode, Reads}
 use Rattle.fk_top.specs.declared.report.Report.TheVariants as reports
@@ -226,9 +227,10 @@ pub record IsInOrder (call : Call) (command : Command) (bytes text : List ℕ) :
   pub out_steady : ¬ Rose call.out.faults
   pub err_steady : ¬ Rose call.err.faults
 
--- the text of a straight-line program, of at most 1,048,576 bytes
+-- the text of a straight-line program, of at most 1,048,576 bytes, which keeps the rules of the language
 pub record IsText (source : List ℕ) : Type 0 where
   pub short : length source ≤ 1048576
+  pub kept : KeepsRules source
   pub program : Program
   pub straight : IsStraight source program
 

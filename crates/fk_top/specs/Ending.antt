@@ -1,14 +1,14 @@
 -- Endings of the code as outcomes.
 use Rattle.std.specs.Prelude.{ℕ, List, ◌++◌, Option, Some, None}
 use Rattle.std.specs.Option.{option_map}
-use Rattle.fk_compile.specs.Text.{Row}
+use Rattle.fk_globals.specs.Rows.{Row}
 use Rattle.fk_top.specs.declared.ending.Ending.{Ending}
 use Rattle.fk_top.specs.declared.ending.PutFile.{PutFile}
 use Rattle.fk_top.specs.declared.ending.Shown.{Shown}
 use Rattle.fk_top.specs.declared.ending.LastLine.{LastLine}
 use Rattle.fk_top.specs.declared.variable.Variable.{Variable}
-use Rattle.fk_top.specs.declared.ending.LastLine.TheVariants.{Reported, NoGlobal}
-use Rattle.fk_top.specs.Report.{line_of, no_global_line, show_line}
+use Rattle.fk_top.specs.declared.ending.LastLine.TheVariants.{Reported, FrameTooLarge, NoGlobal}
+use Rattle.fk_top.specs.Report.{line_of, frame_line, no_global_line, show_line}
 use Rattle.fk_top.specs.Outcome.{Put, Outcome}
 
 abbrev pub put_of : PutFile → Put
@@ -27,6 +27,7 @@ variable_of v = record { name = v.name.now; first = v.first; words = v.words; si
 
 abbrev pub last_line : LastLine → List ℕ
 last_line (Reported report) = line_of report
+last_line (FrameTooLarge name words) = frame_line name.items words
 last_line (NoGlobal name) = no_global_line name.now
 
 abbrev pub outcome_of : Ending → Outcome

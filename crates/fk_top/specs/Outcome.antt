@@ -12,7 +12,8 @@ use Rattle.fk_machine.specs.declared.stand.Stand.{Stand}
 use Rattle.fk_machine.specs.declared.stand.Stand.TheVariants.{Running, Finished, Faulted, Trapped}
 use Rattle.fk_machine.specs.Cycle.{Machine}
 use Rattle.fk_machine.specs.Run.{machine, output_of}
-use Rattle.fk_compile.specs.Text.{Row, HasGlobal}
+use Rattle.fk_globals.specs.Rows.{Row}
+use Rattle.fk_compile.specs.Text.{HasGlobal, KeepsRules}
 use Rattle.fk_compile.specs.Faithful.{IsFaithful}
 use Rattle.fk_top.specs.declared.kinds.FaultKind.TheVariants as fault
 use Rattle.fk_top.specs.declared.report.Report.{Report}
@@ -20,7 +21,7 @@ use Rattle.fk_top.specs.declared.report.Report.TheVariants as reports
 use Rattle.fk_top.specs.declared.status.Status.{Status}
 use Rattle.fk_top.specs.declared.status.Status.TheVariants.{Done, Refused, SourceFault, CycleBound, Trap, ImageRefused, InputRefused}
 use Rattle.fk_top.specs.Report.{fault_kind, trap_kind, line_of, no_global_line, show_line}
-use Rattle.fk_top.specs.Refused.{IsRefusedAs, IsNoImageAs, input_report_of}
+use Rattle.fk_top.specs.Refused.{IsRefusedBy, IsNoImageAs, input_report_of}
 
 -- a file that is put: its name and its bytes
 pub record Put : Type 0 where
@@ -110,9 +111,9 @@ listed image =
 
 -- the source is refused, and so is the call
 pub record RefusesSource (source : List ℕ) (outcome : Outcome) : Type 0 where
-  pub report : Report
-  pub refused : IsRefusedAs source report
-  pub is : outcome ≡ silent Refused (line_of report)
+  pub line : List ℕ
+  pub refused : IsRefusedBy source line
+  pub is : outcome ≡ silent Refused line
 
 -- the bytes are no image, and the call is refused
 pub record RefusesImage (bytes : List ℕ) (outcome : Outcome) : Type 0 where
@@ -120,9 +121,10 @@ pub record RefusesImage (bytes : List ℕ) (outcome : Outcome) : Type 0 where
   pub refused : IsNoImageAs bytes report
   pub is : outcome ≡ silent ImageRefused (line_of report)
 
--- the image is faithful to the source, which isn't too long
+-- the image is faithful to the source, which isn't too long and keeps the rules of the language
 pub record IsBuiltFrom (source : List ℕ) (image : Image) : Type 0 where
   pub short : length source ≤ 1048576
+  pub kept : KeepsRules source
   pub faithful : IsFaithful source image
 
 -- a name is asked for, but the source, which has an image, has no shared variable of that name

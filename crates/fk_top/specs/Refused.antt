@@ -10,21 +10,26 @@ use Rattle.fk_compile.specs.declared.refusal.Refusal.TheVariants as refusal
 use Rattle.fk_compile.specs.Refusal as sources
 use Rattle.fk_top.specs.declared.report.Report.{Report}
 use Rattle.fk_top.specs.declared.report.Report.TheVariants as reports
+use Rattle.fk_top.specs.Report.{line_of, frame_line}
 
--- the report of why a source is refused; want of memory refuses none, and has no report
-abbrev pub report_of : Refusal → Option Report
-report_of (refusal.BadByte place) = Some (reports.BadByte place)
-report_of (refusal.OpenComment place) = Some (reports.OpenComment place)
-report_of (refusal.OpenString place) = Some (reports.OpenString place)
-report_of (refusal.WideNumber place) = Some (reports.WideNumber place)
-report_of (refusal.Unexpected place) = Some (reports.Unexpected place)
-report_of refusal.EndOfText = Some reports.EndOfText
-report_of (refusal.Nesting place) = Some (reports.Nesting place)
-report_of (refusal.SourceTooLong bytes) = Some (reports.SourceTooLong bytes)
-report_of refusal.NotBuilt = Some reports.NotBuilt
-report_of (refusal.Memory e) = None
+-- the line that tells why a source is refused; want of memory refuses none, and has no line
+abbrev pub refusal_line : Refusal → Option (List ℕ)
+refusal_line (refusal.BadByte place) = Some (line_of (reports.BadByte place))
+refusal_line (refusal.OpenComment place) = Some (line_of (reports.OpenComment place))
+refusal_line (refusal.OpenString place) = Some (line_of (reports.OpenString place))
+refusal_line (refusal.WideNumber place) = Some (line_of (reports.WideNumber place))
+refusal_line (refusal.Unexpected place) = Some (line_of (reports.Unexpected place))
+refusal_line refusal.EndOfText = Some (line_of reports.EndOfText)
+refusal_line (refusal.Nesting place) = Some (line_of (reports.Nesting place))
+refusal_line (refusal.Rule place number) = Some (line_of (reports.Rule place number))
+refusal_line (refusal.TooManySites count) = Some (line_of (reports.TooManySites count))
+refusal_line (refusal.FrameTooLarge name words) = Some (frame_line name.items words)
+refusal_line (refusal.GlobalsTooLarge words) = Some (line_of (reports.GlobalsTooLarge words))
+refusal_line (refusal.SourceTooLong bytes) = Some (line_of (reports.SourceTooLong bytes))
+refusal_line refusal.NotBuilt = Some (line_of reports.NotBuilt)
+refusal_line (refusal.Memory e) = None
 
--- the same of bytes that are no image
+-- the report of why bytes are no image; want of memory has none
 abbrev pub image_report_of : ImageFault → Option Report
 image_report_of fault.Magic = Some reports.Magic
 image_report_of (fault.Version version) = Some (reports.Version version)
@@ -41,11 +46,11 @@ input_report_of (input.OutOfRange word) = Some (reports.OutOfRange word)
 input_report_of (input.TooMany word) = Some (reports.TooMany word)
 input_report_of input.Memory = None
 
--- the source is refused, and the report says why
-pub record IsRefusedAs (source : List ℕ) (report : Report) : Type 0 where
+-- the source is refused, and the line says why
+pub record IsRefusedBy (source : List ℕ) (line : List ℕ) : Type 0 where
   pub refusal : Refusal
   pub refused : sources.IsRefused source refusal
-  pub says : report_of refusal ≡ Some report
+  pub says : refusal_line refusal ≡ Some line
 
 -- the bytes are no image, and the report says why
 pub record IsNoImageAs (bytes : List ℕ) (report : Report) : Type 0 where

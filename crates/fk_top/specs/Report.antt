@@ -9,7 +9,7 @@ use Rattle.fk_top.specs.declared.kinds.FaultKind.TheVariants as fault
 use Rattle.fk_top.specs.declared.kinds.TrapKind.{TrapKind}
 use Rattle.fk_top.specs.declared.kinds.TrapKind.TheVariants as trap
 use Rattle.fk_top.specs.declared.report.Report.{Report}
-use Rattle.fk_top.specs.declared.report.Report.TheVariants.{Finished, Built, Listed, Fault, Stopped, Trap, BadByte, OpenComment, OpenString, WideNumber, Unexpected, EndOfText, Nesting, SourceTooLong, Magic, Version, Short, LongTail, BadTable, BadWord, NotANumber, OutOfRange, TooMany, NotBuilt, CommandLine, ReadFault}
+use Rattle.fk_top.specs.declared.report.Report.TheVariants.{Finished, Built, Listed, Fault, Stopped, Trap, BadByte, OpenComment, OpenString, WideNumber, Unexpected, EndOfText, Nesting, Rule, TooManySites, GlobalsTooLarge, SourceTooLong, Magic, Version, Short, LongTail, BadTable, BadWord, NotANumber, OutOfRange, TooMany, NotBuilt, CommandLine, ReadFault}
 
 -- the fault of an operation, by its kind; most kinds have none
 abbrev pub fault_kind : ℕ → FaultKind
@@ -68,6 +68,9 @@ text_of (WideNumber place) = codes "refused 4 WideNumber at " ++ place_text plac
 text_of (Unexpected place) = codes "refused 5 Unexpected at " ++ place_text place
 text_of EndOfText = codes "refused 6 EndOfText"
 text_of (Nesting place) = codes "refused 7 Nesting at " ++ place_text place
+text_of (Rule place number) = codes "refused 8 Rule " ++ decimal number ++ codes " at " ++ place_text place
+text_of (TooManySites count) = codes "refused 9 TooManySites " ++ decimal count
+text_of (GlobalsTooLarge words) = codes "refused 11 GlobalsTooLarge " ++ decimal words
 text_of (SourceTooLong bytes) = codes "refused 12 SourceTooLong " ++ decimal bytes
 text_of Magic = codes "refused 13 Magic"
 text_of (Version version) = codes "refused 14 Version " ++ decimal version
@@ -85,6 +88,10 @@ text_of ReadFault = codes "read fault"
 -- each ends with a newline
 abbrev pub line_of : Report → List ℕ
 line_of report = text_of report ++ 10 ∷ []
+
+-- the line where the private frame of a function has so many words, which are too many
+abbrev pub frame_line : List ℕ → ℕ → List ℕ
+frame_line name words = codes "refused 10 FrameTooLarge " ++ name ++ 32 ∷ decimal words ++ 10 ∷ []
 
 -- the line where the source has no shared variable of a name
 abbrev pub no_global_line : List ℕ → List ℕ

@@ -5,7 +5,7 @@ ghost use Rattle.std.specs.Io.KnownBytes.{append_known};
 ghost use Rattle.fk_ports.specs.Faults.{HasRisen};
 ghost use Rattle.fk_ports.specs.Known.{TakesPrefix};
 ghost use Rattle.fk_top.specs.Ending.{last_line, outcome_of, put_of, shown_line, with_line};
-ghost use Rattle.fk_top.specs.Report.{word_text, words_text};
+ghost use Rattle.fk_top.specs.Report.{frame_line, word_text, words_text};
 ghost use Rattle.fk_top.specs.Call.{Ends, FailedToPut, HasCause, HasPut, IsAnswer, Request, call_of, given_of, request_of, stored_of, sunk_of};
 
 use crate::ending::{Ending, LastLine, PutFile, Shown};
@@ -145,10 +145,31 @@ fn give_line<E: Sink>(err: &mut E, line: &LastLine) -> Result<(), Failed>
 {
     match line {
         LastLine::Reported(report) => give_all(err, report.line().as_slice()),
+        LastLine::FrameTooLarge(name, words) => give_frame(err, name.as_slice(), *words),
         LastLine::NoGlobal(name) => {
             give_pieces(err, &[b"refused 23 NoGlobal ", name.as_bytes(), b"\n"])
         }
     }
+}
+
+// Gives the line of a function whose private frame has so many words.
+fn give_frame<E: Sink>(err: &mut E, name: &[u8], words: u32) -> Result<(), Failed>
+    ensures all { OnOk result (E.taken err.new ≡ append_known (E.taken err.old) (frame_line name.now words)) }
+    ensures prefix { OnErr result (TakesPrefix (E.taken err.old) (E.taken err.new) (frame_line name.now words)) }
+    ensures fault { OnErr result (HasRisen (E.faults err.old) (E.faults err.new)) }
+    ensures steady { OnOk result (E.faults err.new ≡ E.faults err.old) }
+{
+    let number = unsigned_text(words);
+    give_pieces(
+        err,
+        &[
+            b"refused 10 FrameTooLarge ",
+            name,
+            b" ",
+            number.as_slice(),
+            b"\n",
+        ],
+    )
 }
 
 // Gives pieces, one after the other.

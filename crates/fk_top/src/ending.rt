@@ -1,7 +1,7 @@
 //! What a call comes to.
 
 ghost use Rattle.std.specs.Prelude.{◌≡◌, IsErr, IsOkAnd, MatchOption};
-ghost use Rattle.fk_top.specs.Ending.{outcome_of};
+ghost use Rattle.fk_top.specs.Ending.{last_line, outcome_of};
 ghost use Rattle.fk_top.specs.Outcome.{silent};
 ghost use Rattle.fk_top.specs.Report.{line_of, no_global_line};
 
@@ -27,10 +27,12 @@ pub struct Shown<'a> {
 }
 
 /// The last line that a call writes, to standard error.
-#[derive(Clone, Copy)]
+#[derive(Drop)]
 pub enum LastLine<'a> {
     /// That of a report.
     Reported(Report),
+    /// The private frame of the function of this name has so many words, which are too many.
+    FrameTooLarge(Vec<u8>, u32),
     /// The source has no shared variable of this name, which was to be shown.
     NoGlobal(&'a str),
 }
@@ -72,7 +74,26 @@ pub fn no_global<'a>(alloc: Global, name: &'a str) -> Ending<'a>
     }
 }
 
-/// The ending of a refusal, which has a report where it isn't want of memory.
+/// The ending where a source is refused, which has a last line where it isn't want of memory.
+pub fn refused_source<'a>(
+    alloc: Global,
+    line: Option<LastLine<'a>>,
+) -> Result<Ending<'a>, AllocError>
+    ensures { MatchOption line.entry (IsErr result) (λ l. IsOkAnd result (λ e. outcome_of e ≡ silent Status.Refused (last_line l))) }
+{
+    match line {
+        Some(line) => Ok(Ending {
+            status: Status::Refused,
+            put: None,
+            output: Vec::new(alloc),
+            shown: None,
+            line,
+        }),
+        None => Err(AllocError),
+    }
+}
+
+/// The ending of another refusal, which has a report where it isn't want of memory.
 pub fn refused<'a>(
     alloc: Global,
     status: Status,

@@ -15,8 +15,6 @@ mod run;
 mod source;
 mod stand;
 mod status;
-#[cfg(test)]
-mod tests;
 mod variable;
 
 pub use call::fork95;

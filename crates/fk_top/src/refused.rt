@@ -1,29 +1,37 @@
 //! How refusals are reported.
 
 ghost use Rattle.std.specs.Prelude.{◌≡◌};
-ghost use Rattle.fk_top.specs.Refused.{image_report_of, input_report_of, report_of};
+ghost use Rattle.std.specs.Option.{option_map};
+ghost use Rattle.fk_top.specs.Ending.{last_line};
+ghost use Rattle.fk_top.specs.Refused.{image_report_of, input_report_of, refusal_line};
 
+use crate::ending::LastLine;
 use crate::report::Report;
 use fk_compile::Refusal;
 use fk_image::ImageFault;
 use fk_input::InputFault;
 
-/// The report of why a source is refused. Want of memory refuses none, and has no report.
-pub fn report_of(refusal: Refusal) -> Option<Report>
-    ensures { result ≡ report_of refusal }
+/// The last line where a source is refused. Want of memory refuses none, and has no line.
+pub fn last_line_of<'a>(refusal: Refusal) -> Option<LastLine<'a>>
+    ensures { option_map last_line result ≡ refusal_line refusal }
 {
-    match refusal {
-        Refusal::BadByte(place) => Some(Report::BadByte(place)),
-        Refusal::OpenComment(place) => Some(Report::OpenComment(place)),
-        Refusal::OpenString(place) => Some(Report::OpenString(place)),
-        Refusal::WideNumber(place) => Some(Report::WideNumber(place)),
-        Refusal::Unexpected(place) => Some(Report::Unexpected(place)),
-        Refusal::EndOfText => Some(Report::EndOfText),
-        Refusal::Nesting(place) => Some(Report::Nesting(place)),
-        Refusal::SourceTooLong(bytes) => Some(Report::SourceTooLong(bytes)),
-        Refusal::NotBuilt => Some(Report::NotBuilt),
-        Refusal::Memory(_) => None,
-    }
+    let report = match refusal {
+        Refusal::BadByte(place) => Report::BadByte(place),
+        Refusal::OpenComment(place) => Report::OpenComment(place),
+        Refusal::OpenString(place) => Report::OpenString(place),
+        Refusal::WideNumber(place) => Report::WideNumber(place),
+        Refusal::Unexpected(place) => Report::Unexpected(place),
+        Refusal::EndOfText => Report::EndOfText,
+        Refusal::Nesting(place) => Report::Nesting(place),
+        Refusal::Rule(place, number) => Report::Rule(place, number),
+        Refusal::TooManySites(count) => Report::TooManySites(count),
+        Refusal::FrameTooLarge(name, words) => return Some(LastLine::FrameTooLarge(name, words)),
+        Refusal::GlobalsTooLarge(words) => Report::GlobalsTooLarge(words),
+        Refusal::SourceTooLong(bytes) => Report::SourceTooLong(bytes),
+        Refusal::NotBuilt => Report::NotBuilt,
+        Refusal::Memory(_) => return None,
+    };
+    Some(LastLine::Reported(report))
 }
 
 /// The report of why bytes are no image. Want of memory has none.

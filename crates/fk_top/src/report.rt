@@ -51,6 +51,12 @@ pub enum Report {
     EndOfText,
     /// A token that opens one level too many.
     Nesting(Place),
+    /// A rule of the language that the source breaks: its number, and where.
+    Rule(Place, u8),
+    /// The source has more than 16,000 operations: how many.
+    TooManySites(u64),
+    /// The shared variables of file scope have more than 524,288 words: how many.
+    GlobalsTooLarge(u64),
     /// The source has more than 1,048,576 bytes: how many were read.
     SourceTooLong(u64),
     /// The bytes of the image don't begin as those of one.
@@ -118,6 +124,9 @@ impl Report {
             Report::Unexpected(place) => placed(b"refused 5 Unexpected at ", place),
             Report::EndOfText => plain(b"refused 6 EndOfText"),
             Report::Nesting(place) => placed(b"refused 7 Nesting at ", place),
+            Report::Rule(place, number) => rule_text(place, number),
+            Report::TooManySites(count) => numbered(b"refused 9 TooManySites ", count),
+            Report::GlobalsTooLarge(words) => numbered(b"refused 11 GlobalsTooLarge ", words),
             Report::SourceTooLong(bytes) => numbered(b"refused 12 SourceTooLong ", bytes),
             Report::Magic => plain(b"refused 13 Magic"),
             Report::Version(version) => numbered(b"refused 14 Version ", u64::from(version)),
@@ -176,6 +185,17 @@ fn placed(before: &[u8], place: Place) -> Line
     ensures short { array_vec_len result ≤ 71 }
 {
     let mut line = plain(before);
+    append_place(&mut line, place);
+    line
+}
+
+// The text of a rule that a source breaks.
+fn rule_text(place: Place, number: u8) -> Line
+    ensures text { result.items ≡ text_of (reports.Rule place number) }
+    ensures short { array_vec_len result ≤ 95 }
+{
+    let mut line = numbered(b"refused 8 Rule ", u64::from(number));
+    append(&mut line, b" at ");
     append_place(&mut line, place);
     line
 }

@@ -4,8 +4,8 @@ ghost use Rattle.std.specs.Prelude.{◌⊎◌, option_map, IfOk};
 ghost use Rattle.fk_top.specs.Outcome.{IsBuiltFrom, LacksGlobal, PutsImage, RefusesSource, RunsSource};
 ghost use Rattle.fk_top.specs.Ending.{outcome_of};
 
-use crate::ending::{Ending, LastLine, PutFile, no_global, refused};
-use crate::refused::report_of;
+use crate::ending::{Ending, LastLine, PutFile, no_global, refused_source};
+use crate::refused::last_line_of;
 use crate::report::Report;
 use crate::run::run_ending;
 use crate::status::Status;
@@ -28,7 +28,7 @@ pub fn run_source<'a>(
 {
     match compile(alloc, source) {
         Ok(image) => run_and_show(alloc, source, &image, text, run, show),
-        Err(refusal) => refused(alloc, Status::Refused, report_of(refusal)),
+        Err(refusal) => refused_source(alloc, last_line_of(refusal)),
     }
 }
 
@@ -59,7 +59,7 @@ fn run_and_show<'a>(
             run_ending(alloc, image, text, run, Some(variable))
         }
         Ok(None) => Ok(no_global(alloc, name)),
-        Err(refusal) => refused(alloc, Status::Refused, report_of(refusal)),
+        Err(refusal) => refused_source(alloc, last_line_of(refusal)),
     }
 }
 
@@ -82,6 +82,6 @@ pub fn build_source<'a>(
                 line: LastLine::Reported(Report::Built(image.code.len() as u32)),
             })
         }
-        Err(refusal) => refused(alloc, Status::Refused, report_of(refusal)),
+        Err(refusal) => refused_source(alloc, last_line_of(refusal)),
     }
 }

@@ -11,6 +11,3 @@ mod reading;
 pub use command::{CommandWords, RunWords};
 pub use fault::WordsFault;
 pub use reading::read_words;
-
-#[cfg(test)]
-mod tests;

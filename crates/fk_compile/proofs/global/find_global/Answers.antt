@@ -1,12 +1,39 @@
-use Rattle.std.proofs.Common.{arith, rules}
+use Rattle.std.proofs.Common.{◌≡◌, ℕ, List, Option, map, ap, subst, ◌∙◌}
+use Rattle.std.specs.Option.{option_map}
 use Rattle.fk_syntax.specs.ProgramView.{program_of}
-use Rattle.fk_compile.proofs.Parts.{not_straight}
+use Rattle.fk_globals.specs.declared.rows.GlobalRow.{GlobalRow}
+use Rattle.fk_globals.specs.Constants.{told}
+use Rattle.fk_globals.specs.Rows.{Row, rows}
+use Rattle.fk_globals.specs.View.{row_of}
+use Rattle.fk_compile.specs.Text.{IsRowOf}
+use Rattle.fk_compile.proofs.Parts.{kept}
+use Rattle.fk_compile.proofs.Shared.{row_few}
 use Rattle.fk_compile.proofs.global.find_global.Goals as goal
 
-pub find_variable-requires : goal.find_variable-requires
-find_variable-requires c = omega (arith, c.in_ok-tree.ensures.few)
+-- the row that was found among those of a layout
+found : (all : List Row) (list laid : List GlobalRow) (name : List ℕ) (row : Option GlobalRow) → list ≡ laid → map row_of laid ≡ all
+    → IsRowOf (map row_of list) name (option_map row_of row) → IsRowOf all name (option_map row_of row)
+found all list laid name row same is h = subst (λ (rs : List Row). IsRowOf rs name (option_map row_of row)) (ap (map row_of) same ∙ is) h
 
-pub returns-in_err-number-clause-refused : goal.returns-in_err-number-clause-refused
-returns-in_err-number-clause-refused c =
-    let none = not_straight c.args.source.now (program_of c.in_ok-tree.tree) c.find_variable.result c.in_ok-tree.ensures.tree c.find_variable.ensures.refused in
-    search rules
+pub returns-clause-global : goal.returns-clause-global
+returns-clause-global c =
+    let tree = program_of c.in_ok-text.text.tree in
+    let facts = c.in_ok-text.text.facts in
+    let all = rows (told facts.notes.items facts.kinds.items) tree.items in
+    let laid = kept (λ v. map row_of v.items ≡ all) _ c.rows_of.result c.map_err.result c.in_ok-rows.rows c.rows_of.ensures.rows c.map_err.ensures.cases c.in_ok-rows.was in
+    record {
+      tree = tree;
+      facts = facts;
+      checked = c.in_ok-text.ensures.checked;
+      straight = (c.in_ok-_program._program, c.in_ok-_program.ensures.program);
+      is = found all c.deref.result.now c.in_ok-rows.rows.items c.args.name.now c.row_named.result c.deref.ensures.value laid c.row_named.ensures;
+    }
+
+pub returns-clause-few : goal.returns-clause-few
+returns-clause-few c =
+    let tree = program_of c.in_ok-text.text.tree in
+    let facts = c.in_ok-text.text.facts in
+    let tables = told facts.notes.items facts.kinds.items in
+    let laid = kept (λ v. map row_of v.items ≡ rows tables tree.items) _ c.rows_of.result c.map_err.result c.in_ok-rows.rows c.rows_of.ensures.rows c.map_err.ensures.cases c.in_ok-rows.was in
+    row_few tables tree.items c.args.name.now c.row_named.result c.rows_of.ensures.fits
+    (found (rows tables tree.items) c.deref.result.now c.in_ok-rows.rows.items c.args.name.now c.row_named.result c.deref.ensures.value laid c.row_named.ensures)

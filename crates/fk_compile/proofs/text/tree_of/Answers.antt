@@ -27,6 +27,16 @@ returns-clause-tree c =
     let derived = kept _ _ c.parse.result c.map_err-2.result c.in_ok-tree.tree c.parse.ensures.program c.map_err-2.ensures.cases c.in_ok-tree.was in
     parsed c.args.source.now c.in_ok-tokens.tokens.items c.as_slice.result.now (program_of c.in_ok-tree.tree) c.as_slice.ensures.value lexed derived
 
+pub returns-clause-well_formed : goal.returns-clause-well_formed
+returns-clause-well_formed c =
+    kept _ _ c.parse.result c.map_err-2.result c.in_ok-tree.tree c.parse.ensures.well_formed c.map_err-2.ensures.cases c.in_ok-tree.was
+
+pub returns-clause-small : goal.returns-clause-small
+returns-clause-small c =
+    let few = kept _ _ c.lex.result c.map_err.result c.in_ok-tokens.tokens c.lex.ensures.few c.map_err.ensures.cases c.in_ok-tokens.was in
+    let derived = kept _ _ c.parse.result c.map_err-2.result c.in_ok-tree.tree c.parse.ensures.program c.map_err-2.ensures.cases c.in_ok-tree.was in
+    omega (arith, derived.count, length-map c.as_slice.result.now spelled, c.as_slice.ensures.len, c.if-source-gt-MOST_BYTES.false)
+
 pub returns-clause-few : goal.returns-clause-few
 returns-clause-few c =
     let few = kept _ _ c.lex.result c.map_err.result c.in_ok-tokens.tokens c.lex.ensures.few c.map_err.ensures.cases c.in_ok-tokens.was in

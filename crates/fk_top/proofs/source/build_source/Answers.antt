@@ -6,7 +6,7 @@ pub returns-in_ok-bytes-in-Ok : goal.returns-in_ok-bytes-in-Ok
 returns-in_ok-bytes-in-Ok c =
     inr (record {
       image = c.in-Ok.image;
-      compiled = record { short = c.in-Ok.ensures.short; faithful = c.in-Ok.ensures.faithful };
+      compiled = record { short = c.in-Ok.ensures.short; kept = c.in-Ok.ensures.kept; faithful = c.in-Ok.ensures.faithful };
       bytes = c.in_ok-bytes-in-Ok.bytes.items;
       spelled = c.in_ok-bytes-in-Ok.ensures;
       is = let empty = c.new.ensures.items in let words = c.len.ensures in cc;
@@ -14,4 +14,4 @@ returns-in_ok-bytes-in-Ok c =
 
 pub returns-in-Err : goal.returns-in-Err
 returns-in-Err c =
-    refusing c.args.source.now c.in-Err.refusal c.report_of.result c.refused.result _ c.in-Err.ensures.refused c.report_of.ensures c.refused.ensures
+    refusing c.args.source.now c.in-Err.refusal c.last_line_of.result c.refused_source.result _ c.in-Err.ensures.refused c.last_line_of.ensures c.refused_source.ensures

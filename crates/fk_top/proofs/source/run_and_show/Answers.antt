@@ -3,9 +3,10 @@ use Rattle.std.specs.Prelude.{IfOk, option_map}
 use Rattle.std.specs.declared.alloc.AllocError.{AllocError}
 use Rattle.fk_image.specs.declared.Image.{Image}
 use Rattle.fk_words.specs.Arguments.{Text}
-use Rattle.fk_compile.specs.declared.global.GlobalRow.{GlobalRow}
-use Rattle.fk_compile.specs.Text.{Row, int_row, HasGlobal}
-use Rattle.fk_compile.specs.View.{row_of}
+use Rattle.fk_globals.specs.declared.rows.GlobalRow.{GlobalRow}
+use Rattle.fk_globals.specs.Rows.{Row}
+use Rattle.fk_globals.specs.View.{row_of}
+use Rattle.fk_compile.specs.Text.{HasGlobal}
 use Rattle.fk_top.specs.declared.ending.Ending.{Ending}
 use Rattle.fk_top.specs.Ending.{outcome_of}
 use Rattle.fk_top.specs.Outcome.{EndsOn, RefusesSource, LacksGlobal, RunsSource, IsShown, IsBuiltFrom}
@@ -21,14 +22,8 @@ runs (Err e) source text image p n show asked shown same compiled is ends = tt
 
 -- the row of a variable has its name
 called : (source name : List ℕ) (row : Row) → HasGlobal source name (Some row) → HasGlobal source name (Some (record { name = name; first = row.first; words = row.words; signed = row.signed }))
-called source name row has = by has.number has.is
-  where
-    by : (number : Option ℕ) → Some row ≡ option_map (int_row name) number → HasGlobal source name (Some (record { name = name; first = row.first; words = row.words; signed = row.signed }))
-    by None e = absurd cc
-    by (Some n) e =
-        let same : row ≡ int_row name n = cc in
-        subst (λ (r : Row). HasGlobal source name (Some (record { name = name; first = r.first; words = r.words; signed = r.signed }))) (sym same)
-        (subst (λ (r : Row). HasGlobal source name (Some r)) same has)
+called source name row has =
+    subst (λ (n : List ℕ). HasGlobal source name (Some (record { name = n; first = row.first; words = row.words; signed = row.signed }))) has.is.1 has
 
 pub returns-in_default : goal.returns-in_default
 returns-in_default c =
@@ -47,4 +42,4 @@ returns-in-Ok-Some c =
 
 pub returns-in-Err : goal.returns-in-Err
 returns-in-Err c =
-    refusing c.args.source.now c.in-Err.refusal c.report_of.result c.refused.result _ c.in-Err.ensures.refused c.report_of.ensures c.refused.ensures
+    refusing c.args.source.now c.in-Err.refusal c.last_line_of.result c.refused_source.result _ c.in-Err.ensures.refused c.last_line_of.ensures c.refused_source.ensures

@@ -1,0 +1,97 @@
+//! The straight-line program of a text, and why another text is refused.
+
+ghost use Rattle.std.specs.Prelude.{◌≡◌, ◌≤◌, ◌<◌, ℕ, List, All, IfErr, IfOk, IfSome, IsNone, OnOk, length, map, vec_len};
+ghost use Rattle.fk_syntax.specs.ProgramView.{item_of, program_of};
+ghost use Rattle.fk_straight.specs.Straight.{AreDeclared, Derives, IsNotStraight};
+ghost use Rattle.fk_compile.specs.Refusal.{IsOfFunction, IsRefused, TellsFault, TellsFrame};
+ghost use Rattle.fk_compile.specs.Text.{HasFunctionAt, IsChecked, IsFunctionAt};
+
+use crate::refusal::Refusal;
+use crate::text::Checked;
+use fk_layout::{Layout, LayoutFault, lay_out};
+use fk_meaning::syntax::Program;
+use fk_straight::{StraightFault, straight};
+use fk_syntax::{Item, Place};
+use std::alloc::{AllocError, Global};
+
+/// The straight-line program of a text that keeps all rules. A text of another program is refused:
+/// by what is too much of it for a layout, or else as one that isn't built.
+pub(crate) fn program_in(alloc: Global, text: &Checked) -> Result<Program, Refusal>
+    requires { vec_len text.now.tree.items ≤ 524288 }
+    ensures program { IfOk result (Derives (program_of text.now.tree)) }
+    ensures declared { IfOk result (λ p. All (AreDeclared p.variables) p.body.items) }
+    ensures few { IfOk result (λ p. p.variables < vec_len text.now.tree.items) }
+    ensures refused { IfErr result (λ refusal. (source : List ℕ) → length source ≤ 1048576
+        → IsChecked source (program_of text.now.tree) text.now.facts → IsRefused source refusal) }
+{
+    match straight(alloc, &text.tree) {
+        Ok(program) => Ok(program),
+        Err(StraightFault::NotStraight) => Err(refusal_of(alloc, text)),
+        Err(StraightFault::Memory(error)) => Err(Refusal::Memory(error)),
+    }
+}
+
+// The refusal of a text of no straight-line program.
+fn refusal_of(alloc: Global, text: &Checked) -> Refusal
+    requires { IsNotStraight (program_of text.now.tree) }
+    ensures { (source : List ℕ) → length source ≤ 1048576
+        → IsChecked source (program_of text.now.tree) text.now.facts → IsRefused source result }
+{
+    let layout = lay_out(alloc, &text.tree, &text.facts);
+    refusal_by(alloc, &text.tree.items, layout)
+}
+
+// The refusal of these items by their layout, or by why they have none.
+fn refusal_by(alloc: Global, items: &[Item], layout: Result<Layout, LayoutFault>) -> Refusal
+    requires { IfErr layout (IsOfFunction (map item_of items.now)) }
+    ensures built { OnOk layout.entry (result ≡ Refusal.NotBuilt) }
+    ensures told { IfErr layout.entry (λ fault. TellsFault (map item_of items.now) fault result) }
+{
+    match layout {
+        Ok(_layout) => Refusal::NotBuilt,
+        Err(LayoutFault::TooManySites(count)) => Refusal::TooManySites(count),
+        Err(LayoutFault::FrameTooLarge(place, words)) => {
+            frame_too_large(alloc, items, place, words)
+        }
+        Err(LayoutFault::GlobalsTooLarge(words)) => Refusal::GlobalsTooLarge(words),
+        Err(LayoutFault::Memory) => Refusal::Memory(AllocError),
+    }
+}
+
+// The refusal by the private frame of the function at a place, which has so many words.
+fn frame_too_large(alloc: Global, items: &[Item], place: Place, words: u32) -> Refusal
+    requires { (name : List ℕ) × HasFunctionAt (map item_of items.now) place name }
+    ensures { TellsFrame (map item_of items.now) place words result }
+{
+    let Some(name) = name_at(items, place) else {
+        unreachable!();
+    };
+    match name.to_vec(alloc) {
+        Ok(name) => Refusal::FrameTooLarge(name, words),
+        Err(error) => Refusal::Memory(error),
+    }
+}
+
+// The name of the function at a place.
+fn name_at<'a>(items: &[Item<'a>], place: Place) -> Option<&'a [u8]>
+    ensures some { IfSome result (λ name. HasFunctionAt (map item_of items.now) place name.now) }
+    ensures none { IsNone result → (name : List ℕ) → ¬ HasFunctionAt (map item_of items.now) place name }
+{
+    for item in items {
+        if let Some(name) = name_of(item, place) {
+            return Some(name);
+        }
+    }
+    None
+}
+
+// The name of an item that is a function at a place.
+fn name_of<'a>(item: &Item<'a>, place: Place) -> Option<&'a [u8]>
+    ensures some { IfSome result (λ name. IsFunctionAt place name.now (item_of item.now)) }
+    ensures none { IsNone result → (name : List ℕ) → ¬ IsFunctionAt place name (item_of item.now) }
+{
+    match item {
+        Item::Function(function) if function.name.place == place => Some(function.name.bytes),
+        _ => None,
+    }
+}
