@@ -8,7 +8,7 @@ use crate::jump::{distance, reaches, with_distance};
 use fk_isa::{Instruction, encode};
 
 /// A line of code: an instruction and, for a jump to a label, the label.
-#[derive(Clone, Copy, Debug)]
+#[derive(Clone, Copy)]
 pub struct Line {
     pub instruction: Instruction,
     pub label: Option<u32>,

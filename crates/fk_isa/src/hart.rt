@@ -6,7 +6,7 @@ use crate::effect::{Effect, MISALIGNED};
 use fk_num::{Op, apply};
 
 /// A hart: its registers, the address of its next instruction, and whether it has ended.
-#[derive(Clone, Copy, PartialEq, Eq, Debug)]
+#[derive(Clone, Copy, PartialEq, Eq)]
 pub struct Hart {
     pub registers: [u32; 32],
     pub pc: u32,
@@ -94,6 +94,19 @@ impl Hart {
     {
         let value = apply(op, self.word(rs1), right);
         self.write(rd, value)
+    }
+
+    // Gives a register what an operator gives of two others.
+    #[inline(always)]
+    pub fn operate_two(&mut self, op: Op, rd: u8, rs1: u8, rs2: u8) -> Effect
+        requires rd { rd < 32 }
+        requires rs1 { rs1 < 32 }
+        requires rs2 { rs2 < 32 }
+        ensures effect { result ≡ Next }
+        ensures hart { hart_of self.new ≡ written (hart_of self.old) rd
+            (applied op (slice_index self.old.registers rs1) (slice_index self.old.registers rs2)) }
+    {
+        self.operate(op, rd, rs1, self.word(rs2))
     }
 
     // Jumps, and gives a register the address of the next instruction.

@@ -3,7 +3,7 @@
 /// An instruction of RV32IMA, one variant for each row of its table (RISC-V Unprivileged ISA,
 /// "RV32I Base Integer Instruction Set", "M" Extension, "A" Extension).
 /// Registers are 0 to 31. Immediates are words, already sign-extended.
-#[derive(Clone, Copy, Debug)]
+#[derive(Clone, Copy)]
 pub enum Instruction {
     /// rd, the upper 20 bits
     Lui(u8, u32),
