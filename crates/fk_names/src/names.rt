@@ -19,7 +19,7 @@ use fk_syntax::Program;
 use std::alloc::{AllocError, Global};
 
 /// What a name means.
-#[derive(Clone, Copy, PartialEq, Eq, Debug)]
+#[derive(Clone, Copy, PartialEq, Eq)]
 pub enum Meaning {
     /// The declaration of this number: its index in `Names::declarations`.
     Declared(u32),

@@ -7,7 +7,7 @@ ghost use Rattle.fk_syntax.specs.View.{tree_of, link_of, suffix_of, named};
 ghost use Rattle.fk_syntax.specs.Program.{statements_of};
 ghost use Rattle.fk_syntax.specs.ProgramView.{declared_of, statement_of, function_of, item_of, program_of};
 ghost use Rattle.fk_names.specs.Outline as o;
-ghost use Rattle.fk_names.specs.Outline.{tree_marks, links_marks, trees_marks, suffixes_marks, optional_marks, variable_marks, variables_marks, scope, statement_marks, statements_marks, function_marks, item_marks, items_marks, name_of};
+ghost use Rattle.fk_names.specs.Outline.{tree_marks, links_marks, trees_marks, suffixes_marks, optional_marks, variable_marks, variables_marks, body_marks, scope, statement_marks, statements_marks, function_marks, item_marks, items_marks, name_of};
 ghost use Rattle.fk_names.specs.View.{mark_of, declaration_of};
 ghost use Rattle.fk_names.specs.OutlineView.{marks_in};
 ghost use Rattle.fk_names.specs.Visible.{is_opening, is_closing};
@@ -262,29 +262,87 @@ impl<'p, 'a> Outline<'p, 'a> {
                     None => Ok(()),
                 }
             }
-            Stmt::While(_, condition, body) => {
-                self.add_expression(condition)?;
-                self.add_body(body)
-            }
-            Stmt::DoWhile(_, body, condition) => {
-                self.add_body(body)?;
-                self.add_expression(condition)
-            }
+            Stmt::While(_, condition, body) => self.add_while(body, condition),
+            Stmt::DoWhile(_, body, condition) => self.add_do_while(body, condition),
             Stmt::For(_, before, condition, after, body) => {
-                self.add_head(before, condition, after)?;
-                self.add_body(body)
+                self.add_for(before, condition, after, body)
             }
-            Stmt::Start(_, count, body) => {
-                self.add_optional(count)?;
-                self.add_body(body)
-            }
+            Stmt::Start(_, count, body) => self.add_start(count, body),
             Stmt::Farm(_, body) | Stmt::Seq(_, body) => self.add_body(body),
-            Stmt::Fork(_, parts, part, rank, body) => {
-                self.add_parts(parts, part, rank)?;
-                self.add_body(body)
-            }
+            Stmt::Fork(_, parts, part, rank, body) => self.add_fork(body, parts, part, rank),
             Stmt::Return(_, value) => self.add_optional(value),
         }
+    }
+
+    // A body behind its condition.
+    #[cycle(statement)]
+    fn add_while(&mut self, body: &'p Stmt<'a>, condition: &Expr<'a>) -> Result<(), AllocError>
+        ensures { OnOk result (marks_in self.new ≡ marks_in self.old
+            ++ (tree_marks (tree_of condition.now)
+            ++ scope (statement_marks (statement_of body.now)))) }
+    {
+        self.add_expression(condition)?;
+        self.add_body(body)
+    }
+
+    // A body before its condition.
+    #[cycle(statement)]
+    fn add_do_while(&mut self, body: &'p Stmt<'a>, condition: &Expr<'a>) -> Result<(), AllocError>
+        ensures { OnOk result (marks_in self.new ≡ marks_in self.old
+            ++ (scope (statement_marks (statement_of body.now))
+            ++ tree_marks (tree_of condition.now))) }
+    {
+        self.add_body(body)?;
+        self.add_expression(condition)
+    }
+
+    // The body of a `for` behind its three expressions.
+    #[cycle(statement)]
+    fn add_for(
+        &mut self,
+        before: &Option<Expr<'a>>,
+        condition: &Option<Expr<'a>>,
+        after: &Option<Expr<'a>>,
+        body: &'p Stmt<'a>,
+    ) -> Result<(), AllocError>
+        ensures { OnOk result (marks_in self.new ≡ marks_in self.old
+            ++ (optional_marks (option_map tree_of before.now)
+            ++ optional_marks (option_map tree_of condition.now)
+            ++ optional_marks (option_map tree_of after.now)
+            ++ scope (statement_marks (statement_of body.now)))) }
+    {
+        self.add_head(before, condition, after)?;
+        self.add_body(body)
+    }
+
+    // The body of a `start` behind its count.
+    #[cycle(statement)]
+    fn add_start(&mut self, count: &Option<Expr<'a>>, body: &'p Stmt<'a>) -> Result<(), AllocError>
+        ensures { OnOk result (marks_in self.new ≡ marks_in self.old
+            ++ (optional_marks (option_map tree_of count.now)
+            ++ scope (statement_marks (statement_of body.now)))) }
+    {
+        self.add_optional(count)?;
+        self.add_body(body)
+    }
+
+    // The body of a `fork` behind its three expressions.
+    #[cycle(statement)]
+    fn add_fork(
+        &mut self,
+        body: &'p Stmt<'a>,
+        parts: &Expr<'a>,
+        part: &Expr<'a>,
+        rank: &Option<Expr<'a>>,
+    ) -> Result<(), AllocError>
+        ensures { OnOk result (marks_in self.new ≡ marks_in self.old
+            ++ (tree_marks (tree_of parts.now)
+            ++ tree_marks (tree_of part.now)
+            ++ optional_marks (option_map tree_of rank.now)
+            ++ scope (statement_marks (statement_of body.now)))) }
+    {
+        self.add_parts(parts, part, rank)?;
+        self.add_body(body)
     }
 
     // A statement that is the body of another.
@@ -324,12 +382,31 @@ impl<'p, 'a> Outline<'p, 'a> {
             ≡ marks_in self.old ++ function_marks (function_of function.now)) }
     {
         self.add(Mark::Declares(Declaration::Function(function)))?;
+        self.add_scope(function)
+    }
+
+    // The scope of a function.
+    fn add_scope(&mut self, function: &'p Function<'a>) -> Result<(), AllocError>
+        ensures { OnOk result (marks_in self.new ≡ marks_in self.old
+            ++ scope (variables_marks (function_of function.now).parameters
+            ++ body_marks (function_of function.now).body)) }
+    {
         self.add(Mark::Opens)?;
-        self.add_variables(&function.params)?;
-        if let Some(body) = &function.body {
-            self.add_statements(body)?;
-        }
+        self.add_inside(function)?;
         self.add(Mark::Closes)
+    }
+
+    // The parameters of a function, and its body where it has one.
+    fn add_inside(&mut self, function: &'p Function<'a>) -> Result<(), AllocError>
+        ensures { OnOk result (marks_in self.new ≡ marks_in self.old
+            ++ (variables_marks (function_of function.now).parameters
+            ++ body_marks (function_of function.now).body)) }
+    {
+        self.add_variables(&function.params)?;
+        match &function.body {
+            Some(body) => self.add_statements(body),
+            None => Ok(()),
+        }
     }
 
     fn add_item(&mut self, item: &'p Item<'a>) -> Result<(), AllocError>

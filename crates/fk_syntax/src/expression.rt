@@ -10,7 +10,7 @@ use crate::sign::Sign;
 use std::alloc::{AllocError, Global};
 
 /// The first words of a type.
-#[derive(Clone, Copy, Debug)]
+#[derive(Clone, Copy)]
 pub enum Base<'a> {
     /// `int`
     Int,
@@ -23,7 +23,7 @@ pub enum Base<'a> {
 }
 
 /// A type, as it is written: its first words, and how many `*` follow.
-#[derive(Clone, Copy, Debug)]
+#[derive(Clone, Copy)]
 pub struct TypeName<'a> {
     pub base: Base<'a>,
     pub stars: u32,
@@ -87,6 +87,13 @@ pub enum Suffix<'a> {
     Down(Spot),
 }
 
+// An expression in memory of its own. Fails only for want of memory.
+fn boxed<'a>(alloc: Global, expression: Expr<'a>) -> Result<Box<Expr<'a>>, AllocError>
+    ensures { IfOk result (λ b. b.value ≡ expression.entry) }
+{
+    Ok(Box::new(alloc, expression)?)
+}
+
 impl<'a> Expr<'a> {
     /// A sign before its operand. Fails only for want of memory.
     pub fn prefix(
@@ -97,7 +104,7 @@ impl<'a> Expr<'a> {
     ) -> Result<Expr<'a>, AllocError>
         ensures { IfOk result (λ e. tree_of e ≡ t.Prefix spot sign (tree_of operand.entry)) }
     {
-        Ok(Expr::Prefix(spot, sign, Box::new(alloc, operand)?))
+        Ok(Expr::Prefix(spot, sign, boxed(alloc, operand)?))
     }
 
     /// A cast of its operand to a type. Fails only for want of memory.
@@ -110,7 +117,7 @@ impl<'a> Expr<'a> {
         ensures { IfOk result
             (λ e. tree_of e ≡ t.Cast spot (type_of kind.entry) (tree_of operand.entry)) }
     {
-        Ok(Expr::Cast(spot, kind, Box::new(alloc, operand)?))
+        Ok(Expr::Cast(spot, kind, boxed(alloc, operand)?))
     }
 
     /// One level of operators that group to the left: the first operand, and a link for each
@@ -123,7 +130,7 @@ impl<'a> Expr<'a> {
         ensures { IfOk result (λ e. tree_of e
             ≡ t.Chain (tree_of first.entry) (links_of (map link_of links.entry.items))) }
     {
-        Ok(Expr::Chain(Box::new(alloc, first)?, links))
+        Ok(Expr::Chain(boxed(alloc, first)?, links))
     }
 
     /// An expression, and what stands after it. Fails only for want of memory.
@@ -135,7 +142,7 @@ impl<'a> Expr<'a> {
         ensures { IfOk result (λ e. tree_of e
             ≡ t.Postfix (tree_of whole.entry) (suffixes_of (map suffix_of suffixes.entry.items))) }
     {
-        Ok(Expr::Postfix(Box::new(alloc, whole)?, suffixes))
+        Ok(Expr::Postfix(boxed(alloc, whole)?, suffixes))
     }
 
     /// An assignment. Fails only for want of memory.
@@ -149,8 +156,8 @@ impl<'a> Expr<'a> {
         ensures { IfOk result
             (λ e. tree_of e ≡ t.Assign spot sign (tree_of target.entry) (tree_of value.entry)) }
     {
-        let target = Box::new(alloc, target)?;
-        Ok(Expr::Assign(spot, sign, target, Box::new(alloc, value)?))
+        let target = boxed(alloc, target)?;
+        Ok(Expr::Assign(spot, sign, target, boxed(alloc, value)?))
     }
 
     /// `condition ? first : second`. Fails only for want of memory.
@@ -164,9 +171,9 @@ impl<'a> Expr<'a> {
         ensures { IfOk result (λ e. tree_of e
             ≡ t.Choose spot (tree_of condition.entry) (tree_of first.entry) (tree_of second.entry)) }
     {
-        let condition = Box::new(alloc, condition)?;
-        let first = Box::new(alloc, first)?;
-        Ok(Expr::Choose(spot, condition, first, Box::new(alloc, second)?))
+        let condition = boxed(alloc, condition)?;
+        let first = boxed(alloc, first)?;
+        Ok(Expr::Choose(spot, condition, first, boxed(alloc, second)?))
     }
 }
 

@@ -5,7 +5,7 @@ use crate::place::Place;
 
 /// What is known of the token of one index. Fields that say nothing of the token, as those of a
 /// `;`, may have any value.
-#[derive(Clone, Copy, PartialEq, Eq, Debug)]
+#[derive(Clone, Copy, PartialEq, Eq)]
 pub struct Note {
     /// The index in `Facts::kinds` of the type of the expression that the token is the sign, name
     /// or number of.
@@ -26,7 +26,7 @@ pub struct Note {
 }
 
 /// A type, as far as code is made by it. A word has four bytes.
-#[derive(Clone, Copy, PartialEq, Eq, Debug)]
+#[derive(Clone, Copy, PartialEq, Eq)]
 pub struct Kind {
     /// The words that a value of the type takes.
     pub words: u32,

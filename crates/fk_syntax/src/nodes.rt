@@ -4,7 +4,7 @@ ghost use Rattle.std.specs.Prelude.{◌≡◌};
 ghost use Rattle.fk_syntax.specs.WellFormed.{token};
 
 /// An index of a token that a program holds.
-#[derive(Clone, Copy, Debug)]
+#[derive(Clone, Copy)]
 pub enum Index {
     /// That of a node.
     Node(u32),

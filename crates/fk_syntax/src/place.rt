@@ -9,7 +9,7 @@ pub struct Place {
 }
 
 /// A token of a text: its index among all tokens, from 0, and its place.
-#[derive(Clone, Copy, PartialEq, Eq, Debug)]
+#[derive(Clone, Copy, PartialEq, Eq)]
 pub struct Spot {
     pub at: u32,
     pub place: Place,
@@ -17,7 +17,7 @@ pub struct Spot {
 
 /// A name, which borrows the text: its bytes, the index of its token among all tokens, from 0, and
 /// its place.
-#[derive(Clone, Copy, Debug)]
+#[derive(Clone, Copy)]
 pub struct Name<'a> {
     pub bytes: &'a [u8],
     pub at: u32,

@@ -9,7 +9,7 @@ use crate::expression::{Expr, TypeName};
 use crate::place::{Name, Place, Spot};
 
 /// How the processors that call a function run it.
-#[derive(Clone, Copy, PartialEq, Eq, Debug)]
+#[derive(Clone, Copy, PartialEq, Eq)]
 pub enum Mode {
     /// `sync`: in lockstep.
     Sync,

@@ -1,7 +1,7 @@
 //! Signs.
 
 /// The sign of an operator. Its place in the tree says what it does, where it has several meanings.
-#[derive(Clone, Copy, PartialEq, Eq, Debug)]
+#[derive(Clone, Copy, PartialEq, Eq)]
 pub enum Sign {
     /// `+`
     Plus,
