@@ -23,7 +23,7 @@ pub const LOCAL_START: u32 = 0x2000_0000;
 pub const LOCAL_WORDS: u32 = 32768;
 
 /// A device: one word of the map that is no memory.
-#[derive(Clone, Copy, PartialEq, Eq, Debug)]
+#[derive(Clone, Copy)]
 pub enum Device {
     /// A store prints the word as a signed decimal and a newline.
     OutInt,
@@ -44,7 +44,7 @@ pub enum Device {
 }
 
 /// What an address lies in. A word of a memory goes by its index.
-#[derive(Clone, Copy, PartialEq, Eq, Debug)]
+#[derive(Clone, Copy)]
 pub enum Place {
     SharedWord(u32),
     ControlWord(u32),

@@ -6,7 +6,7 @@ ghost use Rattle.fk_signs.specs.Values.{value_under, value_held, value_stored, v
 use fk_structs::{DataType, Root};
 
 /// What a pointer points to: a root with stars, as `int *` for an `int **`.
-#[derive(Clone, Copy, PartialEq, Eq, Debug)]
+#[derive(Clone, Copy, PartialEq, Eq)]
 pub struct Target {
     pub root: Root,
     /// How many pointers lead from it to the root.
@@ -14,7 +14,7 @@ pub struct Target {
 }
 
 /// The type of a value.
-#[derive(Clone, Copy, PartialEq, Eq, Debug)]
+#[derive(Clone, Copy, PartialEq, Eq)]
 pub enum Value {
     Int,
     Unsigned,
@@ -23,7 +23,7 @@ pub enum Value {
 }
 
 /// A value that a sign works on.
-#[derive(Clone, Copy, PartialEq, Eq, Debug)]
+#[derive(Clone, Copy, PartialEq, Eq)]
 pub struct Operand {
     pub value: Value,
     /// Whether it is the number 0, written as one token: that converts to every pointer.
@@ -31,7 +31,7 @@ pub struct Operand {
 }
 
 /// The type of an expression.
-#[derive(Clone, Copy, PartialEq, Eq, Debug)]
+#[derive(Clone, Copy, PartialEq, Eq)]
 pub enum ExpressionType {
     /// What is stored in memory: a variable, a member, an element, or what a pointer points to.
     Stored(DataType),

@@ -1,7 +1,7 @@
 //! Types.
 
 /// What is left of a type without its pointers and its length.
-#[derive(Clone, Copy, PartialEq, Eq, Debug)]
+#[derive(Clone, Copy, PartialEq, Eq)]
 pub enum Root {
     Int,
     Unsigned,
@@ -12,7 +12,7 @@ pub enum Root {
 
 /// A type: an integer, `void`, a struct, a pointer or an array. `struct S **v[3]` has the struct as
 /// its root, two stars and the length 3.
-#[derive(Clone, Copy, PartialEq, Eq, Debug)]
+#[derive(Clone, Copy, PartialEq, Eq)]
 pub struct DataType {
     pub root: Root,
     /// How many pointers lead to the root.
