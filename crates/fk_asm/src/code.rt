@@ -4,7 +4,7 @@ use std::alloc::AllocError;
 use thiserror::Error;
 
 /// The words of the code, from address 0 on, and its commit table.
-#[derive(Debug, Drop)]
+#[derive(Drop)]
 pub struct Code {
     pub words: Vec<u32>,
     /// The address of each word that commits, and its count + 256 * its event. Addresses rise.
