@@ -14,7 +14,7 @@ use fk_syntax::{Function, Item, Kind, Note};
 pub(crate) const PREDECLARED: u32 = u32::MAX;
 
 /// The group frames of a token, where its parts have them.
-#[derive(Clone, Copy, PartialEq, Eq, Debug)]
+#[derive(Clone, Copy)]
 pub struct Framed {
     pub first: Option<Region>,
     /// That of the part of an `else`.

@@ -10,7 +10,7 @@ use fk_operation::Operation;
 use fk_syntax::Place;
 
 /// What is known of a place in code, as far as a visitor counts it.
-#[derive(Clone, Copy, PartialEq, Eq, Debug)]
+#[derive(Clone, Copy)]
 pub struct Mark {
     /// How many values the running call has.
     pub values: u64,
@@ -24,7 +24,7 @@ pub struct Mark {
 
 /// A choice behind its first way: what was known before it, where its ways begin, and behind the
 /// first one.
-#[derive(Clone, Copy, PartialEq, Eq, Debug)]
+#[derive(Clone, Copy)]
 pub struct Ways {
     pub before: Mark,
     pub inside: Mark,
@@ -33,7 +33,7 @@ pub struct Ways {
 
 /// What a walk comes to. An operation has the numbers that the code has; one that has no room in a
 /// word is 2^32 - 1.
-#[derive(Clone, Copy, PartialEq, Eq, Debug)]
+#[derive(Clone, Copy)]
 pub enum Event {
     /// An operation, with its place. Most have none, which is 0:0.
     Perform(Operation, Place),
