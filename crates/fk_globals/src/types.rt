@@ -7,7 +7,7 @@ ghost use Rattle.fk_globals.specs.View.{tables_of};
 use fk_syntax::{Kind, Note};
 
 /// The facts of a program.
-#[derive(Clone, Copy, Debug)]
+#[derive(Clone, Copy)]
 pub struct Types<'n, 'k> {
     /// A note for each token.
     pub notes: &'n [Note],
