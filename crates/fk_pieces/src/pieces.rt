@@ -30,7 +30,7 @@ impl<'p, 'a> Pieces<'p, 'a> {
         let mut kept = Pieces {
             list: Vec::new(alloc),
         };
-        kept.add_items(items)?;
+        Self::add_items(items, &mut kept)?;
         Ok(kept)
     }
 
@@ -41,185 +41,190 @@ impl<'p, 'a> Pieces<'p, 'a> {
         &self.list
     }
 
-    fn add(&mut self, piece: Piece<'p, 'a>) -> Result<(), AllocError>
-        ensures { OnOk result (pieces_in self.new
-            ≡ pieces_in self.old ++ piece_of piece.entry ∷ []) }
+    // What is read stands before what it is added to: such calls have shorter proofs than methods.
+    fn add(piece: Piece<'p, 'a>, kept: &mut Self) -> Result<(), AllocError>
+        ensures { OnOk result (pieces_in kept.new
+            ≡ pieces_in kept.old ++ piece_of piece.entry ∷ []) }
     {
-        self.list.push(piece)?;
+        kept.list.push(piece)?;
         Ok(())
     }
 
-    fn add_used(&mut self, role: Role, value: &'p Expr<'a>) -> Result<(), AllocError>
-        ensures { OnOk result (pieces_in self.new
-            ≡ pieces_in self.old ++ t.Used role (tree_of value.now) ∷ []) }
+    fn add_used(value: &'p Expr<'a>, role: Role, kept: &mut Self) -> Result<(), AllocError>
+        ensures { OnOk result (pieces_in kept.new
+            ≡ pieces_in kept.old ++ t.Used role (tree_of value.now) ∷ []) }
     {
-        self.add(Piece::Used(role, value))
+        Self::add(Piece::Used(role, value), kept)
     }
 
-    fn add_optional(&mut self, role: Role, value: &'p Option<Expr<'a>>) -> Result<(), AllocError>
-        ensures { OnOk result (pieces_in self.new
-            ≡ pieces_in self.old ++ optional_pieces role (option_map tree_of value.now)) }
+    fn add_optional(
+        value: &'p Option<Expr<'a>>,
+        role: Role,
+        kept: &mut Self,
+    ) -> Result<(), AllocError>
+        ensures { OnOk result (pieces_in kept.new
+            ≡ pieces_in kept.old ++ optional_pieces role (option_map tree_of value.now)) }
     {
         match value {
-            Some(value) => self.add_used(role, value),
+            Some(value) => Self::add_used(value, role, kept),
             None => Ok(()),
         }
     }
 
-    fn add_variables(&mut self, variables: &'p [Declared<'a>]) -> Result<(), AllocError>
-        ensures { OnOk result (pieces_in self.new
-            ≡ pieces_in self.old ++ variables_pieces (map declared_of variables.now)) }
+    fn add_variables(variables: &'p [Declared<'a>], kept: &mut Self) -> Result<(), AllocError>
+        ensures { OnOk result (pieces_in kept.new
+            ≡ pieces_in kept.old ++ variables_pieces (map declared_of variables.now)) }
     {
         for variable in variables {
-            self.add(Piece::Variable(variable))?;
+            Self::add(Piece::Variable(variable), kept)?;
         }
         Ok(())
     }
 
-    fn add_of_file(&mut self, variables: &'p [Declared<'a>]) -> Result<(), AllocError>
-        ensures { OnOk result (pieces_in self.new
-            ≡ pieces_in self.old ++ file_pieces (map declared_of variables.now)) }
+    fn add_of_file(variables: &'p [Declared<'a>], kept: &mut Self) -> Result<(), AllocError>
+        ensures { OnOk result (pieces_in kept.new
+            ≡ pieces_in kept.old ++ file_pieces (map declared_of variables.now)) }
     {
         for variable in variables {
-            self.add(Piece::FileVariable(variable))?;
+            Self::add(Piece::FileVariable(variable), kept)?;
         }
         Ok(())
     }
 
-    fn add_parameters(&mut self, parameters: &'p [Declared<'a>]) -> Result<(), AllocError>
-        ensures { OnOk result (pieces_in self.new
-            ≡ pieces_in self.old ++ parameters_pieces (map declared_of parameters.now)) }
+    fn add_parameters(parameters: &'p [Declared<'a>], kept: &mut Self) -> Result<(), AllocError>
+        ensures { OnOk result (pieces_in kept.new
+            ≡ pieces_in kept.old ++ parameters_pieces (map declared_of parameters.now)) }
     {
         for parameter in parameters {
-            self.add(Piece::Parameter(parameter))?;
+            Self::add(Piece::Parameter(parameter), kept)?;
         }
         Ok(())
     }
 
     // The three expressions of a `for`.
     fn add_head(
-        &mut self,
         before: &'p Option<Expr<'a>>,
         condition: &'p Option<Expr<'a>>,
         after: &'p Option<Expr<'a>>,
+        kept: &mut Self,
     ) -> Result<(), AllocError>
-        ensures { OnOk result (pieces_in self.new ≡ pieces_in self.old
+        ensures { OnOk result (pieces_in kept.new ≡ pieces_in kept.old
             ++ (optional_pieces r.Alone (option_map tree_of before.now)
             ++ optional_pieces r.Condition (option_map tree_of condition.now)
             ++ optional_pieces r.Alone (option_map tree_of after.now))) }
     {
-        self.add_optional(Role::Alone, before)?;
-        self.add_optional(Role::Condition, condition)?;
-        self.add_optional(Role::Alone, after)
+        Self::add_optional(before, Role::Alone, kept)?;
+        Self::add_optional(condition, Role::Condition, kept)?;
+        Self::add_optional(after, Role::Alone, kept)
     }
 
     // The three expressions of a `fork`.
     fn add_parts(
-        &mut self,
         parts: &'p Expr<'a>,
         part: &'p Expr<'a>,
         rank: &'p Option<Expr<'a>>,
+        kept: &mut Self,
     ) -> Result<(), AllocError>
-        ensures { OnOk result (pieces_in self.new ≡ pieces_in self.old
+        ensures { OnOk result (pieces_in kept.new ≡ pieces_in kept.old
             ++ (t.Used r.Word (tree_of parts.now) ∷ t.Used r.Word (tree_of part.now)
             ∷ optional_pieces r.Word (option_map tree_of rank.now))) }
     {
-        self.add_used(Role::Word, parts)?;
-        self.add_used(Role::Word, part)?;
-        self.add_optional(Role::Word, rank)
+        Self::add_used(parts, Role::Word, kept)?;
+        Self::add_used(part, Role::Word, kept)?;
+        Self::add_optional(rank, Role::Word, kept)
     }
 
     #[cycle(statement)]
     fn add_statement(
-        &mut self,
-        gives: &'p TypeName<'a>,
         statement: &'p Stmt<'a>,
+        gives: &'p TypeName<'a>,
+        kept: &mut Self,
     ) -> Result<(), AllocError>
-        ensures { OnOk result (pieces_in self.new ≡ pieces_in self.old
+        ensures { OnOk result (pieces_in kept.new ≡ pieces_in kept.old
             ++ statement_pieces (type_of gives.now) (statement_of statement.now)) }
     {
         match statement {
             Stmt::Empty | Stmt::Barrier(_) | Stmt::Break(_) | Stmt::Continue(_) => Ok(()),
-            Stmt::Expression(value) => self.add_used(Role::Alone, value),
-            Stmt::Block(statements) => self.add_statements(gives, statements),
-            Stmt::Declare(variables) => self.add_variables(variables),
+            Stmt::Expression(value) => Self::add_used(value, Role::Alone, kept),
+            Stmt::Block(statements) => Self::add_statements(statements, gives, kept),
+            Stmt::Declare(variables) => Self::add_variables(variables, kept),
             Stmt::If(_, condition, then, otherwise) => {
-                self.add_used(Role::Condition, condition)?;
-                self.add_statement(gives, then)?;
+                Self::add_used(condition, Role::Condition, kept)?;
+                Self::add_statement(then, gives, kept)?;
                 match otherwise {
-                    Some(otherwise) => self.add_statement(gives, otherwise),
+                    Some(otherwise) => Self::add_statement(otherwise, gives, kept),
                     None => Ok(()),
                 }
             }
             Stmt::While(_, condition, body) => {
-                self.add_used(Role::Condition, condition)?;
-                self.add_statement(gives, body)
+                Self::add_used(condition, Role::Condition, kept)?;
+                Self::add_statement(body, gives, kept)
             }
             Stmt::DoWhile(_, body, condition) => {
-                self.add_statement(gives, body)?;
-                self.add_used(Role::Condition, condition)
+                Self::add_statement(body, gives, kept)?;
+                Self::add_used(condition, Role::Condition, kept)
             }
             Stmt::For(_, before, condition, after, body) => {
-                self.add_head(before, condition, after)?;
-                self.add_statement(gives, body)
+                Self::add_head(before, condition, after, kept)?;
+                Self::add_statement(body, gives, kept)
             }
             Stmt::Start(_, count, body) => {
-                self.add_optional(Role::Word, count)?;
-                self.add_statement(gives, body)
+                Self::add_optional(count, Role::Word, kept)?;
+                Self::add_statement(body, gives, kept)
             }
-            Stmt::Farm(_, body) | Stmt::Seq(_, body) => self.add_statement(gives, body),
+            Stmt::Farm(_, body) | Stmt::Seq(_, body) => Self::add_statement(body, gives, kept),
             Stmt::Fork(_, parts, part, rank, body) => {
-                self.add_parts(parts, part, rank)?;
-                self.add_statement(gives, body)
+                Self::add_parts(parts, part, rank, kept)?;
+                Self::add_statement(body, gives, kept)
             }
-            Stmt::Return(spot, value) => self.add(Piece::Return(gives, *spot, value)),
+            Stmt::Return(spot, value) => Self::add(Piece::Return(gives, *spot, value), kept),
         }
     }
 
     #[cycle(statement)]
     fn add_statements(
-        &mut self,
-        gives: &'p TypeName<'a>,
         statements: &'p [Stmt<'a>],
+        gives: &'p TypeName<'a>,
+        kept: &mut Self,
     ) -> Result<(), AllocError>
-        ensures { OnOk result (pieces_in self.new ≡ pieces_in self.old ++ statements_pieces
+        ensures { OnOk result (pieces_in kept.new ≡ pieces_in kept.old ++ statements_pieces
             (type_of gives.now) (statements_of (map statement_of statements.now))) }
     {
         for statement in statements {
-            self.add_statement(gives, statement)?;
+            Self::add_statement(statement, gives, kept)?;
         }
         Ok(())
     }
 
-    fn add_function(&mut self, function: &'p Function<'a>) -> Result<(), AllocError>
-        ensures { OnOk result (pieces_in self.new
-            ≡ pieces_in self.old ++ function_pieces (function_of function.now)) }
+    fn add_function(function: &'p Function<'a>, kept: &mut Self) -> Result<(), AllocError>
+        ensures { OnOk result (pieces_in kept.new
+            ≡ pieces_in kept.old ++ function_pieces (function_of function.now)) }
     {
-        self.add(Piece::Header(function))?;
-        self.add_parameters(&function.params)?;
+        Self::add(Piece::Header(function), kept)?;
+        Self::add_parameters(&function.params, kept)?;
         match &function.body {
-            Some(body) => self.add_statements(&function.result, body),
+            Some(body) => Self::add_statements(body, &function.result, kept),
             None => Ok(()),
         }
     }
 
-    fn add_item(&mut self, item: &'p Item<'a>) -> Result<(), AllocError>
-        ensures { OnOk result (pieces_in self.new
-            ≡ pieces_in self.old ++ item_pieces (item_of item.now)) }
+    fn add_item(item: &'p Item<'a>, kept: &mut Self) -> Result<(), AllocError>
+        ensures { OnOk result (pieces_in kept.new
+            ≡ pieces_in kept.old ++ item_pieces (item_of item.now)) }
     {
         match item {
             Item::Struct(_, _) => Ok(()),
-            Item::Variables(variables) => self.add_of_file(variables),
-            Item::Function(function) => self.add_function(function),
+            Item::Variables(variables) => Self::add_of_file(variables, kept),
+            Item::Function(function) => Self::add_function(function, kept),
         }
     }
 
-    fn add_items(&mut self, items: &'p [Item<'a>]) -> Result<(), AllocError>
-        ensures { OnOk result (pieces_in self.new
-            ≡ pieces_in self.old ++ items_pieces (map item_of items.now)) }
+    fn add_items(items: &'p [Item<'a>], kept: &mut Self) -> Result<(), AllocError>
+        ensures { OnOk result (pieces_in kept.new
+            ≡ pieces_in kept.old ++ items_pieces (map item_of items.now)) }
     {
         for item in items {
-            self.add_item(item)?;
+            Self::add_item(item, kept)?;
         }
         Ok(())
     }

@@ -6,4 +6,4 @@ use Rattle.fk_pieces.specs.PiecesView.{pieces_in}
 use Rattle.fk_pieces.proofs.pieces.Pieces.add_items.Given as goal
 
 abbrev pub invariant-loop-item : goal.invariant-loop-item
-invariant-loop-item l = pieces_in l.self ++ items_pieces (map item_of (drop l.item-index l.items)) ≡ pieces_in l.fn.self ++ items_pieces (map item_of l.items)
+invariant-loop-item l = pieces_in l.kept ++ items_pieces (map item_of (drop l.item-index l.items)) ≡ pieces_in l.fn.kept ++ items_pieces (map item_of l.items)
