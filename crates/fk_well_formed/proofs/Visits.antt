@@ -1,5 +1,5 @@
 -- What a walk over indices leaves of each visitor.
-use Rattle.std.proofs.Common.{◌≡◌, ◌≢◌, ℕ, suc, ◌+◌, ◌-◌, ◌^◌, ◌<◌, ◌≤◌, ◌&&◌, ◌↔◌, Bool, true, false, cond, min, List, [], ◌∷◌, fold, map, nat_eq, leb, ltb, refl, sym, arith, get_or}
+use Rattle.std.proofs.Common.{◌≡◌, ◌≢◌, ℕ, suc, ◌+◌, ◌-◌, ◌^◌, ◌<◌, ◌≤◌, ◌&&◌, ◌↔◌, Bool, true, false, cond, min, List, [], ◌∷◌, fold, nat_eq, leb, ltb, refl, sym, arith, get_or}
 use Rattle.std.specs.List.{All, AllPairs}
 use Rattle.std.proofs.lemmas.Bool.{ltb-true, lt-ltb, leb-true, le-leb}
 use Rattle.std.proofs.lemmas.List.Elements.{All-cons, All-head, All-tail, All-nil, All-weaker}
@@ -12,7 +12,7 @@ use Rattle.fk_well_formed.specs.declared.visitors.Rising.{Rising}
 use Rattle.fk_well_formed.specs.declared.visitors.Tally.{Tally}
 use Rattle.fk_well_formed.specs.declared.visitors.Distinct.{Distinct}
 use Rattle.fk_syntax.specs.Nodes.{items_indices}
-use Rattle.fk_syntax.specs.ProgramView.{item_of}
+use Rattle.fk_syntax.specs.ProgramView.{program_of}
 use Rattle.fk_syntax.specs.WellFormed.{nodes, token}
 use Rattle.fk_well_formed.specs.Visits.{times_of, bound_after, rising_after, tally_after, distinct_after}
 
@@ -191,7 +191,7 @@ tally_is at xs =
 -- ---- each alone
 
 abbrev nodes_of : Distinct → List ℕ
-nodes_of distinct = nodes (items_indices (map item_of distinct.items.now))
+nodes_of distinct = nodes (items_indices (program_of distinct.program.now).items)
 
 distinct_tells : (distinct : Distinct) (xs : List Index) → (fold distinct_after distinct xs).holds ≡ true → (distinct.holds ≡ true) × All (IsSingle (nodes_of distinct)) (nodes xs)
 distinct_tells distinct [] h = (h, All-nil (IsSingle (nodes_of distinct)))
@@ -210,9 +210,9 @@ distinct_holds distinct (Node at ∷ xs) h all =
     distinct_holds (distinct_after distinct (Node at)) xs (hold_both distinct.holds (leb count 1) h single) (All-tail (IsSingle (nodes_of distinct)) at (nodes xs) all)
 distinct_holds distinct (StructName at ∷ xs) h all = distinct_holds distinct xs h all
 
-pub distinct_is : (distinct : Distinct) → distinct.holds ≡ true → ((fold distinct_after distinct (items_indices (map item_of distinct.items.now))).holds ≡ true) ↔ AllPairs (λ x y. x ≢ y) (nodes (items_indices (map item_of distinct.items.now)))
+pub distinct_is : (distinct : Distinct) → distinct.holds ≡ true → ((fold distinct_after distinct (items_indices (program_of distinct.program.now).items)).holds ≡ true) ↔ AllPairs (λ x y. x ≢ y) (nodes (items_indices (program_of distinct.program.now).items))
 distinct_is distinct first =
-    let indices = items_indices (map item_of distinct.items.now) in (
+    let indices = items_indices (program_of distinct.program.now).items in (
       λ h. singles_differ (nodes indices) (distinct_tells distinct indices h).1,
       λ pairs. distinct_holds distinct indices first (differ_singles (nodes indices) pairs),
     )

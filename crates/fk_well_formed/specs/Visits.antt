@@ -1,5 +1,5 @@
 -- What is known of the indices in a tree, after another is looked at.
-use Rattle.std.specs.Prelude.{ℕ, List, ◌+◌, ◌&&◌, nat_lt, nat_le, nat_eq, min, cond, count_by, map, ◌^◌, ◌-◌}
+use Rattle.std.specs.Prelude.{ℕ, List, ◌+◌, ◌&&◌, nat_lt, nat_le, nat_eq, min, cond, count_by, ◌^◌, ◌-◌}
 use Rattle.fk_syntax.specs.declared.nodes.Index.{Index}
 use Rattle.fk_syntax.specs.declared.nodes.Index.TheVariants.{Node, StructName}
 use Rattle.fk_well_formed.specs.declared.visitors.Bound.{Bound}
@@ -7,7 +7,7 @@ use Rattle.fk_well_formed.specs.declared.visitors.Rising.{Rising}
 use Rattle.fk_well_formed.specs.declared.visitors.Tally.{Tally}
 use Rattle.fk_well_formed.specs.declared.visitors.Distinct.{Distinct}
 use Rattle.fk_syntax.specs.Nodes.{items_indices}
-use Rattle.fk_syntax.specs.ProgramView.{item_of}
+use Rattle.fk_syntax.specs.ProgramView.{program_of}
 use Rattle.fk_syntax.specs.WellFormed.{token, nodes}
 
 -- how often a number stands in a list
@@ -26,5 +26,5 @@ tally_after tally (Node at) = record tally { count = cond (nat_eq at tally.at) (
 tally_after tally (StructName at) = tally
 
 abbrev pub distinct_after : Distinct → Index → Distinct
-distinct_after distinct (Node at) = record distinct { holds = distinct.holds && nat_le (times_of at (nodes (items_indices (map item_of distinct.items.now)))) 1 }
+distinct_after distinct (Node at) = record distinct { holds = distinct.holds && nat_le (times_of at (nodes (items_indices (program_of distinct.program.now).items))) 1 }
 distinct_after distinct (StructName at) = distinct

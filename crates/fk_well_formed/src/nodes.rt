@@ -1,47 +1,50 @@
 //! Whether a program's nodes are known by the indices of their tokens.
 
-ghost use Rattle.std.specs.Prelude.{◌≡◌, ◌↔◌, ◌<◌, ◌≢◌, IsTrue, All, AllPairs, map};
-ghost use Rattle.fk_syntax.specs.ProgramView.{item_of, program_of};
+ghost use Rattle.std.specs.Prelude.{◌≡◌, ◌↔◌, ◌<◌, ◌≢◌, IsTrue, All, AllPairs};
+ghost use Rattle.fk_syntax.specs.ProgramView.{program_of};
 ghost use Rattle.fk_syntax.specs.Nodes.{items_indices};
 ghost use Rattle.fk_syntax.specs.WellFormed.{IsWellFormed, token, nodes};
 
 use crate::visitors::{Bound, Distinct, Rising};
-use crate::walk::visit_items;
-use fk_syntax::{Item, Program};
+use crate::walk::visit_program;
+use fk_syntax::Program;
 
 // Whether all are indices of tokens.
-fn are_below(tokens: u32, items: &[Item]) -> bool
-    ensures { IsTrue result
-        ↔ All (λ index. token index < tokens) (items_indices (map item_of items.now)) }
+fn are_below(program: &Program) -> bool
+    ensures { IsTrue result ↔ All (λ index. token index < program.now.tokens)
+        (items_indices (program_of program.now).items) }
 {
     let mut bound = Bound {
-        tokens,
+        tokens: program.tokens,
         holds: true,
     };
-    visit_items(&mut bound, items);
+    visit_program(program, &mut bound);
     bound.holds
 }
 
 // Whether those of nodes rise in the order of the text.
-fn are_rising(items: &[Item]) -> bool
+fn are_rising(program: &Program) -> bool
     ensures { IsTrue result
-        ↔ AllPairs (λ x y. x < y) (nodes (items_indices (map item_of items.now))) }
+        ↔ AllPairs (λ x y. x < y) (nodes (items_indices (program_of program.now).items)) }
 {
     let mut rising = Rising {
         least: 0,
         holds: true,
     };
-    visit_items(&mut rising, items);
+    visit_program(program, &mut rising);
     rising.holds
 }
 
-// Whether those of nodes differ. It walks over the items once for each node.
-fn are_distinct(items: &[Item]) -> bool
+// Whether those of nodes differ. It walks over the program once for each node.
+fn are_distinct(program: &Program) -> bool
     ensures { IsTrue result
-        ↔ AllPairs (λ x y. x ≢ y) (nodes (items_indices (map item_of items.now))) }
+        ↔ AllPairs (λ x y. x ≢ y) (nodes (items_indices (program_of program.now).items)) }
 {
-    let mut distinct = Distinct { items, holds: true };
-    visit_items(&mut distinct, items);
+    let mut distinct = Distinct {
+        program,
+        holds: true,
+    };
+    visit_program(program, &mut distinct);
     distinct.holds
 }
 
@@ -53,6 +56,5 @@ fn are_distinct(items: &[Item]) -> bool
 pub fn well_formed(program: &Program) -> bool
     ensures { IsTrue result ↔ IsWellFormed (program_of program.now) }
 {
-    are_below(program.tokens, &program.items)
-        && (are_rising(&program.items) || are_distinct(&program.items))
+    are_below(program) && (are_rising(program) || are_distinct(program))
 }

@@ -1,13 +1,13 @@
 //! What is asked of the indices in a tree.
 
-ghost use Rattle.std.specs.Prelude.{◌≡◌, nat_le, map};
-ghost use Rattle.fk_syntax.specs.ProgramView.{item_of};
+ghost use Rattle.std.specs.Prelude.{◌≡◌, nat_le};
+ghost use Rattle.fk_syntax.specs.ProgramView.{program_of};
 ghost use Rattle.fk_syntax.specs.Nodes.{items_indices};
 ghost use Rattle.fk_syntax.specs.WellFormed.{nodes};
 ghost use Rattle.fk_well_formed.specs.Visits.{times_of};
 
-use crate::walk::{Visitor, visit_items};
-use fk_syntax::{Index, Item};
+use crate::walk::{Visitor, visit_program};
+use fk_syntax::{Index, Program};
 
 /// Whether all indices so far are those of tokens.
 #[derive(Drop)]
@@ -33,10 +33,10 @@ pub struct Tally {
     pub count: u32,
 }
 
-/// Whether each node so far is the only one of some items that has its index.
+/// Whether each node so far is the only one of a program that has its index.
 #[derive(Drop)]
-pub struct Distinct<'a, 'b> {
-    pub items: &'a [Item<'b>],
+pub struct Distinct<'a, 'p> {
+    pub program: &'p Program<'a>,
     pub holds: bool,
 }
 
@@ -85,16 +85,16 @@ impl Visitor for Distinct<'_, '_> {
 
     fn visit(&mut self, index: Index) {
         if let Index::Node(at) = index {
-            self.holds = self.holds && stands_once(self.items, at);
+            self.holds = self.holds && stands_once(self.program, at);
         }
     }
 }
 
-// Whether at most one node of the items has this index.
-fn stands_once(items: &[Item], at: u32) -> bool
-    ensures { result ≡ nat_le (times_of at (nodes (items_indices (map item_of items.now)))) 1 }
+// Whether at most one node of the program has this index.
+fn stands_once(program: &Program, at: u32) -> bool
+    ensures { result ≡ nat_le (times_of at (nodes (items_indices (program_of program.now).items))) 1 }
 {
     let mut tally = Tally { at, count: 0 };
-    visit_items(&mut tally, items);
+    visit_program(program, &mut tally);
     tally.count <= 1
 }

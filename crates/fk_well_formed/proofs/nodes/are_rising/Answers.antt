@@ -1,8 +1,7 @@
-use Rattle.std.proofs.Common.{map}
 use Rattle.fk_syntax.specs.Nodes.{items_indices}
-use Rattle.fk_syntax.specs.ProgramView.{item_of}
+use Rattle.fk_syntax.specs.ProgramView.{program_of}
 use Rattle.fk_well_formed.proofs.Visits.{rising_is}
 use Rattle.fk_well_formed.proofs.nodes.are_rising.Goals as goal
 
 pub returns : goal.returns
-returns c = rw c.visit_items.ensures (rising_is (items_indices (map item_of c.args.items.now)))
+returns c = rw c.visit_program.ensures (rising_is (items_indices (program_of c.args.program.now).items))
