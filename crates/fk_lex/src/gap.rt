@@ -79,9 +79,10 @@ pub fn directive_step(only_blanks: bool, text: &[u8]) -> Step
 fn is_include(line: &[u8]) -> bool
     ensures { result ≡ Steps.is_include line.now }
 {
-    match line.split_at_checked(8) {
-        Some((b"#include", rest)) => is_header(rest.split_at(blank_length(rest)).1),
-        _ => false,
+    let name: &[u8] = b"#include";
+    match line.split_at_checked(name.len()) {
+        Some((front, rest)) => { name == front && is_header(rest.split_at(blank_length(rest)).1) }
+        None => false,
     }
 }
 

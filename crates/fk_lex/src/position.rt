@@ -14,7 +14,7 @@ use crate::step::Step;
 use fk_syntax::Place;
 
 /// How many lines end before a position, and how many bytes stand before its line and before it.
-#[derive(Clone, Copy, Debug)]
+#[derive(Clone, Copy)]
 pub struct Position {
     pub lines: usize,
     pub line_start: usize,

@@ -15,7 +15,7 @@ use crate::table::{sign_step, word_step};
 use crate::token::TokenKind;
 
 /// What the first two bytes of a text begin.
-#[derive(Clone, Copy, Debug)]
+#[derive(Clone, Copy)]
 pub enum Beginning {
     Blank,
     Comment,
@@ -27,7 +27,7 @@ pub enum Beginning {
 }
 
 /// A fault without its place.
-#[derive(Clone, Copy, Debug)]
+#[derive(Clone, Copy)]
 pub enum FaultKind {
     BadByte,
     OpenComment,
@@ -37,7 +37,7 @@ pub enum FaultKind {
 
 /// What stands at a point of a text: a blank, a comment or an include line of so many bytes, a
 /// token of so many bytes, or a fault so many bytes behind the point.
-#[derive(Clone, Copy, Debug)]
+#[derive(Clone, Copy)]
 pub enum Step {
     Gap(usize),
     Token(usize, TokenKind),

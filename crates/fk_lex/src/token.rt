@@ -6,7 +6,7 @@ use thiserror::Error;
 
 /// What a token is: a word that is no keyword, a number with its value and whether its type is
 /// `unsigned`, a text, a keyword or a sign.
-#[derive(Clone, Copy, PartialEq, Eq, Debug)]
+#[derive(Clone, Copy, PartialEq, Eq)]
 pub enum TokenKind {
     Word,
     Number(u32, bool),
@@ -86,7 +86,7 @@ pub enum TokenKind {
 }
 
 /// A token, the bytes of the source that it is, and where they begin.
-#[derive(Clone, Copy, Debug)]
+#[derive(Clone, Copy)]
 pub struct Token<'a> {
     pub kind: TokenKind,
     pub bytes: &'a [u8],

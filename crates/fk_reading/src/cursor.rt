@@ -42,7 +42,7 @@ use fk_syntax::place::{Name, Spot};
 use std::marker::Model;
 
 /// A token, and its index among those of its text.
-#[derive(Clone, Copy, Debug)]
+#[derive(Clone, Copy)]
 pub struct Numbered<'a> {
     pub at: u32,
     pub token: Token<'a>,
