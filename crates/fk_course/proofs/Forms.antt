@@ -28,7 +28,7 @@ use Rattle.fk_forms.specs.Signs.{operator_of, is_shift, move_of}
 use Rattle.fk_forms.specs.Texts.{text_of}
 use Rattle.fk_forms.specs.Expressions.{Coded, nowhere, plain, Standing, OnList, AtAddress, InWord, ToCall, Stands, token, spot_of, is_name, Signature, put_bytes, moved, agreed, checked, valued, addressed, fetched, assigned, value_of, dropped, predeclared, placed, variable, operate, updated, one, prefixed, truth, logical, chosen, joined, assignment, member, is_deep, indexed, dotted, pointed, step_back, raised, arguments, framed, parameters, called, multiprefix, with_one, called_predeclared, calling, stands, linked, suffixed, all_stand, value}
 use Rattle.fk_nesting.proofs.Spine.{untrue}
-use Rattle.fk_lockstep.specs.Noted.{is_logical}
+use Rattle.fk_lockstep.specs.Told.{is_logical}
 use Rattle.fk_course.specs.Placed.{Who, OfGroup, OfBody, OfMain, is_group, inner, callee_of, may_choose, Placed}
 use Rattle.fk_course.specs.InPlace.{Splits, Calls, InPlace, LinksInPlace, SuffixesInPlace, AllInPlace}
 

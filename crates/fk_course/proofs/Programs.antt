@@ -13,9 +13,7 @@ use Rattle.fk_source.specs.Next.{Work}
 use Rattle.fk_source.specs.Program.{next_in, main_work}
 use Rattle.fk_nesting.specs.Shape.{splits}
 use Rattle.fk_nesting.proofs.Programs.{programs_are_nested}
-use Rattle.fk_lockstep.specs.InStep.{is_agree, leaves_step, InStep}
-use Rattle.fk_lockstep.proofs.Weaken.{mapped}
-use Rattle.fk_lockstep.proofs.Statements.{forms_are_in_step}
+use Rattle.fk_lockstep.proofs.Statements.{forms_are_in_step, numbers as in_step}
 use Rattle.fk_together.proofs.Whole.{groups_have_one_program}
 use Rattle.fk_course.specs.Placed as w
 use Rattle.fk_course.specs.Placed.{Who, OfGroup, OfBody, OfMain, inner, callee_of, who_in, Placed}
@@ -25,39 +23,6 @@ use Rattle.fk_course.proofs.Main.{code_follows}
 use Rattle.fk_course.proofs.Texts.{body_in_place}
 
 -- numbers in place of the places change nothing
-in_step : {A : Type 0} (may_call : (function : ℕ) → Bool) (agreed : Bool) (code : Code A) (first : ℕ) → InStep may_call agreed code → InStep may_call agreed (numbered first code)
-in_step may_call agreed done first h = tt
-in_step may_call agreed (perform t op rest) first h = (h.0, in_step may_call (is_agree op) rest (suc first) h.1)
-in_step may_call agreed (choose t op a b rest) first h = (
-  h.0,
-  mapped (leaves_step op) (InStep may_call false a) (InStep may_call false (numbered (suc first) a)) (in_step may_call false a (suc first)) h.1,
-  in_step may_call false b (suc first + size a) h.2,
-  in_step may_call false rest (suc first + size a + size b) h.3,
-)
-in_step may_call agreed (while test body step rest) first h = (
-  in_step may_call false test first h.0,
-  in_step may_call false body (first + size test) h.1,
-  in_step may_call false step (first + size test + size body) h.2,
-  in_step may_call false rest (first + size test + size body + size step) h.3,
-)
-in_step may_call agreed (until body test rest) first h = (
-  in_step may_call false body first h.0,
-  in_step may_call false test (first + size body) h.1,
-  in_step may_call false rest (first + size body + size test) h.2,
-)
-in_step may_call agreed (turn test body step rest) first h = absurd h
-in_step may_call agreed (again test body step rest) first h = absurd h
-in_step may_call agreed (quit t op rest) first h = (h.0, in_step may_call false rest (suc first) h.1)
-in_step may_call agreed (break rest) first h = in_step may_call false rest first h
-in_step may_call agreed (continue rest) first h = in_step may_call false rest first h
-in_step may_call agreed (call t op f opening rest) first h = (
-  h.0,
-  h.1,
-  in_step may_call false opening (suc first) h.2,
-  in_step may_call false rest (suc first + size opening) h.3,
-)
-in_step may_call agreed (ends t op rest) first h = (h.0, in_step may_call false rest (suc first) h.1)
-
 module _ (may_call : (in_group : Bool) → (function : ℕ) → Bool) where
   numbers : {A : Type 0} (who : Who) (resuming : Bool) (code : Code A) (first : ℕ) → Placed may_call who resuming code → Placed may_call who resuming (numbered first code)
   numbers who resuming done first h = h

@@ -2,7 +2,6 @@
 -- processors run by themselves nothing splits and no group begins, but by `start` on the outermost level of `main`; and there
 -- is no `fork`.
 use Rattle.std.specs.Prelude.{◌≡◌, ℕ, ◌≤◌, ◌==◌, Bool, true, false, List, [], ◌∷◌, Option, Some, None}
-use Rattle.fk_syntax.specs.Tree as t
 use Rattle.fk_syntax.specs.Tree.{Named, Tree, Links, Trees, Suffixes}
 use Rattle.fk_syntax.specs.Program as p
 use Rattle.fk_syntax.specs.Program.{DeclaredTree, Statement, Statements, FunctionTree, ProgramTree}
@@ -12,7 +11,8 @@ use Rattle.fk_run.specs.Processor.{Setting}
 use Rattle.fk_run.specs.Schedule.{Schedule, run, IsLawful}
 use Rattle.fk_source.specs.Program.{next_in, main_work, opening}
 use Rattle.fk_nesting.specs.Shaped.{ProgramShaped}
-use Rattle.fk_lockstep.specs.Noted.{is_logical, StatementNoted, FunctionsNoted}
+use Rattle.fk_lockstep.specs.Told as told
+use Rattle.fk_lockstep.specs.Noted.{StatementNoted, FunctionsNoted}
 use Rattle.fk_together.specs.Course.{ByItself, Follows}
 use Rattle.fk_together.specs.OneProgram.{KeepOneProgram}
 use Rattle.fk_course.specs.Placed.{Who, OfGroup, OfBody, OfMain, is_group, is_outermost, inner}
@@ -28,45 +28,23 @@ module _ (tables : Tables) (may_call : (in_group : Bool) → (function : ℕ) �
     abbrev pub Calls : Named → Type 0
     Calls name = may_call in_group (note tables name.at).binding ≡ true
 
-    abbrev mutual
-      pub InPlace : Tree → Type 0
-      InPlace (t.Number spot value unsigned) = Unit {0}
-      InPlace (t.Puts spot text) = Unit {0}
-      InPlace (t.Sizeof spot type) = Unit {0}
-      InPlace (t.Variable name) = Calls name
-      InPlace (t.GroupNumber spot) = Unit {0}
-      InPlace (t.GroupRank spot) = Unit {0}
-      InPlace (t.Prefix spot sign operand) = InPlace operand
-      InPlace (t.Cast spot type operand) = InPlace operand
-      InPlace (t.Chain first links) = InPlace first × LinksInPlace links
-      InPlace (t.Postfix whole suffixes) = InPlace whole × SuffixesInPlace suffixes
-      InPlace (t.Assign spot sign target value) = InPlace target × InPlace value
-      InPlace (t.Choose spot condition first second) = Splits spot.at × InPlace condition × InPlace first × InPlace second
+    abbrev pub InPlace : Tree → Type 0
+    InPlace e = told.Told Splits Calls e
 
-      pub LinksInPlace : Links → Type 0
-      LinksInPlace t.no_links = Unit {0}
-      LinksInPlace (t.link spot sign right others) = (is_logical sign ≡ true → Splits spot.at) × InPlace right × LinksInPlace others
+    abbrev pub LinksInPlace : Links → Type 0
+    LinksInPlace links = told.LinksTold Splits Calls links
 
-      pub SuffixesInPlace : Suffixes → Type 0
-      SuffixesInPlace t.no_suffixes = Unit {0}
-      SuffixesInPlace (t.index spot by others) = InPlace by × SuffixesInPlace others
-      SuffixesInPlace (t.call spot arguments others) = AllInPlace arguments × SuffixesInPlace others
-      SuffixesInPlace (t.dot spot member others) = SuffixesInPlace others
-      SuffixesInPlace (t.arrow spot member others) = SuffixesInPlace others
-      SuffixesInPlace (t.up spot others) = SuffixesInPlace others
-      SuffixesInPlace (t.down spot others) = SuffixesInPlace others
+    abbrev pub SuffixesInPlace : Suffixes → Type 0
+    SuffixesInPlace suffixes = told.SuffixesTold Splits Calls suffixes
 
-      pub AllInPlace : Trees → Type 0
-      AllInPlace t.no_trees = Unit {0}
-      AllInPlace (t.tree first others) = InPlace first × AllInPlace others
+    abbrev pub AllInPlace : Trees → Type 0
+    AllInPlace trees = told.AllTold Splits Calls trees
 
     abbrev pub OptionInPlace : Option Tree → Type 0
-    OptionInPlace None = Unit {0}
-    OptionInPlace (Some e) = InPlace e
+    OptionInPlace e = told.OptionTold Splits Calls e
 
     abbrev pub VariablesInPlace : List DeclaredTree → Type 0
-    VariablesInPlace [] = Unit {0}
-    VariablesInPlace (x ∷ xs) = Calls x.name × OptionInPlace x.first × VariablesInPlace xs
+    VariablesInPlace variables = told.VariablesTold Splits Calls variables
 
   -- statements of `main` or of another function. A `return` ends the code of the function itself
   abbrev mutual

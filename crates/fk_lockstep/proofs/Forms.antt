@@ -28,7 +28,8 @@ use Rattle.fk_forms.specs.Signs.{operator_of, is_shift, move_of}
 use Rattle.fk_forms.specs.Texts.{text_of}
 use Rattle.fk_forms.specs.Expressions.{Coded, nowhere, plain, Standing, OnList, AtAddress, InWord, ToCall, Stands, token, spot_of, is_name, Signature, put_bytes, moved, agreed, checked, valued, addressed, fetched, assigned, value_of, dropped, predeclared, placed, variable, operate, updated, one, prefixed, truth, logical, chosen, joined, assignment, member, is_deep, indexed, dotted, pointed, step_back, raised, arguments, framed, parameters, called, multiprefix, with_one, called_predeclared, calling, stands, linked, suffixed, all_stand, value}
 use Rattle.fk_lockstep.specs.InStep.{InStep}
-use Rattle.fk_lockstep.specs.Noted.{is_logical, Decides, Means, Noted, LinksNoted, SuffixesNoted, AllNoted}
+use Rattle.fk_lockstep.specs.Told.{is_logical}
+use Rattle.fk_lockstep.specs.Noted.{Decides, Means, Noted, LinksNoted, SuffixesNoted, AllNoted}
 use Rattle.fk_lockstep.proofs.Weaken.{weaken}
 
 module _ (tables : Tables) (functions : (binding : ℕ) → Signature) (may_call : (function : ℕ) → Bool) where

@@ -168,7 +168,7 @@ module _ (tables : Tables) (functions : (binding : ℕ) → Signature) (may_call
       all_statements inside statements noted (end_of tables functions inside void) (end_in_step inside void)
 
 -- numbers in place of the places change nothing
-numbers : {A : Type 0} (may_call : (function : ℕ) → Bool) (agreed : Bool) (code : Code A) (first : ℕ) → InStep may_call agreed code → InStep may_call agreed (numbered first code)
+pub numbers : {A : Type 0} (may_call : (function : ℕ) → Bool) (agreed : Bool) (code : Code A) (first : ℕ) → InStep may_call agreed code → InStep may_call agreed (numbered first code)
 numbers may_call agreed done first h = tt
 numbers may_call agreed (perform t op rest) first h = (h.0, numbers may_call (is_agree op) rest (suc first) h.1)
 numbers may_call agreed (choose t op a b rest) first h = (

@@ -1,4 +1,5 @@
 pub mod InStep
+pub mod Told
 pub mod Noted
 pub mod Together
 pub mod AnyForm

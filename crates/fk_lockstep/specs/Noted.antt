@@ -2,9 +2,6 @@
 -- in a synchronous region, and no name means a function that may not be called there. The bodies of `farm` and `seq` are
 -- left out.
 use Rattle.std.specs.Prelude.{◌≡◌, ℕ, Bool, true, false, List, [], ◌∷◌, Option, Some, None}
-use Rattle.fk_syntax.specs.declared.sign.Sign.{Sign}
-use Rattle.fk_syntax.specs.declared.sign.Sign.TheVariants as g
-use Rattle.fk_syntax.specs.Tree as t
 use Rattle.fk_syntax.specs.Tree.{Named, Tree, Links, Trees, Suffixes}
 use Rattle.fk_syntax.specs.Program as p
 use Rattle.fk_syntax.specs.Program.{DeclaredTree, Statement, Statements, FunctionTree, ProgramTree}
@@ -13,11 +10,7 @@ use Rattle.fk_forms.specs.Expressions.{Coded, Signature}
 use Rattle.fk_forms.specs.Statements.{Inside, executed}
 use Rattle.fk_forms.specs.Program.{functions_of, binding_of, bodies_of}
 use Rattle.fk_lockstep.specs.InStep.{InStep}
-
-abbrev pub is_logical : Sign → Bool
-is_logical g.AndAnd = true
-is_logical g.OrOr = true
-is_logical sign = false
+use Rattle.fk_lockstep.specs.Told as told
 
 module _ (tables : Tables) (may_call : (function : ℕ) → Bool) where
   abbrev pub Decides : (at : ℕ) → Type 0
@@ -27,45 +20,23 @@ module _ (tables : Tables) (may_call : (function : ℕ) → Bool) where
   Means name = may_call (note tables name.at).binding ≡ true
 
   -- expressions
-  abbrev mutual
-    pub Noted : Tree → Type 0
-    Noted (t.Number spot value unsigned) = Unit {0}
-    Noted (t.Puts spot text) = Unit {0}
-    Noted (t.Sizeof spot type) = Unit {0}
-    Noted (t.Variable name) = Means name
-    Noted (t.GroupNumber spot) = Unit {0}
-    Noted (t.GroupRank spot) = Unit {0}
-    Noted (t.Prefix spot sign operand) = Noted operand
-    Noted (t.Cast spot type operand) = Noted operand
-    Noted (t.Chain first links) = Noted first × LinksNoted links
-    Noted (t.Postfix whole suffixes) = Noted whole × SuffixesNoted suffixes
-    Noted (t.Assign spot sign target value) = Noted target × Noted value
-    Noted (t.Choose spot condition first second) = Decides spot.at × Noted condition × Noted first × Noted second
+  abbrev pub Noted : Tree → Type 0
+  Noted e = told.Told Decides Means e
 
-    pub LinksNoted : Links → Type 0
-    LinksNoted t.no_links = Unit {0}
-    LinksNoted (t.link spot sign right others) = (is_logical sign ≡ true → Decides spot.at) × Noted right × LinksNoted others
+  abbrev pub LinksNoted : Links → Type 0
+  LinksNoted links = told.LinksTold Decides Means links
 
-    pub SuffixesNoted : Suffixes → Type 0
-    SuffixesNoted t.no_suffixes = Unit {0}
-    SuffixesNoted (t.index spot by others) = Noted by × SuffixesNoted others
-    SuffixesNoted (t.call spot arguments others) = AllNoted arguments × SuffixesNoted others
-    SuffixesNoted (t.dot spot member others) = SuffixesNoted others
-    SuffixesNoted (t.arrow spot member others) = SuffixesNoted others
-    SuffixesNoted (t.up spot others) = SuffixesNoted others
-    SuffixesNoted (t.down spot others) = SuffixesNoted others
+  abbrev pub SuffixesNoted : Suffixes → Type 0
+  SuffixesNoted suffixes = told.SuffixesTold Decides Means suffixes
 
-    pub AllNoted : Trees → Type 0
-    AllNoted t.no_trees = Unit {0}
-    AllNoted (t.tree first others) = Noted first × AllNoted others
+  abbrev pub AllNoted : Trees → Type 0
+  AllNoted trees = told.AllTold Decides Means trees
 
   abbrev pub OptionNoted : Option Tree → Type 0
-  OptionNoted None = Unit {0}
-  OptionNoted (Some e) = Noted e
+  OptionNoted e = told.OptionTold Decides Means e
 
   abbrev pub VariablesNoted : List DeclaredTree → Type 0
-  VariablesNoted [] = Unit {0}
-  VariablesNoted (x ∷ xs) = Means x.name × OptionNoted x.first × VariablesNoted xs
+  VariablesNoted variables = told.VariablesTold Decides Means variables
 
   -- statements
   abbrev mutual

@@ -409,8 +409,15 @@ module _ {tables : Tables} {functions : (binding : ℕ) → Signature} {Takes : 
   call_is (t.GroupRank spot) arguments' fits good x k p = absurd fits
   call_is (t.Prefix spot sign operand) arguments' fits good x k p = absurd fits
   call_is (t.Cast spot type operand) arguments' fits good x k p = absurd fits
-  call_is (t.Chain first links) arguments' fits good x k p = absurd fits
-  call_is (t.Postfix whole more) arguments' fits good x k p = absurd fits
+  call_is (t.Chain first t.no_links) arguments' fits good x k p = call_is first arguments' fits good x k p
+  call_is (t.Chain first (t.link spot sign right others)) arguments' fits good x k p = absurd fits
+  call_is (t.Postfix whole t.no_suffixes) arguments' fits good x k p = call_is whole arguments' fits good x k p
+  call_is (t.Postfix whole (t.index spot by others)) arguments' fits good x k p = absurd fits
+  call_is (t.Postfix whole (t.call spot arguments others)) arguments' fits good x k p = absurd fits
+  call_is (t.Postfix whole (t.dot spot member others)) arguments' fits good x k p = absurd fits
+  call_is (t.Postfix whole (t.arrow spot member others)) arguments' fits good x k p = absurd fits
+  call_is (t.Postfix whole (t.up spot others)) arguments' fits good x k p = absurd fits
+  call_is (t.Postfix whole (t.down spot others)) arguments' fits good x k p = absurd fits
   call_is (t.Assign spot sign target value) arguments' fits good x k p = absurd fits
   call_is (t.Choose spot condition first second) arguments' fits good x k p = absurd fits
 

@@ -19,10 +19,12 @@ TakesEnough name (t.tree first (t.tree second others)) = Unit {0}
 
 -- where it is told which arguments a name takes
 module _ (tables : Tables) (functions : (binding : ℕ) → Signature) (Takes : Named → Trees → Type 0) where
-  -- what is called is the name of a function
+  -- what is called is the name of a function. A chain without signs, and an expression without suffixes, are what they hold
   abbrev pub CallFits : Tree → Trees → Type 0
   CallFits (t.Variable name) arguments =
       ((k : Standing → Coded) → variable tables functions name k ≡ k (ToCall name)) × Takes name arguments
+  CallFits (t.Chain first t.no_links) arguments = CallFits first arguments
+  CallFits (t.Postfix whole t.no_suffixes) arguments = CallFits whole arguments
   CallFits e arguments = ⊥
 
   abbrev mutual
