@@ -1,6 +1,6 @@
 -- Programs as trees: their sites, and runs of them. Expected values are those of another interpreter of the same rules.
 use Rattle.std.proofs.Common.{◌≡◌, [], ◌∷◌, Some, None, refl, true, false}
-use Rattle.std.specs.Prelude.{codes}
+use Rattle.std.specs.Prelude.{replicate, codes}
 use Rattle.fk_syntax.specs.declared.program.Mode.TheVariants as m
 use Rattle.fk_syntax.specs.declared.sign.Sign.TheVariants as g
 use Rattle.fk_syntax.specs.Tree as t
@@ -572,3 +572,34 @@ structs_rounds =
 structs : seen (next_in structs_tables structs_program) (setting_of 1 (0 ∷ 0 ∷ 0 ∷ 0 ∷ 0 ∷ []) []) structs_rounds None (0 ∷ 1 ∷ 2 ∷ 3 ∷ 4 ∷ []) (opening structs_tables structs_program (0 ∷ 0 ∷ 0 ∷ 0 ∷ 0 ∷ []) [] [] 1)
     ≡ (lines [] (Line 1 ∷ []), (9 ∷ 268435472 ∷ 0 ∷ 10 ∷ 8 ∷ []), SourceFinished, true)
 structs = refl
+
+-- void f(void) { f(); } void main(void) { f(); }
+abbrev pub no_depth_program : ProgramTree
+no_depth_program = record {
+  items =
+      (p.FunctionItem (function m.Async (ty t.Void 0) (nm (codes "f") 1 1 6) [] (Some ((p.statement (p.Expression (t.Postfix (t.Variable (nm (codes "f") 6 1 16)) (t.call (sp 7 1 17) t.no_trees t.no_suffixes))) p.no_statements)))))
+      ∷ (p.FunctionItem (function m.Async (ty t.Void 0) (nm (codes "main") 12 1 28) [] (Some ((p.statement (p.Expression (t.Postfix (t.Variable (nm (codes "f") 17 1 41)) (t.call (sp 18 1 42) t.no_trees t.no_suffixes))) p.no_statements)))))
+      ∷ [];
+  end = place 1 47;
+  tokens = 22;
+}
+
+abbrev pub no_depth_tables : Tables
+no_depth_tables = record {
+  notes = nn ∷ nt 0 0 false false false ∷ nn ∷ nn ∷ nn ∷ nn ∷ nt 0 0 false false false ∷ nt 0 0 false false false ∷ nn ∷ nn ∷ nn ∷ nn ∷ nt 0 1 false false false ∷ nn ∷ nn ∷ nn ∷ nn ∷ nt 0 0 false false false ∷ nt 0 0 false false false ∷ [];
+  kinds = kd 0 false false 0 ∷ [];
+  slots = sl h.NoWord 0 ∷ sl h.NoWord 0 ∷ [];
+  regions = [];
+}
+
+no_depth_sites : sites_of no_depth_tables no_depth_program
+    ≡ at 22 1 16 ∷ k 11 ∷ at 22 1 41 ∷ k 34 ∷ []
+no_depth_sites = refl
+
+-- by hand: 255 calls can begin, and the next one can't
+abbrev pub no_depth_rounds : Schedule
+no_depth_rounds = replicate 255 (1 ∷ [])
+
+no_depth : seen (next_in no_depth_tables no_depth_program) (setting_of 1 [] []) no_depth_rounds (Some (1 ∷ [])) [] (opening no_depth_tables no_depth_program [] [] [] 1)
+    ≡ (lines [] [], [], SourceFaulted (record { site = 0; processor = 0 }), true)
+no_depth = refl
