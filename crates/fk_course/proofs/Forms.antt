@@ -1,36 +1,26 @@
 -- The code of every form that is in place keeps where the steps of the tree may stand: first expressions.
-use Rattle.std.proofs.Common.{◌≡◌, ℕ, suc, Bool, true, false, List, [], ◌∷◌, length, Option, Some, None, sym, refl, subst}
-use Rattle.std.specs.Prelude.{◌==◌, ◌*◌, ◌||◌, codes, if◌then◌else◌}
-use Rattle.fk_num.specs.declared.operator.Op.TheVariants as f
+use Rattle.std.proofs.Common.{◌≡◌, ℕ, suc, Bool, true, false, List, [], ◌∷◌, Option, Some, None, sym, refl, subst}
+use Rattle.std.specs.Prelude.{if◌then◌else◌}
 use Rattle.fk_syntax.specs.declared.place.Place.{Place}
 use Rattle.fk_syntax.specs.declared.place.Spot.{Spot}
-use Rattle.fk_syntax.specs.declared.sign.Sign.{Sign}
-use Rattle.fk_syntax.specs.declared.sign.Sign.TheVariants as g
-use Rattle.fk_syntax.specs.Tree as t
-use Rattle.fk_syntax.specs.Tree.{Named, Tree, Links, Trees, Suffixes}
+use Rattle.fk_syntax.specs.Tree.{Named, Tree}
 use Rattle.fk_syntax.specs.Program.{DeclaredTree}
+use Rattle.fk_operation.specs.declared.operation.Operation.{Operation}
 use Rattle.fk_operation.specs.declared.operation.Operation.TheVariants as o
 use Rattle.fk_operation.specs.declared.operation.Variable.TheVariants as v
 use Rattle.fk_operation.specs.declared.operation.Known.TheVariants as n
-use Rattle.fk_operation.specs.declared.operation.Unary.TheVariants as u
-use Rattle.fk_operation.specs.declared.operation.Multiprefix.{Multiprefix}
-use Rattle.fk_operation.specs.declared.operation.Multiprefix.TheVariants.{MpAdd, MpMax, MpAnd, MpOr}
 use Rattle.fk_operation.specs.declared.operation.Split.{Split}
-use Rattle.fk_operation.specs.declared.operation.Split.TheVariants.{IfElse, AndThen, OrElse}
-use Rattle.fk_forms.specs.declared.tables.Home.{Home}
-use Rattle.fk_forms.specs.declared.tables.Home.TheVariants as h
+use Rattle.fk_operation.specs.declared.operation.Split.TheVariants.{IfAlone, IfElse, AndThen, OrElse, Loop, Fork}
 use Rattle.fk_forms.specs.declared.tables.Region.{Region}
-use Rattle.fk_forms.specs.declared.signs.Move.{Move}
-use Rattle.fk_forms.specs.declared.signs.Move.TheVariants.{Forth, Back, NoMove}
-use Rattle.fk_forms.specs.Code.{done, perform, choose, call}
-use Rattle.fk_forms.specs.Tables.{Tables, no_binding, note, kind_at, is_array, is_void, is_unsigned, slot, frame_at}
-use Rattle.fk_forms.specs.Signs.{operator_of, is_shift, move_of}
-use Rattle.fk_forms.specs.Texts.{text_of}
-use Rattle.fk_forms.specs.Expressions.{Coded, nowhere, plain, Standing, OnList, AtAddress, InWord, ToCall, Stands, token, spot_of, is_name, Signature, put_bytes, moved, agreed, checked, valued, addressed, fetched, assigned, value_of, dropped, predeclared, placed, variable, operate, updated, one, prefixed, truth, logical, chosen, joined, assignment, member, is_deep, indexed, dotted, pointed, step_back, raised, arguments, framed, parameters, called, multiprefix, with_one, called_predeclared, calling, stands, linked, suffixed, all_stand, value}
+use Rattle.fk_forms.specs.Code.{perform, choose}
+use Rattle.fk_forms.specs.Tables.{Tables, note, slot, frame_at}
+use Rattle.fk_forms.specs.Expressions.{Coded, nowhere, plain, Standing, Signature, agreed, addressed, assigned, dropped, variable, framed, parameters, value}
 use Rattle.fk_nesting.proofs.Spine.{untrue}
-use Rattle.fk_lockstep.specs.Told.{is_logical}
-use Rattle.fk_course.specs.Placed.{Who, OfGroup, OfBody, OfMain, is_group, inner, callee_of, may_choose, Placed}
-use Rattle.fk_course.specs.InPlace.{Splits, Calls, InPlace, LinksInPlace, SuffixesInPlace, AllInPlace}
+use Rattle.fk_nesting.proofs.Kept.{entered}
+use Rattle.fk_lockstep.proofs.Kept as k
+use Rattle.fk_lockstep.proofs.Kept.{is_plain, is_of_value, IsKept}
+use Rattle.fk_course.specs.Placed.{Who, OfGroup, OfBody, OfMain, is_group, inner, callee_of, Placed}
+use Rattle.fk_course.specs.InPlace.{Splits, Calls, InPlace}
 
 pub inner_group : (who : Who) → is_group (inner who) ≡ is_group who
 inner_group OfGroup = refl
@@ -45,209 +35,13 @@ module _ (tables : Tables) (functions : (binding : ℕ) → Signature) (may_call
   either who true x y p q = p
   either who false x y p q = q
 
-  -- a name stands as one of a function only where it means one that may be called
-  abbrev Fits : (who : Who) → Standing → Type 0
-  Fits who (ToCall name) = Calls tables may_call (is_group who) name
-  Fits who standing = Unit {0}
-
-  abbrev Follows : (who : Who) → (Standing → Coded) → Type 0
-  Follows who k = (s : Standing) → Fits who s → Ok who (k s)
-
-  abbrev pub Good : (who : Who) → Stands → Type 0
-  Good who e = (k : Standing → Coded) → Follows who k → Ok who (e k)
-
-  abbrev AllGood : (who : Who) → List Stands → Type 0
-  AllGood who [] = Unit {0}
-  AllGood who (e ∷ es) = Good who e × AllGood who es
-
-  puts : (who : Who) → (bytes : List ℕ) (rest : Coded) → Ok who rest → Ok who (put_bytes bytes rest)
-  puts who [] rest p = p
-  puts who (b ∷ bytes) rest p = (refl, (refl, puts who bytes rest p))
-
-  operator : (who : Who) → (sign : Sign) (unsigned : Bool) (rest : Coded) → Ok who rest → Ok who (plain (operator_of sign unsigned) rest)
-  operator who g.Minus unsigned rest p = (refl, p)
-  operator who sign unsigned rest p = (refl, p)
-
-  moves : (who : Who) → (move : Move) (step : ℕ) (sign : Sign) (unsigned : Bool) (rest : Coded) → Ok who rest → Ok who (moved move step (operator_of sign unsigned) rest)
-  moves who Forth step sign unsigned rest p = (refl, p)
-  moves who Back step sign unsigned rest p = (refl, (refl, p))
-  moves who NoMove step sign unsigned rest p = operator who sign unsigned rest p
-
-  pub agrees_or : (who : Who) → (sync : Bool) (rest : Coded) → Ok who rest → Ok who (agreed sync rest)
-  agrees_or who true rest p = (refl, p)
-  agrees_or who false rest p = p
-
-  -- how an expression who stands
-  checks : (who : Who) → (deep : Bool) (spot : Spot) (rest : Coded) → Ok who rest → Ok who (checked tables functions deep spot rest)
-  checks who true spot rest p = (refl, p)
-  checks who false spot rest p = p
-
-  values : (who : Who) → (s : Standing) (rest : Coded) → Ok who rest → Ok who (valued tables functions s rest)
-  values who (AtAddress deep spot) rest p =
-      either who (is_array tables spot.at) rest (checked tables functions deep spot (plain o.Read rest)) p
-      (checks who deep spot (plain o.Read rest) (refl, p))
-  values who (InWord variable) rest p = (refl, p)
-  values who s rest p = p
-
-  pub addresses : (who : Who) → (s : Standing) (rest : Coded) → Ok who rest → Ok who (addressed tables functions s rest)
-  addresses who (AtAddress deep spot) rest p = checks who deep spot rest p
-  addresses who s rest p = p
-
-  fetches : (who : Who) → (s : Standing) (rest : Coded) → Ok who rest → Ok who (fetched tables functions s rest)
-  fetches who (AtAddress deep spot) rest p = checks who deep spot (plain o.CopyLast (plain o.Read rest)) (refl, (refl, p))
-  fetches who (InWord variable) rest p = (refl, p)
-  fetches who s rest p = p
-
-  pub assigns : (who : Who) → (s : Standing) (rest : Coded) → Ok who rest → Ok who (assigned tables functions s rest)
-  assigns who (AtAddress deep spot) rest p = (refl, p)
-  assigns who (InWord variable) rest p = (refl, p)
-  assigns who s rest p = p
-
-  value_is : (who : Who) → (e : Stands) → Good who e → (rest : Coded) → Ok who rest → Ok who (value_of tables functions e rest)
-  value_is who e good rest p = good (λ s. valued tables functions s rest) (λ s fits. values who s rest p)
-
-  pub drops : (who : Who) → (at : ℕ) (rest : Coded) → Ok who rest → Ok who (dropped tables functions at rest)
-  drops who at rest p = either who (is_void tables at) rest (plain o.DropLast rest) p (refl, p)
-
-  -- names who
-  predeclares : (who : Who) → (name : Named) → Calls tables may_call (is_group who) name → Good who (predeclared tables functions name)
-  predeclares who name means k p =
-      by (is_name name (codes "__PROC_NR__")) (is_name name (codes "__STARTED_PROCS__")) (is_name name (codes "__inputs")) (is_name name (codes "__input"))
-    where
-      by : (a b c d : Bool) → Ok who (
-          if a then plain (o.Get n.ProcessorNumber) (k OnList)
-          else if b then plain (o.Get n.Processors) (k OnList)
-          else if c then plain (o.Get n.InputLength) (k OnList)
-          else if d then plain (o.Get n.InputAddress) (k (AtAddress false (spot_of name)))
-          else k (ToCall name))
-      by true b c d = (refl, p OnList tt)
-      by false true c d = (refl, p OnList tt)
-      by false false true d = (refl, p OnList tt)
-      by false false false true = (refl, p (AtAddress false (spot_of name)) tt)
-      by false false false false = p (ToCall name) means
-
-  places : (who : Who) → (home : Home) (i : ℕ) (name : Named) → Calls tables may_call (is_group who) name → Good who (placed tables functions home i name)
-  places who h.Global i name means k p = (refl, p (AtAddress false (spot_of name)) tt)
-  places who h.FilePrivate i name means k p = p (InWord (v.OfFile i)) tt
-  places who h.Private i name means k p = p (InWord (v.Private i)) tt
-  places who (h.Group r) i name means k p = (refl, p (AtAddress false (spot_of name)) tt)
-  places who h.NoWord i name means k p = p (ToCall name) means
-
-  pub names : (who : Who) → (name : Named) → Calls tables may_call (is_group who) name → Good who (variable tables functions name)
-  names who name means k p =
-      let b = (note tables name.at).binding in
-      either who (b == no_binding) (predeclared tables functions name k) (placed tables functions (slot tables b).home (slot tables b).index name k)
-      (predeclares who name means k p) (places who (slot tables b).home (slot tables b).index name means k p)
-
-  -- operators
-  operates : (who : Who) → (sign : Sign) (left right : ℕ) (rest : Coded) → Ok who rest → Ok who (operate tables functions sign left right rest)
-  operates who sign left right rest p =
-      let unsigned = if is_shift sign then is_unsigned tables left else is_unsigned tables left || is_unsigned tables right in
-      let step = (kind_at tables left).step in
-      either who (step == 0) (plain (operator_of sign unsigned) rest) (moved (move_of sign) step (operator_of sign unsigned) rest)
-      (operator who sign unsigned rest p) (moves who (move_of sign) step sign unsigned rest p)
-
-  updates : (who : Who) → (sign : Sign) (target : Stands) → Good who target → (left right : ℕ) (e : Coded → Coded) → ((rest : Coded) → Ok who rest → Ok who (e rest))
-      → Good who (updated tables functions sign target left right e)
-  updates who sign target good left right e keeps k p =
-      good (λ s. fetched tables functions s (e (operate tables functions sign left right (assigned tables functions s (k OnList)))))
-      (λ s fits.
-      let new = assigned tables functions s (k OnList) in
-      let whole = operate tables functions sign left right new in
-      fetches who s (e whole) (keeps whole (operates who sign left right new (assigns who s (k OnList) (p OnList tt)))))
-
-  ones : (who : Who) → (rest : Coded) → Ok who rest → Ok who (one tables functions rest)
-  ones who rest p = (refl, p)
-
-  prefixes : (who : Who) → (spot : Spot) (sign : Sign) (e : Stands) → Good who e → (at : ℕ) → Good who (prefixed tables functions spot sign e at)
-  prefixes who spot g.Minus e good at k p = value_is who e good (plain (o.Apply u.Negate) (k OnList)) (refl, p OnList tt)
-  prefixes who spot g.Tilde e good at k p = value_is who e good (plain (o.Apply u.Complement) (k OnList)) (refl, p OnList tt)
-  prefixes who spot g.Exclamation e good at k p = value_is who e good (plain (o.Apply u.Not) (k OnList)) (refl, p OnList tt)
-  prefixes who spot g.Star e good at k p = value_is who e good (k (AtAddress true spot)) (p (AtAddress true spot) tt)
-  prefixes who spot g.Ampersand e good at k p =
-      good (λ s. addressed tables functions s (k OnList)) (λ s fits. addresses who s (k OnList) (p OnList tt))
-  prefixes who spot g.Increment e good at k p = updates who g.Plus e good at spot.at (one tables functions) (ones who) k p
-  prefixes who spot g.Decrement e good at k p = updates who g.Minus e good at spot.at (one tables functions) (ones who) k p
-  prefixes who spot sign e good at k p = value_is who e good (k OnList) (p OnList tt)
-
-  truths : (who : Who) → (e : Stands) → Good who e → (rest : Coded) → Ok who rest → Ok who (truth tables functions e rest)
-  truths who e good rest p = value_is who e good (plain (o.Push 0) (plain (o.Join f.Ne false) rest)) (refl, (refl, p))
-
   pub splits_to : (b : Bool) (who : Who) (x y : Coded) → (b ≡ true → Ok who x) → Ok who y → Ok who (if b then x else y)
   splits_to true who x y p q = p refl
   splits_to false who x y p q = q
 
-  logicals : (who : Who) → (spot : Spot) (split : Split) (onward : Bool) (other : ℕ) (a : Stands) → Good who a → (b : Stands) → Good (inner who) b → Splits tables may_call (is_group who) spot.at
-      → (is_group who ≡ true → may_choose who (o.Divide split) ≡ true) → Good who (logical tables functions spot split onward other a b)
-  logicals who spot split onward other a good_a b good_b splits may k p =
-      let here = note tables spot.at in
-      let parted = choose spot.place (o.Divide split) (truth tables functions b (plain o.End done)) done (plain o.Resume (k OnList)) in
-      let branched = choose nowhere (o.Branch onward) (truth tables functions b done) (plain (o.Push other) done) (k OnList) in
-      value_is who a good_a (if here.splits then parted else agreed here.sync branched)
-      (splits_to here.splits who parted (agreed here.sync branched)
-      (λ e. (refl, may (splits e), truths (inner who) b good_b (plain o.End done) (refl, refl), refl, (λ f. untrue f), (refl, p OnList tt)))
-      (agrees_or who here.sync branched (refl, refl, truths (inner who) b good_b done refl, (refl, refl), (λ f. untrue f), p OnList tt)))
-
-  chooses : (who : Who) → (spot : Spot) (c : Stands) → Good who c → (a : Stands) → Good (inner who) a → (b : Stands) → Good (inner who) b → Splits tables may_call (is_group who) spot.at
-      → Good who (chosen tables functions spot c a b)
-  chooses who spot c good_c a good_a b good_b splits k p =
-      let here = note tables spot.at in
-      let parted = choose spot.place (o.Divide IfElse) (value_of tables functions a (plain o.End done)) (value_of tables functions b (plain o.End done)) (plain o.Resume (k OnList)) in
-      let branched = choose nowhere (o.Branch true) (value_of tables functions a done) (value_of tables functions b done) (k OnList) in
-      value_is who c good_c (if here.splits then parted else agreed here.sync branched)
-      (splits_to here.splits who parted (agreed here.sync branched)
-      (λ e. (refl, splits e, value_is (inner who) a good_a (plain o.End done) (refl, refl), value_is (inner who) b good_b (plain o.End done) (refl, refl), (λ f. untrue f), (refl, p OnList tt)))
-      (agrees_or who here.sync branched (refl, refl, value_is (inner who) a good_a done refl, value_is (inner who) b good_b done refl, (λ f. untrue f), p OnList tt)))
-
-  joins : (who : Who) → (spot : Spot) (sign : Sign) (a : Stands) → Good who a → (left : ℕ) (b : Stands) → Good who b → Good (inner who) b → (right : ℕ)
-      → (is_logical sign ≡ true → Splits tables may_call (is_group who) spot.at) → Good who (joined tables functions spot sign a left b right)
-  joins who spot g.Comma a good_a left b good_b inner_b right splits k p =
-      value_is who a good_a (dropped tables functions left (value_of tables functions b (k OnList)))
-      (drops who left (value_of tables functions b (k OnList)) (value_is who b good_b (k OnList) (p OnList tt)))
-  joins who spot g.AndAnd a good_a left b good_b inner_b right splits k p = logicals who spot AndThen true 0 a good_a b inner_b (splits refl) (λ e. e) k p
-  joins who spot g.OrOr a good_a left b good_b inner_b right splits k p = logicals who spot OrElse false 1 a good_a b inner_b (splits refl) (λ e. e) k p
-  joins who spot sign a good_a left b good_b inner_b right splits k p =
-      value_is who a good_a (value_of tables functions b (operate tables functions sign left right (k OnList)))
-      (value_is who b good_b (operate tables functions sign left right (k OnList)) (operates who sign left right (k OnList) (p OnList tt)))
-
-  gives : (who : Who) → (sign : Sign) (target : Stands) → Good who target → (left : ℕ) (e : Stands) → Good who e → (right : ℕ) → Good who (assignment tables functions sign target left e right)
-  gives who g.Assign target good left e good_e right k p =
-      good (λ s. addressed tables functions s (value_of tables functions e (assigned tables functions s (k OnList))))
-      (λ s fits.
-      let new = assigned tables functions s (k OnList) in
-      addresses who s (value_of tables functions e new) (value_is who e good_e new (assigns who s (k OnList) (p OnList tt))))
-  gives who sign target good left e good_e right k p =
-      updates who sign target good left right (value_of tables functions e) (value_is who e good_e) k p
-
-  -- suffixes
-  indexes : (who : Who) → (spot : Spot) (e : Stands) → Good who e → (by : Stands) → Good who by → Good who (indexed tables functions spot e by)
-  indexes who spot e good by good_by k p =
-      let element = plain (o.Index (4 * (kind_at tables spot.at).words)) (k (AtAddress true spot)) in
-      value_is who e good (value_of tables functions by element) (value_is who by good_by element (refl, p (AtAddress true spot) tt))
-
-  dots : (who : Who) → (spot : Spot) (at : ℕ) (e : Stands) → Good who e → Good who (dotted tables functions spot at e)
-  dots who spot at e good k p =
-      good (λ s. member tables functions at (k (AtAddress (is_deep tables functions s) spot)))
-      (λ s fits. (refl, (refl, p (AtAddress (is_deep tables functions s) spot) tt)))
-
-  points : (who : Who) → (spot : Spot) (at : ℕ) (e : Stands) → Good who e → Good who (pointed tables functions spot at e)
-  points who spot at e good k p =
-      value_is who e good (member tables functions at (k (AtAddress true spot))) (refl, (refl, p (AtAddress true spot) tt))
-
-  raises : (who : Who) → (sign back : Sign) (e : Stands) → Good who e → (at : ℕ) → Good who (raised tables functions sign back e at)
-  raises who sign back e good at k p =
-      updates who sign e good at 0 (one tables functions) (ones who)
-      (λ s. plain (o.Push (step_back tables functions at)) (plain (operator_of back false) (k OnList)))
-      (λ s fits. (refl, operator who back false (k OnList) (p OnList tt)))
-
-  -- calls who
-  takes : (who : Who) → (xs : List DeclaredTree) (es : List Stands) → AllGood who es → (rest : Coded) → Ok who rest → Ok who (arguments tables functions xs es rest)
-  takes who [] [] good rest p = p
-  takes who [] (e ∷ es) good rest p = p
-  takes who (x ∷ xs) [] good rest p = p
-  takes who (x ∷ xs) (e ∷ es) good rest p =
-      let others = arguments tables functions xs es rest in
-      value_is who e good.0 (agreed x.shared others) (agrees_or who x.shared others (takes who xs es good.1 rest p))
+  pub agrees_or : (who : Who) → (sync : Bool) (rest : Coded) → Ok who rest → Ok who (agreed sync rest)
+  agrees_or who true rest p = (refl, p)
+  agrees_or who false rest p = p
 
   pub frames : (who : Who) → (r : Option Region) (place : Place) (rest : Coded) → Ok who rest → Ok who (framed tables functions r place rest)
   frames who None place rest p = p
@@ -260,87 +54,50 @@ module _ (tables : Tables) (functions : (binding : ℕ) → Signature) (may_call
       let shared = plain (o.Get (n.FrameAddress 0 (slot tables (note tables x.name.at).binding).index)) (plain (o.Get (n.Value (v.Private i))) (plain o.Write (plain o.DropLast others))) in
       either who x.shared shared others (refl, (refl, (refl, (refl, puts_in who (suc i) xs)))) (puts_in who (suc i) xs)
 
-  calls : (who : Who) → (name : Named) (es : List Stands) → AllGood who es → Calls tables may_call (is_group who) name → Good who (called tables functions name es)
-  calls who name es good means k p =
-      let b = (note tables name.at).binding in
-      let function = functions b in
-      let begin = framed tables functions (frame_at tables function.at 0) name.place (parameters tables functions 0 function.parameters) in
-      takes who function.parameters es good (call name.place (o.Enter (length function.parameters)) b begin (k OnList))
-      (refl, refl, means, frames (callee_of who) (frame_at tables function.at 0) name.place (parameters tables functions 0 function.parameters) (puts_in (callee_of who) 0 function.parameters), p OnList tt)
+  enters : (who : Who) (name : Named) (rest : Coded) → Calls tables may_call (is_group who) name → Ok who rest → Ok who (entered tables functions name rest)
+  enters who name rest means p =
+      let function = functions (note tables name.at).binding in
+      let opening = parameters tables functions 0 function.parameters in
+      (refl, refl, means, frames (callee_of who) (frame_at tables function.at 0) name.place opening (puts_in (callee_of who) 0 function.parameters), p)
 
-  multiprefixes : (who : Who) → (name : Named) (by : Multiprefix) (es : List Stands) → AllGood who es → Good who (multiprefix tables functions name by es)
-  multiprefixes who name by [] good k p = refl
-  multiprefixes who name by (a ∷ []) good k p = refl
-  multiprefixes who name by (a ∷ b ∷ es) good k p =
-      let request = plain (o.Combine by) (k OnList) in
-      value_is who a good.0 (perform name.place (o.Check true) (value_of tables functions b request)) (refl, value_is who b good.1.0 request (refl, p OnList tt))
+  performs : (who : Who) (t : Place) (op : Operation) (rest : Coded) → is_plain op ≡ true → Ok who rest → Ok who (perform t op rest)
+  performs who t o.Resume rest e p = untrue e
+  performs who t o.Halt rest e p = untrue e
+  performs who t op rest e p = (refl, p)
 
-  with_ones : (who : Who) → (after : Coded → Coded) → ((rest : Coded) → Ok who rest → Ok who (after rest)) → (es : List Stands) → AllGood who es → Good who (with_one tables functions after es)
-  with_ones who after keeps [] good k p = refl
-  with_ones who after keeps (e ∷ es) good k p = value_is who e good.0 (after (k OnList)) (keeps (k OnList) (p OnList tt))
+  divides : (who : Who) (spot : Spot) (by : Split) (a b rest : Coded) → is_of_value by ≡ true → Splits tables may_call (is_group who) spot.at → (note tables spot.at).splits ≡ true
+      → Ok (inner who) a → Ok (inner who) b → Ok who rest → Ok who (choose spot.place (o.Divide by) a b (plain o.Resume rest))
+  divides who spot IfElse a b rest e splits is p q r = (refl, splits is, p, q, (λ f. untrue f), (refl, r))
+  divides who spot AndThen a b rest e splits is p q r = (refl, splits is, p, q, (λ f. untrue f), (refl, r))
+  divides who spot OrElse a b rest e splits is p q r = (refl, splits is, p, q, (λ f. untrue f), (refl, r))
+  divides who spot IfAlone a b rest e splits is p q r = untrue e
+  divides who spot Loop a b rest e splits is p q r = untrue e
+  divides who spot Fork a b rest e splits is p q r = untrue e
 
-  calls_predeclared : (who : Who) → (name : Named) (es : List Stands) → AllGood who es → Good who (called_predeclared tables functions name es)
-  calls_predeclared who name es good k p =
-      either who (is_name name (codes "mpadd")) _ _ (multiprefixes who name MpAdd es good k p)
-      (either who (is_name name (codes "mpmax")) _ _ (multiprefixes who name MpMax es good k p)
-      (either who (is_name name (codes "mpand")) _ _ (multiprefixes who name MpAnd es good k p)
-      (either who (is_name name (codes "mpor")) _ _ (multiprefixes who name MpOr es good k p)
-      (either who (is_name name (codes "groupsize")) _ _ (refl, p OnList tt)
-      (either who (is_name name (codes "putint")) _ _ (with_ones who (plain o.PrintNumber) (λ rest q. (refl, q)) es good k p)
-      (either who (is_name name (codes "putchar")) _ _ (with_ones who (plain o.PrintByte) (λ rest q. (refl, q)) es good k p)
-      (either who (is_name name (codes "malloc")) _ _ (with_ones who (plain o.Take) (λ rest q. (refl, q)) es good k p)
-      (either who (is_name name (codes "shmalloc")) _ _ (with_ones who (plain o.Heap) (λ rest q. (refl, q)) es good k p)
-      (with_ones who (λ rest. plain o.Agree (plain o.Block rest)) (λ rest q. (refl, (refl, q))) es good k p)))))))))
+  pub kept : IsKept tables functions Who Ok (λ who. Splits tables may_call (is_group who)) (λ who. Calls tables may_call (is_group who))
+  kept = record {
+    inner = inner;
+    told = λ who e h. subst (λ b. InPlace tables may_call b e) (sym (inner_group who)) h;
+    performs = performs;
+    allots = λ who rest p. (refl, (refl, p));
+    ends = λ who. refl;
+    part_ends = λ who. (refl, refl);
+    divides = divides;
+    branches = λ who spot onward a b rest splits p q r. agrees_or who (note tables spot.at).sync (choose nowhere (o.Branch onward) a b rest) (refl, refl, p, q, (λ f. untrue f), r);
+    enters = enters;
+  }
 
-  all_calls : (who : Who) → (es : List Stands) → AllGood who es → (k : Standing → Coded) → Follows who k → (s : Standing) → Fits who s → Ok who (calling tables functions es k s)
-  all_calls who es good k p (ToCall name) means =
-      either who ((note tables name.at).binding == no_binding) (called_predeclared tables functions name es k) (called tables functions name es k)
-      (calls_predeclared who name es good k p) (calls who name es good means k p)
-  all_calls who es good k p s fits = refl
+  pub addresses : (who : Who) → (s : Standing) (rest : Coded) → Ok who rest → Ok who (addressed tables functions s rest)
+  addresses who s rest p = k.addresses kept who s rest p
 
-  -- expressions
-  mutual
-    expression : (who : Who) → (e : Tree) → InPlace tables may_call (is_group who) e → Good who (stands tables functions e)
-    expression who (t.Number spot number unsigned) noted k p = (refl, p OnList tt)
-    expression who (t.Puts spot text) noted k p = puts who (text_of text) (k OnList) (p OnList tt)
-    expression who (t.Sizeof spot type) noted k p = (refl, p OnList tt)
-    expression who (t.Variable name) noted k p = names who name noted k p
-    expression who (t.GroupNumber spot) noted k p = (refl, p OnList tt)
-    expression who (t.GroupRank spot) noted k p = (refl, p OnList tt)
-    expression who (t.Prefix spot sign operand) noted k p = prefixes who spot sign (stands tables functions operand) (expression who operand noted) (token operand) k p
-    expression who (t.Cast spot type operand) noted k p = value_is who (stands tables functions operand) (expression who operand noted) (k OnList) (p OnList tt)
-    expression who (t.Chain first links) noted k p = chain who (stands tables functions first) (expression who first noted.0) (token first) links noted.1 k p
-    expression who (t.Postfix whole suffixes) noted k p = postfix who (stands tables functions whole) (expression who whole noted.0) (token whole) suffixes noted.1 k p
-    expression who (t.Assign spot sign target value) noted k p =
-        gives who sign (stands tables functions target) (expression who target noted.0) (token target) (stands tables functions value) (expression who value noted.1) (token value) k p
-    expression who (t.Choose spot condition first second) noted k p =
-        chooses who spot (stands tables functions condition) (expression who condition noted.1)
-        (stands tables functions first) (expression (inner who) first (subst (λ b. InPlace tables may_call b first) (sym (inner_group who)) noted.2))
-        (stands tables functions second) (expression (inner who) second (subst (λ b. InPlace tables may_call b second) (sym (inner_group who)) noted.3)) noted.0 k p
+  pub assigns : (who : Who) → (s : Standing) (rest : Coded) → Ok who rest → Ok who (assigned tables functions s rest)
+  assigns who s rest p = k.assigns kept who s rest p
 
-    chain : (who : Who) → (e : Stands) → Good who e → (at : ℕ) (links : Links) → LinksInPlace tables may_call (is_group who) links → Good who (linked tables functions e at links)
-    chain who e good at t.no_links noted k p = good k p
-    chain who e good at (t.link spot sign right others) noted k p =
-        chain who (joined tables functions spot sign e at (stands tables functions right) (token right))
-        (joins who spot sign e good at (stands tables functions right) (expression who right noted.1)
-        (expression (inner who) right (subst (λ b. InPlace tables may_call b right) (sym (inner_group who)) noted.1)) (token right) noted.0) spot.at others noted.2 k p
+  pub drops : (who : Who) → (at : ℕ) (rest : Coded) → Ok who rest → Ok who (dropped tables functions at rest)
+  drops who at rest p = k.drops kept who at rest p
 
-    postfix : (who : Who) → (e : Stands) → Good who e → (at : ℕ) (suffixes : Suffixes) → SuffixesInPlace tables may_call (is_group who) suffixes → Good who (suffixed tables functions e at suffixes)
-    postfix who e good at t.no_suffixes noted k p = good k p
-    postfix who e good at (t.index spot by others) noted k p =
-        postfix who (indexed tables functions spot e (stands tables functions by)) (indexes who spot e good (stands tables functions by) (expression who by noted.0)) spot.at others noted.1 k p
-    postfix who e good at (t.call spot arguments others) noted k p =
-        let es = all_stand tables functions arguments in
-        let each = all_expressions who arguments noted.0 in
-        postfix who (λ j. e (calling tables functions es j)) (λ j q. good (calling tables functions es j) (all_calls who es each j q)) spot.at others noted.1 k p
-    postfix who e good at (t.dot spot name others) noted k p = postfix who (dotted tables functions spot name.at e) (dots who spot name.at e good) spot.at others noted k p
-    postfix who e good at (t.arrow spot name others) noted k p = postfix who (pointed tables functions spot name.at e) (points who spot name.at e good) spot.at others noted k p
-    postfix who e good at (t.up spot others) noted k p = postfix who (raised tables functions g.Plus g.Minus e at) (raises who g.Plus g.Minus e good at) spot.at others noted k p
-    postfix who e good at (t.down spot others) noted k p = postfix who (raised tables functions g.Minus g.Plus e at) (raises who g.Minus g.Plus e good at) spot.at others noted k p
-
-    all_expressions : (who : Who) → (es : Trees) → AllInPlace tables may_call (is_group who) es → AllGood who (all_stand tables functions es)
-    all_expressions who t.no_trees noted = tt
-    all_expressions who (t.tree first others) noted = (expression who first noted.0, all_expressions who others noted.1)
+  pub names : (who : Who) → (name : Named) → Calls tables may_call (is_group who) name → k.Good kept who (variable tables functions name)
+  names who name means = k.names kept who name means
 
   pub value_in_place : (who : Who) → (e : Tree) → InPlace tables may_call (is_group who) e → (rest : Coded) → Ok who rest → Ok who (value tables functions e rest)
-  value_in_place who e noted rest p = value_is who (stands tables functions e) (expression who e noted) rest p
+  value_in_place who e told rest p = k.value_is_kept kept who e told rest p

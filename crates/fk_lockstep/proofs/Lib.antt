@@ -1,4 +1,5 @@
 pub mod Weaken
+pub mod Kept
 pub mod Forms
 pub mod Statements
 pub mod Steps
