@@ -1,0 +1,97 @@
+-- When registers and local memory of a hart stand for a processor.
+--
+-- Calls have frames of 64 words on the 16,384 stack words, that of `main` lowest. A frame has a header of 8 words, then the
+-- private words of its call; the value list stands at its end, the first value highest. Before the header of `main` stand
+-- the private variables of file scope.
+use Rattle.std.specs.Prelude.{◌≡◌, ℕ, zero, suc, ◌+◌, ◌-◌, ◌*◌, ◌<◌, List, [], ◌∷◌, length, true, false, Bool}
+use Rattle.fk_num.specs.Word.{Memory}
+use Rattle.fk_run.specs.Processor.{Call}
+use Rattle.fk_machine.specs.Hart.{Hart}
+use Rattle.fk_block_law.specs.Owner.{Owner}
+
+-- the places of blocks and variables
+pub record Places : Type 0 where
+  -- the word of the code where the block of each index of the list begins
+  pub block : (index : ℕ) → ℕ
+  -- whether a private word of the running call stands in its frame at an index. One that does not is written before it is
+  -- read
+  pub keeps : (index word : ℕ) → Bool
+  -- how many private variables of file scope there are
+  pub of_file : ℕ
+
+-- the address of a word of the local memory
+abbrev pub local_address : (word : ℕ) → ℕ
+local_address word = 0x20000000 + 4 * word
+
+-- registers: the addresses of the running call's frame and of the word behind it; `@`, `$` and the size of the group;
+-- how many words of the private heap are taken
+abbrev pub frame_register : ℕ
+frame_register = 8
+
+abbrev pub end_register : ℕ
+end_register = 9
+
+abbrev pub number_register : ℕ
+number_register = 18
+
+abbrev pub rank_register : ℕ
+rank_register = 19
+
+abbrev pub size_register : ℕ
+size_register = 20
+
+abbrev pub top_register : ℕ
+top_register = 21
+
+-- the last value lowest
+abbrev pub HasValues : Memory → (behind : ℕ) → List ℕ → Type 0
+HasValues memory behind [] = Unit {0}
+HasValues memory behind (v ∷ vs) = (memory (behind - suc (length vs)) ≡ v) × HasValues memory behind vs
+
+-- the word behind the frame of a call that so many others wait for
+abbrev pub frame_end : (waiting : ℕ) → ℕ
+frame_end waiting = 64 * suc waiting
+
+module _ (places : Places) where
+  -- the first word of such a frame
+  abbrev pub frame_start : (waiting : ℕ) → ℕ
+  frame_start zero = places.of_file
+  frame_start (suc n) = 64 * suc n
+
+  -- the frame of a call that goes on at an index
+  pub record HasFrame (memory : Memory) (waiting at : ℕ) (call : Call) : Type 0 where
+    pub values : HasValues memory (frame_end waiting) call.values
+    pub privates : (i : ℕ) → places.keeps at i ≡ true → memory (frame_start waiting + 8 + i) ≡ call.privates i
+
+  -- the header of a call: where it returns to, and the frame of the call that waits there
+  pub record Returns (memory : Memory) (waiting back : ℕ) : Type 0 where
+    pub code : memory (frame_start (suc waiting)) ≡ 4 * places.block back
+    pub frame : memory (frame_start (suc waiting) + 1) ≡ local_address (frame_start waiting)
+
+  -- the calls that wait, the last one first, each with the index where it goes on
+  abbrev pub HasWaiting : Memory → (backs : List ℕ) → List Call → Type 0
+  HasWaiting memory [] [] = Unit {0}
+  HasWaiting memory (i ∷ backs) (c ∷ calls) =
+      Returns memory (length calls) i × HasFrame memory (length calls) i c × HasWaiting memory backs calls
+  HasWaiting memory backs calls = ⊥
+
+  -- Nothing is said of the pc and of other registers, nor of what only steps of the tree give a processor: the space of its
+  -- group, its group frames, and the groups round it.
+  pub record StandsFor (p : Owner) (h : Hart) : Type 0 where
+    pub nought : h.registers 0 ≡ 0
+    pub frame : h.registers frame_register ≡ local_address (frame_start (length p.runner.has.callers))
+    pub behind : h.registers end_register ≡ local_address (frame_end (length p.runner.has.callers))
+    pub number : h.registers number_register ≡ p.runner.has.level.number
+    pub rank : h.registers rank_register ≡ p.runner.has.level.rank
+    pub size : h.registers size_register ≡ p.runner.has.level.size
+    pub top : h.registers top_register ≡ p.runner.has.top
+    pub running : HasFrame h.local (length p.runner.has.callers) p.runner.left.at p.runner.has.call
+    pub waiting : HasWaiting h.local p.runner.left.callers p.runner.has.callers
+    pub own : (i : ℕ) → i < places.of_file → h.local i ≡ p.runner.has.own i
+    pub heap : (i : ℕ) → i < 16384 → h.local (16384 + i) ≡ p.heap i
+
+  -- and the hart stands at the beginning of the block where its processor goes on
+  pub record StandsAt (p : Owner) (h : Hart) : Type 0 where
+    pub live : h.ended ≡ false
+    pub at : h.pc ≡ 4 * places.block p.runner.left.at
+    pub stands : StandsFor p h
