@@ -8,7 +8,7 @@ use Rattle.fk_core.specs.Next.{is_jump, through, led_by, landing_by, landing, st
 use Rattle.fk_block_law.specs.Owner.{number_of, as_part, phases}
 use Rattle.fk_block_law.specs.Next.{StandsOp, step_at, OperationsAreNext}
 
-landing_at : (core : List CoreOp) (i : ℕ) (op : CoreOp) (n : ℕ) → slice_get core i ≡ Some op → is_jump op ≡ false → landing_by core n i ≡ i
+pub landing_at : (core : List CoreOp) (i : ℕ) (op : CoreOp) (n : ℕ) → slice_get core i ≡ Some op → is_jump op ≡ false → landing_by core n i ≡ i
 landing_at core i op zero e f = refl
 landing_at core i op (suc n) e f =
     ap (λ o. led_by o (landing_by core n) i) e ∙ ap (λ b. through b (landing_by core n) i op.target) f

@@ -1,5 +1,5 @@
 -- The law of blocks.
-use Rattle.std.specs.Prelude.{◌≡◌, ℕ, ◌<◌, ◌≤◌, List, [], true, Some, None, vec_len, slice_get, slice_index}
+use Rattle.std.specs.Prelude.{◌≡◌, ℕ, ◌<◌, ◌≤◌, List, [], length, true, Some, None, slice_get, slice_index}
 use Rattle.fk_num.specs.Word.{Memory}
 use Rattle.fk_operation.specs.declared.operation.Operation.{Operation}
 use Rattle.fk_operation.specs.declared.operation.Operation.TheVariants.{Halt}
@@ -31,7 +31,7 @@ pub record IsRunning (image : Image) (setting : Setting) (t : MachineSetting) : 
   pub code : Holds image t
   pub processors : t.harts ≡ setting.processors
   pub inputs : t.inputs ≡ setting.inputs
-  pub globals : vec_len image.globals ≡ setting.globals
+  pub globals : length image.globals.items ≡ setting.globals
   pub few : setting.processors ≤ 1024
   pub few_inputs : setting.inputs ≤ 65536
 

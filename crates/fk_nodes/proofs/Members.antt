@@ -21,7 +21,7 @@ runs_at h live = ap (λ e. cond e None (Some h.pc)) live
 module _ {S P D : Type 0} (source : Source S P D) (image : Image) (mine : Words) where
   -- ---- a cycle of a node alone
 
-  stays_passing : (t : Setting) (c : ℕ) (m : Member) (p : P) (d : D) (own : Memory) (h' : Hart) (own' : Memory) (earlier : List ℕ) (sh : Shared) (s : S) (Then : Hart → D → Memory → Type 0)
+  pub stays_passing : (t : Setting) (c : ℕ) (m : Member) (p : P) (d : D) (own : Memory) (h' : Hart) (own' : Memory) (earlier : List ℕ) (sh : Shared) (s : S) (Then : Hart → D → Memory → Type 0)
       → AreApart mine source.common → Shows source earlier sh s → Has mine sh.control own → Stays image mine t c m own h' own'
       → source.part c s p ≡ Passes s d → Then h' d own' → Passing source image mine t m p earlier sh s Then
   stays_passing t c m p d own h' own' earlier sh s Then apart shows has st takes then =

@@ -17,7 +17,7 @@ use Rattle.fk_nodes.proofs.Members.{runs_at, run_leads}
 module _ {S P D : Type 0} (source : Source S P D) (image : Image) (mine : Words) where
   -- ---- each at its commit
 
-  one_passes : (t : Setting) (c : ℕ) (m : Member) (p : P) (own : Memory) (earlier : List ℕ) (sh : Shared) (s : S) (One : Hart → D → Type 0) (Then : Hart → D → Memory → Type 0)
+  pub one_passes : (t : Setting) (c : ℕ) (m : Member) (p : P) (own : Memory) (earlier : List ℕ) (sh : Shared) (s : S) (One : Hart → D → Type 0) (Then : Hart → D → Memory → Type 0)
       → AreApart mine source.common → Shows source earlier sh s → Has mine sh.control own → (one : OneCommits source image t c m p One)
       → ((h : Hart) (d : D) → One h d → Then h d own) → (Serves source image t c m p s One ⊎ Faults source image t c m p s)
       → Passing source image mine t m p earlier sh s Then ⊎ Faulting source image mine t m p sh s
