@@ -1,0 +1,30 @@
+-- indices of a list, and the operations that they lead to
+mod Positions
+-- a processor's part, and what becomes of it
+mod Parts
+-- requests on a whole store
+mod Stores
+-- the turns of processors are a round
+mod Rounds
+-- from commit to commit
+mod Linked
+-- a cycle of all harts, as members of one node without words
+mod Cycles
+-- which rounds are allowed
+mod Allowed
+-- after a cycle
+mod Settled
+-- the pace
+mod Pace
+-- whole runs
+mod Runs
+-- from the opening on, as it is said in the law
+mod Theorem
+-- the beginning
+mod Opening
+-- operators give words
+mod Words
+-- values in runs are words
+mod Ranges
+-- and rounds keep them
+mod Keeps
