@@ -8,6 +8,7 @@ use Rattle.fk_run.specs.Schedule.{Schedule, run, IsLawful}
 use Rattle.fk_core.specs.declared.op.CoreOp.{CoreOp}
 use Rattle.fk_core.specs.Numbers.{operation_of}
 use Rattle.fk_core.specs.Next.{Position, is_jump, landing, follows, next, opening}
+use Rattle.fk_core.specs.WellFormed.{IsOperation}
 use Rattle.fk_block_law.specs.Ready.{is_alone, MayDo}
 
 -- an index and those to which calls return are in the list
@@ -25,7 +26,7 @@ is_end operation = false
 pub record IsFree (core : List CoreOp) : Type 0 where
   -- a jump leads to an operation
   pub jumps : (i : ℕ) (op : CoreOp) → slice_get core i ≡ Some op → is_jump op ≡ true
-      → (to : CoreOp) × (slice_get core op.target ≡ Some to) × (is_jump to ≡ false)
+      → IsOperation core op.target
   -- all others are operations without a group, or a halt
   pub alone : (i : ℕ) (op : CoreOp) (operation : Operation) → slice_get core i ≡ Some op
       → operation_of op.kind op.number ≡ Some operation → (is_alone operation ≡ true) ⊎ (operation ≡ Halt)

@@ -55,7 +55,7 @@ ways : (core : List CoreOp) → IsFree core → (i : ℕ) → i < length core �
 ways core free i lt op e (inr f) = inl (sym (landing_here core i op e f))
 ways core free i lt op e (inl f) =
     let to = free.jumps i op e f in
-    inr (op, e, f, sym (landing_jump core i (length core) op to.0 e f to.1 to.2 (omega arith)))
+    inr (op, e, f, sym (landing_jump core i (length core) op to.op e f to.stands (no_jump to.op to.operation to.is_read) (omega arith)))
 
 pub leading : (core : List CoreOp) → LeadsOn core → IsFree core → (w : Position) → w.at < length core → Leading core w
 leading core leads free w lt =
