@@ -30,19 +30,19 @@ use Rattle.fk_block_law.specs.Ready.{is_alone}
 use Rattle.fk_block_law.specs.Block.{IsRunning, Begins, BlockDoes, BlockHalts, BlockLaw, beginner}
 use Rattle.fk_block_law.proofs.Standing.{operations_are_next}
 
-abbrev pushes : CoreOp
+abbrev pub pushes : CoreOp
 pushes = record { kind = 1; site = 0; number = 5; target = 0; depth = 0 }
 
-abbrev drops : CoreOp
+abbrev pub drops : CoreOp
 drops = record { kind = 4; site = 1; number = 0; target = 0; depth = 1 }
 
-abbrev halts : CoreOp
+abbrev pub halts : CoreOp
 halts = record { kind = 34; site = 2; number = 0; target = 0; depth = 0 }
 
-abbrev core : List CoreOp
+abbrev pub core : List CoreOp
 core = pushes ∷ drops ∷ halts ∷ []
 
-abbrev places : Places
+abbrev pub places : Places
 places = record {
   block = λ i. if i == 0 then 5 else if i == 1 then 7 else 8;
   keeps = λ i word. false;

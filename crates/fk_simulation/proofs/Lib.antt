@@ -28,3 +28,7 @@ mod Words
 mod Ranges
 -- and rounds keep them
 mod Keeps
+-- what each operation keeps is kept in runs
+pub mod Kept
+-- the premises, met by a list
+pub mod Example
