@@ -1,5 +1,5 @@
 #!/usr/bin/env python3
-"""Makes crates/fk_asm/src/listing/tests/texts.rt: words with the texts that GNU objdump reads in them.
+"""Makes crates/fk_machine_tests/src/listing/texts.rt: words with the texts that GNU objdump reads in them.
 
 The words are those that the GNU assembler gave for tools/riscv_vectors.py with three different registers, and those of EXTRA.
 Lay the file out by `rt fmt` afterwards. It wants riscv64-unknown-elf-objdump (Debian: binutils-riscv64-unknown-elf).
@@ -11,8 +11,8 @@ import tempfile
 from pathlib import Path
 
 TOP = Path(__file__).resolve().parent.parent
-VECTORS = TOP / "crates/fk_isa/src/tests/vectors.rt"
-OUT = TOP / "crates/fk_asm/src/listing/tests/texts.rt"
+VECTORS = TOP / "crates/fk_machine_tests/src/isa/vectors.rt"
+OUT = TOP / "crates/fk_machine_tests/src/listing/texts.rt"
 # from the third set of registers on
 FIRST_VECTOR = 112
 EXTRA = (

@@ -13,6 +13,3 @@ pub use assembler::Assembler;
 pub use blocks::Blocks;
 pub use code::{AsmFault, Code};
 pub use line::Line;
-
-#[cfg(test)]
-mod tests;

@@ -10,8 +10,6 @@ ghost use Rattle.fk_isa.specs.declared.instruction.Instruction.{Instruction};
 mod digits;
 mod registers;
 mod shapes;
-#[cfg(test)]
-mod tests;
 
 use arrayvec::ArrayVec;
 pub use digits::eight_digits;

@@ -11,6 +11,3 @@ mod program;
 
 pub use op::CoreOp;
 pub use program::CoreProgram;
-
-#[cfg(test)]
-mod tests;

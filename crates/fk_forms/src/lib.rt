@@ -12,6 +12,3 @@ mod texts;
 pub use signs::{Move, is_shift, move_of, operator_of};
 pub use tables::{FrameSize, Home, Region, Slot};
 pub use texts::text_bytes;
-
-#[cfg(test)]
-mod tests;

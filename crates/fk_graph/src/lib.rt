@@ -8,6 +8,3 @@ mod ranks;
 
 pub use cycles::suspects;
 pub use marks::is_on_cycle;
-
-#[cfg(test)]
-mod tests;

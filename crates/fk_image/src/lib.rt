@@ -15,9 +15,6 @@ pub use fault::ImageFault;
 pub use reading::read_image;
 pub use writing::write_image;
 
-#[cfg(test)]
-mod tests;
-
 /// A program for the machine.
 #[derive(Drop)]
 pub struct Image {

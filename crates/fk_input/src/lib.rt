@@ -11,6 +11,3 @@ mod words;
 
 pub use fault::InputFault;
 pub use reading::read_input;
-
-#[cfg(test)]
-mod tests;

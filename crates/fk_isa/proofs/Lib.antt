@@ -4,3 +4,4 @@ pub mod OneWord
 pub mod InRange
 pub mod Plans
 pub mod Trapped
+mod Assembled

@@ -23,6 +23,3 @@ pub use flat::FlatMemory;
 pub use hart::Hart;
 pub use instruction::Instruction;
 pub use stepping::step;
-
-#[cfg(test)]
-mod tests;

@@ -4,6 +4,3 @@
 mod lookup;
 
 pub use lookup::Lookup;
-
-#[cfg(test)]
-mod tests;

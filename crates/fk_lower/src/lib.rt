@@ -21,6 +21,3 @@ pub use fault::LowerFault;
 pub use functions::{Lowered, lower};
 pub use span::{Span, Spans, Start};
 pub use write::{Entries, Loop, Place, Writer};
-
-#[cfg(test)]
-mod tests;

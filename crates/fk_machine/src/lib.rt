@@ -35,6 +35,3 @@ mod zeros;
 
 pub use machine::Machine;
 pub use stand::Stand;
-
-#[cfg(test)]
-mod tests;

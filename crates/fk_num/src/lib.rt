@@ -6,6 +6,3 @@ mod operator;
 
 pub use decimal::{read_unsigned, signed_text, unsigned_text};
 pub use operator::{Op, apply};
-
-#[cfg(test)]
-mod tests;

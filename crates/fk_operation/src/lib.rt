@@ -9,6 +9,3 @@ mod told;
 
 pub use kinds::{Class, FaultKind, Joint};
 pub use operation::{Known, Multiprefix, Operation, Split, Unary, Variable};
-
-#[cfg(test)]
-mod tests;

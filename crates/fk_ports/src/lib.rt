@@ -22,6 +22,3 @@ pub use sink::{Sink, give_all};
 pub use source::{Source, take_all};
 pub use store::Store;
 pub use sure::{SureSink, SureSource, SureStore};
-
-#[cfg(test)]
-mod tests;

@@ -5,6 +5,3 @@
 mod references;
 
 pub use references::{Reference, References};
-
-#[cfg(test)]
-mod tests;

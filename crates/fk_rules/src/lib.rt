@@ -6,6 +6,3 @@ mod rule;
 
 pub use fault::{Fault, fault_if, first_of};
 pub use rule::Rule;
-
-#[cfg(test)]
-mod tests;

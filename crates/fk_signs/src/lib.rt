@@ -6,6 +6,3 @@ mod values;
 
 pub use signs::{binary, chosen, converts, counted, prefixed, sign_within};
 pub use values::{ExpressionType, Operand, Target, Value};
-
-#[cfg(test)]
-mod tests;

@@ -11,6 +11,3 @@ mod space;
 
 pub use heaps::heap;
 pub use space::Space;
-
-#[cfg(test)]
-mod tests;

@@ -9,6 +9,3 @@ mod state;
 pub use beginning::opening;
 pub use processor::{Call, Level, Processor};
 pub use state::State;
-
-#[cfg(test)]
-mod tests;

@@ -10,6 +10,3 @@ mod store;
 pub use request::Request;
 pub use serving::serve;
 pub use store::Store32;
-
-#[cfg(test)]
-mod tests;

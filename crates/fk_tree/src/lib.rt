@@ -11,6 +11,3 @@ mod tree;
 
 pub use node::Kind;
 pub use tree::Tree;
-
-#[cfg(test)]
-mod tests;

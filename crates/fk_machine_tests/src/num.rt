@@ -1,0 +1,89 @@
+//! Tests of the operators and the texts.
+use fk_num::{Op, apply, read_unsigned, signed_text, unsigned_text};
+
+// Of the suites rv32um and rv32ui of riscv-tests: the operator, its operands and the word that it gives.
+const RISCV_TESTS: [(Op, u32, u32, u32); 41] = [
+    (Op::Mul, 0x0000_7e00, 0xb6db_6db7, 0x0000_1200),
+    (Op::Mul, 0xaaaa_aaab, 0x0002_fe7d, 0x0000_ff7f),
+    (Op::Mul, 0xffff_ffff, 0xffff_ffff, 0x0000_0001),
+    (Op::MulHS, 0x8000_0000, 0xffff_8000, 0x0000_4000),
+    (Op::MulHS, 0xaaaa_aaab, 0x0002_fe7d, 0xffff_0081),
+    (Op::MulHS, 0xff00_0000, 0xff00_0000, 0x0001_0000),
+    (Op::MulHS, 0xffff_ffff, 0x0000_0001, 0xffff_ffff),
+    (Op::MulHSU, 0x8000_0000, 0xffff_8000, 0x8000_4000),
+    (Op::MulHSU, 0x0002_fe7d, 0xaaaa_aaab, 0x0001_fefe),
+    (Op::MulHSU, 0xff00_0000, 0xff00_0000, 0xff01_0000),
+    (Op::MulHSU, 0xffff_ffff, 0xffff_ffff, 0xffff_ffff),
+    (Op::MulHU, 0x8000_0000, 0xffff_8000, 0x7fff_c000),
+    (Op::MulHU, 0xaaaa_aaab, 0x0002_fe7d, 0x0001_fefe),
+    (Op::MulHU, 0xffff_ffff, 0xffff_ffff, 0xffff_fffe),
+    (Op::DivS, 0xffff_ffec, 0x0000_0006, 0xffff_fffd),
+    (Op::DivS, 0x0000_0014, 0xffff_fffa, 0xffff_fffd),
+    (Op::DivS, 0xffff_ffec, 0xffff_fffa, 0x0000_0003),
+    (Op::DivS, 0x8000_0000, 0xffff_ffff, 0x8000_0000),
+    (Op::DivS, 0x8000_0000, 0x0000_0000, 0xffff_ffff),
+    (Op::DivU, 0xffff_ffec, 0x0000_0006, 0x2aaa_aaa7),
+    (Op::DivU, 0x8000_0000, 0xffff_ffff, 0x0000_0000),
+    (Op::DivU, 0x8000_0000, 0x0000_0000, 0xffff_ffff),
+    (Op::RemS, 0xffff_ffec, 0x0000_0006, 0xffff_fffe),
+    (Op::RemS, 0x0000_0014, 0xffff_fffa, 0x0000_0002),
+    (Op::RemS, 0xffff_ffec, 0xffff_fffa, 0xffff_fffe),
+    (Op::RemS, 0x8000_0000, 0xffff_ffff, 0x0000_0000),
+    (Op::RemS, 0x8000_0000, 0x0000_0000, 0x8000_0000),
+    (Op::RemU, 0xffff_ffec, 0x0000_0006, 0x0000_0002),
+    (Op::RemU, 0x0000_0014, 0xffff_fffa, 0x0000_0014),
+    (Op::RemU, 0x8000_0000, 0x0000_0000, 0x8000_0000),
+    (Op::Sub, 0x0000_0000, 0xffff_8000, 0x0000_8000),
+    (Op::Xor, 0xff00_ff00, 0x0f0f_0f0f, 0xf00f_f00f),
+    (Op::Or, 0xff00_ff00, 0x0f0f_0f0f, 0xff0f_ff0f),
+    (Op::And, 0xff00_ff00, 0x0f0f_0f0f, 0x0f00_0f00),
+    (Op::Shl, 0x2121_2121, 0xffff_ffce, 0x4848_4000),
+    (Op::ShrU, 0x2121_2121, 0xffff_ffce, 0x0000_8484),
+    (Op::ShrS, 0x8181_8181, 0xffff_ffce, 0xfffe_0606),
+    (Op::LtS, 0x8000_0000, 0x0000_7fff, 0x0000_0001),
+    (Op::LtS, 0x7fff_ffff, 0xffff_8000, 0x0000_0000),
+    (Op::LtU, 0x8000_0000, 0x0000_7fff, 0x0000_0000),
+    (Op::LtU, 0x7fff_ffff, 0xffff_8000, 0x0000_0001),
+];
+
+#[test]
+fn gives_what_riscv_tests_expect(rt: HostRuntime) {
+    for (op, a, b, given) in RISCV_TESTS {
+        assert_eq!(rt; apply(op, a, b), given, "{op:?} of {a:x} and {b:x}");
+    }
+}
+
+#[test]
+fn compares_and_chooses_by_sign(rt: HostRuntime) {
+    let (least, greatest) = (0x8000_0000, 0x7fff_ffff);
+    assert_eq!(rt; apply(Op::MinS, greatest, least), least);
+    assert_eq!(rt; apply(Op::MaxS, greatest, least), greatest);
+    assert_eq!(rt; apply(Op::MinU, greatest, least), greatest);
+    assert_eq!(rt; apply(Op::MaxU, greatest, least), least);
+    assert_eq!(rt; apply(Op::LeS, least, greatest), 1);
+    assert_eq!(rt; apply(Op::LeU, least, greatest), 0);
+    assert_eq!(rt; apply(Op::Eq, least, least), 1);
+    assert_eq!(rt; apply(Op::Ne, least, least), 0);
+}
+
+#[test]
+fn prints_and_reads_decimal(rt: HostRuntime) {
+    assert_eq!(rt; signed_text(0).as_slice(), b"0".as_slice());
+    assert_eq!(rt;
+        signed_text(0x7fff_ffff).as_slice(),
+        b"2147483647".as_slice()
+    );
+    assert_eq!(rt;
+        signed_text(0x8000_0000).as_slice(),
+        b"-2147483648".as_slice()
+    );
+    assert_eq!(rt; signed_text(0xffff_ffff).as_slice(), b"-1".as_slice());
+    assert_eq!(rt;
+        unsigned_text(0xffff_ffff).as_slice(),
+        b"4294967295".as_slice()
+    );
+    assert_eq!(rt; read_unsigned(b"00000000004294967295"), Some(0xffff_ffff));
+    assert_eq!(rt; read_unsigned(b"4294967296"), None);
+    assert_eq!(rt; read_unsigned(b""), None);
+    assert_eq!(rt; read_unsigned(b"+1"), None);
+}

@@ -1,0 +1,29 @@
+//! Tests of the crates of rules, layouts and runs.
+#![tactic(auto)]
+
+#[cfg(test)]
+mod flat_list;
+#[cfg(test)]
+mod forms;
+#[cfg(test)]
+mod graph;
+#[cfg(test)]
+mod lookup;
+#[cfg(test)]
+mod lower;
+#[cfg(test)]
+mod operation;
+#[cfg(test)]
+mod references;
+#[cfg(test)]
+mod rules;
+#[cfg(test)]
+mod signs;
+#[cfg(test)]
+mod space;
+#[cfg(test)]
+mod state;
+#[cfg(test)]
+mod store;
+#[cfg(test)]
+mod tree;

@@ -1,0 +1,49 @@
+use fk_references::{Reference, References};
+use fk_syntax::{Expr, Name, Place, Spot, Suffix};
+use std::alloc::{AllocError, Global};
+use std::test::Fail;
+
+const PLACE: Place = Place { line: 1, column: 1 };
+
+fn name(bytes: &'static [u8], at: u32) -> Name<'static> {
+    Name {
+        bytes,
+        at,
+        place: PLACE,
+    }
+}
+
+fn spot(at: u32) -> Spot {
+    Spot { at, place: PLACE }
+}
+
+// s.m->k, by the tokens 0 to 4
+fn chain(alloc: Global) -> Result<Expr<'static>, AllocError> {
+    let suffixes = vec![in alloc;
+        Suffix::Dot(spot(1), name(b"m", 2)),
+        Suffix::Arrow(spot(3), name(b"k", 4)),
+    ]?;
+    Expr::postfix(alloc, Expr::Named(name(b"s", 0)), suffixes)
+}
+
+#[test]
+fn a_member_is_told_with_the_token_before_it(rt: HostRuntime) -> Result<(), Fail> {
+    let expression = chain(rt.alloc())?;
+    let mut references = References::new(rt.alloc());
+    assert_eq!(rt; references.add(&expression)?, 3);
+    assert_eq!(rt; references.list().len(), 3);
+    assert!(rt; matches!(&references.list()[0], Reference::Name(_)));
+    assert!(rt; matches!(&references.list()[1], Reference::Member(0, false, _)));
+    assert!(rt; matches!(&references.list()[2], Reference::Member(1, true, _)));
+    Ok(())
+}
+
+#[test]
+fn what_is_absent_names_nothing(rt: HostRuntime) -> Result<(), Fail> {
+    let mut references = References::new(rt.alloc());
+    references.add_optional(&None)?;
+    assert!(rt; references.list().is_empty());
+    references.add_optional(&Some(Expr::Named(name(b"x", 7))))?;
+    assert_eq!(rt; references.list().len(), 1);
+    Ok(())
+}

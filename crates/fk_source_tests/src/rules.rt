@@ -1,0 +1,39 @@
+use fk_rules::{Fault, Rule, first_of};
+use fk_syntax::Place;
+use std::test::Fail;
+
+fn fault(line: u32, column: u32, rule: Rule) -> Fault {
+    Fault {
+        place: Place { line, column },
+        rule,
+    }
+}
+
+#[test]
+fn rules_have_their_numbers(rt: HostRuntime) -> Result<(), Fail> {
+    assert_eq!(rt; Rule::Undeclared.number(), 1);
+    assert_eq!(rt; Rule::NoStruct.number(), 6);
+    assert_eq!(rt; Rule::WholeAssigned.number(), 20);
+    assert_eq!(rt; Rule::SharedParameter.number(), 40);
+    Ok(())
+}
+
+#[test]
+fn lines_count_before_columns_and_columns_before_rules(rt: HostRuntime) -> Result<(), Fail> {
+    let rows = [
+        fault(1, 9, Rule::NoStruct),
+        fault(2, 3, Rule::NoVariable),
+        fault(2, 3, Rule::WrongSize),
+        fault(2, 10, Rule::Undeclared),
+    ];
+    for (index, first) in rows.iter().enumerate() {
+        for second in &rows[index..] {
+            assert!(rt; first_of(Some(*first), Some(*second)) == Some(*first));
+            assert!(rt; first_of(Some(*second), Some(*first)) == Some(*first));
+        }
+        assert!(rt; first_of(None, Some(*first)) == Some(*first));
+        assert!(rt; first_of(Some(*first), None) == Some(*first));
+    }
+    assert!(rt; first_of(None, None).is_none());
+    Ok(())
+}

@@ -1,0 +1,92 @@
+use fk_space::{Space, heap};
+use std::test::Fail;
+
+// The group space of a program without globals and input.
+fn whole() -> Space {
+    Space::whole(0, 524_288)
+}
+
+#[test]
+fn a_space_is_divided_evenly(rt: HostRuntime) -> Result<(), Fail> {
+    let space = whole();
+    assert_eq!(rt; space.free(), 524_280);
+    assert_eq!(rt; space.share(2), Some(262_136));
+    assert_eq!(rt; space.share(26_214), Some(16));
+    assert_eq!(rt; space.share(26_215), None);
+    assert_eq!(rt; space.share(1 << 30), None);
+    Ok(())
+}
+
+#[test]
+fn parts_follow_each_other(rt: HostRuntime) -> Result<(), Fail> {
+    let space = whole();
+    if space.share(3).is_none() {
+        return Err("no share".into());
+    }
+    // 524,280 - 12 words are 174,756 for each
+    assert_eq!(rt;
+        space.child(3, 0),
+        Space {
+            low: 20,
+            high: 174_776,
+            frames: 28,
+            blocks: 174_776
+        }
+    );
+    assert_eq!(rt; space.child(3, 1).low, 174_776);
+    assert_eq!(rt; space.child(3, 2).high, 524_288);
+    Ok(())
+}
+
+// What a part of two gets of a part of two, and so on, to the last that has 16 words.
+const SHARES: [u32; 14] = [
+    262_136, 131_060, 65_522, 32_753, 16_368, 8_176, 4_080, 2_032, 1_008, 496, 240, 112, 48, 16,
+];
+
+#[test]
+fn parts_are_divided(rt: HostRuntime) -> Result<(), Fail> {
+    let mut space = whole();
+    for words in SHARES {
+        let share = space.share(2);
+        if share.is_none() {
+            return Err("no share".into());
+        }
+        assert_eq!(rt; share, Some(words));
+        space = space.child(2, 1);
+    }
+    assert_eq!(rt; space.share(2), None);
+    Ok(())
+}
+
+#[test]
+fn frames_and_blocks_meet(rt: HostRuntime) -> Result<(), Fail> {
+    let space = Space::whole(100, 20);
+    assert_eq!(rt; space.frame(13), None);
+    let Some(framed) = space.frame(5) else {
+        return Err("no frame".into());
+    };
+    assert_eq!(rt;
+        framed,
+        Space {
+            low: 100,
+            high: 120,
+            frames: 113,
+            blocks: 120
+        }
+    );
+    assert!(rt; framed.block(8).is_none());
+    let Some((first, full)) = framed.block(7) else {
+        return Err("no block".into());
+    };
+    assert_eq!(rt; first, 113);
+    assert_eq!(rt; full.free(), 0);
+    Ok(())
+}
+
+#[test]
+fn a_heap_fills(rt: HostRuntime) -> Result<(), Fail> {
+    assert!(rt; heap(0, 4, 5) == (4, None));
+    assert!(rt; heap(4, 4, 1) == (4, None));
+    assert!(rt; heap(0, 4, 4) == (4, Some(0)));
+    Ok(())
+}
