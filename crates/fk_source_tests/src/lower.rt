@@ -54,7 +54,6 @@ fn loop_that_is_left(rt: HostRuntime) -> Result<(), Fail> {
         assert_eq!(rt; op.kind, kinds[index]);
         assert_eq!(rt; op.target, targets[index]);
     }
-    assert_eq!(rt; lowered.entries.of_bindings[0], 11);
-    assert_eq!(rt; lowered.entries.of_bindings[1], 0);
+    assert_eq!(rt; lowered.entries.of_bindings.as_slice(), [11, 0].as_slice());
     Ok(())
 }
