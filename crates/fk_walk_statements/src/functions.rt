@@ -18,7 +18,7 @@ use fk_syntax::{Function, Item, Stmt};
 use fk_walk::{Known, Visitor, is_nothing};
 
 // What the statements of a function need to know of it.
-fn inside_function(known: &Known, whole: &Function) -> Inside
+fn inside_function(whole: &Function, known: &Known) -> Inside
     requires { IsSound known.now }
     ensures main { result.main ≡ f.is_main (function_of whole.now) }
     ensures framed { result.framed
@@ -31,7 +31,7 @@ fn inside_function(known: &Known, whole: &Function) -> Inside
 }
 
 // The statements of a function, and its end.
-fn body<V: Visitor>(known: &Known, visitor: &mut V, inside: Inside, void: bool, list: &[Stmt])
+fn body<V: Visitor>(list: &[Stmt], void: bool, known: &Known, visitor: &mut V, inside: Inside)
     requires { IsSound known.now }
     ensures { visitor.new ≡ through V.after V.counts (functions_of known.now) visitor.old
         (s.body_of (tables_of known.now) (functions_of known.now) (inside_of inside) void
@@ -49,14 +49,23 @@ pub fn function<V: Visitor>(known: &Known, visitor: &mut V, whole: &Function)
     ensures { visitor.new ≡ through V.after V.counts (functions_of known.now) visitor.old
         (code_in known.now (function_of whole.now)) }
 {
+    show(whole, known, visitor);
+}
+
+// The tree comes first, which makes the proof shorter.
+fn show<V: Visitor>(whole: &Function, known: &Known, visitor: &mut V)
+    requires { IsSound known.now }
+    ensures { visitor.new ≡ through V.after V.counts (functions_of known.now) visitor.old
+        (code_in known.now (function_of whole.now)) }
+{
     if let Some(list) = &whole.body {
-        let inside = inside_function(known, whole);
-        body(known, visitor, inside, is_nothing(&whole.result), list);
+        let inside = inside_function(whole, known);
+        body(list, is_nothing(&whole.result), known, visitor, inside);
     }
 }
 
 // What stands in a text side by side.
-fn item<V: Visitor>(known: &Known, visitor: &mut V, whole: &Item)
+fn item<V: Visitor>(whole: &Item, known: &Known, visitor: &mut V)
     requires { IsSound known.now }
     ensures { (others : List ItemTree)
         → through_all V.after V.counts known.now visitor.old
@@ -64,18 +73,18 @@ fn item<V: Visitor>(known: &Known, visitor: &mut V, whole: &Item)
         ≡ through_all V.after V.counts known.now visitor.new (f.functions_of others) }
 {
     match whole {
-        Item::Function(whole) => function(known, visitor, whole),
+        Item::Function(whole) => show(whole, known, visitor),
         Item::Struct(_, _) | Item::Variables(_) => {}
     }
 }
 
-fn items<V: Visitor>(known: &Known, visitor: &mut V, list: &[Item])
+fn items<V: Visitor>(list: &[Item], known: &Known, visitor: &mut V)
     requires { IsSound known.now }
     ensures { visitor.new ≡ through_all V.after V.counts known.now visitor.old
         (f.functions_of (map item_of list.now)) }
 {
     for one in list {
-        item(known, visitor, one);
+        item(one, known, visitor);
     }
 }
 
@@ -85,5 +94,5 @@ pub fn text<V: Visitor>(known: &Known, visitor: &mut V)
     ensures { visitor.new ≡ through_all V.after V.counts known.now visitor.old
         (functions_in known.now) }
 {
-    items(known, visitor, known.items);
+    items(known.items, known, visitor);
 }
