@@ -31,10 +31,11 @@ impl Tokens {
         let mut tokens = Tokens {
             list: Vec::new(alloc),
         };
-        tokens.add_items(items)?;
+        Self::add_items(items, &mut tokens)?;
         Ok(tokens.list)
     }
 
+    // What is read stands before what it is added to: such calls have shorter proofs than methods.
     fn add(&mut self, around: Around, spot: Spot, word: Word) -> Result<(), AllocError>
         ensures { OnOk result (seen_in self.new ≡ seen_in self.old
             ++ stands around spot word ∷ []) }
@@ -51,254 +52,270 @@ impl Tokens {
     }
 
     // A name that is not one of an expression.
-    fn add_member(&mut self, around: Around, name: &Name) -> Result<(), AllocError>
-        ensures { OnOk result (seen_in self.new ≡ seen_in self.old
+    fn add_member(name: &Name, around: Around, kept: &mut Self) -> Result<(), AllocError>
+        ensures { OnOk result (seen_in kept.new ≡ seen_in kept.old
             ++ other around (spot_of (named name.now)) ∷ []) }
     {
-        self.add_other(around, spot_of(name))
+        kept.add_other(around, spot_of(name))
     }
 
     #[cycle(expression)]
-    fn add_expression(&mut self, around: Around, expression: &Expr) -> Result<(), AllocError>
-        ensures { OnOk result (seen_in self.new
-            ≡ seen_in self.old ++ tree_tokens around (tree_of expression.now)) }
+    fn add_expression(expression: &Expr, around: Around, kept: &mut Self) -> Result<(), AllocError>
+        ensures { OnOk result (seen_in kept.new
+            ≡ seen_in kept.old ++ tree_tokens around (tree_of expression.now)) }
     {
         match expression {
             Expr::Number(spot, _, _)
             | Expr::Puts(spot, _)
             | Expr::Sizeof(spot, _)
             | Expr::GroupNumber(spot)
-            | Expr::GroupRank(spot) => self.add_other(around, *spot),
+            | Expr::GroupRank(spot) => kept.add_other(around, *spot),
             Expr::Named(name) => {
-                self.add(around, spot_of(name), Word::Name(spelling_of(name.bytes)))
+                kept.add(around, spot_of(name), Word::Name(spelling_of(name.bytes)))
             }
             Expr::Prefix(spot, _, operand) | Expr::Cast(spot, _, operand) => {
-                self.add_other(around, *spot)?;
-                self.add_expression(around, operand)
+                kept.add_other(around, *spot)?;
+                Self::add_expression(operand, around, kept)
             }
             Expr::Chain(first, links) => {
-                self.add_expression(around, first)?;
-                self.add_links(around, links)
+                Self::add_expression(first, around, kept)?;
+                Self::add_links(links, around, kept)
             }
             Expr::Postfix(whole, suffixes) => {
-                self.add_expression(around, whole)?;
-                self.add_suffixes(around, suffixes)
+                Self::add_expression(whole, around, kept)?;
+                Self::add_suffixes(suffixes, around, kept)
             }
             Expr::Assign(spot, _, target, value) => {
-                self.add_other(around, *spot)?;
-                self.add_expression(around, target)?;
-                self.add_expression(around, value)
+                kept.add_other(around, *spot)?;
+                Self::add_expression(target, around, kept)?;
+                Self::add_expression(value, around, kept)
             }
             Expr::Choose(spot, condition, first, second) => {
-                self.add(around, *spot, Word::Branching)?;
-                self.add_expression(around, condition)?;
-                self.add_expression(around, first)?;
-                self.add_expression(around, second)
+                kept.add(around, *spot, Word::Branching)?;
+                Self::add_expression(condition, around, kept)?;
+                Self::add_expression(first, around, kept)?;
+                Self::add_expression(second, around, kept)
             }
         }
     }
 
     #[cycle(expression)]
-    fn add_links(&mut self, around: Around, links: &[Link]) -> Result<(), AllocError>
-        ensures { OnOk result (seen_in self.new ≡ seen_in self.old
+    fn add_links(links: &[Link], around: Around, kept: &mut Self) -> Result<(), AllocError>
+        ensures { OnOk result (seen_in kept.new ≡ seen_in kept.old
             ++ links_tokens around (links_of (map link_of links.now))) }
     {
         for link in links {
-            self.add(around, link.spot, word_of_sign(link.sign))?;
-            self.add_expression(around, &link.right)?;
+            kept.add(around, link.spot, word_of_sign(link.sign))?;
+            Self::add_expression(&link.right, around, kept)?;
         }
         Ok(())
     }
 
     #[cycle(expression)]
-    fn add_suffixes(&mut self, around: Around, suffixes: &[Suffix]) -> Result<(), AllocError>
-        ensures { OnOk result (seen_in self.new ≡ seen_in self.old
+    fn add_suffixes(suffixes: &[Suffix], around: Around, kept: &mut Self) -> Result<(), AllocError>
+        ensures { OnOk result (seen_in kept.new ≡ seen_in kept.old
             ++ suffixes_tokens around (suffixes_of (map suffix_of suffixes.now))) }
     {
         for suffix in suffixes {
             match suffix {
                 Suffix::Index(spot, by) => {
-                    self.add_other(around, *spot)?;
-                    self.add_expression(around, by)?;
+                    kept.add_other(around, *spot)?;
+                    Self::add_expression(by, around, kept)?;
                 }
                 Suffix::Call(spot, arguments) => {
-                    self.add_other(around, *spot)?;
-                    self.add_expressions(around, arguments)?;
+                    kept.add_other(around, *spot)?;
+                    Self::add_expressions(arguments, around, kept)?;
                 }
                 Suffix::Dot(spot, member) | Suffix::Arrow(spot, member) => {
-                    self.add_other(around, *spot)?;
-                    self.add_member(around, member)?;
+                    kept.add_other(around, *spot)?;
+                    Self::add_member(member, around, kept)?;
                 }
-                Suffix::Up(spot) | Suffix::Down(spot) => self.add_other(around, *spot)?,
+                Suffix::Up(spot) | Suffix::Down(spot) => kept.add_other(around, *spot)?,
             }
         }
         Ok(())
     }
 
     #[cycle(expression)]
-    fn add_expressions(&mut self, around: Around, expressions: &[Expr]) -> Result<(), AllocError>
-        ensures { OnOk result (seen_in self.new ≡ seen_in self.old
+    fn add_expressions(
+        expressions: &[Expr],
+        around: Around,
+        kept: &mut Self,
+    ) -> Result<(), AllocError>
+        ensures { OnOk result (seen_in kept.new ≡ seen_in kept.old
             ++ trees_tokens around (trees_of (map tree_of expressions.now))) }
     {
         for expression in expressions {
-            self.add_expression(around, expression)?;
+            Self::add_expression(expression, around, kept)?;
         }
         Ok(())
     }
 
-    fn add_optional(&mut self, around: Around, value: &Option<Expr>) -> Result<(), AllocError>
-        ensures { OnOk result (seen_in self.new ≡ seen_in self.old
+    fn add_optional(value: &Option<Expr>, around: Around, kept: &mut Self) -> Result<(), AllocError>
+        ensures { OnOk result (seen_in kept.new ≡ seen_in kept.old
             ++ optional_tokens around (option_map tree_of value.now)) }
     {
         match value {
-            Some(value) => self.add_expression(around, value),
+            Some(value) => Self::add_expression(value, around, kept),
             None => Ok(()),
         }
     }
 
-    fn add_variable(&mut self, around: Around, variable: &Declared) -> Result<(), AllocError>
-        ensures { OnOk result (seen_in self.new ≡ seen_in self.old
+    fn add_variable(variable: &Declared, around: Around, kept: &mut Self) -> Result<(), AllocError>
+        ensures { OnOk result (seen_in kept.new ≡ seen_in kept.old
             ++ variable_tokens around (declared_of variable.now)) }
     {
-        self.add_member(around, &variable.name)?;
-        self.add_optional(around, &variable.first)
+        Self::add_member(&variable.name, around, kept)?;
+        Self::add_optional(&variable.first, around, kept)
     }
 
-    fn add_variables(&mut self, around: Around, variables: &[Declared]) -> Result<(), AllocError>
-        ensures { OnOk result (seen_in self.new ≡ seen_in self.old
+    fn add_variables(
+        variables: &[Declared],
+        around: Around,
+        kept: &mut Self,
+    ) -> Result<(), AllocError>
+        ensures { OnOk result (seen_in kept.new ≡ seen_in kept.old
             ++ variables_tokens around (map declared_of variables.now)) }
     {
         for variable in variables {
-            self.add_variable(around, variable)?;
+            Self::add_variable(variable, around, kept)?;
         }
         Ok(())
     }
 
     // The three expressions of a `for`.
-    fn add_head(
-        &mut self,
+    fn add_head<'e, 'a>(
+        before: &'e Option<Expr<'a>>,
+        condition: &'e Option<Expr<'a>>,
+        after: &'e Option<Expr<'a>>,
         around: Around,
-        before: &Option<Expr>,
-        condition: &Option<Expr>,
-        after: &Option<Expr>,
+        kept: &mut Self,
     ) -> Result<(), AllocError>
-        ensures { OnOk result (seen_in self.new ≡ seen_in self.old
+        ensures { OnOk result (seen_in kept.new ≡ seen_in kept.old
             ++ (optional_tokens around (option_map tree_of before.now)
             ++ optional_tokens around (option_map tree_of condition.now)
             ++ optional_tokens around (option_map tree_of after.now))) }
     {
-        self.add_optional(around, before)?;
-        self.add_optional(around, condition)?;
-        self.add_optional(around, after)
+        Self::add_optional(before, around, kept)?;
+        Self::add_optional(condition, around, kept)?;
+        Self::add_optional(after, around, kept)
     }
 
     // The three expressions of a `fork`.
-    fn add_parts(
-        &mut self,
+    fn add_parts<'e, 'a>(
+        parts: &'e Expr<'a>,
+        part: &'e Expr<'a>,
+        rank: &'e Option<Expr<'a>>,
         around: Around,
-        parts: &Expr,
-        part: &Expr,
-        rank: &Option<Expr>,
+        kept: &mut Self,
     ) -> Result<(), AllocError>
-        ensures { OnOk result (seen_in self.new ≡ seen_in self.old
+        ensures { OnOk result (seen_in kept.new ≡ seen_in kept.old
             ++ (tree_tokens around (tree_of parts.now)
             ++ tree_tokens around (tree_of part.now)
             ++ optional_tokens around (option_map tree_of rank.now))) }
     {
-        self.add_expression(around, parts)?;
-        self.add_expression(around, part)?;
-        self.add_optional(around, rank)
+        Self::add_expression(parts, around, kept)?;
+        Self::add_expression(part, around, kept)?;
+        Self::add_optional(rank, around, kept)
     }
 
     // A keyword and the expression after it.
     fn add_value(
-        &mut self,
+        value: &Option<Expr>,
         around: Around,
         spot: Spot,
         word: Word,
-        value: &Option<Expr>,
+        kept: &mut Self,
     ) -> Result<(), AllocError>
-        ensures { OnOk result (seen_in self.new ≡ seen_in self.old
+        ensures { OnOk result (seen_in kept.new ≡ seen_in kept.old
             ++ (stands around spot word ∷ optional_tokens around (option_map tree_of value.now))) }
     {
-        self.add(around, spot, word)?;
-        self.add_optional(around, value)
+        kept.add(around, spot, word)?;
+        Self::add_optional(value, around, kept)
     }
 
     // A keyword and the condition after it.
     fn add_condition(
-        &mut self,
+        condition: &Expr,
         around: Around,
         spot: Spot,
         word: Word,
-        condition: &Expr,
+        kept: &mut Self,
     ) -> Result<(), AllocError>
-        ensures { OnOk result (seen_in self.new ≡ seen_in self.old
+        ensures { OnOk result (seen_in kept.new ≡ seen_in kept.old
             ++ (stands around spot word ∷ tree_tokens around (tree_of condition.now))) }
     {
-        self.add(around, spot, word)?;
-        self.add_expression(around, condition)
+        kept.add(around, spot, word)?;
+        Self::add_expression(condition, around, kept)
     }
 
     // What stands directly in a statement: its keyword and its expressions.
-    fn add_own(&mut self, around: Around, statement: &Stmt) -> Result<(), AllocError>
-        ensures { OnOk result (seen_in self.new
-            ≡ seen_in self.old ++ own_tokens around (statement_of statement.now)) }
+    fn add_own(statement: &Stmt, around: Around, kept: &mut Self) -> Result<(), AllocError>
+        ensures { OnOk result (seen_in kept.new
+            ≡ seen_in kept.old ++ own_tokens around (statement_of statement.now)) }
     {
         match statement {
             Stmt::Empty | Stmt::Block(_) => Ok(()),
-            Stmt::Expression(value) => self.add_expression(around, value),
-            Stmt::Declare(variables) => self.add_variables(around, variables),
+            Stmt::Expression(value) => Self::add_expression(value, around, kept),
+            Stmt::Declare(variables) => Self::add_variables(variables, around, kept),
             Stmt::If(spot, condition, _, _) => {
-                self.add_condition(around, *spot, Word::If, condition)
+                Self::add_condition(condition, around, *spot, Word::If, kept)
             }
             Stmt::While(spot, condition, _) | Stmt::DoWhile(spot, _, condition) => {
-                self.add_condition(around, *spot, Word::Loop, condition)
+                Self::add_condition(condition, around, *spot, Word::Loop, kept)
             }
             Stmt::For(spot, before, condition, after, _) => {
-                self.add(around, *spot, Word::Loop)?;
-                self.add_head(around, before, condition, after)
+                kept.add(around, *spot, Word::Loop)?;
+                Self::add_head(before, condition, after, around, kept)
             }
-            Stmt::Start(spot, count, _) => self.add_value(around, *spot, Word::Start, count),
-            Stmt::Farm(spot, _) => self.add(around, *spot, Word::Farm),
-            Stmt::Seq(spot, _) => self.add(around, *spot, Word::Seq),
+            Stmt::Start(spot, count, _) => Self::add_value(count, around, *spot, Word::Start, kept),
+            Stmt::Farm(spot, _) => kept.add(around, *spot, Word::Farm),
+            Stmt::Seq(spot, _) => kept.add(around, *spot, Word::Seq),
             Stmt::Fork(spot, parts, part, rank, _) => {
-                self.add(around, *spot, Word::Fork)?;
-                self.add_parts(around, parts, part, rank)
+                kept.add(around, *spot, Word::Fork)?;
+                Self::add_parts(parts, part, rank, around, kept)
             }
-            Stmt::Barrier(spot) => self.add(around, *spot, Word::Barrier),
-            Stmt::Break(spot) => self.add(around, *spot, Word::Break),
-            Stmt::Continue(spot) => self.add(around, *spot, Word::Continue),
-            Stmt::Return(spot, value) => self.add_value(around, *spot, Word::Return, value),
+            Stmt::Barrier(spot) => kept.add(around, *spot, Word::Barrier),
+            Stmt::Break(spot) => kept.add(around, *spot, Word::Break),
+            Stmt::Continue(spot) => kept.add(around, *spot, Word::Continue),
+            Stmt::Return(spot, value) => Self::add_value(value, around, *spot, Word::Return, kept),
         }
     }
 
     #[cycle(statement)]
-    fn add_statement(&mut self, around: Around, statement: &Stmt) -> Result<(), AllocError>
-        ensures { OnOk result (seen_in self.new
-            ≡ seen_in self.old ++ statement_tokens within around (statement_of statement.now)) }
+    fn add_statement(statement: &Stmt, around: Around, kept: &mut Self) -> Result<(), AllocError>
+        ensures { OnOk result (seen_in kept.new
+            ≡ seen_in kept.old ++ statement_tokens within around (statement_of statement.now)) }
     {
-        self.add_own(around, statement)?;
+        Self::add_own(statement, around, kept)?;
         match statement {
             Stmt::Block(statements) => {
-                self.add_statements(around.within(Holder::Block), statements)
+                Self::add_statements(statements, around.within(Holder::Block), kept)
             }
             Stmt::If(_, _, then, otherwise) => {
-                self.add_statement(around.within(Holder::Branch), then)?;
+                Self::add_statement(then, around.within(Holder::Branch), kept)?;
                 match otherwise {
                     Some(otherwise) => {
-                        self.add_statement(around.within(Holder::Branch), otherwise)
+                        Self::add_statement(otherwise, around.within(Holder::Branch), kept)
                     }
                     None => Ok(()),
                 }
             }
             Stmt::While(_, _, body) | Stmt::DoWhile(_, body, _) | Stmt::For(_, _, _, _, body) => {
-                self.add_statement(around.within(Holder::Loop), body)
+                Self::add_statement(body, around.within(Holder::Loop), kept)
             }
-            Stmt::Start(_, _, body) => self.add_statement(around.within(Holder::Start), body),
-            Stmt::Farm(_, body) => self.add_statement(around.within(Holder::Farm), body),
-            Stmt::Seq(_, body) => self.add_statement(around.within(Holder::Seq), body),
-            Stmt::Fork(_, _, _, _, body) => self.add_statement(around.within(Holder::Fork), body),
+            Stmt::Start(_, _, body) => Self::add_statement(
+                body,
+                around.within(Holder::Start),
+                kept,
+            ),
+            Stmt::Farm(_, body) => Self::add_statement(body, around.within(Holder::Farm), kept),
+            Stmt::Seq(_, body) => Self::add_statement(body, around.within(Holder::Seq), kept),
+            Stmt::Fork(_, _, _, _, body) => Self::add_statement(
+                body,
+                around.within(Holder::Fork),
+                kept,
+            ),
             Stmt::Empty
             | Stmt::Expression(_)
             | Stmt::Declare(_)
@@ -310,44 +327,52 @@ impl Tokens {
     }
 
     #[cycle(statement)]
-    fn add_statements(&mut self, around: Around, statements: &[Stmt]) -> Result<(), AllocError>
-        ensures { OnOk result (seen_in self.new ≡ seen_in self.old
+    fn add_statements(
+        statements: &[Stmt],
+        around: Around,
+        kept: &mut Self,
+    ) -> Result<(), AllocError>
+        ensures { OnOk result (seen_in kept.new ≡ seen_in kept.old
             ++ statements_tokens within around (statements_of (map statement_of statements.now))) }
     {
         for statement in statements {
-            self.add_statement(around, statement)?;
+            Self::add_statement(statement, around, kept)?;
         }
         Ok(())
     }
 
-    fn add_function(&mut self, function: &Function) -> Result<(), AllocError>
-        ensures { OnOk result (seen_in self.new ≡ seen_in self.old
+    fn add_function(function: &Function, kept: &mut Self) -> Result<(), AllocError>
+        ensures { OnOk result (seen_in kept.new ≡ seen_in kept.old
             ++ body_tokens within (within (holder_of (function_of function.now)) outside)
             (function_of function.now).body) }
     {
         match &function.body {
-            Some(body) => self.add_statements(Around::outside().within(holder_of(function)), body),
+            Some(body) => Self::add_statements(
+                body,
+                Around::outside().within(holder_of(function)),
+                kept,
+            ),
             None => Ok(()),
         }
     }
 
-    fn add_item(&mut self, item: &Item) -> Result<(), AllocError>
-        ensures { OnOk result (seen_in self.new
-            ≡ seen_in self.old ++ item_tokens within outside (item_of item.now)) }
+    fn add_item(item: &Item, kept: &mut Self) -> Result<(), AllocError>
+        ensures { OnOk result (seen_in kept.new
+            ≡ seen_in kept.old ++ item_tokens within outside (item_of item.now)) }
     {
         match item {
             Item::Struct(_, _) => Ok(()),
-            Item::Variables(variables) => self.add_variables(Around::outside(), variables),
-            Item::Function(function) => self.add_function(function),
+            Item::Variables(variables) => Self::add_variables(variables, Around::outside(), kept),
+            Item::Function(function) => Self::add_function(function, kept),
         }
     }
 
-    fn add_items(&mut self, items: &[Item]) -> Result<(), AllocError>
-        ensures { OnOk result (seen_in self.new
-            ≡ seen_in self.old ++ items_tokens within outside (map item_of items.now)) }
+    fn add_items(items: &[Item], kept: &mut Self) -> Result<(), AllocError>
+        ensures { OnOk result (seen_in kept.new
+            ≡ seen_in kept.old ++ items_tokens within outside (map item_of items.now)) }
     {
         for item in items {
-            self.add_item(item)?;
+            Self::add_item(item, kept)?;
         }
         Ok(())
     }
