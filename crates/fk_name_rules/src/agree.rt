@@ -8,7 +8,7 @@ ghost use Rattle.fk_name_rules.specs.Headers.{IsSameBase, IsSameType, IsSamePara
 use fk_syntax::{Base, Declared, Function, TypeName};
 
 // Whether types begin with the same words.
-fn is_same_base(base: &Base, other: &Base) -> bool
+fn is_same_base<'i, 't>(base: &'i Base<'t>, other: &'i Base<'t>) -> bool
     ensures { IsTrue result ↔ IsSameBase (base_of base.now) (base_of other.now) }
 {
     match base {
@@ -23,14 +23,14 @@ fn is_same_base(base: &Base, other: &Base) -> bool
 }
 
 // Whether types are spelled alike.
-fn is_same_type(kind: &TypeName, other: &TypeName) -> bool
+fn is_same_type<'i, 't>(kind: &'i TypeName<'t>, other: &'i TypeName<'t>) -> bool
     ensures { IsTrue result ↔ IsSameType (type_of kind.now) (type_of other.now) }
 {
     is_same_base(&kind.base, &other.base) && other.stars == kind.stars
 }
 
 // Whether parameters have the same type and sharing.
-fn is_same_parameter(parameter: &Declared, other: &Declared) -> bool
+fn is_same_parameter<'i, 't>(parameter: &'i Declared<'t>, other: &'i Declared<'t>) -> bool
     ensures { IsTrue result
         ↔ IsSameParameter (declared_of parameter.now) (declared_of other.now) }
 {
@@ -40,7 +40,7 @@ fn is_same_parameter(parameter: &Declared, other: &Declared) -> bool
 }
 
 // Whether there are as many parameters, each with the same type and sharing.
-fn are_same_parameters(parameters: &[Declared], others: &[Declared]) -> bool
+fn are_same_parameters<'i, 't>(parameters: &'i [Declared<'t>], others: &'i [Declared<'t>]) -> bool
     ensures { IsTrue result
         ↔ AreSameParameters (map declared_of parameters.now) (map declared_of others.now) }
 {
@@ -56,7 +56,7 @@ fn are_same_parameters(parameters: &[Declared], others: &[Declared]) -> bool
 }
 
 /// Whether headers agree in mode, result and parameters.
-pub(crate) fn agree(header: &Function, other: &Function) -> bool
+pub(crate) fn agree<'i, 't>(header: &'i Function<'t>, other: &'i Function<'t>) -> bool
     ensures { IsTrue result ↔ Agree (function_of header.now) (function_of other.now) }
 {
     other.mode == header.mode

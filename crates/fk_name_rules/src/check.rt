@@ -2,8 +2,12 @@
 
 ghost use Rattle.std.specs.Prelude.{IfOk, map};
 ghost use Rattle.fk_syntax.specs.ProgramView.{item_of, program_of};
-ghost use Rattle.fk_rules.specs.Least.{IsLeast, among};
+ghost use Rattle.fk_rules.specs.declared.rule.Rule.TheVariants.{NoMain};
+ghost use Rattle.fk_rules.specs.Least.{IsLeast, among, either};
+ghost use Rattle.fk_rules.specs.Told.{told};
+ghost use Rattle.fk_names.specs.Outline.{items_marks};
 ghost use Rattle.fk_names.specs.View.{mark_of};
+ghost use Rattle.fk_name_rules.specs.Headers.{HasNoMain};
 ghost use Rattle.fk_name_rules.specs.Found.{MarkBreaks, ItemBreaks};
 ghost use Rattle.fk_name_rules.specs.Known.{AreHeaders};
 ghost use Rattle.fk_name_rules.specs.Broken.{NamesBreak};
@@ -12,7 +16,7 @@ use crate::headers::Headers;
 use crate::named::mark_fault;
 use fk_names::{Mark, Outline, Reader};
 use fk_rules::{Fault, Rule, fault_if, first_of};
-use fk_syntax::{Item, Program};
+use fk_syntax::{Item, Place, Program};
 use std::alloc::{AllocError, Global};
 
 // The first that names break where they are used and where they are declared.
@@ -23,22 +27,41 @@ fn marks_fault(alloc: Global, marks: &[Mark]) -> Result<Option<Fault>, AllocErro
     let mut reader = Reader::new(alloc, marks)?;
     let mut fault = None;
     for at in 0..marks.len() {
-        fault = first_of(fault, mark_fault(&reader, marks, at));
+        fault = first_of(fault, mark_fault(marks, at, &reader));
         reader.pass(at)?;
     }
     Ok(fault)
 }
 
 // The first that headers break.
-fn headers_fault(headers: &Headers, items: &[Item]) -> Option<Fault>
+fn headers_fault(items: &[Item], headers: &Headers) -> Option<Fault>
     requires { AreHeaders (map item_of items.now) headers.now }
     ensures { IsLeast (among (ItemBreaks (map item_of items.now)) (map item_of items.now)) result }
 {
     let mut fault = None;
     for (at, item) in items.iter().enumerate() {
-        fault = first_of(fault, headers.fault(items, at, item));
+        fault = first_of(fault, Headers::fault(items, at, item, headers));
     }
     fault
+}
+
+// The first that the names in items break where they are used and where they are declared.
+fn named_fault(alloc: Global, items: &[Item]) -> Result<Option<Fault>, AllocError>
+    ensures { IfOk result (IsLeast (among (MarkBreaks (items_marks (map item_of items.now)))
+        (items_marks (map item_of items.now)))) }
+{
+    let outline = Outline::of(alloc, items)?;
+    marks_fault(alloc, outline.marks())
+}
+
+// The first that the headers of functions break, where a text ends at a place.
+fn functions_fault(alloc: Global, items: &[Item], end: Place) -> Result<Option<Fault>, AllocError>
+    ensures { IfOk result (IsLeast (either (told NoMain end (HasNoMain (map item_of items.now)))
+        (among (ItemBreaks (map item_of items.now)) (map item_of items.now)))) }
+{
+    let headers = Headers::of(alloc, items)?;
+    let main = fault_if(Rule::NoMain, end, Headers::has_no_main(items, &headers));
+    Ok(first_of(main, headers_fault(items, &headers)))
 }
 
 /// The first rule about the names of variables and functions that a program breaks, by its place and
@@ -49,14 +72,8 @@ fn headers_fault(headers: &Headers, items: &[Item]) -> Option<Fault>
 pub fn name_fault(alloc: Global, program: &Program) -> Result<Option<Fault>, AllocError>
     ensures { IfOk result (IsLeast (NamesBreak (program_of program.now))) }
 {
-    let outline = Outline::of(alloc, &program.items)?;
-    let marks = marks_fault(alloc, outline.marks())?;
-    let headers = Headers::of(alloc, &program.items)?;
-    let main = fault_if(
-        Rule::NoMain,
-        program.end,
-        headers.has_no_main(&program.items),
-    );
-    let functions = first_of(main, headers_fault(&headers, &program.items));
+    let items: &[Item] = &program.items;
+    let marks = named_fault(alloc, items)?;
+    let functions = functions_fault(alloc, items, program.end)?;
     Ok(first_of(marks, functions))
 }

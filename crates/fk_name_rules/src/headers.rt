@@ -130,11 +130,11 @@ impl<'a> Headers<'a> {
     }
 
     // Whether a header doesn't agree with the first one of its function.
-    fn differs(&self, items: &[Item], function: &Function) -> bool
-        requires { AreHeaders (map item_of items.now) self.now }
+    fn differs<'i, 't>(items: &'i [Item<'t>], function: &'i Function<'t>, headers: &Self) -> bool
+        requires { AreHeaders (map item_of items.now) headers.now }
         ensures { IsTrue result ↔ Differs (map item_of items.now) (function_of function.now) }
     {
-        match self.firsts.get(function.name.bytes) {
+        match headers.firsts.get(function.name.bytes) {
             Some(first) => match &items[first] {
                 Item::Function(header) => !agree(header, function),
                 Item::Struct(_, _) | Item::Variables(_) => false,
@@ -144,26 +144,36 @@ impl<'a> Headers<'a> {
     }
 
     // Whether the header of an index has a body, and an earlier one of its function has one too.
-    fn repeats_body(&self, items: &[Item], at: usize, function: &Function) -> bool
-        requires { AreHeaders (map item_of items.now) self.now }
+    fn repeats_body<'i, 't>(
+        items: &'i [Item<'t>],
+        at: usize,
+        function: &'i Function<'t>,
+        headers: &Self,
+    ) -> bool
+        requires { AreHeaders (map item_of items.now) headers.now }
         ensures { IsTrue result
             ↔ RepeatsBody (map item_of items.now) at (function_of function.now) }
     {
-        match self.bodies.get(function.name.bytes) {
+        match headers.bodies.get(function.name.bytes) {
             Some(first) => function.body.is_some() && first < at,
             None => false,
         }
     }
 
     // Whether a function has no body, and the header of an index is its second one or the only one.
-    fn lacks_body(&self, items: &[Item], at: usize, function: &Function) -> bool
-        requires { AreHeaders (map item_of items.now) self.now }
+    fn lacks_body<'i, 't>(
+        items: &'i [Item<'t>],
+        at: usize,
+        function: &'i Function<'t>,
+        headers: &Self,
+    ) -> bool
+        requires { AreHeaders (map item_of items.now) headers.now }
         ensures { IsTrue result
             ↔ LacksBody (map item_of items.now) at (function_of function.now) }
     {
-        match self.bodies.get(function.name.bytes) {
+        match headers.bodies.get(function.name.bytes) {
             Some(_) => false,
-            None => match self.seconds.get(function.name.bytes) {
+            None => match headers.seconds.get(function.name.bytes) {
                 Some(second) => second == at,
                 None => true,
             },
@@ -171,25 +181,35 @@ impl<'a> Headers<'a> {
     }
 
     // Whether the header of an index is wrong beside the others of its function.
-    fn is_wrong(&self, items: &[Item], at: usize, function: &Function) -> bool
-        requires { AreHeaders (map item_of items.now) self.now }
+    fn is_wrong<'i, 't>(
+        items: &'i [Item<'t>],
+        at: usize,
+        function: &'i Function<'t>,
+        headers: &Self,
+    ) -> bool
+        requires { AreHeaders (map item_of items.now) headers.now }
         ensures { IsTrue result
             ↔ IsWrongHeader (map item_of items.now) at (function_of function.now) }
     {
-        self.differs(items, function)
-            || self.repeats_body(items, at, function)
-            || self.lacks_body(items, at, function)
+        Self::differs(items, function, headers)
+            || Self::repeats_body(items, at, function, headers)
+            || Self::lacks_body(items, at, function, headers)
     }
 
     /// The first that the item of an index breaks, where it is a header.
-    pub(crate) fn fault(&self, items: &[Item], at: usize, item: &Item) -> Option<Fault>
-        requires { AreHeaders (map item_of items.now) self.now }
+    pub(crate) fn fault<'i, 't>(
+        items: &'i [Item<'t>],
+        at: usize,
+        item: &'i Item<'t>,
+        headers: &Self,
+    ) -> Option<Fault>
+        requires { AreHeaders (map item_of items.now) headers.now }
         ensures { IsLeast (ItemBreaks (map item_of items.now) at (item_of item.now)) result }
     {
         match item {
             Item::Function(function) => {
                 let place = function.name.place;
-                let wrong = self.is_wrong(items, at, function);
+                let wrong = Self::is_wrong(items, at, function, headers);
                 let main = is_wrong_main(function);
                 first_of(
                     fault_if(Rule::HeadersDiffer, place, wrong),
@@ -201,10 +221,10 @@ impl<'a> Headers<'a> {
     }
 
     /// Whether no function is called `main`.
-    pub(crate) fn has_no_main(&self, items: &[Item]) -> bool
-        requires { AreHeaders (map item_of items.now) self.now }
+    pub(crate) fn has_no_main(items: &[Item], headers: &Self) -> bool
+        requires { AreHeaders (map item_of items.now) headers.now }
         ensures { IsTrue result ↔ HasNoMain (map item_of items.now) }
     {
-        self.firsts.get(b"main").is_none()
+        headers.firsts.get(b"main").is_none()
     }
 }

@@ -25,7 +25,7 @@ fn name_place(declaration: &Declaration) -> Place
 }
 
 // Whether a mark and a declaration are both headers.
-fn are_headers(mark: &Mark, declaration: &Declaration) -> bool
+fn are_headers<'m, 'p, 't>(mark: &'m Mark<'p, 't>, declaration: &'m Declaration<'p, 't>) -> bool
     ensures { result ≡ are_headers (mark_of mark.now) (declaration_of declaration.now) }
 {
     match declaration {
@@ -47,7 +47,12 @@ fn is_undeclared(reader: &Reader, name: &[u8]) -> bool
 
 // Whether a declaration where the reader is has the name of an earlier one of its scope, other than
 // by another header of its function.
-fn is_again(reader: &Reader, marks: &[Mark], at: usize, declaration: &Declaration) -> bool
+fn is_again<'m, 'p, 't>(
+    marks: &'m [Mark<'p, 't>],
+    at: usize,
+    declaration: &'m Declaration<'p, 't>,
+    reader: &Reader<'m, 'p, 't>,
+) -> bool
     requires here { IsAt reader.now at }
     requires same { marks_of reader.now ≡ map mark_of marks.now }
     requires within { at < length marks.now }
@@ -64,7 +69,12 @@ fn is_again(reader: &Reader, marks: &[Mark], at: usize, declaration: &Declaratio
 
 // Whether a declaration where the reader is has, at file scope, a name that is declared before each
 // text.
-fn is_taken(reader: &Reader, marks: &[Mark], at: usize, declaration: &Declaration) -> bool
+fn is_taken<'m, 'p, 't>(
+    marks: &'m [Mark<'p, 't>],
+    at: usize,
+    declaration: &'m Declaration<'p, 't>,
+    reader: &Reader<'m, 'p, 't>,
+) -> bool
     requires here { IsAt reader.now at }
     requires same { marks_of reader.now ≡ map mark_of marks.now }
     requires within { at < length marks.now }
@@ -75,18 +85,27 @@ fn is_taken(reader: &Reader, marks: &[Mark], at: usize, declaration: &Declaratio
 }
 
 // Whether a declaration where the reader is has a name that is declared already.
-fn is_twice(reader: &Reader, marks: &[Mark], at: usize, declaration: &Declaration) -> bool
+fn is_twice<'m, 'p, 't>(
+    marks: &'m [Mark<'p, 't>],
+    at: usize,
+    declaration: &'m Declaration<'p, 't>,
+    reader: &Reader<'m, 'p, 't>,
+) -> bool
     requires here { IsAt reader.now at }
     requires same { marks_of reader.now ≡ map mark_of marks.now }
     requires within { at < length marks.now }
     ensures { IsTrue result ↔ (IsAgain (map mark_of marks.now) at (declaration_of declaration.now)
         ⊎ IsTaken (map mark_of marks.now) at (declaration_of declaration.now)) }
 {
-    is_again(reader, marks, at, declaration) || is_taken(reader, marks, at, declaration)
+    is_again(marks, at, declaration, reader) || is_taken(marks, at, declaration, reader)
 }
 
 /// What the mark of an index breaks, where the reader is at it.
-pub(crate) fn mark_fault(reader: &Reader, marks: &[Mark], at: usize) -> Option<Fault>
+pub(crate) fn mark_fault<'m, 'p, 't>(
+    marks: &'m [Mark<'p, 't>],
+    at: usize,
+    reader: &Reader<'m, 'p, 't>,
+) -> Option<Fault>
     requires here { IsAt reader.now at }
     requires same { marks_of reader.now ≡ map mark_of marks.now }
     requires within { at < length marks.now }
@@ -100,7 +119,7 @@ pub(crate) fn mark_fault(reader: &Reader, marks: &[Mark], at: usize) -> Option<F
             fault_if(Rule::Undeclared, name.place, broken)
         }
         Mark::Declares(declaration) => {
-            let broken = is_twice(reader, marks, at, declaration);
+            let broken = is_twice(marks, at, declaration, reader);
             fault_if(Rule::DeclaredTwice, name_place(declaration), broken)
         }
     }
