@@ -2,7 +2,7 @@
 -- processors run by themselves nothing splits and no group begins, but by `start` on the outermost level of `main`; and there
 -- is no `fork`.
 use Rattle.std.specs.Prelude.{◌≡◌, ℕ, ◌≤◌, ◌==◌, Bool, true, false, List, [], ◌∷◌, Option, Some, None}
-use Rattle.fk_syntax.specs.Tree.{Named, Tree, Links, Trees, Suffixes}
+use Rattle.fk_syntax.specs.Tree.{Named, Tree}
 use Rattle.fk_syntax.specs.Program as p
 use Rattle.fk_syntax.specs.Program.{DeclaredTree, Statement, Statements, FunctionTree, ProgramTree}
 use Rattle.fk_forms.specs.Tables.{Tables, note}
@@ -30,15 +30,6 @@ module _ (tables : Tables) (may_call : (in_group : Bool) → (function : ℕ) �
 
     abbrev pub InPlace : Tree → Type 0
     InPlace e = told.Told Splits Calls e
-
-    abbrev pub LinksInPlace : Links → Type 0
-    LinksInPlace links = told.LinksTold Splits Calls links
-
-    abbrev pub SuffixesInPlace : Suffixes → Type 0
-    SuffixesInPlace suffixes = told.SuffixesTold Splits Calls suffixes
-
-    abbrev pub AllInPlace : Trees → Type 0
-    AllInPlace trees = told.AllTold Splits Calls trees
 
     abbrev pub OptionInPlace : Option Tree → Type 0
     OptionInPlace e = told.OptionTold Splits Calls e

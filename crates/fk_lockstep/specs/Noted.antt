@@ -2,7 +2,7 @@
 -- in a synchronous region, and no name means a function that may not be called there. The bodies of `farm` and `seq` are
 -- left out.
 use Rattle.std.specs.Prelude.{◌≡◌, ℕ, Bool, true, false, List, [], ◌∷◌, Option, Some, None}
-use Rattle.fk_syntax.specs.Tree.{Named, Tree, Links, Trees, Suffixes}
+use Rattle.fk_syntax.specs.Tree.{Named, Tree}
 use Rattle.fk_syntax.specs.Program as p
 use Rattle.fk_syntax.specs.Program.{DeclaredTree, Statement, Statements, FunctionTree, ProgramTree}
 use Rattle.fk_forms.specs.Tables.{Tables, note}
@@ -22,15 +22,6 @@ module _ (tables : Tables) (may_call : (function : ℕ) → Bool) where
   -- expressions
   abbrev pub Noted : Tree → Type 0
   Noted e = told.Told Decides Means e
-
-  abbrev pub LinksNoted : Links → Type 0
-  LinksNoted links = told.LinksTold Decides Means links
-
-  abbrev pub SuffixesNoted : Suffixes → Type 0
-  SuffixesNoted suffixes = told.SuffixesTold Decides Means suffixes
-
-  abbrev pub AllNoted : Trees → Type 0
-  AllNoted trees = told.AllTold Decides Means trees
 
   abbrev pub OptionNoted : Option Tree → Type 0
   OptionNoted e = told.OptionTold Decides Means e
