@@ -1,8 +1,8 @@
 -- Functions that are written one behind the other are flat.
-use Rattle.std.proofs.Common.{◌≡◌, ℕ, zero, suc, ◌+◌, ◌≤◌, ◌<◌, Bool, true, false, List, [], ◌∷◌, ◌++◌, length, slice_get, Option, Some, None, ap, ◌∙◌, sym, refl, subst, arith, length-append, append_assoc}
+use Rattle.std.proofs.Common.{◌≡◌, ℕ, zero, suc, ◌+◌, ◌≤◌, ◌<◌, Bool, true, false, List, [], ◌∷◌, ◌++◌, length, slice_get, Option, Some, None, ap, ap₂, ◌∙◌, sym, refl, subst, arith, length-append, append_assoc}
 use Rattle.std.specs.Prelude.{nat_lt}
 use Rattle.std.proofs.lemmas.Bool.{ltb-true, ltb-false}
-use Rattle.std.proofs.lemmas.List.{length-map}
+use Rattle.std.proofs.lemmas.List.{length-map, map-append, append-nil}
 use Rattle.std.proofs.Math.Seq.{append_snoc}
 use Rattle.fk_operation.specs.declared.operation.Operation.{Operation}
 use Rattle.fk_core.specs.declared.op.CoreOp.{CoreOp}
@@ -15,7 +15,7 @@ use Rattle.fk_lower.specs.declared.span.Spans.{Spans}
 use Rattle.fk_lower.specs.Spans.{place}
 use Rattle.fk_lower.specs.Tree.{Part, code_of, IsPartMeasured}
 use Rattle.fk_lower.specs.Written.{item_by, item_of, items_of, entry_of, written}
-use Rattle.fk_lower.specs.Lowered.{bodies_in, AreMeasured, total, entries_from, written_from}
+use Rattle.fk_lower.specs.Lowered.{bodies_in, AreMeasured, total, entries_from, written_from, all_flat, IsListOf}
 use Rattle.fk_lower.proofs.Starts.{starts}
 use Rattle.fk_lower.proofs.Writing.{known, lists}
 use Rattle.fk_flat.proofs.Lengths.{flat_length}
@@ -85,6 +85,13 @@ module _ (entry : ℕ → ℕ) (end : ℕ) where
       let g = written_length parts m.1 (at + extent_of part) in
       omega arith
 
+  all_known : (parts : List Part) → AreMeasured parts → (at : ℕ) → written_from entry at end parts ≡ known (all_flat entry at end parts)
+  all_known [] m at = refl
+  all_known (part ∷ parts) m at =
+      let more = all_flat entry (at + extent_of part) end parts in
+      ap₂ (λ xs ys. xs ++ ys) (written_is at part m.0) (all_known parts m.1 (at + extent_of part))
+      ∙ sym (map-append (λ item. Some item) (flat_at at part) more)
+
   all_have : (core : List CoreOp) (parts : List Part) → AreMeasured parts → (before : List (Option Item)) (at : ℕ) → length before ≡ at
       → items_of core ≡ before ++ written_from entry at end parts
       → (b : ℕ) → Has core (place_in at parts b) (flat entry false None (place_in at parts b) end (bodies_in parts b))
@@ -145,3 +152,12 @@ pub lowered_flat : (parts : List Part) → AreMeasured parts → (core : List Co
 lowered_flat parts m core entries end t e h =
     subst (λ entries. IsFlat (bodies_in parts) core (entry_of entries end)) (sym e)
     (is_flat parts m core end t (h ∙ ap (λ entries. written_from (entry_of entries end) 0 end parts) e))
+
+pub lowered_list : (parts : List Part) → AreMeasured parts → (core : List CoreOp) (entry : ℕ → ℕ) (end : ℕ)
+    → items_of core ≡ written_from entry 0 end parts → IsListOf core (all_flat entry 0 end parts)
+lowered_list parts m core entry end h =
+    let items = all_flat entry 0 end parts in
+    let e = h ∙ all_known entry end parts m 0 in (
+      has core items [] [] (e ∙ sym (append-nil (known items))),
+      sym (length-map core item_of) ∙ ap length e ∙ known_length items,
+    )

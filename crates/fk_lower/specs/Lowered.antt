@@ -1,7 +1,9 @@
 -- The functions of a program, each at its binding, one behind the other in one list.
-use Rattle.std.specs.Prelude.{ℕ, ◌+◌, List, [], ◌∷◌, ◌++◌, slice_get, Option, Some, None, false}
+use Rattle.std.specs.Prelude.{◌≡◌, ℕ, ◌+◌, List, [], ◌∷◌, ◌++◌, length, slice_get, Option, Some, None, false}
 use Rattle.fk_forms.specs.Code.{Code, done}
-use Rattle.fk_flat.specs.Items.{Item}
+use Rattle.fk_core.specs.declared.op.CoreOp.{CoreOp}
+use Rattle.fk_flat.specs.Items.{Item, Has}
+use Rattle.fk_flat.specs.Flat.{flat}
 use Rattle.fk_lower.specs.Spans.{place}
 use Rattle.fk_lower.specs.Tree.{Part, code_of, IsPartMeasured}
 use Rattle.fk_lower.specs.Written.{written}
@@ -31,3 +33,12 @@ entries_from at end (part ∷ parts) = place part.spans.far.start None at end �
 abbrev pub written_from : (entry : (binding : ℕ) → ℕ) → (at end : ℕ) → List Part → List (Option Item)
 written_from entry at end [] = []
 written_from entry at end (part ∷ parts) = written entry false None at end part.pieces ++ written_from entry (at + part.spans.far.extent) end parts
+
+-- their flat lists one behind the other
+abbrev pub all_flat : (entry : (binding : ℕ) → ℕ) → (at end : ℕ) → List Part → List Item
+all_flat entry at end [] = []
+all_flat entry at end (part ∷ parts) = flat entry false None at end (code_of part.pieces) ++ all_flat entry (at + part.spans.far.extent) end parts
+
+-- a list has these items and no others
+abbrev pub IsListOf : List CoreOp → List Item → Type 0
+IsListOf core items = Has core 0 items × (length core ≡ length items)

@@ -4,7 +4,7 @@ ghost use Rattle.std.specs.Prelude.{◌≡◌, ◌++◌, IfOk, OnOk, None, map};
 ghost use Rattle.fk_flat.specs.Laws.{IsFlat};
 ghost use Rattle.fk_lower.specs.View.{part_of};
 ghost use Rattle.fk_lower.specs.Written.{items_of, entry_of};
-ghost use Rattle.fk_lower.specs.Lowered.{bodies_in, AreMeasured, total, entries_from, written_from};
+ghost use Rattle.fk_lower.specs.Lowered.{bodies_in, AreMeasured, total, entries_from, written_from, all_flat, IsListOf};
 
 use crate::block::Block;
 use crate::fault::{LowerFault, further};
@@ -72,16 +72,21 @@ fn write_all(writer: &mut Writer, entries: &Entries, bodies: &[Block]) -> Result
     Ok(())
 }
 
-/// The flat list of functions, given by their bindings. One without a body has an empty block, and
-/// its entry at the end of the list. It takes time linear in the blocks.
+/// The flat list of functions, given by their bindings and one behind the other in that order. One
+/// without a body has an empty block, and its entry at the end of the list. It takes time linear in
+/// the blocks.
 ///
 /// # Errors
 /// `TooLong` where the list would have more than 2^32 - 1 operations and jumps, `OutOfRange` where
 /// a constant of an operation is too large for its number, and `Memory`.
 pub fn lower(alloc: Global, bodies: &[Block]) -> Result<Lowered, LowerFault>
-    ensures { AreMeasured (map part_of bodies.now) → IfOk result (λ lowered.
+    ensures flat { AreMeasured (map part_of bodies.now) → IfOk result (λ lowered.
         IsFlat (bodies_in (map part_of bodies.now)) lowered.ops.items
         (entry_of lowered.entries.of_bindings.items lowered.entries.end)) }
+    ensures order { AreMeasured (map part_of bodies.now) → IfOk result (λ lowered.
+        IsListOf lowered.ops.items (all_flat
+        (entry_of lowered.entries.of_bindings.items lowered.entries.end)
+        0 lowered.entries.end (map part_of bodies.now))) }
 {
     let end = total(bodies)?;
     let entries = Entries {
