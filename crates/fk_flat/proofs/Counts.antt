@@ -13,7 +13,7 @@ use Rattle.fk_flat.proofs.Parts.{choice_at, turns_at, rounds_at, entering_at}
 use Rattle.fk_flat.proofs.Standing.{opening_is_shaped}
 use Rattle.fk_flat.specs.Laws.{SitesGoUp, JumpsAreFew}
 
-acts_both : (xs ys : List Item) → acts (xs ++ ys) ≡ acts xs ++ acts ys
+pub acts_both : (xs ys : List Item) → acts (xs ++ ys) ≡ acts xs ++ acts ys
 acts_both [] ys = refl
 acts_both (jump target ∷ xs) ys = acts_both xs ys
 acts_both (act n op target ∷ xs) ys = ap (λ more. (kind_of op, n) ∷ more) (acts_both xs ys)
@@ -22,12 +22,12 @@ acts_skip : (here : Bool) (target : ℕ) → acts (skip here target) ≡ []
 acts_skip true target = refl
 acts_skip false target = refl
 
-jumps_both : (xs ys : List Item) → jumps (xs ++ ys) ≡ jumps xs + jumps ys
+pub jumps_both : (xs ys : List Item) → jumps (xs ++ ys) ≡ jumps xs + jumps ys
 jumps_both [] ys = omega arith
 jumps_both (jump target ∷ xs) ys = let e = jumps_both xs ys in omega arith
 jumps_both (act n op target ∷ xs) ys = jumps_both xs ys
 
-calls_both : (xs ys : List Item) → calls (xs ++ ys) ≡ calls xs + calls ys
+pub calls_both : (xs ys : List Item) → calls (xs ++ ys) ≡ calls xs + calls ys
 calls_both [] ys = omega arith
 calls_both (jump target ∷ xs) ys = calls_both xs ys
 calls_both (act n op target ∷ xs) ys = let e = calls_both xs ys in omega arith
@@ -57,7 +57,7 @@ module _ (entry : ℕ → ℕ) where
   opening_acts (ends n op rest) near c i k o = absurd o
 
   module _ (has_body : ℕ → Bool) where
-    acts_are : (code : Code ℕ) (l : Bool) → IsShaped has_body l code → (near : Bool) (c : Around) (i k : ℕ) → acts (flat entry near c i k code) ≡ sites code
+    pub acts_are : (code : Code ℕ) (l : Bool) → IsShaped has_body l code → (near : Bool) (c : Around) (i k : ℕ) → acts (flat entry near c i k code) ≡ sites code
     acts_are done l p near c i k = refl
     acts_are (perform n op rest) l p near c i k =
         let here = goes_away (way_of op) || begins_here near rest in

@@ -1,0 +1,5 @@
+pub mod Counted
+pub mod Noted
+pub mod Keeping
+pub mod Laying
+pub mod Listed

@@ -1,0 +1,48 @@
+-- How many values the running call has at a place in code. Numbers above the greatest one stay at it.
+use Rattle.std.specs.Prelude.{ℕ, ◌+◌, ◌-◌, ◌^◌, min, Bool, Option, Some, None, if◌then◌else◌}
+use Rattle.fk_syntax.specs.declared.place.Place.{Place}
+use Rattle.fk_operation.specs.declared.operation.Operation.{Operation}
+use Rattle.fk_walk.specs.declared.visitor.Event.{Event}
+use Rattle.fk_walk.specs.declared.visitor.Event.TheVariants.{Call, Returned, Aside, Joined}
+use Rattle.fk_walk.specs.declared.visitor.Mark.{Mark}
+use Rattle.fk_walk.specs.Event.{operation_of}
+use Rattle.fk_sizes.specs.Operations.{takes, pushes, results}
+use Rattle.fk_sizes.specs.Measure.{plus}
+use Rattle.fk_lower_text.specs.declared.height.Height.{Height}
+
+abbrev pub behind : (values : ℕ) → Operation → ℕ
+behind values op = plus (values - takes op) (pushes op)
+
+abbrev pub running : (values : ℕ) → Option ℕ → ℕ
+running values None = values
+running values (Some beginning) = beginning
+
+abbrev pub depth : Height → ℕ
+depth height = min (running height.values height.beginning) (2 ^ 32 - 1)
+
+abbrev pub high : ℕ → Option ℕ → Height
+high values beginning = record { values = values; beginning = beginning }
+
+-- behind an operation, of the call that begins where there is one
+abbrev pub performed_in : (values : ℕ) → Option ℕ → Operation → Height
+performed_in values None op = high (behind values op) None
+performed_in values (Some beginning) op = high values (Some (behind beginning op))
+
+abbrev pub performed : Height → Operation → Height
+performed height op = performed_in height.values height.beginning op
+
+abbrev pub with_operation : Height → Option (Operation × Place) → Height
+with_operation height None = height
+with_operation height (Some operation) = performed height operation.0
+
+-- a call begins without values. Behind it there is its result, where it has one, in place of its arguments. The second way of a
+-- choice begins as the first one did, and what stands behind both goes on from the end of the first one
+abbrev pub after : Height → Event → Height
+after height (Call op place function) = high (behind height.values op) (Some 0)
+after height (Returned entered void) = high (plus entered.values (results void)) None
+after height (Aside inside) = high inside.values None
+after height (Joined outside first) = high first.values None
+after height event = with_operation height (operation_of event)
+
+abbrev pub mark_of : Height → Mark
+mark_of height = record { values = height.values; most = 0; nesting = 0; deepest = 0 }

@@ -1,0 +1,49 @@
+-- The flat list of a text.
+use Rattle.std.specs.Prelude.{◌≡◌, ℕ, ◌+◌, ◌≤◌, List, length}
+use Rattle.fk_syntax.specs.Program.{ProgramTree}
+use Rattle.fk_run.specs.Processor.{Setting}
+use Rattle.fk_run.specs.Schedule.{Schedule}
+use Rattle.fk_run.specs.Alike.{RunAlike}
+use Rattle.fk_source.specs.Program as source
+use Rattle.fk_forms.specs.Ranks.{ranked}
+use Rattle.fk_forms.specs.Program.{bodies_of, main_of}
+use Rattle.fk_walk.specs.declared.known.Known.{Known}
+use Rattle.fk_walk.specs.Known.{tables_of, items_in}
+use Rattle.fk_walk_statements.specs.Texts.{functions_in, sites_of_text}
+use Rattle.fk_core.specs.declared.op.CoreOp.{CoreOp}
+use Rattle.fk_core.specs.Next.{next, opening}
+use Rattle.fk_core.specs.KeepsRuns.{HasCodeOf}
+use Rattle.fk_flat.specs.Items.{Item, acts, jumps, calls}
+use Rattle.fk_flat.specs.Laws.{IsFlat}
+use Rattle.fk_shapes.specs.Fitting.{ProgramFits}
+use Rattle.fk_lower.specs.Lowered.{IsListOf}
+use Rattle.fk_lower_text.specs.Whole.{AreWhole}
+
+-- a program of these items, of which is asked what flat lists ask of it, and that each number of its operations has room in a
+-- word
+pub record IsLowerable (known : Known) (program : ProgramTree) : Type 0 where
+  pub items : program.items ≡ items_in known
+  pub fits : ProgramFits (tables_of known) program
+  pub whole : AreWhole known (functions_in known)
+
+module _ (known : Known) (program : ProgramTree) (core : List CoreOp) (entry : (binding : ℕ) → ℕ) where
+  -- the list is flat, with the code of each function at its entry; and so the code of the program stands in it
+  pub record HasProgram : Type 0 where
+    pub flat : IsFlat (bodies_of (tables_of known) program) core entry
+    pub code : HasCodeOf (tables_of known) program core entry
+
+  -- a schedule is lawful for the program and the list or for neither, and under it the stores and the stands are equal
+  abbrev pub HasItsRuns : Type 0
+  HasItsRuns =
+      (words firsts input : List ℕ) (p : ℕ) (setting : Setting) (schedule : Schedule)
+      → RunAlike (source.next_in (tables_of known) program) (next core) setting schedule
+      (source.opening (tables_of known) program words firsts input p)
+      (opening (entry (main_of (tables_of known) program)) words firsts input p)
+
+-- the operations of the list are those of the text in their order, each with its rank as its site, and there are few jumps
+-- between them
+pub record HasSites (known : Known) (core : List CoreOp) : Type 0 where
+  pub items : List Item
+  pub are : IsListOf core items
+  pub sites : acts items ≡ ranked 0 (sites_of_text known)
+  pub few : jumps items ≤ length (acts items) + calls items

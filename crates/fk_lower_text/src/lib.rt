@@ -1,0 +1,13 @@
+//! From the text of a program to its flat list.
+//!
+//! The code of each function is shown step by step, listed, and built into a block in memory; the
+//! blocks, each at its function's binding, are lowered.
+#![tactic(auto)]
+
+mod bodies;
+mod count;
+mod height;
+mod noting;
+mod text;
+
+pub use text::lower_text;

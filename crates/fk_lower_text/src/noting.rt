@@ -1,0 +1,114 @@
+//! The code of a function, as it is shown to a builder.
+
+ghost use Rattle.std.specs.Prelude.{◌≡◌, IfOk, map};
+ghost use Rattle.fk_syntax.specs.ProgramView.{function_of};
+ghost use Rattle.fk_walk.specs.Known.{IsSound};
+ghost use Rattle.fk_walk_statements.specs.Texts.{code_in};
+ghost use Rattle.fk_lower.specs.Building as b;
+ghost use Rattle.fk_lower.specs.BuilderView.{event_of};
+ghost use Rattle.fk_lower_text.specs.Noting.{told, noted};
+ghost use Rattle.fk_lower_text.specs.Whole.{IsPlain};
+
+use crate::count::Count;
+use crate::height::Height;
+use fk_lower::{CodeEvent, LowerFault};
+use fk_syntax::Function;
+use fk_walk::{Event, Known, Mark, Visitor};
+use fk_walk_statements::function;
+use std::alloc::Global;
+
+/// A visitor that writes down what it is shown, as long as there is room, each operation with how
+/// many values the running call has before it.
+#[derive(Drop)]
+pub(crate) struct Noting {
+    pub(crate) events: Vec<CodeEvent>,
+    /// How many of them are written.
+    pub(crate) filled: usize,
+    pub(crate) height: Height,
+}
+
+// An event as it is shown to a builder, where the running call has so many values.
+fn told(event: Event, depth: u32) -> CodeEvent
+    ensures { result ≡ told event depth }
+{
+    match event {
+        Event::Perform(operation, _) => CodeEvent::Perform { operation, depth },
+        Event::Choose(operation, _) => CodeEvent::Choose { operation, depth },
+        Event::Aside(_) => CodeEvent::Aside,
+        Event::Joined(_, _) => CodeEvent::Joined,
+        Event::Quit(operation, _) => CodeEvent::Quit { operation, depth },
+        Event::Call(operation, _, function) => CodeEvent::Call {
+            operation,
+            depth,
+            function,
+        },
+        Event::Returned(_, _) => CodeEvent::Returned,
+        Event::Ends(operation, _) => CodeEvent::Ends { operation, depth },
+        Event::While => CodeEvent::While,
+        Event::Until => CodeEvent::Until,
+        Event::Part => CodeEvent::Part,
+        Event::Behind => CodeEvent::Behind,
+        Event::Break => CodeEvent::Break,
+        Event::Continue => CodeEvent::Continue,
+    }
+}
+
+impl Noting {
+    // Writes an event down, where there is room.
+    fn write(&mut self, event: CodeEvent)
+        ensures { self.new ≡ noted self.old event }
+    {
+        if self.filled < self.events.len() {
+            self.events[self.filled] = event;
+            self.filled += 1;
+        }
+    }
+}
+
+impl Visitor for Noting {
+    ghost use Rattle.fk_lower_text.specs.Noting.{noting_after, noting_mark};
+
+    ghost after = { noting_after };
+
+    ghost counts = { noting_mark };
+
+    fn meet(&mut self, event: Event) {
+        let height = self.height;
+        self.write(told(event, height.depth()));
+        self.height = height.after(event);
+    }
+
+    fn mark(&self) -> Mark {
+        self.height.mark()
+    }
+}
+
+/// What is shown of the code of a function. It takes time and memory linear in that.
+///
+/// # Errors
+/// `Memory`.
+pub(crate) fn events_of(
+    alloc: Global,
+    known: &Known,
+    whole: &Function,
+) -> Result<Vec<CodeEvent>, LowerFault>
+    requires { IsSound known.now }
+    ensures { IsPlain (code_in known.now (function_of whole.now)) → IfOk result (λ events.
+        map event_of events.items ≡ b.events_of (code_in known.now (function_of whole.now))) }
+{
+    let mut count = Count { events: 0 };
+    function(known, &mut count, whole);
+    if count.events == u64::MAX {
+        return Err(LowerFault::Memory);
+    }
+    let Ok(events) = vec![in alloc; CodeEvent::Break; count.events as usize] else {
+        return Err(LowerFault::Memory);
+    };
+    let mut noting = Noting {
+        events,
+        filled: 0,
+        height: Height::NOTHING,
+    };
+    function(known, &mut noting, whole);
+    Ok(noting.events)
+}

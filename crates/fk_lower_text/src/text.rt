@@ -1,0 +1,39 @@
+//! From a text to its flat list.
+
+ghost use Rattle.std.specs.Prelude.{IfOk, OnOk};
+ghost use Rattle.fk_syntax.specs.Program.{ProgramTree};
+ghost use Rattle.fk_walk.specs.Known.{IsSound};
+ghost use Rattle.fk_walk_statements.specs.Texts.{functions_in};
+ghost use Rattle.fk_lower.specs.Written.{entry_of};
+ghost use Rattle.fk_lower_text.specs.Laid.{GoUp};
+ghost use Rattle.fk_lower_text.specs.Lowered.{IsLowerable, HasProgram, HasItsRuns, HasSites};
+
+use crate::bodies::Bodies;
+use fk_lower::{LowerFault, Lowered, lower};
+use fk_walk::Known;
+use std::alloc::Global;
+
+/// The flat list of a text, by what is known of it: each function at its binding, each operation
+/// with its rank among those of the text as its site. It takes time and memory linear in the text
+/// and in the greatest binding of a function.
+///
+/// # Errors
+/// `Misplaced` where the bindings of the functions don't go up in the order of the text; `TooLong`
+/// where the list would have more than 2^32 - 1 operations and jumps; `OutOfRange` where a constant
+/// of an operation is too large for its number; and `Memory`.
+pub fn lower_text(alloc: Global, known: &Known) -> Result<Lowered, LowerFault>
+    requires { IsSound known.now }
+    ensures up { OnOk result (GoUp known.now 0 (functions_in known.now)) }
+    ensures program { (program : ProgramTree) → IsLowerable known.now program
+        → IfOk result (λ lowered. HasProgram known.now program lowered.ops.items
+        (entry_of lowered.entries.of_bindings.items lowered.entries.end)) }
+    ensures runs { (program : ProgramTree) → IsLowerable known.now program
+        → IfOk result (λ lowered. HasItsRuns known.now program lowered.ops.items
+        (entry_of lowered.entries.of_bindings.items lowered.entries.end)) }
+    ensures sites { (program : ProgramTree) → IsLowerable known.now program
+        → IfOk result (λ lowered. HasSites known.now lowered.ops.items) }
+{
+    let bodies = Bodies::of(alloc, known)?;
+    let lowered = lower(alloc, &bodies.blocks)?;
+    Ok(lowered)
+}
