@@ -1,0 +1,4 @@
+mod Values
+mod Steps
+pub mod Runs
+pub mod Asked
