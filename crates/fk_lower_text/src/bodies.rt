@@ -6,8 +6,8 @@ ghost use Rattle.fk_syntax.specs.Program.{FunctionTree, ItemTree};
 ghost use Rattle.fk_syntax.specs.ProgramView.{function_of, item_of};
 ghost use Rattle.fk_forms.specs.Code as c;
 ghost use Rattle.fk_forms.specs.Code.{size, numbered};
-ghost use Rattle.fk_forms.specs.Program.{functions_of, binding_of};
-ghost use Rattle.fk_walk.specs.Known.{tables_of, IsSound};
+ghost use Rattle.fk_forms.specs.Program.{functions_of};
+ghost use Rattle.fk_walk.specs.Known.{IsSound};
 ghost use Rattle.fk_walk_statements.specs.Texts.{functions_in, code_in};
 ghost use Rattle.fk_lower.specs.View.{part_of};
 ghost use Rattle.fk_lower.specs.BuilderView.{event_of, block_code, IsBlockMeasured};
@@ -15,6 +15,7 @@ ghost use Rattle.fk_lower.specs.Lowered.{AreMeasured};
 ghost use Rattle.fk_lower_text.specs.Whole.{IsPlain, ArePlain};
 ghost use Rattle.fk_lower_text.specs.Laid.{has_site, codes_of, laid, GoUp};
 
+use crate::main_entry::binding_of;
 use crate::noting::events_of;
 use fk_lower::{Block, CodeEvent, LowerFault, build};
 use fk_syntax::{Function, Item};
@@ -55,12 +56,6 @@ fn site_behind(site: u32, events: &[CodeEvent]) -> Result<u32, LowerFault>
         }
     }
     Ok(behind)
-}
-
-fn binding_of(known: &Known, whole: &Function) -> u32
-    ensures { result ≡ binding_of (tables_of known.now) (function_of whole.now) }
-{
-    known.note(whole.name.at).binding
 }
 
 impl Bodies {

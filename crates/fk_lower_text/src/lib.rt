@@ -7,6 +7,7 @@
 mod bodies;
 mod count;
 mod height;
+mod main_entry;
 mod noting;
 mod text;
 

@@ -1,24 +1,29 @@
 //! From a text to its flat list.
 
-ghost use Rattle.std.specs.Prelude.{IfOk, OnOk};
+ghost use Rattle.std.specs.Prelude.{◌≡◌, IfOk, OnOk};
 ghost use Rattle.fk_syntax.specs.Program.{ProgramTree};
-ghost use Rattle.fk_walk.specs.Known.{IsSound};
+ghost use Rattle.fk_forms.specs.Program.{main_of};
+ghost use Rattle.fk_walk.specs.Known.{tables_of, items_in, IsSound};
 ghost use Rattle.fk_walk_statements.specs.Texts.{functions_in};
+ghost use Rattle.fk_core.specs.WellFormed.{HasDepths};
 ghost use Rattle.fk_lower.specs.Written.{entry_of};
 ghost use Rattle.fk_lower_text.specs.Laid.{GoUp};
 ghost use Rattle.fk_lower_text.specs.Lowered.{IsLowerable, HasProgram, HasItsRuns, HasSites};
 
 use crate::bodies::Bodies;
+use crate::main_entry::check_depths;
 use fk_lower::{LowerFault, Lowered, lower};
 use fk_walk::Known;
 use std::alloc::Global;
 
 /// The flat list of a text, by what is known of it: each function at its binding, each operation
-/// with its rank among those of the text as its site. It takes time and memory linear in the text
-/// and in the greatest binding of a function.
+/// with its rank among those of the text as its site, and with as many values as its processor has
+/// before it in every run. It takes time and memory linear in the text and in the greatest binding
+/// of a function.
 ///
 /// # Errors
-/// `Misplaced` where the bindings of the functions don't go up in the order of the text; `TooLong`
+/// `Misplaced` where the bindings of the functions don't go up in the order of the text, or the ways
+/// of a choice or a loop, or those behind a call, don't come together with as many values; `TooLong`
 /// where the list would have more than 2^32 - 1 operations and jumps; `OutOfRange` where a constant
 /// of an operation is too large for its number; and `Memory`.
 pub fn lower_text(alloc: Global, known: &Known) -> Result<Lowered, LowerFault>
@@ -32,8 +37,13 @@ pub fn lower_text(alloc: Global, known: &Known) -> Result<Lowered, LowerFault>
         (entry_of lowered.entries.of_bindings.items lowered.entries.end)) }
     ensures sites { (program : ProgramTree) → IsLowerable known.now program
         → IfOk result (λ lowered. HasSites known.now lowered.ops.items) }
+    ensures depths { (program : ProgramTree) → program.items ≡ items_in known.now
+        → IfOk result (λ lowered. HasDepths lowered.ops.items
+        (entry_of lowered.entries.of_bindings.items lowered.entries.end
+        (main_of (tables_of known.now) program))) }
 {
     let bodies = Bodies::of(alloc, known)?;
     let lowered = lower(alloc, &bodies.blocks)?;
+    check_depths(alloc, known, &lowered)?;
     Ok(lowered)
 }

@@ -1,5 +1,11 @@
 -- The slice that is lowered has the blocks.
 use Rattle.std.proofs.Common.{◌≡◌, map, ap, sym, ◌∙◌, subst, List}
+use Rattle.fk_syntax.specs.Program.{ItemTree}
+use Rattle.fk_forms.specs.Program.{functions_of, main_in}
+use Rattle.fk_walk.specs.Known.{tables_of}
+use Rattle.fk_walk_statements.specs.Texts.{functions_in}
+use Rattle.fk_core.specs.WellFormed.{HasDepths}
+use Rattle.fk_depths.proofs.Runs.{local_depths_are_depths}
 use Rattle.fk_lower.specs.Written.{entry_of}
 use Rattle.fk_lower.specs.declared.block.Block.{Block}
 use Rattle.fk_lower.specs.View.{part_of}
@@ -38,3 +44,11 @@ returns-clause-sites c program lowerable =
     let measured = subst (λ (list : List Block). AreMeasured (map part_of list)) (sym same) bodies.ensures.measured in
     has_sites c.args.known.now program lowerable bodies.ensures.up blocks (λ plain. ap codes_of same ∙ bodies.ensures.codes plain) lowered.lowered.ops.items
     (entry_of lowered.lowered.entries.of_bindings.items lowered.lowered.entries.end) lowered.lowered.entries.end (lowered.ensures.order measured)
+
+pub returns-clause-depths : goal.returns-clause-depths
+returns-clause-depths c program same =
+    let known = c.args.known.now in
+    let lowered = c.in_ok-lowered.lowered in
+    let entry = entry_of lowered.entries.of_bindings.items lowered.entries.end in
+    subst (λ (items : List ItemTree). HasDepths lowered.ops.items (entry (main_in (tables_of known) (functions_of items)))) (sym same)
+    (local_depths_are_depths lowered.ops.items (entry (main_in (tables_of known) (functions_in known))) c.in_ok-check_depths.ensures)

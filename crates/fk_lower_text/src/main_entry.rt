@@ -1,0 +1,97 @@
+//! `main`, and whether the depths of a list go with each other.
+
+ghost use Rattle.std.specs.Prelude.{◌≡◌, ◌∷◌, List, OnOk, unwrap_or};
+ghost use Rattle.fk_syntax.specs.Program.{ItemTree};
+ghost use Rattle.fk_syntax.specs.ProgramView.{function_of, item_of};
+ghost use Rattle.fk_forms.specs.Program as f;
+ghost use Rattle.fk_forms.specs.Program.{functions_of, binding_of, main_in};
+ghost use Rattle.fk_walk.specs.Known.{tables_of};
+ghost use Rattle.fk_walk_statements.specs.Texts.{functions_in};
+ghost use Rattle.fk_lower.specs.Written.{entry_of};
+ghost use Rattle.fk_depths.specs.Local.{HasLocalDepths};
+
+use fk_depths::has_local_depths;
+use fk_lower::{LowerFault, Lowered};
+use fk_syntax::{Function, Item};
+use fk_walk::Known;
+use std::alloc::Global;
+
+/// The binding of a function.
+pub(crate) fn binding_of(known: &Known, whole: &Function) -> u32
+    ensures { result ≡ binding_of (tables_of known.now) (function_of whole.now) }
+{
+    known.note(whole.name.at).binding
+}
+
+fn is_main(whole: &Function) -> bool
+    ensures { result ≡ f.is_main (function_of whole.now) }
+{
+    whole.name.bytes == b"main".as_slice()
+}
+
+// The binding of `main`, where an item is that.
+fn main_here(known: &Known, item: &Item) -> Option<u32>
+    ensures { (others : List ItemTree)
+        → main_in (tables_of known.now) (functions_of (item_of item.now ∷ others))
+        ≡ unwrap_or result (main_in (tables_of known.now) (functions_of others)) }
+{
+    match item {
+        Item::Function(whole) => match &whole.body {
+            Some(_) => if is_main(whole) {
+                Some(binding_of(known, whole))
+            } else {
+                None
+            },
+            None => None,
+        },
+        Item::Struct(_, _) | Item::Variables(_) => None,
+    }
+}
+
+// The binding of the first function that is `main`, and 0 where there is none.
+fn main_binding(known: &Known) -> u32
+    ensures { result ≡ main_in (tables_of known.now) (functions_in known.now) }
+{
+    for item in known.items {
+        if let Some(binding) = main_here(known, item) {
+            return binding;
+        }
+    }
+    0
+}
+
+// The entry of a function: that of its binding, and the end of the list where there is none.
+fn entry(lowered: &Lowered, binding: u32) -> u32
+    ensures { result ≡ entry_of lowered.now.entries.of_bindings.items
+        lowered.now.entries.end binding }
+{
+    match lowered.entries.of_bindings.get(binding as usize) {
+        Some(entry) => *entry,
+        None => lowered.entries.end,
+    }
+}
+
+/// Whether the depths of a list of a text go with its operations. It takes time and memory linear
+/// in the list.
+///
+/// # Errors
+/// `Misplaced` where they don't; and `Memory`.
+pub(crate) fn check_depths(
+    alloc: Global,
+    known: &Known,
+    lowered: &Lowered,
+) -> Result<(), LowerFault>
+    ensures { OnOk result (HasLocalDepths lowered.now.ops.items
+        (entry_of lowered.now.entries.of_bindings.items lowered.now.entries.end
+        (main_in (tables_of known.now) (functions_in known.now)))) }
+{
+    let main = entry(lowered, main_binding(known));
+    let Ok(fits) = has_local_depths(alloc, &lowered.ops, main) else {
+        return Err(LowerFault::Memory);
+    };
+    if fits {
+        Ok(())
+    } else {
+        Err(LowerFault::Misplaced)
+    }
+}
