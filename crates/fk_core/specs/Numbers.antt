@@ -32,7 +32,7 @@ variable_of n = if is_odd n then v.OfFile (n / 2) else v.Private (n / 2)
 abbrev pub known_of : (which : ℕ) → ℕ → Known
 known_of which n =
     if which == 0 then k.Value (variable_of n)
-    else if which == 1 then k.FrameAddress (n / nestings) (n % nestings)
+    else if which == 1 then k.FrameAddress (n % nestings) (n / nestings)
     else if which == 2 then k.Rank
     else if which == 3 then k.GroupNumber
     else if which == 4 then k.ProcessorNumber
@@ -140,7 +140,7 @@ IsNear (v.OfFile i) = i < 2 ^ 26
 
 abbrev pub IsKnownNear : Known → Type 0
 IsKnownNear (k.Value variable) = IsNear variable
-IsKnownNear (k.FrameAddress word nesting) = (word < 2 ^ 21) × (nesting < nestings)
+IsKnownNear (k.FrameAddress nesting word) = (word < 2 ^ 21) × (nesting < nestings)
 IsKnownNear known = Unit {0}
 
 abbrev pub HasNumber : Operation → Type 0

@@ -93,7 +93,7 @@ fn known(which: u32, number: u32) -> Known
 {
     match which {
         0 => Known::Value(variable(number)),
-        1 => Known::FrameAddress(number / NESTINGS, number % NESTINGS),
+        1 => Known::FrameAddress(number % NESTINGS, number / NESTINGS),
         2 => Known::Rank,
         3 => Known::GroupNumber,
         4 => Known::ProcessorNumber,
@@ -216,7 +216,7 @@ fn known_number(known: Known) -> u32
 {
     let (which, number) = match known {
         Known::Value(variable) => (0, variable_number(variable)),
-        Known::FrameAddress(word, nesting) => (1, joined(word, NESTINGS, nesting)),
+        Known::FrameAddress(nesting, word) => (1, joined(word, NESTINGS, nesting)),
         Known::Rank => (2, 0),
         Known::GroupNumber => (3, 0),
         Known::ProcessorNumber => (4, 0),

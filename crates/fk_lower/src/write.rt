@@ -91,7 +91,7 @@ fn is_known_near(known: Known) -> bool
 {
     match known {
         Known::Value(variable) => is_near(variable),
-        Known::FrameAddress(word, nesting) => word < 0x0020_0000 && nesting < 129,
+        Known::FrameAddress(nesting, word) => word < 0x0020_0000 && nesting < 129,
         _ => true,
     }
 }

@@ -4,7 +4,7 @@ use std::test::Fail;
 
 #[test]
 fn operations_are_read_back(rt: HostRuntime) -> Result<(), Fail> {
-    let frame = Operation::Get(Known::FrameAddress(1_048_576, 128));
+    let frame = Operation::Get(Known::FrameAddress(128, 1_048_576));
     let mut program = CoreProgram::make(rt.alloc());
     assert_eq!(rt; program.push(CoreOp::of(frame, 7, 0, 2))?, 0);
     assert_eq!(rt; program.push(CoreOp::jump(0))?, 1);
