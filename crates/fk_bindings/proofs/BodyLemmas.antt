@@ -1,5 +1,5 @@
 -- Declarations by their numbers, and the marks that declare them.
-use Rattle.std.proofs.Common.{◌≡◌, inl, inr, ℕ, zero, suc, ◌<◌, ◌≤◌, List, [], ◌∷◌, length, get_or, map, Option, Some, None, refl, sym, ap, ◌∙◌, arith}
+use Rattle.std.proofs.Common.{◌≡◌, ◌⊎◌, inl, inr, ℕ, zero, suc, ◌<◌, ◌≤◌, List, [], ◌∷◌, length, get_or, map, Option, Some, None, refl, sym, ap, ◌∙◌, arith}
 use Rattle.std.specs.Prelude.{slice_get, unwrap_or}
 use Rattle.std.specs.Option.{option_map}
 use Rattle.std.proofs.lemmas.Bool.{cases_lt}
@@ -89,3 +89,42 @@ pub meant-stands : (marks : List MarkTree) (bodies : List ℕ → Option ℕ) �
 meant-stands marks bodies are here meant (Variable v) stands = ap (binding marks) (sym stands)
 meant-stands marks bodies are here meant (Header f) (inl is) = defined marks f.name.bytes here meant (bodies f.name.bytes) (are f.name.bytes) is
 meant-stands marks bodies are here meant (Header f) (inr alone) = undefined marks f.name.bytes here meant (bodies f.name.bytes) (are f.name.bytes) alone.0 alone.1
+
+-- ---- and each declaration stands for something
+
+-- a number is that of a mark that declares
+pub declared_from : (marks : List MarkTree) (i : ℕ) (d : DeclarationTree) → slice_get (declared_in marks) i ≡ Some d → (at : ℕ) × (slice_get marks at ≡ Some (Declares d))
+declared_from [] i d is = absurd cc
+declared_from (Opens ∷ marks) i d is = let mark = declared_from marks i d is in (suc mark.0, mark.1)
+declared_from (Closes ∷ marks) i d is = let mark = declared_from marks i d is in (suc mark.0, mark.1)
+declared_from (Uses used ∷ marks) i d is = let mark = declared_from marks i d is in (suc mark.0, mark.1)
+declared_from (Declares e ∷ marks) zero d is = (zero, cc)
+declared_from (Declares e ∷ marks) (suc i) d is = let mark = declared_from marks i d is in (suc mark.0, mark.1)
+
+body_grows : (marks : List MarkTree) (name : List ℕ) (k j : ℕ) → HasBodyAt marks name k → k < j → binding marks k < binding marks j
+body_grows [] name k j h low = absurd h
+body_grows (mark ∷ marks) name k zero h low = absurd (omega arith)
+body_grows (Opens ∷ marks) name zero (suc j) h low = absurd h
+body_grows (Opens ∷ marks) name (suc k) (suc j) h low = body_grows marks name k j h (omega arith)
+body_grows (Closes ∷ marks) name zero (suc j) h low = absurd h
+body_grows (Closes ∷ marks) name (suc k) (suc j) h low = body_grows marks name k j h (omega arith)
+body_grows (Uses used ∷ marks) name zero (suc j) h low = absurd h
+body_grows (Uses used ∷ marks) name (suc k) (suc j) h low = body_grows marks name k j h (omega arith)
+body_grows (Declares d ∷ marks) name zero (suc j) h low = omega arith
+body_grows (Declares d ∷ marks) name (suc k) (suc j) h low = let inner = body_grows marks name k j h (omega arith) in omega (arith, inner)
+
+-- the first body among the declarations is the first one of the marks
+stands-first : (marks : List MarkTree) (name : List ℕ) (here : ℕ) (told : Option ℕ) → IsFirstOf (HasBodyAt (map Declares (declared_in marks)) name) told
+    → (meant : ℕ) × (IsDefinition marks name meant ⊎ ((meant ≡ here) × ((k : ℕ) → ¬ HasBodyAt marks name k)))
+stands-first marks name here None first = (here, inr (refl, λ k h. first (binding marks k) (to_number marks name k h)))
+stands-first marks name here (Some number) first =
+    let mark = from_number marks name number first.0 in
+    let least : (k : ℕ) → k < mark.0 → ¬ HasBodyAt marks name k = λ k low h.
+    let above : number ≤ binding marks k = first.1 (binding marks k) (to_number marks name k h) in
+    let grows : binding marks k < binding marks mark.0 = body_grows marks name k mark.0 h low in
+    omega (arith, above, grows, mark.2) in
+    (mark.0, inl (record { body = mark.1; first = least }))
+
+pub stands : (marks : List MarkTree) (bodies : List ℕ → Option ℕ) → AreBodies (declared_in marks) bodies → (here : ℕ) (d : DeclarationTree) → (meant : ℕ) × StandsFor marks (name_of d).bytes here d meant
+stands marks bodies are here (Variable v) = (here, refl)
+stands marks bodies are here (Header f) = stands-first marks f.name.bytes here (bodies f.name.bytes) (are f.name.bytes)

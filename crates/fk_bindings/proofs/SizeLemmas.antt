@@ -3,10 +3,11 @@ use Rattle.std.proofs.Common.{◌≡◌, ℕ, ◌+◌, ◌*◌, ◌≤◌, List,
 use Rattle.std.specs.Prelude.{IfSome, IsNone}
 use Rattle.std.proofs.lemmas.Option.{same_Some}
 use Rattle.fk_structs.specs.declared.types.DataType.{DataType}
-use Rattle.fk_structs.specs.Types.{StructTree, member_types, all_types}
+use Rattle.fk_structs.specs.Types.{StructTree, member_named, member_types, all_types}
 use Rattle.fk_structs.specs.Words.{total_words, words_within, capped}
 use Rattle.fk_structs.specs.Sizes.{HasTypeWords, HasOffset}
 use Rattle.fk_structs.proofs.WordLemmas.{total-related, within-≤, one-type}
+use Rattle.fk_bindings.specs.Known.{IsOffsetOf}
 
 -- what types have at one depth they have at each greater one
 total-≤ : (structs : List (List (Option DataType))) (low high : ℕ) (types : List (Option DataType)) (n : ℕ) → low ≤ high
@@ -35,6 +36,12 @@ pub capped-offset : (structs : List StructTree) (index place : ℕ) (r : Option 
     → IfSome r (λ words. (exact : ℕ) × HasOffset structs index place exact × (words ≡ capped exact)) → (IsNone r → (exact : ℕ) → ¬ HasOffset structs index place exact)
     → (words : ℕ) → HasOffset structs index place words → r ≡ Some (capped words)
 capped-offset structs index place = capped-once (HasOffset structs index place) (one-offset structs index place)
+
+-- and so is the one before a member of a name
+pub offset_right : (structs : List StructTree) (index place : ℕ) (name : List ℕ) (r : Option ℕ) → member_named structs index name ≡ Some place
+    → IfSome r (λ words. (exact : ℕ) × HasOffset structs index place exact × (words ≡ capped exact)) → IfSome r (IsOffsetOf structs index name)
+offset_right structs index place name None named some = tt
+offset_right structs index place name (Some told) named some = record { place = place; words = some.0; named = named; has = some.1; same = some.2 }
 
 pub capped-words : (structs : List StructTree) (type : DataType) (r : Option ℕ)
     → IfSome r (λ words. (exact : ℕ) × HasTypeWords structs type exact × (words ≡ capped exact)) → (IsNone r → (exact : ℕ) → ¬ HasTypeWords structs type exact)

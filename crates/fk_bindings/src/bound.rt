@@ -1,6 +1,6 @@
 //! What the tokens of a program name.
 
-ghost use Rattle.std.specs.Prelude.{◌≡◌, ◌<◌, ◌^◌, length, map, IfOk};
+ghost use Rattle.std.specs.Prelude.{◌≡◌, ◌<◌, ◌^◌, ℕ, length, map, replicate, IfOk};
 ghost use Rattle.fk_syntax.specs.Program.{ProgramTree};
 ghost use Rattle.fk_syntax.specs.WellFormed.{IsWellFormed};
 ghost use Rattle.fk_structs.specs.Whole.{structs_in, IsSound};
@@ -12,7 +12,7 @@ ghost use Rattle.fk_pieces.specs.Pieces as p;
 ghost use Rattle.fk_pieces.specs.View.{piece_of};
 ghost use Rattle.fk_references.specs.View.{reference_of};
 ghost use Rattle.fk_type_rules.specs.Noted.{AreTypes};
-ghost use Rattle.fk_type_rules.specs.Bound.{token_of, pieces_references, AreBound};
+ghost use Rattle.fk_type_rules.specs.Bound.{token_of, pieces_references, AreBound, AreUnbound};
 ghost use Rattle.fk_token_laws.specs.Apart.{AreTokensApart};
 ghost use Rattle.fk_bindings.specs.Known.{IsKnown};
 ghost use Rattle.fk_bindings.specs.Bodies.{AreBodies};
@@ -88,16 +88,19 @@ fn set_referred(numbers: &mut [u32], known: &Known, references: &[Reference])
     }
 }
 
-// Sets what the tokens of a program name.
+// Sets what the tokens of a program name, where nothing is set yet.
 fn set_all(numbers: &mut [u32], known: &Known, bodies: &Table, references: &[Reference])
     requires sound { IsSound known.now.structs.now }
     requires bodies { AreBodies
         (map declaration_of known.now.names.now.declarations.items) (shown bodies.now) }
     requires few { length known.now.names.now.declarations.items < 2 ^ 32 }
-    ensures { (env : Env) (program : ProgramTree) → IsWellFormed program → AreTokensApart program
-        → length numbers.old ≡ program.tokens
+    ensures bound { (env : Env) (program : ProgramTree) → IsWellFormed program
+        → AreTokensApart program → length numbers.old ≡ program.tokens
         → map reference_of references.now ≡ pieces_references (p.pieces program)
         → IsKnown env program known.now → AreBound env program numbers.new }
+    ensures unbound { (env : Env) (program : ProgramTree) (n : ℕ) → numbers.old ≡ replicate n 0
+        → map reference_of references.now ≡ pieces_references (p.pieces program)
+        → IsKnown env program known.now → AreUnbound env program numbers.new }
 {
     set_declared(numbers, bodies, &known.names.declarations);
     set_referred(numbers, known, references);
@@ -110,7 +113,7 @@ fn set_all(numbers: &mut [u32], known: &Known, bodies: &Table, references: &[Ref
 ///   function means the header that has the body, at its other headers too;
 /// - for a member after `.` or `->`, the words that lie before it in its struct;
 /// - for `sizeof`, the bytes that it gives;
-/// - for every other token any number.
+/// - for every other token 0.
 ///
 /// The types of the tokens tell the structs whose members are named. It takes time linear in the
 /// text, and fails only for want of memory: where there are too many declarations to be counted,
@@ -129,6 +132,10 @@ pub fn bindings<'k, 'p, 'a>(
         → map piece_of pieces.now ≡ p.pieces program → env.structs ≡ structs_in structs.now
         → AreNames program names.now → AreTypes env program types.now
         → AreBound env program numbers.items) }
+    ensures unbound { IfOk result (λ numbers. (env : Env) (program : ProgramTree)
+        → map piece_of pieces.now ≡ p.pieces program → env.structs ≡ structs_in structs.now
+        → AreNames program names.now → AreTypes env program types.now
+        → AreUnbound env program numbers.items) }
 {
     if names.declarations.len() > MOST {
         return Err(AllocError);

@@ -1,6 +1,6 @@
 //! The number of what is named.
 
-ghost use Rattle.std.specs.Prelude.{◌≡◌, ℕ, Some};
+ghost use Rattle.std.specs.Prelude.{◌≡◌, ℕ, IfSome, Some};
 ghost use Rattle.fk_syntax.specs.declared.place.Spot.{Spot};
 ghost use Rattle.fk_syntax.specs.Program.{ProgramTree};
 ghost use Rattle.fk_syntax.specs.View.{named, type_of as type_tree};
@@ -14,7 +14,7 @@ ghost use Rattle.fk_references.specs.References as r;
 ghost use Rattle.fk_references.specs.View.{reference_of};
 ghost use Rattle.fk_type_rules.specs.Noted as noted;
 ghost use Rattle.fk_type_rules.specs.Bound as b;
-ghost use Rattle.fk_bindings.specs.Known.{IsKnown, IsTold, number_meant};
+ghost use Rattle.fk_bindings.specs.Known.{IsKnown, IsOffsetOf, IsTold, number_meant};
 
 use fk_names::{Meaning, Names};
 use fk_parts::{struct_at, struct_in};
@@ -83,10 +83,11 @@ impl Known<'_, '_, '_> {
     // The words before a member of a struct.
     fn offset(&self, index: usize, member: &[u8]) -> Option<u32>
         requires { IsSound self.now.structs.now }
-        ensures { (place words : ℕ)
+        ensures found { (place words : ℕ)
             → member_named (structs_in self.now.structs.now) index member.now ≡ Some place
             → HasOffset (structs_in self.now.structs.now) index place words
             → result ≡ Some (capped words) }
+        ensures right { IfSome result (IsOffsetOf (structs_in self.now.structs.now) index member.now) }
     {
         let place = self.structs.find_member(index, member)?;
         self.structs.offset(index, place)

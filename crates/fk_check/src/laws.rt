@@ -1,6 +1,6 @@
 //! Laws of the definitions.
 
-ghost use Rattle.fk_check.specs.Laws.{BreaksOneFirst, KeepsOrBreaks};
+ghost use Rattle.fk_check.specs.Laws.{BreaksOneFirst, HasOneFacts, KeepsOrBreaks};
 
 /// A program that keeps all rules breaks none first.
 pub fn keeps_or_breaks()
@@ -10,4 +10,9 @@ pub fn keeps_or_breaks()
 /// A program breaks at most one rule first, at one place.
 pub fn breaks_one_first()
     ensures { BreaksOneFirst }
+{}
+
+/// All facts of a program are the same.
+pub fn one_facts()
+    ensures { HasOneFacts }
 {}

@@ -48,6 +48,7 @@ pub AreMet-none : (structs : List StructTree) → AreMet structs [] [] []
 AreMet-none structs = record {
   same_length = refl;
   numbered = λ at type e. absurd (none-some type e);
+  unmet = λ at number none there. absurd (none-some number there);
   distinct = λ i j kind e f. absurd (none-some kind e);
   first = λ number within. absurd (omega (arith, within));
 }
@@ -65,6 +66,13 @@ module _ (structs : List StructTree) (types : Types) (kinds : List Kind) (number
       let x = met.numbered at type has in
       let same : x.0 ≡ other = same_Some x.0 other (sym x.2 ∙ there) in
       subst (λ n. n < length kinds) same (slice_get_within kinds x.0 x.1 x.3)
+
+  -- and each other token 0
+  unmet_more : (t : Option ExpressionType) (n : ℕ) → (t ≡ None → n ≡ 0) → (at number : ℕ) → type_at (types ++ t ∷ []) at ≡ None → slice_get (numbers ++ n ∷ []) at ≡ Some number → number ≡ 0
+  unmet_more t n last at number none there = elim (get_push numbers n at number there) [
+    | inl h ↦ met.unmet at number (sym (type_front types t at (omega (arith, h.0, met.same_length))) ∙ none) h.1
+    | inr h ↦ sym h.1 ∙ last (sym (type_last types t) ∙ sym (ap (type_at (types ++ t ∷ [])) (h.0 ∙ met.same_length)) ∙ none)
+  ]
 
   -- a kind that was met first at a token stays so
   first_kept : (t : Option ExpressionType) (n number at : ℕ) → IsFirstMet types numbers number at → IsFirstMet (types ++ t ∷ []) (numbers ++ n ∷ []) number at
@@ -88,13 +96,14 @@ module _ (structs : List StructTree) (types : Types) (kinds : List Kind) (number
   }
 
   -- a token without a type
-  met_none : (n : ℕ) → AreMet structs (types ++ None ∷ []) kinds (numbers ++ n ∷ [])
-  met_none n = record {
+  met_none : (n : ℕ) → n ≡ 0 → AreMet structs (types ++ None ∷ []) kinds (numbers ++ n ∷ [])
+  met_none n zeroth = record {
     same_length = omega (arith, met.same_length, length_push numbers n, length_push types None);
     numbered = λ at type e. elim (type_push types None at type e) [
       | inl h ↦ let x = met.numbered at type h.1 in (x.0, x.1, number_front None n at h.0 ∙ x.2, x.3, x.4)
       | inr h ↦ absurd (none-some type h.1)
     ];
+    unmet = unmet_more None n (λ e. zeroth);
     distinct = met.distinct;
     first = λ number within. let x = met.first number within in (x.0, first_kept None n number x.0 x.1);
   }
@@ -113,6 +122,7 @@ module _ (structs : List StructTree) (types : Types) (kinds : List Kind) (number
     met_old there = record {
       same_length = omega (arith, met.same_length, length_push numbers n, length_push types (Some type));
       numbered = numbered_last kinds there (λ i k e. e);
+      unmet = unmet_more (Some type) n (λ e. absurd (none-some type (sym e)));
       distinct = met.distinct;
       first = λ number within. let x = met.first number within in (x.0, first_kept (Some type) n number x.0 x.1);
     }
@@ -122,6 +132,7 @@ module _ (structs : List StructTree) (types : Types) (kinds : List Kind) (number
       same_length = omega (arith, met.same_length, length_push numbers n, length_push types (Some type));
       numbered = numbered_last (kinds ++ kind ∷ []) (ap (slice_get (kinds ++ kind ∷ [])) last ∙ slice_get-last kinds kind)
           (λ i k e. slice_get-front kinds kind i (slice_get_within kinds i k e) ∙ e);
+      unmet = unmet_more (Some type) n (λ e. absurd (none-some type (sym e)));
       distinct = λ i j k e f. elim (get_push kinds kind i k e) [
         | inl x ↦ elim (get_push kinds kind j k f) [ inl y ↦ met.distinct i j k x.1 y.1 | inr y ↦ absurd (nowhere i (x.1 ∙ ap Some (sym y.1))) ]
         | inr x ↦ elim (get_push kinds kind j k f) [ inl y ↦ absurd (nowhere j (y.1 ∙ ap Some (sym x.1))) | inr y ↦ x.0 ∙ sym y.0 ]
@@ -136,7 +147,7 @@ module _ (structs : List StructTree) (types : Types) (kinds : List Kind) (number
         below number within = omega (arith, within, length_push kinds kind)
 
   pub AreMet-next : (t : Option ExpressionType) (later : List Kind) (n : ℕ) → IsNext structs t kinds later n → AreMet structs (types ++ t ∷ []) later (numbers ++ n ∷ [])
-  AreMet-next None later n same = subst (λ ks. AreMet structs (types ++ None ∷ []) ks (numbers ++ n ∷ [])) (sym same) (met_none n)
+  AreMet-next None later n h = subst (λ ks. AreMet structs (types ++ None ∷ []) ks (numbers ++ n ∷ [])) (sym h.0) (met_none n h.1)
   AreMet-next (Some type) later n h = elim h.2 [
     | inl old ↦ subst (λ ks. AreMet structs (types ++ Some type ∷ []) ks (numbers ++ n ∷ [])) (sym old.0) (met_old type h.0 h.1 n old.1)
     | inr new ↦ subst (λ ks. AreMet structs (types ++ Some type ∷ []) ks (numbers ++ n ∷ [])) (sym new.0) (met_new type h.0 h.1 n new.1 new.2)

@@ -12,12 +12,13 @@ pub record IsFirstMet (types : List (Option ExpressionType)) (numbers : List ℕ
   pub here : slice_get numbers at ≡ Some number
   pub first : (before other : ℕ) (type : ExpressionType) → before < at → type_at types before ≡ Some type → slice_get numbers before ≡ Some other → other < number
 
--- the kinds of the types of tokens: each token that has a type has the number of its kind, no two
--- kinds are the same, and each is first met at a token
+-- the kinds of the types of tokens: each token that has a type has the number of its kind, and each
+-- other one 0; no two kinds are the same, and each is first met at a token
 pub record AreMet (structs : List StructTree) (types : List (Option ExpressionType)) (kinds : List Kind) (numbers : List ℕ) : Type 0 where
   pub same_length : length numbers ≡ length types
   pub numbered : (at : ℕ) (type : ExpressionType) → type_at types at ≡ Some type
       → (number : ℕ) × (kind : Kind) × (slice_get numbers at ≡ Some number) × (slice_get kinds number ≡ Some kind) × IsKind structs type kind
+  pub unmet : (at number : ℕ) → type_at types at ≡ None → slice_get numbers at ≡ Some number → number ≡ 0
   pub distinct : (i j : ℕ) (kind : Kind) → slice_get kinds i ≡ Some kind → slice_get kinds j ≡ Some kind → i ≡ j
   pub first : (number : ℕ) → number < length kinds → (at : ℕ) × IsFirstMet types numbers number at
 
@@ -28,5 +29,5 @@ IsNumbered before kind after number = ((after ≡ before) × (slice_get before n
 
 -- what one more token is: the kind of its type is numbered, where it has one
 abbrev pub IsNext : List StructTree → Option ExpressionType → List Kind → List Kind → ℕ → Type 0
-IsNext structs None before after number = after ≡ before
+IsNext structs None before after number = (after ≡ before) × (number ≡ 0)
 IsNext structs (Some type) before after number = (kind : Kind) × IsKind structs type kind × IsNumbered before kind after number

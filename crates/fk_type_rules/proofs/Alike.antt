@@ -1,5 +1,5 @@
--- Environments that are right about a program break the same.
-use Rattle.std.proofs.Common.{◌≡◌, inl, inr, ℕ, suc, Bool, true, false, ◌&&◌, ◌||◌, List, [], ◌∷◌, length, map, nat_eq, Option, Some, None, slice_get, refl, sym, ap, subst, ◌∙◌, arith, codes}
+-- Environments that are right about a program break the same, and know the same types of its tokens.
+use Rattle.std.proofs.Common.{◌≡◌, inl, inr, ℕ, suc, Bool, true, false, ◌&&◌, ◌||◌, List, [], ◌∷◌, ◌++◌, length, map, nat_eq, Option, Some, None, slice_get, refl, sym, ap, subst, ◌∙◌, arith, codes}
 use Rattle.std.specs.Prelude.{if◌then◌else◌, is_none, is_some}
 use Rattle.std.specs.Option.{option_map, option_and_then}
 use Rattle.std.specs.Cmp.Lexicographic.{pointwise}
@@ -32,9 +32,10 @@ use Rattle.fk_pieces.specs.declared.piece.Role.{Role}
 use Rattle.fk_pieces.specs.declared.piece.Role.TheVariants as role
 use Rattle.fk_type_rules.specs.Constant.{is_more}
 use Rattle.fk_type_rules.specs.Pieces.{scalar, is_not_converted, if_there, InitialBreaks, FileInitialBreaks, UsedBreaks, PieceBreaks}
+use Rattle.fk_type_rules.specs.Noted.{optional_noted, declared_noted, piece_noted, pieces_noted}
 use Rattle.fk_type_rules.specs.Broken.{Broken}
 use Rattle.fk_type_rules.proofs.Meanings.{means-something}
-use Rattle.fk_type_rules.proofs.Used.{HoldsOf, holds-each, InTerm, InTerms, InOptional, InPiece, in_piece-at, in_program}
+use Rattle.fk_type_rules.proofs.Used.{HoldsOf, holds-each, InTerm, InTerms, InOptional, InPiece, InPieces, in_piece-at, in_program}
 
 -- ---- what is declared is one thing alone
 
@@ -198,6 +199,54 @@ module _ (structs : List StructTree) (meant other : Named → Meant) (types othe
         let f : Option Value → Option ExpressionType → Option Value = λ v o. y.either_value v (y.value_in o) in
         two-same f (y.first_value A before) (y.first_value B before) (y.type_of A last) (y.type_of B last) (same-first before h.0) (same-type last h.1)
 
+  -- and those that are noted at the tokens of an expression
+  ends : (at : ℕ) (x : Term) (before : List y.Noted) (again : List y.Noted) → InTerm IsSame x → before ≡ again → before ++ y.note at (y.type_of A x) ≡ again ++ y.note at (y.type_of B x)
+  ends at x before again h e = two-same ◌++◌ before again (y.note at (y.type_of A x)) (y.note at (y.type_of B x)) e (ap (y.note at) (same-type x h))
+
+  mutual
+    same-noted : (x : Term) → InTerm IsSame x → y.noted A x ≡ y.noted B x
+    same-noted (Number spot value unsigned) h = refl
+    same-noted (Puts spot) h = refl
+    same-noted (Sizeof spot type) h = refl
+    same-noted (Use name) h = ap (y.note name.at) (same-type (Use name) h)
+    same-noted (GroupNumber spot) h = refl
+    same-noted (GroupRank spot) h = refl
+    same-noted (Prefix spot sign operand) h = ends spot.at (Prefix spot sign operand) _ _ h (same-noted operand h)
+    same-noted (Dereference spot pointer) h = ends spot.at (Dereference spot pointer) _ _ h (same-noted pointer h)
+    same-noted (Address spot place) h = ends spot.at (Address spot place) _ _ h (same-noted place h)
+    same-noted (Count spot is_before place) h = ends spot.at (Count spot is_before place) _ _ h (same-noted place h)
+    same-noted (Cast spot type operand) h = ends spot.at (Cast spot type operand) _ _ h (same-noted operand h)
+    same-noted (Binary spot sign left right) h = ends spot.at (Binary spot sign left right) _ _ h (two-same ◌++◌ _ _ _ _ (same-noted left h.0) (same-noted right h.1))
+    same-noted (Comma spot left right) h = ends spot.at (Comma spot left right) _ _ h (two-same ◌++◌ _ _ _ _ (same-noted left h.0) (same-noted right h.1))
+    same-noted (Index spot whole by) h = ends spot.at (Index spot whole by) _ _ h (two-same ◌++◌ _ _ _ _ (same-noted whole h.0) (same-noted by h.1))
+    same-noted (Call spot callee arguments) h = ends spot.at (Call spot callee arguments) _ _ h
+        (two-same ◌++◌ (y.noted A callee) (y.noted B callee) (y.all_noted A arguments) (y.all_noted B arguments) (same-noted callee h.0) (all-noted arguments h.1))
+    same-noted (Member spot whole member) h = ends spot.at (Member spot whole member) _ _ h (same-noted whole h)
+    same-noted (Through spot pointer member) h = ends spot.at (Through spot pointer member) _ _ h (same-noted pointer h)
+    same-noted (Assign spot sign place value) h = ends spot.at (Assign spot sign place value) _ _ h (two-same ◌++◌ _ _ _ _ (same-noted place h.0) (same-noted value h.1))
+    same-noted (Choose spot condition first second) h = ends spot.at (Choose spot condition first second) _ _ h
+        (two-same ◌++◌ (y.noted A condition ++ y.noted A first) (y.noted B condition ++ y.noted B first) (y.noted A second) (y.noted B second) (two-same ◌++◌ _ _ _ _ (same-noted condition h.0) (same-noted first h.1)) (same-noted second h.2))
+
+    all-noted : (xs : Terms) → InTerms IsSame xs → y.all_noted A xs ≡ y.all_noted B xs
+    all-noted no_terms h = refl
+    all-noted (also before last) h = two-same ◌++◌ (y.all_noted A before) (y.all_noted B before) (y.noted A last) (y.noted B last) (all-noted before h.0) (same-noted last h.1)
+
+  there-noted : (tree : Option Tree) → InOptional IsSame tree → optional_noted A tree ≡ optional_noted B tree
+  there-noted None h = refl
+  there-noted (Some tree) h = same-noted (term_of tree) h
+
+  same-piece : (piece : PieceTree) → InPiece IsSame piece → piece_noted A piece ≡ piece_noted B piece
+  same-piece (p.FileVariable variable) h = ap (λ (ns : List y.Noted). declared_noted A variable ++ ns) (there-noted variable.first h)
+  same-piece (p.Variable variable) h = ap (λ (ns : List y.Noted). declared_noted A variable ++ ns) (there-noted variable.first h)
+  same-piece (p.Parameter parameter) h = refl
+  same-piece (p.Header function) h = refl
+  same-piece (p.Used r value) h = same-noted (term_of value) h
+  same-piece (p.Return result spot value) h = there-noted value h
+
+  same-pieces : (list : List PieceTree) → InPieces IsSame list → pieces_noted A list ≡ pieces_noted B list
+  same-pieces [] h = refl
+  same-pieces (x ∷ xs) h = two-same ◌++◌ (piece_noted A x) (piece_noted B x) (pieces_noted A xs) (pieces_noted B xs) (same-piece x h.0) (same-pieces xs h.1)
+
   -- ---- what expressions break
 
   -- a test of one part, and of two
@@ -322,21 +371,35 @@ module _ (structs : List StructTree) (meant other : Named → Meant) (types othe
 
 -- ---- whole programs
 
--- environments with the same structs
-alike-structs : (program : ProgramTree) (structs : List StructTree) (meant other : Named → Meant) (types others : ℕ → ℕ → Option DataType)
-    → IsEnv program (made structs meant types) → IsEnv program (made structs other others) → Follows (Broken (made structs meant types) program) (Broken (made structs other others) program)
-alike-structs program structs meant other types others one two =
-    program-follows structs meant other types others
-    (λ index place s d here there. same-types structs (DeclarationBreaks structs d) (type_declared structs d) (types index place) (others index place) (one.member_type index place s d here there) (two.member_type index place s d here there))
-    program (holds-each (λ name. meant name ≡ other name) (outline program) (λ from name used.
-    let meaning = means-something (outline program) name.bytes from in
-    let means : Means program name.at meaning.0 = record { name = name; from = from; used = used; here = refl; meant = meaning.1 } in
-    same-meant program name.bytes meaning.0 (meant name) (other name) (one.meant name meaning.0 means) (two.meant name meaning.0 means)))
+-- what holds of two environments that know the same of a program holds of any two that are right about it
+module _ (program : ProgramTree) (Q : Env → Env → Type 0)
+    (known : (structs : List StructTree) (meant other : Named → Meant) (types others : ℕ → ℕ → Option DataType)
+    → ((index place : ℕ) (s : StructTree) (d : DeclaredTree) → slice_get structs index ≡ Some s → slice_get s.members place ≡ Some d → types index place ≡ others index place)
+    → HoldsOf (λ name. meant name ≡ other name) (outline program) → Q (made structs meant types) (made structs other others)) where
+  -- environments with the same structs
+  with-structs : (structs : List StructTree) (meant other : Named → Meant) (types others : ℕ → ℕ → Option DataType)
+      → IsEnv program (made structs meant types) → IsEnv program (made structs other others) → Q (made structs meant types) (made structs other others)
+  with-structs structs meant other types others one two =
+      known structs meant other types others
+      (λ index place s d here there. same-types structs (DeclarationBreaks structs d) (type_declared structs d) (types index place) (others index place) (one.member_type index place s d here there) (two.member_type index place s d here there))
+      (holds-each (λ name. meant name ≡ other name) (outline program) (λ from name used.
+      let meaning = means-something (outline program) name.bytes from in
+      let means : Means program name.at meaning.0 = record { name = name; from = from; used = used; here = refl; meant = meaning.1 } in
+      same-meant program name.bytes meaning.0 (meant name) (other name) (one.meant name meaning.0 means) (two.meant name meaning.0 means)))
 
-alike-with : (program : ProgramTree) (structs again : List StructTree) (meant other : Named → Meant) (types others : ℕ → ℕ → Option DataType) → structs ≡ again
-    → IsEnv program (made structs meant types) → IsEnv program (made again other others) → Follows (Broken (made structs meant types) program) (Broken (made again other others) program)
-alike-with program structs again meant other types others e one =
-    subst (λ ss. IsEnv program (made ss other others) → Follows (Broken (made structs meant types) program) (Broken (made ss other others) program)) e (alike-structs program structs meant other types others one)
+  with-equal : (structs again : List StructTree) (meant other : Named → Meant) (types others : ℕ → ℕ → Option DataType) → structs ≡ again
+      → IsEnv program (made structs meant types) → IsEnv program (made again other others) → Q (made structs meant types) (made again other others)
+  with-equal structs again meant other types others e one =
+      subst (λ ss. IsEnv program (made ss other others) → Q (made structs meant types) (made ss other others)) e (with-structs structs meant other types others one)
+
+  for-right : (env other : Env) → IsEnv program env → IsEnv program other → Q env other
+  for-right env other one two = with-equal env.structs other.structs env.meant other.meant env.member_type other.member_type (one.structs ∙ sym two.structs) one two
 
 pub alike : (program : ProgramTree) (env other : Env) → IsEnv program env → IsEnv program other → Follows (Broken env program) (Broken other program)
-alike program env other one two = alike-with program env.structs other.structs env.meant other.meant env.member_type other.member_type (one.structs ∙ sym two.structs) one two
+alike program = for-right program (λ one two. Follows (Broken one program) (Broken two program))
+    (λ structs meant other types others members holds. program-follows structs meant other types others members program holds)
+
+pub alike-noted : (program : ProgramTree) (env other : Env) → IsEnv program env → IsEnv program other → pieces_noted env (pieces program) ≡ pieces_noted other (pieces program)
+alike-noted program = for-right program (λ one two. pieces_noted one (pieces program) ≡ pieces_noted two (pieces program))
+    (λ structs meant other types others members holds.
+    same-pieces structs meant other types others members (pieces program) (in_program (λ name. meant name ≡ other name) program holds))

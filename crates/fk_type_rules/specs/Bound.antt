@@ -67,3 +67,7 @@ pub data IsBound (env : Env) (program : ProgramTree) (at : ℕ) : ℕ → Type 0
 -- each token that names anything has its number
 abbrev pub AreBound : Env → ProgramTree → List ℕ → Type 0
 AreBound env program numbers = (at number : ℕ) → IsBound env program at number → slice_get numbers at ≡ Some number
+
+-- and each other token has 0
+abbrev pub AreUnbound : Env → ProgramTree → List ℕ → Type 0
+AreUnbound env program numbers = (at number : ℕ) → ((bound : ℕ) → ¬ IsBound env program at bound) → slice_get numbers at ≡ Some number → number ≡ 0

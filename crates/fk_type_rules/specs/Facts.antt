@@ -13,10 +13,12 @@ use Rattle.fk_type_rules.specs.Kinds.{IsKind}
 use Rattle.fk_type_rules.specs.Noted.{HasTypeAt}
 use Rattle.fk_type_rules.specs.Bound.{IsBound}
 
--- a note says the type of its token and what it names, and nothing else yet
+-- a note says the type of its token and what it names, with 0 where there is none, and nothing else yet
 pub record IsNote (env : Env) (program : ProgramTree) (kinds : List Kind) (at : ℕ) (note : Note) : Type 0 where
   pub kind : (type : ExpressionType) → HasTypeAt env program at type → (kind : Kind) × (slice_get kinds note.kind ≡ Some kind) × IsKind env.structs type kind
   pub binding : (bound : ℕ) → IsBound env program at bound → note.binding ≡ bound
+  pub untyped : ((type : ExpressionType) → ¬ HasTypeAt env program at type) → note.kind ≡ 0
+  pub unbound : ((bound : ℕ) → ¬ IsBound env program at bound) → note.binding ≡ 0
   pub sync : note.sync ≡ false
   pub shared : note.shared ≡ false
   pub splits : note.splits ≡ false

@@ -1,5 +1,5 @@
 -- The facts of a program, by its tables.
-use Rattle.std.proofs.Common.{◌≡◌, ℕ, ◌<◌, List, length, Option, Some, slice_get, sym, ap, subst, ◌∙◌}
+use Rattle.std.proofs.Common.{◌≡◌, ℕ, ◌<◌, List, length, Option, Some, None, slice_get, refl, sym, ap, subst, ◌∙◌}
 use Rattle.std.proofs.lemmas.Option.{same_Some}
 use Rattle.fk_syntax.specs.declared.facts.Note.{Note}
 use Rattle.fk_syntax.specs.declared.facts.Kind.{Kind}
@@ -8,15 +8,16 @@ use Rattle.fk_syntax.specs.Program.{ProgramTree}
 use Rattle.fk_signs.specs.declared.values.ExpressionType.{ExpressionType}
 use Rattle.fk_typing.specs.Names.{Env}
 use Rattle.fk_type_rules.specs.Kinds.{IsKind}
-use Rattle.fk_type_rules.specs.Noted.{HasTypeAt, AreTypes}
-use Rattle.fk_type_rules.specs.Bound.{AreBound}
+use Rattle.fk_type_rules.specs.Noted.{HasTypeAt, type_at, AreTypes}
+use Rattle.fk_type_rules.specs.Bound.{IsBound, AreBound, AreUnbound}
 use Rattle.fk_type_rules.specs.Facts.{IsNote, IsMetAt, AreFactsIn}
 use Rattle.fk_kinds.specs.Met.{IsFirstMet, AreMet}
 use Rattle.fk_types.specs.Notes.{notes_of}
 use Rattle.fk_types.proofs.NoteLemmas.{length-notes_of, IsNoteOf, note_at, note_there}
 
 module _ (env : Env) (program : ProgramTree) (types : List (Option ExpressionType)) (kinds : List Kind) (numbers bindings : List ℕ)
-    (told : AreTypes env program types) (met : AreMet env.structs types kinds numbers) (bound : AreBound env program bindings) (same : length bindings ≡ length numbers) where
+    (told : AreTypes env program types) (met : AreMet env.structs types kinds numbers) (bound : AreBound env program bindings) (unbound : AreUnbound env program bindings)
+    (same : length bindings ≡ length numbers) where
   kind_at : (at : ℕ) (note : Note) → IsNoteOf numbers bindings at note → (type : ExpressionType) → HasTypeAt env program at type
       → (kind : Kind) × (slice_get kinds note.kind ≡ Some kind) × IsKind env.structs type kind
   kind_at at note is type has =
@@ -24,12 +25,22 @@ module _ (env : Env) (program : ProgramTree) (types : List (Option ExpressionTyp
       let number : x.0 ≡ note.kind = same_Some x.0 note.kind (sym x.2 ∙ is.kind) in
       (x.1, ap (slice_get kinds) (sym number) ∙ x.3, x.4)
 
+  -- a token without a type has none in the table
+  no_type : (at : ℕ) → ((type : ExpressionType) → ¬ HasTypeAt env program at type) → type_at types at ≡ None
+  no_type at none = by (type_at types at) refl
+    where
+      by : (o : Option ExpressionType) → type_at types at ≡ o → type_at types at ≡ None
+      by None e = e
+      by (Some type) e = absurd (none type (told.told at type e))
+
   is_note : (at : ℕ) (note : Note) → slice_get (notes_of numbers bindings) at ≡ Some note → IsNote env program kinds at note
   is_note at note there =
       let is = note_at numbers bindings at note there in
       record {
         kind = kind_at at note is;
         binding = λ b h. same_Some note.binding b (sym is.binding ∙ bound at b h);
+        untyped = λ none. met.unmet at note.kind (no_type at none) is.kind;
+        unbound = λ none. unbound at note.binding none is.binding;
         sync = is.sync;
         shared = is.shared;
         splits = is.splits;
@@ -55,6 +66,6 @@ module _ (env : Env) (program : ProgramTree) (types : List (Option ExpressionTyp
 
 -- the facts that are made of tables of a program are its own
 pub AreFactsIn-by : (env : Env) (program : ProgramTree) (types : List (Option ExpressionType)) (facts : Facts) (kinds : List Kind) (numbers bindings : List ℕ)
-    → length types ≡ program.tokens → AreTypes env program types → AreMet env.structs types kinds numbers → AreBound env program bindings → length bindings ≡ length numbers
+    → length types ≡ program.tokens → AreTypes env program types → AreMet env.structs types kinds numbers → AreBound env program bindings → AreUnbound env program bindings → length bindings ≡ length numbers
     → facts.notes.items ≡ notes_of numbers bindings → facts.kinds.items ≡ kinds → AreFactsIn env program facts
-AreFactsIn-by env program types facts kinds numbers bindings tokens told met bound same notes list = known env program types kinds numbers bindings told met bound same facts tokens notes list
+AreFactsIn-by env program types facts kinds numbers bindings tokens told met bound unbound same notes list = known env program types kinds numbers bindings told met bound unbound same facts tokens notes list

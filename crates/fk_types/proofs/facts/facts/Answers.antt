@@ -22,6 +22,7 @@ returns c = λ env structs told.
     let pieces = c.list.ensures ∙ c.in_ok-pieces.ensures ∙ ap (λ items. items_pieces (map item_of items)) c.deref.ensures.value in
     let met = subst (λ ss. AreMet ss c.args.types.now c.in_ok-kinds.kinds.list.items c.in_ok-kinds.kinds.numbers.items) (sym structs) c.in_ok-kinds.ensures in
     let bound = c.in_ok-bindings.ensures.bound env program c.requires.well_formed (tokens_apart program c.requires.well_formed) c.requires.tokens pieces structs c.requires.names told in
+    let unbound = c.in_ok-bindings.ensures.unbound env program pieces structs c.requires.names told in
     let notes = c.in_ok-notes.ensures ∙ ap₂ notes_of c.deref-2.ensures.value c.deref-3.ensures.value in
-    AreFactsIn-by env program c.args.types.now facts facts.kinds.items numbers bindings c.requires.tokens told met bound
+    AreFactsIn-by env program c.args.types.now facts facts.kinds.items numbers bindings c.requires.tokens told met bound unbound
     (c.in_ok-bindings.ensures.length ∙ sym c.in_ok-kinds.ensures.same_length) notes refl
