@@ -1,6 +1,6 @@
 -- What is too much of a text, as its refusal.
 use Rattle.std.proofs.Common.{◌≡◌, ℕ, ◌-◌, ◌^◌, ◌≤◌, Bool, true, false, List, [], ◌∷◌, length, Option, Some, None, Contains, inl, inr, refl, sym, ap, subst}
-use Rattle.std.specs.Prelude.{min, nat_lt, if◌then◌else◌, Result, Ok, Err, OnOk, IfErr}
+use Rattle.std.specs.Prelude.{min, nat_lt, if◌then◌else◌}
 use Rattle.fk_syntax.specs.declared.facts.Facts.{Facts}
 use Rattle.fk_syntax.specs.declared.place.Place.{Place}
 use Rattle.fk_syntax.specs.Program.{Statements, FunctionTree, ItemTree, StructItem, VariablesItem, FunctionItem, ProgramTree}
@@ -10,12 +10,12 @@ use Rattle.fk_layout.specs.declared.sites.LayoutFault.{LayoutFault}
 use Rattle.fk_layout.specs.declared.sites.LayoutFault.TheVariants as layout
 use Rattle.fk_layout.specs.Frames.{private_words, first_large_in}
 use Rattle.fk_layout.specs.Layout.{tables_by}
-use Rattle.fk_layout.specs.Refusal.{IsRefusal, Fits}
+use Rattle.fk_layout.specs.Refusal.{IsRefusal}
 use Rattle.fk_straight.proofs.NameLemmas.{Contains-head, Contains-tail, Contains-cons_cases, Contains-nil}
 use Rattle.fk_compile.specs.declared.refusal.Refusal.{Refusal}
 use Rattle.fk_compile.specs.declared.refusal.Refusal.TheVariants.{BadByte, OpenComment, OpenString, WideNumber, Unexpected, EndOfText, Nesting, Rule, TooManySites, FrameTooLarge, GlobalsTooLarge, SourceTooLong, NotBuilt, Memory}
 use Rattle.fk_compile.specs.Refusal.{IsRefused, IsOfFunction, TellsFrame, TellsFault}
-use Rattle.fk_compile.specs.Text.{IsOther, HasLargeFrame}
+use Rattle.fk_compile.specs.Text.{IsChecked, HasLargeFrame}
 
 -- the place that is told, if one is
 abbrev place_in : Option (Place × ℕ) → Place → Place
@@ -57,12 +57,8 @@ of_function tables items (layout.FrameTooLarge place words) refused =
 of_function tables items (layout.GlobalsTooLarge words) refused = tt
 of_function tables items layout.Memory refused = tt
 
-pub of_functions : {L : Type 0} (tables : Tables) (items : List ItemTree) (r : Result L LayoutFault) → IfErr r (IsRefusal tables items) → IfErr r (IsOfFunction items)
-of_functions tables items (Ok laid) refused = tt
-of_functions tables items (Err fault) refused = of_function tables items fault refused
-
--- a text of another program, of which this is too much, is refused by what tells that
-module _ (source : List ℕ) (tree : ProgramTree) (facts : Facts) (short : length source ≤ 1048576) (other : IsOther source tree facts) where
+-- a text that keeps all rules, of which this is too much, is refused by what tells that
+module _ (source : List ℕ) (tree : ProgramTree) (facts : Facts) (short : length source ≤ 1048576) (checked : IsChecked source tree facts) where
   by_frame : (place : Place) (words : ℕ) (refusal : Refusal) → IsRefusal (tables_by tree facts) tree.items (layout.FrameTooLarge place words)
       → TellsFrame tree.items place words refusal → IsRefused source refusal
   by_frame place words (BadByte at) refused tells = absurd tells
@@ -79,7 +75,7 @@ module _ (source : List ℕ) (tree : ProgramTree) (facts : Facts) (short : lengt
     record {
       tree = tree;
       facts = facts;
-      other = other;
+      checked = checked;
       place = place;
       refused = subst (λ (n : ℕ). IsRefusal (tables_by tree facts) tree.items (layout.FrameTooLarge place n)) (sym tells.1) refused;
       named = tells.0;
@@ -92,14 +88,8 @@ module _ (source : List ℕ) (tree : ProgramTree) (facts : Facts) (short : lengt
 
   pub refused_by : (fault : LayoutFault) (refusal : Refusal) → IsRefusal (tables_by tree facts) tree.items fault → TellsFault tree.items fault refusal → IsRefused source refusal
   refused_by (layout.TooManySites count) refusal refused tells =
-      subst (IsRefused source) (sym tells) (short, record { tree = tree; facts = facts; other = other; refused = refused })
+      subst (IsRefused source) (sym tells) (short, record { tree = tree; facts = facts; checked = checked; refused = refused })
   refused_by (layout.FrameTooLarge place words) refusal refused tells = by_frame place words refusal refused tells
   refused_by (layout.GlobalsTooLarge words) refusal refused tells =
-      subst (IsRefused source) (sym tells) (short, record { tree = tree; facts = facts; other = other; refused = refused })
+      subst (IsRefused source) (sym tells) (short, record { tree = tree; facts = facts; checked = checked; refused = refused })
   refused_by layout.Memory refusal refused tells = subst (IsRefused source) (sym tells.1) tt
-
-  pub refused_of : {L : Type 0} (r : Result L LayoutFault) (refusal : Refusal) → OnOk r (Fits (tables_by tree facts) tree.items) → IfErr r (IsRefusal (tables_by tree facts) tree.items)
-      → OnOk r (refusal ≡ NotBuilt) → IfErr r (λ fault. TellsFault tree.items fault refusal) → IsRefused source refusal
-  refused_of (Ok laid) refusal fits refused built told =
-      subst (IsRefused source) (sym built) (short, record { tree = tree; facts = facts; other = other; fits = fits })
-  refused_of (Err fault) refusal fits refused built told = refused_by fault refusal refused told

@@ -36,7 +36,7 @@ pub mod Bounds
 pub mod Parts
 -- what is too much of a text tells of its functions, and refuses it
 pub mod Large
--- the variables of a straight-line program have a word each
+-- rows end where all shared variables of file scope do
 pub mod Shared
 -- a search has met none so far
 pub mod Searches

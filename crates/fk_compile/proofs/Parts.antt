@@ -1,6 +1,6 @@
 -- From the answers of the compiler's parts to those of the whole.
 use Rattle.std.proofs.Common.{◌≡◌, ℕ, List, Ok, Err, IfOk, IfErr, map, sym, subst, ◌∙◌}
-use Rattle.std.specs.Prelude.{Result, MatchResult}
+use Rattle.std.specs.Prelude.{Result, MatchResult, OnOk}
 use Rattle.std.specs.Result.{IsErrAnd}
 use Rattle.std.specs.declared.alloc.AllocError.{AllocError}
 use Rattle.fk_syntax.specs.declared.program.Program as code
@@ -22,6 +22,11 @@ pub kept : {A E D : Type 0} (P : A → Type 0) (Q : E → D → Type 0) (r : Res
     → IfOk r P → MatchResult r (λ x. m ≡ Ok x) (λ e. IsErrAnd m (Q e)) → m ≡ Ok a → P a
 kept P Q (Ok x) m a p same is = subst P (let e : Ok x ≡ Ok a = sym same ∙ is in cc) p
 kept P Q (Err e) m a p other is = absurd (subst (λ z. IsErrAnd z (Q e)) is other)
+
+-- what holds anyway
+pub on_ok : {A E : Type 0} (r : Result A E) (P : Type 0) → P → OnOk r P
+on_ok (Ok x) P p = p
+on_ok (Err e) P p = tt
 
 -- why the tokens of a text have no tree
 pub faulty : (source : List ℕ) (tokens list : List Token) (r : Result code.Program SyntaxFault) → list ≡ tokens

@@ -14,7 +14,7 @@ use Rattle.fk_compile.specs.declared.refusal.Refusal.TheVariants.{BadByte, OpenC
 
 -- the length is that of a text that is too long; one that isn't has a lexical fault at the least place, or it has
 -- tokens: they have no tree, for a fault at a token or at the end; or they have one, and it breaks this rule first; or
--- it keeps all rules and is that of no straight-line program: there is too much of something for a layout, or it has one
+-- it keeps all rules, and there is too much of something for a layout; or it has one and is no straight-line program
 abbrev pub IsRefused : List ℕ → Refusal → Type 0
 IsRefused source (SourceTooLong bytes) = (bytes ≡ length source) × (1048576 < bytes)
 IsRefused source (BadByte place) = (length source ≤ 1048576) × Faults source (fault.BadByte place)

@@ -54,16 +54,18 @@ pub record IsStraight (source : List ℕ) (program : Program) : Type 0 where
   pub parsed : HasTree source tree
   pub straight : trees.Derives tree program
 
--- a text that keeps all rules, but is that of no straight-line program
-pub record IsOther (source : List ℕ) (tree : ProgramTree) (facts : Facts) : Type 0 where
+-- a text keeps all rules, and nothing is too much of it for a layout
+pub record HasLayout (source : List ℕ) : Type 0 where
+  pub tree : ProgramTree
+  pub facts : Facts
   pub checked : IsChecked source tree facts
-  pub none : trees.IsNotStraight tree
+  pub fits : Fits (tables_by tree facts) tree.items
 
--- and this is too much of it, as the layout tells it
+-- or this is too much of it, as the layout tells it
 pub record HasTooMuch (source : List ℕ) (fault : LayoutFault) : Type 0 where
   pub tree : ProgramTree
   pub facts : Facts
-  pub other : IsOther source tree facts
+  pub checked : IsChecked source tree facts
   pub refused : IsRefusal (tables_by tree facts) tree.items fault
 
 -- an item is a function of this name, which stands at this place
@@ -78,27 +80,24 @@ HasFunctionAt items place name = (item : ItemTree) × Contains items item × IsF
 pub record HasLargeFrame (source name : List ℕ) (words : ℕ) : Type 0 where
   pub tree : ProgramTree
   pub facts : Facts
-  pub other : IsOther source tree facts
+  pub checked : IsChecked source tree facts
   pub place : Place
   pub refused : IsRefusal (tables_by tree facts) tree.items (layout.FrameTooLarge place words)
   pub named : HasFunctionAt tree.items place name
 
--- or nothing is too much of it
+-- a text has a layout, but is that of no straight-line program
 pub record IsNotBuilt (source : List ℕ) : Type 0 where
-  pub tree : ProgramTree
-  pub facts : Facts
-  pub other : IsOther source tree facts
-  pub fits : Fits (tables_by tree facts) tree.items
+  pub laid : HasLayout source
+  pub none : trees.IsNotStraight laid.tree
 
 -- the one of these rows that has a name, and none where none has it
 abbrev pub IsRowOf : List Row → List ℕ → Option Row → Type 0
 IsRowOf all name (Some row) = Contains all row × (row.name ≡ name)
 IsRowOf all name None = All (λ (row : Row). row.name ≢ name) all
 
--- a text is that of a straight-line program, and this is the row of a name among those of its layout, if there is one
+-- a text has a layout and is that of a straight-line program, and this is the row of a name among those of its layout,
+-- if there is one
 pub record HasGlobal (source name : List ℕ) (row : Option Row) : Type 0 where
-  pub tree : ProgramTree
-  pub facts : Facts
-  pub checked : IsChecked source tree facts
-  pub straight : trees.IsStraight tree
-  pub is : IsRowOf (rows (told facts.notes.items facts.kinds.items) tree.items) name row
+  pub laid : HasLayout source
+  pub straight : trees.IsStraight laid.tree
+  pub is : IsRowOf (rows (told laid.facts.notes.items laid.facts.kinds.items) laid.tree.items) name row

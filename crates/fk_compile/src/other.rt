@@ -1,8 +1,10 @@
-//! The straight-line program of a text, and why another text is refused.
+//! The layout of a text and its straight-line program, and why it has none.
 
-ghost use Rattle.std.specs.Prelude.{◌≡◌, ◌≤◌, ◌<◌, ℕ, List, All, IfErr, IfOk, IfSome, IsNone, OnOk, length, map, vec_len};
+ghost use Rattle.std.specs.Prelude.{◌≤◌, ◌<◌, ℕ, List, All, IfErr, IfOk, IfSome, IsNone, OnOk, length, map, vec_len};
 ghost use Rattle.fk_syntax.specs.ProgramView.{item_of, program_of};
-ghost use Rattle.fk_straight.specs.Straight.{AreDeclared, Derives, IsNotStraight};
+ghost use Rattle.fk_layout.specs.Layout.{IsLayout, tables_by};
+ghost use Rattle.fk_layout.specs.Refusal.{Fits};
+ghost use Rattle.fk_straight.specs.Straight.{AreDeclared, Derives};
 ghost use Rattle.fk_compile.specs.Refusal.{IsOfFunction, IsRefused, TellsFault, TellsFrame};
 ghost use Rattle.fk_compile.specs.Text.{HasFunctionAt, IsChecked, IsFunctionAt};
 
@@ -14,47 +16,48 @@ use fk_straight::{StraightFault, straight};
 use fk_syntax::{Item, Place};
 use std::alloc::{AllocError, Global};
 
-/// The straight-line program of a text that keeps all rules. A text of another program is refused:
-/// by what is too much of it for a layout, or else as one that isn't built.
+/// Where all lies that a text has which keeps all rules; or what is too much of it for that.
+pub(crate) fn layout_of<'a>(alloc: Global, text: &Checked<'a>) -> Result<Layout<'a>, Refusal>
+    ensures laid { IfOk result (IsLayout (program_of text.now.tree) text.now.facts) }
+    ensures fits { OnOk result (Fits (tables_by (program_of text.now.tree) text.now.facts)
+        (program_of text.now.tree).items) }
+    ensures refused { IfErr result (λ refusal. (source : List ℕ) → length source ≤ 1048576
+        → IsChecked source (program_of text.now.tree) text.now.facts → IsRefused source refusal) }
+{
+    match lay_out(alloc, &text.tree, &text.facts) {
+        Ok(layout) => Ok(layout),
+        Err(fault) => Err(refusal_by(alloc, &text.tree.items, fault)),
+    }
+}
+
+/// The straight-line program of a text that has a layout. A text of another program isn't built.
 pub(crate) fn program_in(alloc: Global, text: &Checked) -> Result<Program, Refusal>
     requires { vec_len text.now.tree.items ≤ 524288 }
     ensures program { IfOk result (Derives (program_of text.now.tree)) }
     ensures declared { IfOk result (λ p. All (AreDeclared p.variables) p.body.items) }
     ensures few { IfOk result (λ p. p.variables < vec_len text.now.tree.items) }
     ensures refused { IfErr result (λ refusal. (source : List ℕ) → length source ≤ 1048576
-        → IsChecked source (program_of text.now.tree) text.now.facts → IsRefused source refusal) }
+        → IsChecked source (program_of text.now.tree) text.now.facts
+        → Fits (tables_by (program_of text.now.tree) text.now.facts) (program_of text.now.tree).items
+        → IsRefused source refusal) }
 {
     match straight(alloc, &text.tree) {
         Ok(program) => Ok(program),
-        Err(StraightFault::NotStraight) => Err(refusal_of(alloc, text)),
+        Err(StraightFault::NotStraight) => Err(Refusal::NotBuilt),
         Err(StraightFault::Memory(error)) => Err(Refusal::Memory(error)),
     }
 }
 
-// The refusal of a text of no straight-line program.
-fn refusal_of(alloc: Global, text: &Checked) -> Refusal
-    requires { IsNotStraight (program_of text.now.tree) }
-    ensures { (source : List ℕ) → length source ≤ 1048576
-        → IsChecked source (program_of text.now.tree) text.now.facts → IsRefused source result }
+// The refusal of these items by why they have no layout.
+fn refusal_by(alloc: Global, items: &[Item], fault: LayoutFault) -> Refusal
+    requires { IsOfFunction (map item_of items.now) fault }
+    ensures { TellsFault (map item_of items.now) fault result }
 {
-    let layout = lay_out(alloc, &text.tree, &text.facts);
-    refusal_by(alloc, &text.tree.items, layout)
-}
-
-// The refusal of these items by their layout, or by why they have none.
-fn refusal_by(alloc: Global, items: &[Item], layout: Result<Layout, LayoutFault>) -> Refusal
-    requires { IfErr layout (IsOfFunction (map item_of items.now)) }
-    ensures built { OnOk layout.entry (result ≡ Refusal.NotBuilt) }
-    ensures told { IfErr layout.entry (λ fault. TellsFault (map item_of items.now) fault result) }
-{
-    match layout {
-        Ok(_layout) => Refusal::NotBuilt,
-        Err(LayoutFault::TooManySites(count)) => Refusal::TooManySites(count),
-        Err(LayoutFault::FrameTooLarge(place, words)) => {
-            frame_too_large(alloc, items, place, words)
-        }
-        Err(LayoutFault::GlobalsTooLarge(words)) => Refusal::GlobalsTooLarge(words),
-        Err(LayoutFault::Memory) => Refusal::Memory(AllocError),
+    match fault {
+        LayoutFault::TooManySites(count) => Refusal::TooManySites(count),
+        LayoutFault::FrameTooLarge(place, words) => frame_too_large(alloc, items, place, words),
+        LayoutFault::GlobalsTooLarge(words) => Refusal::GlobalsTooLarge(words),
+        LayoutFault::Memory => Refusal::Memory(AllocError),
     }
 }
 

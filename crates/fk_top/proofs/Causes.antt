@@ -180,7 +180,7 @@ read_short source short = whole 1048577 source (omega arith)
 
 read_built : (source : List ℕ) (image : Image) → IsBuiltFrom (take 1048577 source) image → IsText source
 read_built source image b =
-    subst IsText (read_short source b.short) (record { short = b.short; kept = b.kept; program = b.faithful.program; straight = b.faithful.straight })
+    subst IsText (read_short source b.short) (record { short = b.short; laid = b.laid; program = b.faithful.program; straight = b.faithful.straight })
 
 read_image : (bytes : List ℕ) (image : Image) → IsImageOf bytes image → take 5434905 bytes ≡ bytes
 read_image bytes image is = let short = image_short bytes image is in take_all 5434905 bytes (omega arith)

@@ -1,10 +1,13 @@
 -- What is read whole, and that what is in order is not refused.
-use Rattle.std.proofs.Common.{◌≡◌, ◌≢◌, ℕ, ◌+◌, ◌*◌, ◌≤◌, ◌<◌, true, List, [], ◌∷◌, ◌++◌, codes, length, take, flat_map, None, Some, Contains, inl, inr, sym, ap, subst, ◌∙◌, arith}
+use Rattle.std.proofs.Common.{◌≡◌, ◌≢◌, ℕ, refl, ◌+◌, ◌*◌, ◌≤◌, ◌<◌, true, List, [], ◌∷◌, ◌++◌, codes, length, take, flat_map, None, Some, Contains, inl, inr, sym, ap, subst, ◌∙◌, arith}
 use Rattle.std.proofs.lemmas.List.{length-append, length-take, take_all}
 use Rattle.std.proofs.lemmas.List.Elements.{All-contains}
+use Rattle.std.proofs.lemmas.Option.{none-some}
 use Rattle.fk_syntax.specs.declared.facts.Facts.{Facts}
+use Rattle.fk_syntax.specs.declared.facts.Kind.{Kind}
+use Rattle.fk_syntax.specs.declared.facts.Note.{Note}
 use Rattle.fk_syntax.specs.declared.place.Place.{Place}
-use Rattle.fk_syntax.specs.Program.{DeclaredTree, ProgramTree}
+use Rattle.fk_syntax.specs.Program.{DeclaredTree, ItemTree, ProgramTree}
 use Rattle.fk_lex.specs.Reading.{Spelled}
 use Rattle.fk_lex.proofs.Determined as lexed
 use Rattle.fk_reading.specs.declared.fault.SyntaxFault.{SyntaxFault}
@@ -13,10 +16,19 @@ use Rattle.fk_reading.specs.Faults.{IsMemory}
 use Rattle.fk_parse.specs.Parses.{SpellsProgram}
 use Rattle.fk_parse.proofs.Texts.{one_tree, tree_or_fault}
 use Rattle.fk_check.specs.Rules.{BreaksFirst}
+use Rattle.fk_check.specs.Known.{AreAllFacts}
 use Rattle.fk_check.proofs.Apart.{keeps_or_breaks}
+use Rattle.fk_check.proofs.OneFacts.{one_facts}
+use Rattle.fk_check.specs.Laws.{AreSame}
 use Rattle.fk_straight.specs.Straight as trees
 use Rattle.fk_straight.proofs.NameLemmas.{Contains-head, Contains-tail, Contains-cons_cases, Contains-nil}
 use Rattle.fk_forms.specs.Tables.{Tables}
+use Rattle.fk_slots.specs.Frames.{regions_of}
+use Rattle.fk_slots.specs.Slots.{slots_of}
+use Rattle.fk_layout.specs.declared.sites.LayoutFault.{LayoutFault}
+use Rattle.fk_layout.specs.declared.sites.LayoutFault.TheVariants as layout
+use Rattle.fk_layout.specs.Layout.{tables_by}
+use Rattle.fk_layout.specs.Refusal.{IsRefusal, Fits}
 use Rattle.fk_globals.specs.Constants.{told}
 use Rattle.fk_globals.specs.Variables.{variables_of}
 use Rattle.fk_globals.specs.Rows.{Row, words_of, row_at, rows_from, rows}
@@ -28,7 +40,7 @@ use Rattle.fk_image.proofs.Images.{length-words, length-sites, length-commits}
 use Rattle.fk_compile.specs.declared.refusal.Refusal.{Refusal}
 use Rattle.fk_compile.specs.declared.refusal.Refusal.TheVariants.{BadByte, OpenComment, OpenString, WideNumber, Unexpected, EndOfText, Nesting, Rule, TooManySites, FrameTooLarge, GlobalsTooLarge, SourceTooLong, NotBuilt, Memory}
 use Rattle.fk_compile.specs.Refusal.{IsRefused}
-use Rattle.fk_compile.specs.Text.{HasTree, HasSyntaxFault, HasBrokenRule, HasGlobal, IsOther, KeepsRules}
+use Rattle.fk_compile.specs.Text.{HasTree, HasSyntaxFault, HasBrokenRule, HasGlobal, HasLayout, IsChecked, IsNotBuilt}
 use Rattle.fk_top.specs.declared.report.Report.{Report}
 use Rattle.fk_top.specs.Refused.{IsRefusedBy, IsNoImageAs, refusal_line}
 use Rattle.fk_top.specs.Call.{IsText, IsImage}
@@ -51,14 +63,44 @@ same_tree source tree other a b =
     let same = lexed.one_reading.tokens source a.tokens b.tokens a.spelled b.spelled in
     one_tree b.tokens tree other (subst (λ (ts : List Spelled). SpellsProgram ts tree) same a.derived) b.derived
 
-kept_or_not : (source : List ℕ) (place : Place) (number : ℕ) → KeepsRules source → HasBrokenRule source place number → ⊥
-kept_or_not source place number keeps breaks =
-    let same = same_tree source breaks.tree keeps.tree breaks.parsed keeps.parsed in
-    keeps_or_breaks keeps.tree place number keeps.kept (subst (λ (tree : ProgramTree). BreaksFirst tree place number) same breaks.broken)
+kept_or_not : (source : List ℕ) (place : Place) (number : ℕ) → HasLayout source → HasBrokenRule source place number → ⊥
+kept_or_not source place number laid breaks =
+    let same = same_tree source breaks.tree laid.tree breaks.parsed laid.checked.parsed in
+    keeps_or_breaks laid.tree place number laid.checked.kept (subst (λ (tree : ProgramTree). BreaksFirst tree place number) same breaks.broken)
 
-straight_or_other : (source : List ℕ) (tree : ProgramTree) (facts : Facts) → IsText source → IsOther source tree facts → ⊥
-straight_or_other source tree facts text other =
-    let same = same_tree source text.straight.tree tree text.straight.parsed other.checked.parsed in
+-- of what fits nothing is too much
+fits_or_not : (tables : Tables) (items : List ItemTree) (fault : LayoutFault) → Fits tables items → IsRefusal tables items fault → fault ≢ layout.Memory → ⊥
+fits_or_not tables items (layout.TooManySites count) fits refused is = let few = fits.sites in absurd (omega (arith, few, refused.0))
+fits_or_not tables items (layout.FrameTooLarge place words) fits refused is = none-some (place, words) (sym fits.frames ∙ refused.1)
+fits_or_not tables items (layout.GlobalsTooLarge count) fits refused is = let few = fits.words in absurd (omega (arith, few, refused.2))
+fits_or_not tables items layout.Memory fits refused is = is refl
+
+-- the same facts, the same tables
+abbrev made : ProgramTree → List Note → List Kind → Tables
+made tree notes kinds = record {
+  notes = notes;
+  kinds = kinds;
+  slots = slots_of (record { notes = notes; kinds = kinds }) tree.items;
+  regions = regions_of (record { notes = notes; kinds = kinds }) tree.items;
+}
+
+same_tables : (tree : ProgramTree) (one other : Facts) → AreSame one other → tables_by tree one ≡ tables_by tree other
+same_tables tree one other same =
+    ap (λ (ns : List Note). made tree ns one.kinds.items) same.notes ∙ ap (λ (ks : List Kind). made tree other.notes.items ks) same.kinds
+
+-- a text that has a layout, by some facts, isn't refused by it, by other facts
+laid_or_refused : (source : List ℕ) (tree : ProgramTree) (facts : Facts) (fault : LayoutFault) → HasLayout source → IsChecked source tree facts → IsRefusal (tables_by tree facts) tree.items fault
+    → fault ≢ layout.Memory → ⊥
+laid_or_refused source tree facts fault laid checked refused is =
+    let same = same_tree source laid.tree tree laid.checked.parsed checked.parsed in
+    let known = subst (λ (t : ProgramTree). AreAllFacts t laid.facts) same laid.checked.known in
+    let tables = same_tables tree laid.facts facts (one_facts tree laid.facts facts known checked.known) in
+    let fits = subst (λ (t : ProgramTree). Fits (tables_by t laid.facts) t.items) same laid.fits in
+    fits_or_not (tables_by tree facts) tree.items fault (subst (λ (t : Tables). Fits t tree.items) tables fits) refused is
+
+straight_or_other : (source : List ℕ) → IsText source → IsNotBuilt source → ⊥
+straight_or_other source text other =
+    let same = same_tree source text.straight.tree other.laid.tree text.straight.parsed other.laid.checked.parsed in
     other.none (text.program, subst (λ (tree : ProgramTree). trees.Derives tree text.program) same text.straight.straight)
 
 not_refused : (source : List ℕ) (refusal : Refusal) (line : List ℕ) → IsText source → IsRefused source refusal → refusal_line refusal ≡ Some line → ⊥
@@ -69,12 +111,15 @@ not_refused source (WideNumber place) line text refused says = lexed.one_reading
 not_refused source (Unexpected place) line text refused says = not_faulty source text.straight.tree (syntax_fault.Unexpected place) text.straight.parsed refused.1
 not_refused source EndOfText line text refused says = not_faulty source text.straight.tree syntax_fault.EndOfText text.straight.parsed refused.1
 not_refused source (Nesting place) line text refused says = not_faulty source text.straight.tree (syntax_fault.Nesting place) text.straight.parsed refused.1
-not_refused source (Rule place number) line text refused says = kept_or_not source place number text.kept refused.1
-not_refused source (TooManySites count) line text refused says = straight_or_other source refused.1.tree refused.1.facts text refused.1.other
-not_refused source (FrameTooLarge name words) line text refused says = straight_or_other source refused.1.tree refused.1.facts text refused.1.other
-not_refused source (GlobalsTooLarge words) line text refused says = straight_or_other source refused.1.tree refused.1.facts text refused.1.other
+not_refused source (Rule place number) line text refused says = kept_or_not source place number text.laid refused.1
+not_refused source (TooManySites count) line text refused says =
+    laid_or_refused source refused.1.tree refused.1.facts (layout.TooManySites count) text.laid refused.1.checked refused.1.refused (λ e. cc)
+not_refused source (FrameTooLarge name words) line text refused says =
+    laid_or_refused source refused.1.tree refused.1.facts (layout.FrameTooLarge refused.1.place words) text.laid refused.1.checked refused.1.refused (λ e. cc)
+not_refused source (GlobalsTooLarge words) line text refused says =
+    laid_or_refused source refused.1.tree refused.1.facts (layout.GlobalsTooLarge words) text.laid refused.1.checked refused.1.refused (λ e. cc)
 not_refused source (SourceTooLong bytes) line text refused says = let short = text.short in absurd (omega (arith, refused.0, refused.1))
-not_refused source NotBuilt line text refused says = straight_or_other source refused.1.tree refused.1.facts text refused.1.other
+not_refused source NotBuilt line text refused says = straight_or_other source text refused.1
 not_refused source (Memory e) line text refused says = cc
 
 pub text_accepted : (source : List ℕ) (line : List ℕ) → IsText source → IsRefusedBy source line → ⊥
@@ -118,9 +163,9 @@ other_row tables other (v ∷ vs) first second row h =
 -- a text that has no variable of a name has no row of it
 pub variable_there : (source name : List ℕ) (row : Row) → HasGlobal source name None → HasGlobal source name (Some row) → ⊥
 variable_there source name row none some =
-    let tables = told some.facts.notes.items some.facts.kinds.items in
-    let other = told none.facts.notes.items none.facts.kinds.items in
-    let same = same_tree source some.tree none.tree some.checked.parsed none.checked.parsed in
-    let found = other_row tables other (variables_of true some.tree.items) 0 0 row some.is.0 in
+    let tables = told some.laid.facts.notes.items some.laid.facts.kinds.items in
+    let other = told none.laid.facts.notes.items none.laid.facts.kinds.items in
+    let same = same_tree source some.laid.tree none.laid.tree some.laid.checked.parsed none.laid.checked.parsed in
+    let found = other_row tables other (variables_of true some.laid.tree.items) 0 0 row some.is.0 in
     let here = subst (λ (tree : ProgramTree). Contains (rows other tree.items) found.0) same found.1 in
-    All-contains (λ (r : Row). r.name ≢ name) (rows other none.tree.items) found.0 none.is here (found.2 ∙ some.is.1)
+    All-contains (λ (r : Row). r.name ≢ name) (rows other none.laid.tree.items) found.0 none.is here (found.2 ∙ some.is.1)

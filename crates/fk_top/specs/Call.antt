@@ -9,7 +9,7 @@ use Rattle.fk_image.specs.declared.Image.{Image}
 use Rattle.fk_image.specs.Spelling.{IsImageOf}
 use Rattle.fk_machine.specs.Run.{machine}
 use Rattle.fk_globals.specs.Rows.{Row}
-use Rattle.fk_compile.specs.Text.{IsStraight, KeepsRules}
+use Rattle.fk_compile.specs.Text.{HasLayout, IsStraight}
 use Rattle.fk_input.specs.Input.{input_of}
 use Rattle.fk_words.specs.Command.{Command, Run, Build, Exec, ListCode, Reads}
 use Rattle.fk_top.specs.declared.report.Report.TheVariants as reports
@@ -227,10 +227,10 @@ pub record IsInOrder (call : Call) (command : Command) (bytes text : List ℕ) :
   pub out_steady : ¬ Rose call.out.faults
   pub err_steady : ¬ Rose call.err.faults
 
--- the text of a straight-line program, of at most 1,048,576 bytes, which keeps the rules of the language
+-- the text of a straight-line program, of at most 1,048,576 bytes, which keeps the rules of the language and has a layout
 pub record IsText (source : List ℕ) : Type 0 where
   pub short : length source ≤ 1048576
-  pub kept : KeepsRules source
+  pub laid : HasLayout source
   pub program : Program
   pub straight : IsStraight source program
 

@@ -6,7 +6,6 @@ use Rattle.fk_globals.specs.Constants.{told}
 use Rattle.fk_globals.specs.Rows.{Row, rows}
 use Rattle.fk_globals.specs.View.{row_of}
 use Rattle.fk_compile.specs.Text.{IsRowOf}
-use Rattle.fk_compile.proofs.Parts.{kept}
 use Rattle.fk_compile.proofs.Shared.{row_few}
 use Rattle.fk_compile.proofs.global.find_global.Goals as goal
 
@@ -20,13 +19,10 @@ returns-clause-global c =
     let tree = program_of c.in_ok-text.text.tree in
     let facts = c.in_ok-text.text.facts in
     let all = rows (told facts.notes.items facts.kinds.items) tree.items in
-    let laid = kept (λ v. map row_of v.items ≡ all) _ c.rows_of.result c.map_err.result c.in_ok-rows.rows c.rows_of.ensures.rows c.map_err.ensures.cases c.in_ok-rows.was in
     record {
-      tree = tree;
-      facts = facts;
-      checked = c.in_ok-text.ensures.checked;
+      laid = record { tree = tree; facts = facts; checked = c.in_ok-text.ensures.checked; fits = c.in_ok-layout.ensures.fits };
       straight = (c.in_ok-_program._program, c.in_ok-_program.ensures.program);
-      is = found all c.deref.result.now c.in_ok-rows.rows.items c.args.name.now c.row_named.result c.deref.ensures.value laid c.row_named.ensures;
+      is = found all c.deref.result.now c.in_ok-layout.layout.rows.items c.args.name.now c.row_named.result c.deref.ensures.value c.in_ok-layout.ensures.laid.rows c.row_named.ensures;
     }
 
 pub returns-clause-few : goal.returns-clause-few
@@ -34,6 +30,5 @@ returns-clause-few c =
     let tree = program_of c.in_ok-text.text.tree in
     let facts = c.in_ok-text.text.facts in
     let tables = told facts.notes.items facts.kinds.items in
-    let laid = kept (λ v. map row_of v.items ≡ rows tables tree.items) _ c.rows_of.result c.map_err.result c.in_ok-rows.rows c.rows_of.ensures.rows c.map_err.ensures.cases c.in_ok-rows.was in
-    row_few tables tree.items c.args.name.now c.row_named.result c.rows_of.ensures.fits
-    (found (rows tables tree.items) c.deref.result.now c.in_ok-rows.rows.items c.args.name.now c.row_named.result c.deref.ensures.value laid c.row_named.ensures)
+    row_few tables tree.items c.args.name.now c.row_named.result c.in_ok-layout.ensures.fits.words
+    (found (rows tables tree.items) c.deref.result.now c.in_ok-layout.layout.rows.items c.args.name.now c.row_named.result c.deref.ensures.value c.in_ok-layout.ensures.laid.rows c.row_named.ensures)
