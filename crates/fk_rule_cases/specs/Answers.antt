@@ -1,5 +1,5 @@
 -- What is said of a text.
-use Rattle.std.specs.Prelude.{◌≡◌, ◌≢◌, ◌<◌, ℕ, List, length, map}
+use Rattle.std.specs.Prelude.{◌≡◌, ◌≢◌, ◌⊎◌, ◌<◌, ℕ, List, length, map}
 use Rattle.fk_syntax.specs.declared.facts.Facts.{Facts}
 use Rattle.fk_syntax.specs.Program.{ProgramTree}
 use Rattle.fk_lex.specs.declared.token.LexFault.{LexFault}
@@ -39,6 +39,10 @@ pub record HasNoLayout (tree : ProgramTree) (why : LayoutFault) : Type 0 where
   pub refused : IsRefusal (tables_by tree facts) tree.items why
   pub told : why ≢ fault.Memory
 
+-- something of the layout is asked
+abbrev pub AsksLayout : Question → Type 0
+AsksLayout asked = (asked ≡ question.Sites) ⊎ (asked ≡ question.Layout)
+
 -- what is said of a program of these tokens
 abbrev pub IsAnswerOf : Question → List Spelled → ProgramTree → Answer → Type 0
 IsAnswerOf asked tokens tree answer.NoProgram = ⊥
@@ -48,7 +52,7 @@ IsAnswerOf asked tokens tree (answer.Known known) =
     (asked ≡ question.Facts) × (map spelled known.tokens.items ≡ tokens) × HasFacts tree known.facts
 IsAnswerOf asked tokens tree (answer.Sites layout) = (asked ≡ question.Sites) × HasLayout tree layout
 IsAnswerOf asked tokens tree (answer.Tables layout) = (asked ≡ question.Layout) × HasLayout tree layout
-IsAnswerOf asked tokens tree (answer.TooLarge why) = HasNoLayout tree why
+IsAnswerOf asked tokens tree (answer.TooLarge why) = AsksLayout asked × HasNoLayout tree why
 
 -- a text is too long, or has no tokens, or these are those of no program
 pub data HasNoProgram (source : List ℕ) : Type 0 where

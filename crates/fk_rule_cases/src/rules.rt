@@ -9,7 +9,7 @@ ghost use Rattle.fk_syntax.specs.WellFormed.{IsWellFormed};
 ghost use Rattle.fk_parse.specs.Refusals.{RefusesTokens};
 ghost use Rattle.fk_layout.specs.Layout.{tables_by};
 ghost use Rattle.fk_layout.specs.Refusal.{IsRefusal};
-ghost use Rattle.fk_rule_cases.specs.Answers.{HasFacts, IsAnswer, IsAnswerOf};
+ghost use Rattle.fk_rule_cases.specs.Answers.{AsksLayout, HasFacts, IsAnswer, IsAnswerOf};
 ghost use Rattle.fk_rule_cases.specs.declared.row.Question as q;
 
 use crate::row::Question;
@@ -76,7 +76,7 @@ fn without_program<'a>(fault: SyntaxFault) -> Result<Answer<'a>, AllocError>
     }
 }
 
-// What is said of a program without a layout.
+// What is said of a program without a layout, where that is asked.
 fn without_layout<'a>(
     program: &Program,
     facts: &Facts,
@@ -85,7 +85,7 @@ fn without_layout<'a>(
     requires facts { HasFacts (program_of program.now) facts.now }
     requires fault { IsRefusal (tables_by (program_of program.now) facts.now)
         (program_of program.now).items fault }
-    ensures { (asked : q.Question) (tokens : List Spelled)
+    ensures { (asked : q.Question) (tokens : List Spelled) → AsksLayout asked
         → IfOk result (IsAnswerOf asked tokens (program_of program.now)) }
 {
     match fault {

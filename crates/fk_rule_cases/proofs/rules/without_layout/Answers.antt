@@ -13,5 +13,7 @@ not_memory why (inr (inl is)) memory = let e : fault.FrameTooLarge is.0 is.1 ≡
 not_memory why (inr (inr is)) memory = let e : fault.GlobalsTooLarge is.0 ≡ fault.Memory = sym is.1 ∙ memory in cc
 
 pub returns-in-TooManySites : goal.returns-in-TooManySites
-returns-in-TooManySites c = λ asked tokens.
-    record { facts = c.args.facts.now; has = c.requires.facts; refused = c.requires.fault; told = not_memory c.args.fault c.in-TooManySites.is }
+returns-in-TooManySites c = λ asked tokens asks. (
+  asks,
+  record { facts = c.args.facts.now; has = c.requires.facts; refused = c.requires.fault; told = not_memory c.args.fault c.in-TooManySites.is },
+)
