@@ -1,4 +1,4 @@
--- The law of blocks, made once: a list that pushes a number, drops it and halts, in ten words.
+-- The law of blocks, made once: a list that pushes a number, drops it and halts, in thirteen words.
 use Rattle.std.proofs.Common.{◌≡◌, ℕ, zero, suc, ◌+◌, ◌-◌, ◌*◌, ◌%◌, ◌<◌, List, [], ◌∷◌, length, Some, true, false, sym, ap, subst, ◌∙◌, arith, refl, inl, eq-eqb}
 use Rattle.std.specs.Prelude.{◌==◌, if◌then◌else◌, slice_get}
 use Rattle.std.proofs.lemmas.Bool.{ne_eqb}
@@ -44,9 +44,8 @@ core = pushes ∷ drops ∷ halts ∷ []
 
 abbrev pub places : Places
 places = record {
-  block = λ i. if i == 0 then 5 else if i == 1 then 7 else 8;
-  keeps = λ i word. false;
-  of_file = 0;
+  block = λ i. if i == 0 then 8 else if i == 1 then 10 else 11;
+  frames = record { keeps = λ i word. false; is_main = λ i. true; of_file = 0 };
 }
 
 never : {A : Type 0} → false ≡ true → A
@@ -55,14 +54,17 @@ never e = absurd (cc)
 pub record HasCode (image : Image) : Type 0 where
   pub at0 : IsAt image 0 (Lui 8 0x20000) 0
   pub at1 : IsAt image 1 (Addi 9 8 256) 0
-  pub at2 : IsAt image 2 (Lui 5 0x30000) 0
-  pub at3 : IsAt image 3 (Lw 19 5 20) 0
-  pub at4 : IsAt image 4 (Lw 20 5 24) 0
-  pub at5 : IsAt image 5 (Addi 6 0 5) 0
-  pub at6 : IsAt image 6 (Sw 9 6 0xfffffffc) 1
-  pub at7 : IsAt image 7 (Addi 0 0 0) 1
-  pub at8 : IsAt image 8 (Lui 5 0x30000) 0
-  pub at9 : IsAt image 9 (Sw 5 0 12) 1
+  pub at2 : IsAt image 2 (Lui 22 0x20000) 0
+  pub at3 : IsAt image 3 (Lui 23 0x4000) 0
+  pub at4 : IsAt image 4 (Lui 24 0x8004) 0
+  pub at5 : IsAt image 5 (Lui 5 0x30000) 0
+  pub at6 : IsAt image 6 (Lw 19 5 20) 0
+  pub at7 : IsAt image 7 (Lw 20 5 24) 0
+  pub at8 : IsAt image 8 (Addi 6 0 5) 0
+  pub at9 : IsAt image 9 (Sw 9 6 0xfffffffc) 1
+  pub at10 : IsAt image 10 (Addi 0 0 0) 1
+  pub at11 : IsAt image 11 (Lui 5 0x30000) 0
+  pub at12 : IsAt image 12 (Sw 5 0 12) 1
 
 private : (image : Image) (t : MachineSetting) (number k : ℕ) (i : Instruction) (h h' : Hart) → Holds image t → IsAt image k i 0 → h.pc ≡ 4 * k
     → h.ended ≡ false → ((s : Shared) → GoesAlone (perform t number i h s) h' s) → IsPrivateIn image t number h h'
@@ -94,13 +96,16 @@ begins image code setting t number running =
     let h0 = first_hart in
     let h1 = writes h0 8 0x20000000 in
     let h2 = writes h1 9 0x20000100 in
-    let h3 = writes h2 5 0x30000000 in
-    let h4 = writes h3 19 number in
-    let h5 = writes h4 20 t.harts in
+    let h3 = writes h2 22 0x20000000 in
+    let h4 = writes h3 23 0x04000000 in
+    let h5 = writes h4 24 0x08004000 in
+    let h6 = writes h5 5 0x30000000 in
+    let h7 = writes h6 19 number in
+    let h8 = writes h7 20 t.harts in
     record {
-      cycles = 5;
+      cycles = 8;
       few = omega arith;
-      hart = h5;
+      hart = h8;
       runs = (
         h1,
         private image t number 0 _ h0 h1 running.code code.at0 refl refl (λ s. (s.reserved, refl)),
@@ -112,11 +117,23 @@ begins image code setting t number running =
             private image _ number 2 _ h2 h3 running.code code.at2 refl refl (λ s. (s.reserved, refl)),
             (
               h4,
-              private image _ number 3 _ h3 h4 running.code code.at3 refl refl (λ s. (s.reserved, lw-hart_id _ number 19 5 20 h3 s refl place-hart_id)),
+              private image _ number 3 _ h3 h4 running.code code.at3 refl refl (λ s. (s.reserved, refl)),
               (
                 h5,
-                private image _ number 4 _ h4 h5 running.code code.at4 refl refl (λ s. (s.reserved, lw-harts _ number 20 5 24 h4 s refl place-harts)),
-                refl,
+                private image _ number 4 _ h4 h5 running.code code.at4 refl refl (λ s. (s.reserved, refl)),
+                (
+                  h6,
+                  private image _ number 5 _ h5 h6 running.code code.at5 refl refl (λ s. (s.reserved, refl)),
+                  (
+                    h7,
+                    private image _ number 6 _ h6 h7 running.code code.at6 refl refl (λ s. (s.reserved, lw-hart_id _ number 19 5 20 h6 s refl place-hart_id)),
+                    (
+                      h8,
+                      private image _ number 7 _ h7 h8 running.code code.at7 refl refl (λ s. (s.reserved, lw-harts _ number 20 5 24 h7 s refl place-harts)),
+                      refl,
+                    ),
+                  ),
+                ),
               ),
             ),
           ),
@@ -133,7 +150,10 @@ begins image code setting t number running =
           rank = refl;
           size = running.processors;
           top = refl;
-          running = record { values = tt; privates = λ i e. never e };
+          local = refl;
+          shared_data = refl;
+          private_heap = refl;
+          running = record { home = refl; values = tt; privates = λ i e. never e };
           waiting = tt;
           own = λ i lt. absurd (omega arith);
           heap = λ i lt. refl;
@@ -155,14 +175,17 @@ values_kept : (m m' : Memory) (behind : ℕ) (vs : List ℕ) → 0 < behind → 
 values_kept m m' behind [] pos same held = tt
 values_kept m m' behind (v ∷ vs) pos same held = (same (behind - suc (length vs)) (omega arith) ∙ held.0, values_kept m m' behind vs pos same held.1)
 
-waiting_kept : (m m' : Memory) (backs : List ℕ) (calls : List Call) → ((j : ℕ) → j < 64 * length calls + 2 → m' j ≡ m j) → HasWaiting places m backs calls → HasWaiting places m' backs calls
+waiting_kept : (m m' : Memory) (backs : List ℕ) (calls : List Call) → ((j : ℕ) → j < 64 * length calls + 3 → m' j ≡ m j) → HasWaiting places m backs calls → HasWaiting places m' backs calls
 waiting_kept m m' [] [] same held = tt
 waiting_kept m m' (i ∷ backs) (c ∷ calls) same held = (
   record {
     code = same (64 * suc (length calls)) (omega arith) ∙ held.0.code;
     frame = same (64 * suc (length calls) + 1) (omega arith) ∙ held.0.frame;
+    result = same (64 * suc (length calls) + 2) (omega arith) ∙ held.0.result;
+    room = held.0.room;
   },
   record {
+    home = held.1.home;
     values = values_kept m m' (64 * suc (length calls)) c.values (omega arith) (λ j lt. same j (omega arith)) held.1.values;
     privates = λ w e. never e;
   },
@@ -184,8 +207,8 @@ push_does image code at setting t p h en =
     let n = length p.runner.has.callers in
     let stands = en.at.stands in
     let h1 = writes h 6 (word_sum (h.registers 0) 5) in
-    let pc : h.pc ≡ 4 * 5 = en.at.at ∙ ap (λ j. 4 * places.block j) en.index in
-    let pc1 : h1.pc ≡ 4 * 6 = omega (arith, pc) in
+    let pc : h.pc ≡ 4 * 8 = en.at.at ∙ ap (λ j. 4 * places.block j) en.index in
+    let pc1 : h1.pc ≡ 4 * 9 = omega (arith, pc) in
     let word = 64 * suc n - 1 in
     let lt = en.ready.in_range.waiting in
     let address : place_of (word_sum (h1.registers 9) 0xfffffffc) ≡ LocalWord word = last_word n lt (h.registers 9) stands.behind in
@@ -200,10 +223,10 @@ push_does image code at setting t p h en =
       few_behind = omega arith;
       does = record {
         committing = h1;
-        runs = (h1, private image t number 5 _ h h1 en.running.code code.at5 pc en.at.live (λ s. (s.reserved, refl)), refl);
+        runs = (h1, private image t number 8 _ h h1 en.running.code code.at8 pc en.at.live (λ s. (s.reserved, refl)), refl);
         commits = record {
           live = en.at.live;
-          counted = ap (count_in image.commits.items) pc1 ∙ code.at6.counted;
+          counted = ap (count_in image.commits.items) pc1 ∙ code.at9.counted;
           does = λ s. inl (record {
             hart = h2;
             store = s;
@@ -211,7 +234,7 @@ push_does image code at setting t p h en =
             part = operations_are_next core 0 pushes (Push 5) setting s p at en.index;
             goes = λ earlier sh shows. (
               _,
-              step_at image 6 1 _ code.at6 _ en.running.code number h1 sh pc1 ∙ sw-local _ number 9 6 0xfffffffc word h1 sh aligned address,
+              step_at image 9 1 _ code.at9 _ en.running.code number h1 sh pc1 ∙ sw-local _ number 9 6 0xfffffffc word h1 sh aligned address,
               record { words = shows.words; output = shows.output; common = shows.common },
               λ j e. refl,
             );
@@ -231,7 +254,10 @@ push_does image code at setting t p h en =
                     rank = stands.rank;
                     size = stands.size;
                     top = stands.top;
-                    running = record { values = values_pushed m' (64 * suc n) 5 (values p.runner.has) en.ready.depth (same_word h.local word _ ∙ five); privates = λ w e. never e };
+                    local = stands.local;
+                    shared_data = stands.shared_data;
+                    private_heap = stands.private_heap;
+                    running = record { home = stands.running.home; values = values_pushed m' (64 * suc n) 5 (values p.runner.has) en.ready.depth (same_word h.local word _ ∙ five); privates = λ w e. never e };
                     waiting = waiting_kept h.local m' p.runner.left.callers p.runner.has.callers (λ j l. lower_word h.local word _ j (ne_eqb j word (λ e. omega arith))) stands.waiting;
                     own = λ j l. absurd (omega arith);
                     heap = λ j l. lower_word h.local word _ (16384 + j) (ne_eqb (16384 + j) word (λ e. omega arith)) ∙ stands.heap j l;
@@ -248,8 +274,8 @@ drop_does : (image : Image) → HasCode image → StandsOp core 1 drops DropLast
 drop_does image code at setting t p h en =
     let number = number_of p in
     let stands = en.at.stands in
-    let pc : h.pc ≡ 4 * 7 = en.at.at ∙ ap (λ j. 4 * places.block j) en.index in
-    let next_pc : word_sum h.pc 4 ≡ 4 * 8 = omega (arith, pc) in
+    let pc : h.pc ≡ 4 * 10 = en.at.at ∙ ap (λ j. 4 * places.block j) en.index in
+    let next_pc : word_sum h.pc 4 ≡ 4 * 11 = omega (arith, pc) in
     record {
       before = 0;
       behind = 0;
@@ -260,13 +286,13 @@ drop_does image code at setting t p h en =
         runs = refl;
         commits = record {
           live = en.at.live;
-          counted = ap (count_in image.commits.items) pc ∙ code.at7.counted;
+          counted = ap (count_in image.commits.items) pc ∙ code.at10.counted;
           does = λ s. inl (record {
             hart = moves h;
             store = s;
             done = record { acting = done (step_of core 1 drops DropLast p.runner.left.callers) true (drop_last 1 p.runner.has); heap = p.heap };
             part = operations_are_next core 1 drops DropLast setting s p at en.index;
-            goes = λ earlier sh shows. (sh, step_at image 7 1 _ code.at7 _ en.running.code number h sh pc, shows, λ j e. refl);
+            goes = λ earlier sh shows. (sh, step_at image 10 1 _ code.at10 _ en.running.code number h sh pc, shows, λ j e. refl);
             follows = (
               moves h,
               refl,
@@ -283,7 +309,10 @@ drop_does image code at setting t p h en =
                     rank = stands.rank;
                     size = stands.size;
                     top = stands.top;
-                    running = record { values = values_before h.local _ (values p.runner.has) stands.running.values; privates = λ w e. never e };
+                    local = stands.local;
+                    shared_data = stands.shared_data;
+                    private_heap = stands.private_heap;
+                    running = record { home = stands.running.home; values = values_before h.local _ (values p.runner.has) stands.running.values; privates = λ w e. never e };
                     waiting = stands.waiting;
                     own = stands.own;
                     heap = stands.heap;
@@ -300,23 +329,23 @@ halt_does : (image : Image) → HasCode image → StandsOp core 2 halts Halt →
 halt_does image code at setting t p h en =
     let number = number_of p in
     let h1 = writes h 5 0x30000000 in
-    let pc : h.pc ≡ 4 * 8 = en.at.at ∙ ap (λ j. 4 * places.block j) en.index in
-    let pc1 : h1.pc ≡ 4 * 9 = omega (arith, pc) in
+    let pc : h.pc ≡ 4 * 11 = en.at.at ∙ ap (λ j. 4 * places.block j) en.index in
+    let pc1 : h1.pc ≡ 4 * 12 = omega (arith, pc) in
     record {
       before = 1;
       few_before = omega arith;
       does = record {
         committing = h1;
-        runs = (h1, private image t number 8 _ h h1 en.running.code code.at8 pc en.at.live (λ s. (s.reserved, refl)), refl);
+        runs = (h1, private image t number 11 _ h h1 en.running.code code.at11 pc en.at.live (λ s. (s.reserved, refl)), refl);
         commits = record {
           live = en.at.live;
-          counted = ap (count_in image.commits.items) pc1 ∙ code.at9.counted;
+          counted = ap (count_in image.commits.items) pc1 ∙ code.at12.counted;
           does = λ s. inl (record {
             hart = record (moves h1) { ended = true };
             store = s;
             done = record { acting = taking p.runner (Some (step_of core 2 halts Halt p.runner.left.callers)); heap = p.heap };
             part = operations_are_next core 2 halts Halt setting s p at en.index;
-            goes = λ earlier sh shows. (sh, step_at image 9 1 _ code.at9 _ en.running.code number h1 sh pc1 ∙ sw-halt _ number 5 0 12 h1 sh refl place_of-halt, shows, λ j e. refl);
+            goes = λ earlier sh shows. (sh, step_at image 12 1 _ code.at12 _ en.running.code number h1 sh pc1 ∙ sw-halt _ number 5 0 12 h1 sh refl place_of-halt, shows, λ j e. refl);
             follows = (record (moves h1) { ended = true }, refl, refl);
           });
         };

@@ -1,30 +1,37 @@
 -- When registers and local memory of a hart stand for a processor.
 --
 -- Calls have frames of 64 words on the 16,384 stack words, that of `main` lowest. A frame has a header of 8 words, then the
--- private words of its call; the value list stands at its end, the first value highest. Before the header of `main` stand
--- the private variables of file scope.
-use Rattle.std.specs.Prelude.{◌≡◌, ℕ, zero, suc, ◌+◌, ◌-◌, ◌*◌, ◌<◌, List, [], ◌∷◌, length, true, false, Bool}
+-- private words of its call; the value list stands at its end, the first value highest. In the frame of `main` the private
+-- variables of file scope stand between the two, and the 8 words of its header are free for any use.
+use Rattle.std.specs.Prelude.{◌≡◌, ℕ, zero, suc, ◌+◌, ◌-◌, ◌*◌, ◌<◌, ◌≤◌, ◌==◌, List, [], ◌∷◌, length, true, false, Bool}
 use Rattle.fk_num.specs.Word.{Memory}
 use Rattle.fk_run.specs.Processor.{Call}
 use Rattle.fk_machine.specs.Hart.{Hart}
 use Rattle.fk_block_law.specs.Owner.{Owner}
 
+-- what stands in frames
+pub record Frames : Type 0 where
+  -- whether a private word of the running call stands in its frame at an index of the list. One that does not is written
+  -- before it is read
+  pub keeps : (index word : ℕ) → Bool
+  -- whether an index lies in `main`
+  pub is_main : (index : ℕ) → Bool
+  -- how many private variables of file scope there are
+  pub of_file : ℕ
+
 -- the places of blocks and variables
 pub record Places : Type 0 where
   -- the word of the code where the block of each index of the list begins
   pub block : (index : ℕ) → ℕ
-  -- whether a private word of the running call stands in its frame at an index. One that does not is written before it is
-  -- read
-  pub keeps : (index word : ℕ) → Bool
-  -- how many private variables of file scope there are
-  pub of_file : ℕ
+  pub frames : Frames
 
 -- the address of a word of the local memory
 abbrev pub local_address : (word : ℕ) → ℕ
 local_address word = 0x20000000 + 4 * word
 
 -- registers: the addresses of the running call's frame and of the word behind it; `@`, `$` and the size of the group;
--- how many words of the private heap are taken
+-- how many words of the private heap are taken; and three that never change: the address of the local memory, and how many
+-- words lie before shared data and before the private heap
 abbrev pub frame_register : ℕ
 frame_register = 8
 
@@ -43,6 +50,15 @@ size_register = 20
 abbrev pub top_register : ℕ
 top_register = 21
 
+abbrev pub local_register : ℕ
+local_register = 22
+
+abbrev pub shared_register : ℕ
+shared_register = 23
+
+abbrev pub heap_register : ℕ
+heap_register = 24
+
 -- the last value lowest
 abbrev pub HasValues : Memory → (behind : ℕ) → List ℕ → Type 0
 HasValues memory behind [] = Unit {0}
@@ -52,27 +68,41 @@ HasValues memory behind (v ∷ vs) = (memory (behind - suc (length vs)) ≡ v) �
 abbrev pub frame_end : (waiting : ℕ) → ℕ
 frame_end waiting = 64 * suc waiting
 
+-- in the frame of `main` so many words stand between its header and its private words
+abbrev pub ahead : Frames → (is_main : Bool) → ℕ
+ahead frames true = frames.of_file
+ahead frames false = 0
+
+-- a header and so many values have room in a frame, beside the words that stand in it at an index
+pub record HasRoom (frames : Frames) (index values : ℕ) : Type 0 where
+  pub header : ahead frames (frames.is_main index) + 8 + values ≤ 64
+  pub kept : (word : ℕ) → frames.keeps index word ≡ true → ahead frames (frames.is_main index) + 8 + word + values < 64
+
 module _ (places : Places) where
-  -- the first word of such a frame
+  -- the first word of such a frame, but that the frame of `main` has its private variables of file scope before it
   abbrev pub frame_start : (waiting : ℕ) → ℕ
-  frame_start zero = places.of_file
+  frame_start zero = places.frames.of_file
   frame_start (suc n) = 64 * suc n
 
-  -- the frame of a call that goes on at an index
+  -- the frame of a call that goes on at an index, and that so many others wait for
   pub record HasFrame (memory : Memory) (waiting at : ℕ) (call : Call) : Type 0 where
+    pub home : places.frames.is_main at ≡ (waiting == 0)
     pub values : HasValues memory (frame_end waiting) call.values
-    pub privates : (i : ℕ) → places.keeps at i ≡ true → memory (frame_start waiting + 8 + i) ≡ call.privates i
+    pub privates : (i : ℕ) → places.frames.keeps at i ≡ true → memory (frame_start waiting + 8 + i) ≡ call.privates i
 
-  -- the header of a call: where it returns to, and the frame of the call that waits there
-  pub record Returns (memory : Memory) (waiting back : ℕ) : Type 0 where
+  -- the header of a call: where it returns to, the frame of the call that waits there, and the word where that takes the
+  -- result. There is room for it
+  pub record Returns (memory : Memory) (waiting back : ℕ) (call : Call) : Type 0 where
     pub code : memory (frame_start (suc waiting)) ≡ 4 * places.block back
     pub frame : memory (frame_start (suc waiting) + 1) ≡ local_address (frame_start waiting)
+    pub result : memory (frame_start (suc waiting) + 2) ≡ local_address (frame_end waiting - suc (length call.values))
+    pub room : HasRoom places.frames back (suc (length call.values))
 
   -- the calls that wait, the last one first, each with the index where it goes on
   abbrev pub HasWaiting : Memory → (backs : List ℕ) → List Call → Type 0
   HasWaiting memory [] [] = Unit {0}
   HasWaiting memory (i ∷ backs) (c ∷ calls) =
-      Returns memory (length calls) i × HasFrame memory (length calls) i c × HasWaiting memory backs calls
+      Returns memory (length calls) i c × HasFrame memory (length calls) i c × HasWaiting memory backs calls
   HasWaiting memory backs calls = ⊥
 
   -- Nothing is said of the pc and of other registers, nor of what only steps of the tree give a processor: the space of its
@@ -85,9 +115,12 @@ module _ (places : Places) where
     pub rank : h.registers rank_register ≡ p.runner.has.level.rank
     pub size : h.registers size_register ≡ p.runner.has.level.size
     pub top : h.registers top_register ≡ p.runner.has.top
+    pub local : h.registers local_register ≡ local_address 0
+    pub shared_data : h.registers shared_register ≡ 0x04000000
+    pub private_heap : h.registers heap_register ≡ 0x08004000
     pub running : HasFrame h.local (length p.runner.has.callers) p.runner.left.at p.runner.has.call
     pub waiting : HasWaiting h.local p.runner.left.callers p.runner.has.callers
-    pub own : (i : ℕ) → i < places.of_file → h.local i ≡ p.runner.has.own i
+    pub own : (i : ℕ) → i < places.frames.of_file → h.local (8 + i) ≡ p.runner.has.own i
     pub heap : (i : ℕ) → i < 16384 → h.local (16384 + i) ≡ p.heap i
 
   -- and the hart stands at the beginning of the block where its processor goes on
