@@ -1,0 +1,12 @@
+-- how a hart runs quiet lines
+pub mod Walk
+-- lines that are added one by one
+pub mod Emitted
+-- the laws of blocks from the hart behind them
+pub mod Does
+-- values in frames, addresses, and numbers
+pub mod Values
+-- jumps and branches
+pub mod Jumps
+-- what a processor has in memory
+pub mod Standing

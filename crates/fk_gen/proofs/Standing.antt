@@ -1,0 +1,285 @@
+-- What a processor has in local memory stays there, but what is written.
+use Rattle.std.proofs.Common.{◌≡◌, ℕ, zero, suc, ◌+◌, ◌-◌, ◌*◌, ◌<◌, ◌≤◌, List, [], ◌∷◌, length, Bool, true, false, sym, ap, subst, ◌∙◌, arith, refl, eq-eqb}
+use Rattle.std.specs.Prelude.{◌==◌}
+use Rattle.std.proofs.lemmas.Bool.{ne_eqb, eqb-true}
+use Rattle.fk_num.specs.Word.{Memory, put}
+use Rattle.fk_operation.specs.declared.operation.Variable.TheVariants.{Private, OfFile}
+use Rattle.fk_run.specs.Processor.{Call, values, with_values}
+use Rattle.fk_run.specs.Local.{stored}
+use Rattle.fk_core.specs.declared.op.CoreOp.{CoreOp}
+use Rattle.fk_core.specs.Next.{position}
+use Rattle.fk_machine.specs.Hart.{Hart}
+use Rattle.fk_block_law.specs.Owner.{Owner}
+use Rattle.fk_block_law.specs.Stands.{Places, HasValues, HasRoom, HasFrame, HasWaiting, StandsFor, ahead, frame_end, frame_start}
+use Rattle.fk_block_law.specs.Suits.{Flows, nothing}
+use Rattle.fk_gen.proofs.Values.{same_word, other_word, values_kept}
+
+-- ---- where the words of frames lie
+
+-- those of a frame in which so many values have room
+pub record LiesIn (places : Places) (waiting at count : ℕ) : Type 0 where
+  pub start : places.frames.of_file + 8 ≤ frame_start places waiting + 8
+  pub values : places.frames.of_file + 8 ≤ frame_end waiting - count
+  pub few : count ≤ 56
+  pub kept : (word : ℕ) → places.frames.keeps at word ≡ true → frame_start places waiting + 8 + word + count < frame_end waiting
+
+pub lies_in : (places : Places) (waiting at count : ℕ) → places.frames.of_file ≤ 56 → places.frames.is_main at ≡ (waiting == 0) → HasRoom places.frames at count
+    → LiesIn places waiting at count
+lies_in places zero at count few home room =
+    let e : ahead places.frames (places.frames.is_main at) ≡ places.frames.of_file = ap (ahead places.frames) home in
+    let header = room.header in
+    record {
+      start = omega arith;
+      values = omega arith;
+      few = omega arith;
+      kept = λ word k. let r = room.kept word k in omega arith;
+    }
+lies_in places (suc n) at count few home room =
+    let other : (suc n == 0) ≡ false = ne_eqb (suc n) 0 (λ e. omega arith) in
+    let e : ahead places.frames (places.frames.is_main at) ≡ 0 = ap (ahead places.frames) (home ∙ other) in
+    let header = room.header in
+    record {
+      start = omega arith;
+      values = omega arith;
+      few = omega arith;
+      kept = λ word k. let r = room.kept word k in omega arith;
+    }
+
+-- ---- frames and waiting calls keep what no word of theirs is written to
+
+pub frame_kept : (places : Places) (m m' : Memory) (waiting at count : ℕ) (call : Call) → places.frames.of_file ≤ 56 → HasRoom places.frames at count
+    → length call.values ≤ count → ((j : ℕ) → places.frames.of_file + 8 ≤ j → j < frame_end waiting → m' j ≡ m j)
+    → HasFrame places m waiting at call → HasFrame places m' waiting at call
+frame_kept places m m' waiting at count call few room within same f =
+    let l = lies_in places waiting at count few f.home room in
+    let start = l.start in
+    let vs = l.values in
+    record {
+      home = f.home;
+      values = values_kept m m' (frame_end waiting) call.values (omega arith) (λ j le lt. same j (omega arith) lt) f.values;
+      privates = λ i e. let k = l.kept i e in same (frame_start places waiting + 8 + i) (omega arith) (omega arith) ∙ f.privates i e;
+    }
+
+pub waiting_kept : (places : Places) (m m' : Memory) (backs : List ℕ) (calls : List Call) → places.frames.of_file ≤ 56
+    → ((j : ℕ) → places.frames.of_file + 8 ≤ j → j < 64 * length calls + 3 → m' j ≡ m j) → HasWaiting places m backs calls → HasWaiting places m' backs calls
+waiting_kept places m m' [] [] few same held = tt
+waiting_kept places m m' (i ∷ backs) (c ∷ calls) few same held =
+    let n = length calls in (
+      record {
+        code = same (64 * suc n) (omega arith) (omega arith) ∙ held.0.code;
+        frame = same (64 * suc n + 1) (omega arith) (omega arith) ∙ held.0.frame;
+        result = same (64 * suc n + 2) (omega arith) (omega arith) ∙ held.0.result;
+        room = held.0.room;
+      },
+      frame_kept places m m' n i (suc (length c.values)) c few held.0.room (omega arith) (λ j le lt. same j le (omega arith)) held.1,
+      waiting_kept places m m' backs calls few (λ j le lt. same j le (omega arith)) held.2,
+    )
+waiting_kept places m m' backs calls few same held = absurd (assumption held)
+
+-- one word of many is written, in memory and in what stands there from a word on
+true_false : true ≡ false → ⊥
+true_false e = cc
+
+put_other : (words : Memory) (x v y : ℕ) → (y == x) ≡ false → put words x v y ≡ words y
+put_other words x v y e = rw e
+
+word_by : (m : Memory) (base x v : ℕ) (words : Memory) (y : ℕ) (b : Bool) → (y == x) ≡ b → (b ≡ false → m (base + y) ≡ words y)
+    → put m (base + x) v (base + y) ≡ put words x v y
+word_by m base x v words y true e old =
+    let same : y ≡ x = eqb-true y x e in
+    ap (λ z. put m (base + x) v (base + z)) same ∙ same_word m (base + x) v ∙ sym (ap (put words x v) same ∙ same_word words x v)
+word_by m base x v words y false e old =
+    other_word m (base + x) v (base + y) (λ f. let same : y ≡ x = omega arith in true_false (sym (eq-eqb y x same) ∙ e)) ∙ old refl
+    ∙ sym (put_other words x v y e)
+
+pub word_here : (m : Memory) (base x v : ℕ) (words : Memory) (y : ℕ) → ((y == x) ≡ false → m (base + y) ≡ words y)
+    → put m (base + x) v (base + y) ≡ put words x v y
+word_here m base x v words y old = word_by m base x v words y (y == x) refl (λ e. old e)
+
+-- ---- a processor in memory
+
+pub record InMemory (places : Places) (memory : Memory) (p : Owner) : Type 0 where
+  pub running : HasFrame places memory (length p.runner.has.callers) p.runner.left.at p.runner.has.call
+  pub waiting : HasWaiting places memory p.runner.left.callers p.runner.has.callers
+  pub own : (i : ℕ) → i < places.frames.of_file → memory (8 + i) ≡ p.runner.has.own i
+  pub heap : (i : ℕ) → i < 16384 → memory (16384 + i) ≡ p.heap i
+
+pub in_memory : (places : Places) (p : Owner) (h : Hart) → StandsFor places p h → InMemory places h.local p
+in_memory places p h s = record { running = s.running; waiting = s.waiting; own = s.own; heap = s.heap }
+
+-- the registers that blocks keep. `top` is told by itself
+abbrev pub SameRegisters : Hart → Hart → Type 0
+SameRegisters h h' =
+    (h'.registers 0 ≡ h.registers 0) × (h'.registers 8 ≡ h.registers 8) × (h'.registers 9 ≡ h.registers 9)
+    × (h'.registers 18 ≡ h.registers 18) × (h'.registers 19 ≡ h.registers 19) × (h'.registers 20 ≡ h.registers 20)
+    × (h'.registers 22 ≡ h.registers 22) × (h'.registers 23 ≡ h.registers 23) × (h'.registers 24 ≡ h.registers 24)
+
+-- a hart that keeps them stands for a processor of the same level, with as many calls waiting, that it has in memory
+pub stands_with : (places : Places) (p p' : Owner) (h h' : Hart) → StandsFor places p h → SameRegisters h h'
+    → p'.runner.has.level ≡ p.runner.has.level → length p'.runner.has.callers ≡ length p.runner.has.callers
+    → h'.registers 21 ≡ p'.runner.has.top → InMemory places h'.local p' → StandsFor places p' h'
+stands_with places p p' h h' s r level calls top m = record {
+  nought = r.0 ∙ s.nought;
+  frame = r.1 ∙ s.frame ∙ ap (λ n. 0x20000000 + 4 * frame_start places n) (sym calls);
+  behind = r.2 ∙ s.behind ∙ ap (λ n. 0x20000000 + 4 * frame_end n) (sym calls);
+  number = r.3 ∙ s.number ∙ ap (λ l. l.number) (sym level);
+  rank = r.4 ∙ s.rank ∙ ap (λ l. l.rank) (sym level);
+  size = r.5 ∙ s.size ∙ ap (λ l. l.size) (sym level);
+  top = top;
+  local = r.6 ∙ s.local;
+  shared_data = r.7 ∙ s.shared_data;
+  private_heap = r.8 ∙ s.private_heap;
+  running = m.running;
+  waiting = m.waiting;
+  own = m.own;
+  heap = m.heap;
+}
+
+-- ---- what is written
+
+module _ (core : List CoreOp) (places : Places) where
+  -- the processor at another index, with other values
+  abbrev pub with_list : (i : ℕ) → List ℕ → Owner → Owner
+  with_list i vs p = record {
+    runner = record { left = position i p.runner.left.callers; has = with_values p.runner.has vs };
+    heap = p.heap;
+  }
+
+  -- the last words of the frame, where so many values have room, are written to
+  pub values_changed : (m m' : Memory) (p : Owner) (i i' count : ℕ) (vs : List ℕ) → places.frames.of_file ≤ 56 → length p.runner.has.callers < 256
+      → p.runner.left.at ≡ i → HasRoom places.frames i count → Flows core places.frames nothing i i' → InMemory places m p
+      → ((j : ℕ) → j < frame_end (length p.runner.has.callers) - count → m' j ≡ m j)
+      → ((j : ℕ) → frame_end (length p.runner.has.callers) ≤ j → m' j ≡ m j)
+      → HasValues m' (frame_end (length p.runner.has.callers)) vs
+      → InMemory places m' (with_list i' vs p)
+  values_changed m m' p i i' count vs few waiting at room flows held below above values' =
+      let n = length p.runner.has.callers in
+      let running = subst (λ a. HasFrame places m n a p.runner.has.call) at held.running in
+      let l = lies_in places n i count few running.home room in
+      let start = l.start in
+      let low = l.values in
+      let short = l.few in
+      record {
+        running = record {
+          home = flows.main ∙ running.home;
+          values = values';
+          privates = λ x e.
+              let kept = flows.kept x e refl in
+              let k = l.kept x kept in
+              below (frame_start places n + 8 + x) (omega arith) ∙ running.privates x kept;
+        };
+        waiting = waiting_kept places m m' p.runner.left.callers p.runner.has.callers few (λ j le lt. below j (omega arith)) held.waiting;
+        own = λ x lt. below (8 + x) (omega arith) ∙ held.own x lt;
+        heap = λ x lt. above (16384 + x) (omega arith) ∙ held.heap x lt;
+      }
+
+  -- the k-th value is written, so that the frame has these values
+  pub value_written : (m : Memory) (p : Owner) (i i' k v : ℕ) (vs : List ℕ) → places.frames.of_file ≤ 56 → length p.runner.has.callers < 256
+      → p.runner.left.at ≡ i → HasRoom places.frames i k → 0 < k → Flows core places.frames nothing i i' → InMemory places m p
+      → HasValues (put m (frame_end (length p.runner.has.callers) - k) v) (frame_end (length p.runner.has.callers)) vs
+      → InMemory places (put m (frame_end (length p.runner.has.callers) - k) v) (with_list i' vs p)
+  value_written m p i i' k v vs few waiting at room some flows held values' =
+      let n = length p.runner.has.callers in
+      let header = room.header in
+      values_changed m (put m (frame_end n - k) v) p i i' k vs few waiting at room flows held
+      (λ j lt. other_word m (frame_end n - k) v j (λ e. omega arith))
+      (λ j le. other_word m (frame_end n - k) v j (λ e. omega arith))
+      values'
+
+  -- nothing is written
+  pub nothing_written : (m : Memory) (p : Owner) (i i' count : ℕ) (vs : List ℕ) → places.frames.of_file ≤ 56 → length p.runner.has.callers < 256
+      → p.runner.left.at ≡ i → HasRoom places.frames i count → Flows core places.frames nothing i i' → InMemory places m p
+      → HasValues m (frame_end (length p.runner.has.callers)) vs → InMemory places m (with_list i' vs p)
+  nothing_written m p i i' count vs few waiting at room flows held values' =
+      values_changed m m p i i' count vs few waiting at room flows held (λ j lt. refl) (λ j le. refl) values'
+
+  -- a private word is written
+  pub private_written : (m : Memory) (p : Owner) (i i' x v count : ℕ) → places.frames.of_file ≤ 56 → length p.runner.has.callers < 256
+      → p.runner.left.at ≡ i → HasRoom places.frames i count → length (values p.runner.has) ≤ count
+      → ahead places.frames (places.frames.is_main i) + 8 + x + count < 64 → Flows core places.frames (λ word. word == x) i i' → InMemory places m p
+      → InMemory places (put m (frame_start places (length p.runner.has.callers) + 8 + x) v)
+      (record { runner = record { left = position i' p.runner.left.callers; has = stored v (Private x) p.runner.has }; heap = p.heap })
+  private_written m p i i' x v count few waiting at room within place flows held =
+      let n = length p.runner.has.callers in
+      let w = frame_start places n + 8 + x in
+      let m' = put m w v in
+      let running = subst (λ a. HasFrame places m n a p.runner.has.call) at held.running in
+      let l = lies_in places n i count few running.home room in
+      let start = l.start in
+      let low = l.values in
+      let inside : w + count < frame_end n = word_inside n i x count running.home place in
+      let at_least : 64 * n + 8 ≤ w + 0 = starts n x in
+      record {
+        running = record {
+          home = flows.main ∙ running.home;
+          values = values_kept m m' (frame_end n) (values p.runner.has) (omega arith) (λ j le lt. other_word m w v j (λ e. omega arith)) running.values;
+          privates = λ y e. word_here m (frame_start places n + 8) x v p.runner.has.call.privates y (λ other. running.privates y (flows.kept y e other));
+        };
+        waiting = waiting_kept places m m' p.runner.left.callers p.runner.has.callers few (λ j le lt. other_word m w v j (λ e. omega arith)) held.waiting;
+        own = λ y lt. other_word m w v (8 + y) (λ e. omega arith) ∙ held.own y lt;
+        heap = λ y lt. other_word m w v (16384 + y) (λ e. omega arith) ∙ held.heap y lt;
+      }
+    where
+      word_inside : (n i x count : ℕ) → places.frames.is_main i ≡ (n == 0) → ahead places.frames (places.frames.is_main i) + 8 + x + count < 64
+          → frame_start places n + 8 + x + count < frame_end n
+      word_inside zero i x count home place =
+          let e : ahead places.frames (places.frames.is_main i) ≡ places.frames.of_file = ap (ahead places.frames) home in
+          omega arith
+      word_inside (suc n) i x count home place = omega arith
+
+      starts : (n x : ℕ) → 64 * n + 8 ≤ frame_start places n + 8 + x + 0
+      starts zero x = omega arith
+      starts (suc n) x = omega arith
+
+  -- a private variable of file scope is written
+  pub own_written : (m : Memory) (p : Owner) (i i' x v count : ℕ) → places.frames.of_file ≤ 56 → length p.runner.has.callers < 256
+      → p.runner.left.at ≡ i → HasRoom places.frames i count → length (values p.runner.has) ≤ count
+      → x < places.frames.of_file → Flows core places.frames nothing i i' → InMemory places m p
+      → InMemory places (put m (8 + x) v)
+      (record { runner = record { left = position i' p.runner.left.callers; has = stored v (OfFile x) p.runner.has }; heap = p.heap })
+  own_written m p i i' x v count few waiting at room within place flows held =
+      let n = length p.runner.has.callers in
+      let m' = put m (8 + x) v in
+      let running = subst (λ a. HasFrame places m n a p.runner.has.call) at held.running in
+      let l = lies_in places n i count few running.home room in
+      let start = l.start in
+      let low = l.values in
+      record {
+        running = record {
+          home = flows.main ∙ running.home;
+          values = values_kept m m' (frame_end n) (values p.runner.has) (omega arith) (λ j le lt. other_word m (8 + x) v j (λ e. omega arith)) running.values;
+          privates = λ y e. other_word m (8 + x) v (frame_start places n + 8 + y) (λ f. omega arith) ∙ running.privates y (flows.kept y e refl);
+        };
+        waiting = waiting_kept places m m' p.runner.left.callers p.runner.has.callers few (λ j le lt. other_word m (8 + x) v j (λ e. omega arith)) held.waiting;
+        own = λ y lt. word_here m 8 x v p.runner.has.own y (λ other. held.own y lt);
+        heap = λ y lt. other_word m (8 + x) v (16384 + y) (λ e. omega arith) ∙ held.heap y lt;
+      }
+
+  -- a word of the private heap is written
+  pub heap_written : (m : Memory) (p : Owner) (i x v count : ℕ) → places.frames.of_file ≤ 56 → length p.runner.has.callers < 256
+      → p.runner.left.at ≡ i → HasRoom places.frames i count → length (values p.runner.has) ≤ count → x < 16384 → InMemory places m p
+      → InMemory places (put m (16384 + x) v) (record p { heap = put p.heap x v })
+  heap_written m p i x v count few waiting at room within place held =
+      let n = length p.runner.has.callers in
+      let m' = put m (16384 + x) v in
+      let room' = subst (λ a. HasRoom places.frames a count) (sym at) room in
+      record {
+        running = frame_kept places m m' n p.runner.left.at count p.runner.has.call few room' within (λ j le lt. other_word m (16384 + x) v j (λ e. omega arith)) held.running;
+        waiting = waiting_kept places m m' p.runner.left.callers p.runner.has.callers few (λ j le lt. other_word m (16384 + x) v j (λ e. omega arith)) held.waiting;
+        own = λ y lt. other_word m (16384 + x) v (8 + y) (λ e. omega arith) ∙ held.own y lt;
+        heap = λ y lt. word_here m 16384 x v p.heap y (λ other. held.heap y lt);
+      }
+
+  -- words of the header of `main` are written
+  pub scratch_written : (m m' : Memory) (p : Owner) (i count : ℕ) → places.frames.of_file ≤ 56
+      → p.runner.left.at ≡ i → HasRoom places.frames i count → length (values p.runner.has) ≤ count → ((j : ℕ) → 8 ≤ j → m' j ≡ m j) → InMemory places m p
+      → InMemory places m' p
+  scratch_written m m' p i count few at room within same held =
+      let n = length p.runner.has.callers in
+      let room' = subst (λ a. HasRoom places.frames a count) (sym at) room in
+      record {
+        running = frame_kept places m m' n p.runner.left.at count p.runner.has.call few room' within (λ j le lt. same j (omega arith)) held.running;
+        waiting = waiting_kept places m m' p.runner.left.callers p.runner.has.callers few (λ j le lt. same j (omega arith)) held.waiting;
+        own = λ y lt. same (8 + y) (omega arith) ∙ held.own y lt;
+        heap = λ y lt. same (16384 + y) (omega arith) ∙ held.heap y lt;
+      }

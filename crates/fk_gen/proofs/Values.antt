@@ -1,0 +1,91 @@
+-- Values in frames, the addresses of values and variables, and numbers of two parts.
+use Rattle.std.proofs.Common.{◌≡◌, ℕ, zero, suc, ◌+◌, ◌-◌, ◌*◌, ◌%◌, ◌<◌, ◌≤◌, List, [], ◌∷◌, length, ap, subst, ◌∙◌, arith, refl, ◌⊎◌, inl, inr, eq-eqb}
+use Rattle.std.proofs.lemmas.Bool.{cases_lt, lt-ltb, le-ltb, ne_eqb}
+use Rattle.fk_num.specs.Word.{Memory, put, word, word_sum}
+use Rattle.fk_run.specs.Processor.{last, before}
+use Rattle.fk_run.specs.Local.{joined}
+use Rattle.fk_block_law.specs.Stands.{Places, HasValues, local_address, frame_end, frame_start}
+use Rattle.fk_gen.specs.Lines.{at_value, at_private, high_part, low_part}
+
+-- ---- a word that is written
+
+pub same_word : (m : Memory) (i v : ℕ) → put m i v i ≡ v
+same_word m i v = rw (eq-eqb i i refl)
+
+pub other_word : (m : Memory) (i v j : ℕ) → (j ≡ i → ⊥) → put m i v j ≡ m j
+other_word m i v j e = let f = ne_eqb j i e in rw f
+
+-- ---- values
+
+pub values_kept : (m m' : Memory) (behind : ℕ) (vs : List ℕ) → 0 < behind → ((j : ℕ) → behind - length vs ≤ j → j < behind → m' j ≡ m j)
+    → HasValues m behind vs → HasValues m' behind vs
+values_kept m m' behind [] some same held = tt
+values_kept m m' behind (v ∷ vs) some same held = (
+  same (behind - suc (length vs)) (omega arith) (omega arith) ∙ held.0,
+  values_kept m m' behind vs some (λ j le lt. same j (omega arith) lt) held.1,
+)
+
+pub values_before : (k : ℕ) (m : Memory) (behind : ℕ) (vs : List ℕ) → HasValues m behind vs → HasValues m behind (before k vs)
+values_before zero m behind vs held = held
+values_before (suc k) m behind [] held = tt
+values_before (suc k) m behind (v ∷ vs) held = values_before k m behind vs held.1
+
+pub length_before : (k : ℕ) (vs : List ℕ) → length (before k vs) ≡ length vs - k
+length_before zero vs = omega arith
+length_before (suc k) [] = omega arith
+length_before (suc k) (v ∷ vs) = let e = length_before k vs in omega arith
+
+-- the value before which so many others come
+pub value_at : (k : ℕ) (m : Memory) (behind : ℕ) (vs : List ℕ) → k < length vs → HasValues m behind vs → m (behind - (length vs - k)) ≡ last (before k vs)
+value_at k m behind [] lt held = absurd (omega arith)
+value_at zero m behind (v ∷ vs) lt held = let e : behind - (suc (length vs) - 0) ≡ behind - suc (length vs) = omega arith in ap m e ∙ held.0
+value_at (suc k) m behind (v ∷ vs) lt held =
+    let e : suc (length vs) - suc k ≡ length vs - k = omega arith in
+    ap (λ n. m (behind - n)) e ∙ value_at k m behind vs (omega arith) held.1
+
+pub values_pushed : (m : Memory) (behind v : ℕ) (vs : List ℕ) → length vs < behind → HasValues m behind vs
+    → HasValues (put m (behind - suc (length vs)) v) behind (v ∷ vs)
+values_pushed m behind v vs lt held = (
+  same_word m (behind - suc (length vs)) v,
+  values_kept m (put m (behind - suc (length vs)) v) behind vs (omega arith)
+      (λ j le below. other_word m (behind - suc (length vs)) v j (λ e. omega arith)) held,
+)
+
+-- one that stands for the last k values is written to the w-th place
+pub values_put : (k w : ℕ) (m : Memory) (behind v : ℕ) (vs : List ℕ) → k ≤ length vs → w ≡ suc (length vs) - k → w ≤ behind → HasValues m behind vs
+    → HasValues (put m (behind - w) v) behind (v ∷ before k vs)
+values_put k w m behind v vs le e within held =
+    let n = length_before k vs in
+    let same : suc (length (before k vs)) ≡ w = omega arith in
+    subst (λ a. HasValues (put m (behind - a) v) behind (v ∷ before k vs)) same
+    (values_pushed m behind v (before k vs) (omega arith) (values_before k m behind vs held))
+
+pub joined_is : (f : ℕ → ℕ → ℕ) (vs : List ℕ) → 2 ≤ length vs → joined f vs ≡ f (last (before 1 vs)) (last vs) ∷ before 2 vs
+joined_is f [] le = absurd (omega arith)
+joined_is f (b ∷ []) le = absurd (omega arith)
+joined_is f (b ∷ a ∷ vs) le = refl
+
+-- ---- addresses
+
+-- the word of the k-th value of the running call
+pub value_place : (a n k : ℕ) → a ≡ local_address (frame_end n) → n < 256 → 1 ≤ k → k ≤ 64
+    → (frame_end n - k < 32768) × (word_sum a (at_value k) ≡ local_address (frame_end n - k))
+value_place a n k e few some most = (omega arith, omega arith)
+
+pub private_place : (places : Places) (a n x : ℕ) → a ≡ local_address (frame_start places n) → n < 256 → places.frames.of_file ≤ 56 → x < 64
+    → (frame_start places n + 8 + x < 32768) × (word_sum a (at_private x) ≡ local_address (frame_start places n + 8 + x))
+private_place places a zero x e few file lt = (omega arith, omega arith)
+private_place places a (suc n) x e few file lt = (omega arith, omega arith)
+
+pub own_place : (a x : ℕ) → a ≡ local_address 0 → x < 64 → (8 + x < 32768) × (word_sum a (at_private x) ≡ local_address (8 + x))
+own_place a x e lt = (omega arith, omega arith)
+
+-- ---- numbers
+
+-- the two parts of a number make its word
+pub number_of_parts : (n : ℕ) → word_sum (high_part n * 4096) (low_part n) ≡ word n
+number_of_parts n = split n (cases_lt (n % 4096) 2048)
+  where
+    split : (n : ℕ) → ((n % 4096 < 2048) ⊎ (2048 ≤ n % 4096)) → word_sum (high_part n * 4096) (low_part n) ≡ word n
+    split n (inl lt) = rw (lt-ltb (n % 4096) 2048 lt) (omega arith)
+    split n (inr le) = rw (le-ltb (n % 4096) 2048 le) (omega arith)

@@ -1,0 +1,66 @@
+-- The lines of blocks, and what stands in them.
+use Rattle.std.specs.Prelude.{ℕ, ◌+◌, ◌-◌, ◌*◌, ◌/◌, ◌%◌, ◌^◌, List, [], ◌∷◌, Bool, true, false, Option, Some, None, IfSome}
+use Rattle.fk_isa.specs.declared.instruction.Instruction.{Instruction}
+use Rattle.fk_isa.specs.Bits.{extended}
+use Rattle.fk_isa.specs.Fits.{Fits}
+use Rattle.fk_asm.specs.Jump.{IsJump}
+use Rattle.fk_asm.specs.Assembly.{straight, jump_to}
+use Rattle.fk_asm.specs.Block.{MarkedLine, plain, committing}
+use Rattle.fk_gen.specs.declared.block_line.BlockLine.{BlockLine}
+
+-- the line of an instruction that does no operation
+abbrev pub quiet : Instruction → MarkedLine
+quiet i = plain (straight i)
+
+-- of one that does: its commit counts 1, and is no event
+abbrev pub commits : Instruction → MarkedLine
+commits i = committing (straight i) 1
+
+-- of a jump to a label, which does no operation
+abbrev pub goes_to : Instruction → (label : ℕ) → MarkedLine
+goes_to i label = plain (jump_to i label)
+
+-- the commit of a line
+abbrev pub commit_of : Bool → Option ℕ
+commit_of true = Some 1
+commit_of false = None
+
+abbrev pub marked : BlockLine → MarkedLine
+marked b = record { line = b.line; commit = commit_of b.commits }
+
+-- the fields of a line are in range, and it goes to a label only where its instruction is a jump
+abbrev pub FitLine : MarkedLine → Type 0
+FitLine m = Fits m.line.instruction × IfSome m.line.label (λ _. IsJump m.line.instruction)
+
+abbrev pub FitLines : List MarkedLine → Type 0
+FitLines [] = Unit {0}
+FitLines (m ∷ ms) = FitLine m × FitLines ms
+
+-- ---- offsets, as words
+
+-- that of the k-th value of a call, from 1 on, from the word behind its frame: 4 * k bytes back
+abbrev pub at_value : (k : ℕ) → ℕ
+at_value k = (2 ^ 32 - 4 * k) % 2 ^ 32
+
+-- that of a private word from the start of its frame, and of a private variable of file scope from local memory
+abbrev pub at_private : (i : ℕ) → ℕ
+at_private i = 4 * (8 + i)
+
+-- ---- numbers
+
+-- a number is its upper 20 bits, shifted, and a signed rest
+abbrev pub high_part : ℕ → ℕ
+high_part n = (n + 2048) / 4096 % 1048576
+
+abbrev pub low_part : ℕ → ℕ
+low_part n = extended 12 (n % 4096)
+
+-- ---- labels
+
+-- where the code that all calls share is entered with so many arguments, 0 to 56
+abbrev pub copy_label : (arguments : ℕ) → ℕ
+copy_label arguments = arguments
+
+-- the block of an index of the list
+abbrev pub label_of : (index : ℕ) → ℕ
+label_of index = 64 + index

@@ -1,0 +1,23 @@
+-- The registers of blocks, by their numbers.
+use Rattle.std.specs.Prelude.{ℕ}
+
+-- stays 0
+abbrev pub zero_register : ℕ
+zero_register = 0
+
+-- where a call goes on, from its block to the code that all calls share
+abbrev pub ra : ℕ
+ra = 1
+
+-- free in each block
+abbrev pub t0 : ℕ
+t0 = 5
+
+abbrev pub t1 : ℕ
+t1 = 6
+
+abbrev pub t2 : ℕ
+t2 = 7
+
+abbrev pub t3 : ℕ
+t3 = 28

@@ -1,0 +1,94 @@
+//! Lines of blocks.
+
+ghost use Rattle.std.specs.Prelude.{◌≡◌, ◌+◌, ◌-◌, ◌^◌, ◌<◌, [], ◌∷◌, All, OnOk, OnErr, length, map};
+ghost use Rattle.fk_asm.specs.Assembly.{AreFollowed};
+ghost use Rattle.fk_asm.specs.Block.{GoesToMade, HasBegun, with_block};
+ghost use Rattle.fk_gen.specs.Lines.{marked, FitLine, FitLines};
+
+use fk_asm::{Assembler, Line};
+use fk_isa::Instruction;
+use std::alloc::AllocError;
+
+/// A line of a block, and whether its instruction does the operation of the block.
+#[derive(Clone, Copy)]
+pub struct BlockLine {
+    pub line: Line,
+    pub commits: bool,
+}
+
+impl BlockLine {
+    ghost use Rattle.std.specs.Prelude.{◌≡◌, true, false};
+    ghost use Rattle.fk_asm.specs.Assembly.{straight, jump_to};
+
+    /// An instruction that does no operation.
+    pub fn quiet(instruction: Instruction) -> BlockLine
+        ensures { result ≡ record { line = straight instruction; commits = false } }
+    {
+        BlockLine {
+            line: Line {
+                instruction,
+                label: None,
+            },
+            commits: false,
+        }
+    }
+
+    /// The instruction that does the operation.
+    pub fn commits(instruction: Instruction) -> BlockLine
+        ensures { result ≡ record { line = straight instruction; commits = true } }
+    {
+        BlockLine {
+            line: Line {
+                instruction,
+                label: None,
+            },
+            commits: true,
+        }
+    }
+
+    /// A branch or `jal` to a label, which does no operation.
+    pub fn goes_to(instruction: Instruction, label: u32) -> BlockLine
+        ensures { result ≡ record { line = jump_to instruction label; commits = false } }
+    {
+        BlockLine {
+            line: Line {
+                instruction,
+                label: Some(label),
+            },
+            commits: false,
+        }
+    }
+}
+
+/// Adds lines. After an error only the first of them were added, or none.
+pub fn emit_lines(into: &mut Assembler, lines: &[BlockLine]) -> Result<(), AllocError>
+    requires fit { FitLines (map marked lines.now) }
+    requires labels { All (GoesToMade into.old.bound) (map marked lines.now) }
+    requires room { length into.old.lines + length lines.now < 2 ^ 30 }
+    requires free { AreFollowed into.old }
+    ensures added { OnOk result (into.new ≡ with_block into.old (map marked lines.now)) }
+    ensures begun { OnErr result (HasBegun (map marked lines.now) into.old into.new) }
+{
+    for line in lines {
+        emit_line(into, *line)?;
+    }
+    Ok(())
+}
+
+fn emit_line(into: &mut Assembler, line: BlockLine) -> Result<(), AllocError>
+    requires fit { FitLine (marked line) }
+    requires label { GoesToMade into.old.bound (marked line) }
+    requires room { length into.old.lines < 2 ^ 30 - 1 }
+    requires free { AreFollowed into.old }
+    ensures added { OnOk result (into.new ≡ with_block into.old (marked line ∷ [])) }
+    ensures followed { OnOk result (AreFollowed into.new) }
+    ensures begun { OnErr result (HasBegun (marked line ∷ []) into.old into.new) }
+{
+    if line.commits {
+        into.commit(1, 0)?;
+    }
+    match line.line.label {
+        Some(label) => into.jump(line.line.instruction, label),
+        None => into.emit(line.line.instruction),
+    }
+}

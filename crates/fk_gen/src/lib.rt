@@ -1,0 +1,11 @@
+//! What the blocks of operations share: the lines that they are made of, how these stand in an image, and how a hart runs
+//! them.
+#![tactic(auto)]
+
+pub mod block_line;
+pub mod numbers;
+mod placed;
+pub mod registers;
+
+pub use block_line::{BlockLine, emit_lines};
+pub use placed::Placed;

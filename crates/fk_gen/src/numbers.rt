@@ -1,0 +1,41 @@
+//! The immediates of blocks, as words.
+
+ghost use Rattle.std.specs.Prelude.{◌≡◌, ◌<◌, ◌≤◌, ◌^◌};
+ghost use Rattle.fk_isa.specs.Fits.{IsShort};
+ghost use Rattle.fk_gen.specs.Lines.{at_value, at_private, high_part, low_part};
+
+/// The offset of the k-th value of a call, from 1 on, from the word behind its frame.
+pub fn at_value(k: u32) -> u32
+    requires in_frame { k ≤ 64 }
+    ensures exact { result ≡ at_value k }
+    ensures short { IsShort 12 result }
+{
+    0u32.wrapping_sub(4 * k)
+}
+
+/// The offset of a private word from the start of its frame, or of a private variable of file scope from
+/// local memory.
+pub fn at_private(i: u32) -> u32
+    requires in_frame { i < 64 }
+    ensures exact { result ≡ at_private i }
+    ensures short { IsShort 12 result }
+{
+    4 * (8 + i)
+}
+
+/// The upper 20 bits of a number that `lui` takes, where `addi` adds the lower 12 as a signed number.
+pub fn high_part(number: u32) -> u32
+    ensures exact { result ≡ high_part number }
+    ensures fits { result < 2 ^ 20 }
+{
+    ((u64::from(number) + 0x800) / 0x1000 % 0x10_0000) as u32
+}
+
+/// The lower 12 bits of a number that `addi` adds, as a word.
+pub fn low_part(number: u32) -> u32
+    ensures exact { result ≡ low_part number }
+    ensures short { IsShort 12 result }
+{
+    let low = number % 0x1000;
+    if low < 0x800 { low } else { low + 0xffff_f000 }
+}

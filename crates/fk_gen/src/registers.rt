@@ -1,0 +1,32 @@
+//! The registers of blocks (RISC-V Unprivileged ISA, "RISC-V Assembly Programmer's Handbook").
+
+/// `zero` stays 0.
+pub const ZERO: u8 = 0;
+/// `ra`: where a call goes on, from its block to the code that all calls share.
+pub const RA: u8 = 1;
+/// `t0` to `t3` are free in each block.
+pub const T0: u8 = 5;
+
+pub const T1: u8 = 6;
+
+pub const T2: u8 = 7;
+
+pub const T3: u8 = 28;
+/// The address of the running call's frame.
+pub const FRAME: u8 = 8;
+/// The address of the word behind the running call's frame.
+pub const END: u8 = 9;
+/// `@`.
+pub const NUMBER: u8 = 18;
+/// `$`.
+pub const RANK: u8 = 19;
+/// The size of the group.
+pub const SIZE: u8 = 20;
+/// How many words of the private heap are taken.
+pub const TOP: u8 = 21;
+/// The address of local memory. It never changes.
+pub const LOCAL: u8 = 22;
+/// How many words of addresses lie before shared data. It never changes.
+pub const SHARED: u8 = 23;
+/// How many words of addresses lie before the private heap. It never changes.
+pub const HEAP: u8 = 24;
