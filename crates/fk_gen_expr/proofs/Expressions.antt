@@ -1,0 +1,410 @@
+-- The block of each operation of expressions does it.
+use Rattle.std.proofs.Common.{◌≡◌, ℕ, suc, ◌+◌, ◌-◌, ◌*◌, ◌^◌, ◌<◌, ◌≤◌, List, [], ◌∷◌, ◌++◌, length, Bool, true, false, refl, sym, ap, subst, ◌∙◌, arith}
+use Rattle.std.proofs.lemmas.List.{length-append}
+use Rattle.fk_num.specs.Word.{put, word, word_sum}
+use Rattle.fk_num.specs.Op.{applied}
+use Rattle.fk_num.specs.declared.operator.Op.{Op}
+use Rattle.fk_operation.specs.declared.operation.Known.{Known}
+use Rattle.fk_operation.specs.declared.operation.Known.TheVariants.{Value, Rank, GroupNumber, ProcessorNumber, Processors, GroupSize, InputLength, FrameAddress, InputAddress}
+use Rattle.fk_operation.specs.declared.operation.Operation.{Operation}
+use Rattle.fk_operation.specs.declared.operation.Operation.TheVariants.{Push, Get, Set, DropLast, CopyLast, Apply, Join, Index}
+use Rattle.fk_operation.specs.declared.operation.Unary.{Unary}
+use Rattle.fk_operation.specs.declared.operation.Variable.{Variable}
+use Rattle.fk_operation.specs.declared.operation.Variable.TheVariants.{Private, OfFile}
+use Rattle.fk_store.specs.Store.{address_of}
+use Rattle.fk_run.specs.Processor.{Setting, values, last, before, with_values}
+use Rattle.fk_run.specs.Local.{local, applied_to, in_order}
+use Rattle.fk_core.specs.declared.op.CoreOp.{CoreOp}
+use Rattle.fk_core.specs.Next.{position}
+use Rattle.fk_image.specs.declared.Image.{Image}
+use Rattle.fk_isa.specs.declared.instruction.Instruction.{Instruction}
+use Rattle.fk_isa.specs.declared.instruction.Instruction.TheVariants.{Lui, Addi, Add, Mul, Lw, Sw}
+use Rattle.fk_machine.specs.Hart.{Hart, Setting as MachineSetting}
+use Rattle.fk_block_law.specs.Owner.{Owner, number_of, owner_of}
+use Rattle.fk_block_law.specs.Stands.{Places, HasRoom, frame_end, frame_start, local_address, StandsFor}
+use Rattle.fk_block_law.specs.Next.{StandsOp}
+use Rattle.fk_block_law.specs.Suits.{Fits, Flows, writes}
+use Rattle.fk_block_law.specs.Block.{Enters, Does}
+use Rattle.fk_gen.specs.InPlace.{HasBlock}
+use Rattle.fk_gen.specs.Lines.{at_value, at_private, high_part, low_part}
+use Rattle.fk_gen.proofs.Walk.{Told, Quiets, Reached, Plain, LocalAt, TellsNumber, TellsHarts, TellsInputs, walk, CanWalk, told_of, after}
+use Rattle.fk_gen_expr.specs.Operators.{operator_code, sign_instruction}
+use Rattle.fk_gen_expr.specs.Expressions.{IsExpression, expression_block, first_commits, load_value, store_value}
+use Rattle.fk_gen_expr.specs.Law.{ExpressionsDo}
+use Rattle.fk_gen.proofs.Values.{values_before, value_at, values_put, joined_is, value_place, private_place, own_place, number_of_parts}
+use Rattle.fk_gen.proofs.Does.{local_doing}
+use Rattle.fk_gen.proofs.Standing.{InMemory, in_memory, stands_with, with_list, value_written, nothing_written, private_written, own_written}
+use Rattle.fk_gen_expr.proofs.Local.{length-on_registers, IsLocal, code_does, instructions_of, on_registers, instructions_of-append, walk-append, can_walk-append}
+use Rattle.fk_gen_expr.proofs.Operators.{few_of_operator, HasSame, Gives, HasOperands, itself, gives_behind, operator_gives, sign_gives}
+use Rattle.fk_gen_expr.proofs.Values.{last_word, words_before, element}
+
+less_room : (places : Places) (i more less : ℕ) → less ≤ more → HasRoom places.frames i more → HasRoom places.frames i less
+less_room places i more less le room =
+    let header = room.header in
+    record { header = omega arith; kept = λ word e. let k = room.kept word e in omega arith }
+
+module _ (core : List CoreOp) (image : Image) (places : Places) (bound : ℕ → ℕ) (i : ℕ) (op : CoreOp) (setting : Setting) (t : MachineSetting) (p : Owner) (h : Hart) where
+  abbrev told : Told
+  told = told_of t (number_of p)
+
+  -- how many calls wait, and the values
+  abbrev n : ℕ
+  n = length p.runner.has.callers
+
+  abbrev d : ℕ
+  d = op.depth
+
+  abbrev vs : List ℕ
+  vs = values p.runner.has
+
+  abbrev globals : ℕ
+  globals = length image.globals.items
+
+  -- the operation at the index, its block, and a hart that stands there
+  pub record Here (operation : Operation) : Type 0 where
+    pub at : StandsOp core i op operation
+    pub is : IsExpression globals d operation
+    pub block : HasBlock image bound places i (expression_block globals d operation)
+    pub few : places.frames.of_file ≤ 56
+    pub fits : Fits core places.frames i op operation
+    pub enters : Enters core image places setting t i op operation p h
+
+  -- behind its code it stands for a processor of the same level, with as many calls waiting, that it has in memory
+  stands_after : (operation : Operation) (h2 : Hart) (p2 : Owner) → Here operation → HasSame h h2 → p2.runner.has.level ≡ p.runner.has.level
+      → length p2.runner.has.callers ≡ n → p2.runner.has.top ≡ p.runner.has.top → InMemory places h2.local p2 → StandsFor places p2 h2
+  stands_after operation h2 p2 here same level calls top held =
+      stands_with places p p2 h h2 here.enters.at.stands
+      (same.0, same.1, same.2, same.3, same.4, same.5, same.6, same.7, same.8) level calls (same.9 ∙ here.enters.at.stands.top ∙ sym top) held
+
+  -- code that leaves a value in a register, which then is stored in place of the last so many
+  value_does : (operation : Operation) (code : Quiets) (register dropped k v : ℕ) → Here operation
+      → first_commits (instructions_of (code ++ (store_value register k, LocalAt (frame_end n - k)) ∷ [])) ≡ expression_block globals d operation
+      → length code ≤ 20
+      → IsLocal core i op operation p
+      → local setting operation p.runner.has ≡ with_values p.runner.has (v ∷ before dropped vs)
+      → Gives told code h register v
+      → Flows core places.frames (λ word. false) i (suc i)
+      → HasRoom places.frames i k → dropped ≤ length vs → k ≡ suc (length vs) - dropped
+      → Does core image places setting t p h
+  value_does operation code register dropped k v here same short is_local done gives flows room enough top =
+      let stands = here.enters.at.stands in
+      let store : Instruction × Reached = (store_value register k, LocalAt (frame_end n - k)) in
+      let full : Quiets = code ++ store ∷ [] in
+      let h1 = walk told code h in
+      let h2 = after told store.0 store.1 h1 in
+      let waiting = here.enters.ready.in_range.waiting in
+      let header = room.header in
+      let new = v ∷ before dropped vs in
+      let can = can_walk-append told code (store ∷ []) h gives.can (value_place (h1.registers 9) n k (gives.same.2 ∙ stands.behind) waiting (omega arith) (omega arith), tt) in
+      let written : InMemory places (put h.local (frame_end n - k) v) (with_list core places (suc i) new p) =
+      value_written core places h.local p i (suc i) k v new here.few waiting here.enters.index room (omega arith) flows (in_memory places p h stands)
+      (values_put dropped k h.local (frame_end n) v vs enough top (omega arith) stands.running.values) in
+      let memory : put h.local (frame_end n - k) v ≡ h2.local =
+      sym (ap (λ m. put m (frame_end n - k) (h1.registers register)) gives.local ∙ ap (put h.local (frame_end n - k)) gives.result) in
+      let standing : StandsFor places (with_list core places (suc i) new p) h2 =
+      stands_after operation h2 (with_list core places (suc i) new p) here gives.same refl refl refl (subst (λ m. InMemory places m (with_list core places (suc i) new p)) memory written) in
+      let size : length full ≡ length code + 1 = length-append code (store ∷ []) in
+      code_does core image places bound i op operation setting t p h full here.at here.enters
+      (subst (HasBlock image bound places i) (sym same) here.block) (omega arith) (omega arith) is_local can
+      (subst (λ w. StandsFor places (record p { runner = record { left = w; has = local setting operation p.runner.has } }) (walk told full h)) (sym is_local.onward)
+      (subst (λ q. StandsFor places (record p { runner = record { left = position (suc i) p.runner.left.callers; has = q } }) (walk told full h)) (sym done)
+      (subst (StandsFor places (with_list core places (suc i) new p)) (sym (walk-append told code (store ∷ []) h)) standing)))
+
+  -- ---- what a hart finds
+
+  top_at : (operation : Operation) → Here operation → 1 ≤ d → h.local (frame_end n - d) ≡ last vs
+  top_at operation here some =
+      let depth = here.enters.ready.depth in
+      let k : d ≡ length vs - 0 = omega arith in
+      ap (λ k. h.local (frame_end n - k)) k ∙ value_at 0 h.local (frame_end n) vs (omega arith) here.enters.at.stands.running.values
+
+  second_at : (operation : Operation) → Here operation → 2 ≤ d → h.local (frame_end n - (d - 1)) ≡ last (before 1 vs)
+  second_at operation here two =
+      let depth = here.enters.ready.depth in
+      let k : d - 1 ≡ length vs - 1 = omega arith in
+      ap (λ k. h.local (frame_end n - k)) k ∙ value_at 1 h.local (frame_end n) vs (omega arith) here.enters.at.stands.running.values
+
+  -- the k-th value is loaded
+  reaches : (operation : Operation) (k : ℕ) → Here operation → 1 ≤ k → k ≤ 64
+      → (frame_end n - k < 32768) × (word_sum (h.registers 9) (at_value k) ≡ local_address (frame_end n - k))
+  reaches operation k here first last = value_place (h.registers 9) n k here.enters.at.stands.behind here.enters.ready.in_range.waiting first last
+
+  -- ---- operations that push
+
+  -- room for one more value
+  room_for_one : HasRoom places.frames i (suc d) → HasRoom places.frames i (d + 1)
+  room_for_one room = less_room places i (suc d) (d + 1) (omega arith) room
+
+  push_does : (number : ℕ) → Here (Push number) → Does core image places setting t p h
+  push_does number here =
+      let depth = here.enters.ready.depth in
+      value_does (Push number) ((Lui 5 (high_part number), Plain) ∷ (Addi 5 5 (low_part number), Plain) ∷ []) 5 0 (d + 1) (word number) here refl (omega arith)
+      record { kind = refl; onward = refl } refl
+      record {
+        can = (tt, (tt, tt));
+        same = itself h;
+        local = refl;
+        result = number_of_parts number;
+      }
+      (here.fits.goes_on true) (room_for_one here.fits.place) (omega arith) (omega arith)
+
+  copy_does : Here CopyLast → Does core image places setting t p h
+  copy_does here =
+      let depth = here.enters.ready.depth in
+      let is = here.is in
+      value_does CopyLast ((load_value 5 d, LocalAt (frame_end n - d)) ∷ []) 5 0 (d + 1) (last vs) here refl (omega arith)
+      record { kind = refl; onward = refl } refl
+      record {
+        can = (reaches CopyLast d here is.0 (omega arith), tt);
+        same = itself h;
+        local = refl;
+        result = top_at CopyLast here is.0;
+      }
+      (here.fits.goes_on true) (room_for_one here.fits.place) (omega arith) (omega arith)
+
+  -- what code leaves in a register of what is known
+  get_with : (known : Known) (code : Quiets) (register v : ℕ) → Here (Get known)
+      → first_commits (instructions_of (code ++ (store_value register (d + 1), LocalAt (frame_end n - (d + 1))) ∷ [])) ≡ expression_block globals d (Get known)
+      → length code ≤ 20
+      → local setting (Get known) p.runner.has ≡ with_values p.runner.has (v ∷ vs)
+      → Gives told code h register v → Does core image places setting t p h
+  get_with known code register v here same short done gives =
+      let depth = here.enters.ready.depth in
+      let place = here.fits.place in
+      value_does (Get known) code register 0 (d + 1) v here same short record { kind = refl; onward = refl } done gives
+      (here.fits.goes_on true) (room_for_one place.1) (omega arith) (omega arith)
+
+  -- one that a register has
+  in_register : (register v : ℕ) → h.registers register ≡ v → Gives told [] h register v
+  in_register register v e = record { can = tt; same = itself h; local = refl; result = e }
+
+  -- one that a device tells
+  by_device : (offset v : ℕ) (reached : Reached) → CanWalk told ((Lui 5 0x30000, Plain) ∷ (Lw 5 5 offset, reached) ∷ []) h
+      → (walk told ((Lui 5 0x30000, Plain) ∷ (Lw 5 5 offset, reached) ∷ []) h).registers 5 ≡ v
+      → Gives told ((Lui 5 0x30000, Plain) ∷ (Lw 5 5 offset, reached) ∷ []) h 5 v
+  by_device offset v reached can e = record {
+    can = can;
+    same = itself h;
+    local = refl;
+    result = e;
+  }
+
+  get_does : (known : Known) → Here (Get known) → Does core image places setting t p h
+  get_does (Value (Private w)) here =
+      let stands = here.enters.at.stands in
+      let is = here.is in
+      let place = here.fits.place in
+      get_with (Value (Private w)) ((Lw 5 8 (at_private w), LocalAt (frame_start places n + 8 + w)) ∷ []) 5 (p.runner.has.call.privates w) here refl (omega arith) refl
+      record {
+        can = (private_place places (h.registers 8) n w stands.frame here.enters.ready.in_range.waiting here.few is.1, tt);
+        same = itself h;
+        local = refl;
+        result = stands.running.privates w (ap (λ at. places.frames.keeps at w) here.enters.index ∙ place.0);
+      }
+  get_does (Value (OfFile w)) here =
+      let stands = here.enters.at.stands in
+      let is = here.is in
+      let place = here.fits.place in
+      get_with (Value (OfFile w)) ((Lw 5 22 (at_private w), LocalAt (8 + w)) ∷ []) 5 (p.runner.has.own w) here refl (omega arith) refl
+      record {
+        can = (own_place (h.registers 22) w stands.local is.1, tt);
+        same = itself h;
+        local = refl;
+        result = stands.own w place.0;
+      }
+  get_does Rank here = get_with Rank [] 19 p.runner.has.level.rank here refl (omega arith) refl (in_register 19 _ here.enters.at.stands.rank)
+  get_does GroupNumber here = get_with GroupNumber [] 18 p.runner.has.level.number here refl (omega arith) refl (in_register 18 _ here.enters.at.stands.number)
+  get_does GroupSize here = get_with GroupSize [] 20 p.runner.has.level.size here refl (omega arith) refl (in_register 20 _ here.enters.at.stands.size)
+  get_does ProcessorNumber here =
+      get_with ProcessorNumber ((Lui 5 0x30000, Plain) ∷ (Lw 5 5 20, TellsNumber) ∷ []) 5 p.runner.has.number here refl (omega arith) refl
+      (by_device 20 p.runner.has.number TellsNumber (tt, (refl, tt)) refl)
+  get_does Processors here =
+      get_with Processors ((Lui 5 0x30000, Plain) ∷ (Lw 5 5 24, TellsHarts) ∷ []) 5 setting.processors here refl (omega arith) refl
+      (by_device 24 setting.processors TellsHarts (tt, (refl, tt)) here.enters.running.processors)
+  get_does InputLength here =
+      get_with InputLength ((Lui 5 0x30000, Plain) ∷ (Lw 5 5 28, TellsInputs) ∷ []) 5 setting.inputs here refl (omega arith) refl
+      (by_device 28 setting.inputs TellsInputs (tt, (refl, tt)) here.enters.running.inputs)
+  get_does InputAddress here =
+      let is = here.is in
+      let small = is.1 in
+      let e = here.enters.running.globals in
+      let whole : word (address_of globals) ≡ address_of setting.globals = omega arith in
+      get_with InputAddress ((Lui 5 (high_part (address_of globals)), Plain) ∷ (Addi 5 5 (low_part (address_of globals)), Plain) ∷ []) 5 (address_of setting.globals) here refl (omega arith) refl
+      record {
+        can = (tt, (tt, tt));
+        same = itself h;
+        local = refl;
+        result = number_of_parts (address_of globals) ∙ whole;
+      }
+  get_does (FrameAddress nesting w) here = let is = here.is in absurd is.1
+
+  -- ---- signs, operators and indices
+
+  apply_does : (sign : Unary) → Here (Apply sign) → Does core image places setting t p h
+  apply_does sign here =
+      let depth = here.enters.ready.depth in
+      let is = here.is in
+      let load : Instruction × Reached = (load_value 5 d, LocalAt (frame_end n - d)) in
+      value_does (Apply sign) (load ∷ on_registers (sign_instruction sign ∷ [])) 5 1 d (applied_to sign (last vs)) here refl (omega arith)
+      record { kind = refl; onward = refl } refl
+      (gives_behind told (load ∷ []) (on_registers (sign_instruction sign ∷ [])) h 5 (applied_to sign (last vs))
+      (reaches (Apply sign) d here is.0 is.1, tt) (itself h) refl
+      (sign_gives told sign (after told load.0 load.1 h) (last vs) here.enters.at.stands.nought (top_at (Apply sign) here is.0)))
+      (here.fits.goes_on true) here.fits.room (omega arith) (omega arith)
+
+  join_with : (sign : Op) (turned : Bool) (first second : Instruction × Reached) (a b : ℕ) → Here (Join sign turned)
+      → first_commits (first.0 ∷ second.0 ∷ (operator_code sign ++ store_value 5 (d - 1) ∷ [])) ≡ expression_block globals d (Join sign turned)
+      → CanWalk told (first ∷ second ∷ []) h → HasSame h (walk told (first ∷ second ∷ []) h)
+      → (walk told (first ∷ second ∷ []) h).local ≡ h.local
+      → HasOperands (walk told (first ∷ second ∷ []) h) a b
+      → in_order turned (applied sign) (last (before 1 vs)) (last vs) ≡ applied sign a b
+      → Does core image places setting t p h
+  join_with sign turned first second a b here same can unchanged locals operands order =
+      let depth = here.enters.ready.depth in
+      let is = here.is in
+      let short = few_of_operator sign in
+      let count = length-on_registers (operator_code sign) in
+      value_does (Join sign turned) (first ∷ second ∷ on_registers (operator_code sign)) 5 2 (d - 1) (applied sign a b) here
+      (ap (λ rest. first_commits (first.0 ∷ second.0 ∷ rest)) (instructions_of-append (operator_code sign) _) ∙ same)
+      (omega arith)
+      record { kind = refl; onward = refl }
+      (ap (with_values p.runner.has) (joined_is (in_order turned (applied sign)) vs (omega arith) ∙ ap (λ v. v ∷ before 2 vs) order))
+      (gives_behind told (first ∷ second ∷ []) (on_registers (operator_code sign)) h 5 (applied sign a b) can unchanged locals
+      (operator_gives told sign (walk told (first ∷ second ∷ []) h) a b operands))
+      (here.fits.goes_on true) (less_room places i d (d - 1) (omega arith) here.fits.room) (omega arith) (omega arith)
+
+  join_does : (sign : Op) (turned : Bool) → Here (Join sign turned) → Does core image places setting t p h
+  join_does sign false here =
+      let is = here.is in
+      let words = here.enters.ready.in_range.values in
+      let first : Instruction × Reached = (load_value 5 (d - 1), LocalAt (frame_end n - (d - 1))) in
+      let second : Instruction × Reached = (load_value 6 d, LocalAt (frame_end n - d)) in
+      let a = second_at (Join sign false) here is.0 in
+      let b = top_at (Join sign false) here (omega arith) in
+      join_with sign false first second (last (before 1 vs)) (last vs) here refl
+      (reaches (Join sign false) (d - 1) here (omega arith) (omega arith), (reaches (Join sign false) d here (omega arith) is.1, tt))
+      (itself h) refl
+      record {
+        nought = here.enters.at.stands.nought;
+        first = a;
+        second = b;
+        first_word = subst (λ v. v < 2 ^ 32) (sym a) (last_word (before 1 vs) (words_before vs words));
+        second_word = subst (λ v. v < 2 ^ 32) (sym b) (last_word vs words);
+      }
+      refl
+  join_does sign true here =
+      let is = here.is in
+      let words = here.enters.ready.in_range.values in
+      let first : Instruction × Reached = (load_value 6 (d - 1), LocalAt (frame_end n - (d - 1))) in
+      let second : Instruction × Reached = (load_value 5 d, LocalAt (frame_end n - d)) in
+      let a = second_at (Join sign true) here is.0 in
+      let b = top_at (Join sign true) here (omega arith) in
+      join_with sign true first second (last vs) (last (before 1 vs)) here refl
+      (reaches (Join sign true) (d - 1) here (omega arith) (omega arith), (reaches (Join sign true) d here (omega arith) is.1, tt))
+      (itself h) refl
+      record {
+        nought = here.enters.at.stands.nought;
+        first = b;
+        second = a;
+        first_word = subst (λ v. v < 2 ^ 32) (sym b) (last_word vs words);
+        second_word = subst (λ v. v < 2 ^ 32) (sym a) (last_word (before 1 vs) (words_before vs words));
+      }
+      refl
+
+  index_does : (size : ℕ) → Here (Index size) → Does core image places setting t p h
+  index_does size here =
+      let depth = here.enters.ready.depth in
+      let is = here.is in
+      let first : Instruction × Reached = (load_value 5 (d - 1), LocalAt (frame_end n - (d - 1))) in
+      let second : Instruction × Reached = (load_value 6 d, LocalAt (frame_end n - d)) in
+      let number = word_sum (high_part size * 4096) (low_part size) in
+      value_does (Index size)
+      (first ∷ second ∷ (Lui 7 (high_part size), Plain) ∷ (Addi 7 7 (low_part size), Plain) ∷ (Mul 6 6 7, Plain) ∷ (Add 5 5 6, Plain) ∷ [])
+      5 2 (d - 1) (word (last (before 1 vs) + last vs * size)) here refl (omega arith)
+      record { kind = refl; onward = refl }
+      (ap (with_values p.runner.has) (joined_is (λ address index. word (address + index * size)) vs (omega arith)))
+      record {
+        can = (
+          reaches (Index size) (d - 1) here (omega arith) (omega arith),
+          (reaches (Index size) d here (omega arith) is.1, (tt, (tt, (tt, (tt, tt))))),
+        );
+        same = itself h;
+        local = refl;
+        result =
+            ap (λ a. word_sum a (word (h.local (frame_end n - d) * number))) (second_at (Index size) here is.0)
+            ∙ ap (λ b. word_sum (last (before 1 vs)) (word (b * number))) (top_at (Index size) here (omega arith))
+            ∙ element (last (before 1 vs)) (last vs) size is.2;
+      }
+      (here.fits.goes_on true) (less_room places i d (d - 1) (omega arith) here.fits.room) (omega arith) (omega arith)
+
+  -- ---- operations that store a variable, or nothing
+
+  drop_does : Here DropLast → Does core image places setting t p h
+  drop_does here =
+      let flows : Flows core places.frames (λ word. false) i (suc i) = here.fits.goes_on true in
+      let h1 = after told (Addi 0 0 0) Plain h in
+      let new = before 1 vs in
+      code_does core image places bound i op DropLast setting t p h ((Addi 0 0 0, Plain) ∷ []) here.at here.enters here.block (omega arith) (omega arith)
+      record { kind = refl; onward = refl }
+      (tt, tt)
+      (stands_after DropLast h1 (with_list core places (suc i) new p) here (itself h) refl refl refl
+      (nothing_written core places h.local p i (suc i) d new here.few here.enters.ready.in_range.waiting here.enters.index here.fits.room flows
+      (in_memory places p h here.enters.at.stands)
+      (values_before 1 h.local (frame_end n) vs here.enters.at.stands.running.values)))
+
+  set_does : (variable : Variable) → Here (Set variable) → Does core image places setting t p h
+  set_does (Private w) here =
+      let depth = here.enters.ready.depth in
+      let stands = here.enters.at.stands in
+      let waiting = here.enters.ready.in_range.waiting in
+      let is = here.is in
+      let flows : Flows core places.frames (writes (Set (Private w))) i (suc i) = here.fits.goes_on true in
+      let load : Instruction × Reached = (load_value 5 d, LocalAt (frame_end n - d)) in
+      let store : Instruction × Reached = (Sw 8 5 (at_private w), LocalAt (frame_start places n + 8 + w)) in
+      let h1 = after told load.0 load.1 h in
+      let h2 = after told store.0 store.1 h1 in
+      let new : Owner = owner_of (local_doing core image places setting i op (Set (Private w)) p) in
+      let found = ap (put h.local (frame_start places n + 8 + w)) (sym (top_at (Set (Private w)) here is.0)) in
+      code_does core image places bound i op (Set (Private w)) setting t p h (load ∷ store ∷ []) here.at here.enters here.block (omega arith) (omega arith)
+      record { kind = refl; onward = refl }
+      (reaches (Set (Private w)) d here is.0 is.1, (private_place places (h.registers 8) n w stands.frame waiting here.few is.2, tt))
+      (stands_after (Set (Private w)) h2 new here (itself h) refl refl refl
+      (subst (λ m. InMemory places m new) found
+      (private_written core places h.local p i (suc i) w (last vs) d here.few waiting here.enters.index here.fits.room (omega arith) here.fits.place flows
+      (in_memory places p h stands))))
+  set_does (OfFile w) here =
+      let depth = here.enters.ready.depth in
+      let stands = here.enters.at.stands in
+      let waiting = here.enters.ready.in_range.waiting in
+      let is = here.is in
+      let flows : Flows core places.frames (λ word. false) i (suc i) = here.fits.goes_on true in
+      let load : Instruction × Reached = (load_value 5 d, LocalAt (frame_end n - d)) in
+      let store : Instruction × Reached = (Sw 22 5 (at_private w), LocalAt (8 + w)) in
+      let h1 = after told load.0 load.1 h in
+      let h2 = after told store.0 store.1 h1 in
+      let new : Owner = owner_of (local_doing core image places setting i op (Set (OfFile w)) p) in
+      let found = ap (put h.local (8 + w)) (sym (top_at (Set (OfFile w)) here is.0)) in
+      code_does core image places bound i op (Set (OfFile w)) setting t p h (load ∷ store ∷ []) here.at here.enters here.block (omega arith) (omega arith)
+      record { kind = refl; onward = refl }
+      (reaches (Set (OfFile w)) d here is.0 is.1, (own_place (h.registers 22) w stands.local is.2, tt))
+      (stands_after (Set (OfFile w)) h2 new here (itself h) refl refl refl
+      (subst (λ m. InMemory places m new) found
+      (own_written core places h.local p i (suc i) w (last vs) d here.few waiting here.enters.index here.fits.room (omega arith) here.fits.place flows
+      (in_memory places p h stands))))
+
+  -- each of them
+  pub block_does : (operation : Operation) → Here operation → Does core image places setting t p h
+  block_does (Push number) here = push_does number here
+  block_does (Get known) here = get_does known here
+  block_does (Set variable) here = set_does variable here
+  block_does DropLast here = drop_does here
+  block_does CopyLast here = copy_does here
+  block_does (Apply sign) here = apply_does sign here
+  block_does (Join sign turned) here = join_does sign turned here
+  block_does (Index size) here = index_does size here
+  block_does operation here = let is = here.is in absurd (assumption is)
+
+pub expressions_do : ExpressionsDo
+expressions_do core image places bound i op operation at is block few fits setting t p h enters =
+    block_does core image places bound i op setting t p h operation
+    record { at = at; is = is; block = block; few = few; fits = fits; enters = enters }

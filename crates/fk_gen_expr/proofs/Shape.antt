@@ -1,0 +1,62 @@
+-- The shape of the blocks: few lines, none of which goes to a label.
+use Rattle.std.proofs.Common.{◌≡◌, ℕ, ◌-◌, ◌≤◌, List, [], ◌∷◌, ◌++◌, map, length, true, false, All, arith, refl}
+use Rattle.std.proofs.lemmas.List.{length-append, length-map}
+use Rattle.std.proofs.lemmas.List.Elements.{All-nil, All-cons}
+use Rattle.fk_operation.specs.declared.operation.Known.TheVariants.{Value, Rank, GroupNumber, ProcessorNumber, Processors, GroupSize, InputLength, FrameAddress, InputAddress}
+use Rattle.fk_operation.specs.declared.operation.Operation.{Operation}
+use Rattle.fk_operation.specs.declared.operation.Operation.TheVariants.{Push, Get, Set, DropLast, CopyLast, Apply, Join, Index}
+use Rattle.fk_isa.specs.declared.instruction.Instruction.{Instruction}
+use Rattle.fk_asm.proofs.Straight.{IsUnlabeled}
+use Rattle.fk_gen.specs.Lines.{quiet, commits}
+use Rattle.fk_gen.specs.Registers.{t0, t1}
+use Rattle.fk_gen_expr.specs.Operators.{operator_code}
+use Rattle.fk_gen_expr.specs.Expressions.{IsExpression, expression_block, expression_code, first_commits, load_value, store_value}
+use Rattle.fk_gen_expr.proofs.Operators.{few_of_operator}
+
+quiet_unlabeled : (is : List Instruction) → All IsUnlabeled (map quiet is)
+quiet_unlabeled [] = All-nil IsUnlabeled
+quiet_unlabeled (i ∷ is) = All-cons IsUnlabeled (quiet i) (map quiet is) refl (quiet_unlabeled is)
+
+first_unlabeled : (is : List Instruction) → All IsUnlabeled (first_commits is)
+first_unlabeled [] = All-nil IsUnlabeled
+first_unlabeled (i ∷ is) = All-cons IsUnlabeled (commits i) (map quiet is) refl (quiet_unlabeled is)
+
+pub block_unlabeled : (globals d : ℕ) (operation : Operation) → All IsUnlabeled (expression_block globals d operation)
+block_unlabeled globals d operation = first_unlabeled (expression_code globals d operation)
+
+-- the code of an operation has 1 to 8 instructions
+pub record IsShortCode (count : ℕ) : Type 0 where
+  pub some : 1 ≤ count
+  pub few : count ≤ 8
+
+length_first : (is : List Instruction) → length (first_commits is) ≡ length is
+length_first [] = refl
+length_first (i ∷ is) = let e = length-map is quiet in omega arith
+
+-- what two loads, an operator and a store come to
+joined_few : (is : List Instruction) (a b s : Instruction) → 1 ≤ length is → length is ≤ 5
+    → IsShortCode (length (first_commits (a ∷ b ∷ (is ++ s ∷ []))))
+joined_few is a b s some few =
+    let e = length_first (a ∷ b ∷ (is ++ s ∷ [])) in
+    let f = length-append is (s ∷ []) in
+    record { some = omega arith; few = omega arith }
+
+pub block_short : (globals d : ℕ) (operation : Operation) → IsExpression globals d operation → IsShortCode (length (expression_block globals d operation))
+block_short globals d (Push n) is = record { some = omega arith; few = omega arith }
+block_short globals d (Get (Value variable)) is = record { some = omega arith; few = omega arith }
+block_short globals d (Get Rank) is = record { some = omega arith; few = omega arith }
+block_short globals d (Get GroupNumber) is = record { some = omega arith; few = omega arith }
+block_short globals d (Get GroupSize) is = record { some = omega arith; few = omega arith }
+block_short globals d (Get ProcessorNumber) is = record { some = omega arith; few = omega arith }
+block_short globals d (Get Processors) is = record { some = omega arith; few = omega arith }
+block_short globals d (Get InputLength) is = record { some = omega arith; few = omega arith }
+block_short globals d (Get InputAddress) is = record { some = omega arith; few = omega arith }
+block_short globals d (Get (FrameAddress nesting word)) is = absurd is.1
+block_short globals d (Set variable) is = record { some = omega arith; few = omega arith }
+block_short globals d DropLast is = record { some = omega arith; few = omega arith }
+block_short globals d CopyLast is = record { some = omega arith; few = omega arith }
+block_short globals d (Apply sign) is = record { some = omega arith; few = omega arith }
+block_short globals d (Join sign false) is = joined_few (operator_code sign) (load_value t0 (d - 1)) (load_value t1 d) (store_value t0 (d - 1)) (omega arith) (few_of_operator sign)
+block_short globals d (Join sign true) is = joined_few (operator_code sign) (load_value t1 (d - 1)) (load_value t0 d) (store_value t0 (d - 1)) (omega arith) (few_of_operator sign)
+block_short globals d (Index size) is = record { some = omega arith; few = omega arith }
+block_short globals d operation is = absurd (assumption is)

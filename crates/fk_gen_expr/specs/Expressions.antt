@@ -1,0 +1,133 @@
+-- The blocks of expressions.
+--
+-- The first instruction commits: a processor does a local operation at once, and its hart catches up with it.
+use Rattle.std.specs.Prelude.{ℕ, ◌+◌, ◌-◌, ◌^◌, ◌<◌, ◌≤◌, List, [], ◌∷◌, ◌++◌, map, true, false, IsSomeAnd}
+use Rattle.std.specs.Option.{option_map_or}
+use Rattle.fk_num.specs.declared.operator.Op.{Op}
+use Rattle.fk_operation.specs.declared.operation.Known.{Known}
+use Rattle.fk_operation.specs.declared.operation.Known.TheVariants.{Value, Rank, GroupNumber, ProcessorNumber, Processors, GroupSize, InputLength, FrameAddress, InputAddress}
+use Rattle.fk_operation.specs.declared.operation.Operation.{Operation}
+use Rattle.fk_operation.specs.declared.operation.Operation.TheVariants.{Push, Get, Set, DropLast, CopyLast, Apply, Join, Index}
+use Rattle.fk_operation.specs.declared.operation.Variable.{Variable}
+use Rattle.fk_operation.specs.declared.operation.Variable.TheVariants.{Private, OfFile}
+use Rattle.fk_store.specs.Store.{address_of}
+use Rattle.fk_core.specs.Numbers.{operation_of}
+use Rattle.fk_isa.specs.declared.instruction.Instruction.{Instruction}
+use Rattle.fk_isa.specs.declared.instruction.Instruction.TheVariants.{Lui, Addi, Add, Mul, Lw, Sw}
+use Rattle.fk_asm.specs.Block.{MarkedLine}
+use Rattle.fk_block_law.specs.Stands.{frame_register, end_register, number_register, rank_register, size_register, local_register}
+use Rattle.fk_gen.specs.declared.placed.Placed.{Placed}
+use Rattle.fk_gen.specs.Registers.{zero_register, t0, t1, t2}
+use Rattle.fk_gen.specs.Lines.{quiet, commits, at_value, at_private, high_part, low_part}
+use Rattle.fk_gen_expr.specs.Operators.{operator_code, sign_instruction}
+
+-- ---- instructions
+
+-- the k-th value of the call, from 1 on, comes to a register, and a register becomes it
+abbrev pub load_value : (register k : ℕ) → Instruction
+load_value register k = Lw register end_register (at_value k)
+
+abbrev pub store_value : (register k : ℕ) → Instruction
+store_value register k = Sw end_register register (at_value k)
+
+-- the register from whose address on a variable stands, and its place from there
+abbrev pub base_of : Variable → ℕ
+base_of (Private i) = frame_register
+base_of (OfFile i) = local_register
+
+abbrev pub place_of : Variable → ℕ
+place_of (Private i) = i
+place_of (OfFile i) = i
+
+abbrev pub load_variable : Variable → Instruction
+load_variable variable = Lw t0 (base_of variable) (at_private (place_of variable))
+
+abbrev pub store_variable : Variable → Instruction
+store_variable variable = Sw (base_of variable) t0 (at_private (place_of variable))
+
+-- a number
+abbrev pub load_number : (register n : ℕ) → List Instruction
+load_number register n = Lui register (high_part n) ∷ Addi register register (low_part n) ∷ []
+
+-- ---- the code of each operation, where the call has so many values
+
+-- the word of a device, by its offset from the first
+abbrev pub push_device : (depth offset : ℕ) → List Instruction
+push_device d offset = Lui t0 0x30000 ∷ Lw t0 t0 offset ∷ store_value t0 (d + 1) ∷ []
+
+abbrev pub push_number : (depth n : ℕ) → List Instruction
+push_number d n = load_number t0 n ++ store_value t0 (d + 1) ∷ []
+
+abbrev pub get_code : (globals depth : ℕ) → Known → List Instruction
+get_code globals d (Value variable) = load_variable variable ∷ store_value t0 (d + 1) ∷ []
+get_code globals d Rank = store_value rank_register (d + 1) ∷ []
+get_code globals d GroupNumber = store_value number_register (d + 1) ∷ []
+get_code globals d GroupSize = store_value size_register (d + 1) ∷ []
+get_code globals d ProcessorNumber = push_device d 20
+get_code globals d Processors = push_device d 24
+get_code globals d InputLength = push_device d 28
+get_code globals d InputAddress = push_number d (address_of globals)
+get_code globals d (FrameAddress nesting word) = []
+
+-- an operator on the two last values, which come to these registers
+abbrev pub join_code : (depth : ℕ) → Op → (first second : ℕ) → List Instruction
+join_code d sign first second =
+    load_value first (d - 1) ∷ load_value second d ∷ (operator_code sign ++ store_value t0 (d - 1) ∷ [])
+
+-- an index times the size of an element, added to an address
+abbrev pub index_code : (depth size : ℕ) → List Instruction
+index_code d size =
+    load_value t0 (d - 1) ∷ load_value t1 d
+    ∷ (load_number t2 size ++ Mul t1 t1 t2 ∷ Add t0 t0 t1 ∷ store_value t0 (d - 1) ∷ [])
+
+abbrev pub expression_code : (globals depth : ℕ) → Operation → List Instruction
+expression_code globals d (Push n) = push_number d n
+expression_code globals d (Get known) = get_code globals d known
+expression_code globals d (Set variable) = load_value t0 d ∷ store_variable variable ∷ []
+expression_code globals d DropLast = Addi zero_register zero_register 0 ∷ []
+expression_code globals d CopyLast = load_value t0 d ∷ store_value t0 (d + 1) ∷ []
+expression_code globals d (Apply sign) = load_value t0 d ∷ sign_instruction sign ∷ store_value t0 d ∷ []
+expression_code globals d (Join sign false) = join_code d sign t0 t1
+expression_code globals d (Join sign true) = join_code d sign t1 t0
+expression_code globals d (Index size) = index_code d size
+expression_code globals d operation = []
+
+-- ---- blocks
+
+abbrev pub first_commits : List Instruction → List MarkedLine
+first_commits [] = []
+first_commits (i ∷ is) = commits i ∷ map quiet is
+
+abbrev pub expression_block : (globals depth : ℕ) → Operation → List MarkedLine
+expression_block globals d operation = first_commits (expression_code globals d operation)
+
+-- variables that instructions reach: words of a frame
+abbrev pub IsReached : Variable → Type 0
+IsReached variable = place_of variable < 64
+
+abbrev pub IsKnown : Known → (globals : ℕ) → Type 0
+IsKnown (Value variable) globals = IsReached variable
+IsKnown (FrameAddress nesting word) globals = ⊥
+IsKnown InputAddress globals = globals ≤ 2 ^ 20
+IsKnown known globals = Unit {0}
+
+-- the operations of expressions, with the values that they take
+abbrev pub IsExpression : (globals depth : ℕ) → Operation → Type 0
+IsExpression globals d (Push n) = d < 64
+IsExpression globals d (Get known) = (d < 64) × IsKnown known globals
+IsExpression globals d (Set variable) = (1 ≤ d) × (d ≤ 64) × IsReached variable
+IsExpression globals d DropLast = Unit {0}
+IsExpression globals d CopyLast = (1 ≤ d) × (d < 64)
+IsExpression globals d (Apply sign) = (1 ≤ d) × (d ≤ 64)
+IsExpression globals d (Join sign turned) = (2 ≤ d) × (d ≤ 64)
+IsExpression globals d (Index size) = (2 ≤ d) × (d ≤ 64) × (size < 2 ^ 32)
+IsExpression globals d operation = ⊥
+
+-- what a list has at an index of an image
+abbrev pub HasExpression : Placed → Type 0
+HasExpression placed =
+    IsSomeAnd (operation_of placed.op.kind placed.op.number) (IsExpression placed.globals placed.op.depth)
+
+abbrev pub block_of : Placed → List MarkedLine
+block_of placed =
+    option_map_or (expression_block placed.globals placed.op.depth) (operation_of placed.op.kind placed.op.number) []

@@ -1,0 +1,22 @@
+-- The law of expressions.
+use Rattle.std.specs.Prelude.{ℕ, ◌≤◌, List, length}
+use Rattle.fk_operation.specs.declared.operation.Operation.{Operation}
+use Rattle.fk_core.specs.declared.op.CoreOp.{CoreOp}
+use Rattle.fk_image.specs.declared.Image.{Image}
+use Rattle.fk_block_law.specs.Stands.{Places}
+use Rattle.fk_block_law.specs.Next.{StandsOp}
+use Rattle.fk_block_law.specs.Suits.{Fits}
+use Rattle.fk_block_law.specs.Block.{BlockDoes}
+use Rattle.fk_gen.specs.InPlace.{HasBlock}
+use Rattle.fk_gen_expr.specs.Expressions.{IsExpression, expression_block}
+
+-- where the block of an operation of expressions is in its place, and frames suit the operation, it does the operation
+abbrev pub ExpressionsDo : Type 0
+ExpressionsDo =
+    (core : List CoreOp) (image : Image) (places : Places) (bound : ℕ → ℕ) (i : ℕ) (op : CoreOp) (operation : Operation)
+    → StandsOp core i op operation
+    → IsExpression (length image.globals.items) op.depth operation
+    → HasBlock image bound places i (expression_block (length image.globals.items) op.depth operation)
+    → places.frames.of_file ≤ 56
+    → Fits core places.frames i op operation
+    → BlockDoes core image places i op operation

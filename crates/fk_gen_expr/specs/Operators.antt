@@ -1,0 +1,70 @@
+-- The code of signs and operators: the operands in t0 and t1, the result in t0.
+use Rattle.std.specs.Prelude.{List, [], ◌∷◌}
+use Rattle.fk_num.specs.declared.operator.Op.{Op}
+use Rattle.fk_num.specs.declared.operator.Op.TheVariants as op
+use Rattle.fk_operation.specs.declared.operation.Unary.{Unary}
+use Rattle.fk_operation.specs.declared.operation.Unary.TheVariants.{Negate, Complement, Not}
+use Rattle.fk_isa.specs.declared.instruction.Instruction.{Instruction}
+use Rattle.fk_isa.specs.declared.instruction.Instruction.TheVariants.{Xori, Sltiu, Add, Sub, Sll, Slt, Sltu, Xor, Srl, Sra, Or, And, Mul, Mulh, Mulhsu, Mulhu, Div, Divu, Rem, Remu}
+use Rattle.fk_gen.specs.Registers.{zero_register, t0, t1, t2}
+
+-- a sign on the word in t0
+abbrev pub sign_instruction : Unary → Instruction
+sign_instruction Negate = Sub t0 zero_register t0
+sign_instruction Complement = Xori t0 t0 0xffffffff
+sign_instruction Not = Sltiu t0 t0 1
+
+-- The first instruction of an operator, and of most the only one. An order that isn't strict is first a strict one, with its
+-- operands turned round; what compares for equality is first a difference; a least or greatest word is first a test, in t2
+abbrev pub first_instruction : Op → Instruction
+first_instruction op.Add = Add t0 t0 t1
+first_instruction op.Sub = Sub t0 t0 t1
+first_instruction op.Mul = Mul t0 t0 t1
+first_instruction op.MulHS = Mulh t0 t0 t1
+first_instruction op.MulHSU = Mulhsu t0 t0 t1
+first_instruction op.MulHU = Mulhu t0 t0 t1
+first_instruction op.DivS = Div t0 t0 t1
+first_instruction op.DivU = Divu t0 t0 t1
+first_instruction op.RemS = Rem t0 t0 t1
+first_instruction op.RemU = Remu t0 t0 t1
+first_instruction op.And = And t0 t0 t1
+first_instruction op.Or = Or t0 t0 t1
+first_instruction op.Xor = Xor t0 t0 t1
+first_instruction op.Shl = Sll t0 t0 t1
+first_instruction op.ShrS = Sra t0 t0 t1
+first_instruction op.ShrU = Srl t0 t0 t1
+first_instruction op.LtS = Slt t0 t0 t1
+first_instruction op.LtU = Sltu t0 t0 t1
+first_instruction op.LeS = Slt t0 t1 t0
+first_instruction op.LeU = Sltu t0 t1 t0
+first_instruction op.Eq = Sub t0 t0 t1
+first_instruction op.Ne = Sub t0 t0 t1
+first_instruction op.MinS = Slt t2 t1 t0
+first_instruction op.MaxS = Slt t2 t1 t0
+first_instruction op.MinU = Sltu t2 t1 t0
+first_instruction op.MaxU = Sltu t2 t1 t0
+
+-- a test in t2, 1 or 0, becomes a mask of ones or of zeros
+abbrev pub mask : Instruction
+mask = Sub t2 zero_register t2
+
+-- where the mask is ones t0 stays, else t1 takes its place; and the other way round
+abbrev pub keep_first : List Instruction
+keep_first = mask ∷ Sub t0 t0 t1 ∷ And t0 t0 t2 ∷ Add t0 t0 t1 ∷ []
+
+abbrev pub take_second : List Instruction
+take_second = mask ∷ Sub t1 t1 t0 ∷ And t1 t1 t2 ∷ Add t0 t1 t0 ∷ []
+
+abbrev pub other_instructions : Op → List Instruction
+other_instructions op.LeS = Xori t0 t0 1 ∷ []
+other_instructions op.LeU = Xori t0 t0 1 ∷ []
+other_instructions op.Eq = Sltiu t0 t0 1 ∷ []
+other_instructions op.Ne = Sltu t0 zero_register t0 ∷ []
+other_instructions op.MinS = take_second
+other_instructions op.MaxS = keep_first
+other_instructions op.MinU = take_second
+other_instructions op.MaxU = keep_first
+other_instructions o = []
+
+abbrev pub operator_code : Op → List Instruction
+operator_code o = first_instruction o ∷ other_instructions o

@@ -1,0 +1,326 @@
+//! The lines of the blocks.
+
+ghost use Rattle.std.specs.Prelude.{◌≡◌, ◌+◌, ◌^◌, ◌<◌, ◌≤◌, [], ◌∷◌, OnOk, OnErr, length};
+ghost use Rattle.fk_isa.specs.Fits.{Fits, IsRegister};
+ghost use Rattle.fk_asm.specs.Assembly.{AreFollowed};
+ghost use Rattle.fk_asm.specs.Block.{HasBegun, with_block};
+ghost use Rattle.fk_gen_expr.specs.Operators as operators;
+ghost use Rattle.fk_gen_expr.specs.Expressions as code;
+
+use fk_asm::{Assembler, Blocks};
+use fk_gen::numbers::{at_private, at_value, high_part, low_part};
+use fk_gen::registers::{END, FRAME, LOCAL, NUMBER, RANK, SIZE, T0, T1, T2, ZERO};
+use fk_gen::{BlockLine, Placed, emit_lines};
+use fk_isa::Instruction;
+use fk_num::Op;
+use fk_operation::{Known, Operation, Unary, Variable};
+use std::alloc::AllocError;
+
+/// The upper 20 bits of the addresses of devices.
+const DEVICES: u32 = 0x30000;
+/// How far from there on the devices stand that tell a hart its number, how many harts there are, and how
+/// many input numbers.
+const HART_NUMBER: u32 = 20;
+
+const HARTS: u32 = 24;
+
+const INPUTS: u32 = 28;
+
+/// The blocks of expressions.
+#[derive(Clone, Copy, Drop)]
+pub struct ExpressionBlocks;
+
+impl Blocks<Placed> for ExpressionBlocks {
+    ghost use Rattle.fk_gen_expr.specs.Expressions.{HasExpression, block_of};
+
+    ghost has_block = { HasExpression };
+
+    ghost block = { block_of };
+
+    fn emit_op(&self, op: &Placed, into: &mut Assembler) -> Result<(), AllocError> {
+        match op.op.operation() {
+            Some(operation) => emit_expression(into, op.globals, op.op.depth, operation),
+            None => Ok(()),
+        }
+    }
+}
+
+// The block of an operation of expressions, where the call has so many values.
+fn emit_expression(
+    into: &mut Assembler,
+    globals: u32,
+    depth: u32,
+    operation: Operation,
+) -> Result<(), AllocError>
+    requires known { code.IsExpression globals depth operation }
+    requires room { length into.old.lines + length (code.expression_block globals depth operation) < 2 ^ 30 }
+    requires free { AreFollowed into.old }
+    ensures added { OnOk result (into.new ≡ with_block into.old (code.expression_block globals depth operation)) }
+    ensures begun { OnErr result (HasBegun (code.expression_block globals depth operation) into.old into.new) }
+{
+    match operation {
+        Operation::Push(number) => push_number(into, depth, number),
+        Operation::Get(known) => get(into, globals, depth, known),
+        Operation::Set(variable) => {
+            move_word(into, load_value(T0, depth), store_variable(variable))
+        }
+        Operation::DropLast => alone(into, Instruction::Addi(ZERO, ZERO, 0)),
+        Operation::CopyLast => {
+            move_word(into, load_value(T0, depth), store_value(T0, depth + 1))
+        }
+        Operation::Apply(sign) => apply(into, depth, sign),
+        Operation::Join(sign, false) => join(into, depth, sign, T0, T1),
+        Operation::Join(sign, true) => join(into, depth, sign, T1, T0),
+        Operation::Index(size) => index(into, depth, size),
+        _ => Ok(()),
+    }
+}
+
+fn push_number(into: &mut Assembler, depth: u32, number: u32) -> Result<(), AllocError>
+    requires depth { depth < 64 }
+    requires room { length into.old.lines + 3 < 2 ^ 30 }
+    requires free { AreFollowed into.old }
+    ensures added { OnOk result (into.new ≡ with_block into.old (code.first_commits (code.push_number depth number))) }
+    ensures begun { OnErr result (HasBegun (code.first_commits (code.push_number depth number)) into.old into.new) }
+{
+    emit_lines(
+        into,
+        &[
+            BlockLine::commits(Instruction::Lui(T0, high_part(number))),
+            BlockLine::quiet(Instruction::Addi(T0, T0, low_part(number))),
+            BlockLine::quiet(store_value(T0, depth + 1)),
+        ],
+    )
+}
+
+fn get(into: &mut Assembler, globals: u32, depth: u32, known: Known) -> Result<(), AllocError>
+    requires depth { depth < 64 }
+    requires known { code.IsKnown known globals }
+    requires room { length into.old.lines + length (code.first_commits (code.get_code globals depth known)) < 2 ^ 30 }
+    requires free { AreFollowed into.old }
+    ensures added { OnOk result (into.new ≡ with_block into.old (code.first_commits (code.get_code globals depth known))) }
+    ensures begun { OnErr result (HasBegun (code.first_commits (code.get_code globals depth known)) into.old into.new) }
+{
+    match known {
+        Known::Value(variable) => {
+            move_word(into, load_variable(variable), store_value(T0, depth + 1))
+        }
+        Known::Rank => alone(into, store_value(RANK, depth + 1)),
+        Known::GroupNumber => alone(into, store_value(NUMBER, depth + 1)),
+        Known::GroupSize => alone(into, store_value(SIZE, depth + 1)),
+        Known::ProcessorNumber => push_device(into, depth, HART_NUMBER),
+        Known::Processors => push_device(into, depth, HARTS),
+        Known::InputLength => push_device(into, depth, INPUTS),
+        Known::InputAddress => push_number(into, depth, 0x1000_0000 + 4 * globals),
+        Known::FrameAddress(_, _) => Ok(()),
+    }
+}
+
+// The block of one instruction.
+fn alone(into: &mut Assembler, instruction: Instruction) -> Result<(), AllocError>
+    requires fits { Fits instruction }
+    requires room { length into.old.lines + 1 < 2 ^ 30 }
+    requires free { AreFollowed into.old }
+    ensures added { OnOk result (into.new ≡ with_block into.old (code.first_commits (instruction ∷ []))) }
+    ensures begun { OnErr result (HasBegun (code.first_commits (instruction ∷ [])) into.old into.new) }
+{
+    emit_lines(into, &[BlockLine::commits(instruction)])
+}
+
+// The block of a load and a store.
+fn move_word(into: &mut Assembler, load: Instruction, store: Instruction) -> Result<(), AllocError>
+    requires load { Fits load }
+    requires store { Fits store }
+    requires room { length into.old.lines + 2 < 2 ^ 30 }
+    requires free { AreFollowed into.old }
+    ensures added { OnOk result (into.new ≡ with_block into.old (code.first_commits (load ∷ store ∷ []))) }
+    ensures begun { OnErr result (HasBegun (code.first_commits (load ∷ store ∷ [])) into.old into.new) }
+{
+    emit_lines(into, &[BlockLine::commits(load), BlockLine::quiet(store)])
+}
+
+fn push_device(into: &mut Assembler, depth: u32, offset: u32) -> Result<(), AllocError>
+    requires depth { depth < 64 }
+    requires offset { offset ≤ 28 }
+    requires room { length into.old.lines + 3 < 2 ^ 30 }
+    requires free { AreFollowed into.old }
+    ensures added { OnOk result (into.new ≡ with_block into.old (code.first_commits (code.push_device depth offset))) }
+    ensures begun { OnErr result (HasBegun (code.first_commits (code.push_device depth offset)) into.old into.new) }
+{
+    emit_lines(
+        into,
+        &[
+            BlockLine::commits(Instruction::Lui(T0, DEVICES)),
+            BlockLine::quiet(Instruction::Lw(T0, T0, offset)),
+            BlockLine::quiet(store_value(T0, depth + 1)),
+        ],
+    )
+}
+
+fn index(into: &mut Assembler, depth: u32, size: u32) -> Result<(), AllocError>
+    requires two { 2 ≤ depth }
+    requires depth { depth ≤ 64 }
+    requires room { length into.old.lines + 7 < 2 ^ 30 }
+    requires free { AreFollowed into.old }
+    ensures added { OnOk result (into.new ≡ with_block into.old (code.first_commits (code.index_code depth size))) }
+    ensures begun { OnErr result (HasBegun (code.first_commits (code.index_code depth size)) into.old into.new) }
+{
+    emit_lines(
+        into,
+        &[
+            BlockLine::commits(load_value(T0, depth - 1)),
+            BlockLine::quiet(load_value(T1, depth)),
+            BlockLine::quiet(Instruction::Lui(T2, high_part(size))),
+            BlockLine::quiet(Instruction::Addi(T2, T2, low_part(size))),
+            BlockLine::quiet(Instruction::Mul(T1, T1, T2)),
+            BlockLine::quiet(Instruction::Add(T0, T0, T1)),
+            BlockLine::quiet(store_value(T0, depth - 1)),
+        ],
+    )
+}
+
+fn apply(into: &mut Assembler, depth: u32, sign: Unary) -> Result<(), AllocError>
+    requires depth { depth ≤ 64 }
+    requires room { length into.old.lines + 3 < 2 ^ 30 }
+    requires free { AreFollowed into.old }
+    ensures added { OnOk result (into.new ≡ with_block into.old (code.first_commits (code.load_value T0 depth ∷ operators.sign_instruction sign ∷ code.store_value T0 depth ∷ []))) }
+    ensures begun { OnErr result (HasBegun (code.first_commits (code.load_value T0 depth ∷ operators.sign_instruction sign ∷ code.store_value T0 depth ∷ [])) into.old into.new) }
+{
+    emit_lines(
+        into,
+        &[
+            BlockLine::commits(load_value(T0, depth)),
+            BlockLine::quiet(sign_instruction(sign)),
+            BlockLine::quiet(store_value(T0, depth)),
+        ],
+    )
+}
+
+// A sign on the word in t0.
+fn sign_instruction(sign: Unary) -> Instruction
+    ensures exact { result ≡ operators.sign_instruction sign }
+    ensures fits { Fits result }
+{
+    match sign {
+        Unary::Negate => Instruction::Sub(T0, ZERO, T0),
+        Unary::Complement => Instruction::Xori(T0, T0, 0xffff_ffff),
+        Unary::Not => Instruction::Sltiu(T0, T0, 1),
+    }
+}
+
+// An operator on the two last values, which come to these registers.
+fn join(into: &mut Assembler, depth: u32, sign: Op, first: u8, second: u8) -> Result<(), AllocError>
+    requires two { 2 ≤ depth }
+    requires depth { depth ≤ 64 }
+    requires first { IsRegister first }
+    requires second { IsRegister second }
+    requires room { length into.old.lines + length (code.first_commits (code.join_code depth sign first second)) < 2 ^ 30 }
+    requires free { AreFollowed into.old }
+    ensures added { OnOk result (into.new ≡ with_block into.old (code.first_commits (code.join_code depth sign first second))) }
+    ensures begun { OnErr result (HasBegun (code.first_commits (code.join_code depth sign first second)) into.old into.new) }
+{
+    let a = BlockLine::commits(load_value(first, depth - 1));
+    let b = BlockLine::quiet(load_value(second, depth));
+    let begin = BlockLine::quiet(first_instruction(sign));
+    let store = BlockLine::quiet(store_value(T0, depth - 1));
+    let mask = BlockLine::quiet(Instruction::Sub(T2, ZERO, T2));
+    match sign {
+        Op::LeS | Op::LeU => {
+            let flip = BlockLine::quiet(Instruction::Xori(T0, T0, 1));
+            emit_lines(into, &[a, b, begin, flip, store])
+        }
+        Op::Eq => {
+            let is_zero = BlockLine::quiet(Instruction::Sltiu(T0, T0, 1));
+            emit_lines(into, &[a, b, begin, is_zero, store])
+        }
+        Op::Ne => {
+            let is_other = BlockLine::quiet(Instruction::Sltu(T0, ZERO, T0));
+            emit_lines(into, &[a, b, begin, is_other, store])
+        }
+        Op::MinS | Op::MinU => {
+            let gap = BlockLine::quiet(Instruction::Sub(T1, T1, T0));
+            let masked = BlockLine::quiet(Instruction::And(T1, T1, T2));
+            let sum = BlockLine::quiet(Instruction::Add(T0, T1, T0));
+            emit_lines(into, &[a, b, begin, mask, gap, masked, sum, store])
+        }
+        Op::MaxS | Op::MaxU => {
+            let gap = BlockLine::quiet(Instruction::Sub(T0, T0, T1));
+            let masked = BlockLine::quiet(Instruction::And(T0, T0, T2));
+            let sum = BlockLine::quiet(Instruction::Add(T0, T0, T1));
+            emit_lines(into, &[a, b, begin, mask, gap, masked, sum, store])
+        }
+        _ => emit_lines(into, &[a, b, begin, store]),
+    }
+}
+
+// The first instruction of an operator on the words in t0 and t1.
+fn first_instruction(sign: Op) -> Instruction
+    ensures exact { result ≡ operators.first_instruction sign }
+    ensures fits { Fits result }
+{
+    match sign {
+        Op::Add => Instruction::Add(T0, T0, T1),
+        Op::Sub | Op::Eq | Op::Ne => Instruction::Sub(T0, T0, T1),
+        Op::Mul => Instruction::Mul(T0, T0, T1),
+        Op::MulHS => Instruction::Mulh(T0, T0, T1),
+        Op::MulHSU => Instruction::Mulhsu(T0, T0, T1),
+        Op::MulHU => Instruction::Mulhu(T0, T0, T1),
+        Op::DivS => Instruction::Div(T0, T0, T1),
+        Op::DivU => Instruction::Divu(T0, T0, T1),
+        Op::RemS => Instruction::Rem(T0, T0, T1),
+        Op::RemU => Instruction::Remu(T0, T0, T1),
+        Op::And => Instruction::And(T0, T0, T1),
+        Op::Or => Instruction::Or(T0, T0, T1),
+        Op::Xor => Instruction::Xor(T0, T0, T1),
+        Op::Shl => Instruction::Sll(T0, T0, T1),
+        Op::ShrS => Instruction::Sra(T0, T0, T1),
+        Op::ShrU => Instruction::Srl(T0, T0, T1),
+        Op::LtS => Instruction::Slt(T0, T0, T1),
+        Op::LtU => Instruction::Sltu(T0, T0, T1),
+        Op::LeS => Instruction::Slt(T0, T1, T0),
+        Op::LeU => Instruction::Sltu(T0, T1, T0),
+        Op::MinS | Op::MaxS => Instruction::Slt(T2, T1, T0),
+        Op::MinU | Op::MaxU => Instruction::Sltu(T2, T1, T0),
+    }
+}
+
+// The k-th value of the call into a register.
+fn load_value(register: u8, k: u32) -> Instruction
+    requires register { IsRegister register }
+    requires k { k ≤ 64 }
+    ensures exact { result ≡ code.load_value register k }
+    ensures fits { Fits result }
+{
+    Instruction::Lw(register, END, at_value(k))
+}
+
+fn store_value(register: u8, k: u32) -> Instruction
+    requires register { IsRegister register }
+    requires k { k ≤ 64 }
+    ensures exact { result ≡ code.store_value register k }
+    ensures fits { Fits result }
+{
+    Instruction::Sw(END, register, at_value(k))
+}
+
+fn load_variable(variable: Variable) -> Instruction
+    requires { code.IsReached variable }
+    ensures exact { result ≡ code.load_variable variable }
+    ensures fits { Fits result }
+{
+    match variable {
+        Variable::Private(place) => Instruction::Lw(T0, FRAME, at_private(place)),
+        Variable::OfFile(place) => Instruction::Lw(T0, LOCAL, at_private(place)),
+    }
+}
+
+fn store_variable(variable: Variable) -> Instruction
+    requires { code.IsReached variable }
+    ensures exact { result ≡ code.store_variable variable }
+    ensures fits { Fits result }
+{
+    match variable {
+        Variable::Private(place) => Instruction::Sw(FRAME, T0, at_private(place)),
+        Variable::OfFile(place) => Instruction::Sw(LOCAL, T0, at_private(place)),
+    }
+}
