@@ -1,0 +1,98 @@
+-- What stands in frames stays where only the last values change, the private heap, and words that nobody needs.
+use Rattle.std.proofs.Common.{◌≡◌, ℕ, zero, suc, ◌+◌, ◌-◌, ◌<◌, ◌≤◌, List, [], ◌∷◌, length, true, ap, subst, ◌∙◌, arith, refl}
+use Rattle.std.specs.Prelude.{◌==◌}
+use Rattle.fk_num.specs.Word.{Memory, put}
+use Rattle.fk_run.specs.Processor.{Call}
+use Rattle.fk_core.specs.declared.op.CoreOp.{CoreOp}
+use Rattle.fk_core.specs.Next.{position}
+use Rattle.fk_machine.specs.Hart.{Hart}
+use Rattle.fk_block_law.specs.Owner.{Owner}
+use Rattle.fk_block_law.specs.Stands.{Places, HasValues, HasFrame, HasRoom, HasWaiting, StandsFor, frame_end, frame_start, ahead, frame_register, end_register, number_register, rank_register, size_register, top_register, local_register, shared_register, heap_register}
+use Rattle.fk_block_law.specs.Suits.{Flows, nothing}
+use Rattle.fk_gen.proofs.Values.{other_word}
+use Rattle.fk_gen.proofs.Standing.{lies_in, waiting_kept}
+
+-- a memory is as it was from word 8 on below another
+pub record SameBelow (bound : ℕ) (m m' : Memory) : Type 0 where
+  pub same : (j : ℕ) → 8 ≤ j → j < bound → m' j ≡ m j
+
+-- words that are put from a word on leave those below it
+pub below_put : (m : Memory) (bound k v : ℕ) → bound ≤ k → SameBelow bound m (put m k v)
+below_put m bound k v le = record { same = λ j from lt. other_word m k v j (λ e. omega arith) }
+
+module _ (places : Places) where
+  -- the variables of file scope have room in the frame of `main`
+  file_room : (n i : ℕ) (call : Call) (m : Memory) (values : ℕ) → n ≡ 0 → HasFrame places m n i call → HasRoom places.frames i values
+      → places.frames.of_file ≤ 56
+  file_room n i call m values e frame room =
+      let main : places.frames.is_main i ≡ true = frame.home ∙ ap (λ k. k == 0) e in
+      let header = subst (λ b. ahead places.frames b + 8 + values ≤ 64) main room.header in
+      omega arith
+
+  file_waiting : (m : Memory) (backs : List ℕ) (calls : List Call) → 0 < length calls → HasWaiting places m backs calls → places.frames.of_file ≤ 56
+  file_waiting m [] [] some held = absurd (omega arith)
+  file_waiting m (i ∷ backs) (c ∷ []) some held = file_room 0 i c m (suc (length c.values)) refl held.1 held.0.room
+  file_waiting m (i ∷ backs) (c ∷ d ∷ calls) some held = file_waiting m backs (d ∷ calls) (omega arith) held.2
+  file_waiting m backs calls some held = absurd (assumption held)
+
+  file_few : (n i d : ℕ) (m : Memory) (call : Call) (backs : List ℕ) (calls : List Call) → n ≡ length calls → HasFrame places m n i call
+      → HasRoom places.frames i d → HasWaiting places m backs calls → places.frames.of_file ≤ 56
+  file_few zero i d m call backs calls e frame room waiting = file_room 0 i call m d refl frame room
+  file_few (suc n) i d m call backs calls e frame room waiting = file_waiting m backs calls (omega arith) waiting
+
+  -- the registers that a block leaves alone, but that of the top of the heap
+  pub record SameRegisters (h h' : Hart) : Type 0 where
+    pub nought : h'.registers 0 ≡ h.registers 0
+    pub frame : h'.registers frame_register ≡ h.registers frame_register
+    pub behind : h'.registers end_register ≡ h.registers end_register
+    pub number : h'.registers number_register ≡ h.registers number_register
+    pub rank : h'.registers rank_register ≡ h.registers rank_register
+    pub size : h'.registers size_register ≡ h.registers size_register
+    pub local : h'.registers local_register ≡ h.registers local_register
+    pub shared_data : h'.registers shared_register ≡ h.registers shared_register
+    pub private_heap : h'.registers heap_register ≡ h.registers heap_register
+
+  -- a processor that has gone on to an index, with other values, another private heap and another top of it
+  abbrev pub went : Owner → (index : ℕ) → (values : List ℕ) → (heap : Memory) → (top : ℕ) → Owner
+  went p j vs heap top = record {
+    runner = record { left = position j p.runner.left.callers; has = record (p.runner.has) { call = record (p.runner.has.call) { values = vs }; top = top } };
+    heap = heap;
+  }
+
+  pub stands_on : (p : Owner) (i j d top : ℕ) (vs : List ℕ) (heap : Memory) (h h' : Hart) → StandsFor places p h → p.runner.left.at ≡ i
+      → HasRoom places.frames i d → (core : List CoreOp) → Flows core places.frames nothing i j → SameRegisters h h'
+      → h'.registers top_register ≡ top → SameBelow (frame_end (length p.runner.has.callers) - d) h.local h'.local
+      → HasValues h'.local (frame_end (length p.runner.has.callers)) vs → ((k : ℕ) → k < 16384 → h'.local (16384 + k) ≡ heap k)
+      → StandsFor places (went p j vs heap top) h'
+  stands_on p i j d top vs heap h h' stands at room core flows same top' below values heap' =
+      let n = length p.runner.has.callers in
+      let frame = subst (λ k. HasFrame places h.local n k p.runner.has.call) at stands.running in
+      let few = file_few n i d h.local p.runner.has.call p.runner.left.callers p.runner.has.callers refl frame room stands.waiting in
+      let l = lies_in places n i d few frame.home room in
+      let start = l.start in
+      let low = l.values in
+      let short = l.few in
+      record {
+        nought = same.nought ∙ stands.nought;
+        frame = same.frame ∙ stands.frame;
+        behind = same.behind ∙ stands.behind;
+        number = same.number ∙ stands.number;
+        rank = same.rank ∙ stands.rank;
+        size = same.size ∙ stands.size;
+        top = top';
+        local = same.local ∙ stands.local;
+        shared_data = same.shared_data ∙ stands.shared_data;
+        private_heap = same.private_heap ∙ stands.private_heap;
+        running = record {
+          home = flows.main ∙ frame.home;
+          values = values;
+          privates = λ word kept.
+              let kept' = flows.kept word kept refl in
+              let lt = l.kept word kept' in
+              below.same (frame_start places n + 8 + word) (omega arith) (omega arith) ∙ frame.privates word kept';
+        };
+        waiting = waiting_kept places h.local h'.local p.runner.left.callers p.runner.has.callers few
+            (λ k le lt. below.same k (omega arith) (omega arith)) stands.waiting;
+        own = λ k lt. below.same (8 + k) (omega arith) (omega arith) ∙ stands.own k lt;
+        heap = heap';
+      }

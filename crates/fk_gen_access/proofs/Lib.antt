@@ -1,0 +1,15 @@
+pub mod Addresses
+pub mod Checked
+pub mod Takes
+pub mod Walk
+pub mod Does
+pub mod Kept
+pub mod Found
+pub mod Operands
+pub mod Prints
+pub mod Memory
+pub mod Accesses
+pub mod Refusals
+pub mod Mallocs
+pub mod Law
+pub mod Made

@@ -1,0 +1,156 @@
+-- The blocks of accesses: `malloc`, checks of addresses, reads, writes, multiprefixes and prints.
+use Rattle.std.specs.Prelude.{◌≡◌, ℕ, ◌-◌, ◌≤◌, List, [], ◌∷◌, ◌++◌, map, Bool, true, false, Option, Some}
+use Rattle.fk_operation.specs.declared.operation.Multiprefix.{Multiprefix}
+use Rattle.fk_operation.specs.declared.operation.Multiprefix.TheVariants.{MpAdd, MpMax, MpAnd, MpOr}
+use Rattle.fk_operation.specs.declared.operation.Operation.{Operation}
+use Rattle.fk_operation.specs.declared.operation.Operation.TheVariants.{Take, Check, Read, Write, Combine, PrintNumber, PrintByte}
+use Rattle.fk_isa.specs.declared.instruction.Instruction.{Instruction}
+use Rattle.fk_isa.specs.declared.instruction.Instruction.TheVariants.{Lui, Addi, Slli, Srli, Add, Sub, Sltu, Or, And, Mul, Lw, Sw, AmoAddW, AmoAndW, AmoOrW, AmoMaxW}
+use Rattle.fk_asm.specs.Block.{MarkedLine}
+use Rattle.fk_block_law.specs.Stands.{end_register, top_register, local_register, shared_register, heap_register}
+use Rattle.fk_core.specs.Numbers.{operation_of}
+use Rattle.fk_gen.specs.declared.placed.Placed.{Placed}
+use Rattle.fk_gen.specs.Registers.{zero_register, t0, t1, t2, t3}
+use Rattle.fk_gen.specs.Lines.{quiet, commits, at_value, high_part, low_part}
+
+-- a block runs straight: what precedes its commit, the commit, and what follows it
+pub record Straight : Type 0 where
+  pub before : List Instruction
+  pub commit : Instruction
+  pub behind : List Instruction
+
+abbrev pub lines : Straight → List MarkedLine
+lines b = map quiet b.before ++ (commits b.commit ∷ map quiet b.behind)
+
+-- where the devices stand, and from there on those that print a number, that print a byte, and that end a run at a site
+abbrev pub devices : ℕ
+devices = 0x30000
+
+abbrev pub number_device : ℕ
+number_device = 0
+
+abbrev pub byte_device : ℕ
+byte_device = 4
+
+abbrev pub fault_device : ℕ
+fault_device = 8
+
+-- the last value, or the one before it, of so many, into a register; and out of one
+abbrev pub load_last : (register depth : ℕ) → Instruction
+load_last r d = Lw r end_register (at_value d)
+
+abbrev pub load_earlier : (register depth : ℕ) → Instruction
+load_earlier r d = Lw r end_register (at_value (d - 1))
+
+abbrev pub store_last : (register depth : ℕ) → Instruction
+store_last r d = Sw end_register r (at_value d)
+
+abbrev pub store_earlier : (register depth : ℕ) → Instruction
+store_earlier r d = Sw end_register r (at_value (d - 1))
+
+-- prints the last value as a number, or its lowest byte
+abbrev pub print_block : (device depth : ℕ) → Straight
+print_block device d = record {
+  before = load_last t0 d ∷ Lui t1 devices ∷ [];
+  commit = Sw t1 t0 device;
+  behind = [];
+}
+
+-- the word at an address in place of it
+abbrev pub read_block : (depth : ℕ) → Straight
+read_block d = record {
+  before = load_last t0 d ∷ [];
+  commit = Lw t0 t0 0;
+  behind = store_last t0 d ∷ [];
+}
+
+-- a value to the word at the address before it; the value stays
+abbrev pub write_block : (depth : ℕ) → Straight
+write_block d = record {
+  before = load_earlier t0 d ∷ load_last t1 d ∷ [];
+  commit = Sw t0 t1 0;
+  behind = store_earlier t1 d ∷ [];
+}
+
+-- a value is combined with the word at the address before it, whose former word stays
+abbrev pub combining : Multiprefix → Instruction
+combining MpAdd = AmoAddW t0 t0 t1 false false
+combining MpMax = AmoMaxW t0 t0 t1 false false
+combining MpAnd = AmoAndW t0 t0 t1 false false
+combining MpOr = AmoOrW t0 t0 t1 false false
+
+abbrev pub combine_block : Multiprefix → (depth : ℕ) → Straight
+combine_block by d = record {
+  before = load_earlier t0 d ∷ load_last t1 d ∷ [];
+  commit = combining by;
+  behind = store_earlier t0 d ∷ [];
+}
+
+-- An address is turned right by two places, so that one that is no multiple of 4 becomes large. How far it then lies behind
+-- the first word of shared data, and behind that of the private heap, is less than their numbers of words exactly within
+-- them: so it is 0 when these numbers are shifted out. The product of both is 0 exactly where the address may be used
+abbrev pub turn : (depth : ℕ) → List Instruction
+turn d = load_last t0 d ∷ Srli t1 t0 2 ∷ Slli t0 t0 30 ∷ Or t0 t0 t1 ∷ []
+
+abbrev pub tests : (shared_alone : Bool) → List Instruction
+tests true = Sub t0 t0 shared_register ∷ Srli t0 t0 20 ∷ []
+tests false =
+    Sub t1 t0 shared_register ∷ Srli t1 t1 20 ∷ Sub t0 t0 heap_register ∷ Srli t0 t0 14 ∷ Mul t0 t0 t1 ∷ []
+
+-- the site goes to the device that ends the run at it; or, of an address that may be used, to a word of local memory that
+-- nobody needs
+abbrev pub choose : (site : ℕ) → List Instruction
+choose site =
+    Sltu t0 zero_register t0 ∷ Slli t0 t0 28 ∷ Add t0 t0 local_register ∷ Lui t1 (high_part site) ∷ Addi t1 t1 (low_part site) ∷ []
+
+abbrev pub check_block : (shared_alone : Bool) → (depth site : ℕ) → Straight
+check_block alone d site = record {
+  before = turn d ++ (tests alone ++ choose site);
+  commit = Sw t0 t1 fault_device;
+  behind = [];
+}
+
+-- how many words the private heap has, and its address, each by its upper 20 bits
+abbrev pub heap_words : ℕ
+heap_words = 4
+
+abbrev pub private_heap : ℕ
+private_heap = 0x20010
+
+-- `malloc`: the words of a size are taken where they are as many as are left, at most, and more than 0. A mask of all ones or
+-- zeros makes the answer and how many are taken 0 where they aren't
+abbrev pub take_block : (depth : ℕ) → Straight
+take_block d = record {
+  before = [];
+  commit = load_last t0 d;
+  behind =
+      Addi t0 t0 3 ∷ Srli t0 t0 2 ∷ Lui t1 heap_words ∷ Sub t1 t1 top_register ∷ Addi t2 t0 0xffffffff ∷ Sltu t2 t2 t1 ∷ Sub t2 zero_register t2 ∷
+      Slli t1 top_register 2 ∷ Lui t3 private_heap ∷ Add t1 t1 t3 ∷ And t1 t1 t2 ∷ store_last t1 d ∷ And t0 t0 t2 ∷ Add top_register top_register t0 ∷ [];
+}
+
+-- which operations are accesses
+abbrev pub is_access : Option Operation → Bool
+is_access (Some Take) = true
+is_access (Some (Check shared_alone)) = true
+is_access (Some Read) = true
+is_access (Some Write) = true
+is_access (Some (Combine by)) = true
+is_access (Some PrintNumber) = true
+is_access (Some PrintByte) = true
+is_access operation = false
+
+-- the block of an access that finds so many values, at a site
+abbrev pub block_of : Option Operation → (depth site : ℕ) → List MarkedLine
+block_of (Some Take) d site = lines (take_block d)
+block_of (Some (Check shared_alone)) d site = lines (check_block shared_alone d site)
+block_of (Some Read) d site = lines (read_block d)
+block_of (Some Write) d site = lines (write_block d)
+block_of (Some (Combine by)) d site = lines (combine_block by d)
+block_of (Some PrintNumber) d site = lines (print_block number_device d)
+block_of (Some PrintByte) d site = lines (print_block byte_device d)
+block_of operation d site = []
+
+-- a block is made for an access that finds so many values at most
+pub record HasAccess (placed : Placed) : Type 0 where
+  pub access : is_access (operation_of placed.op.kind placed.op.number) ≡ true
+  pub depth : placed.op.depth ≤ 56

@@ -1,0 +1,19 @@
+-- What the blocks of accesses do.
+use Rattle.std.specs.Prelude.{◌≡◌, ℕ, ◌<◌, ◌^◌, List, true, Some}
+use Rattle.fk_operation.specs.declared.operation.Operation.{Operation}
+use Rattle.fk_core.specs.declared.op.CoreOp.{CoreOp}
+use Rattle.fk_image.specs.declared.Image.{Image}
+use Rattle.fk_block_law.specs.Stands.{Places}
+use Rattle.fk_block_law.specs.Next.{StandsOp}
+use Rattle.fk_block_law.specs.Suits.{Fits}
+use Rattle.fk_block_law.specs.Block.{BlockDoes}
+use Rattle.fk_gen.specs.InPlace.{HasBlock}
+use Rattle.fk_gen_access.specs.Blocks.{is_access, block_of}
+
+-- the block of an access in its place, in a list whose values have room, does the access
+abbrev pub AccessBlocksDo : Type 0
+AccessBlocksDo =
+    (core : List CoreOp) (image : Image) (bound : ℕ → ℕ) (places : Places) (i : ℕ) (op : CoreOp) (operation : Operation)
+    → StandsOp core i op operation → is_access (Some operation) ≡ true → op.site < 2 ^ 32
+    → HasBlock image bound places i (block_of (Some operation) op.depth op.site) → Fits core places.frames i op operation
+    → BlockDoes core image places i op operation

@@ -1,0 +1,279 @@
+//! The lines of the blocks.
+
+ghost use Rattle.std.specs.Prelude.{◌≡◌, ◌+◌, ◌^◌, ◌<◌, ◌≤◌, true, false, OnOk, OnErr, length};
+ghost use Rattle.fk_isa.specs.Fits.{Fits};
+ghost use Rattle.fk_asm.specs.Assembly.{AreFollowed};
+ghost use Rattle.fk_asm.specs.Block.{HasBegun, with_block};
+ghost use Rattle.fk_gen_access.specs.Blocks.{lines, load_last, load_earlier, store_last, store_earlier, combining, take_block, check_block, read_block, write_block, combine_block, print_block};
+
+use fk_asm::{Assembler, Blocks};
+use fk_gen::numbers::{at_value, high_part, low_part};
+use fk_gen::registers::{END, HEAP, LOCAL, SHARED, T0, T1, T2, T3, TOP, ZERO};
+use fk_gen::{BlockLine, Placed, emit_lines};
+use fk_isa::Instruction;
+use fk_operation::{Multiprefix, Operation};
+use std::alloc::AllocError;
+
+/// The upper 20 bits of the addresses of devices.
+const DEVICES: u32 = 0x30000;
+/// How far from there on the device stands that prints a number.
+const NUMBER_DEVICE: u32 = 0;
+/// The one that prints a byte.
+const BYTE_DEVICE: u32 = 4;
+/// The one that ends a run at a site.
+const FAULT_DEVICE: u32 = 8;
+/// The upper 20 bits of how many words the private heap has.
+const HEAP_WORDS: u32 = 4;
+/// The upper 20 bits of the address of the private heap.
+const PRIVATE_HEAP: u32 = 0x20010;
+
+/// The blocks of `malloc`, of checks of addresses, of reads, writes and multiprefixes, and of prints.
+#[derive(Clone, Copy, Drop)]
+pub struct AccessBlocks;
+
+impl Blocks<Placed> for AccessBlocks {
+    ghost use Rattle.fk_core.specs.Numbers.{operation_of};
+    ghost use Rattle.fk_gen_access.specs.Blocks.{HasAccess, block_of};
+
+    ghost has_block = { HasAccess };
+
+    ghost block = { λ placed. block_of (operation_of placed.op.kind placed.op.number) placed.op.depth placed.op.site };
+
+    fn emit_op(&self, op: &Placed, into: &mut Assembler) -> Result<(), AllocError> {
+        let depth = op.op.depth;
+        match op.op.operation() {
+            Some(Operation::Take) => take(into, depth),
+            Some(Operation::Check(shared_alone)) => check(into, shared_alone, depth, op.op.site),
+            Some(Operation::Read) => read(into, depth),
+            Some(Operation::Write) => write(into, depth),
+            Some(Operation::Combine(by)) => combine(into, by, depth),
+            Some(Operation::PrintNumber) => print(into, NUMBER_DEVICE, depth),
+            Some(Operation::PrintByte) => print(into, BYTE_DEVICE, depth),
+            _ => Ok(()),
+        }
+    }
+}
+
+fn take(into: &mut Assembler, depth: u32) -> Result<(), AllocError>
+    requires depth { depth ≤ 56 }
+    requires room { length into.old.lines + length (lines (take_block depth)) < 2 ^ 30 }
+    requires free { AreFollowed into.old }
+    ensures added { OnOk result (into.new ≡ with_block into.old (lines (take_block depth))) }
+    ensures begun { OnErr result (HasBegun (lines (take_block depth)) into.old into.new) }
+{
+    emit_lines(
+        into,
+        &[
+            BlockLine::commits(load_last(T0, depth)),
+            BlockLine::quiet(Instruction::Addi(T0, T0, 3)),
+            BlockLine::quiet(Instruction::Srli(T0, T0, 2)),
+            BlockLine::quiet(Instruction::Lui(T1, HEAP_WORDS)),
+            BlockLine::quiet(Instruction::Sub(T1, T1, TOP)),
+            BlockLine::quiet(Instruction::Addi(T2, T0, 0xffff_ffff)),
+            BlockLine::quiet(Instruction::Sltu(T2, T2, T1)),
+            BlockLine::quiet(Instruction::Sub(T2, ZERO, T2)),
+            BlockLine::quiet(Instruction::Slli(T1, TOP, 2)),
+            BlockLine::quiet(Instruction::Lui(T3, PRIVATE_HEAP)),
+            BlockLine::quiet(Instruction::Add(T1, T1, T3)),
+            BlockLine::quiet(Instruction::And(T1, T1, T2)),
+            BlockLine::quiet(store_last(T1, depth)),
+            BlockLine::quiet(Instruction::And(T0, T0, T2)),
+            BlockLine::quiet(Instruction::Add(TOP, TOP, T0)),
+        ],
+    )
+}
+
+fn check(into: &mut Assembler, shared_alone: bool, depth: u32, site: u32) -> Result<(), AllocError>
+    requires depth { depth ≤ 56 }
+    requires room { length into.old.lines + length (lines (check_block shared_alone depth site)) < 2 ^ 30 }
+    requires free { AreFollowed into.old }
+    ensures added { OnOk result (into.new ≡ with_block into.old (lines (check_block shared_alone depth site))) }
+    ensures begun { OnErr result (HasBegun (lines (check_block shared_alone depth site)) into.old into.new) }
+{
+    if shared_alone {
+        check_shared(into, depth, site)
+    } else {
+        check_any(into, depth, site)
+    }
+}
+
+// That of an address of shared data alone.
+fn check_shared(into: &mut Assembler, depth: u32, site: u32) -> Result<(), AllocError>
+    requires depth { depth ≤ 56 }
+    requires room { length into.old.lines + length (lines (check_block true depth site)) < 2 ^ 30 }
+    requires free { AreFollowed into.old }
+    ensures added { OnOk result (into.new ≡ with_block into.old (lines (check_block true depth site))) }
+    ensures begun { OnErr result (HasBegun (lines (check_block true depth site)) into.old into.new) }
+{
+    emit_lines(
+        into,
+        &[
+            BlockLine::quiet(load_last(T0, depth)),
+            BlockLine::quiet(Instruction::Srli(T1, T0, 2)),
+            BlockLine::quiet(Instruction::Slli(T0, T0, 30)),
+            BlockLine::quiet(Instruction::Or(T0, T0, T1)),
+            BlockLine::quiet(Instruction::Sub(T0, T0, SHARED)),
+            BlockLine::quiet(Instruction::Srli(T0, T0, 20)),
+            BlockLine::quiet(Instruction::Sltu(T0, ZERO, T0)),
+            BlockLine::quiet(Instruction::Slli(T0, T0, 28)),
+            BlockLine::quiet(Instruction::Add(T0, T0, LOCAL)),
+            BlockLine::quiet(Instruction::Lui(T1, high_part(site))),
+            BlockLine::quiet(Instruction::Addi(T1, T1, low_part(site))),
+            BlockLine::commits(Instruction::Sw(T0, T1, FAULT_DEVICE)),
+        ],
+    )
+}
+
+// That of an address of shared data or of the private heap.
+fn check_any(into: &mut Assembler, depth: u32, site: u32) -> Result<(), AllocError>
+    requires depth { depth ≤ 56 }
+    requires room { length into.old.lines + length (lines (check_block false depth site)) < 2 ^ 30 }
+    requires free { AreFollowed into.old }
+    ensures added { OnOk result (into.new ≡ with_block into.old (lines (check_block false depth site))) }
+    ensures begun { OnErr result (HasBegun (lines (check_block false depth site)) into.old into.new) }
+{
+    emit_lines(
+        into,
+        &[
+            BlockLine::quiet(load_last(T0, depth)),
+            BlockLine::quiet(Instruction::Srli(T1, T0, 2)),
+            BlockLine::quiet(Instruction::Slli(T0, T0, 30)),
+            BlockLine::quiet(Instruction::Or(T0, T0, T1)),
+            BlockLine::quiet(Instruction::Sub(T1, T0, SHARED)),
+            BlockLine::quiet(Instruction::Srli(T1, T1, 20)),
+            BlockLine::quiet(Instruction::Sub(T0, T0, HEAP)),
+            BlockLine::quiet(Instruction::Srli(T0, T0, 14)),
+            BlockLine::quiet(Instruction::Mul(T0, T0, T1)),
+            BlockLine::quiet(Instruction::Sltu(T0, ZERO, T0)),
+            BlockLine::quiet(Instruction::Slli(T0, T0, 28)),
+            BlockLine::quiet(Instruction::Add(T0, T0, LOCAL)),
+            BlockLine::quiet(Instruction::Lui(T1, high_part(site))),
+            BlockLine::quiet(Instruction::Addi(T1, T1, low_part(site))),
+            BlockLine::commits(Instruction::Sw(T0, T1, FAULT_DEVICE)),
+        ],
+    )
+}
+
+fn read(into: &mut Assembler, depth: u32) -> Result<(), AllocError>
+    requires depth { depth ≤ 56 }
+    requires room { length into.old.lines + length (lines (read_block depth)) < 2 ^ 30 }
+    requires free { AreFollowed into.old }
+    ensures added { OnOk result (into.new ≡ with_block into.old (lines (read_block depth))) }
+    ensures begun { OnErr result (HasBegun (lines (read_block depth)) into.old into.new) }
+{
+    emit_lines(
+        into,
+        &[
+            BlockLine::quiet(load_last(T0, depth)),
+            BlockLine::commits(Instruction::Lw(T0, T0, 0)),
+            BlockLine::quiet(store_last(T0, depth)),
+        ],
+    )
+}
+
+fn write(into: &mut Assembler, depth: u32) -> Result<(), AllocError>
+    requires depth { depth ≤ 56 }
+    requires room { length into.old.lines + length (lines (write_block depth)) < 2 ^ 30 }
+    requires free { AreFollowed into.old }
+    ensures added { OnOk result (into.new ≡ with_block into.old (lines (write_block depth))) }
+    ensures begun { OnErr result (HasBegun (lines (write_block depth)) into.old into.new) }
+{
+    emit_lines(
+        into,
+        &[
+            BlockLine::quiet(load_earlier(T0, depth)),
+            BlockLine::quiet(load_last(T1, depth)),
+            BlockLine::commits(Instruction::Sw(T0, T1, 0)),
+            BlockLine::quiet(store_earlier(T1, depth)),
+        ],
+    )
+}
+
+fn combine(into: &mut Assembler, by: Multiprefix, depth: u32) -> Result<(), AllocError>
+    requires depth { depth ≤ 56 }
+    requires room { length into.old.lines + length (lines (combine_block by depth)) < 2 ^ 30 }
+    requires free { AreFollowed into.old }
+    ensures added { OnOk result (into.new ≡ with_block into.old (lines (combine_block by depth))) }
+    ensures begun { OnErr result (HasBegun (lines (combine_block by depth)) into.old into.new) }
+{
+    emit_lines(
+        into,
+        &[
+            BlockLine::quiet(load_earlier(T0, depth)),
+            BlockLine::quiet(load_last(T1, depth)),
+            BlockLine::commits(combining(by)),
+            BlockLine::quiet(store_earlier(T0, depth)),
+        ],
+    )
+}
+
+fn print(into: &mut Assembler, device: u32, depth: u32) -> Result<(), AllocError>
+    requires device { device ≤ 8 }
+    requires depth { depth ≤ 56 }
+    requires room { length into.old.lines + length (lines (print_block device depth)) < 2 ^ 30 }
+    requires free { AreFollowed into.old }
+    ensures added { OnOk result (into.new ≡ with_block into.old (lines (print_block device depth))) }
+    ensures begun { OnErr result (HasBegun (lines (print_block device depth)) into.old into.new) }
+{
+    emit_lines(
+        into,
+        &[
+            BlockLine::quiet(load_last(T0, depth)),
+            BlockLine::quiet(Instruction::Lui(T1, DEVICES)),
+            BlockLine::commits(Instruction::Sw(T1, T0, device)),
+        ],
+    )
+}
+
+// The instruction that combines the word at an address with a value, and gives the former word.
+fn combining(by: Multiprefix) -> Instruction
+    ensures exact { result ≡ combining by }
+    ensures fits { Fits result }
+{
+    match by {
+        Multiprefix::MpAdd => Instruction::AmoAddW(T0, T0, T1, false, false),
+        Multiprefix::MpMax => Instruction::AmoMaxW(T0, T0, T1, false, false),
+        Multiprefix::MpAnd => Instruction::AmoAndW(T0, T0, T1, false, false),
+        Multiprefix::MpOr => Instruction::AmoOrW(T0, T0, T1, false, false),
+    }
+}
+
+// The last value of so many into a register.
+fn load_last(register: u8, depth: u32) -> Instruction
+    requires register { register < 32 }
+    requires depth { depth ≤ 56 }
+    ensures exact { result ≡ load_last register depth }
+    ensures fits { Fits result }
+{
+    Instruction::Lw(register, END, at_value(depth))
+}
+
+// The value before it.
+fn load_earlier(register: u8, depth: u32) -> Instruction
+    requires register { register < 32 }
+    requires depth { depth ≤ 56 }
+    ensures exact { result ≡ load_earlier register depth }
+    ensures fits { Fits result }
+{
+    Instruction::Lw(register, END, at_value(depth.saturating_sub(1)))
+}
+
+// A register in place of the last value.
+fn store_last(register: u8, depth: u32) -> Instruction
+    requires register { register < 32 }
+    requires depth { depth ≤ 56 }
+    ensures exact { result ≡ store_last register depth }
+    ensures fits { Fits result }
+{
+    Instruction::Sw(END, register, at_value(depth))
+}
+
+// A register in place of the value before it.
+fn store_earlier(register: u8, depth: u32) -> Instruction
+    requires register { register < 32 }
+    requires depth { depth ≤ 56 }
+    ensures exact { result ≡ store_earlier register depth }
+    ensures fits { Fits result }
+{
+    Instruction::Sw(END, register, at_value(depth.saturating_sub(1)))
+}
