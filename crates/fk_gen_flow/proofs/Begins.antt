@@ -1,0 +1,131 @@
+-- The opening.
+use Rattle.std.proofs.Common.{◌≡◌, ℕ, zero, suc, ◌+◌, ◌*◌, ◌<◌, ◌≤◌, ◌^◌, List, [], ◌∷◌, ◌++◌, length, All, true, false, ap, ◌∙◌, arith, refl, inl, inr}
+use Rattle.std.specs.Prelude.{◌==◌, slice_index, ◌⊎◌}
+use Rattle.fk_num.specs.Word.{Memory, put, word_sum}
+use Rattle.fk_run.specs.Processor.{Setting}
+use Rattle.fk_core.specs.declared.op.CoreOp.{CoreOp}
+use Rattle.fk_image.specs.declared.Image.{Image}
+use Rattle.fk_isa.specs.declared.instruction.Instruction.TheVariants.{Lui, Addi, Lw}
+use Rattle.fk_machine.specs.Hart.{Hart, Setting as MachineSetting}
+use Rattle.fk_machine.specs.Cycle.{first_hart}
+use Rattle.fk_machine.proofs.Performs.{writes, moves}
+use Rattle.fk_nodes.specs.Alone.{later, in_cycles}
+use Rattle.fk_block_law.specs.Stands.{Places, local_address}
+use Rattle.fk_block_law.specs.Block.{IsRunning, Begins, beginner}
+use Rattle.fk_gen.specs.Lines.{at_private, high_part, low_part, label_of}
+use Rattle.fk_gen.specs.InPlace.{LinesAt}
+use Rattle.fk_gen.proofs.Walk.{Quiets, Plain, TellsNumber, TellsHarts, told_of, walk, walked, lines_split, runs_join}
+use Rattle.fk_gen.proofs.Values.{number_of_parts as parts_make_word, same_word, other_word}
+use Rattle.fk_gen.proofs.Jumps.{jumps}
+use Rattle.fk_gen_flow.specs.Flow.{jump_block}
+use Rattle.fk_gen_flow.specs.Opening.{register_lines, first_lines, AreFirsts, HasOpening}
+use Rattle.fk_gen_flow.proofs.Walk.{Comes, IsAbout, there, first, writing, storing, near_word, sw_goes, jal_goes}
+
+-- the two parts of a number make its word
+pub number_of_parts : (n : ℕ) → n < 2 ^ 32 → word_sum (high_part n * 4096) (low_part n) ≡ n
+number_of_parts n small = parts_make_word n ∙ omega arith
+
+-- ---- first values
+
+-- a memory that has got values, from the variable with a number on
+abbrev pub filled : Memory → (i : ℕ) → List ℕ → Memory
+filled m i [] = m
+filled m i (v ∷ vs) = filled (put m (8 + i) (word_sum (high_part v * 4096) (low_part v))) (suc i) vs
+
+filled_other : (m : Memory) (i : ℕ) (vs : List ℕ) (w : ℕ) → ((w < 8 + i) ⊎ (8 + i + length vs ≤ w)) → filled m i vs w ≡ m w
+filled_other m i [] w out = refl
+filled_other m i (v ∷ vs) w (inl lt) = filled_other (put m (8 + i) (word_sum (high_part v * 4096) (low_part v))) (suc i) vs w (inl (omega arith)) ∙ other_word m (8 + i) _ w (λ e. omega arith)
+filled_other m i (v ∷ vs) w (inr le) = filled_other (put m (8 + i) (word_sum (high_part v * 4096) (low_part v))) (suc i) vs w (inr (omega arith)) ∙ other_word m (8 + i) _ w (λ e. omega arith)
+
+filled_at : (m : Memory) (i : ℕ) (vs : List ℕ) (j w : ℕ) → All (λ v. v < 2 ^ 32) vs → ((k : ℕ) → 8 + i ≤ k → m k ≡ 0) → w ≡ 8 + i + j → filled m i vs w ≡ slice_index vs j
+filled_at m i [] j w small zeros is = zeros w (omega arith)
+filled_at m i (v ∷ vs) zero w small zeros is =
+    filled_other (put m (8 + i) (word_sum (high_part v * 4096) (low_part v))) (suc i) vs w (inl (omega arith)) ∙ ap (put m (8 + i) (word_sum (high_part v * 4096) (low_part v))) (let e : w ≡ 8 + i = omega arith in e)
+    ∙ same_word m (8 + i) _ ∙ number_of_parts v (small 0 0 (omega arith))
+filled_at m i (v ∷ vs) (suc j) w small zeros is =
+    filled_at (put m (8 + i) (word_sum (high_part v * 4096) (low_part v))) (suc i) vs j w (λ k d lt. small (suc k) d (omega arith)) (λ k le. other_word m (8 + i) _ k (λ e. omega arith) ∙ zeros k (omega arith)) (omega arith)
+
+-- how many cycles they take, with the jump behind them
+abbrev pub cycles_of : List ℕ → ℕ
+cycles_of [] = 1
+cycles_of (v ∷ vs) = suc (suc (suc (cycles_of vs)))
+
+few_cycles : (vs : List ℕ) → cycles_of vs ≡ 3 * length vs + 1
+few_cycles [] = refl
+few_cycles (v ∷ vs) = let e = few_cycles vs in omega arith
+
+firsts_come : (image : Image) (bound : ℕ → ℕ) (number main : ℕ) (vs : List ℕ) (t : MachineSetting) (i k : ℕ) (h : Hart) (Goal : Hart → Type 0) → i + length vs ≤ 56
+    → IsAbout image t k h → LinesAt image bound k (first_lines i vs ++ jump_block main) → bound (label_of main) ≤ 262144 → h.registers 22 ≡ local_address 0
+    → ((h' : Hart) → h'.ended ≡ false → h'.pc ≡ 4 * bound (label_of main) → h'.local ≡ filled h.local i vs → ((r : ℕ) → (r == 5) ≡ false → h'.registers r ≡ h.registers r) → Goal h')
+    → Comes image t number (cycles_of vs) h Goal
+firsts_come image bound number main [] t i k h Goal few about lines le start goal =
+    let target = bound (label_of main) in
+    first image t number 0 k _ h (jumps h 0 (4 * target)) Goal about lines.0 (jal_goes t number 0 0 k target h about.at lines.0.within le)
+    (there image _ number _ Goal (goal (jumps h 0 (4 * target)) about.live refl refl (λ r e. refl)))
+firsts_come image bound number main (v ∷ vs) t i k h Goal few about lines le start goal =
+    let v1 = high_part v * 4096 in
+    let v2 = word_sum v1 (low_part v) in
+    let h1 = writes h 5 v1 in
+    let h2 = writes h1 5 v2 in
+    let h3 : Hart = record (moves h2) { local = put h.local (8 + i) v2 } in
+    let about1 = writing image t k h 5 v1 about lines.0.within in
+    let about2 = writing image (later t) (suc k) h1 5 v2 about1 lines.1.0.within in
+    let about3 = storing image (later (later t)) (suc (suc k)) h2 (put h.local (8 + i) v2) about2 lines.1.1.0.within in
+    first image t number (suc (suc (cycles_of vs))) k _ h h1 Goal about lines.0 (λ s. (s.reserved, refl))
+    (first image (later t) number (suc (cycles_of vs)) (suc k) _ h1 h2 Goal about1 lines.1.0 (λ s. (s.reserved, refl))
+    (first image (later (later t)) number (cycles_of vs) (suc (suc k)) _ h2 h3 Goal about2 lines.1.1.0 (sw_goes (later (later t)) number 22 5 (at_private i) (8 + i) h2 (near_word 0 (8 + i) (8 + i) (h2.registers 22) (at_private i) start refl (omega arith) (omega arith)))
+    (firsts_come image bound number main vs (later (later (later t))) (suc i) (suc (suc (suc k))) h3 Goal (omega arith) about3 lines.1.1.1 le start
+    (λ h' live pc local same. goal h' live pc local (λ r e. same r e ∙ rw e)))))
+
+-- ---- all of it
+
+abbrev register_quiets : (of_file : ℕ) → Quiets
+register_quiets of_file =
+    (Lui 8 0x20000, Plain) ∷ (Addi 8 8 (4 * of_file), Plain) ∷ (Lui 9 0x20000, Plain) ∷ (Addi 9 9 256, Plain) ∷ (Lui 22 0x20000, Plain) ∷
+    (Lui 23 0x4000, Plain) ∷ (Lui 24 0x8004, Plain) ∷ (Lui 5 0x30000, Plain) ∷ (Lw 19 5 20, TellsNumber) ∷ (Lw 20 5 24, TellsHarts) ∷ []
+
+pub opening_begins : (core : List CoreOp) (image : Image) (bound : ℕ → ℕ) (places : Places) (firsts : List ℕ) (main : ℕ) → HasOpening image bound places firsts main
+    → AreFirsts places.frames.of_file firsts → places.frames.is_main main ≡ true
+    → (setting : Setting) (t : MachineSetting) (number : ℕ) → IsRunning image setting t → Begins core image places t (beginner setting (slice_index firsts) main number)
+opening_begins core image bound places firsts main opening are is_main setting t number running =
+    let of_file = places.frames.of_file in
+    let few = are.few in
+    let within = are.within in
+    let split = lines_split image bound 0 (register_lines of_file) (first_lines 0 firsts ++ jump_block main) opening.lines in
+    let w = walked image bound t number running.code (register_quiets of_file) 0 first_hart split.0 refl refl (tt, (tt, (tt, (tt, (tt, (tt, (tt, (tt, (refl, (refl, tt)))))))))) in
+    let h = walk (told_of t number) (register_quiets of_file) first_hart in
+    let about : IsAbout image (in_cycles 10 t) 10 h = record { code = running.code; live = w.live; at = w.pc } in
+    let comes = firsts_come image bound number main firsts (in_cycles 10 t) 0 10 h (λ h'. (h'.ended ≡ false) × (h'.pc ≡ 4 * bound (label_of main)) × (h'.local ≡ filled (λ i. 0) 0 firsts) × ((r : ℕ) → (r == 5) ≡ false → h'.registers r ≡ h.registers r))
+    (omega arith) about split.1 (opening.labels.within (label_of main)) refl (λ h' a b c d. (a, b, c, d)) in
+    let goal = comes.goal in
+    let same = goal.3 in
+    record {
+      cycles = 10 + cycles_of firsts;
+      few = let e = few_cycles firsts in omega arith;
+      hart = comes.hart;
+      runs = runs_join image t number 10 (cycles_of firsts) first_hart h comes.hart w.runs comes.runs;
+      at = record {
+        live = goal.0;
+        at = goal.1 ∙ ap (λ k. 4 * k) (opening.labels.blocks main);
+        stands = record {
+          nought = same 0 refl;
+          frame = same 8 refl ∙ omega arith;
+          behind = same 9 refl;
+          number = same 18 refl;
+          rank = same 19 refl;
+          size = same 20 refl ∙ running.processors;
+          top = same 21 refl;
+          local = same 22 refl;
+          shared_data = same 23 refl;
+          private_heap = same 24 refl;
+          running = record {
+            home = is_main;
+            values = tt;
+            privates = λ w e. ap (λ m. m (of_file + 8 + w)) goal.2 ∙ filled_other (λ i. 0) 0 firsts (of_file + 8 + w) (inr (omega arith));
+          };
+          waiting = tt;
+          own = λ j lt. ap (λ m. m (8 + j)) goal.2 ∙ filled_at (λ i. 0) 0 firsts j (8 + j) are.words (λ k le. refl) (omega arith);
+          heap = λ j lt. ap (λ m. m (16384 + j)) goal.2 ∙ filled_other (λ i. 0) 0 firsts (16384 + j) (inr (omega arith));
+        };
+      };
+    }

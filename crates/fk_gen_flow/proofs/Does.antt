@@ -1,0 +1,259 @@
+-- A block that begins with its commit, a load of a local word; and blocks of jumps, branches and halts.
+use Rattle.std.proofs.Common.{◌≡◌, ℕ, suc, ◌-◌, ◌*◌, ◌%◌, ◌<◌, ◌≤◌, List, length, Bool, Some, true, false, not, ap, subst, sym, ◌∙◌, arith, refl, inl, eq-eqb}
+use Rattle.std.specs.Prelude.{◌==◌}
+use Rattle.fk_num.specs.Word.{word_sum}
+use Rattle.fk_operation.specs.declared.operation.Operation.TheVariants.{Branch, Halt}
+use Rattle.fk_run.specs.Processor.{Setting, values, drop_last, last}
+use Rattle.fk_run.specs.Local.{is_onward}
+use Rattle.fk_run.specs.Round.{done, taking}
+use Rattle.fk_core.specs.declared.op.CoreOp.{CoreOp}
+use Rattle.fk_image.specs.declared.Image.{Image}
+use Rattle.fk_isa.specs.declared.instruction.Instruction.TheVariants.{Lui, Lw}
+use Rattle.fk_machine.specs.Hart.{Hart, Shared, Goes, Setting as MachineSetting}
+use Rattle.fk_machine.specs.Step.{perform}
+use Rattle.fk_machine.specs.Run.{count_in}
+use Rattle.fk_machine.proofs.Performs.{writes, moves, lw-local, sw-halt}
+use Rattle.fk_machine.proofs.Places.{place_of-local, place_of-halt}
+use Rattle.fk_nodes.specs.Alone.{Holds, IsAt, later}
+use Rattle.fk_nodes.specs.Source.{Passes}
+use Rattle.fk_nodes.proofs.InPlace.{step_at}
+use Rattle.fk_block_law.specs.Owner.{Commons, Owner, Doing, owner_of, number_of, part}
+use Rattle.fk_block_law.specs.Stands.{Places, StandsAt, StandsFor, HasFrame, frame_end}
+use Rattle.fk_block_law.specs.Next.{StandsOp, step_at as step_of}
+use Rattle.fk_block_law.specs.Suits.{Fits, Flows, nothing}
+use Rattle.fk_block_law.specs.Block.{Does, HasDone, BlockDoes, BlockJumps, BlockHalts, most_behind}
+use Rattle.fk_block_law.proofs.Standing.{operations_are_next}
+use Rattle.fk_gen.specs.Lines.{label_of}
+use Rattle.fk_gen.specs.InPlace.{HasBlock, HasLabels}
+use Rattle.fk_gen.proofs.Values.{values_before}
+use Rattle.fk_gen.proofs.Walk.{private}
+use Rattle.fk_gen.proofs.Jumps.{jumps}
+use Rattle.fk_gen_flow.specs.Flow.{jump_block, branch_block, halt_block, passes}
+use Rattle.fk_gen_flow.proofs.Walk.{Comes, IsAbout, IsLocal, there, first, writing, next_word, value_word, jal_goes}
+use Rattle.fk_gen_flow.proofs.Frames.{flows_on, last_value}
+
+pub lw_does : (core : List CoreOp) (image : Image) (places : Places) (setting : Setting) (t : MachineSetting) (p : Owner) (h : Hart) (d : Doing) (k rd rs imm w behind : ℕ)
+    → IsAbout image t k h → IsAt image k (Lw rd rs imm) 1 → IsLocal (word_sum (h.registers rs) imm) w → behind ≤ most_behind
+    → ((s : Commons) → part core setting 1 s p ≡ Passes s d)
+    → Comes image (later t) (number_of p) behind (writes h rd (h.local w)) (HasDone core image places d)
+    → Does core image places setting t p h
+lw_does core image places setting t p h d k rd rs imm w behind about at is few part_is rest = record {
+  before = 0;
+  behind = behind;
+  few_before = omega arith;
+  few_behind = few;
+  does = record {
+    committing = h;
+    runs = refl;
+    commits = record {
+      live = about.live;
+      counted = ap (count_in image.commits.items) about.at ∙ at.counted;
+      does = λ s. inl (record {
+        hart = writes h rd (h.local w);
+        store = s;
+        done = d;
+        part = part_is s;
+        goes = λ earlier sh shows. (
+          sh,
+          step_at image k 1 _ at t about.code (number_of p) h sh about.at ∙ lw-local t (number_of p) rd rs imm w h sh (omega (arith, is.0)) (place_of-local _ w is.1 is.0),
+          shows,
+          λ j e. refl,
+        );
+        follows = (rest.hart, rest.runs, rest.goal);
+      });
+    };
+  };
+}
+
+-- a hart at the block of an index
+pub about_block : (image : Image) (bound : ℕ → ℕ) (places : Places) (t : MachineSetting) (p : Owner) (h : Hart) (i : ℕ) → Holds image t → p.runner.left.at ≡ i → StandsAt places p h
+    → IsAbout image t (places.block i) h
+about_block image bound places t p h i holds e at = record { code = holds; live = at.live; at = at.at ∙ ap (λ j. 4 * places.block j) e }
+
+pub block_within : (bound : ℕ → ℕ) (places : Places) (j : ℕ) → HasLabels bound places → places.block j ≤ 262144
+block_within bound places j labels = subst (λ k. k ≤ 262144) (labels.blocks j) (labels.within (label_of j))
+
+-- ---- jumps
+
+pub jump_goes : (core : List CoreOp) (image : Image) (bound : ℕ → ℕ) (places : Places) (i : ℕ) (op : CoreOp) → HasBlock image bound places i (jump_block op.target)
+    → Flows core places.frames nothing i op.target → BlockJumps core image places i op
+jump_goes core image bound places i op block flows t p h holds e at =
+    let about = about_block image bound places t p h i holds e at in
+    let target = bound (label_of op.target) in
+    let stands = at.stands in
+    let frame = subst (λ j. HasFrame places h.local (length p.runner.has.callers) j p.runner.has.call) e stands.running in
+    record {
+      hart = jumps h 0 (4 * target);
+      private = private image t (number_of p) (places.block i) _ h (jumps h 0 (4 * target)) about.code block.lines.0 about.at about.live
+          (jal_goes t (number_of p) 0 0 (places.block i) target h about.at block.lines.0.within (block.labels.within (label_of op.target)));
+      at = record {
+        live = at.live;
+        at = ap (λ k. 4 * k) (block.labels.blocks op.target);
+        stands = record {
+          nought = stands.nought;
+          frame = stands.frame;
+          behind = stands.behind;
+          number = stands.number;
+          rank = stands.rank;
+          size = stands.size;
+          top = stands.top;
+          local = stands.local;
+          shared_data = stands.shared_data;
+          private_heap = stands.private_heap;
+          running = flows_on places core nothing h.local _ i op.target p.runner.has.call p.runner.has.call (λ w. refl) flows refl frame.values frame;
+          waiting = stands.waiting;
+          own = stands.own;
+          heap = stands.heap;
+        };
+      };
+    }
+
+-- ---- branches
+
+-- whether a value goes on
+abbrev pub goes_on : (onward : Bool) → (v : ℕ) → Bool
+goes_on true v = not (v == 0)
+goes_on false v = v == 0
+
+is_goes_on : (onward : Bool) (p : Owner) → is_onward (Branch onward) p.runner.has ≡ goes_on onward (last (values p.runner.has))
+is_goes_on true p = refl
+is_goes_on false p = refl
+
+passed : (onward : Bool) (t : MachineSetting) (number : ℕ) (h : Hart) (s : Shared) → h.registers 0 ≡ 0 → goes_on onward (h.registers 5) ≡ true → word_sum h.pc 8 % 4 ≡ 0
+    → perform t number (passes onward) h s ≡ Goes (record h { pc = word_sum h.pc 8 }) s
+passed true t number h s nought e f = let g = eq-eqb _ 0 f in rw (nought, e, g)
+passed false t number h s nought e f = let g = eq-eqb _ 0 f in rw (nought, e, g)
+
+not_passed : (onward : Bool) (t : MachineSetting) (number : ℕ) (h : Hart) (s : Shared) → h.registers 0 ≡ 0 → goes_on onward (h.registers 5) ≡ false
+    → perform t number (passes onward) h s ≡ Goes (moves h) s
+not_passed true t number h s nought e = rw (nought, e)
+not_passed false t number h s nought e = rw (nought, e)
+
+module _ (core : List CoreOp) (image : Image) (bound : ℕ → ℕ) (places : Places) (i : ℕ) (op : CoreOp) (onward : Bool) where
+  -- what a branch has done on one way
+  abbrev branched : Owner → (way : Bool) → Doing
+  branched p way = record { acting = done (step_of core i op (Branch onward) p.runner.left.callers) way (drop_last 1 p.runner.has); heap = p.heap }
+
+  -- a hart like another but for t0 and its place
+  branch_stands : (p : Owner) (h : Hart) (v j pc : ℕ) → p.runner.left.at ≡ i → StandsFor places p h → Flows core places.frames nothing i j
+      → (way : Bool) → (branched p way).acting.runner.left.at ≡ j → (branched p way).acting.runner.left.callers ≡ p.runner.left.callers
+      → StandsFor places (owner_of (branched p way)) (record (writes h 5 v) { pc = pc })
+  branch_stands p h v j pc e stands flows way f g =
+      let frame = subst (λ j. HasFrame places h.local (length p.runner.has.callers) j p.runner.has.call) e stands.running in
+      record {
+        nought = stands.nought;
+        frame = stands.frame;
+        behind = stands.behind;
+        number = stands.number;
+        rank = stands.rank;
+        size = stands.size;
+        top = stands.top;
+        local = stands.local;
+        shared_data = stands.shared_data;
+        private_heap = stands.private_heap;
+        running = subst (λ j. HasFrame places h.local (length p.runner.has.callers) j (drop_last 1 p.runner.has).call) (sym f)
+            (flows_on places core nothing h.local _ i j p.runner.has.call (drop_last 1 p.runner.has).call (λ w. refl) flows refl (values_before 1 h.local _ (values p.runner.has) frame.values) frame);
+        waiting = rw g stands.waiting;
+        own = stands.own;
+        heap = stands.heap;
+      }
+
+  branch_way : HasBlock image bound places i (branch_block onward op.depth op.target) → StandsOp core i op (Branch onward) → Fits core places.frames i op (Branch onward)
+      → (setting : Setting) (t : MachineSetting) (p : Owner) (h : Hart) → Holds image t → p.runner.left.at ≡ i → length (values p.runner.has) ≡ op.depth → length p.runner.has.callers < 256
+      → StandsAt places p h → (way : Bool) → is_onward (Branch onward) p.runner.has ≡ way
+      → Does core image places setting t p h
+  branch_way block stands_op fits setting t p h holds e depth waiting at true on =
+      let number = number_of p in
+      let n = length p.runner.has.callers in
+      let k = places.block i in
+      let about = about_block image bound places t p h i holds e at in
+      let l0 = block.lines.0 in
+      let l1 = block.lines.1.0 in
+      let few = fits.values in
+      let header = fits.room.header in
+      let is = value_word (frame_end n) op.depth (h.registers 9) at.stands.behind (omega arith) (omega arith) (omega arith) in
+      let value : h.local (frame_end n - op.depth) ≡ last (values p.runner.has) = last_value h.local (frame_end n) op.depth _ at.stands.running.values depth (omega arith) in
+      let h1 = writes h 5 (h.local (frame_end n - op.depth)) in
+      let about1 = writing image t k h 5 (h.local (frame_end n - op.depth)) about l0.within in
+      let goes : goes_on onward (h.local (frame_end n - op.depth)) ≡ true = ap (goes_on onward) value ∙ sym (is_goes_on onward p) ∙ on in
+      let here : word_sum h1.pc 8 ≡ 4 * places.block (suc i) = let a = about1.at in let b = l1.within in omega (arith, block.next) in
+      lw_does core image places setting t p h (branched p true) k 5 9 _ _ 1 about l0 is (omega arith)
+      (λ s. operations_are_next core i op (Branch onward) setting s p stands_op e ∙ ap (λ w. Passes s (branched p w)) on)
+      (first image (later t) number 0 (suc k) _ h1 (record h1 { pc = word_sum h1.pc 8 }) _ about1 l1
+      (λ s. (s.reserved, passed onward (later t) number h1 s at.stands.nought goes (omega (arith, here))))
+      (there image _ number _ _ (record {
+        done = refl;
+        at = record {
+          live = at.live;
+          at = here;
+          stands = branch_stands p h (h.local (frame_end n - op.depth)) (suc i) (word_sum h1.pc 8) e at.stands (fits.goes_on true) true refl refl;
+        };
+      })))
+  branch_way block stands_op fits setting t p h holds e depth waiting at false on =
+      let number = number_of p in
+      let n = length p.runner.has.callers in
+      let k = places.block i in
+      let about = about_block image bound places t p h i holds e at in
+      let l0 = block.lines.0 in
+      let l1 = block.lines.1.0 in
+      let l2 = block.lines.1.1.0 in
+      let few = fits.values in
+      let header = fits.room.header in
+      let is = value_word (frame_end n) op.depth (h.registers 9) at.stands.behind (omega arith) (omega arith) (omega arith) in
+      let value : h.local (frame_end n - op.depth) ≡ last (values p.runner.has) = last_value h.local (frame_end n) op.depth _ at.stands.running.values depth (omega arith) in
+      let h1 = writes h 5 (h.local (frame_end n - op.depth)) in
+      let about1 = writing image t k h 5 (h.local (frame_end n - op.depth)) about l0.within in
+      let goes : goes_on onward (h.local (frame_end n - op.depth)) ≡ false = ap (goes_on onward) value ∙ sym (is_goes_on onward p) ∙ on in
+      let about2 : IsAbout image (later (later t)) (suc (suc k)) (moves h1) = record { code = holds; live = at.live; at = next_word h1.pc (suc k) about1.at l1.within } in
+      let target = bound (label_of op.target) in
+      lw_does core image places setting t p h (branched p false) k 5 9 _ _ 2 about l0 is (omega arith)
+      (λ s. operations_are_next core i op (Branch onward) setting s p stands_op e ∙ ap (λ w. Passes s (branched p w)) on)
+      (first image (later t) number 1 (suc k) _ h1 (moves h1) _ about1 l1
+      (λ s. (s.reserved, not_passed onward (later t) number h1 s at.stands.nought goes))
+      (first image (later (later t)) number 0 (suc (suc k)) _ (moves h1) (jumps (moves h1) 0 (4 * target)) _ about2 l2
+      (jal_goes (later (later t)) number 0 0 (suc (suc k)) target (moves h1) about2.at l2.within (block.labels.within (label_of op.target)))
+      (there image _ number _ _ (record {
+        done = refl;
+        at = record {
+          live = at.live;
+          at = ap (λ k. 4 * k) (block.labels.blocks op.target);
+          stands = branch_stands p h (h.local (frame_end n - op.depth)) op.target (4 * target) e at.stands (fits.goes_on false) false refl refl;
+        };
+      }))))
+
+  pub branch_does : HasBlock image bound places i (branch_block onward op.depth op.target) → StandsOp core i op (Branch onward) → Fits core places.frames i op (Branch onward)
+      → BlockDoes core image places i op (Branch onward)
+  branch_does block stands_op fits setting t p h enters =
+      branch_way block stands_op fits setting t p h enters.running.code enters.index enters.ready.depth enters.ready.in_range.waiting enters.at _ refl
+
+-- ---- halts
+
+pub halt_does : (core : List CoreOp) (image : Image) (bound : ℕ → ℕ) (places : Places) (i : ℕ) (op : CoreOp) → HasBlock image bound places i halt_block → StandsOp core i op Halt
+    → BlockHalts core image places i op
+halt_does core image bound places i op block stands_op setting t p h enters =
+    let number = number_of p in
+    let about = about_block image bound places t p h i enters.running.code enters.index enters.at in
+    let l0 = block.lines.0 in
+    let l1 = block.lines.1.0 in
+    let h1 = writes h 5 0x30000000 in
+    let about1 = writing image t (places.block i) h 5 0x30000000 about l0.within in
+    record {
+      before = 1;
+      few_before = omega arith;
+      does = record {
+        committing = h1;
+        runs = (h1, private image t number (places.block i) (Lui 5 0x30000) h h1 about.code l0 about.at about.live (λ s. (s.reserved, refl)), refl);
+        commits = record {
+          live = enters.at.live;
+          counted = ap (count_in image.commits.items) about1.at ∙ l1.counted;
+          does = λ s. inl (record {
+            hart = record (moves h1) { ended = true };
+            store = s;
+            done = record { acting = taking p.runner (Some (step_of core i op Halt p.runner.left.callers)); heap = p.heap };
+            part = operations_are_next core i op Halt setting s p stands_op enters.index;
+            goes = λ earlier sh shows. (sh, step_at image (suc (places.block i)) 1 _ l1 _ about1.code number h1 sh about1.at ∙ sw-halt _ number 5 0 12 h1 sh refl place_of-halt, shows, λ j e. refl);
+            follows = (record (moves h1) { ended = true }, refl, refl);
+          });
+        };
+      };
+    }

@@ -1,0 +1,47 @@
+-- Which operations have a block of control flow, and which block.
+use Rattle.std.specs.Prelude.{◌≡◌, ℕ, ◌^◌, ◌<◌, ◌≤◌, List, [], Bool, true, false, not, Option, Some, None, if◌then◌else◌, ◌⊎◌}
+use Rattle.fk_operation.specs.declared.operation.Operation.{Operation}
+use Rattle.fk_operation.specs.declared.operation.Operation.TheVariants.{Branch, Leave, Enter, Halt}
+use Rattle.fk_core.specs.declared.op.CoreOp.{CoreOp}
+use Rattle.fk_core.specs.Next.{is_jump}
+use Rattle.fk_core.specs.Numbers.{operation_of}
+use Rattle.fk_asm.specs.Block.{MarkedLine}
+use Rattle.fk_gen.specs.declared.placed.Placed.{Placed}
+use Rattle.fk_gen_flow.specs.Flow.{jump_block, branch_block, leave_block, halt_block}
+use Rattle.fk_gen_flow.specs.Calls.{enter_block}
+
+-- the operations of control flow, but ends of calls that took a group frame
+abbrev pub is_flow : Operation → Bool
+is_flow (Branch onward) = true
+is_flow (Leave gives framed) = not framed
+is_flow (Enter arguments) = true
+is_flow Halt = true
+is_flow operation = false
+
+abbrev pub block_by : CoreOp → Option Operation → List MarkedLine
+block_by op (Some (Branch onward)) = branch_block onward op.depth op.target
+block_by op (Some (Leave gives framed)) = leave_block gives op.depth
+block_by op (Some (Enter arguments)) = enter_block arguments op.depth op.site
+block_by op (Some Halt) = halt_block
+block_by op operation = []
+
+-- the block of a jump or an operation
+abbrev pub flow_block : CoreOp → List MarkedLine
+flow_block op = if is_jump op then jump_block op.target else block_by op (operation_of op.kind op.number)
+
+-- the target of a branch has a label, and a call has its arguments
+abbrev pub HasOperands : (depth target : ℕ) → Option Operation → Type 0
+HasOperands depth target (Some (Branch onward)) = target < 2 ^ 31
+HasOperands depth target (Some (Enter arguments)) = arguments ≤ depth
+HasOperands depth target operation = Unit {0}
+
+abbrev pub is_some_flow : Option Operation → Bool
+is_some_flow (Some operation) = is_flow operation
+is_some_flow None = false
+
+-- a jump whose target has a label, or such an operation, whose values have room in a frame
+pub record HasFlow (placed : Placed) : Type 0 where
+  pub kind : (is_jump placed.op ≡ true) ⊎ (is_some_flow (operation_of placed.op.kind placed.op.number) ≡ true)
+  pub depth : is_jump placed.op ≡ false → placed.op.depth ≤ 56
+  pub jump : is_jump placed.op ≡ true → placed.op.target < 2 ^ 31
+  pub operands : HasOperands placed.op.depth placed.op.target (operation_of placed.op.kind placed.op.number)

@@ -1,0 +1,51 @@
+-- What the blocks do where they stand.
+use Rattle.std.specs.Prelude.{◌≡◌, ℕ, ◌^◌, ◌<◌, ◌≤◌, List, true, Some, slice_get, slice_index}
+use Rattle.fk_operation.specs.declared.operation.Operation.{Operation}
+use Rattle.fk_operation.specs.declared.operation.Operation.TheVariants.{Halt}
+use Rattle.fk_run.specs.Processor.{Setting}
+use Rattle.fk_core.specs.declared.op.CoreOp.{CoreOp}
+use Rattle.fk_core.specs.Next.{is_jump}
+use Rattle.fk_image.specs.declared.Image.{Image}
+use Rattle.fk_machine.specs.Hart.{Setting as MachineSetting}
+use Rattle.fk_block_law.specs.Stands.{Places}
+use Rattle.fk_block_law.specs.Next.{StandsOp}
+use Rattle.fk_block_law.specs.Ready.{is_alone}
+use Rattle.fk_block_law.specs.Suits.{Flows, Fits, nothing}
+use Rattle.fk_block_law.specs.Block.{IsRunning, BlockDoes, BlockJumps, BlockHalts, Begins, beginner}
+use Rattle.fk_gen.specs.InPlace.{HasBlock}
+use Rattle.fk_gen_flow.specs.Calls.{HasCopying}
+use Rattle.fk_gen_flow.specs.Opening.{AreFirsts, HasOpening}
+use Rattle.fk_gen_flow.specs.Blocks.{is_flow, flow_block}
+
+-- the block of a jump leads to that of its target
+abbrev pub JumpsGo : Type 0
+JumpsGo =
+    (core : List CoreOp) (image : Image) (places : Places) (bound : ℕ → ℕ) (i : ℕ) (op : CoreOp) → is_jump op ≡ true
+    → HasBlock image bound places i (flow_block op) → Flows core places.frames nothing i op.target → BlockJumps core image places i op
+
+-- the jumps of a list have their blocks
+abbrev pub JumpsStand : List CoreOp → Image → (bound : ℕ → ℕ) → Places → Type 0
+JumpsStand core image bound places =
+    (i : ℕ) (op : CoreOp) → slice_get core i ≡ Some op → is_jump op ≡ true → HasBlock image bound places i (flow_block op)
+
+-- those of branches, calls and ends of calls do their operations, where the code that calls share and the jumps stand too
+abbrev pub FlowBlocksDo : Type 0
+FlowBlocksDo =
+    (core : List CoreOp) (image : Image) (places : Places) (bound : ℕ → ℕ) (i : ℕ) (op : CoreOp) (operation : Operation)
+    → StandsOp core i op operation → is_alone operation ≡ true → is_flow operation ≡ true → op.site < 2 ^ 32
+    → HasBlock image bound places i (flow_block op) → HasCopying image bound → JumpsStand core image bound places
+    → places.frames.of_file ≤ 56 → Fits core places.frames i op operation → BlockDoes core image places i op operation
+
+-- that of a halt ends its hart
+abbrev pub HaltsEnd : Type 0
+HaltsEnd =
+    (core : List CoreOp) (image : Image) (places : Places) (bound : ℕ → ℕ) (i : ℕ) (op : CoreOp) → StandsOp core i op Halt
+    → HasBlock image bound places i (flow_block op) → BlockHalts core image places i op
+
+-- from the opening each hart comes to the block where `main` begins, with the first values of private variables
+abbrev pub HartsBegin : Type 0
+HartsBegin =
+    (core : List CoreOp) (image : Image) (places : Places) (bound : ℕ → ℕ) (firsts : List ℕ) (main : ℕ)
+    → HasOpening image bound places firsts main → AreFirsts places.frames.of_file firsts → places.frames.is_main main ≡ true
+    → (setting : Setting) (t : MachineSetting) (number : ℕ) → IsRunning image setting t
+    → Begins core image places t (beginner setting (slice_index firsts) main number)

@@ -1,0 +1,5 @@
+pub mod Flow
+pub mod Calls
+pub mod Opening
+pub mod Blocks
+pub mod Laws

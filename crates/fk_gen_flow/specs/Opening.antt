@@ -1,0 +1,42 @@
+-- The opening: where each hart begins.
+use Rattle.std.specs.Prelude.{ℕ, suc, ◌*◌, ◌≤◌, ◌<◌, ◌^◌, List, [], ◌∷◌, ◌++◌, length, All}
+use Rattle.fk_image.specs.declared.Image.{Image}
+use Rattle.fk_isa.specs.declared.instruction.Instruction.TheVariants.{Lui, Addi, Lw, Sw}
+use Rattle.fk_asm.specs.Block.{MarkedLine}
+use Rattle.fk_block_law.specs.Stands.{Places, frame_register, end_register, rank_register, size_register, local_register, shared_register, heap_register}
+use Rattle.fk_gen.specs.Registers.{t0}
+use Rattle.fk_gen.specs.Lines.{quiet, at_private, high_part, low_part}
+use Rattle.fk_gen.specs.InPlace.{HasLabels, LinesAt}
+use Rattle.fk_gen_flow.specs.Flow.{jump_block}
+
+-- the registers that are not 0 at the beginning, for so many private variables of file scope. Devices tell the number of the
+-- hart and how many there are
+abbrev pub register_lines : (of_file : ℕ) → List MarkedLine
+register_lines of_file =
+    quiet (Lui frame_register 0x20000) ∷ quiet (Addi frame_register frame_register (4 * of_file)) ∷
+    quiet (Lui end_register 0x20000) ∷ quiet (Addi end_register end_register 256) ∷ quiet (Lui local_register 0x20000) ∷
+    quiet (Lui shared_register 0x4000) ∷ quiet (Lui heap_register 0x8004) ∷ quiet (Lui t0 0x30000) ∷
+    quiet (Lw rank_register t0 20) ∷ quiet (Lw size_register t0 24) ∷ []
+
+-- the first value of a private variable of file scope; and those from one on
+abbrev pub first_line : (i first : ℕ) → List MarkedLine
+first_line i v =
+    quiet (Lui t0 (high_part v)) ∷ quiet (Addi t0 t0 (low_part v)) ∷ quiet (Sw local_register t0 (at_private i)) ∷ []
+
+abbrev pub first_lines : (i : ℕ) (firsts : List ℕ) → List MarkedLine
+first_lines i [] = []
+first_lines i (v ∷ firsts) = first_line i v ++ first_lines (suc i) firsts
+
+abbrev pub opening_lines : (of_file : ℕ) (firsts : List ℕ) (main : ℕ) → List MarkedLine
+opening_lines of_file firsts main = register_lines of_file ++ first_lines 0 firsts ++ jump_block main
+
+-- first values of words, for variables that there are
+pub record AreFirsts (of_file : ℕ) (firsts : List ℕ) : Type 0 where
+  pub few : of_file ≤ 56
+  pub within : length firsts ≤ of_file
+  pub words : All (λ v. v < 2 ^ 32) firsts
+
+-- the opening stands at the beginning of an image
+pub record HasOpening (image : Image) (bound : ℕ → ℕ) (places : Places) (firsts : List ℕ) (main : ℕ) : Type 0 where
+  pub labels : HasLabels bound places
+  pub lines : LinesAt image bound 0 (opening_lines places.frames.of_file firsts main)

@@ -1,0 +1,24 @@
+//! What the blocks do.
+
+ghost use Rattle.fk_gen_flow.specs.Laws.{JumpsGo, FlowBlocksDo, HaltsEnd, HartsBegin};
+
+/// A hart at the block of a jump is in one cycle at that of its target.
+pub fn jumps_go()
+    ensures { JumpsGo }
+{}
+
+/// A hart at the block of a branch, a call or the end of a call does the operation with one commit, and then stands for its
+/// processor at the block where that goes on. A call for which 255 others would wait is the fault of its site.
+pub fn flow_blocks_do()
+    ensures { FlowBlocksDo }
+{}
+
+/// A hart at the block of a halt ends.
+pub fn halts_end()
+    ensures { HaltsEnd }
+{}
+
+/// Each hart comes from the opening to the block where `main` begins, and stands for its processor.
+pub fn harts_begin()
+    ensures { HartsBegin }
+{}

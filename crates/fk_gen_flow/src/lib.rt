@@ -1,0 +1,12 @@
+//! The blocks of control flow: jumps, branches, calls, ends of calls and halts; the code that all calls share; and the opening
+//! of an image.
+#![tactic(auto)]
+
+mod blocks;
+mod calls;
+pub mod laws;
+mod opening;
+
+pub use blocks::FlowBlocks;
+pub use calls::{emit_copy, emit_header};
+pub use opening::emit_opening;
