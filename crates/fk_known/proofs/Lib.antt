@@ -1,0 +1,5 @@
+pub mod Sets
+mod Values
+mod Steps
+mod Runs
+pub mod Enough
