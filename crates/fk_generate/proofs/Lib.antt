@@ -1,0 +1,12 @@
+pub mod Blocks
+pub mod InImage
+pub mod Near
+pub mod Copied
+pub mod Laid
+pub mod Shapes
+pub mod Whole
+pub mod Laying
+pub mod Suited
+pub mod Laws
+pub mod Done
+pub mod Steps

@@ -1,0 +1,265 @@
+-- The labels that blocks go to, and how many words they have.
+use Rattle.std.proofs.Common.{◌≡◌, ℕ, suc, ◌+◌, ◌*◌, ◌<◌, ◌≤◌, List, [], ◌∷◌, ◌++◌, map, length, Bool, true, false, Option, Some, None, All, inl, inr, IfSome, ap, refl, arith, length-append}
+use Rattle.std.specs.Prelude.{slice_get, flat_map, sum_by, ◌||◌, if◌then◌else◌}
+use Rattle.std.specs.Option.{option_map_or}
+use Rattle.std.proofs.lemmas.List.{length-map}
+use Rattle.std.proofs.lemmas.List.Concat.{length-flat_map}
+use Rattle.std.proofs.lemmas.List.Elements.{All-nil, All-cons, All-append, All-from_recursion, All-weaker}
+use Rattle.std.proofs.lemmas.List.Sums.{sum_by-le-sum_by}
+use Rattle.std.proofs.lemmas.Option.{slice_get_within}
+use Rattle.fk_num.specs.declared.operator.Op.{Op}
+use Rattle.fk_num.specs.declared.operator.Op.TheVariants as op
+use Rattle.fk_operation.specs.declared.operation.Known.{Known}
+use Rattle.fk_operation.specs.declared.operation.Known.TheVariants as known
+use Rattle.fk_operation.specs.declared.operation.Operation.{Operation}
+use Rattle.fk_operation.specs.declared.operation.Operation.TheVariants as o
+use Rattle.fk_core.specs.declared.op.CoreOp.{CoreOp}
+use Rattle.fk_core.specs.Next.{is_jump}
+use Rattle.fk_core.specs.Numbers.{operation_of}
+use Rattle.fk_isa.specs.declared.instruction.Instruction.{Instruction}
+use Rattle.fk_asm.specs.Block.{MarkedLine}
+use Rattle.fk_gen.specs.Lines.{quiet, commits}
+use Rattle.fk_gen.specs.Registers.{t0, t1}
+use Rattle.fk_gen_access.specs.Blocks as accesses
+use Rattle.fk_gen_expr.specs.Expressions as expressions
+use Rattle.fk_gen_flow.specs.Blocks as flow
+use Rattle.fk_block_law.specs.Next.{StandsOp}
+use Rattle.fk_gen_flow.specs.Calls.{most_arguments}
+use Rattle.fk_gen_flow.specs.Flow as f
+use Rattle.fk_gen_flow.specs.Opening.{register_lines, first_line, first_lines, opening_lines}
+use Rattle.fk_generate.specs.Generable.{IsGenerable, most_words, words_by}
+use Rattle.fk_generate.specs.declared.kind.Kind.{Kind}
+use Rattle.fk_generate.specs.declared.kind.Kind.TheVariants.{Flow, Access, Expression}
+use Rattle.fk_generate.specs.Kinds.{kind_of, kind_by, block_in, block_of}
+use Rattle.fk_generate.specs.Layout.{placed}
+use Rattle.fk_generate.proofs.Copied.{IsUnlabeled}
+use Rattle.fk_generate.proofs.Laid.{GoesTo, IsLabel}
+use Rattle.fk_generate.proofs.Near.{IsFar}
+
+-- ---- lines without labels
+
+pub go_nowhere : (n : ℕ) (ms : List MarkedLine) → All IsUnlabeled ms → All (GoesTo n) ms
+go_nowhere n ms u = All-weaker IsUnlabeled (GoesTo n) (λ m e. nowhere (λ label. IsLabel n label × IsFar m.line.instruction) m.line.label e) ms u
+  where
+    nowhere : (P : ℕ → Type 0) (label : Option ℕ) → label ≡ None → IfSome label P
+    nowhere P None e = tt
+    nowhere P (Some l) e = absurd (cc)
+
+quiet_all : (is : List Instruction) → All IsUnlabeled (map quiet is)
+quiet_all [] = All-nil IsUnlabeled
+quiet_all (i ∷ is) = All-cons IsUnlabeled (quiet i) (map quiet is) refl (quiet_all is)
+
+first_all : (is : List Instruction) → All IsUnlabeled (expressions.first_commits is)
+first_all [] = All-nil IsUnlabeled
+first_all (i ∷ is) = All-cons IsUnlabeled (commits i) (map quiet is) refl (quiet_all is)
+
+straight_all : (b : accesses.Straight) → All IsUnlabeled (accesses.lines b)
+straight_all b =
+    All-append IsUnlabeled (map quiet b.before) (commits b.commit ∷ map quiet b.behind) (quiet_all b.before)
+    (All-cons IsUnlabeled (commits b.commit) (map quiet b.behind) refl (quiet_all b.behind))
+
+access_all : (operation : Option Operation) (d site : ℕ) → All IsUnlabeled (accesses.block_of operation d site)
+access_all (Some o.Take) d site = straight_all (accesses.take_block d)
+access_all (Some (o.Check alone)) d site = straight_all (accesses.check_block alone d site)
+access_all (Some o.Read) d site = straight_all (accesses.read_block d)
+access_all (Some o.Write) d site = straight_all (accesses.write_block d)
+access_all (Some (o.Combine by)) d site = straight_all (accesses.combine_block by d)
+access_all (Some o.PrintNumber) d site = straight_all (accesses.print_block accesses.number_device d)
+access_all (Some o.PrintByte) d site = straight_all (accesses.print_block accesses.byte_device d)
+access_all operation d site = All-nil IsUnlabeled
+
+expression_all : (globals d : ℕ) (operation : Option Operation)
+    → All IsUnlabeled (option_map_or (expressions.expression_block globals d) operation [])
+expression_all globals d None = All-nil IsUnlabeled
+expression_all globals d (Some operation) = first_all (expressions.expression_code globals d operation)
+
+-- ---- lines with labels
+
+-- what an operation goes to is there
+abbrev Leads : (n : ℕ) → CoreOp → Option Operation → Type 0
+Leads n op (Some (o.Branch onward)) = op.target < n
+Leads n op (Some (o.Enter arguments)) = arguments ≤ most_arguments
+Leads n op operation = Unit {0}
+
+jump_goes : (n target : ℕ) → target < n → GoesTo n (f.jump_line target)
+jump_goes n target lt = (inr (omega arith, omega arith), (0, refl))
+
+jump_all : (n target : ℕ) → target < n → All (GoesTo n) (f.jump_block target)
+jump_all n target lt = All-from_recursion (GoesTo n) (f.jump_block target) (jump_goes n target lt, tt)
+
+flow_all : (n : ℕ) (op : CoreOp) (operation : Option Operation) → Leads n op operation → All (GoesTo n) (flow.block_by op operation)
+flow_all n op (Some (o.Branch onward)) leads =
+    All-from_recursion (GoesTo n) (f.branch_block onward op.depth op.target) (tt, (tt, (jump_goes n op.target leads, tt)))
+flow_all n op (Some (o.Leave true framed)) leads =
+    All-from_recursion (GoesTo n) (f.leave_block true op.depth) (tt, (tt, (tt, (tt, (tt, (tt, (tt, tt)))))))
+flow_all n op (Some (o.Leave false framed)) leads =
+    All-from_recursion (GoesTo n) (f.leave_block false op.depth) (tt, (tt, (tt, (tt, tt))))
+flow_all n op (Some (o.Enter arguments)) leads =
+    All-from_recursion (GoesTo n) (flow.block_by op (Some (o.Enter arguments)))
+    (tt, (tt, (tt, (tt, (tt, (tt, (tt, ((inl leads, (1, refl)), tt))))))))
+flow_all n op (Some o.Halt) leads = All-from_recursion (GoesTo n) f.halt_block (tt, (tt, tt))
+flow_all n op operation leads = All-nil (GoesTo n)
+
+flow_block_all : (n : ℕ) (op : CoreOp) → (is_jump op ≡ true → op.target < n)
+    → (is_jump op ≡ false → Leads n op (operation_of op.kind op.number)) → All (GoesTo n) (flow.flow_block op)
+flow_block_all n op jumps leads = by (is_jump op) jumps leads
+  where
+    by : (jump : Bool) → (jump ≡ true → op.target < n) → (jump ≡ false → Leads n op (operation_of op.kind op.number))
+        → All (GoesTo n) (if jump then f.jump_block op.target else flow.block_by op (operation_of op.kind op.number))
+    by true jumps leads = jump_all n op.target (jumps refl)
+    by false jumps leads = flow_all n op (operation_of op.kind op.number) (leads refl)
+
+block_all : (n globals : ℕ) (op : CoreOp) → (is_jump op ≡ true → op.target < n)
+    → (is_jump op ≡ false → Leads n op (operation_of op.kind op.number)) → All (GoesTo n) (block_of (placed globals op))
+block_all n globals op jumps leads = by (kind_of op)
+  where
+    by : (kind : Kind) → All (GoesTo n) (block_in kind (placed globals op))
+    by Flow = flow_block_all n op jumps leads
+    by Access = go_nowhere n _ (access_all (operation_of op.kind op.number) op.depth op.site)
+    by Expression = go_nowhere n _ (expression_all globals op.depth (operation_of op.kind op.number))
+
+-- ---- in a list
+
+leads_by : (core : List CoreOp) (main : ℕ) (firsts : List ℕ) (i : ℕ) (op : CoreOp) (operation : Option Operation)
+    → IsGenerable core main firsts → slice_get core i ≡ Some op → is_jump op ≡ false → operation_of op.kind op.number ≡ operation
+    → Leads (length core) op operation
+leads_by core main firsts i op (Some (o.Branch onward)) is e quiet' read = (is.free.within i op (o.Branch onward) e read refl false).at
+leads_by core main firsts i op (Some (o.Enter arguments)) is e quiet' read =
+    let stands : StandsOp core i op (o.Enter arguments) = record { stands = e; no_jump = quiet'; is_read = read } in
+    (is.suits.fits i op (o.Enter arguments) stands).goes_on.few
+leads_by core main firsts i op operation is e quiet' read = tt
+
+jumps_to : (core : List CoreOp) (main : ℕ) (firsts : List ℕ) (i : ℕ) (op : CoreOp) → IsGenerable core main firsts
+    → slice_get core i ≡ Some op → is_jump op ≡ true → op.target < length core
+jumps_to core main firsts i op is e jump =
+    let there = is.free.jumps i op e jump in
+    slice_get_within core op.target there.op there.stands
+
+pub op_goes : (core : List CoreOp) (main : ℕ) (firsts : List ℕ) (globals i : ℕ) (op : CoreOp) → IsGenerable core main firsts
+    → slice_get core i ≡ Some op → All (GoesTo (length core)) (block_of (placed globals op))
+op_goes core main firsts globals i op is e =
+    block_all (length core) globals op (jumps_to core main firsts i op is e)
+    (λ quiet'. leads_by core main firsts i op (operation_of op.kind op.number) is e quiet' refl)
+
+-- ---- how many words
+
+access_length : (operation : Option Operation) (d site : ℕ) → length (accesses.block_of operation d site) ≤ 15
+access_length (Some o.Take) d site = omega arith
+access_length (Some (o.Check true)) d site = omega arith
+access_length (Some (o.Check false)) d site = omega arith
+access_length (Some o.Read) d site = omega arith
+access_length (Some o.Write) d site = omega arith
+access_length (Some (o.Combine by)) d site = omega arith
+access_length (Some o.PrintNumber) d site = omega arith
+access_length (Some o.PrintByte) d site = omega arith
+access_length operation d site = omega arith
+
+access_words : (operation : Option Operation) (d site : ℕ) → length (accesses.block_of operation d site) ≤ words_by operation
+access_words (Some (o.Enter arguments)) d site = omega arith
+access_words operation d site = access_length operation d site
+
+first_length : (is : List Instruction) → length (expressions.first_commits is) ≡ length is
+first_length [] = refl
+first_length (i ∷ is) = ap suc (length-map is quiet)
+
+join_length : (d : ℕ) (sign : Op) (first second : ℕ) → length (expressions.join_code d sign first second) ≤ 15
+join_length d op.LeS first second = omega arith
+join_length d op.LeU first second = omega arith
+join_length d op.Eq first second = omega arith
+join_length d op.Ne first second = omega arith
+join_length d op.MinS first second = omega arith
+join_length d op.MaxS first second = omega arith
+join_length d op.MinU first second = omega arith
+join_length d op.MaxU first second = omega arith
+join_length d sign first second = omega arith
+
+get_length : (globals d : ℕ) (which : Known) → length (expressions.get_code globals d which) ≤ 15
+get_length globals d (known.Value variable) = omega arith
+get_length globals d known.Rank = omega arith
+get_length globals d known.GroupNumber = omega arith
+get_length globals d known.GroupSize = omega arith
+get_length globals d known.ProcessorNumber = omega arith
+get_length globals d known.Processors = omega arith
+get_length globals d known.InputLength = omega arith
+get_length globals d known.InputAddress = omega arith
+get_length globals d (known.FrameAddress nesting word) = omega arith
+
+code_length : (globals d : ℕ) (operation : Operation) → length (expressions.expression_code globals d operation) ≤ words_by (Some operation)
+code_length globals d (o.Push n) = omega arith
+code_length globals d (o.Get which) = get_length globals d which
+code_length globals d (o.Set variable) = omega arith
+code_length globals d o.DropLast = omega arith
+code_length globals d o.CopyLast = omega arith
+code_length globals d (o.Apply sign) = omega arith
+code_length globals d (o.Join sign false) = join_length d sign t0 t1
+code_length globals d (o.Join sign true) = join_length d sign t1 t0
+code_length globals d (o.Index size) = omega arith
+code_length globals d (o.Enter arguments) = omega arith
+code_length globals d operation = omega arith
+
+expression_words : (globals d : ℕ) (operation : Option Operation)
+    → length (option_map_or (expressions.expression_block globals d) operation []) ≤ words_by operation
+expression_words globals d None = omega arith
+expression_words globals d (Some operation) =
+    let same = first_length (expressions.expression_code globals d operation) in
+    let few = code_length globals d operation in
+    omega arith
+
+flow_words : (op : CoreOp) (operation : Option Operation) → length (flow.block_by op operation) ≤ words_by operation
+flow_words op (Some (o.Branch onward)) = omega arith
+flow_words op (Some (o.Leave true framed)) = omega arith
+flow_words op (Some (o.Leave false framed)) = omega arith
+flow_words op (Some (o.Enter arguments)) = omega arith
+flow_words op (Some o.Halt) = omega arith
+flow_words op operation = omega arith
+
+words_of : (jump : Bool) (globals : ℕ) (op : CoreOp) (operation : Option Operation) → is_jump op ≡ jump → operation_of op.kind op.number ≡ operation
+    → length (block_in (kind_by (jump || flow.is_some_flow operation) (accesses.is_access operation)) (placed globals op))
+    ≤ (if jump then 1 else words_by operation)
+words_of true globals op operation j read = rw j (omega arith)
+words_of false globals op operation j read = by (kind_by (flow.is_some_flow operation) (accesses.is_access operation))
+  where
+    by : (kind : Kind) → length (block_in kind (placed globals op)) ≤ words_by operation
+    by Flow = rw (j, read) (flow_words op operation)
+    by Access = rw read (access_words operation op.depth op.site)
+    by Expression = rw read (expression_words globals op.depth operation)
+
+block_words : (globals : ℕ) (op : CoreOp) → length (block_of (placed globals op)) ≤ most_words op
+block_words globals op = words_of (is_jump op) globals op (operation_of op.kind op.number) refl refl
+
+pub all_words : (globals : ℕ) (core : List CoreOp) → length (flat_map (λ op. block_of (placed globals op)) core) ≤ sum_by most_words core
+all_words globals core =
+    let sum = length-flat_map (λ op. block_of (placed globals op)) core in
+    let le = sum_by-le-sum_by (λ op. length (block_of (placed globals op))) most_words core (block_words globals) in
+    omega arith
+
+-- ---- the opening
+
+firsts_all : (i : ℕ) (firsts : List ℕ) → All IsUnlabeled (first_lines i firsts)
+firsts_all i [] = All-nil IsUnlabeled
+firsts_all i (v ∷ firsts) =
+    All-append IsUnlabeled (first_line i v) (first_lines (suc i) firsts)
+    (All-from_recursion IsUnlabeled (first_line i v) (refl, (refl, (refl, tt)))) (firsts_all (suc i) firsts)
+
+registers_all : (of_file : ℕ) → All IsUnlabeled (register_lines of_file)
+registers_all of_file =
+    All-from_recursion IsUnlabeled (register_lines of_file)
+    (refl, (refl, (refl, (refl, (refl, (refl, (refl, (refl, (refl, (refl, tt))))))))))
+
+pub opening_goes : (n of_file : ℕ) (firsts : List ℕ) (main : ℕ) → main < n → All (GoesTo n) (opening_lines of_file firsts main)
+opening_goes n of_file firsts main lt =
+    All-append (GoesTo n) (register_lines of_file ++ first_lines 0 firsts) (f.jump_block main)
+    (go_nowhere n (register_lines of_file ++ first_lines 0 firsts)
+    (All-append IsUnlabeled (register_lines of_file) (first_lines 0 firsts) (registers_all of_file) (firsts_all 0 firsts)))
+    (jump_all n main lt)
+
+firsts_length : (i : ℕ) (firsts : List ℕ) → length (first_lines i firsts) ≡ 3 * length firsts
+firsts_length i [] = refl
+firsts_length i (v ∷ firsts) = let rest = firsts_length (suc i) firsts in omega arith
+
+pub opening_length : (of_file : ℕ) (firsts : List ℕ) (main : ℕ) → length (opening_lines of_file firsts main) ≡ 3 * length firsts + 11
+opening_length of_file firsts main =
+    let sum = length-append (register_lines of_file ++ first_lines 0 firsts) (f.jump_block main) in
+    let sum' = length-append (register_lines of_file) (first_lines 0 firsts) in
+    let firsts' = firsts_length 0 firsts in
+    omega arith

@@ -1,0 +1,164 @@
+-- Lists that suit frames have blocks.
+use Rattle.std.proofs.Common.{◌≡◌, ℕ, suc, ◌^◌, ◌<◌, ◌≤◌, List, length, Bool, true, false, Option, Some, None, sym, ap, subst, ◌∙◌, arith, refl, ◌⊎◌, inl, inr, if◌then◌else◌}
+use Rattle.std.specs.Prelude.{◌==◌, ◌||◌, IsSomeAnd, option_map}
+use Rattle.std.proofs.lemmas.Bool.{eqb-true}
+use Rattle.fk_operation.specs.declared.operation.Known.TheVariants.{Value, Rank, GroupNumber, ProcessorNumber, Processors, GroupSize, InputLength, FrameAddress, InputAddress}
+use Rattle.fk_operation.specs.declared.operation.Multiprefix.{Multiprefix}
+use Rattle.fk_operation.specs.declared.operation.Operation.{Operation}
+use Rattle.fk_operation.specs.declared.operation.Operation.TheVariants.{Push, Get, Set, DropLast, CopyLast, Apply, Join, Index, Branch, Enter, Leave, Combine, Halt}
+use Rattle.fk_operation.specs.declared.operation.Variable.TheVariants.{Private, OfFile}
+use Rattle.fk_operation.specs.declared.kinds.Class.{Class}
+use Rattle.fk_operation.specs.declared.kinds.Class.TheVariants.{Local, Request, Tree}
+use Rattle.fk_operation.specs.Kinds.{class_of_kind, multiprefix_of}
+use Rattle.fk_core.specs.declared.op.CoreOp.{CoreOp}
+use Rattle.fk_core.specs.Next.{is_jump}
+use Rattle.fk_core.specs.Numbers.{operation_of, operation_by, local_of, request_of, tree_step_of}
+use Rattle.fk_block_law.specs.Stands.{Frames, HasRoom}
+use Rattle.fk_block_law.specs.Next.{StandsOp}
+use Rattle.fk_block_law.specs.Ready.{is_alone}
+use Rattle.fk_block_law.specs.Lists.{IsFree}
+use Rattle.fk_block_law.specs.Suits.{Fits}
+use Rattle.fk_gen_expr.specs.Expressions.{IsExpression}
+use Rattle.fk_gen_access.specs.Blocks.{is_access}
+use Rattle.fk_gen_flow.specs.Blocks.{is_flow, is_some_flow, HasOperands}
+use Rattle.fk_generate.specs.Kinds.{kind_of, kind_by, HasBlockIn, HasBlockOf}
+
+-- ---- the size of an index is the number of its operation
+
+-- the size of an index, and of what is none a number
+abbrev pub size_or : ℕ → Option Operation → ℕ
+size_or n (Some (Index m)) = m
+size_or n o = n
+
+by_test : (n : ℕ) (b : Bool) (x y : Option Operation) → size_or n x ≡ n → size_or n y ≡ n → size_or n (if b then x else y) ≡ n
+by_test n true x y p q = p
+by_test n false x y p q = q
+
+by_prefix : (n : ℕ) (by : Option Multiprefix) → size_or n (option_map (λ m. Combine m) by) ≡ n
+by_prefix n None = refl
+by_prefix n (Some m) = refl
+
+local_size : (kind n : ℕ) → size_or n (local_of kind n) ≡ n
+local_size kind n =
+    by_test n (kind == 1) _ _ refl (by_test n (kind == 2) _ _ refl (by_test n (kind == 3) _ _ refl (by_test n (kind == 4) _ _ refl (by_test n (kind == 5) _ _ refl (by_test n (kind == 6) _ _ refl (by_test n (kind == 7) _ _ refl (by_test n (kind == 8) _ _ refl (by_test n (kind == 9) _ _ refl (by_test n (kind == 10) _ _ refl (by_test n (kind == 11) _ _ refl (refl)))))))))))
+
+request_size : (kind n : ℕ) → size_or n (request_of kind n) ≡ n
+request_size kind n =
+    by_test n (kind == 12) _ _ refl (by_test n (kind == 13) _ _ refl (by_test n (kind == 14) _ _ refl (by_test n (kind == 19) _ _ refl (by_test n (kind == 20) _ _ refl (by_test n (kind == 21) _ _ refl (by_test n (kind == 22) _ _ refl (by_prefix n (multiprefix_of kind))))))))
+
+tree_size : (kind n : ℕ) → size_or n (tree_step_of kind n) ≡ n
+tree_size kind n =
+    by_test n (kind == 23) _ _ refl (by_test n (kind == 24) _ _ refl (by_test n (kind == 25) _ _ refl (by_test n (kind == 26) _ _ refl (by_test n (kind == 27) _ _ refl (by_test n (kind == 28) _ _ refl (by_test n (kind == 29) _ _ refl (by_test n (kind == 30) _ _ refl (by_test n (kind == 31) _ _ refl (by_test n (kind == 32) _ _ refl (by_test n (kind == 33) _ _ refl (by_test n (kind == 34) _ _ refl (refl))))))))))))
+
+read_size : (c : Class) (kind n : ℕ) → size_or n (operation_by c kind n) ≡ n
+read_size Local kind n = local_size kind n
+read_size Request kind n = request_size kind n
+read_size Tree kind n = tree_size kind n
+
+size_is : (kind n m : ℕ) → operation_of kind n ≡ Some (Index m) → m ≡ n
+size_is kind n m e = sym (ap (size_or n) e) ∙ read_size (class_of_kind kind) kind n
+
+-- ---- the values of an operation
+
+never : {A : Type 0} → false ≡ true → A
+never e = absurd (cc)
+
+pub shallow : (core : List CoreOp) (frames : Frames) (i : ℕ) (op : CoreOp) (operation : Operation) → Fits core frames i op operation → op.depth ≤ 56
+shallow core frames i op operation fits = let h = fits.room.header in omega arith
+
+one_more : (frames : Frames) (i depth : ℕ) → HasRoom frames i (suc depth) → depth < 64
+one_more frames i depth room = let h = room.header in omega arith
+
+at_most : (frames : Frames) (i depth : ℕ) → HasRoom frames i depth → depth ≤ 64
+at_most frames i depth room = let h = room.header in omega arith
+
+-- the operations of expressions
+pub has_expression : (core : List CoreOp) (frames : Frames) (i globals : ℕ) (op : CoreOp) (operation : Operation) → operation_of op.kind op.number ≡ Some operation
+    → Fits core frames i op operation → frames.of_file ≤ 56 → op.number < 2 ^ 32 → globals ≤ 2 ^ 20 → is_alone operation ≡ true
+    → is_flow operation ≡ false → is_access (Some operation) ≡ false → IsExpression globals op.depth operation
+has_expression core frames i globals op (Push n) read fits few number some alone f a = one_more frames i op.depth fits.place
+has_expression core frames i globals op (Get (Value (Private w))) read fits few number some alone f a =
+    let k = fits.place.1.kept w fits.place.0 in
+    (one_more frames i op.depth fits.place.1, omega arith)
+has_expression core frames i globals op (Get (Value (OfFile w))) read fits few number some alone f a =
+    let lt = fits.place.0 in
+    (one_more frames i op.depth fits.place.1, omega arith)
+has_expression core frames i globals op (Get Rank) read fits few number some alone f a = (one_more frames i op.depth fits.place.1, tt)
+has_expression core frames i globals op (Get GroupNumber) read fits few number some alone f a = (one_more frames i op.depth fits.place.1, tt)
+has_expression core frames i globals op (Get ProcessorNumber) read fits few number some alone f a = (one_more frames i op.depth fits.place.1, tt)
+has_expression core frames i globals op (Get Processors) read fits few number some alone f a = (one_more frames i op.depth fits.place.1, tt)
+has_expression core frames i globals op (Get GroupSize) read fits few number some alone f a = (one_more frames i op.depth fits.place.1, tt)
+has_expression core frames i globals op (Get InputLength) read fits few number some alone f a = (one_more frames i op.depth fits.place.1, tt)
+has_expression core frames i globals op (Get InputAddress) read fits few number some alone f a = (one_more frames i op.depth fits.place.1, some)
+has_expression core frames i globals op (Get (FrameAddress nesting word)) read fits few number some alone f a = never alone
+has_expression core frames i globals op (Set (Private w)) read fits few number some alone f a =
+    let p = fits.place in (fits.values, at_most frames i op.depth fits.room, omega arith)
+has_expression core frames i globals op (Set (OfFile w)) read fits few number some alone f a =
+    let p = fits.place in (fits.values, at_most frames i op.depth fits.room, omega arith)
+has_expression core frames i globals op DropLast read fits few number some alone f a = tt
+has_expression core frames i globals op CopyLast read fits few number some alone f a = (fits.values, one_more frames i op.depth fits.place)
+has_expression core frames i globals op (Apply sign) read fits few number some alone f a = (fits.values, at_most frames i op.depth fits.room)
+has_expression core frames i globals op (Join sign turned) read fits few number some alone f a = (fits.values, at_most frames i op.depth fits.room)
+has_expression core frames i globals op (Index size) read fits few number some alone f a =
+    let e = size_is op.kind op.number size read in (fits.values, at_most frames i op.depth fits.room, omega arith)
+has_expression core frames i globals op (Leave gives true) read fits few number some alone f a = never alone
+has_expression core frames i globals op (Leave gives false) read fits few number some alone f a = never (sym f)
+has_expression core frames i globals op operation read fits few number some alone f a = absurd (cc)
+
+-- what a branch and a call ask for
+pub has_operands : (core : List CoreOp) (frames : Frames) (i : ℕ) (op : CoreOp) (operation : Operation) → StandsOp core i op operation
+    → Fits core frames i op operation → IsFree core → length core < 2 ^ 31 → HasOperands op.depth op.target (Some operation)
+has_operands core frames i op (Branch onward) stands fits free short =
+    let there : op.target < length core = (free.within i op (Branch onward) stands.stands stands.is_read refl false).at in omega arith
+has_operands core frames i op (Enter n) stands fits free short = fits.values
+has_operands core frames i op operation stands fits free short = tt
+
+-- ---- all of them
+
+pub kind_here : (core : List CoreOp) (i : ℕ) (op : CoreOp) (operation : Operation) → StandsOp core i op operation
+    → kind_of op ≡ kind_by (is_flow operation) (is_access (Some operation))
+kind_here core i op operation stands =
+    ap (λ b. kind_by (b || is_some_flow (operation_of op.kind op.number)) (is_access (operation_of op.kind op.number))) stands.no_jump
+    ∙ ap (λ o. kind_by (is_some_flow o) (is_access o)) stands.is_read
+
+no_halt : (operation : Operation) → (is_alone operation ≡ true) ⊎ (operation ≡ Halt) → is_flow operation ≡ false → is_alone operation ≡ true
+no_halt operation (inl alone) f = alone
+no_halt operation (inr e) f = never (sym f ∙ ap is_flow e)
+
+module _ (core : List CoreOp) (frames : Frames) (i globals : ℕ) (op : CoreOp) (operation : Operation) where
+  has_by : (flow access : Bool) → is_flow operation ≡ flow → is_access (Some operation) ≡ access → StandsOp core i op operation
+      → Fits core frames i op operation → frames.of_file ≤ 56 → op.number < 2 ^ 32 → HasOperands op.depth op.target (Some operation)
+      → globals ≤ 2 ^ 20 → (is_alone operation ≡ true) ⊎ (operation ≡ Halt) → HasBlockIn (kind_by flow access) (record { op = op; globals = globals })
+  has_by true access f a stands fits few number operands some alone = record {
+    kind = inr (ap is_some_flow stands.is_read ∙ f);
+    depth = λ e. shallow core frames i op operation fits;
+    jump = λ e. never (sym stands.no_jump ∙ e);
+    operands = subst (HasOperands op.depth op.target) (sym stands.is_read) operands;
+  }
+  has_by false true f a stands fits few number operands some alone = record {
+    access = ap is_access stands.is_read ∙ a;
+    depth = shallow core frames i op operation fits;
+  }
+  has_by false false f a stands fits few number operands some alone =
+      subst (λ o. IsSomeAnd o (IsExpression globals op.depth)) (sym stands.is_read)
+      (has_expression core frames i globals op operation stands.is_read fits few number some (no_halt operation alone f) f a)
+
+  -- an operation that suits frames has a block
+  pub has_block_of : StandsOp core i op operation → Fits core frames i op operation → frames.of_file ≤ 56 → op.number < 2 ^ 32 → HasOperands op.depth op.target (Some operation)
+      → globals ≤ 2 ^ 20 → (is_alone operation ≡ true) ⊎ (operation ≡ Halt) → HasBlockOf (record { op = op; globals = globals })
+  has_block_of stands fits few number operands some alone =
+      subst (λ k. HasBlockIn k (record { op = op; globals = globals })) (sym (kind_here core i op operation stands))
+      (has_by (is_flow operation) (is_access (Some operation)) refl refl stands fits few number operands some alone)
+
+-- and so has a jump
+pub jump_has : (op : CoreOp) (globals : ℕ) → is_jump op ≡ true → op.target < 2 ^ 31 → HasBlockOf (record { op = op; globals = globals })
+jump_has op globals jump target =
+    let none : operation_of op.kind op.number ≡ None = ap (λ k. operation_of k op.number) (eqb-true op.kind 0 jump) in
+    let e = ap (λ b. kind_by (b || is_some_flow (operation_of op.kind op.number)) (is_access (operation_of op.kind op.number))) jump in
+    subst (λ k. HasBlockIn k (record { op = op; globals = globals })) (sym e)
+    (record {
+      kind = inl jump;
+      depth = λ no. never (sym no ∙ jump);
+      jump = λ yes. target;
+      operands = subst (HasOperands op.depth op.target) (sym none) tt;
+    })

@@ -1,0 +1,12 @@
+//! The code of a flat list: the opening, the code that all calls share, and the block of each operation.
+#![tactic(auto)]
+
+mod all_blocks;
+mod assemble;
+mod code;
+mod copying;
+mod kind;
+mod size;
+
+pub use code::generate;
+pub use size::is_small;
