@@ -1,13 +1,5 @@
-pub mod Each
 pub mod RegionTokens
 pub mod SharingTokens
-pub mod Meant
-pub mod Typed
 pub mod Notes
-pub mod Numbers
-pub mod Declared
-pub mod Named
-pub mod Expressions
-pub mod Read
 pub mod Statements
 pub mod Programs

@@ -1,7 +1,7 @@
 -- The functions of a valid program are in place.
-use Rattle.std.proofs.Common.{◌≡◌, ◌⊎◌, inl, inr, ℕ, zero, suc, ◌<◌, Bool, true, false, not, List, [], ◌∷◌, ◌++◌, codes, Option, Some, None, slice_get, refl, sym, ap, subst, ◌∙◌, arith}
+use Rattle.std.proofs.Common.{◌≡◌, ◌⊎◌, inl, inr, ℕ, zero, suc, Bool, true, false, not, List, [], ◌∷◌, ◌++◌, codes, Option, Some, None, slice_get, refl, sym, ap, subst, ◌∙◌}
 use Rattle.std.specs.Prelude.{◌==◌, IsSome, is_some, if◌then◌else◌}
-use Rattle.std.proofs.lemmas.Bool.{false≢true, and_parts, not-true, eqb-true, cases_lt}
+use Rattle.std.proofs.lemmas.Bool.{false≢true, and_parts, not-true, eqb-true}
 use Rattle.std.proofs.lemmas.Option.{same_Some}
 use Rattle.std.proofs.lemmas.Slice.Eq.{bytes_eq-Decides}
 use Rattle.fk_syntax.specs.declared.facts.Facts.{Facts}
@@ -12,7 +12,7 @@ use Rattle.fk_rules.specs.declared.rule.Rule.TheVariants as rules
 use Rattle.fk_class.specs.declared.thing.Thing.{Thing}
 use Rattle.fk_names.specs.Outline as n
 use Rattle.fk_names.specs.Outline.{declarations, outline, variables_marks, body_marks, statements_marks, item_marks, items_marks}
-use Rattle.fk_name_rules.specs.Headers.{HeaderHere, HasHeaderAt, HasBodyAt, HasLaterAt, BodyHere, IsFirst}
+use Rattle.fk_name_rules.specs.Headers.{HasBodyAt, BodyHere}
 use Rattle.fk_name_rules.proofs.ListLemmas.{at_some}
 use Rattle.fk_pieces.specs.Pieces.{PieceTree, pieces, parameters_pieces, body_pieces, statements_pieces, item_pieces, items_pieces}
 use Rattle.fk_type_rules.specs.Pieces.{PieceBreaks}
@@ -35,11 +35,13 @@ use Rattle.fk_course.specs.InPlace.{BodyInPlace, FunctionsInPlace}
 use Rattle.fk_layout.specs.Layout.{tables_by}
 use Rattle.fk_course.proofs.Programs.{programs_have_one_program}
 use Rattle.fk_in_place.specs.Valid.{IsValid, may_run, callable, may_call, ValidProgramsAreInPlace, ValidProgramsHaveOneProgram}
-use Rattle.fk_in_place.proofs.Each.{Each, each, front_of, rest_of}
-use Rattle.fk_in_place.proofs.Typed.{Unbroken}
-use Rattle.fk_in_place.proofs.Notes.{tables, among, all_right, all_ours}
-use Rattle.fk_in_place.proofs.Named.{env, unbroken_pieces}
-use Rattle.fk_in_place.proofs.Declared.{function_number}
+use Rattle.fk_fitting.proofs.Each.{Each, each, front_of, rest_of}
+use Rattle.fk_fitting.proofs.Typed.{Unbroken}
+use Rattle.fk_fitting.proofs.Notes.{among}
+use Rattle.fk_fitting.proofs.Bodies.{no_header}
+use Rattle.fk_in_place.proofs.Notes.{tables, correct, all_right, all_ours}
+use Rattle.fk_fitting.proofs.Named.{env, unbroken_pieces}
+use Rattle.fk_fitting.proofs.Declared.{function_number}
 use Rattle.fk_in_place.proofs.Statements.{Right, Mine, Stands, Refers, Fine, Where, scope_of, AreGoodStatements, statements_good}
 
 module _ (program : ProgramTree) (facts : Facts) (valid : IsValid program facts) where
@@ -150,7 +152,7 @@ module _ (program : ProgramTree) (facts : Facts) (valid : IsValid program facts)
       (λ thing. rest_of (Mine program facts valid functions thing) (s.item_tokens thing ◌∷◌ [] x) (s.items_tokens thing ◌∷◌ [] xs) (o thing))
       (rest_of (Stands program facts valid functions) (item_marks x) (items_marks xs) b) (rest_of (Fine program facts valid functions) (item_pieces x) (items_pieces xs) k))
 
-  fine_pieces : (ps : List PieceTree) → Each (λ x. Unbroken (PieceBreaks (env program facts valid) x)) ps → Each (Refers program facts valid functions) (pieces_references ps) → Each (Fine program facts valid functions) ps
+  fine_pieces : (ps : List PieceTree) → Each (λ x. Unbroken (PieceBreaks (env program facts (correct program facts valid)) x)) ps → Each (Refers program facts valid functions) (pieces_references ps) → Each (Fine program facts valid functions) ps
   fine_pieces [] u c = tt
   fine_pieces (x ∷ ps) u c = (
     (u.0, front_of (Refers program facts valid functions) (piece_references x) (pieces_references ps) c),
@@ -160,7 +162,7 @@ module _ (program : ProgramTree) (facts : Facts) (valid : IsValid program facts)
   fine : Each IsFine fs
   fine = all_fine program.items (λ j x is. (j, is)) (all_right program facts valid) (λ thing. all_ours program facts valid thing)
       (each (Stands program facts valid functions) (outline program) (λ i x is. (i, is)))
-      (fine_pieces (pieces program) (unbroken_pieces program facts valid)
+      (fine_pieces (pieces program) (unbroken_pieces program facts (correct program facts valid))
       (each (Refers program facts valid functions) (pieces_references (pieces program)) (λ i x is. among (pieces_references (pieces program)) i x is)))
 
   -- ---- what each is
@@ -206,7 +208,7 @@ module _ (program : ProgramTree) (facts : Facts) (valid : IsValid program facts)
   shaped (f ∷ gs) h = (subst (BodyShaped (tables program facts valid) functions) (sym h.0.has) (shaped_one f h.0), shaped gs h.1)
 
   number_of : (f : FunctionTree) (k : IsFine f) → slice_get (declarations program) (binding_of (tables program facts valid) f) ≡ Some (n.Header f)
-  number_of f k = function_number program facts valid k.index f k.there (ap is_some k.has)
+  number_of f k = function_number program facts (correct program facts valid) k.index f k.there (ap is_some k.has)
 
   called : (in_group : Bool) (f : FunctionTree) (k : IsFine f) → may_call program in_group (binding_of (tables program facts valid) f) ≡ true → (is_main f ≡ false) × (may_run in_group f.mode ≡ true)
   called in_group f k may =
@@ -250,32 +252,8 @@ module _ (program : ProgramTree) (facts : Facts) (valid : IsValid program facts)
         by (VariablesItem variables) is here = here
         by (FunctionItem f) is here = false≢true (sym (in_functions (λ g'. is_main g' ≡ false) program.items k f is here.1 none) ∙ (bytes_eq-Decides f.name.bytes name).1 here.0)
 
-    lacks : (k : ℕ) (f : FunctionTree) → slice_get program.items k ≡ Some (FunctionItem f) → f.name.bytes ≡ name → (IsFirst (HasLaterAt program.items name) k ⊎ ((j : ℕ) → HasLaterAt program.items name j → ⊥)) → ⊥
-    lacks k f is same which = valid.known.types.kept f.name.place rules.HeadersDiffer
-        (inl (inr (inr (inr (inl (refl, (k, f, is, inr (inr (subst (λ bytes. LacksBody' bytes) (sym same) (no_body, which))), refl)))))))
-      where
-        LacksBody' : List ℕ → Type 0
-        LacksBody' bytes = ((j : ℕ) → HasBodyAt program.items bytes j → ⊥) × (IsFirst (HasLaterAt program.items bytes) k ⊎ ((j : ℕ) → HasLaterAt program.items bytes j → ⊥))
-
-    header_named : (k : ℕ) → HasHeaderAt program.items name k → (f : FunctionTree) × (slice_get program.items k ≡ Some (FunctionItem f)) × (f.name.bytes ≡ name)
-    header_named k has = let x = at_some (HeaderHere name) program.items k has in by x.0 x.1 x.2
-      where
-        by : (x : ItemTree) → slice_get program.items k ≡ Some x → HeaderHere name x → (f : FunctionTree) × (slice_get program.items k ≡ Some (FunctionItem f)) × (f.name.bytes ≡ name)
-        by (StructItem other members) is here = absurd here
-        by (VariablesItem variables) is here = absurd here
-        by (FunctionItem f) is here = (f, is, here)
-
-    none_later : (fuel k : ℕ) → k < fuel → HasLaterAt program.items name k → ⊥
-    none_later zero k less later = omega (arith, less)
-    none_later (suc fuel) k less later =
-        let f = header_named k later.0 in
-        lacks k f.0 f.1 f.2 (inl (later, (λ j other. elim (cases_lt j k) [ inl before ↦ absurd (none_later fuel j (omega (arith, less, before)) other) | inr not' ↦ not' ])))
-
-    no_header : (k : ℕ) → HasHeaderAt program.items name k → ⊥
-    no_header k has = let f = header_named k has in lacks k f.0 f.1 f.2 (inr (λ j later. none_later (suc j) j (omega arith) later))
-
     there_is_main : ⊥
-    there_is_main = valid.known.types.kept program.end rules.NoMain (inl (inr (inr (inr (inr (refl, inl (no_header, refl)))))))
+    there_is_main = valid.known.types.kept program.end rules.NoMain (inl (inr (inr (inr (inr (refl, inl (no_header program facts (correct program facts valid) name no_body, refl)))))))
 
   main_is : (gs : List FunctionTree) → Each IsFine gs → ((f : FunctionTree) × IsFine f × (is_main f ≡ true) × (main_in (tables program facts valid) gs ≡ binding_of (tables program facts valid) f)) ⊎ Each (λ f. is_main f ≡ false) gs
   main_is [] h = inr tt

@@ -1,6 +1,6 @@
 -- A statement of a valid program is shaped, noted and in place as it stands.
 use Rattle.std.proofs.Common.{◌≡◌, ◌⊎◌, inl, inr, ℕ, Bool, true, false, not, List, [], ◌∷◌, ◌++◌, codes, Option, Some, None, slice_get, refl, sym, ap, subst, ◌∙◌, arith}
-use Rattle.std.specs.Prelude.{Contains, if◌then◌else◌}
+use Rattle.std.specs.Prelude.{if◌then◌else◌}
 use Rattle.std.proofs.lemmas.Bool.{false≢true, true_from_ne_false, false_from_ne_true, and_cases, or_left, or_right, not-false}
 use Rattle.fk_syntax.specs.declared.facts.Facts.{Facts}
 use Rattle.fk_syntax.specs.declared.place.Spot.{Spot}
@@ -28,15 +28,14 @@ use Rattle.fk_pieces.specs.declared.piece.Role.TheVariants as role
 use Rattle.fk_pieces.specs.Pieces as q
 use Rattle.fk_pieces.specs.Pieces.{PieceTree, pieces, optional_pieces, variables_pieces, statement_pieces, statements_pieces}
 use Rattle.fk_references.specs.References.{ReferenceTree, Name, tree_references, optional_references}
-use Rattle.fk_type_rules.specs.Pieces.{if_there, InitialBreaks, PieceBreaks, UsedBreaks}
+use Rattle.fk_type_rules.specs.Pieces.{if_there, InitialBreaks, UsedBreaks}
 use Rattle.fk_type_rules.specs.Bound as b
 use Rattle.fk_type_rules.specs.Bound.{piece_references, pieces_references}
 use Rattle.fk_bindings.proofs.Below.{declared_below}
 use Rattle.fk_bindings.proofs.BodyLemmas.{declared_here}
 use Rattle.fk_regions.specs.declared.around.Holder as gh
 use Rattle.fk_regions.specs.declared.around.Holder.TheVariants as g
-use Rattle.fk_regions.specs.declared.around.Loops.{Loops}
-use Rattle.fk_regions.specs.declared.around.Loops.TheVariants.{Inside, Outside, Beyond}
+use Rattle.fk_regions.specs.declared.around.Loops.TheVariants.{Inside}
 use Rattle.fk_regions.specs.declared.around.Region.TheVariants.{Synchronous, Asynchronous}
 use Rattle.fk_regions.specs.declared.callee.Callee.TheVariants as callee
 use Rattle.fk_regions.specs.declared.token.Word.{Word}
@@ -68,13 +67,17 @@ use Rattle.fk_course.specs.Placed.{Who, OfGroup, OfBody, OfMain, is_group, is_ou
 use Rattle.fk_course.specs.InPlace as ip
 use Rattle.fk_course.specs.InPlace.{Splits, StatementInPlace, StatementsInPlace}
 use Rattle.fk_course.proofs.Forms.{inner_group}
+use Rattle.fk_fitting.specs.Correct.{IsCorrect}
 use Rattle.fk_in_place.specs.Valid.{IsValid, may_run, callable, may_call}
-use Rattle.fk_in_place.proofs.Each.{Each, front_of, rest_of}
-use Rattle.fk_in_place.proofs.Typed.{Unbroken}
-use Rattle.fk_in_place.proofs.Notes.{tables, among, binding_is, splits_from, Theirs, IsRight, Ours, IsOurs}
-use Rattle.fk_in_place.proofs.Named.{env, Known, IsKnown, known, declared_low}
-use Rattle.fk_in_place.proofs.Expressions.{told}
-use Rattle.fk_in_place.proofs.Read.{NoMain, Any, IsNamed, read}
+use Rattle.fk_fitting.proofs.Each.{Each, front_of, rest_of}
+use Rattle.fk_fitting.proofs.Typed.{Unbroken}
+use Rattle.fk_fitting.proofs.Notes.{among, binding_is, Theirs}
+use Rattle.fk_fitting.proofs.Statements as fit
+use Rattle.fk_fitting.proofs.Statements.{inside, never_inside}
+use Rattle.fk_in_place.proofs.Notes.{tables, correct, splits_from, IsRight, Ours, IsOurs}
+use Rattle.fk_fitting.proofs.Named.{env, Known, IsKnown, known, declared_low, takes}
+use Rattle.fk_fitting.proofs.Expressions.{told}
+use Rattle.fk_fitting.proofs.Read.{NoMain, Any, IsNamed, read}
 
 -- what is so of a name where something else is, and that is
 module _ (D : (at : ℕ) → Type 0) (A B : Named → Type 0) where
@@ -115,20 +118,23 @@ main_by true x other e is = ap is_main_meant is
 main_by false x other e is = absurd (false≢true e)
 
 module _ (program : ProgramTree) (facts : Facts) (valid : IsValid program facts) (functions : (binding : ℕ) → Signature) where
-  abbrev pub Right : Theirs program facts valid → Type 0
+  abbrev proper : IsCorrect program facts
+  proper = correct program facts valid
+
+  abbrev pub Right : Theirs program facts proper → Type 0
   Right x = IsRight program facts valid x
 
   abbrev pub Mine : (ℕ → Option Thing) → Ours program facts valid → Type 0
   Mine thing x = IsOurs program facts valid thing x
 
   abbrev pub Stands : MarkTree → Type 0
-  Stands mark = (i : ℕ) × (slice_get (outline program) i ≡ Some mark)
+  Stands mark = fit.Stands program facts proper functions mark
 
   abbrev pub Refers : ReferenceTree → Type 0
-  Refers x = Contains (pieces_references (pieces program)) x
+  Refers x = fit.Refers program facts proper functions x
 
   abbrev pub Fine : PieceTree → Type 0
-  Fine x = Unbroken (PieceBreaks (env program facts valid) x) × Each Refers (piece_references x)
+  Fine x = fit.Fine program facts proper functions x
 
   -- ---- expressions where a group runs them, or processors by themselves
 
@@ -170,54 +176,54 @@ module _ (program : ProgramTree) (facts : Facts) (valid : IsValid program facts)
         by false runs' mode.Async calls wrong = false≢true (sym wrong)
         by g runs' mode.Straight calls wrong = false≢true (sym wrong)
 
-    may : (name : Named) → Right (stands outer (spot_of name) (w.Name (spelling_of name.bytes))) → Known program facts valid name
-        → NoMain program facts valid functions name → ip.Calls (tables program facts valid) (may_call program) in_group name
+    may : (name : Named) → Right (stands outer (spot_of name) (w.Name (spelling_of name.bytes))) → Known program facts proper name
+        → NoMain program facts proper functions name → ip.Calls (tables program facts valid) (may_call program) in_group name
     may name x is_known no_main = true_from_ne_false _ (λ wrong. is_known (by wrong))
       where
         at : ℕ
         at = (note (tables program facts valid) name.at).binding
 
-        declared : (number : ℕ) (d : DeclarationTree) → slice_get (declarations program) number ≡ Some d → IsKnown program facts valid name (m.Declared number)
-            → IsDeclared (structs_of program.items) d ((env program facts valid).meant name) → callable in_group (Some d) ≡ false → ⊥
+        declared : (number : ℕ) (d : DeclarationTree) → slice_get (declarations program) number ≡ Some d → IsKnown program facts proper name (m.Declared number)
+            → IsDeclared (structs_of program.items) d ((env program facts proper).meant name) → callable in_group (Some d) ≡ false → ⊥
         declared number (n.Variable v) is k meant wrong = false≢true (sym wrong)
         declared number (n.Header f) is k meant wrong = elim (and_cases (not (is_main f)) (may_run in_group f.mode) wrong) [
           | inl main ↦ no_main (main_by (is_text f.name.bytes (codes "main")) _ _ (not-false (is_main f) main) meant.3)
           | inr mode' ↦ wrong_mode (spot_of name) (spelling_of name.bytes) x f (number, f, k.means, is, refl) mode'
         ]
 
-        by : callable in_group (slice_get (declarations program) at) ≡ false → (meaning : Meaning) → IsKnown program facts valid name meaning → ⊥
+        by : callable in_group (slice_get (declarations program) at) ≡ false → (meaning : Meaning) → IsKnown program facts proper name meaning → ⊥
         by wrong (m.Declared number) k = declared number k.meant.0 k.meant.1 k k.meant.2
             (subst (λ o. callable in_group o ≡ false) k.meant.1 (subst (λ i. callable in_group (slice_get (declarations program) i) ≡ false) k.binds wrong))
         by wrong m.Predeclared k = none_there (slice_get (declarations program) at) refl wrong
           where
             none_there : (o : Option DeclarationTree) → slice_get (declarations program) at ≡ o → callable in_group o ≡ false → ⊥
             none_there None is wrong = false≢true (sym wrong)
-            none_there (Some d) is wrong = omega (arith, k.binds, declared_low program facts valid at d is)
+            none_there (Some d) is wrong = omega (arith, k.binds, declared_low program facts proper at d is)
         by wrong m.Undeclared k = k.binds
 
-    good : (x : Tree) → Unbroken (Broken (env program facts valid) (term_of x)) → Each Right (r.tree_tokens outer x) → Each Stands (tree_marks x) → Each Refers (tree_references x) → IsGood in_group x
+    good : (x : Tree) → Unbroken (Broken (env program facts proper) (term_of x)) → Each Right (r.tree_tokens outer x) → Each Stands (tree_marks x) → Each Refers (tree_references x) → IsGood in_group x
     good x un a b' c' =
-        let named = told Right Stands Refers outer Any (IsNamed program facts valid functions) (λ spot y. tt)
-        (λ name y used referred. known program facts valid name used.0 used.1 referred) x a b' c' in
-        let is_read = read program facts valid functions x un named in
+        let named = told Right Stands Refers outer Any (IsNamed program facts proper functions) (λ spot y. tt)
+        (λ name y used referred. known program facts proper name used.0 used.1 referred) x a b' c' in
+        let is_read = read program facts proper functions (Takes (tables program facts valid)) (takes program facts proper) x un named in
         let each_may : (name : Named) → Right (stands outer (spot_of name) (w.Name (spelling_of name.bytes))) → Stands (Uses name) → Refers (Name name)
-        → NoMain program facts valid functions name → ip.Calls (tables program facts valid) (may_call program) in_group name =
-        λ name y used referred. may name y (known program facts valid name used.0 used.1 referred) in
+        → NoMain program facts proper functions name → ip.Calls (tables program facts valid) (may_call program) in_group name =
+        λ name y used referred. may name y (known program facts proper name used.0 used.1 referred) in
         record {
           fits = is_read.fits;
-          in_place = both_told (Splits (tables program facts valid) (may_call program) in_group) (NoMain program facts valid functions) (ip.Calls (tables program facts valid) (may_call program) in_group) x
+          in_place = both_told (Splits (tables program facts valid) (may_call program) in_group) (NoMain program facts proper functions) (ip.Calls (tables program facts valid) (may_call program) in_group) x
               (told Right Stands Refers outer (Splits (tables program facts valid) (may_call program) in_group)
-              (λ name. NoMain program facts valid functions name → ip.Calls (tables program facts valid) (may_call program) in_group name) (λ spot y. splits_in_group spot w.Branching y) each_may x a b' c')
+              (λ name. NoMain program facts proper functions name → ip.Calls (tables program facts valid) (may_call program) in_group name) (λ spot y. splits_in_group spot w.Branching y) each_may x a b' c')
               is_read.plain;
-          noted = λ within. both_told (Decides (tables program facts valid) (may_call program true)) (NoMain program facts valid functions) (Means (tables program facts valid) (may_call program true)) x
+          noted = λ within. both_told (Decides (tables program facts valid) (may_call program true)) (NoMain program facts proper functions) (Means (tables program facts valid) (may_call program true)) x
               (told Right Stands Refers outer (Decides (tables program facts valid) (may_call program true))
-              (λ name. NoMain program facts valid functions name → Means (tables program facts valid) (may_call program true) name) (λ spot y. decides within spot w.Branching mis.sign_decides y)
+              (λ name. NoMain program facts proper functions name → Means (tables program facts valid) (may_call program true) name) (λ spot y. decides within spot w.Branching mis.sign_decides y)
               (λ name y used referred no_main. subst (λ g'. may_call program g' (note (tables program facts valid) name.at).binding ≡ true) within (each_may name y used referred no_main)) x a b' c')
               is_read.plain;
         }
 
     -- as a piece of the text
-    used_whole : (r' : Role) (x : Tree) → Unbroken (UsedBreaks (env program facts valid) r' (term_of x)) → Unbroken (Broken (env program facts valid) (term_of x))
+    used_whole : (r' : Role) (x : Tree) → Unbroken (UsedBreaks (env program facts proper) r' (term_of x)) → Unbroken (Broken (env program facts proper) (term_of x))
     used_whole role.Condition x un place rule broken = un place rule (inl broken)
     used_whole role.Alone x un place rule broken = un place rule (inl broken)
     used_whole role.Word x un place rule broken = un place rule (inl broken)
@@ -238,7 +244,7 @@ module _ (program : ProgramTree) (facts : Facts) (valid : IsValid program facts)
     declared_may g' x there =
         let number = declared_here (outline program) there.0 (n.Variable x) there.1 in
         let low = declared_below program valid.well_formed (n.Variable x) (among (declarations program) (binding (outline program) there.0) (n.Variable x) number) in
-        let is = binding_is program facts valid x.name.at (binding (outline program) there.0) low (b.declares (n.Variable x) there.0 there.0 there.1 refl refl) in
+        let is = binding_is program facts proper x.name.at (binding (outline program) there.0) low (b.declares (n.Variable x) there.0 there.0 there.1 refl refl) in
         ap (λ i. callable g' (slice_get (declarations program) i)) is ∙ ap (callable g') number
 
     pub record AreGood (xs : List DeclaredTree) : Type 0 where
@@ -250,7 +256,7 @@ module _ (program : ProgramTree) (facts : Facts) (valid : IsValid program facts)
     first_good x a b' f = by x.first a b' (λ place rule broken. f.0 place rule (inr broken)) f.1
       where
         by : (first : Option Tree) → Each Right (r.optional_tokens outer first) → Each Stands (optional_marks first)
-            → Unbroken (if_there (InitialBreaks (env program facts valid) x) first) → Each Refers (optional_references first) → OptionGood in_group first
+            → Unbroken (if_there (InitialBreaks (env program facts proper) x) first) → Each Refers (optional_references first) → OptionGood in_group first
         by None a b' un c' = tt
         by (Some first) a b' un c' = good first (λ place rule broken. un place rule (inl (inl broken))) a b' c'
 
@@ -378,11 +384,6 @@ module _ (program : ProgramTree) (facts : Facts) (valid : IsValid program facts)
         returns = λ l e. let k = at.returns l e in (k.0, k.1, or_right _ _ k.2);
       }
 
-  never_inside : (l : Loops) → beyond l ≡ Inside → ⊥
-  never_inside Outside e = cc
-  never_inside Inside e = cc
-  never_inside Beyond e = cc
-
   in_group_body : {main : Bool} {outer : List gh.Holder} {held : (ℕ → Option Thing) → List hh.Holder} → Where OfGroup main none (g.Start ∷ outer) (λ thing. h.Body Synchronous ∷ held thing)
   in_group_body {main} {outer} {held} = record {
     runs = record { group = λ e. inl refl; alone = λ e sync. false≢true (sym e) };
@@ -419,12 +420,6 @@ module _ (program : ProgramTree) (facts : Facts) (valid : IsValid program facts)
     pub shaped : StatementsShaped (tables program facts valid) functions x statements
     pub in_place : StatementsInPlace (tables program facts valid) (may_call program) main who statements
     pub noted : is_group who ≡ true → StatementsNoted (tables program facts valid) (may_call program true) statements
-
-  -- the first loop that a `break` or `continue` may leave
-  inside : (l : Loops) → (l ≡ Outside → ⊥) → (l ≡ Beyond → ⊥) → l ≡ Inside
-  inside Outside a b' = absurd (a refl)
-  inside Inside a b' = refl
-  inside Beyond a b' = absurd (b' refl)
 
   -- the keyword that decides stands behind its condition
   condition_is : (held : (ℕ → Option Thing) → List hh.Holder) (condition : Tree) (spot : Spot) (more : List (Ours program facts valid)) (thing : ℕ → Option Thing)

@@ -38,13 +38,13 @@ use Rattle.fk_forms.specs.Tables.{no_binding, note, slot}
 use Rattle.fk_forms.specs.Expressions.{Coded, Standing, ToCall, Signature, is_name, variable, placed, predeclared}
 use Rattle.fk_nesting.specs.Calls.{takes_two}
 use Rattle.fk_nesting.specs.Shaped.{Takes as TakesIn}
-use Rattle.fk_in_place.specs.Valid.{IsValid}
-use Rattle.fk_in_place.proofs.Each.{Each, each, one_of}
-use Rattle.fk_in_place.proofs.Meant.{nothing}
-use Rattle.fk_in_place.proofs.Typed.{Unbroken, Not, IsGood, MembersTyped}
-use Rattle.fk_in_place.proofs.Notes.{tables, binding_is}
-use Rattle.fk_in_place.proofs.Numbers.{number_low}
-use Rattle.fk_in_place.proofs.Declared.{header_at}
+use Rattle.fk_fitting.specs.Correct.{IsCorrect}
+use Rattle.fk_fitting.proofs.Each.{Each, each, one_of}
+use Rattle.fk_fitting.proofs.Meant.{nothing}
+use Rattle.fk_fitting.proofs.Typed.{Unbroken, Not, IsGood, MembersTyped}
+use Rattle.fk_fitting.proofs.Notes.{tables, binding_is}
+use Rattle.fk_fitting.proofs.Numbers.{number_low}
+use Rattle.fk_fitting.proofs.Declared.{header_at}
 
 -- ---- the names that are declared before each text
 
@@ -106,7 +106,7 @@ good_predeclared bytes = by (is_multiprefix bytes) (is_request bytes) (is_output
     by false false false false true = tt
     by false false false false false = tt
 
-module _ (program : ProgramTree) (facts : Facts) (valid : IsValid program facts) where
+module _ (program : ProgramTree) (facts : Facts) (valid : IsCorrect program facts) where
   abbrev pub env : Env
   env = valid.known.types.env
 

@@ -11,8 +11,8 @@ use Rattle.fk_token_laws.proofs.Counting.{by, times, one-same, node-once}
 use Rattle.fk_token_laws.proofs.Pieces.{name_token, pieces_named, of_items}
 use Rattle.fk_bindings.proofs.Below.{declared_below}
 use Rattle.fk_pieces.specs.Pieces.{pieces}
-use Rattle.fk_in_place.proofs.Each.{Each, each}
-use Rattle.fk_in_place.proofs.Notes.{among}
+use Rattle.fk_fitting.proofs.Each.{Each, each}
+use Rattle.fk_fitting.proofs.Notes.{among}
 
 abbrev count_if : Bool → ℕ
 count_if b = cond b 1 0

@@ -31,8 +31,8 @@ use Rattle.fk_slots.specs.Places as l
 use Rattle.fk_slots.specs.Places.{none_taken, no_slots, variables_slots, parameters_slots, file_slots, behind_variable, behind_parameter, behind_parameters}
 use Rattle.fk_slots.specs.Slots.{slots_in, all_slots_in, behind, behind_body_frame, begun, begun_two, opening, body_slots, item_slots, items_slots, slots_of, behind_item}
 use Rattle.fk_layout.specs.Layout.{told_by}
-use Rattle.fk_in_place.specs.Valid.{IsValid}
-use Rattle.fk_in_place.proofs.Notes.{tables, among, binding_is}
+use Rattle.fk_fitting.specs.Correct.{IsCorrect}
+use Rattle.fk_fitting.proofs.Notes.{tables, among, binding_is}
 
 -- ---- slots beside declarations
 
@@ -176,7 +176,7 @@ module _ (told : Told) where
       (join (IsOf (x ∷ xs)) (item_slots told file x) (items_slots told (behind_item told file x) xs) (Declared (item_pieces x)) (Declared (items_pieces xs)) (of_item file x xs)
       (weaker (IsOf xs) (IsOf (x ∷ xs)) (further x xs) _ _ (of_all (behind_item told file x) xs)))
 
-module _ (program : ProgramTree) (facts : Facts) (valid : IsValid program facts) where
+module _ (program : ProgramTree) (facts : Facts) (valid : IsCorrect program facts) where
   pub header_at : (number : ℕ) (f : FunctionTree) → slice_get (declarations program) number ≡ Some (Header f)
       → ((slot (tables program facts valid) number).home ≡ NoWord) × (j : ℕ) × (slice_get program.items j ≡ Some (FunctionItem f))
   header_at number f is =
@@ -212,7 +212,7 @@ module _ (program : ProgramTree) (facts : Facts) (valid : IsValid program facts)
   behind_at [] ys i = refl
   behind_at (x ∷ xs) ys i = behind_at xs ys i
 
-  marked : (items : List ItemTree) (j : ℕ) (f : FunctionTree) → slice_get items j ≡ Some (FunctionItem f) → (here : ℕ) × (slice_get (items_marks items) here ≡ Some (Declares (Header f)))
+  pub marked : (items : List ItemTree) (j : ℕ) (f : FunctionTree) → slice_get items j ≡ Some (FunctionItem f) → (here : ℕ) × (slice_get (items_marks items) here ≡ Some (Declares (Header f)))
   marked [] j f is = absurd (cc)
   marked (x ∷ items) zero f is = (0, subst (λ y. slice_get (item_marks y ++ items_marks items) 0 ≡ Some (Declares (Header f))) (sym (same_Some x (FunctionItem f) is)) refl)
   marked (x ∷ items) (suc j) f is = let h = marked items j f is in (behind_all (item_marks x) h.0, behind_at (item_marks x) (items_marks items) h.0 ∙ h.1)

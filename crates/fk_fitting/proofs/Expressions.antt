@@ -13,7 +13,7 @@ use Rattle.fk_regions.specs.declared.token.Word.{Word}
 use Rattle.fk_regions.specs.declared.token.Word.TheVariants as w
 use Rattle.fk_regions.specs.Tokens.{Standing, stands, spot_of, spelling_of, word_of_sign, tree_tokens, links_tokens, trees_tokens, suffixes_tokens, optional_tokens}
 use Rattle.fk_lockstep.specs.Told.{is_logical, Told, LinksTold, SuffixesTold, AllTold, OptionTold}
-use Rattle.fk_in_place.proofs.Each.{Each, front_of, rest_of}
+use Rattle.fk_fitting.proofs.Each.{Each, front_of, rest_of}
 
 logical_word : (sign : Sign) → is_logical sign ≡ true → word_of_sign sign ≡ w.Branching
 logical_word g.AndAnd e = refl

@@ -1,0 +1,14 @@
+pub mod Each
+pub mod Meant
+pub mod Typed
+pub mod Notes
+pub mod Numbers
+pub mod Declared
+pub mod Named
+pub mod Expressions
+pub mod Read
+pub mod Bodies
+pub mod Begins
+pub mod Valued
+pub mod Statements
+pub mod Programs

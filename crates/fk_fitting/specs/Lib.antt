@@ -1,0 +1,3 @@
+pub mod Correct
+pub mod Conditions
+pub mod Laws

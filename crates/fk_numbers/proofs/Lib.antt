@@ -1,0 +1,4 @@
+pub mod Holding
+pub mod Lexed
+pub mod Expressions
+pub mod Programs
