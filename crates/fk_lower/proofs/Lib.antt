@@ -5,3 +5,4 @@ mod Writing
 pub mod Whole
 mod Built
 mod Shown
+mod Closing

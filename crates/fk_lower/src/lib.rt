@@ -11,6 +11,7 @@ mod fault;
 mod functions;
 pub mod laws;
 mod measure;
+mod shape;
 mod span;
 mod write;
 
@@ -19,5 +20,6 @@ pub use builder::{Builder, build};
 pub use event::CodeEvent;
 pub use fault::LowerFault;
 pub use functions::{Lowered, lower};
+pub use shape::are_shaped;
 pub use span::{Span, Spans, Start};
 pub use write::{Entries, Loop, Place, Writer};

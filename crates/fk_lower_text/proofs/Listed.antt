@@ -1,6 +1,5 @@
 -- The operations of a text in its flat list, and how many jumps there are.
-use Rattle.std.proofs.Common.{◌≡◌, ℕ, zero, suc, ◌+◌, ◌-◌, ◌≤◌, Bool, true, false, List, [], ◌∷◌, ◌++◌, map, length, replicate, None, refl, ◌∙◌, sym, ap, ap₂, subst, arith, length-append}
-use Rattle.std.proofs.lemmas.List.{append_assoc}
+use Rattle.std.proofs.Common.{◌≡◌, ℕ, zero, suc, ◌+◌, ◌-◌, ◌≤◌, Bool, false, List, [], ◌∷◌, ◌++◌, map, length, replicate, None, refl, ◌∙◌, ap, ap₂, subst, arith, length-append}
 use Rattle.fk_syntax.specs.Program.{FunctionTree, ProgramTree}
 use Rattle.fk_forms.specs.Code.{Code, done, size, sites, numbered}
 use Rattle.fk_forms.specs.Ranks.{ranked}
@@ -8,20 +7,20 @@ use Rattle.fk_forms.specs.Program.{binding_of, sites_in}
 use Rattle.fk_forms.proofs.Ranks.{counted, sites_are_ranks}
 use Rattle.fk_walk.specs.declared.known.Known.{Known}
 use Rattle.fk_walk.specs.Known.{tables_of}
-use Rattle.fk_walk_statements.specs.Texts.{functions_in, code_in, sites_of_text}
+use Rattle.fk_walk_statements.specs.Texts.{functions_in, code_in}
 use Rattle.fk_core.specs.declared.op.CoreOp.{CoreOp}
 use Rattle.fk_flat.specs.Items.{Item, acts, jumps, calls}
 use Rattle.fk_flat.specs.Flat.{flat}
-use Rattle.fk_flat.specs.Shape.{IsShaped}
+use Rattle.fk_flat.specs.Shape.{is_closed, IsShaped}
+use Rattle.fk_flat.specs.Laws.{AreShaped}
 use Rattle.fk_flat.proofs.Counts.{acts_both, jumps_both, calls_both, acts_are, jumps_are_few}
 use Rattle.fk_lower.specs.declared.block.Block.{Block}
 use Rattle.fk_lower.specs.View.{part_of}
-use Rattle.fk_lower.specs.Tree.{Part}
-use Rattle.fk_lower.specs.Lowered.{all_flat, IsListOf}
+use Rattle.fk_lower.specs.Lowered.{bodies_in, all_flat, IsListOf}
 use Rattle.fk_lower_text.specs.Whole.{ArePlain}
 use Rattle.fk_lower_text.specs.Laid.{codes_of, laid, GoUp}
 use Rattle.fk_lower_text.specs.Lowered.{IsLowerable, HasSites}
-use Rattle.fk_lower_text.proofs.Laying.{code_at, codes_shaped, plain, has_body}
+use Rattle.fk_lower_text.proofs.Laying.{code_at, in_parts, plain}
 
 -- the operations of all code
 abbrev joined : List (Code ℕ) → List (ℕ × ℕ)
@@ -82,18 +81,14 @@ module _ (known : Known) where
 
   pub has_sites : (program : ProgramTree) → IsLowerable known program → GoUp known 0 (functions_in known) → (blocks : List Block)
       → (ArePlain known (functions_in known) → codes_of blocks ≡ laid known 0 0 (functions_in known))
-      → (core : List CoreOp) (entry : ℕ → ℕ) (end : ℕ) → IsListOf core (all_flat entry 0 end (map part_of blocks)) → HasSites known core
-  has_sites program lowerable up blocks are core entry end list =
-      let same = are (plain known program lowerable up) in
-      let all : AllShaped entry end (has_body known program lowerable up) blocks = λ i. shaped_at i in
+      → (core : List CoreOp) (entry : ℕ → ℕ) (end : ℕ) → AreShaped (bodies_in (map part_of blocks))
+      → IsListOf core (all_flat entry 0 end (map part_of blocks)) → HasSites known core
+  has_sites program lowerable up blocks are core entry end shape list =
+      let has_body : ℕ → Bool = λ f. is_closed (bodies_in (map part_of blocks) f) in
+      let all : AllShaped entry end has_body blocks = λ i. subst (λ (code : Code ℕ). IsShaped has_body false code) (in_parts blocks i) (shape i).0 in
       record {
         items = all_flat entry 0 end (map part_of blocks);
         are = list;
-        sites = acts_all entry end (has_body known program lowerable up) blocks 0 all ∙ ap joined same ∙ laid_sites (functions_in known) 0 0;
-        few = few_all entry end (has_body known program lowerable up) blocks 0 all;
+        sites = acts_all entry end has_body blocks 0 all ∙ ap joined (are (plain known program lowerable up)) ∙ laid_sites (functions_in known) 0 0;
+        few = few_all entry end has_body blocks 0 all;
       }
-    where
-      shaped_at : (i : ℕ) → IsShaped (has_body known program lowerable up) false (code_at (codes_of blocks) i)
-      shaped_at i =
-          subst (λ (codes : List (Code ℕ)). IsShaped (has_body known program lowerable up) false (code_at codes i))
-          (sym (are (plain known program lowerable up))) (codes_shaped known program lowerable up i)

@@ -15,15 +15,12 @@ use Rattle.fk_core.specs.Next.{next, opening}
 use Rattle.fk_core.specs.KeepsRuns.{HasCodeOf}
 use Rattle.fk_flat.specs.Items.{Item, acts, jumps, calls}
 use Rattle.fk_flat.specs.Laws.{IsFlat}
-use Rattle.fk_shapes.specs.Fitting.{ProgramFits}
 use Rattle.fk_lower.specs.Lowered.{IsListOf}
 use Rattle.fk_lower_text.specs.Whole.{AreWhole}
 
--- a program of these items, of which is asked what flat lists ask of it, and that each number of its operations has room in a
--- word
+-- a program of these items, of whose code is asked that each number of its operations has room in a word
 pub record IsLowerable (known : Known) (program : ProgramTree) : Type 0 where
   pub items : program.items ≡ items_in known
-  pub fits : ProgramFits (tables_of known) program
   pub whole : AreWhole known (functions_in known)
 
 module _ (known : Known) (program : ProgramTree) (core : List CoreOp) (entry : (binding : ℕ) → ℕ) where

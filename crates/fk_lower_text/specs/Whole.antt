@@ -1,8 +1,8 @@
 -- Code whose operations a visitor is shown whole.
-use Rattle.std.specs.Prelude.{◌≡◌, ℕ, List, [], ◌∷◌}
+use Rattle.std.specs.Prelude.{◌≡◌, List, [], ◌∷◌}
 use Rattle.fk_operation.specs.declared.operation.Operation.{Operation}
 use Rattle.fk_syntax.specs.Program.{FunctionTree}
-use Rattle.fk_forms.specs.Code.{Code, done, perform, choose, while, until, turn, again, quit, break, continue, call, ends}
+use Rattle.fk_forms.specs.Code.{Code, done, perform, choose, while, until, quit, break, continue, call, ends}
 use Rattle.fk_walk.specs.declared.known.Known.{Known}
 use Rattle.fk_walk.specs.Shown.{shown}
 use Rattle.fk_walk_statements.specs.Texts.{code_in}
@@ -12,21 +12,21 @@ use Rattle.fk_lower.specs.Building.{IsUnbegun}
 abbrev pub HasRoom : Operation → Type 0
 HasRoom op = shown op ≡ op
 
+-- and no loop is under way
 abbrev pub IsWhole : {A : Type 0} → Code A → Type 0
 IsWhole done = Unit {0}
 IsWhole (perform t op rest) = HasRoom op × IsWhole rest
 IsWhole (choose t op x y rest) = HasRoom op × IsWhole x × IsWhole y × IsWhole rest
 IsWhole (while test body step rest) = IsWhole test × IsWhole body × IsWhole step × IsWhole rest
 IsWhole (until body test rest) = IsWhole body × IsWhole test × IsWhole rest
-IsWhole (turn test body step rest) = IsWhole test × IsWhole body × IsWhole step × IsWhole rest
-IsWhole (again test body step rest) = IsWhole test × IsWhole body × IsWhole step × IsWhole rest
 IsWhole (quit t op rest) = HasRoom op × IsWhole rest
 IsWhole (break rest) = IsWhole rest
 IsWhole (continue rest) = IsWhole rest
 IsWhole (call t op f opening rest) = HasRoom op × IsWhole opening × IsWhole rest
 IsWhole (ends t op rest) = HasRoom op × IsWhole rest
+IsWhole code = ⊥
 
--- and no loop of it is under way
+-- as code is built
 abbrev pub IsPlain : {A : Type 0} → Code A → Type 0
 IsPlain code = IsUnbegun code × IsWhole code
 

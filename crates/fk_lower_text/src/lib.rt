@@ -11,4 +11,5 @@ mod main_entry;
 mod noting;
 mod text;
 
+pub use main_entry::entry_of_main;
 pub use text::lower_text;

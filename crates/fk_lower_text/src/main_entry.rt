@@ -71,6 +71,14 @@ fn entry(lowered: &Lowered, binding: u32) -> u32
     }
 }
 
+/// Where `main` begins in the list of a text: at the entry of the first function that is `main`.
+pub fn entry_of_main(known: &Known, lowered: &Lowered) -> u32
+    ensures { result ≡ entry_of lowered.now.entries.of_bindings.items lowered.now.entries.end
+        (main_in (tables_of known.now) (functions_in known.now)) }
+{
+    entry(lowered, main_binding(known))
+}
+
 /// Whether the depths of a list of a text go with its operations. It takes time and memory linear
 /// in the list.
 ///
@@ -85,7 +93,7 @@ pub(crate) fn check_depths(
         (entry_of lowered.now.entries.of_bindings.items lowered.now.entries.end
         (main_in (tables_of known.now) (functions_in known.now)))) }
 {
-    let main = entry(lowered, main_binding(known));
+    let main = entry_of_main(known, lowered);
     let Ok(fits) = has_local_depths(alloc, &lowered.ops, main) else {
         return Err(LowerFault::Memory);
     };

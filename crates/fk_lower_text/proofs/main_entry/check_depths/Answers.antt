@@ -1,4 +1,4 @@
-use Rattle.std.proofs.Common.{◌≡◌, List, ap, ◌∙◌, subst, sym}
+use Rattle.std.proofs.Common.{◌≡◌, List, subst}
 use Rattle.fk_forms.specs.Program.{main_in}
 use Rattle.fk_walk.specs.Known.{tables_of}
 use Rattle.fk_walk_statements.specs.Texts.{functions_in}
@@ -11,7 +11,7 @@ pub returns-then-fits : goal.returns-then-fits
 returns-then-fits c =
     let lowered = c.args.lowered.now in
     let entry = entry_of lowered.entries.of_bindings.items lowered.entries.end in
-    let main = c.entry-main.ensures ∙ ap entry c.main_binding.ensures in
+    let main = c.entry_of_main-main.ensures in
     let ops : c.deref.result.now ≡ lowered.ops.items = cc in
     subst (λ (core : List CoreOp). HasLocalDepths core (entry (main_in (tables_of c.args.known.now) (functions_in c.args.known.now)))) ops
     (subst (λ m. HasLocalDepths c.deref.result.now m) main (c.in-Ok.ensures c.if-fits.true))

@@ -19,31 +19,31 @@ pub returns-clause-program : goal.returns-clause-program
 returns-clause-program c program lowerable =
     let bodies = c.in_ok-bodies in
     let lowered = c.in_ok-lowered in
-    let blocks = c.deref.result.now in
+    let blocks = c.deref-blocks.result.now in
     let same : blocks ≡ bodies.bodies.blocks.items = cc in
     let measured = subst (λ (list : List Block). AreMeasured (map part_of list)) (sym same) bodies.ensures.measured in
     has_program c.args.known.now program lowerable bodies.ensures.up blocks (λ plain. ap codes_of same ∙ bodies.ensures.codes plain) lowered.lowered.ops.items
-    (entry_of lowered.lowered.entries.of_bindings.items lowered.lowered.entries.end) (lowered.ensures.flat measured)
+    (entry_of lowered.lowered.entries.of_bindings.items lowered.lowered.entries.end) c.in_ok-check_shape.ensures (lowered.ensures.flat measured)
 
 pub returns-clause-runs : goal.returns-clause-runs
 returns-clause-runs c program lowerable =
     let bodies = c.in_ok-bodies in
     let lowered = c.in_ok-lowered in
-    let blocks = c.deref.result.now in
+    let blocks = c.deref-blocks.result.now in
     let same : blocks ≡ bodies.bodies.blocks.items = cc in
     let measured = subst (λ (list : List Block). AreMeasured (map part_of list)) (sym same) bodies.ensures.measured in
     has_its_runs c.args.known.now program lowerable bodies.ensures.up blocks (λ plain. ap codes_of same ∙ bodies.ensures.codes plain) lowered.lowered.ops.items
-    (entry_of lowered.lowered.entries.of_bindings.items lowered.lowered.entries.end) (lowered.ensures.flat measured)
+    (entry_of lowered.lowered.entries.of_bindings.items lowered.lowered.entries.end) c.in_ok-check_shape.ensures (lowered.ensures.flat measured)
 
 pub returns-clause-sites : goal.returns-clause-sites
 returns-clause-sites c program lowerable =
     let bodies = c.in_ok-bodies in
     let lowered = c.in_ok-lowered in
-    let blocks = c.deref.result.now in
+    let blocks = c.deref-blocks.result.now in
     let same : blocks ≡ bodies.bodies.blocks.items = cc in
     let measured = subst (λ (list : List Block). AreMeasured (map part_of list)) (sym same) bodies.ensures.measured in
     has_sites c.args.known.now program lowerable bodies.ensures.up blocks (λ plain. ap codes_of same ∙ bodies.ensures.codes plain) lowered.lowered.ops.items
-    (entry_of lowered.lowered.entries.of_bindings.items lowered.lowered.entries.end) lowered.lowered.entries.end (lowered.ensures.order measured)
+    (entry_of lowered.lowered.entries.of_bindings.items lowered.lowered.entries.end) lowered.lowered.entries.end c.in_ok-check_shape.ensures (lowered.ensures.order measured)
 
 pub returns-clause-depths : goal.returns-clause-depths
 returns-clause-depths c program same =

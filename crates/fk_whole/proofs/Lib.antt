@@ -1,0 +1,3 @@
+pub mod InExpressions
+pub mod InStatements
+pub mod Whole
