@@ -1,0 +1,4 @@
+pub mod Built
+pub mod Building
+pub mod Text
+pub mod Refusal
