@@ -1,89 +1,74 @@
--- The images of programs are within the limits of images.
-use Rattle.std.proofs.Common.{◌≡◌, ℕ, suc, ◌+◌, ◌*◌, ◌<◌, ◌≤◌, List, [], ◌∷◌, length, get_or, All, subst, arith, refl, length-append}
+-- The image of a text is within the limits of images.
+use Rattle.std.proofs.Common.{◌≡◌, ℕ, suc, ◌+◌, ◌<◌, ◌≤◌, List, [], ◌∷◌, ◌++◌, All, subst, arith}
 use Rattle.std.specs.Prelude.{map, slice_index}
 use Rattle.std.specs.List.Sorted.{IsStrictlyIncreasing}
 use Rattle.std.proofs.lemmas.List.Elements.{All-nil, All-cons, All-append, All-map}
+use Rattle.fk_syntax.specs.declared.place.Place.{Place}
+use Rattle.fk_syntax.specs.Program.{FunctionTree}
+use Rattle.fk_operation.specs.Kinds.{kind_of}
+use Rattle.fk_operation.specs.declared.operation.Operation.{Operation}
+use Rattle.fk_operation.specs.declared.operation.Operation.TheVariants.{Combine, Push}
+use Rattle.fk_operation.specs.declared.operation.Multiprefix.TheVariants.{MpAdd, MpMax, MpAnd, MpOr}
+use Rattle.fk_forms.specs.Code.{done, perform, choose, while, until, turn, again, quit, break, continue, call, ends, sites}
+use Rattle.fk_forms.specs.Expressions.{Coded}
+use Rattle.fk_forms.specs.Tables.{Tables}
+use Rattle.fk_forms.specs.Program.{code_of, sites_in}
 use Rattle.fk_image.specs.Limits.{IsSite, IsCommit, Rise}
-use Rattle.fk_isa.specs.declared.instruction.Instruction.{Instruction}
-use Rattle.fk_asm.specs.Block.{MarkedLine}
 use Rattle.fk_asm.specs.Commits.{IsCommitTable}
-use Rattle.fk_asm.proofs.Straight.{IsUnlabeled}
-use Rattle.fk_meaning.specs.declared.syntax.Statement.{Statement}
-use Rattle.fk_meaning.specs.declared.operations.Operation.{Operation}
-use Rattle.fk_meaning.specs.declared.operations.Operation.TheVariants.{PushNumber, PushAddress, Add, DropLast, ReadWord, WriteWord, PrintNumber, Halt}
-use Rattle.fk_meaning.specs.Sites.{operations_of_statement, operations_of_body, site_of}
-use Rattle.fk_compile.specs.Code.{block, quiet, commits, marked, all_marked, depth_after}
-use Rattle.fk_compile.proofs.Blocks.{short_block}
-use Rattle.fk_compile.proofs.Places.{length-marked}
-
--- ---- the length of the code
-
--- a block has one to six instructions
-pub block_length : (d : ℕ) (op : Operation) → (1 ≤ length (marked (block d op))) × (length (marked (block d op)) ≤ 6)
-block_length d op =
-    let short = short_block op d in
-    let same = length-marked (block d op) in
-    let a = short.0 in
-    let b = short.1 in
-    (omega arith, omega arith)
-
-pub code_length : (ops : List Operation) (d : ℕ) → (length ops ≤ length (all_marked d ops)) × (length (all_marked d ops) ≤ 6 * length ops)
-code_length [] d = (omega arith, omega arith)
-code_length (op ∷ ops) d =
-    let one = block_length d op in
-    let more = code_length ops (depth_after op d) in
-    let both = length-append (marked (block d op)) (all_marked (depth_after op d) ops) in
-    let a = one.0 in
-    let b = one.1 in
-    let e = more.0 in
-    let f = more.1 in
-    (omega arith, omega arith)
-
--- `halt` is always there
-pub some_operation : (body : List Statement) → 1 ≤ length (operations_of_body body)
-some_operation [] = omega arith
-some_operation (s ∷ body) =
-    let both = length-append (operations_of_statement s) (operations_of_body body) in
-    let more = some_operation body in
-    omega arith
+use Rattle.fk_compile.specs.Faithful.{in_image}
 
 -- ---- sites
 
-kind_fits : (op : Operation) → IsSite (site_of op)
-kind_fits (PushNumber n) = (omega arith, omega arith)
-kind_fits (PushAddress x) = (omega arith, omega arith)
-kind_fits Add = (omega arith, omega arith)
-kind_fits DropLast = (omega arith, omega arith)
-kind_fits ReadWord = (omega arith, omega arith)
-kind_fits WriteWord = (omega arith, omega arith)
-kind_fits PrintNumber = (omega arith, omega arith)
-kind_fits Halt = (omega arith, omega arith)
+-- kinds go from 1 to 34
+abbrev IsKind : ℕ → Type 0
+IsKind kind = (1 ≤ kind) × (kind ≤ 34)
 
-pub sites_fit : (ops : List Operation) → All IsSite (map site_of ops)
-sites_fit ops = All-map IsSite site_of ops (each ops)
-  where
-    each : (ops : List Operation) → All (λ op. IsSite (site_of op)) ops
-    each [] = All-nil (λ op. IsSite (site_of op))
-    each (op ∷ ops) = All-cons (λ op. IsSite (site_of op)) op ops (kind_fits op) (each ops)
+kind_fits : (op : Operation) → IsKind (kind_of op)
+kind_fits (Combine MpAdd) = (omega arith, omega arith)
+kind_fits (Combine MpMax) = (omega arith, omega arith)
+kind_fits (Combine MpAnd) = (omega arith, omega arith)
+kind_fits (Combine MpOr) = (omega arith, omega arith)
+kind_fits (Push n) = (omega arith, omega arith)
+kind_fits op = (omega arith, omega arith)
 
--- ---- lines
+abbrev Fits : ℕ × Place → Type 0
+Fits site = IsKind site.0
 
-each_quiet : (P : MarkedLine → Type 0) → ((i : Instruction) → P (quiet i)) → (is : List Instruction) → All P (map quiet is)
-each_quiet P q is = All-map P quiet is (λ k i lt. q (get_or is k i))
+abbrev CodeFits : Coded → Type 0
+CodeFits code = All Fits (sites code)
 
--- what holds of each line of a block holds of all lines
-each_line : (P : MarkedLine → Type 0) → ((i : Instruction) → P (quiet i)) → ((i : Instruction) → P (commits i)) → (ops : List Operation) (d : ℕ)
-    → All P (all_marked d ops)
-each_line P q c [] d = All-nil P
-each_line P q c (op ∷ ops) d =
-    let b = block d op in
-    All-append P (marked b) (all_marked (depth_after op d) ops)
-    (All-append P (map quiet b.before) (commits b.commit ∷ map quiet b.after) (each_quiet P q b.before)
-    (All-cons P (commits b.commit) (map quiet b.after) (c b.commit) (each_quiet P q b.after)))
-    (each_line P q c ops (depth_after op d))
+one : (op : Operation) (place : Place) (more : List (ℕ × Place)) → All Fits more → All Fits ((kind_of op, place) ∷ more)
+one op place more h = All-cons Fits (kind_of op, place) more (kind_fits op) h
 
-pub unlabeled : (ops : List Operation) (d : ℕ) → All IsUnlabeled (all_marked d ops)
-unlabeled ops d = each_line IsUnlabeled (λ i. refl) (λ i. refl) ops d
+two : (a b : Coded) → CodeFits a → CodeFits b → All Fits (sites a ++ sites b)
+two a b x y = All-append Fits (sites a) (sites b) x y
+
+three : (a b c : Coded) → CodeFits a → CodeFits b → CodeFits c → All Fits (sites a ++ sites b ++ sites c)
+three a b c x y z = All-append Fits (sites a ++ sites b) (sites c) (two a b x y) z
+
+four : (a b c d : Coded) → CodeFits a → CodeFits b → CodeFits c → CodeFits d → All Fits (sites a ++ sites b ++ sites c ++ sites d)
+four a b c d x y z w = All-append Fits (sites a ++ sites b ++ sites c) (sites d) (three a b c x y z) w
+
+code_fits : (code : Coded) → CodeFits code
+code_fits done = All-nil Fits
+code_fits (perform t op rest) = one op t (sites rest) (code_fits rest)
+code_fits (choose t op a b rest) = one op t (sites a ++ sites b ++ sites rest) (three a b rest (code_fits a) (code_fits b) (code_fits rest))
+code_fits (while test body step rest) = four test body step rest (code_fits test) (code_fits body) (code_fits step) (code_fits rest)
+code_fits (until body test rest) = three body test rest (code_fits body) (code_fits test) (code_fits rest)
+code_fits (turn test body step rest) = four test body step rest (code_fits test) (code_fits body) (code_fits step) (code_fits rest)
+code_fits (again test body step rest) = four test body step rest (code_fits test) (code_fits body) (code_fits step) (code_fits rest)
+code_fits (quit t op rest) = one op t (sites rest) (code_fits rest)
+code_fits (break rest) = code_fits rest
+code_fits (continue rest) = code_fits rest
+code_fits (call t op f opening rest) = one op t (sites opening ++ sites rest) (two opening rest (code_fits opening) (code_fits rest))
+code_fits (ends t op rest) = one op t (sites rest) (code_fits rest)
+
+functions_fit : (tables : Tables) (all fs : List FunctionTree) → All Fits (sites_in tables all fs)
+functions_fit tables all [] = All-nil Fits
+functions_fit tables all (f ∷ fs) = All-append Fits (sites (code_of tables all f)) (sites_in tables all fs) (code_fits (code_of tables all f)) (functions_fit tables all fs)
+
+pub sites_fit : (tables : Tables) (all fs : List FunctionTree) → All IsSite (map in_image (sites_in tables all fs))
+sites_fit tables all fs = All-map IsSite in_image (sites_in tables all fs) (functions_fit tables all fs)
 
 -- ---- commits
 

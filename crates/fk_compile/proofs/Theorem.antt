@@ -1,104 +1,57 @@
--- An image that has the blocks of a program in their places follows the program.
-use Rattle.std.proofs.Common.{◌≡◌, ℕ, zero, suc, ◌≤◌, List, [], ◌∷◌, ◌++◌, Some, Bool, true, false, cond, sym, ap, subst, arith, refl, inl, inr}
-use Rattle.std.specs.Prelude.{replicate, slice_index, ◌&&◌}
+-- An image that has the blocks of a text's list is faithful to the text.
+use Rattle.std.proofs.Common.{◌≡◌, ℕ, ◌^◌, ◌<◌, List, All, length, subst}
+use Rattle.std.specs.Prelude.{map}
+use Rattle.fk_syntax.specs.declared.facts.Facts.{Facts}
+use Rattle.fk_syntax.specs.Program.{ProgramTree}
+use Rattle.fk_forms.specs.Program.{main_of, sites_of}
+use Rattle.fk_source.specs.Program.{next_in, opening}
+use Rattle.fk_layout.specs.Layout.{tables_by}
+use Rattle.fk_core.specs.declared.op.CoreOp.{CoreOp}
 use Rattle.fk_image.specs.declared.Image.{Image}
-use Rattle.fk_meaning.specs.declared.syntax.Program.{Program}
-use Rattle.fk_meaning.specs.declared.syntax.Statement.{Statement}
-use Rattle.fk_meaning.specs.Next.{Todo}
-use Rattle.fk_meaning.specs.Serve.{is_done}
-use Rattle.fk_meaning.specs.Round.{State}
-use Rattle.fk_meaning.specs.Schedule as source
-use Rattle.fk_meaning.specs.Schedule.{run, ArePossible, IsLawful, SourceRunning, SourceFinished, SourceFaulted, all_done, stand_by, main_of}
-use Rattle.fk_machine.specs.declared.stand.Stand.{Stand}
-use Rattle.fk_machine.specs.declared.stand.Stand.TheVariants.{Running, Finished, Faulted, Trapped}
-use Rattle.fk_machine.specs.Cycle.{first_hart, opening}
-use Rattle.fk_machine.specs.Run.{machine, rounds}
-use Rattle.fk_compile.specs.Faithful.{Agrees, StandsAgree, Follows}
-use Rattle.fk_compile.proofs.Flat.{flat}
-use Rattle.fk_compile.proofs.Linked.{Placed, soon}
-use Rattle.fk_compile.proofs.Cycles.{Distances, Together}
-use Rattle.fk_compile.proofs.Runs.{Tied, Reached, all_are, reached}
-use Rattle.fk_compile.proofs.Pace.{paces}
+use Rattle.fk_image.specs.Limits.{IsWithinLimits}
+use Rattle.fk_block_law.specs.Stands.{Places}
+use Rattle.fk_block_law.specs.Block.{BlockLaw}
+use Rattle.fk_simulation.specs.Follows.{Follows}
+use Rattle.fk_simulation.specs.Simulation.{Carries, MachinesFollowPrograms}
+use Rattle.fk_certificate.specs.Certain.{IsCertain}
+use Rattle.fk_compile.specs.Lists.{IsListFor}
+use Rattle.fk_compile.specs.Faithful.{in_image, words_by, firsts_by, IsFaithfulTo}
 
--- the blocks of a program stand in their places, and its globals are 0
-pub record IsMade (program : Program) (image : Image) : Type 0 where
-  pub placed : Placed image 0 [] (flat (main_of program.body.items))
-  pub globals : image.globals.items ≡ replicate program.variables 0
+module _ (program : ProgramTree) (facts : Facts) (core : List CoreOp) (main : ℕ) (image : Image) where
+  -- what the parts of the compiler say of the list and the image
+  pub record IsCompiled : Type 0 where
+    pub list : IsListFor (tables_by program facts) program core main
+    pub certain : IsCertain core main (length (firsts_by program facts))
+    pub places : Places
+    pub blocks : BlockLaw core image places (firsts_by program facts) main
+    pub firsts_are_words : All (λ w. w < 2 ^ 32) (firsts_by program facts)
+    pub globals_are_words : All (λ w. w < 2 ^ 32) image.globals.items
+    pub limits : IsWithinLimits image
+    pub sites_are : image.sites.items ≡ map in_image (sites_of (tables_by program facts) program)
+    pub globals_are : image.globals.items ≡ words_by program facts
 
--- ---- from the run to what is said of it
+  carries : (c : IsCompiled) → Carries core (c.list.entry (main_of (tables_by program facts) program)) (firsts_by program facts) c.places image
+  carries c =
+      subst (λ (m : ℕ). Carries core m (firsts_by program facts) c.places image) c.list.begins
+      (record {
+        well_formed = record { leads_on = c.list.code.leads_on; depths = c.list.depths };
+        may = c.certain.may;
+        free = c.certain.free;
+        begins = c.certain.begins;
+        blocks = c.blocks;
+        firsts_are_words = c.firsts_are_words;
+        globals_are_words = c.globals_are_words;
+      })
 
-possible_of : (image : Image) (input : List ℕ) (p n : ℕ) (s : State) → Reached image input p n s → ArePossible (rounds image input p n) s
-possible_of image input p n s (inl g) = all_are (rounds image input p n) s g.possible
-possible_of image input p n s (inr g) = g.possible
-
-going_stand : (st : Stand) (b : Bool) → st ≡ cond b Finished Running → StandsAgree st (cond b SourceFinished SourceRunning)
-going_stand Running true e = absurd (cc)
-going_stand Running false e = tt
-going_stand Finished true e = tt
-going_stand Finished false e = absurd (cc)
-going_stand (Faulted a b) true e = absurd (cc)
-going_stand (Faulted a b) false e = absurd (cc)
-going_stand (Trapped a b c) true e = absurd (cc)
-going_stand (Trapped a b c) false e = absurd (cc)
-
-agree : (image : Image) (input : List ℕ) (p n : ℕ) (s : State) → Reached image input p n s → Agrees image input p n (run (rounds image input p n) s)
-agree image input p n s (inl g) =
-    let last = run (rounds image input p n) s in
-    record {
-      output = g.tied.output;
-      words = λ i lt. ap (λ words. words i) g.tied.words;
-      stand = subst (λ f. StandsAgree (machine image input p n).stand (stand_by f last.processors)) (sym g.tied.running) (going_stand (machine image input p n).stand (all_done last.processors) g.tied.stand);
-    }
-agree image input p n s (inr g) =
-    let last = run (rounds image input p n) s in
-    record {
-      output = g.over.output;
-      words = λ i lt. ap (λ words. words i) g.over.words;
-      stand = subst (λ f. StandsAgree (machine image input p n).stand (stand_by f last.processors)) (sym g.over.faulted) (subst (λ st. StandsAgree st (SourceFaulted g.over.fault)) (sym g.over.stand) (refl, refl));
-    }
-
--- ---- the beginning
-
-opening_together : (image : Image) (left : List Todo) (q : ℕ) → Placed image 0 [] (flat left)
-    → (ds : Distances) × Together image ds (replicate q first_hart) (replicate q (record { left = left; values = [] }))
-opening_together image left zero placed = ([], tt)
-opening_together image left (suc q) placed =
-    let rest = opening_together image left q placed in
-    let l = soon image first_hart (record { left = left; values = [] }) (record {
-      word = 0;
-      shape = [];
-      at = refl;
-      live = refl;
-      placed = placed;
-      has = tt;
-      holds = tt;
-    }) in
-    (Some l.d ∷ rest.0, ((omega (arith, l.below), l.linked), rest.1))
-
-started : (body : List Statement) → is_done (main_of body) ≡ false
-started [] = refl
-started (s ∷ body) = refl
-
-begins : (program : Program) (image : Image) (input : List ℕ) → IsMade program image → (p : ℕ) → 1 ≤ p
-    → Tied image [] (opening image input p) (source.opening program input p)
-begins program image input made zero pos = absurd (omega arith)
-begins program image input made (suc q) pos =
-    let all = opening_together image (main_of program.body.items) (suc q) made.placed in
-    record {
-      code = refl;
-      ds = all.0;
-      together = all.1;
-      words = ap (λ globals. slice_index (globals ++ input)) made.globals;
-      output = refl;
-      running = refl;
-      stand = ap (λ b. cond (b && all_done (replicate q (record { left = main_of program.body.items; values = [] }))) Finished Running) (sym (started program.body.items));
-    }
-
-pub made_follows : (program : Program) (image : Image) → IsMade program image → (input : List ℕ) (p n : ℕ) → 1 ≤ p → Follows image program input p n
-made_follows program image made input p n pos =
-    let start = begins program image input made p pos in
-    let so_far = reached image input p n (source.opening program input p) start in
-    record {
-      lawful = record { possible = possible_of image input p n _ so_far; pace = paces image input p n _ start };
-      agrees = agree image input p n _ so_far;
-    }
+  pub is_faithful : MachinesFollowPrograms → IsCompiled → IsFaithfulTo program facts image
+  is_faithful law c = record {
+    limits = c.limits;
+    sites_are = c.sites_are;
+    globals_are = c.globals_are;
+    follows = λ input p n within some few bound.
+        subst
+        (λ (words : List ℕ). Follows (next_in (tables_by program facts) program) image input p n
+        (opening (tables_by program facts) program words (firsts_by program facts) input p))
+        c.globals_are
+        (law (tables_by program facts) program core c.list.entry (firsts_by program facts) c.places image c.list.code (carries c) input p n within some few bound);
+  }

@@ -1,49 +1,48 @@
 -- What it means that an image is faithful to a text.
-use Rattle.std.specs.Prelude.{◌≡◌, ℕ, ◌+◌, ◌^◌, ◌<◌, ◌≤◌, List, All, length, vec_len, replicate}
-use Rattle.fk_meaning.specs.declared.syntax.Program.{Program}
-use Rattle.fk_meaning.specs.Sites.{sites}
-use Rattle.fk_meaning.specs.Round.{State}
-use Rattle.fk_meaning.specs.Schedule.{opening, run, IsLawful, SourceStand, SourceRunning, SourceFinished, SourceFaulted, stand_of}
+use Rattle.std.specs.Prelude.{◌≡◌, ℕ, ◌^◌, ◌<◌, ◌≤◌, List, map}
+use Rattle.fk_syntax.specs.declared.facts.Facts.{Facts}
+use Rattle.fk_syntax.specs.declared.place.Place.{Place}
+use Rattle.fk_syntax.specs.Program.{ProgramTree}
+use Rattle.fk_forms.specs.Program.{sites_of}
+use Rattle.fk_source.specs.Program.{next_in, opening}
+use Rattle.fk_globals.specs.Constants.{told}
+use Rattle.fk_globals.specs.Rows.{words, firsts}
+use Rattle.fk_layout.specs.Layout.{tables_by}
+use Rattle.fk_layout.specs.declared.listed.Site.{Site}
 use Rattle.fk_image.specs.declared.Image.{Image}
 use Rattle.fk_image.specs.Limits.{IsWithinLimits}
-use Rattle.fk_machine.specs.declared.stand.Stand.{Stand}
-use Rattle.fk_machine.specs.declared.stand.Stand.TheVariants.{Running, Finished, Faulted}
-use Rattle.fk_machine.specs.Run.{machine, output_of, rounds}
-use Rattle.fk_compile.specs.Text.{IsStraight}
+use Rattle.fk_simulation.specs.Follows.{IsInput, Follows}
+use Rattle.fk_text.specs.Built.{AreBuilt}
+use Rattle.fk_text.specs.Text.{IsChecked}
 
--- a trap agrees with no stand of the source
-abbrev pub StandsAgree : Stand → SourceStand → Type 0
-StandsAgree Running SourceRunning = Unit {0}
-StandsAgree Finished SourceFinished = Unit {0}
-StandsAgree (Faulted site hart) (SourceFaulted fault) = (site ≡ fault.site) × (hart ≡ fault.processor)
-StandsAgree stand source = ⊥
+-- a site of a text as an image has it: its kind, line and column
+abbrev pub in_image : ℕ × Place → ℕ × ℕ × ℕ
+in_image site = (site.0, site.1.line, site.1.column)
 
--- after n cycles the machine agrees with a state of the source: in its output, in all of shared data, in its stand
-pub record Agrees (image : Image) (input : List ℕ) (p n : ℕ) (s : State) : Type 0 where
-  pub output : output_of image input p n ≡ s.store.output
-  pub words : (i : ℕ) → i < 2 ^ 20 → (machine image input p n).shared.words i ≡ s.store.words i
-  pub stand : StandsAgree (machine image input p n).stand (stand_of s)
+-- and as its table has it
+abbrev pub in_table : Site → ℕ × ℕ × ℕ
+in_table site = in_image (site.kind, site.place)
 
--- the schedule that is read off n cycles is lawful, and the machine agrees with the program's run by it
-pub record Follows (image : Image) (program : Program) (input : List ℕ) (p n : ℕ) : Type 0 where
-  pub lawful : IsLawful (rounds image input p n) (opening program input p)
-  pub agrees : Agrees image input p n (run (rounds image input p n) (opening program input p))
+-- the words of shared variables, and those of private ones of file scope, as they begin
+abbrev pub words_by : ProgramTree → Facts → List ℕ
+words_by program facts = words (told facts.notes.items facts.kinds.items) program.items
 
--- the input numbers that a machine takes
-pub record IsInput (image : Image) (input : List ℕ) : Type 0 where
-  pub few : length input ≤ 65536
-  pub room : vec_len image.globals + length input ≤ 524288
-  pub words : All (λ w. w < 2 ^ 32) input
+abbrev pub firsts_by : ProgramTree → Facts → List ℕ
+firsts_by program facts = firsts (told facts.notes.items facts.kinds.items) program.items
 
--- for every input, number of harts and bound on the cycles
-pub record IsFaithfulTo (program : Program) (image : Image) : Type 0 where
+-- for every input, number of harts and bound on the cycles the machine follows the program
+pub record IsFaithfulTo (program : ProgramTree) (facts : Facts) (image : Image) : Type 0 where
   pub limits : IsWithinLimits image
-  pub sites_are : image.sites.items ≡ sites program
-  pub globals_are : image.globals.items ≡ replicate program.variables 0
-  pub follows : (input : List ℕ) (p n : ℕ) → IsInput image input → 1 ≤ p → p ≤ 1024 → n < 2 ^ 32 → Follows image program input p n
+  pub sites_are : image.sites.items ≡ map in_image (sites_of (tables_by program facts) program)
+  pub globals_are : image.globals.items ≡ words_by program facts
+  pub follows : (input : List ℕ) (p n : ℕ) → IsInput image input → 1 ≤ p → p ≤ 1024 → n < 2 ^ 32
+      → Follows (next_in (tables_by program facts) program) image input p n
+      (opening (tables_by program facts) program (words_by program facts) (firsts_by program facts) input p)
 
--- the text is that of a straight-line program to which the image is faithful
+-- the text keeps all rules, its operations are all built, and the image is faithful to it
 pub record IsFaithful (source : List ℕ) (image : Image) : Type 0 where
-  pub program : Program
-  pub straight : IsStraight source program
-  pub faithful : IsFaithfulTo program image
+  pub program : ProgramTree
+  pub facts : Facts
+  pub checked : IsChecked source program facts
+  pub built : AreBuilt (tables_by program facts) program
+  pub faithful : IsFaithfulTo program facts image

@@ -1,5 +1,3 @@
-pub mod Code
-pub mod Text
+pub mod Lists
 pub mod Faithful
-pub mod Refusal
 pub mod Laws

@@ -1,44 +1,51 @@
 //! The whole compiler.
 
-ghost use Rattle.std.specs.Prelude.{◌≤◌, IfOk, IfErr, OnOk, length};
+ghost use Rattle.std.specs.Prelude.{◌≡◌, ◌≤◌, ◌<◌, ℕ, List, IfOk, IfErr, OnOk, length};
+ghost use Rattle.fk_syntax.specs.ProgramView.{program_of};
+ghost use Rattle.fk_syntax.specs.WellFormed.{IsWellFormed};
+ghost use Rattle.fk_text.specs.Refusal.{IsRefused};
+ghost use Rattle.fk_text.specs.Text.{HasLayout, IsBuilt, KeepsRules};
 ghost use Rattle.fk_compile.specs.Faithful.{IsFaithful};
-ghost use Rattle.fk_compile.specs.Refusal.{IsRefused};
-ghost use Rattle.fk_compile.specs.Text.{HasLayout, KeepsRules};
 
-use crate::generate::generate;
-use crate::other::{layout_of, program_in};
-use crate::refusal::Refusal;
-use crate::text::checked_text;
+use crate::image::{are_words, site_table};
+use crate::list::{certify, list_of};
+use fk_generate::generate;
 use fk_image::Image;
+use fk_simulation::laws::machines_follow_programs;
+use fk_text::{Refusal, built_text};
 use std::alloc::Global;
 
 /// The image of a text. Every run of it, of up to 2^32 - 1 cycles, with 1 to 1,024 harts and an input of
 /// at most 65,536 words that leaves it within 524,288 words of globals and input, is a run of the text's
-/// program by a lawful schedule: it prints the same bytes, and shared data and its stand are the same.
+/// program by a lawful schedule: it prints the same bytes, and shared data and its stand are the same, a
+/// fault at a site of the text included.
 ///
 /// # Errors
-/// `SourceTooLong` for a text of more than 1,048,576 bytes; `BadByte`, `OpenComment`, `OpenString` or
-/// `WideNumber` for one that has no tokens, by the fault at the least place; `Unexpected`, `EndOfText`
-/// or `Nesting` for one whose tokens have no tree by the grammar of Fork95, by the first token that fits
-/// nowhere, by the end, or by the first token that opens level 129; `Rule` for one that breaks a rule of
-/// the language, by the first rule. One that keeps all rules is refused by the first of these:
-/// `TooManySites`, with their number, where it has more than 16,000 operations; `FrameTooLarge`, with
-/// the name of the first such function and its words, where a private frame has more than 64 words;
-/// `GlobalsTooLarge`, with their number, where its shared variables of file scope have more than
-/// 524,288 words; `NotBuilt` where it has a layout, but its tree is that of no straight-line program.
-/// `Memory` where memory is refused, which no clause can say.
+/// Those of `built_text`; and `Memory` too where it isn't certain that the code is right.
 pub fn compile(alloc: Global, source: &[u8]) -> Result<Image, Refusal>
     ensures faithful { IfOk result (IsFaithful source.now) }
     ensures kept { OnOk result (KeepsRules source.now) }
     ensures laid { OnOk result (HasLayout source.now) }
+    ensures built { OnOk result (IsBuilt source.now) }
     ensures short { OnOk result (length source.now ≤ 1048576) }
     ensures refused { IfErr result (IsRefused source.now) }
 {
-    let text = checked_text(alloc, source)?;
-    // Only that there is one counts yet.
-    drop(layout_of(alloc, &text)?);
-    let program = program_in(alloc, &text)?;
-    // Its memory serves for the code.
-    drop(text);
-    generate(alloc, &program).map_err(Refusal::Memory)
+    let text = built_text(alloc, source)?;
+    let list = list_of(alloc, &text)?;
+    let layout = text.layout;
+    let globals = layout.words.len() as u32;
+    certify(alloc, &list, &layout.firsts)?;
+    let code = generate(alloc, &list.ops, list.main, &layout.firsts, globals).map_err(
+        Refusal::Memory,
+    )?;
+    let sites = site_table(alloc, &layout.sites).map_err(Refusal::Memory)?;
+    are_words(&layout.firsts);
+    are_words(&layout.words);
+    machines_follow_programs();
+    Ok(Image {
+        code: code.words,
+        globals: layout.words,
+        sites,
+        commits: code.commits,
+    })
 }

@@ -1,8 +1,9 @@
 //! Laws of the definitions.
 
-ghost use Rattle.fk_compile.specs.Laws.{NeverFaults};
+ghost use Rattle.fk_compile.specs.Laws.{NeverTraps};
 
-/// A machine that runs an image of a text goes on or has finished: it never faults, and never traps.
-pub fn never_faults()
-    ensures { NeverFaults }
+/// A machine that runs an image of a text never traps: it goes on, has finished, or has faulted where
+/// the text's program faults.
+pub fn never_traps()
+    ensures { NeverTraps }
 {}

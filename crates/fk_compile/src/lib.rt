@@ -1,21 +1,12 @@
 //! The compiler: from a text to an image that is faithful to it.
 //!
-//! `lower` lists the operations of a program, `emit` makes the lines of code of each, and
-//! `assemble` puts their words, commits and sites into an image.
+//! `list` makes the flat list of a text and has it verified; `fk_generate` makes its code, and `image`
+//! puts that into an image with the sites and the globals.
 #![tactic(auto)]
 
-mod assemble;
 mod compiler;
-mod emit;
-pub mod generate;
-mod global;
+mod image;
 pub mod laws;
-mod lower;
-mod other;
-pub mod refusal;
-mod text;
+mod list;
 
 pub use compiler::compile;
-pub use fk_globals::GlobalRow;
-pub use global::find_global;
-pub use refusal::Refusal;

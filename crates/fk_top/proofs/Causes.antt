@@ -2,7 +2,8 @@
 use Rattle.std.proofs.Common.{◌≡◌, ℕ, ◌≤◌, Bool, true, false, List, [], ◌∷◌, Option, Some, None, Ok, Err, IsSome, take, length, refl, sym, ap, subst, ◌∙◌, arith, ◌⊎◌, inl, inr}
 use Rattle.std.specs.Prelude.{IfSome, IsSomeAnd, nat_lt, vec_len}
 use Rattle.std.proofs.lemmas.Bool.{ltb-true, ltb-false, lt-ltb}
-use Rattle.std.proofs.lemmas.List.{take_all, length-take, length-replicate}
+use Rattle.std.proofs.lemmas.List.{take_all, length-take}
+use Rattle.fk_syntax.specs.declared.facts.Facts.{Facts}
 use Rattle.fk_syntax.specs.Program.{ProgramTree}
 use Rattle.fk_ports.specs.Files.{Files, AppendsFile, FetchFaults, LacksFile, file}
 use Rattle.fk_ports.specs.Known.{MovesFirst}
@@ -14,19 +15,16 @@ use Rattle.fk_input.specs.Input.{input_of}
 use Rattle.fk_words.specs.Arguments.{Text}
 use Rattle.fk_words.specs.Command.{Command, Run, Build, Exec, ListCode, Reads}
 use Rattle.fk_words.proofs.OneCommand.{one_command}
-use Rattle.fk_meaning.specs.declared.syntax.Program.{Program}
-use Rattle.fk_straight.specs.Straight as trees
-use Rattle.fk_straight.proofs.TreeLemmas.{one_program}
 use Rattle.fk_globals.specs.Rows.{Row}
-use Rattle.fk_compile.specs.Text.{IsStraight, HasGlobal}
-use Rattle.fk_compile.specs.Faithful.{IsFaithful}
+use Rattle.fk_text.specs.Text.{IsChecked, HasGlobal}
+use Rattle.fk_compile.specs.Faithful.{IsFaithful, words_by}
 use Rattle.fk_top.specs.declared.status.Status.{Status}
 use Rattle.fk_top.specs.declared.status.Status.TheVariants.{Done, Refused, Usage, ReadFault, WriteFault, Memory, SourceFault, CycleBound, Trap, ImageRefused, InputRefused}
 use Rattle.fk_top.specs.Words.{Runs, IsBuild, file_of, most_bytes, most_input}
 use Rattle.fk_top.specs.Outcome.{Outcome, EndsOn, ComesTo, RefusesSource, RefusesImage, LacksGlobal, IsShown, IsBuiltFrom, most_numbers}
 use Rattle.fk_top.specs.Refused.{IsRefusedBy, IsNoImageAs}
 use Rattle.fk_top.specs.Call.{Call, Request, Ends, IsUnread, IsFileUnread, IsInputUnread, IsCut, IsOutOfMemory, HasEnded, HasCause, IsInOrder, IsReadable, IsAccepted, IsInputBeside, IsOfStand, IsOfAccepted, IsOfUnreadable, IsOfUnaccepted, IsText, IsImage, Puts, AreCut}
-use Rattle.fk_top.proofs.Readable.{whole, same_tree, variable_there, text_accepted, image_accepted, image_short}
+use Rattle.fk_top.proofs.Readable.{whole, same_words, variable_there, text_accepted, image_accepted, image_short}
 
 -- ---- the read
 
@@ -180,7 +178,7 @@ read_short source short = whole 1048577 source (omega arith)
 
 read_built : (source : List ℕ) (image : Image) → IsBuiltFrom (take 1048577 source) image → IsText source
 read_built source image b =
-    subst IsText (read_short source b.short) (record { short = b.short; laid = b.laid; program = b.faithful.program; straight = b.faithful.straight })
+    subst IsText (read_short source b.short) (record { short = b.short; built = b.built })
 
 read_image : (bytes : List ℕ) (image : Image) → IsImageOf bytes image → take 5434905 bytes ≡ bytes
 read_image bytes image is = let short = image_short bytes image is in take_all 5434905 bytes (omega arith)
@@ -224,12 +222,12 @@ input_of_taken limit text = by (nat_lt 1048576 (length text)) refl
         rw (cut, long) refl
     by false short = ap (input_of limit) (take_all 1048577 text (let few = ltb-false 1048576 (length text) short in omega arith))
 
--- an image has so many globals as the program of its text has variables
-globals_of : (source : List ℕ) (image : Image) (program : Program) → IsFaithful source image → IsStraight source program → vec_len image.globals ≡ program.variables
-globals_of source image program faithful straight =
-    let same = same_tree source faithful.straight.tree straight.tree faithful.straight.parsed straight.parsed in
-    let variables = (one_program straight.tree faithful.program program (subst (λ (t : ProgramTree). trees.Derives t faithful.program) same faithful.straight.straight) straight.straight).0 in
-    omega (arith, image.globals.ok.0, ap length faithful.faithful.globals_are, length-replicate {A = ℕ} faithful.program.variables 0, variables)
+-- an image has so many globals as the shared variables of its text have words
+globals_of : (source : List ℕ) (image : Image) (program : ProgramTree) (facts : Facts) → IsFaithful source image → IsChecked source program facts
+    → vec_len image.globals ≡ length (words_by program facts)
+globals_of source image program facts faithful checked =
+    let same = same_words source faithful.program program faithful.facts facts faithful.checked checked in
+    omega (arith, image.globals.ok.0, ap length faithful.faithful.globals_are, ap length same)
 
 beside : (globals other : ℕ) (text numbers : List ℕ) → globals ≡ other → input_of (most_numbers globals) (take 1048577 text) ≡ Ok numbers → IsInputBeside other text
 beside globals other text numbers same is = subst (λ (g : ℕ). IsInputBeside g text) same (numbers, sym (input_of_taken (most_numbers globals) text) ∙ is)
@@ -262,8 +260,8 @@ accepted_ends (Run f p n s) source text outcome status is input same (inl r) = a
 accepted_ends (Run f p n s) source text outcome status is input same (inr (inl r)) = absurd (not_lacking source s outcome is.1 is.0 is.2 r)
 accepted_ends (Run f p n s) source text outcome status is input same (inr (inr r)) =
     let built = subst (λ (b : List ℕ). IsBuiltFrom b r.image) (read_text source is.0) r.compiled in
-    let count = globals_of source r.image input.0 built.faithful input.1 in
-    inr (r.image, built, accepted_run r.image text p n input.0.variables r.shown outcome status count input.2 same r.ends)
+    let count = globals_of source r.image input.0 input.1 built.faithful input.2 in
+    inr (r.image, built, accepted_run r.image text p n (length (words_by input.0 input.1)) r.shown outcome status count input.3 same r.ends)
 accepted_ends (Build f i) source text outcome status is input same (inl r) = absurd (not_refused source outcome is r)
 accepted_ends (Build f i) source text outcome status is input same (inr r) = inr (status-of outcome _ status r.is same)
 accepted_ends (Exec f p n) bytes text outcome status is input same (inl r) = absurd (not_image_refused bytes outcome is r)
@@ -299,8 +297,9 @@ unaccepted_ends (Run f p n s) source text outcome status is none same (inr (inr 
     by : EndsOn r.image (take 1048577 text) p n r.shown outcome → IsOfUnaccepted status
     by (inl refuses) = inr (status-of outcome _ status refuses.is same)
     by (inr runs) =
-        let count = globals_of source r.image built.faithful.program built.faithful built.faithful.straight in
-        absurd (none (built.faithful.program, built.faithful.straight, beside (vec_len r.image.globals) _ text runs.input count runs.numbers))
+        let whole = built.faithful in
+        let count = globals_of source r.image whole.program whole.facts whole whole.checked in
+        absurd (none (whole.program, whole.facts, whole.checked, beside (vec_len r.image.globals) _ text runs.input count runs.numbers))
 unaccepted_ends (Build f i) source text outcome status is none same comes = absurd (none tt)
 unaccepted_ends (Exec f p n) bytes text outcome status is none same (inl r) = absurd (not_image_refused bytes outcome is r)
 unaccepted_ends (Exec f p n) bytes text outcome status is none same (inr r) = by r.ends

@@ -9,7 +9,7 @@ use Rattle.fk_input.specs.declared.fault.InputFault.{InputFault}
 use Rattle.fk_input.specs.Input.{words, number_of, value_of, number_fault, faults_from, most_bytes, input_of}
 use Rattle.fk_image.specs.declared.Image.{Image}
 use Rattle.fk_image.specs.Limits.{IsWithinLimits}
-use Rattle.fk_compile.specs.Faithful.{IsInput}
+use Rattle.fk_simulation.specs.Follows.{IsInput}
 use Rattle.fk_top.specs.Outcome.{most_numbers, numbers_for}
 
 residue_below : (z : ℤ) → residue 32 z < 2 ^ 32

@@ -1,5 +1,5 @@
 -- What is read whole, and that what is in order is not refused.
-use Rattle.std.proofs.Common.{◌≡◌, ◌≢◌, ℕ, refl, ◌+◌, ◌*◌, ◌≤◌, ◌<◌, true, List, [], ◌∷◌, ◌++◌, codes, length, take, flat_map, None, Some, Contains, inl, inr, sym, ap, subst, ◌∙◌, arith}
+use Rattle.std.proofs.Common.{◌≡◌, ◌≢◌, ℕ, refl, ◌+◌, ◌*◌, ◌≤◌, ◌<◌, true, false, List, [], ◌∷◌, ◌++◌, codes, length, take, flat_map, None, Some, Contains, inl, inr, sym, ap, subst, ◌∙◌, arith}
 use Rattle.std.proofs.lemmas.List.{length-append, length-take, take_all}
 use Rattle.std.proofs.lemmas.List.Elements.{All-contains}
 use Rattle.std.proofs.lemmas.Option.{none-some}
@@ -20,8 +20,7 @@ use Rattle.fk_check.specs.Known.{AreAllFacts}
 use Rattle.fk_check.proofs.Apart.{keeps_or_breaks}
 use Rattle.fk_check.proofs.OneFacts.{one_facts}
 use Rattle.fk_check.specs.Laws.{AreSame}
-use Rattle.fk_straight.specs.Straight as trees
-use Rattle.fk_straight.proofs.NameLemmas.{Contains-head, Contains-tail, Contains-cons_cases, Contains-nil}
+use Rattle.fk_text.proofs.Elements.{Contains-head, Contains-tail, Contains-cons_cases, Contains-nil}
 use Rattle.fk_forms.specs.Tables.{Tables}
 use Rattle.fk_slots.specs.Frames.{regions_of}
 use Rattle.fk_slots.specs.Slots.{slots_of}
@@ -31,16 +30,18 @@ use Rattle.fk_layout.specs.Layout.{tables_by}
 use Rattle.fk_layout.specs.Refusal.{IsRefusal, Fits}
 use Rattle.fk_globals.specs.Constants.{told}
 use Rattle.fk_globals.specs.Variables.{variables_of}
-use Rattle.fk_globals.specs.Rows.{Row, words_of, row_at, rows_from, rows}
+use Rattle.fk_globals.specs.Rows.{Row, words_of, row_at, rows_from, rows, words}
 use Rattle.fk_image.specs.declared.Image.{Image}
 use Rattle.fk_image.specs.Spelling.{IsImageOf, word_bytes, image_words, site_words, commit_words}
 use Rattle.fk_image.proofs.Accepted.{no_refusal}
 use Rattle.fk_image.proofs.Commits.{few_of_image}
 use Rattle.fk_image.proofs.Images.{length-words, length-sites, length-commits}
-use Rattle.fk_compile.specs.declared.refusal.Refusal.{Refusal}
-use Rattle.fk_compile.specs.declared.refusal.Refusal.TheVariants.{BadByte, OpenComment, OpenString, WideNumber, Unexpected, EndOfText, Nesting, Rule, TooManySites, FrameTooLarge, GlobalsTooLarge, SourceTooLong, NotBuilt, Memory}
-use Rattle.fk_compile.specs.Refusal.{IsRefused}
-use Rattle.fk_compile.specs.Text.{HasTree, HasSyntaxFault, HasBrokenRule, HasGlobal, HasLayout, IsChecked, IsNotBuilt}
+use Rattle.fk_text.specs.declared.refusal.Refusal.{Refusal}
+use Rattle.fk_text.specs.declared.refusal.Refusal.TheVariants.{BadByte, OpenComment, OpenString, WideNumber, Unexpected, EndOfText, Nesting, Rule, TooManySites, FrameTooLarge, GlobalsTooLarge, SourceTooLong, NotBuilt, Memory}
+use Rattle.fk_text.specs.Refusal.{IsRefused}
+use Rattle.fk_text.specs.Built.{is_built, operations_of, AreBuilt}
+use Rattle.fk_text.specs.Text.{HasTree, HasSyntaxFault, HasBrokenRule, HasGlobal, HasLayout, IsChecked, IsNotBuilt}
+use Rattle.fk_compile.specs.Faithful.{words_by}
 use Rattle.fk_top.specs.declared.report.Report.{Report}
 use Rattle.fk_top.specs.Refused.{IsRefusedBy, IsNoImageAs, refusal_line}
 use Rattle.fk_top.specs.Call.{IsText, IsImage}
@@ -98,28 +99,46 @@ laid_or_refused source tree facts fault laid checked refused is =
     let fits = subst (λ (t : ProgramTree). Fits (tables_by t laid.facts) t.items) same laid.fits in
     fits_or_not (tables_by tree facts) tree.items fault (subst (λ (t : Tables). Fits t tree.items) tables fits) refused is
 
-straight_or_other : (source : List ℕ) → IsText source → IsNotBuilt source → ⊥
-straight_or_other source text other =
-    let same = same_tree source text.straight.tree other.laid.tree text.straight.parsed other.laid.checked.parsed in
-    other.none (text.program, subst (λ (tree : ProgramTree). trees.Derives tree text.program) same text.straight.straight)
+-- the words of the shared variables of a text rest on it alone
+pub same_words : (source : List ℕ) (one other : ProgramTree) (by with : Facts) → IsChecked source one by → IsChecked source other with → words_by one by ≡ words_by other with
+same_words source one other by with checked again =
+    let same = same_tree source one other checked.parsed again.parsed in
+    let known = subst (λ (t : ProgramTree). AreAllFacts t by) same checked.known in
+    let facts = one_facts other by with known again.known in
+    ap (λ (t : ProgramTree). words_by t by) same
+    ∙ (ap (λ (ns : List Note). words (told ns by.kinds.items) other.items) facts.notes ∙ ap (λ (ks : List Kind). words (told with.notes.items ks) other.items) facts.kinds)
+
+-- a text that is built has no operation that isn't
+built_or_not : (source : List ℕ) → IsText source → IsNotBuilt source → ⊥
+built_or_not source text other =
+    let tree = other.laid.tree in
+    let laid = text.built.laid in
+    let same = same_tree source laid.tree tree laid.checked.parsed other.laid.checked.parsed in
+    let known = subst (λ (t : ProgramTree). AreAllFacts t laid.facts) same laid.checked.known in
+    let tables = same_tables tree laid.facts other.laid.facts (one_facts tree laid.facts other.laid.facts known other.laid.checked.known) in
+    let built = subst (λ (t : ProgramTree). AreBuilt (tables_by t laid.facts) t) same text.built.built in
+    let here = subst (λ (t : Tables). AreBuilt t tree) tables built in
+    let is = All-contains (λ op. is_built op ≡ true) (operations_of (tables_by tree other.laid.facts) tree) other.operation here other.among in
+    let bad : true ≡ false = sym is ∙ other.unbuilt in
+    absurd (cc)
 
 not_refused : (source : List ℕ) (refusal : Refusal) (line : List ℕ) → IsText source → IsRefused source refusal → refusal_line refusal ≡ Some line → ⊥
-not_refused source (BadByte place) line text refused says = lexed.one_reading.apart source text.straight.parsed.tokens _ text.straight.parsed.spelled refused.1
-not_refused source (OpenComment place) line text refused says = lexed.one_reading.apart source text.straight.parsed.tokens _ text.straight.parsed.spelled refused.1
-not_refused source (OpenString place) line text refused says = lexed.one_reading.apart source text.straight.parsed.tokens _ text.straight.parsed.spelled refused.1
-not_refused source (WideNumber place) line text refused says = lexed.one_reading.apart source text.straight.parsed.tokens _ text.straight.parsed.spelled refused.1
-not_refused source (Unexpected place) line text refused says = not_faulty source text.straight.tree (syntax_fault.Unexpected place) text.straight.parsed refused.1
-not_refused source EndOfText line text refused says = not_faulty source text.straight.tree syntax_fault.EndOfText text.straight.parsed refused.1
-not_refused source (Nesting place) line text refused says = not_faulty source text.straight.tree (syntax_fault.Nesting place) text.straight.parsed refused.1
-not_refused source (Rule place number) line text refused says = kept_or_not source place number text.laid refused.1
+not_refused source (BadByte place) line text refused says = lexed.one_reading.apart source text.built.laid.checked.parsed.tokens _ text.built.laid.checked.parsed.spelled refused.1
+not_refused source (OpenComment place) line text refused says = lexed.one_reading.apart source text.built.laid.checked.parsed.tokens _ text.built.laid.checked.parsed.spelled refused.1
+not_refused source (OpenString place) line text refused says = lexed.one_reading.apart source text.built.laid.checked.parsed.tokens _ text.built.laid.checked.parsed.spelled refused.1
+not_refused source (WideNumber place) line text refused says = lexed.one_reading.apart source text.built.laid.checked.parsed.tokens _ text.built.laid.checked.parsed.spelled refused.1
+not_refused source (Unexpected place) line text refused says = not_faulty source text.built.laid.tree (syntax_fault.Unexpected place) text.built.laid.checked.parsed refused.1
+not_refused source EndOfText line text refused says = not_faulty source text.built.laid.tree syntax_fault.EndOfText text.built.laid.checked.parsed refused.1
+not_refused source (Nesting place) line text refused says = not_faulty source text.built.laid.tree (syntax_fault.Nesting place) text.built.laid.checked.parsed refused.1
+not_refused source (Rule place number) line text refused says = kept_or_not source place number text.built.laid refused.1
 not_refused source (TooManySites count) line text refused says =
-    laid_or_refused source refused.1.tree refused.1.facts (layout.TooManySites count) text.laid refused.1.checked refused.1.refused (λ e. cc)
+    laid_or_refused source refused.1.tree refused.1.facts (layout.TooManySites count) text.built.laid refused.1.checked refused.1.refused (λ e. cc)
 not_refused source (FrameTooLarge name words) line text refused says =
-    laid_or_refused source refused.1.tree refused.1.facts (layout.FrameTooLarge refused.1.place words) text.laid refused.1.checked refused.1.refused (λ e. cc)
+    laid_or_refused source refused.1.tree refused.1.facts (layout.FrameTooLarge refused.1.place words) text.built.laid refused.1.checked refused.1.refused (λ e. cc)
 not_refused source (GlobalsTooLarge words) line text refused says =
-    laid_or_refused source refused.1.tree refused.1.facts (layout.GlobalsTooLarge words) text.laid refused.1.checked refused.1.refused (λ e. cc)
+    laid_or_refused source refused.1.tree refused.1.facts (layout.GlobalsTooLarge words) text.built.laid refused.1.checked refused.1.refused (λ e. cc)
 not_refused source (SourceTooLong bytes) line text refused says = let short = text.short in absurd (omega (arith, refused.0, refused.1))
-not_refused source NotBuilt line text refused says = straight_or_other source text refused.1
+not_refused source NotBuilt line text refused says = built_or_not source text refused.1
 not_refused source (Memory e) line text refused says = cc
 
 pub text_accepted : (source : List ℕ) (line : List ℕ) → IsText source → IsRefusedBy source line → ⊥

@@ -10,8 +10,8 @@ use Rattle.fk_image.specs.Refusals.{IsFault}
 use Rattle.fk_image.specs.Refusals as images
 use Rattle.fk_input.specs.declared.fault.InputFault.{InputFault}
 use Rattle.fk_input.specs.declared.fault.InputFault.TheVariants.{Memory}
-use Rattle.fk_compile.specs.declared.refusal.Refusal.{Refusal}
-use Rattle.fk_compile.specs.Refusal.{IsRefused}
+use Rattle.fk_text.specs.declared.refusal.Refusal.{Refusal}
+use Rattle.fk_text.specs.Refusal.{IsRefused}
 use Rattle.fk_top.specs.declared.ending.Ending.{Ending}
 use Rattle.fk_top.specs.declared.report.Report.{Report}
 use Rattle.fk_top.specs.declared.status.Status.TheVariants.{Refused, ImageRefused, InputRefused}

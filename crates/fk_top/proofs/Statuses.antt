@@ -7,8 +7,8 @@ use Rattle.fk_machine.specs.declared.stand.Stand.{Stand}
 use Rattle.fk_machine.specs.declared.stand.Stand.TheVariants.{Running, Finished, Faulted, Trapped}
 use Rattle.fk_machine.specs.Run.{machine}
 use Rattle.fk_compile.specs.Faithful.{IsFaithful}
-use Rattle.fk_compile.specs.Laws.{IsUnfaulted}
-use Rattle.fk_compile.proofs.Unfaulted.{never_faults}
+use Rattle.fk_compile.specs.Laws.{IsUntrapped}
+use Rattle.fk_compile.proofs.Untrapped.{never_traps}
 use Rattle.fk_words.specs.Arguments.{Text}
 use Rattle.fk_words.specs.Command.{Command, Run, Build, Exec, ListCode, Reads, ReadsRun}
 use Rattle.fk_globals.specs.Rows.{Row}
@@ -40,7 +40,7 @@ IsOf Refused command = ReadsSource command
 IsOf ImageRefused command = ReadsImage command
 IsOf CycleBound command = Runs command
 IsOf InputRefused command = Runs command
-IsOf SourceFault command = RunsImage command
+IsOf SourceFault command = Runs command
 IsOf Trap command = RunsImage command
 IsOf status command = ⊥
 
@@ -71,9 +71,11 @@ within_run : (words : List Text) (file : Text) (harts cycles : ℕ) (show : Opti
 within_run [] file harts cycles show reads = absurd reads
 within_run (word ∷ words) file harts cycles show reads = within words file harts cycles show reads.1
 
-of_unfaulted : (file : Text) (harts cycles : ℕ) (show : Option Text) (stand : Stand) → IsUnfaulted stand → IsOf (status_of stand) (Run file harts cycles show)
-of_unfaulted file harts cycles show stand (inl running) = subst (λ s. IsOf (status_of s) (Run file harts cycles show)) (sym running) tt
-of_unfaulted file harts cycles show stand (inr finished) = subst (λ s. IsOf (status_of s) (Run file harts cycles show)) (sym finished) tt
+of_untrapped : (file : Text) (harts cycles : ℕ) (show : Option Text) (stand : Stand) → IsUntrapped stand → IsOf (status_of stand) (Run file harts cycles show)
+of_untrapped file harts cycles show Running is = tt
+of_untrapped file harts cycles show Finished is = tt
+of_untrapped file harts cycles show (Faulted site hart) is = tt
+of_untrapped file harts cycles show (Trapped hart pc kind) is = absurd is
 
 of_stand : (image : Text) (harts cycles : ℕ) (stand : Stand) → IsOf (status_of stand) (Exec image harts cycles)
 of_stand image harts cycles Running = tt
@@ -90,8 +92,8 @@ of_source : (source text : List ℕ) (image : Image) (f : Text) (p n : ℕ) (sho
 of_source source text image f p n show shown outcome faithful bounds (inl r) = is_of (Run f p n show) outcome _ r.is tt
 of_source source text image f p n show shown outcome faithful bounds (inr r) =
     let input = is_input image text r.input faithful.faithful.limits r.numbers in
-    let stand = never_faults source image r.input p n faithful input bounds.some bounds.few bounds.bound in
-    is_of (Run f p n show) outcome _ r.is (of_unfaulted f p n show (machine image r.input p n).stand stand)
+    let stand = never_traps source image r.input p n faithful input bounds.some bounds.few bounds.bound in
+    is_of (Run f p n show) outcome _ r.is (of_untrapped f p n show (machine image r.input p n).stand stand)
 
 of_image : (text : List ℕ) (image : Image) (f : Text) (p n : ℕ) (outcome : Outcome) → EndsOn image text p n None outcome → IsOf outcome.status (Exec f p n)
 of_image text image f p n outcome (inl r) = is_of (Exec f p n) outcome _ r.is tt

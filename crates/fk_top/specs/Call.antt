@@ -4,12 +4,14 @@ use Rattle.std.specs.Io.KnownBytes.{append_known}
 use Rattle.fk_ports.specs.Faults.{HasRisen}
 use Rattle.fk_ports.specs.Known.{TakesPrefix, GivesAtMost, MovesFirst}
 use Rattle.fk_ports.specs.Files.{Files, file, with_file_known, AppendsFile, FetchFaults, LacksFile}
-use Rattle.fk_meaning.specs.declared.syntax.Program.{Program}
+use Rattle.fk_syntax.specs.declared.facts.Facts.{Facts}
+use Rattle.fk_syntax.specs.Program.{ProgramTree}
 use Rattle.fk_image.specs.declared.Image.{Image}
 use Rattle.fk_image.specs.Spelling.{IsImageOf}
 use Rattle.fk_machine.specs.Run.{machine}
 use Rattle.fk_globals.specs.Rows.{Row}
-use Rattle.fk_compile.specs.Text.{HasLayout, IsStraight}
+use Rattle.fk_text.specs.Text.{IsBuilt, IsChecked}
+use Rattle.fk_compile.specs.Faithful.{words_by}
 use Rattle.fk_input.specs.Input.{input_of}
 use Rattle.fk_words.specs.Command.{Command, Run, Build, Exec, ListCode, Reads}
 use Rattle.fk_top.specs.declared.report.Report.TheVariants as reports
@@ -227,12 +229,10 @@ pub record IsInOrder (call : Call) (command : Command) (bytes text : List ℕ) :
   pub out_steady : ¬ Rose call.out.faults
   pub err_steady : ¬ Rose call.err.faults
 
--- the text of a straight-line program, of at most 1,048,576 bytes, which keeps the rules of the language and has a layout
+-- a text of at most 1,048,576 bytes, which keeps the rules of the language, has a layout and is built
 pub record IsText (source : List ℕ) : Type 0 where
   pub short : length source ≤ 1048576
-  pub laid : HasLayout source
-  pub program : Program
-  pub straight : IsStraight source program
+  pub built : IsBuilt source
 
 -- the bytes of an image
 abbrev pub IsImage : List ℕ → Type 0
@@ -249,10 +249,10 @@ IsReadable (ListCode image) bytes = IsImage bytes
 abbrev pub IsInputBeside : ℕ → List ℕ → Type 0
 IsInputBeside globals text = (numbers : List ℕ) × (input_of (most_numbers globals) text ≡ Ok numbers)
 
--- the input of a command is in order beside the globals of its text, each of one word, or of its image
+-- the input of a command is in order beside the shared variables of its text, or beside the globals of its image
 abbrev pub IsAccepted : Command → List ℕ → List ℕ → Type 0
 IsAccepted (Run file harts cycles show) source text =
-    (program : Program) × IsStraight source program × IsInputBeside program.variables text
+    (program : ProgramTree) × (facts : Facts) × IsChecked source program facts × IsInputBeside (length (words_by program facts)) text
 IsAccepted (Build file image) source text = Unit {0}
 IsAccepted (Exec image harts cycles) bytes text =
     (read : Image) × IsImageOf bytes read × IsInputBeside (vec_len read.globals) text
@@ -297,8 +297,8 @@ pub record IsAnswer (call : Call) (status : Status) : Type 0 where
   pub absent : IsAbsent call.request → IsOfAbsent status
   pub write_fault : status ≡ WriteFault → FailsToWrite call
   pub told : TellsFaults call status
-  -- no image of a text faults or traps
-  pub source_fault : status ≡ SourceFault → IsExec call.request.words
+  -- only what runs faults, and no image of a text traps
+  pub source_fault : status ≡ SourceFault → IsRun call.request.words
   pub trap : status ≡ Trap → IsExec call.request.words
   -- only a command that runs has an input
   pub input : status ≡ InputRefused → IsRun call.request.words

@@ -13,7 +13,7 @@ use Rattle.fk_machine.specs.declared.stand.Stand.TheVariants.{Running, Finished,
 use Rattle.fk_machine.specs.Cycle.{Machine}
 use Rattle.fk_machine.specs.Run.{machine, output_of}
 use Rattle.fk_globals.specs.Rows.{Row}
-use Rattle.fk_compile.specs.Text.{HasGlobal, HasLayout}
+use Rattle.fk_text.specs.Text.{HasGlobal, IsBuilt}
 use Rattle.fk_compile.specs.Faithful.{IsFaithful}
 use Rattle.fk_top.specs.declared.kinds.FaultKind.TheVariants as fault
 use Rattle.fk_top.specs.declared.report.Report.{Report}
@@ -121,10 +121,10 @@ pub record RefusesImage (bytes : List ℕ) (outcome : Outcome) : Type 0 where
   pub refused : IsNoImageAs bytes report
   pub is : outcome ≡ silent ImageRefused (line_of report)
 
--- the image is faithful to the source, which isn't too long, keeps the rules of the language and has a layout
+-- the image is faithful to the source, which isn't too long, keeps the rules of the language, has a layout and is built
 pub record IsBuiltFrom (source : List ℕ) (image : Image) : Type 0 where
   pub short : length source ≤ 1048576
-  pub laid : HasLayout source
+  pub built : IsBuilt source
   pub faithful : IsFaithful source image
 
 -- a name is asked for, but the source, which has an image, has no shared variable of that name

@@ -10,8 +10,9 @@ use crate::report::Report;
 use crate::run::run_ending;
 use crate::status::Status;
 use crate::variable::Variable;
-use fk_compile::{compile, find_global};
+use fk_compile::compile;
 use fk_image::{Image, write_image};
+use fk_text::find_global;
 use fk_words::RunWords;
 use std::alloc::{AllocError, Global};
 

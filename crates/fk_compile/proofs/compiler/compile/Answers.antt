@@ -1,23 +1,100 @@
-use Rattle.std.proofs.Common.{arith}
+use Rattle.std.proofs.Common.{ℕ, ◌^◌, ◌<◌, ◌≤◌, List, All, length, map, sum_by, refl, ap, sym, subst, ◌∙◌, arith}
 use Rattle.fk_syntax.specs.ProgramView.{program_of}
-use Rattle.fk_compile.specs.Text.{HasLayout}
-use Rattle.fk_compile.proofs.Parts.{passed, on_ok}
+use Rattle.std.specs.Prelude.{vec_len}
+use Rattle.fk_image.specs.declared.Image.{Image}
+use Rattle.fk_layout.specs.declared.listed.Site.{Site}
+use Rattle.fk_core.specs.declared.op.CoreOp.{CoreOp}
+use Rattle.fk_text.proofs.Parts.{kept}
+use Rattle.fk_certificate.specs.Certain.{IsCertain}
+use Rattle.fk_generate.specs.Generable.{IsGenerable, most_words}
+use Rattle.fk_compile.specs.Faithful.{in_table}
+use Rattle.fk_compile.proofs.Made.{passes_on, does_the_list, is_generable, few_words, is_compiled}
+use Rattle.fk_compile.proofs.Theorem.{is_faithful}
 use Rattle.fk_compile.proofs.compiler.compile.Goals as goal
 
-pub generate-requires-clause-few : goal.generate-requires-clause-few
-generate-requires-clause-few c = omega (arith, c.in_ok-text.ensures.few, c.in_ok-program.ensures.few)
+pub returns-in_err-list-clause-refused : goal.returns-in_err-list-clause-refused
+returns-in_err-list-clause-refused c =
+    passes_on c.from_residual-in_err-list.result c.in_err-list.field-0.0 c.args.source.now c.from_residual-in_err-list.ensures.1
+    (c.in_err-list.ensures.refused c.args.source.now)
 
-pub returns-clause-faithful : goal.returns-clause-faithful
-returns-clause-faithful c =
-    passed c.args.source.now c.in_ok-program.program c.generate.result c.map_err.result _
-    (record { tree = program_of c.in_ok-text.text.tree; parsed = c.in_ok-text.ensures.checked.parsed; straight = c.in_ok-program.ensures.program }) c.generate.ensures c.map_err.ensures.cases
+pub returns-in_err-certify-clause-refused : goal.returns-in_err-certify-clause-refused
+returns-in_err-certify-clause-refused c =
+    passes_on c.from_residual-in_err-certify.result c.in_err-certify.field-0.0 c.args.source.now c.from_residual-in_err-certify.ensures.1
+    (c.in_err-certify.ensures.refused c.args.source.now)
+
+pub overflow_cast-globals : goal.overflow_cast-globals
+overflow_cast-globals c =
+    let text = c.in_ok-text.text in
+    let few = few_words (program_of text.tree) text.facts text.layout c.in_ok-text.ensures.laid c.in_ok-text.ensures.fits in
+    omega (arith, few, c.len-globals.ensures)
+
+pub generate-requires-clause-globals : goal.generate-requires-clause-globals
+generate-requires-clause-globals c =
+    let text = c.in_ok-text.text in
+    let few = few_words (program_of text.tree) text.facts text.layout c.in_ok-text.ensures.laid c.in_ok-text.ensures.fits in
+    omega (arith, few, c.len-globals.ensures)
+
+pub generate-requires-clause-list : goal.generate-requires-clause-list
+generate-requires-clause-list c =
+    let list = c.in_ok-list.list in
+    let layout = c.in_ok-text.text.layout in
+    let leads = (c.in_ok-list.ensures.list c.args.source.now c.in_ok-text.ensures.checked).code.leads_on in
+    let generable =
+    subst (λ (firsts : List ℕ). IsGenerable list.ops.items list.main firsts) c.deref.ensures.value (c.in_ok-certify.ensures.generable leads) in
+    is_generable list.ops.items c.deref-2.result.now list.main layout.firsts.items c.deref-3.result.now c.deref-2.ensures.value c.deref-3.ensures.value generable
+
+pub generate-requires-clause-small : goal.generate-requires-clause-small
+generate-requires-clause-small c =
+    subst (λ (ops : List CoreOp). sum_by most_words ops ≤ 256000) (sym c.deref-2.ensures.value) c.in_ok-certify.ensures.small
 
 pub returns-clause-laid : goal.returns-clause-laid
 returns-clause-laid c =
-    on_ok c.map_err.result (HasLayout c.args.source.now)
-    (record {
-      tree = program_of c.in_ok-text.text.tree;
-      facts = c.in_ok-text.text.facts;
+    let text = c.in_ok-text.text in
+    record { tree = program_of text.tree; facts = text.facts; checked = c.in_ok-text.ensures.checked; fits = c.in_ok-text.ensures.fits }
+
+pub returns-clause-built : goal.returns-clause-built
+returns-clause-built c =
+    let text = c.in_ok-text.text in
+    record {
+      laid = record { tree = program_of text.tree; facts = text.facts; checked = c.in_ok-text.ensures.checked; fits = c.in_ok-text.ensures.fits };
+      built = c.in_ok-text.ensures.built;
+    }
+
+pub returns-clause-faithful : goal.returns-clause-faithful
+returns-clause-faithful c =
+    let text = c.in_ok-text.text in
+    let tree = program_of text.tree in
+    let layout = text.layout in
+    let list = c.in_ok-list.list in
+    let code = c.in_ok-code.code in
+    let sites = c.in_ok-sites.sites in
+    let image : Image = record { code = code.words; globals = layout.words; sites = sites; commits = code.commits } in
+    let blocks = kept _ _ c.generate.result c.map_err.result code c.generate.ensures.law c.map_err.ensures.cases c.in_ok-code.was in
+    let certain = subst (λ (firsts : List ℕ). IsCertain list.ops.items list.main (length firsts)) c.deref.ensures.value c.in_ok-certify.ensures.certain in
+    record {
+      program = tree;
+      facts = text.facts;
       checked = c.in_ok-text.ensures.checked;
-      fits = c.in_ok-layout_of.ensures.fits;
-    })
+      built = c.in_ok-text.ensures.built;
+      faithful =
+          is_faithful tree text.facts list.ops.items list.main image c.machines_follow_programs.ensures
+          (is_compiled tree text.facts layout c.in_ok-text.ensures.laid c.in_ok-text.ensures.fits list.ops.items list.main code image
+          (record {
+            list = c.in_ok-list.ensures.list c.args.source.now c.in_ok-text.ensures.checked;
+            certain = certain;
+            blocks =
+                does_the_list list.ops.items c.deref-2.result.now list.main layout.firsts.items c.deref-3.result.now (vec_len layout.words) c.len-globals.result code
+                c.deref-2.ensures.value c.deref-3.ensures.value c.len-globals.ensures blocks;
+            table = kept _ _ c.generate.result c.map_err.result code c.generate.ensures.table c.map_err.ensures.cases c.in_ok-code.was;
+            some = kept _ _ c.generate.result c.map_err.result code c.generate.ensures.some c.map_err.ensures.cases c.in_ok-code.was;
+            few = kept _ _ c.generate.result c.map_err.result code c.generate.ensures.few c.map_err.ensures.cases c.in_ok-code.was;
+            has_code = refl;
+            has_commits = refl;
+            has_globals = refl;
+            has_sites =
+                kept _ _ c.site_table.result c.map_err-2.result sites c.site_table.ensures c.map_err-2.ensures.cases c.in_ok-sites.was
+                ∙ ap (λ (all : List Site). map in_table all) c.deref-4.ensures.value;
+            firsts_are_words = subst (λ (ws : List ℕ). All (λ w. w < 2 ^ 32) ws) c.deref-5.ensures.value c.are_words.ensures;
+            globals_are_words = subst (λ (ws : List ℕ). All (λ w. w < 2 ^ 32) ws) c.deref-6.ensures.value c.are_words-2.ensures;
+          }));
+    }

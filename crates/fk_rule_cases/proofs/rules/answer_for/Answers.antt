@@ -4,7 +4,7 @@ use Rattle.fk_lex.specs.Reading.{Tokens}
 use Rattle.fk_lex.specs.declared.token.Token.{Token}
 use Rattle.fk_lex.specs.View.{spelled}
 use Rattle.fk_parse.specs.Parses.{beginning, end_of}
-use Rattle.fk_compile.proofs.Bounds.{narrow}
+use Rattle.fk_text.proofs.Bounds.{narrow}
 use Rattle.fk_rule_cases.proofs.rules.answer_for.Goals as goal
 
 pub parse-requires-clause-narrow : goal.parse-requires-clause-narrow

@@ -6,7 +6,7 @@ use Rattle.fk_words.specs.Arguments.{Text}
 use Rattle.fk_globals.specs.declared.rows.GlobalRow.{GlobalRow}
 use Rattle.fk_globals.specs.Rows.{Row}
 use Rattle.fk_globals.specs.View.{row_of}
-use Rattle.fk_compile.specs.Text.{HasGlobal}
+use Rattle.fk_text.specs.Text.{HasGlobal}
 use Rattle.fk_top.specs.declared.ending.Ending.{Ending}
 use Rattle.fk_top.specs.Ending.{outcome_of}
 use Rattle.fk_top.specs.Outcome.{EndsOn, RefusesSource, LacksGlobal, RunsSource, IsShown, IsBuiltFrom}

@@ -1,0 +1,124 @@
+-- The image that is put together of the code of a text's list.
+use Rattle.std.proofs.Common.{◌≡◌, ℕ, ◌^◌, ◌<◌, ◌≤◌, true, List, [], ◌∷◌, All, length, refl, sym, ap, subst, ◌∙◌, arith}
+use Rattle.std.specs.Prelude.{map, vec_len, Result, Ok, Err, IfErr}
+use Rattle.std.specs.Result.{IsErrAnd}
+use Rattle.std.proofs.lemmas.List.{length-map}
+use Rattle.fk_syntax.specs.declared.facts.Facts.{Facts}
+use Rattle.fk_syntax.specs.declared.place.Place.{Place}
+use Rattle.fk_syntax.specs.Program.{ProgramTree}
+use Rattle.fk_forms.specs.Program.{functions_of, sites_of}
+use Rattle.fk_globals.specs.Constants.{told}
+use Rattle.fk_globals.specs.Variables.{variables_of}
+use Rattle.fk_globals.proofs.Lengths.{length_of_words}
+use Rattle.fk_layout.specs.Layout.{IsLayout, tables_by}
+use Rattle.fk_layout.specs.Listing.{site}
+use Rattle.fk_layout.specs.Refusal.{Fits}
+use Rattle.fk_layout.specs.declared.layout.Layout.{Layout}
+use Rattle.fk_layout.specs.declared.listed.Site.{Site}
+use Rattle.fk_core.specs.declared.op.CoreOp.{CoreOp}
+use Rattle.fk_image.specs.declared.Image.{Image}
+use Rattle.fk_image.specs.Limits.{IsSite, IsCommit, Rise}
+use Rattle.fk_asm.specs.Commits.{IsCommitTable}
+use Rattle.fk_asm.specs.declared.code.Code.{Code}
+use Rattle.fk_block_law.specs.Stands.{Places}
+use Rattle.fk_block_law.specs.Block.{BlockLaw}
+use Rattle.fk_certificate.specs.Certain.{IsCertain}
+use Rattle.fk_text.specs.declared.refusal.Refusal.{Refusal}
+use Rattle.fk_text.specs.Refusal.{IsRefused}
+use Rattle.fk_generate.specs.Generable.{IsGenerable, HasCode, DoesTheList}
+use Rattle.fk_compile.specs.Lists.{IsListFor}
+use Rattle.fk_compile.specs.Faithful.{in_image, in_table, words_by, firsts_by}
+use Rattle.fk_compile.proofs.Limits.{sites_fit, commits_fit, commits_rise}
+use Rattle.fk_compile.proofs.Theorem.{IsCompiled}
+
+-- a refusal is passed on as it is
+pub passes_on : {A : Type 0} (r : Result A Refusal) (refusal : Refusal) (source : List ℕ) → IsErrAnd r (λ z. z ≡ refusal) → IsRefused source refusal → IfErr r (IsRefused source)
+passes_on (Ok a) refusal source same h = tt
+passes_on (Err z) refusal source same h = subst (IsRefused source) (sym same) h
+
+-- the code of a list, of which the parts of a layout are handed over
+pub does_the_list : (core ops : List CoreOp) (main : ℕ) (firsts given : List ℕ) (count globals : ℕ) (code : Code) → ops ≡ core → given ≡ firsts → globals ≡ count
+    → DoesTheList ops main given globals code → DoesTheList core main firsts count code
+does_the_list core ops main firsts given count globals code same_ops same_firsts same_count law =
+    let of_core = subst (λ (list : List CoreOp). DoesTheList list main given globals code) same_ops law in
+    subst (λ (n : ℕ). DoesTheList core main firsts n code) same_count (subst (λ (ws : List ℕ). DoesTheList core main ws globals code) same_firsts of_core)
+
+-- a list of which code is made
+pub is_generable : (core ops : List CoreOp) (main : ℕ) (firsts given : List ℕ) → ops ≡ core → given ≡ firsts → IsGenerable core main firsts → IsGenerable ops main given
+is_generable core ops main firsts given same_ops same_firsts h =
+    subst (λ (list : List CoreOp). IsGenerable list main given) (sym same_ops) (subst (λ (ws : List ℕ). IsGenerable core main ws) (sym same_firsts) h)
+
+-- the sites of a layout, as an image has them
+as_in_image : (all : List (ℕ × Place)) → map in_table (map site all) ≡ map in_image all
+as_in_image [] = refl
+as_in_image (s ∷ all) = ap (λ rest. in_image s ∷ rest) (as_in_image all)
+
+module _ (program : ProgramTree) (facts : Facts) (layout : Layout) (laid : IsLayout program facts layout) (fits : Fits (tables_by program facts) program.items) where
+  -- as many globals as a layout may have
+  pub few_words : vec_len layout.words ≤ 524288
+  few_words =
+      let count : length layout.words.items ≡ length (words_by program facts) = ap (λ (ws : List ℕ). length ws) laid.words in
+      let all = length_of_words (told facts.notes.items facts.kinds.items) (variables_of true program.items) in
+      let few = fits.words in
+      let held = layout.words.ok.0 in
+      omega (arith, count, all, few, held)
+
+  module _ (core : List CoreOp) (main : ℕ) (code : Code) (image : Image) where
+    -- what the code and the table of sites are, of which the image is put together
+    pub record IsPutTogether : Type 0 where
+      pub list : IsListFor (tables_by program facts) program core main
+      pub certain : IsCertain core main (length layout.firsts.items)
+      pub blocks : DoesTheList core main layout.firsts.items (vec_len layout.words) code
+      pub table : IsCommitTable (vec_len code.words) code.commits.items
+      pub some : 1 ≤ vec_len code.words
+      pub few : vec_len code.words ≤ 262144
+      pub has_code : image.code ≡ code.words
+      pub has_commits : image.commits ≡ code.commits
+      pub has_globals : image.globals ≡ layout.words
+      pub has_sites : image.sites.items ≡ map in_table layout.sites.items
+      pub firsts_are_words : All (λ w. w < 2 ^ 32) layout.firsts.items
+      pub globals_are_words : All (λ w. w < 2 ^ 32) layout.words.items
+
+    module _ (p : IsPutTogether) where
+      sites_are : image.sites.items ≡ map in_image (sites_of (tables_by program facts) program)
+      sites_are =
+          p.has_sites ∙ ap (λ (sites : List Site). map in_table sites) laid.sites
+          ∙ as_in_image (sites_of (tables_by program facts) program)
+
+      places : (places : Places) × BlockLaw core image places (firsts_by program facts) main
+      places =
+          let has : HasCode code (vec_len layout.words) image = record {
+            words = ap (λ v. v.items) p.has_code;
+            commits = ap (λ v. v.items) p.has_commits;
+            globals_of = let held = layout.words.ok.0 in let same = ap (λ v. length v.items) p.has_globals in omega (arith, held, same);
+          } in
+          let given = p.blocks image p.certain.frames has p.certain.suits p.certain.of_file in
+          let all : Places = record { block = given.0; frames = p.certain.frames } in
+          (all, subst (λ (firsts : List ℕ). BlockLaw core image all firsts main) laid.firsts given.1)
+
+      pub is_compiled : IsCompiled program facts core main image
+      is_compiled = record {
+        list = p.list;
+        certain = subst (λ (firsts : List ℕ). IsCertain core main (length firsts)) laid.firsts p.certain;
+        places = places.0;
+        blocks = places.1;
+        firsts_are_words = subst (All (λ w. w < 2 ^ 32)) laid.firsts p.firsts_are_words;
+        globals_are_words = subst (λ v. All (λ w. w < 2 ^ 32) v.items) (sym p.has_globals) p.globals_are_words;
+        limits = record {
+          some_code = let same = ap (λ v. vec_len v) p.has_code in omega (arith, same, p.some);
+          code = let same = ap (λ v. vec_len v) p.has_code in omega (arith, same, p.few);
+          globals = let same = ap (λ v. vec_len v) p.has_globals in omega (arith, same, few_words);
+          few_sites =
+              let held = image.sites.ok.0 in
+              let same = ap (λ (sites : List (ℕ × ℕ × ℕ)). length sites) sites_are in
+              let all = length-map (sites_of (tables_by program facts) program) in_image in
+              omega (arith, held, same, all, fits.sites);
+          sites = subst (All IsSite) (sym sites_are) (sites_fit (tables_by program facts) (functions_of program.items) (functions_of program.items));
+          commits =
+              subst (λ v. All (IsCommit (vec_len image.code)) v.items) (sym p.has_commits)
+              (subst (λ v. All (IsCommit (vec_len v)) code.commits.items) (sym p.has_code) (commits_fit (vec_len code.words) code.commits.items p.table));
+          rise = subst (λ v. Rise v.items) (sym p.has_commits) (commits_rise code.commits.items p.table.rise);
+        };
+        sites_are = sites_are;
+        globals_are = ap (λ v. v.items) p.has_globals ∙ laid.words;
+      }

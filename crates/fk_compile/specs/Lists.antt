@@ -1,0 +1,15 @@
+-- Flat lists that have the code of a program.
+use Rattle.std.specs.Prelude.{◌≡◌, ℕ, List}
+use Rattle.fk_syntax.specs.Program.{ProgramTree}
+use Rattle.fk_forms.specs.Tables.{Tables}
+use Rattle.fk_forms.specs.Program.{main_of}
+use Rattle.fk_core.specs.declared.op.CoreOp.{CoreOp}
+use Rattle.fk_core.specs.KeepsRuns.{HasCodeOf}
+use Rattle.fk_core.specs.WellFormed.{HasDepths}
+
+-- the code of each function stands at its entry, that of `main` at this index, and the depths are those of all runs
+pub record IsListFor (tables : Tables) (program : ProgramTree) (core : List CoreOp) (main : ℕ) : Type 0 where
+  pub entry : ℕ → ℕ
+  pub code : HasCodeOf tables program core entry
+  pub begins : main ≡ entry (main_of tables program)
+  pub depths : HasDepths core main
