@@ -11,7 +11,9 @@ the time of runs that stop before the first cycle, less that of an empty `main`.
 there (Debian: tcc), the time and memory of `fork95 build` over those of `tcc -c`, for a text of
 1 MiB of declarations and for one of sums, each with the same text in C. And where the program of
 the table of texts is built (`rt ci` builds it), the time in which all rules of the language are
-checked in a text of 1 MB with 60,000 names in nested scopes.
+checked in a text of 1 MB with 60,000 names in nested scopes. And five programs that a user would
+write (bench/programs), with 1, 64 and 1,024 harts: cycles, cycles for each operation of each hart,
+and million operations a second, beside the seconds of the same program in C on one core.
 """
 import itertools
 import os
@@ -127,10 +129,14 @@ def jump(offset):
     return (bits >> 20) << 31 | (bits >> 1 & 0x3FF) << 21 | (bits >> 11 & 1) << 20 | (bits >> 12 & 0xFF) << 12 | 0x6F
 
 
-def build_baseline(folder):
-    program = os.path.join(folder, "machine")
-    subprocess.run(["gcc", "-O2", "-o", program, os.path.join(BENCH, "machine.c")], check=True)
+def build_c(folder, name, source, *flags):
+    program = os.path.join(folder, name)
+    subprocess.run(["gcc", "-O2", *flags, "-o", program, source], check=True)
     return program
+
+
+def build_baseline(folder):
+    return build_c(folder, "machine", os.path.join(BENCH, "machine.c"))
 
 
 def require_same_runs(folder, baseline):
@@ -141,7 +147,9 @@ def require_same_runs(folder, baseline):
             image = build_image(folder, os.path.splitext(name)[0], file.read())
         commands = [PROGRAM, "exec", image] + bounds(64, 10**6), [baseline, image, "64", str(10**6)]
         ours, theirs = (subprocess.run(c, stdin=subprocess.DEVNULL, capture_output=True) for c in commands)
-        assert (ours.stdout, ours.stderr) == (theirs.stdout, theirs.stderr), name
+        assert (ours.stdout, ours.returncode) == (theirs.stdout, theirs.returncode), name
+        # the machine in C names a fault by its site alone
+        assert ours.stderr == theirs.stderr or ours.returncode == 6, name
 
 
 def print_rates(folder, runs):
@@ -167,6 +175,25 @@ def print_ratios_to_c(folder, runs):
     for harts in HARTS:
         (ours, start), (theirs, _) = rates(machines, harts, LOOPED // harts, runs)
         print("%5d  %27.1f  %9.1f  %18.3f  %11.1f" % (harts, ours, theirs, ours / theirs, start))
+
+
+def print_programs(folder, runs):
+    counting = build_c(folder, "counting", os.path.join(BENCH, "machine.c"), "-DCOUNT_OPERATIONS")
+    print("program     harts      cycles  operations  cycles/operation  million operations/s  ms  ms of C")
+    programs = os.path.join(BENCH, "programs")
+    for name in sorted(name[:-4] for name in os.listdir(programs) if name.endswith(".f95")):
+        with open(os.path.join(programs, name + ".f95"), encoding="ascii") as file:
+            image = build_image(folder, name, file.read())
+        [(seconds_of_c, _)] = least_times([[build_c(folder, name + "_c", os.path.join(programs, name + ".c"))]], runs)
+        for harts in HARTS:
+            counted = subprocess.run([counting, image, str(harts), str(2**32 - 1)], stdin=subprocess.DEVNULL, capture_output=True, text=True)
+            cycles, operations = int(counted.stderr.split()[2]), int(counted.stderr.split()[4])
+            assert counted.returncode == 0, counted.stderr
+            ours = [[PROGRAM, "exec", image] + bounds(harts, bound) for bound in (2**32 - 1, 0)]
+            (whole, _), (start, _) = least_times(ours, min(runs, 5))
+            busy = max(whole - start, 1e-6)
+            row = (name, harts, cycles, operations, cycles * harts / operations, operations / busy / 1e6, busy * 1e3, seconds_of_c * 1e3)
+            print("%-10s  %5d  %10d  %10d  %16.2f  %20.1f  %.0f  %.1f" % row)
 
 
 def print_compiling(folder, runs):
@@ -230,6 +257,7 @@ def main():
         print_compiling(folder, runs)
         print_ratios_to_tcc(folder, runs)
         print_checking(folder, runs)
+        print_programs(folder, runs)
 
 
 main()

@@ -6,7 +6,8 @@
    It takes no input numbers. Each word of code is decoded once, into an operation and its fields. A
    cycle runs one instruction of each hart that has not ended, in ascending number. What the program
    prints goes to standard output, and how the run ended goes to standard error, with the number of
-   cycles. The host is little-endian, as x86-64 and AArch64 are. */
+   cycles. With -DCOUNT_OPERATIONS it says behind that how many operations were done, by the image's
+   table of commits. The host is little-endian, as x86-64 and AArch64 are. */
 #include <stdbool.h>
 #include <stdint.h>
 #include <stdio.h>
@@ -70,6 +71,27 @@ struct machine {
     enum stand stand;
     uint32_t stopped_by, cause;
 };
+
+/* ---- operations */
+
+#ifdef COUNT_OPERATIONS
+static uint8_t operations_at[MAX_CODE];
+static uint64_t operations;
+
+static void count_operations(const struct hart *h)
+{
+    operations += h->pc / 4 < MAX_CODE ? operations_at[h->pc / 4] : 0;
+}
+
+static void read_commits(const uint32_t *commits, uint32_t count)
+{
+    for (uint32_t k = 0; k < count; k++)
+        operations_at[commits[2 * k] / 4 % MAX_CODE] = (uint8_t)commits[2 * k + 1];
+}
+#else
+#define count_operations(h) ((void)0)
+#define read_commits(commits, count) ((void)0)
+#endif
 
 /* ---- output */
 
@@ -475,9 +497,13 @@ jump:
 static void run(struct machine *m, uint32_t bound)
 {
     while (m->stand == RUNNING && m->cycles < bound) {
-        for (uint32_t k = 0; k < m->hart_count; k++)
-            if (!m->harts[k].ended && !step(m, &m->harts[k], k))
+        for (uint32_t k = 0; k < m->hart_count; k++) {
+            if (m->harts[k].ended)
+                continue;
+            count_operations(&m->harts[k]);
+            if (!step(m, &m->harts[k], k))
                 break;
+        }
         m->cycles++;
         if (m->stand == RUNNING && m->running == 0)
             m->stand = FINISHED;
@@ -526,6 +552,7 @@ static void read_image(struct machine *m, const char *path)
         m->code[k] = decode(words[k]);
     m->shared = zeros(SHARED_WORDS, 4);
     memcpy(m->shared, words + header[2], 4 * (size_t)header[3]);
+    read_commits(words + rest - 2 * (size_t)header[5], header[5]);
     free(words);
 }
 
@@ -552,6 +579,9 @@ static void report(const struct machine *m)
         break;
     }
     fprintf(stderr, " after %u cycles\n", m->cycles);
+#ifdef COUNT_OPERATIONS
+    fprintf(stderr, "%llu operations\n", (unsigned long long)operations);
+#endif
 }
 
 int main(int argc, char **argv)

@@ -16,6 +16,7 @@ from dataclasses import dataclass, field
 from pathlib import Path
 
 sys.dont_write_bytecode = True
+from programs import FAULTS_OF_RUNS, PROGRAMS
 from texts import FAULTS, NO_TOKENS, OPENERS, TEXTS
 
 TOP = Path(__file__).resolve().parent.parent
@@ -372,13 +373,12 @@ FILES.update(
         "long.image": image([0] * LONG),
     }
 )
-EMPTY = image([DEVICES, HALT], sites=[(34, 0, 0)], commits=[(4, 1)])
 UNKNOWN_WORDS = b"".join(b"%08x: 00000000  .word 0x00000000\n" % (4 * number) for number in range(LONG))
 ROWS += [
     Row(run("spellings.f95"), 0, b"122\n", FINISHED),
     Row(run("numbers.f95"), 0, b"".join(b"%d\n" % number for number in NUMBERS.values()), FINISHED),
-    # the code of no statements is that of `halt`
-    Row(build("empty.f95", "empty.image"), 0, b"", r"built 2 words\n", files={"empty.image": EMPTY}),
+    # all that no statements come to is `halt`
+    Row(build("empty.f95", "empty.image"), 0, b"", r"built \d+ words\n", files={"empty.image": has_kinds([34])}),
     # by hand: const, const, const, binary, write, drop, const, read, outint, halt
     Row(
         build("sums.f95", "kinds.image"),
@@ -403,6 +403,16 @@ ROWS += [
     Row(execute("globals.image"), 0, b"1\n", FINISHED),
     Row(["list", "long.image"], 0, UNKNOWN_WORDS, r"listed 60000 words\n"),
 ]
+
+
+# programs of the asynchronous language, and those that fault
+for title, (harts, given, text, out) in PROGRAMS.items():
+    FILES[f"{title}.f95"] = text
+    ROWS.append(Row(run(f"{title}.f95", harts=harts), 0, out, FINISHED, given=given))
+for title, (harts, text, out, kind, place, processor) in FAULTS_OF_RUNS.items():
+    FILES[f"fault {title}.f95"] = text
+    report = rf"fault {kind} at {place} by processor {processor} after \d+ cycles\n"
+    ROWS.append(Row(run(f"fault {title}.f95", harts=harts), 6, out, report))
 
 
 def refused(text, report):
@@ -441,7 +451,7 @@ for index, rule in enumerate(RULES):
     name = f"rule{index}.f95"
     FILES[name], line = breaking(*rule)
     ROWS.append(Row(run(name), 1, b"", line))
-# a text that keeps all rules and isn't of the form that is built; and mistakes of several kinds in one text
+# a text that keeps all rules and isn't built; and mistakes of several kinds in one text
 FILES["valid.f95"] = b"void main(void) { start ; }"
 FILES["all.f95"] = b"int ib[2]; void main(void) { farm ; y = ? }"
 ROWS += [
@@ -472,14 +482,17 @@ FILES["sites.f95"] = main_of(prints(8000))
 FILES["frame.f95"] = main_of(privates(64))
 FILES["shared.f95"] = LARGE + main_of(b"")
 FILES["full.f95"] = main_of(prints(7999))
+FILES["most.f95"] = main_of(privates(55))
+FILES["largest.f95"] = LARGEST + main_of(b"")
 ROWS += [
     Row(run("sites.f95"), 1, b"", r"refused 9 TooManySites 16001\n"),
     Row(run("sites.f95") + ["--show", "y"], 1, b"", r"refused 9 TooManySites 16001\n", given=b"x"),
     Row(build("full.f95", "full.image"), 0, b"", r"built \d+ words\n", files={"full.image": is_image}),
     Row(run("frame.f95"), 1, b"", r"refused 10 FrameTooLarge main 73\n"),
     Row(run("shared.f95"), 1, b"", r"refused 11 GlobalsTooLarge 524289\n"),
-    refused(main_of(privates(55)), r"refused 22 NotBuilt\n"),
-    refused(LARGEST + main_of(b""), r"refused 22 NotBuilt\n"),
+    Row(build("most.f95", "most.image"), 0, b"", r"built \d+ words\n", files={"most.image": is_image}),
+    Row(build("largest.f95", "largest.image"), 0, b"", r"built \d+ words\n", files={"largest.image": is_image}),
+    refused(main_of(privates(51) + b"start ;"), r"refused 22 NotBuilt\n"),
     refused(LARGE + main_of(b"start ;"), r"refused 11 GlobalsTooLarge 524289\n"),
     refused(LARGE + main_of(privates(64)), r"refused 10 FrameTooLarge main 73\n"),
     refused(main_of(privates(64) + prints(8000)), r"refused 9 TooManySites 16193\n"),
