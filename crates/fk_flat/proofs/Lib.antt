@@ -1,10 +1,10 @@
 pub mod Jumps
 pub mod FlatCode
 mod Examples
-mod ListExamples
-mod Ways
-mod Having
+pub mod ListExamples
+pub mod Ways
+pub mod Having
 pub mod Lengths
-mod Parts
-mod Standing
+pub mod Parts
+pub mod Standing
 pub mod Counts

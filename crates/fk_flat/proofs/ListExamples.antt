@@ -24,7 +24,7 @@ item_by (Some operation) op = act op.site operation op.target
 abbrev item_of : CoreOp → Item
 item_of op = item_by (operation_of op.kind op.number) op
 
-abbrev i : Operation
+abbrev pub i : Operation
 i = Get (Value (Private 0))
 
 abbrev s : Operation
@@ -62,26 +62,26 @@ loops : map item_of loops_core ≡ flat no_entry false None 0 (length loops_core
 loops = refl
 
 -- int f(int n) { return n ? 1 + f(n - 1) : 0; } void main(void) { putint(f(3)); }
-abbrev f_code : Code ℕ
+abbrev pub f_code : Code ℕ
 f_code =
     perform 0 i (choose 1 (Branch true)
     (perform 2 (Push 1) (perform 3 i (perform 4 (Push 1) (perform 5 (Join Sub false) (call 6 (Enter 1) 0 done (perform 7 (Join Add false) done))))))
     (perform 8 (Push 0) done)
     (ends 9 (Leave true false) (perform 10 (Push 0) (ends 11 (Leave true false) done))))
 
-abbrev main_code : Code ℕ
+abbrev pub main_code : Code ℕ
 main_code = perform 12 (Push 3) (call 13 (Enter 1) 0 done (perform 14 PrintNumber (ends 15 Halt done)))
 
 -- `f` is binding 0, and `main` binding 1
-abbrev of_binding : {A : Type 0} → (f main none : A) → (is_f is_main : Bool) → A
+abbrev pub of_binding : {A : Type 0} → (f main none : A) → (is_f is_main : Bool) → A
 of_binding f main none true is_main = f
 of_binding f main none false true = main
 of_binding f main none false false = none
 
-abbrev bodies : ℕ → Code ℕ
+abbrev pub bodies : ℕ → Code ℕ
 bodies b = of_binding f_code main_code done (b == 0) (b == 1)
 
-abbrev entry : ℕ → ℕ
+abbrev pub entry : ℕ → ℕ
 entry b = of_binding 0 14 19 (b == 0) (b == 1)
 
 has_f : Has core 0 (flat entry false None 0 19 f_code)
@@ -147,22 +147,22 @@ has_main = ((
   ),
 ))
 
-all_stand : (is_f is_main : Bool) → let place : ℕ = of_binding 0 14 19 is_f is_main in Has core place (flat entry false None place 19 (of_binding f_code main_code done is_f is_main))
+pub all_stand : (is_f is_main : Bool) → let place : ℕ = of_binding 0 14 19 is_f is_main in Has core place (flat entry false None place 19 (of_binding f_code main_code done is_f is_main))
 all_stand true is_main = has_f
 all_stand false true = has_main
 all_stand false false = tt
 
-all_begin : (is_f is_main : Bool) → let place : ℕ = of_binding 0 14 19 is_f is_main in place ≡ label None place 19 (of_binding f_code main_code done is_f is_main)
+pub all_begin : (is_f is_main : Bool) → let place : ℕ = of_binding 0 14 19 is_f is_main in place ≡ label None place 19 (of_binding f_code main_code done is_f is_main)
 all_begin true is_main = refl
 all_begin false true = refl
 all_begin false false = refl
 
-covered : (j : ℕ) → j < 19 → (is_f : Bool) → nat_lt j 14 ≡ is_f
+pub covered : (j : ℕ) → j < 19 → (is_f : Bool) → nat_lt j 14 ≡ is_f
     → (binding : ℕ) × (entry binding ≤ j) × (j < entry binding + extent false (bodies binding))
 covered j h true e = let a = ltb-true j 14 e in (0, omega arith, (let b : j < 0 + 14 = omega arith in b))
 covered j h false e = let a = ltb-false j 14 e in (1, (let b : 14 ≤ j = a in b), (let b : j < 14 + 5 = omega arith in b))
 
-is_flat : IsFlat bodies core entry
+abbrev pub is_flat : IsFlat bodies core entry
 is_flat = record {
   place = entry;
   has = λ b. all_stand (b == 0) (b == 1);
@@ -190,5 +190,5 @@ all_shaped true is_main = (f_is_shaped, inr refl)
 all_shaped false true = (main_is_shaped, inr refl)
 all_shaped false false = (tt, inl refl)
 
-are_shaped : AreShaped bodies
+pub are_shaped : AreShaped bodies
 are_shaped b = all_shaped (b == 0) (b == 1)

@@ -17,11 +17,11 @@ use Rattle.fk_flat.proofs.Having.{has_back, skipped}
 use Rattle.fk_flat.proofs.Lengths.{skips, begins_at, first_at, start_at}
 use Rattle.fk_flat.proofs.Parts.{choice_at, turns_at, rounds_at, entering_at, has_choice, has_turns, has_rounds, has_entering}
 
-no_extent : (n : ℕ) → (n == 0) ≡ true → n ≡ 0
+pub no_extent : (n : ℕ) → (n == 0) ≡ true → n ≡ 0
 no_extent zero e = refl
 no_extent (suc n) e = absurd (true≢false (sym e ∙ eqb-suc-zero n))
 
-both_true : (a b : Bool) → (a && b) ≡ true → (a ≡ true) × (b ≡ true)
+pub both_true : (a b : Bool) → (a && b) ≡ true → (a ≡ true) × (b ≡ true)
 both_true true true e = (refl, refl)
 both_true true false e = absurd (cc)
 both_true false b e = absurd (cc)
@@ -49,7 +49,7 @@ module _ (core : List CoreOp) (entry : ℕ → ℕ) where
   abbrev Followed : (here near : Bool) → Around → (j k : ℕ) → Code ℕ → Type 0
   Followed here near c j k rest = Has core j (skip here (label c (j + gap here) k rest) ++ flat entry near c (j + gap here) k rest)
 
-  at_gap : (here : Bool) (j : ℕ) → here ≡ true → j + gap here ≡ j
+  pub at_gap : (here : Bool) (j : ℕ) → here ≡ true → j + gap here ≡ j
   at_gap here j e = let f = ap gap e in omega arith
 
   falls : (rest : Code ℕ) (near : Bool) (c : Around) (j k : ℕ) (more : List Item) → let here = begins_here near rest in
@@ -88,7 +88,7 @@ module _ (core : List CoreOp) (entry : ℕ → ℕ) where
   to_target i n op t h onward e callers = goes_by core op w.onto e i h.0.target callers onward ∙ ap (λ t. position t callers) h.2.2
 
   -- the index behind the first jump
-  behind_jump_at : (ops : List CoreOp) (i : ℕ) (op : CoreOp) → slice_get ops i ≡ Some op → is_jump op ≡ true → behind_jump ops i ≡ suc i
+  pub behind_jump_at : (ops : List CoreOp) (i : ℕ) (op : CoreOp) → slice_get ops i ≡ Some op → is_jump op ≡ true → behind_jump ops i ≡ suc i
   behind_jump_at [] i op e z = absurd (cc)
   behind_jump_at (x ∷ xs) zero op e z = let f : x ≡ op = cc in ap (λ b. if b then 1 else suc (past_jump xs)) (ap is_jump f ∙ z)
   behind_jump_at (x ∷ xs) (suc i) op e z = ap (λ n. suc n) (behind_jump_at xs i op e z)
@@ -134,7 +134,7 @@ module _ (core : List CoreOp) (entry : ℕ → ℕ) where
   op_is_no_jump i n op t h = op_stops core entry i h.0 op h.1 h.2.0 h.0 h.1
 
   -- the first jump from the beginning of a call on is that to the function
-  behind_opening : (code : Code ℕ) (i k : ℕ) → IsOpening code → Has core i (flat entry true None i k code) → behind_jump core i ≡ behind_jump core (i + extent true code)
+  pub behind_opening : (code : Code ℕ) (i k : ℕ) → IsOpening code → Has core i (flat entry true None i k code) → behind_jump core i ≡ behind_jump core (i + extent true code)
   behind_opening done i k o h = ap (behind_jump core) (let e : i ≡ i + 0 = omega arith in e)
   behind_opening (perform n op rest) i k o h =
       let here = goes_away (way_of op) || begins_here true rest in

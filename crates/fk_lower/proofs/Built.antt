@@ -1,13 +1,16 @@
 -- Code that is shown comes behind what is built, its sites numbered.
-use Rattle.std.proofs.Common.{◌≡◌, ℕ, suc, ◌+◌, List, [], ◌∷◌, ◌++◌, fold, Option, Some, None, Ok, Err, IfOk, ap, ap₂, ◌∙◌, sym, refl, arith}
-use Rattle.std.specs.Prelude.{Result, IfSome}
+use Rattle.std.proofs.Common.{◌≡◌, ℕ, suc, ◌+◌, List, [], ◌∷◌, ◌++◌, fold, Ok, Err, IfOk, ap, ap₂, ◌∙◌, sym, refl, subst, arith}
+use Rattle.std.specs.Prelude.{Result, IfErr}
 use Rattle.std.proofs.lemmas.List.Sums.{fold-append}
 use Rattle.fk_forms.specs.Code as c
 use Rattle.fk_forms.specs.Code.{Code, append, size, numbered}
-use Rattle.fk_lower.specs.Building.{Event, Aside, Joined, Returned, Part, Behind, events_of, OnwardWay, AsideWay, Test, Body, Step, FirstBody, LastTest, Opening, Building, building, after, IsUnbegun, CodeIsBuilt, IsShown}
+use Rattle.fk_lower.specs.Building.{Event, Perform, Quit, Ends, Break, Continue, Aside, Joined, Returned, Part, Behind, events_of, OnwardWay, AsideWay, Test, Body, Step, FirstBody, LastTest, Opening, Building, building, after, IsUnbegun, CodeIsBuilt, IsShown}
 use Rattle.fk_lower.specs.declared.block.Block.{Block}
 use Rattle.fk_lower.specs.declared.fault.LowerFault.{LowerFault}
+use Rattle.fk_lower.specs.declared.fault.LowerFault.TheVariants as v
 use Rattle.fk_lower.specs.BuilderView.{block_code}
+use Rattle.fk_lower.specs.Faults.{ShowsNoCode, IsBuildFault}
+use Rattle.fk_lower.proofs.Placing.{AllPlaced}
 
 append_done : (code : Code ℕ) → append code c.done ≡ code
 append_done c.done = refl
@@ -42,6 +45,15 @@ shown b events = fold after b events
 
 two : (b : Building) (xs ys : List Event) → shown b (xs ++ ys) ≡ shown (shown b xs) ys
 two b xs ys = fold-append after b xs ys
+
+-- ---- events in their places
+
+placed_both : (xs ys : List Event) (b : Building) → AllPlaced b xs → AllPlaced (shown b xs) ys → AllPlaced b (xs ++ ys)
+placed_both [] ys b h k = k
+placed_both (x ∷ xs) ys b h k = (h.0, placed_both xs ys (after b x) h.1 k)
+
+standing : (events : List Event) {b other : Building} → b ≡ other → AllPlaced other events → AllPlaced b events
+standing events e h = subst (λ (b : Building). AllPlaced b events) (sym e) h
 
 module _ {A : Type 0} where
   -- what it comes to
@@ -130,6 +142,73 @@ module _ {A : Type 0} where
   built (c.turn test body step rest) w b = absurd w
   built (c.again test body step rest) w b = absurd w
 
+  -- ---- and all that is shown of it is in its place
+
+  pub placed : (code : Code A) → IsUnbegun code → (b : Building) → AllPlaced b (events_of code)
+  placed c.done w b = tt
+  placed (c.perform t op rest) w b = (tt, placed rest w (after b (Perform op)))
+  placed (c.quit t op rest) w b = (tt, placed rest w (after b (Quit op)))
+  placed (c.ends t op rest) w b = (tt, placed rest w (after b (Ends op)))
+  placed (c.break rest) w b = (tt, placed rest w (after b Break))
+  placed (c.continue rest) w b = (tt, placed rest w (after b Continue))
+  placed (c.choose t op x y rest) w b =
+      let n = suc b.site in
+      let m = n + size x in
+      let X = numbered n x in
+      let first = building n (OnwardWay b.code b.site op ∷ b.outer) c.done in
+      let second = building m (AsideWay b.code b.site op X ∷ b.outer) c.done in
+      let ys = Aside ∷ events_of y in
+      let joins = Joined ∷ events_of rest in (
+        tt,
+        placed_both (events_of x ++ ys) joins first
+            (placed_both (events_of x) ys first (placed x w.0 first) (standing ys (built x w.0 first) (tt, placed y w.1 second)))
+            (standing joins (two first (events_of x) ys ∙ ap (λ b. shown b ys) (built x w.0 first) ∙ built y w.1 second) (tt, placed rest w.2 _)),
+      )
+  placed (c.while test body step rest) w b =
+      let n = b.site + size test in
+      let m = n + size body in
+      let T = numbered b.site test in
+      let B = numbered n body in
+      let first = building b.site (Test b.code ∷ b.outer) c.done in
+      let second = building n (Body b.code T ∷ b.outer) c.done in
+      let third = building m (Step b.code T B ∷ b.outer) c.done in
+      let bodies = Part ∷ events_of body in
+      let steps = Part ∷ events_of step in
+      let rests = Behind ∷ events_of rest in
+      let tested = built test w.0 first in
+      let turned = two first (events_of test) bodies ∙ ap (λ b. shown b bodies) tested ∙ built body w.1 second in
+      let stepped = two first (events_of test ++ bodies) steps ∙ ap (λ b. shown b steps) turned ∙ built step w.2 third in (
+        tt,
+        placed_both (events_of test ++ bodies ++ steps) rests first
+            (placed_both (events_of test ++ bodies) steps first
+            (placed_both (events_of test) bodies first (placed test w.0 first) (standing bodies tested (tt, placed body w.1 second)))
+            (standing steps turned (tt, placed step w.2 third)))
+            (standing rests stepped (tt, placed rest w.3 _)),
+      )
+  placed (c.until body test rest) w b =
+      let n = b.site + size body in
+      let B = numbered b.site body in
+      let first = building b.site (FirstBody b.code ∷ b.outer) c.done in
+      let second = building n (LastTest b.code B ∷ b.outer) c.done in
+      let tests = Part ∷ events_of test in
+      let rests = Behind ∷ events_of rest in
+      let turned = built body w.0 first in
+      let tested = two first (events_of body) tests ∙ ap (λ b. shown b tests) turned ∙ built test w.1 second in (
+        tt,
+        placed_both (events_of body ++ tests) rests first
+            (placed_both (events_of body) tests first (placed body w.0 first) (standing tests turned (tt, placed test w.1 second)))
+            (standing rests tested (tt, placed rest w.2 _)),
+      )
+  placed (c.call t op f opening rest) w b =
+      let n = suc b.site in
+      let first = building n (Opening b.code b.site op f ∷ b.outer) c.done in
+      let rests = Returned ∷ events_of rest in (
+        tt,
+        placed_both (events_of opening) rests first (placed opening w.0 first) (standing rests (built opening w.0 first) (tt, placed rest w.1 _)),
+      )
+  placed (c.turn test body step rest) w b = absurd w
+  placed (c.again test body step rest) w b = absurd w
+
 pub code_is_built : (A : Type 0) → CodeIsBuilt A
 code_is_built A code w b = built code w b
 
@@ -138,10 +217,23 @@ is_shown site n events made e code w h =
     let start = building site [] c.done in
     ap (λ (b : Building). b.code) (sym e ∙ ap (shown start) (sym h) ∙ built code w start)
 
--- where what is built comes to all that is shown, and a fault is answered
-pub all_shown : (site n : ℕ) (events : List Event) (b : Building) (fault : Option LowerFault) (result : Result Block LowerFault)
-    → (fault ≡ None → b ≡ shown (building site [] c.done) events) → IfSome fault (λ f. result ≡ Err f)
+-- where what is built comes to all that is shown
+pub all_shown : (site n : ℕ) (events : List Event) (b : Building) (result : Result Block LowerFault)
+    → b ≡ shown (building site [] c.done) events
     → IfOk result (λ block. b ≡ building n [] (block_code block)) → IfOk result (λ block. IsShown site events (block_code block))
-all_shown site n events b fault (Err f) h kept made = tt
-all_shown site n events b None (Ok block) h kept made = is_shown site n events (block_code block) (sym (h refl) ∙ made)
-all_shown site n events b (Some f) (Ok block) h kept made = cc
+all_shown site n events b (Err f) h made = tt
+all_shown site n events b (Ok block) h made = is_shown site n events (block_code block) (sym h ∙ made)
+
+-- code leaves nothing open
+pub open_at_end : (site : ℕ) (events : List Event) (b : Building) → b ≡ shown (building site [] c.done) events → (b.outer ≡ [] → ⊥) → ShowsNoCode events
+open_at_end site events b h left code w e =
+    let start = building site [] c.done in
+    left (ap (λ (b : Building). b.outer) (h ∙ ap (shown start) (sym e) ∙ built code w start))
+
+pub refused_at_end : (site : ℕ) (events : List Event) (b : Building) (result : Result Block LowerFault) → b ≡ shown (building site [] c.done) events
+    → IfErr result (λ fault. fault ≡ v.Misplaced) → IfErr result (λ fault. b.outer ≡ [] → ⊥) → IfErr result (IsBuildFault site events)
+refused_at_end site events b (Ok block) h kind left = tt
+refused_at_end site events b (Err v.Misplaced) h kind left = open_at_end site events b h left
+refused_at_end site events b (Err v.TooLong) h kind left = cc
+refused_at_end site events b (Err v.OutOfRange) h kind left = cc
+refused_at_end site events b (Err v.Memory) h kind left = cc

@@ -1,5 +1,5 @@
 -- A piece that is added comes behind the code there is; a frame that is added is the innermost one.
-use Rattle.std.proofs.Common.{◌≡◌, ℕ, List, [], ◌∷◌, ◌++◌, ap, ◌∙◌, refl}
+use Rattle.std.proofs.Common.{◌≡◌, ℕ, List, [], ◌∷◌, ◌++◌, length, fold, ap, ◌∙◌, refl}
 use Rattle.std.proofs.lemmas.List.Sums.{fold-append}
 use Rattle.fk_forms.specs.Code as c
 use Rattle.fk_forms.specs.Code.{Code, append}
@@ -41,3 +41,13 @@ pub last_measured : (frames : List Frame) (f : Frame) → AreFramesMeasured (fra
     → AreFramesMeasured frames × ArePiecesMeasured f.before.items × IsOpenedMeasured f.opened
 last_measured [] f m = (m.2, m.0, m.1)
 last_measured (x ∷ xs) f m = let others = last_measured xs f m.2 in ((m.0, m.1, others.0), others.1, others.2)
+
+-- where there is a frame, something is open
+never : (frames : List Frame) (x : Open) (outer : List Open)
+    → fold (λ outer (frame : Frame). open_by (shown_code frame.before.items) frame.opened ∷ outer) (x ∷ outer) frames ≡ [] → ⊥
+never [] x outer e = cc
+never (frame ∷ frames) x outer e = never frames (open_by (shown_code frame.before.items) frame.opened) (x ∷ outer) e
+
+pub left_open : (frames : List Frame) → (length frames ≡ 0 → ⊥) → outer_of frames ≡ [] → ⊥
+left_open [] some e = some refl
+left_open (frame ∷ frames) some e = never frames (open_by (shown_code frame.before.items) frame.opened) [] e

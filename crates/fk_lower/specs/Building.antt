@@ -1,5 +1,5 @@
 -- Code that is shown step by step, from its beginning.
-use Rattle.std.specs.Prelude.{◌≡◌, ℕ, suc, ◌+◌, List, [], ◌∷◌, ◌++◌, fold}
+use Rattle.std.specs.Prelude.{◌≡◌, ℕ, suc, ◌+◌, Bool, true, false, List, [], ◌∷◌, ◌++◌, fold}
 use Rattle.fk_operation.specs.declared.operation.Operation.{Operation}
 use Rattle.fk_syntax.specs.declared.place.Place.{Place}
 use Rattle.fk_forms.specs.Code as c
@@ -21,6 +21,15 @@ pub data Event : Type 0 where
   Behind : Event
   Break : Event
   Continue : Event
+
+-- what has a site of it
+abbrev pub has_site : Event → Bool
+has_site (Perform op) = true
+has_site (Choose op) = true
+has_site (Quit op) = true
+has_site (Call op function) = true
+has_site (Ends op) = true
+has_site event = false
 
 abbrev pub events_of : {A : Type 0} → Code A → List Event
 events_of c.done = []
@@ -116,6 +125,23 @@ after b Part = part_of b.site b.outer b.code
 after b Behind = behind_of b.site b.outer b.code
 after b Break = joined b.site b.outer b.code (c.break c.done)
 after b Continue = joined b.site b.outer b.code (c.continue c.done)
+
+-- what ends a part, a choice, a loop or an opening finds it open, as the innermost of what is
+abbrev pub IsPlaced : Event → List Open → Type 0
+IsPlaced Aside (OnwardWay before n op ∷ outer) = Unit {0}
+IsPlaced Aside outer = ⊥
+IsPlaced Joined (AsideWay before n op x ∷ outer) = Unit {0}
+IsPlaced Joined outer = ⊥
+IsPlaced Returned (Opening before n op f ∷ outer) = Unit {0}
+IsPlaced Returned outer = ⊥
+IsPlaced Part (Test before ∷ outer) = Unit {0}
+IsPlaced Part (Body before test ∷ outer) = Unit {0}
+IsPlaced Part (FirstBody before ∷ outer) = Unit {0}
+IsPlaced Part outer = ⊥
+IsPlaced Behind (Step before test body ∷ outer) = Unit {0}
+IsPlaced Behind (LastTest before body ∷ outer) = Unit {0}
+IsPlaced Behind outer = ⊥
+IsPlaced event outer = Unit {0}
 
 -- code that is shown comes behind what is built, and its operations have the next sites
 abbrev pub CodeIsBuilt : (A : Type 0) → Type 0

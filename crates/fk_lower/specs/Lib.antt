@@ -4,6 +4,6 @@ pub mod View
 pub mod Measures
 pub mod Written
 pub mod Lowered
-pub mod Shaped
 pub mod Building
 pub mod BuilderView
+pub mod Faults

@@ -1,5 +1,5 @@
 -- What is known of code before its place is: whether it begins where it is written, how long its list is, and where it begins.
-use Rattle.std.specs.Prelude.{ℕ, ◌+◌, Bool, true, false, if◌then◌else◌}
+use Rattle.std.specs.Prelude.{ℕ, ◌+◌, ◌≤◌, Bool, true, false, if◌then◌else◌}
 use Rattle.fk_forms.specs.Code.{Code, done, until, break, continue}
 use Rattle.fk_core.specs.Stands.{Around}
 use Rattle.fk_flat.specs.Flat.{begins_here, extent, behind, onward}
@@ -44,3 +44,12 @@ spans_of code = record { far = span_of false code; near = span_of true code }
 
 abbrev pub span_in : Spans → (near : Bool) → Span
 span_in spans near = if near then spans.near else spans.far
+
+-- how far behind the index where it is written code begins, where it begins in its own list
+abbrev pub offset : Start → ℕ
+offset (s.At n) = n
+offset start = 0
+
+-- it begins within its list, or directly behind it
+abbrev pub IsWithin : Span → Type 0
+IsWithin span = offset span.start ≤ span.extent

@@ -1,16 +1,18 @@
 //! Builds blocks of code that is shown step by step.
 
-ghost use Rattle.std.specs.Prelude.{◌≡◌, suc, ◌∷◌, [], map, Some, None, Err, OnOk, IfOk, IfSome};
+ghost use Rattle.std.specs.Prelude.{◌≡◌, true, suc, ◌+◌, ◌*◌, ◌^◌, ◌<◌, ◌≤◌, ◌∷◌, [], map, OnOk, IfOk, IfErr};
 ghost use Rattle.fk_forms.specs.Code as c;
+ghost use Rattle.fk_forms.specs.Code.{size};
 ghost use Rattle.fk_lower.specs.Tree.{code_before, IsPieceMeasured};
 ghost use Rattle.fk_lower.specs.View.{piece_of};
-ghost use Rattle.fk_lower.specs.Building.{after, IsShown};
+ghost use Rattle.fk_lower.specs.Building.{after, has_site, IsShown};
+ghost use Rattle.fk_lower.specs.Faults.{IsFew, IsEventFault, IsBuildFault};
 ghost use Rattle.fk_lower.specs.Building as b;
 ghost use Rattle.fk_lower.specs.BuilderView.{event_of, building_of, open_by, outer_of, shown_code, block_code, IsBlockMeasured, IsOpenedMeasured, IsBuilderMeasured};
 
 use crate::block::{Act, Block, Piece};
 use crate::event::CodeEvent;
-use crate::fault::{LowerFault, further};
+use crate::fault::LowerFault;
 use fk_operation::Operation;
 use std::alloc::Global;
 use std::mem;
@@ -35,21 +37,22 @@ struct Frame {
     opened: Opened,
 }
 
-/// Code that is being built: each operation has the next number as its site.
+// Below so many sites three entries of a list for each have indices.
+const MOST_SITES: u32 = 1_431_655_765;
+
+// Code that is being built: each operation has the next number as its site.
 #[derive(Drop)]
-pub struct Builder {
+struct Builder {
     alloc: Global,
     site: u32,
     pieces: Vec<Piece>,
     outer: Vec<Frame>,
-    fault: Option<LowerFault>,
 }
 
 impl Builder {
-    /// One that is shown a function, whose first operation has this site.
-    pub fn new(alloc: Global, site: u32) -> Builder
+    // One that is shown a function, whose first operation has this site.
+    fn new(alloc: Global, site: u32) -> Builder
         ensures built { building_of result ≡ b.building site [] c.done }
-        ensures fault { result.fault ≡ None }
         ensures measured { IsBuilderMeasured result }
     {
         Builder {
@@ -57,7 +60,6 @@ impl Builder {
             site,
             pieces: Vec::new(alloc),
             outer: Vec::new(alloc),
-            fault: None,
         }
     }
 
@@ -65,11 +67,17 @@ impl Builder {
         ensures act { IfOk result (λ act. act.site ≡ self.old.site) }
         ensures operation { IfOk result (λ act. act.operation ≡ operation) }
         ensures site { OnOk result (self.new.site ≡ suc self.old.site) }
+        ensures low { OnOk result (3 * (self.old.site + 1) < 2 ^ 32) }
         ensures pieces { self.new.pieces ≡ self.old.pieces }
         ensures outer { self.new.outer ≡ self.old.outer }
+        ensures fault { IfErr result (λ fault. fault ≡ LowerFault.TooLong) }
+        ensures over { IfErr result (λ _. 2 ^ 32 ≤ 3 * (self.old.site + 1)) }
     {
         let site = self.site;
-        self.site = further(site, 1)?;
+        if site >= MOST_SITES {
+            return Err(LowerFault::TooLong);
+        }
+        self.site = site + 1;
         Ok(Act {
             site,
             operation,
@@ -84,7 +92,8 @@ impl Builder {
         ensures built { OnOk result (building_of self.new
             ≡ b.joined self.old.site (outer_of self.old.outer.items)
             (shown_code self.old.pieces.items) (code_before (piece_of piece) c.done)) }
-        ensures measured { IsBuilderMeasured self.new }
+        ensures measured { OnOk result (IsBuilderMeasured self.new) }
+        ensures fault { IfErr result (λ fault. fault ≡ LowerFault.Memory) }
     {
         match self.pieces.push(piece) {
             Ok(()) => Ok(()),
@@ -99,7 +108,8 @@ impl Builder {
         requires opened { IsOpenedMeasured opened }
         ensures built { OnOk result (building_of self.new ≡ b.opened self.old.site
             (open_by (shown_code self.old.pieces.items) opened) (outer_of self.old.outer.items)) }
-        ensures measured { IsBuilderMeasured self.new }
+        ensures measured { OnOk result (IsBuilderMeasured self.new) }
+        ensures fault { IfErr result (λ fault. fault ≡ LowerFault.Memory) }
     {
         let before = mem::replace(&mut self.pieces, Vec::new(self.alloc));
         match self.outer.push(Frame { before, opened }) {
@@ -108,14 +118,19 @@ impl Builder {
         }
     }
 
-    // Closes the innermost block: what there is behind is what stood before it.
+    // Closes the innermost block: what there is behind is what stood before it. It is
+    // `Misplaced` where none is open.
     #[tactic(auto, using(crate::proofs::Shown::outer_more, crate::proofs::Shown::last_measured))]
     fn close(&mut self) -> Result<(Block, Opened), LowerFault>
-        requires { IsBuilderMeasured self.now }
+        requires measured { IsBuilderMeasured self.now }
+        requires few { 3 * size (shown_code self.now.pieces.items) < 2 ^ 32 }
         ensures site { self.new.site ≡ self.old.site }
+        ensures fault { IfErr result (λ fault. fault ≡ LowerFault.Misplaced) }
+        ensures none { IfErr result (λ _. outer_of self.old.outer.items ≡ []) }
         ensures outer { IfOk result (λ closed. outer_of self.old.outer.items
             ≡ open_by (shown_code self.new.pieces.items) closed.1 ∷ outer_of self.new.outer.items) }
-        ensures block { IfOk result (λ closed. block_code closed.0 ≡ shown_code self.old.pieces.items) }
+        ensures block { IfOk result
+            (λ closed. block_code closed.0 ≡ shown_code self.old.pieces.items) }
         ensures measured { IsBuilderMeasured self.new }
         ensures closed { IfOk result (λ closed. IsBlockMeasured closed.0) }
         ensures opened { IfOk result (λ closed. IsOpenedMeasured closed.1) }
@@ -124,14 +139,16 @@ impl Builder {
             return Err(LowerFault::Misplaced);
         };
         let pieces = mem::replace(&mut self.pieces, frame.before);
-        Ok((Block::of(pieces)?, frame.opened))
+        Ok((Block::of(pieces), frame.opened))
     }
 
     fn perform(&mut self, operation: Operation, depth: u32) -> Result<(), LowerFault>
         requires { IsBuilderMeasured self.now }
         ensures built { OnOk result
             (building_of self.new ≡ after (building_of self.old) (b.Perform operation)) }
-        ensures measured { IsBuilderMeasured self.new }
+        ensures measured { OnOk result (IsBuilderMeasured self.new) }
+        ensures low { OnOk result (3 * (self.old.site + 1) < 2 ^ 32) }
+        ensures refused { IfErr result (IsEventFault (building_of self.old) (b.Perform operation)) }
     {
         let act = self.act(operation, depth)?;
         self.add(Piece::Perform(act))
@@ -141,17 +158,21 @@ impl Builder {
         requires { IsBuilderMeasured self.now }
         ensures built { OnOk result
             (building_of self.new ≡ after (building_of self.old) (b.Choose operation)) }
-        ensures measured { IsBuilderMeasured self.new }
+        ensures measured { OnOk result (IsBuilderMeasured self.new) }
+        ensures low { OnOk result (3 * (self.old.site + 1) < 2 ^ 32) }
+        ensures refused { IfErr result (IsEventFault (building_of self.old) (b.Choose operation)) }
     {
         let act = self.act(operation, depth)?;
         self.open(Opened::Onward(act))
     }
 
     fn aside(&mut self) -> Result<(), LowerFault>
-        requires { IsBuilderMeasured self.now }
+        requires measured { IsBuilderMeasured self.now }
+        requires few { IsFew (building_of self.now) }
         ensures built { OnOk result
             (building_of self.new ≡ after (building_of self.old) b.Aside) }
-        ensures measured { IsBuilderMeasured self.new }
+        ensures measured { OnOk result (IsBuilderMeasured self.new) }
+        ensures refused { IfErr result (IsEventFault (building_of self.old) b.Aside) }
     {
         match self.close()? {
             (first, Opened::Onward(act)) => self.open(Opened::Aside(act, first)),
@@ -160,13 +181,15 @@ impl Builder {
     }
 
     fn joined(&mut self) -> Result<(), LowerFault>
-        requires { IsBuilderMeasured self.now }
+        requires measured { IsBuilderMeasured self.now }
+        requires few { IsFew (building_of self.now) }
         ensures built { OnOk result
             (building_of self.new ≡ after (building_of self.old) b.Joined) }
-        ensures measured { IsBuilderMeasured self.new }
+        ensures measured { OnOk result (IsBuilderMeasured self.new) }
+        ensures refused { IfErr result (IsEventFault (building_of self.old) b.Joined) }
     {
         match self.close()? {
-            (second, Opened::Aside(act, first)) => self.add(Piece::Choose(act, first, second)),
+            (second, Opened::Aside(act, first)) => { self.add(Piece::Choose(act, first, second)) }
             _ => Err(LowerFault::Misplaced),
         }
     }
@@ -175,7 +198,9 @@ impl Builder {
         requires { IsBuilderMeasured self.now }
         ensures built { OnOk result
             (building_of self.new ≡ after (building_of self.old) (b.Quit operation)) }
-        ensures measured { IsBuilderMeasured self.new }
+        ensures measured { OnOk result (IsBuilderMeasured self.new) }
+        ensures low { OnOk result (3 * (self.old.site + 1) < 2 ^ 32) }
+        ensures refused { IfErr result (IsEventFault (building_of self.old) (b.Quit operation)) }
     {
         let act = self.act(operation, depth)?;
         self.add(Piece::Quit(act))
@@ -185,17 +210,21 @@ impl Builder {
         requires { IsBuilderMeasured self.now }
         ensures built { OnOk result
             (building_of self.new ≡ after (building_of self.old) (b.Call operation function)) }
-        ensures measured { IsBuilderMeasured self.new }
+        ensures measured { OnOk result (IsBuilderMeasured self.new) }
+        ensures low { OnOk result (3 * (self.old.site + 1) < 2 ^ 32) }
+        ensures refused { IfErr result (IsEventFault (building_of self.old) (b.Call operation function)) }
     {
         let act = self.act(operation, depth)?;
         self.open(Opened::Opening(act, function))
     }
 
     fn returned(&mut self) -> Result<(), LowerFault>
-        requires { IsBuilderMeasured self.now }
+        requires measured { IsBuilderMeasured self.now }
+        requires few { IsFew (building_of self.now) }
         ensures built { OnOk result
             (building_of self.new ≡ after (building_of self.old) b.Returned) }
-        ensures measured { IsBuilderMeasured self.new }
+        ensures measured { OnOk result (IsBuilderMeasured self.new) }
+        ensures refused { IfErr result (IsEventFault (building_of self.old) b.Returned) }
     {
         match self.close()? {
             (opening, Opened::Opening(act, function)) => {
@@ -209,17 +238,21 @@ impl Builder {
         requires { IsBuilderMeasured self.now }
         ensures built { OnOk result
             (building_of self.new ≡ after (building_of self.old) (b.Ends operation)) }
-        ensures measured { IsBuilderMeasured self.new }
+        ensures measured { OnOk result (IsBuilderMeasured self.new) }
+        ensures low { OnOk result (3 * (self.old.site + 1) < 2 ^ 32) }
+        ensures refused { IfErr result (IsEventFault (building_of self.old) (b.Ends operation)) }
     {
         let act = self.act(operation, depth)?;
         self.add(Piece::Ends(act))
     }
 
     fn part(&mut self) -> Result<(), LowerFault>
-        requires { IsBuilderMeasured self.now }
+        requires measured { IsBuilderMeasured self.now }
+        requires few { IsFew (building_of self.now) }
         ensures built { OnOk result
             (building_of self.new ≡ after (building_of self.old) b.Part) }
-        ensures measured { IsBuilderMeasured self.new }
+        ensures measured { OnOk result (IsBuilderMeasured self.new) }
+        ensures refused { IfErr result (IsEventFault (building_of self.old) b.Part) }
     {
         match self.close()? {
             (test, Opened::Test) => self.open(Opened::Body(test)),
@@ -230,10 +263,12 @@ impl Builder {
     }
 
     fn behind(&mut self) -> Result<(), LowerFault>
-        requires { IsBuilderMeasured self.now }
+        requires measured { IsBuilderMeasured self.now }
+        requires few { IsFew (building_of self.now) }
         ensures built { OnOk result
             (building_of self.new ≡ after (building_of self.old) b.Behind) }
-        ensures measured { IsBuilderMeasured self.new }
+        ensures measured { OnOk result (IsBuilderMeasured self.new) }
+        ensures refused { IfErr result (IsEventFault (building_of self.old) b.Behind) }
     {
         match self.close()? {
             (step, Opened::Step(test, body)) => self.add(Piece::While(test, body, step)),
@@ -243,10 +278,13 @@ impl Builder {
     }
 
     fn take(&mut self, event: CodeEvent) -> Result<(), LowerFault>
-        requires { IsBuilderMeasured self.now }
+        requires measured { IsBuilderMeasured self.now }
+        requires few { IsFew (building_of self.now) }
         ensures built { OnOk result
             (building_of self.new ≡ after (building_of self.old) (event_of event)) }
-        ensures measured { IsBuilderMeasured self.new }
+        ensures measured { OnOk result (IsBuilderMeasured self.new) }
+        ensures low { OnOk result (has_site (event_of event) ≡ true → 3 * (self.old.site + 1) < 2 ^ 32) }
+        ensures refused { IfErr result (IsEventFault (building_of self.old) (event_of event)) }
     {
         match event {
             CodeEvent::Perform { operation, depth } => self.perform(operation, depth),
@@ -270,39 +308,20 @@ impl Builder {
         }
     }
 
-    /// Shows what comes next. A fault is kept for the end, and behind it nothing is built any more.
-    pub fn show(&mut self, event: CodeEvent)
-        requires { IsBuilderMeasured self.now }
-        ensures built { self.new.fault ≡ None
-            → building_of self.new ≡ after (building_of self.old) (event_of event) }
-        ensures kept { IfSome self.old.fault (λ fault. self.new.fault ≡ Some fault) }
-        ensures measured { IsBuilderMeasured self.new }
-    {
-        if self.fault.is_none() {
-            self.fault = self.take(event).err();
-        }
-    }
-
-    /// The block that was built.
-    ///
-    /// # Errors
-    /// The first fault: `TooLong` where there are more than 2^32 - 1 sites, or a list would have more
-    /// operations and jumps than that; `Misplaced` where something ends that isn't open, or is open
-    /// at the end; and `Memory`.
-    pub fn finish(self) -> Result<Block, LowerFault>
-        requires { IsBuilderMeasured self }
-        ensures fault { IfSome self.fault (λ fault. result ≡ Err fault) }
+    // The block that was built.
+    fn finish(self) -> Result<Block, LowerFault>
+        requires measured { IsBuilderMeasured self }
+        requires few { IsFew (building_of self) }
         ensures built { IfOk result
             (λ block. building_of self ≡ b.building self.site [] (block_code block)) }
         ensures measured { IfOk result (λ block. IsBlockMeasured block) }
+        ensures fault { IfErr result (λ fault. fault ≡ LowerFault.Misplaced) }
+        ensures open { IfErr result (λ _. outer_of self.outer.items ≡ [] → ⊥) }
     {
-        if let Some(fault) = self.fault {
-            return Err(fault);
-        }
         if !self.outer.is_empty() {
             return Err(LowerFault::Misplaced);
         }
-        Block::of(self.pieces)
+        Ok(Block::of(self.pieces))
     }
 }
 
@@ -310,15 +329,18 @@ impl Builder {
 /// linear in what is shown.
 ///
 /// # Errors
-/// As `Builder::finish`.
+/// `TooLong` where three entries of a list for each operation, those of the sites before the first
+/// one included, are more than 2^32 - 1; `Misplaced` where what is shown is no code: something ends
+/// that isn't open, or is open at the end; and `Memory`.
 pub fn build(alloc: Global, site: u32, events: &[CodeEvent]) -> Result<Block, LowerFault>
     ensures built { IfOk result
         (λ block. IsShown site (map event_of events.now) (block_code block)) }
     ensures measured { IfOk result (λ block. IsBlockMeasured block) }
+    ensures refused { IfErr result (IsBuildFault site (map event_of events.now)) }
 {
     let mut builder = Builder::new(alloc, site);
     for event in events {
-        builder.show(*event);
+        builder.take(*event)?;
     }
     builder.finish()
 }

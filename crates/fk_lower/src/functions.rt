@@ -1,9 +1,10 @@
 //! The flat list of all functions of a program.
 
-ghost use Rattle.std.specs.Prelude.{◌≡◌, ◌++◌, IfOk, OnOk, None, map};
+ghost use Rattle.std.specs.Prelude.{◌≡◌, ◌++◌, ◌+◌, ◌^◌, ◌<◌, ◌≤◌, IfOk, IfErr, OnOk, None, map};
 ghost use Rattle.fk_flat.specs.Laws.{IsFlat};
 ghost use Rattle.fk_lower.specs.View.{part_of};
 ghost use Rattle.fk_lower.specs.Written.{items_of, entry_of};
+ghost use Rattle.fk_lower.specs.Faults.{AllNumbered, IsListFault, IsWriteFault};
 ghost use Rattle.fk_lower.specs.Lowered.{bodies_in, AreMeasured, total, entries_from, written_from, all_flat, IsListOf};
 
 use crate::block::Block;
@@ -32,7 +33,9 @@ fn outside(at: u32, next: u32) -> Place
 
 // How long all lists are together.
 fn total(bodies: &[Block]) -> Result<u32, LowerFault>
-    ensures { IfOk result (λ end. end ≡ total (map part_of bodies.now)) }
+    ensures total { IfOk result (λ end. end ≡ total (map part_of bodies.now)) }
+    ensures fault { IfErr result (λ fault. fault ≡ LowerFault.TooLong) }
+    ensures over { IfErr result (λ _. 2 ^ 32 ≤ total (map part_of bodies.now)) }
 {
     let mut end = 0;
     for body in bodies {
@@ -43,33 +46,51 @@ fn total(bodies: &[Block]) -> Result<u32, LowerFault>
 
 // Where functions begin.
 fn entries(alloc: Global, bodies: &[Block], end: u32) -> Result<Vec<u32>, LowerFault>
-    ensures { IfOk result (λ entries. entries.items ≡ entries_from 0 end (map part_of bodies.now)) }
+    requires measured { AreMeasured (map part_of bodies.now) }
+    requires room { total (map part_of bodies.now) < 2 ^ 32 }
+    ensures entries { IfOk result
+        (λ entries. entries.items ≡ entries_from 0 end (map part_of bodies.now)) }
+    ensures fault { IfErr result (λ fault. fault ≡ LowerFault.Memory) }
 {
     let mut entries = Vec::new(alloc);
     let mut at = 0;
     for body in bodies {
-        let span = body.spans().far;
-        let entry = outside(at, end).target(span.start, at, end)?;
+        let span = body.span(false);
+        let entry = outside(at, end).target(span.start, at, end);
         if entries.push(entry).is_err() {
             return Err(LowerFault::Memory);
         }
-        at = further(at, span.extent)?;
+        at += span.extent;
     }
     Ok(entries)
 }
 
 // Writes functions one behind the other.
 fn write_all(writer: &mut Writer, entries: &Entries, bodies: &[Block]) -> Result<(), LowerFault>
-    ensures { OnOk result (items_of writer.new.ops.items ≡ items_of writer.old.ops.items
+    requires measured { AreMeasured (map part_of bodies.now) }
+    requires room { total (map part_of bodies.now) < 2 ^ 32 }
+    ensures items { OnOk result (items_of writer.new.ops.items ≡ items_of writer.old.ops.items
         ++ written_from (entry_of entries.now.of_bindings.items entries.now.end) 0 entries.now.end
         (map part_of bodies.now)) }
+    ensures fault { AllNumbered (map part_of bodies.now) → IfErr result (λ fault. fault ≡ LowerFault.Memory) }
 {
     let mut at = 0;
     for body in bodies {
         writer.block(entries, body, false, outside(at, entries.end))?;
-        at = further(at, body.spans().far.extent)?;
+        at += body.spans().far.extent;
     }
     Ok(())
+}
+
+// What is told of a list that has room: memory is refused, or an operation has no number.
+fn in_writing(fault: LowerFault) -> LowerFault
+    ensures memory { fault ≡ LowerFault.Memory → result ≡ LowerFault.Memory }
+    ensures fault { IsWriteFault result }
+{
+    match fault {
+        LowerFault::Memory => LowerFault::Memory,
+        _ => LowerFault::OutOfRange,
+    }
 }
 
 /// The flat list of functions, given by their bindings and one behind the other in that order. One
@@ -80,13 +101,15 @@ fn write_all(writer: &mut Writer, entries: &Entries, bodies: &[Block]) -> Result
 /// `TooLong` where the list would have more than 2^32 - 1 operations and jumps, `OutOfRange` where
 /// a constant of an operation is too large for its number, and `Memory`.
 pub fn lower(alloc: Global, bodies: &[Block]) -> Result<Lowered, LowerFault>
-    ensures flat { AreMeasured (map part_of bodies.now) → IfOk result (λ lowered.
+    requires { AreMeasured (map part_of bodies.now) }
+    ensures flat { IfOk result (λ lowered.
         IsFlat (bodies_in (map part_of bodies.now)) lowered.ops.items
         (entry_of lowered.entries.of_bindings.items lowered.entries.end)) }
-    ensures order { AreMeasured (map part_of bodies.now) → IfOk result (λ lowered.
+    ensures order { IfOk result (λ lowered.
         IsListOf lowered.ops.items (all_flat
         (entry_of lowered.entries.of_bindings.items lowered.entries.end)
         0 lowered.entries.end (map part_of bodies.now))) }
+    ensures refused { IfErr result (λ fault. IsListFault (map part_of bodies.now) fault) }
 {
     let end = total(bodies)?;
     let entries = Entries {
@@ -94,9 +117,11 @@ pub fn lower(alloc: Global, bodies: &[Block]) -> Result<Lowered, LowerFault>
         end,
     };
     let mut writer = Writer::new(alloc);
-    write_all(&mut writer, &entries, bodies)?;
-    Ok(Lowered {
-        ops: writer.ops,
-        entries,
-    })
+    match write_all(&mut writer, &entries, bodies) {
+        Ok(()) => Ok(Lowered {
+            ops: writer.ops,
+            entries,
+        }),
+        Err(fault) => Err(in_writing(fault)),
+    }
 }

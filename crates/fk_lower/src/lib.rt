@@ -11,15 +11,13 @@ mod fault;
 mod functions;
 pub mod laws;
 mod measure;
-mod shape;
 mod span;
 mod write;
 
 pub use block::{Act, Block, Piece};
-pub use builder::{Builder, build};
+pub use builder::build;
 pub use event::CodeEvent;
 pub use fault::LowerFault;
 pub use functions::{Lowered, lower};
-pub use shape::are_shaped;
 pub use span::{Span, Spans, Start};
 pub use write::{Entries, Loop, Place, Writer};

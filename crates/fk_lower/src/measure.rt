@@ -1,14 +1,16 @@
 //! Measures of code, from its end.
 
-ghost use Rattle.std.specs.Prelude.{◌≡◌, false, IfOk, map};
+ghost use Rattle.std.specs.Prelude.{◌≡◌, ◌*◌, ◌^◌, ◌<◌, false, IfOk, IfErr, map};
 ghost use Rattle.fk_flat.specs.Items.{way_of, goes_away};
 ghost use Rattle.fk_lower.specs.Tree as t;
-ghost use Rattle.fk_lower.specs.Tree.{pieces_of, IsMeasured, IsPartMeasured};
+ghost use Rattle.fk_forms.specs.Code.{size};
+ghost use Rattle.fk_lower.specs.Spans.{span_in, IsWithin};
+ghost use Rattle.fk_lower.specs.Tree.{pieces_of, code_of, IsMeasured, IsPartMeasured};
 ghost use Rattle.fk_lower.specs.View.{piece_of, part_of};
 ghost use Rattle.fk_lower.specs.Measures.{nothing, beginning, is_beside, before, measured, rests};
 
 use crate::block::{Act, Block, Piece};
-use crate::fault::{LowerFault, further};
+use crate::fault::LowerFault;
 use crate::span::{Span, Spans, Start, gap};
 use fk_operation::Operation;
 use std::alloc::Global;
@@ -50,68 +52,73 @@ pub(crate) fn is_beside(second: &Block, rest: Span) -> bool
     rest.here && second.spans.of(rest.here).extent == 0
 }
 
-fn before_choice(act: Act, first: &Block, second: &Block, rest: Span) -> Result<Span, LowerFault>
+fn before_choice(act: Act, first: &Block, second: &Block, rest: Span) -> Span
+    requires { let x = part_of first.now in let y = part_of second.now in
+        (before (t.Choose act x.pieces x.spans y.pieces y.spans) rest).extent < 2 ^ 32 }
     ensures { let x = part_of first.now in let y = part_of second.now in
-        IfOk result (λ span. span ≡ before (t.Choose act x.pieces x.spans y.pieces y.spans) rest) }
+        result ≡ before (t.Choose act x.pieces x.spans y.pieces y.spans) rest }
 {
     let first = first.spans.of(is_beside(second, rest));
     let second = second.spans.of(rest.here);
-    let onward = further(1 + gap(first.here), first.extent)?;
-    let ways = further(onward, second.extent)?;
-    Ok(beginning(further(ways, rest.extent)?))
+    beginning(1 + gap(first.here) + first.extent + second.extent + rest.extent)
 }
 
-fn before_while(test: &Block, body: &Block, step: &Block, rest: Span) -> Result<Span, LowerFault>
+fn before_while(test: &Block, body: &Block, step: &Block, rest: Span) -> Span
+    requires { let x = part_of test.now in let y = part_of body.now in let z = part_of step.now in
+        (before (t.While x.pieces x.spans y.pieces y.spans z.pieces z.spans) rest).extent < 2 ^ 32 }
     ensures { let x = part_of test.now in let y = part_of body.now in let z = part_of step.now in
-        IfOk result (λ span. span
-        ≡ before (t.While x.pieces x.spans y.pieces y.spans z.pieces z.spans) rest) }
+        result ≡ before (t.While x.pieces x.spans y.pieces y.spans z.pieces z.spans) rest }
 {
     let step = step.spans.far;
     let turn = body.spans.of(step.here);
     let test = test.spans.of(turn.here);
-    let whole = further(further(test.extent, turn.extent)?, step.extent)?;
-    Ok(beginning(further(whole, rest.extent)?))
+    beginning(test.extent + turn.extent + step.extent + rest.extent)
 }
 
-fn before_until(body: &Block, test: &Block, rest: Span) -> Result<Span, LowerFault>
+fn before_until(body: &Block, test: &Block, rest: Span) -> Span
+    requires within { IsWithin rest }
+    requires room { let x = part_of body.now in let y = part_of test.now in
+        (before (t.Until x.pieces x.spans y.pieces y.spans) rest).extent < 2 ^ 32 }
     ensures { let x = part_of body.now in let y = part_of test.now in
-        IfOk result (λ span. span ≡ before (t.Until x.pieces x.spans y.pieces y.spans) rest) }
+        result ≡ before (t.Until x.pieces x.spans y.pieces y.spans) rest }
 {
     let turn = body.spans.near;
-    let whole = further(turn.extent, test.spans.far.extent)?;
-    Ok(Span {
+    let whole = turn.extent + test.spans.far.extent;
+    Span {
         here: turn.here,
-        extent: further(whole, rest.extent)?,
-        start: turn.start.round(turn.extent, whole, rest.start)?,
-    })
+        extent: whole + rest.extent,
+        start: turn.start.round(turn.extent, whole, rest.start),
+    }
 }
 
-fn before_call(act: Act, function: u32, opening: &Block, rest: Span) -> Result<Span, LowerFault>
+fn before_call(act: Act, function: u32, opening: &Block, rest: Span) -> Span
+    requires { let x = part_of opening.now in
+        (before (t.Call act function x.pieces x.spans) rest).extent < 2 ^ 32 }
     ensures { let x = part_of opening.now in
-        IfOk result (λ span. span ≡ before (t.Call act function x.pieces x.spans) rest) }
+        result ≡ before (t.Call act function x.pieces x.spans) rest }
 {
-    let opening = further(2, opening.spans.near.extent)?;
-    let call = further(opening, gap(rest.here))?;
-    Ok(beginning(further(call, rest.extent)?))
+    beginning(2 + opening.spans.near.extent + gap(rest.here) + rest.extent)
 }
 
 // The measures of a piece and the code behind it.
-fn before(piece: &Piece, rest: Span) -> Result<Span, LowerFault>
-    ensures { IfOk result (λ span. span ≡ before (piece_of piece.now) rest) }
+fn before(piece: &Piece, rest: Span) -> Span
+    requires within { IsWithin rest }
+    requires room { (before (piece_of piece.now) rest).extent < 2 ^ 32 }
+    ensures { result ≡ before (piece_of piece.now) rest }
 {
     match piece {
         Piece::Perform(act) => {
             let here = goes_away(act.operation) || rest.here;
-            Ok(beginning(further(1 + gap(here), rest.extent)?))
+            beginning(1 + gap(here) + rest.extent)
         }
         Piece::Choose(act, first, second) => before_choice(*act, first, second, rest),
         Piece::While(test, body, step) => before_while(test, body, step, rest),
         Piece::Until(body, test) => before_until(body, test, rest),
-        Piece::Quit(_) => Ok(beginning(further(1 + gap(rest.here), rest.extent)?)),
-        Piece::Break => Ok(left(rest, Start::Behind)),
-        Piece::Continue => Ok(left(rest, Start::Onward)),
+        Piece::Quit(_) => beginning(1 + gap(rest.here) + rest.extent),
+        Piece::Break => left(rest, Start::Behind),
+        Piece::Continue => left(rest, Start::Onward),
         Piece::Call(act, function, opening) => before_call(*act, *function, opening, rest),
-        Piece::Ends(_) => Ok(beginning(further(1, rest.extent)?)),
+        Piece::Ends(_) => beginning(1 + rest.extent),
     }
 }
 
@@ -127,49 +134,63 @@ fn left(rest: Span, start: Start) -> Span
 }
 
 // The measures of pieces.
-fn measured(pieces: &[Piece], near: bool) -> Result<Span, LowerFault>
-    ensures { IfOk result
-        (λ span. span ≡ measured near (pieces_of (map piece_of pieces.now))) }
+fn measured(pieces: &[Piece], near: bool) -> Span
+    requires measured { IsMeasured (pieces_of (map piece_of pieces.now)) }
+    requires room { (measured near (pieces_of (map piece_of pieces.now))).extent < 2 ^ 32 }
+    ensures { result ≡ measured near (pieces_of (map piece_of pieces.now)) }
 {
     let mut span = nothing(near);
     let mut index = pieces.len();
     while index > 0 {
         index -= 1;
-        span = before(&pieces[index], span)?;
+        span = before(&pieces[index], span);
     }
-    Ok(span)
+    span
 }
 
 impl Block {
     /// A block of pieces. It takes time linear in how many they are.
-    ///
-    /// # Errors
-    /// `TooLong` where its list would have more than 2^32 - 1 operations and jumps.
-    pub fn of(pieces: Vec<Piece>) -> Result<Block, LowerFault>
-        ensures pieces { IfOk result
-            (λ block. (part_of block).pieces ≡ pieces_of (map piece_of pieces.items)) }
-        ensures measured { IsMeasured (pieces_of (map piece_of pieces.items))
-            → IfOk result (λ block. IsPartMeasured (part_of block)) }
+    pub fn of(pieces: Vec<Piece>) -> Block
+        requires measured { IsMeasured (pieces_of (map piece_of pieces.items)) }
+        requires few { 3 * size (code_of (pieces_of (map piece_of pieces.items))) < 2 ^ 32 }
+        ensures pieces { (part_of result).pieces ≡ pieces_of (map piece_of pieces.items) }
+        ensures measured { IsPartMeasured (part_of result) }
     {
-        let far = measured(&pieces, false)?;
-        let near = measured(&pieces, true)?;
-        Ok(Block {
+        let far = measured(&pieces, false);
+        let near = measured(&pieces, true);
+        Block {
             pieces,
             spans: Spans { far, near },
-        })
+        }
+    }
+
+    /// What is known of a measured block, where it goes on directly behind its list or elsewhere.
+    pub(crate) fn span(&self, near: bool) -> Span
+        requires { IsPartMeasured (part_of self.now) }
+        ensures span { result ≡ span_in (part_of self.now).spans near }
+        ensures within { IsWithin result }
+    {
+        let spans = self.spans();
+        spans.of(near)
     }
 
     // The measures of the code behind each piece, the last piece's first.
     pub(crate) fn rests(&self, alloc: Global, near: bool) -> Result<Vec<Span>, LowerFault>
-        ensures { IfOk result (λ spans. spans.items ≡ rests near (part_of self.now).pieces) }
+        requires measured { IsPartMeasured (part_of self.now) }
+        requires room { (span_in (part_of self.now).spans near).extent < 2 ^ 32 }
+        ensures rests { IfOk result (λ spans. spans.items ≡ rests near (part_of self.now).pieces) }
+        ensures fault { IfErr result (λ fault. fault ≡ LowerFault.Memory) }
     {
         rests(alloc, &self.pieces, near)
     }
 }
 
 fn rests(alloc: Global, pieces: &[Piece], near: bool) -> Result<Vec<Span>, LowerFault>
-    ensures { IfOk result
+    requires measured { IsMeasured (pieces_of (map piece_of pieces.now)) }
+    requires room { (measured near (pieces_of (map piece_of pieces.now))).extent < 2 ^ 32 }
+    ensures rests { IfOk result
         (λ spans. spans.items ≡ rests near (pieces_of (map piece_of pieces.now))) }
+    ensures fault { IfErr result (λ fault. fault ≡ LowerFault.Memory) }
 {
     let mut spans = Vec::new(alloc);
     let mut span = nothing(near);
@@ -179,7 +200,7 @@ fn rests(alloc: Global, pieces: &[Piece], near: bool) -> Result<Vec<Span>, Lower
         if spans.push(span).is_err() {
             return Err(LowerFault::Memory);
         }
-        span = before(&pieces[index], span)?;
+        span = before(&pieces[index], span);
     }
     Ok(spans)
 }

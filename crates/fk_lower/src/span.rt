@@ -1,10 +1,8 @@
 //! What is known of code before its place is.
 
-ghost use Rattle.std.specs.Prelude.{◌≡◌, ◌≤◌, IfOk};
+ghost use Rattle.std.specs.Prelude.{◌≡◌, ◌+◌, ◌^◌, ◌<◌, ◌≤◌};
 ghost use Rattle.fk_flat.specs.Flat.{gap};
-ghost use Rattle.fk_lower.specs.Spans.{moved, round, span_in};
-
-use crate::fault::{LowerFault, further};
+ghost use Rattle.fk_lower.specs.Spans.{moved, round, span_in, offset};
 
 /// Where code begins.
 #[derive(Clone, Copy, PartialEq, Eq, Debug)]
@@ -21,23 +19,25 @@ pub enum Start {
 
 impl Start {
     // The same of code that stands so much further on.
-    pub(crate) fn moved(self, by: u32) -> Result<Start, LowerFault>
-        ensures { IfOk result (λ start. start ≡ moved by self) }
+    pub(crate) fn moved(self, by: u32) -> Start
+        requires { by + offset self < 2 ^ 32 }
+        ensures { result ≡ moved by self }
     {
         match self {
-            Start::At(offset) => Ok(Start::At(further(by, offset)?)),
-            _ => Ok(self),
+            Start::At(offset) => Start::At(by + offset),
+            _ => self,
         }
     }
 
     // Where a `do` loop begins: with its body, which so begins and so long is, or where that is left
     // at once, with the test behind it or the code behind the whole loop.
-    pub(crate) fn round(self, body: u32, whole: u32, rest: Start) -> Result<Start, LowerFault>
-        ensures { IfOk result (λ start. start ≡ round self body whole rest) }
+    pub(crate) fn round(self, body: u32, whole: u32, rest: Start) -> Start
+        requires { whole + offset rest < 2 ^ 32 }
+        ensures { result ≡ round self body whole rest }
     {
         match self {
-            Start::At(offset) => Ok(Start::At(offset)),
-            Start::Next | Start::Onward => Ok(Start::At(body)),
+            Start::At(offset) => Start::At(offset),
+            Start::Next | Start::Onward => Start::At(body),
             Start::Behind => rest.moved(whole),
         }
     }

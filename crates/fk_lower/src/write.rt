@@ -1,16 +1,19 @@
 //! Writes the flat list of measured code, each target known.
 
-ghost use Rattle.std.specs.Prelude.{◌≡◌, ◌+◌, if◌then◌else◌, ◌∷◌, ◌++◌, [], Some, IfOk, OnOk, IsTrue, ◌↔◌};
+ghost use Rattle.std.specs.Prelude.{◌≡◌, ◌+◌, ◌^◌, ◌<◌, if◌then◌else◌, ◌∷◌, ◌++◌, [], Some, IfOk, IfErr, OnOk, IsTrue, ◌↔◌};
 ghost use Rattle.fk_core.specs.Numbers.{HasNumber, IsNear, IsKnownNear};
 ghost use Rattle.fk_flat.specs.Items.{jump};
 ghost use Rattle.fk_flat.specs.Flat.{behind, onward};
-ghost use Rattle.fk_lower.specs.Spans.{place};
+ghost use Rattle.fk_lower.specs.Spans.{place, offset, span_in, IsWithin};
 ghost use Rattle.fk_lower.specs.Tree as t;
+ghost use Rattle.fk_lower.specs.Tree.{IsPieceMeasured, IsPartMeasured};
 ghost use Rattle.fk_lower.specs.View.{piece_of, part_of};
+ghost use Rattle.fk_lower.specs.Measures.{before};
+ghost use Rattle.fk_lower.specs.Faults.{AreNumbered, IsNumbered};
 ghost use Rattle.fk_lower.specs.Written.{items_of, around_of, entry_of, an_act, a_skip, behind_of, perform_written, quit_written, written, piece_written};
 
 use crate::block::{Act, Block, Piece};
-use crate::fault::{LowerFault, further};
+use crate::fault::LowerFault;
 use crate::measure::{goes_away, is_beside};
 use crate::span::{Span, Start, gap};
 use fk_core::CoreOp;
@@ -37,15 +40,15 @@ pub struct Place {
 
 impl Place {
     // The index where code begins that is written at an index here, and goes on at another one.
-    pub(crate) fn target(&self, start: Start, at: u32, next: u32) -> Result<u32, LowerFault>
-        ensures { IfOk result
-            (λ target. target ≡ place start (around_of self.now.around) at next) }
+    pub(crate) fn target(&self, start: Start, at: u32, next: u32) -> u32
+        requires { at + offset start < 2 ^ 32 }
+        ensures { result ≡ place start (around_of self.now.around) at next }
     {
         match start {
-            Start::At(offset) => further(at, offset),
-            Start::Next => Ok(next),
-            Start::Behind => Ok(self.behind()),
-            Start::Onward => Ok(self.onward()),
+            Start::At(offset) => at + offset,
+            Start::Next => next,
+            Start::Behind => self.behind(),
+            Start::Onward => self.onward(),
         }
     }
 
@@ -107,6 +110,16 @@ fn has_number(operation: Operation) -> bool
     }
 }
 
+// That a piece is measured, and has room with the code behind it.
+fn has_room(piece: &Piece, rest: Span, at: u32)
+    requires measured { IsPieceMeasured (piece_of piece.now) }
+    requires within { IsWithin rest }
+    requires room { at + (before (piece_of piece.now) rest).extent < 2 ^ 32 }
+    ensures measured { IsPieceMeasured (piece_of piece.now) }
+    ensures within { IsWithin rest }
+    ensures room { at + (before (piece_of piece.now) rest).extent < 2 ^ 32 }
+{}
+
 /// A flat list that is being written.
 #[derive(Drop)]
 pub struct Writer {
@@ -144,7 +157,8 @@ impl Writer {
     }
 
     fn add(&mut self, op: CoreOp) -> Result<(), LowerFault>
-        ensures { OnOk result (self.new.ops.items ≡ self.old.ops.items ++ op ∷ []) }
+        ensures items { OnOk result (self.new.ops.items ≡ self.old.ops.items ++ op ∷ []) }
+        ensures fault { IfErr result (λ fault. fault ≡ LowerFault.Memory) }
     {
         match self.ops.push(op) {
             Ok(()) => Ok(()),
@@ -153,8 +167,9 @@ impl Writer {
     }
 
     fn act(&mut self, act: Act, target: u32) -> Result<(), LowerFault>
-        ensures { OnOk result (items_of self.new.ops.items
+        ensures items { OnOk result (items_of self.new.ops.items
             ≡ items_of self.old.ops.items ++ an_act act target) }
+        ensures fault { HasNumber act.operation → IfErr result (λ fault. fault ≡ LowerFault.Memory) }
     {
         if !has_number(act.operation) {
             return Err(LowerFault::OutOfRange);
@@ -163,16 +178,18 @@ impl Writer {
     }
 
     fn jump(&mut self, target: u32) -> Result<(), LowerFault>
-        ensures { OnOk result (items_of self.new.ops.items
+        ensures items { OnOk result (items_of self.new.ops.items
             ≡ items_of self.old.ops.items ++ Some (jump target) ∷ []) }
+        ensures fault { IfErr result (λ fault. fault ≡ LowerFault.Memory) }
     {
         self.add(CoreOp::jump(target))
     }
 
     // A jump, unless what it would lead to is here.
     fn skip(&mut self, here: bool, target: u32) -> Result<(), LowerFault>
-        ensures { OnOk result (items_of self.new.ops.items
+        ensures items { OnOk result (items_of self.new.ops.items
             ≡ items_of self.old.ops.items ++ a_skip here target) }
+        ensures fault { IfErr result (λ fault. fault ≡ LowerFault.Memory) }
     {
         if here {
             return Ok(());
@@ -181,44 +198,53 @@ impl Writer {
     }
 
     fn perform(&mut self, act: Act, rest: Span, place: Place) -> Result<u32, LowerFault>
+        requires within { IsWithin rest }
+        requires room { place.at + (before (t.Perform act) rest).extent < 2 ^ 32 }
         ensures index { IfOk result
             (λ index. index ≡ behind_of (t.Perform act) rest place.at) }
         ensures items { OnOk result (items_of self.new.ops.items ≡ items_of self.old.ops.items
             ++ perform_written act rest (around_of place.around) place.at place.next) }
+        ensures fault { HasNumber act.operation → IfErr result (λ fault. fault ≡ LowerFault.Memory) }
     {
         let away = goes_away(act.operation);
         let here = away || rest.here;
-        let index = further(place.at, 1 + gap(here))?;
+        let index = place.at + (1 + gap(here));
         self.act(act, if away { place.next } else { 0 })?;
-        self.skip(here, place.target(rest.start, index, place.next)?)?;
+        self.skip(here, place.target(rest.start, index, place.next))?;
         Ok(index)
     }
 
     fn quit(&mut self, act: Act, rest: Span, place: Place) -> Result<u32, LowerFault>
+        requires within { IsWithin rest }
+        requires room { place.at + (before (t.Quit act) rest).extent < 2 ^ 32 }
         ensures index { IfOk result (λ index. index ≡ behind_of (t.Quit act) rest place.at) }
         ensures items { OnOk result (items_of self.new.ops.items ≡ items_of self.old.ops.items
             ++ quit_written act rest (around_of place.around) place.at place.next) }
+        ensures fault { HasNumber act.operation → IfErr result (λ fault. fault ≡ LowerFault.Memory) }
     {
-        let index = further(place.at, 1 + gap(rest.here))?;
+        let index = place.at + (1 + gap(rest.here));
         self.act(act, place.behind())?;
-        self.skip(rest.here, place.target(rest.start, index, place.next)?)?;
+        self.skip(rest.here, place.target(rest.start, index, place.next))?;
         Ok(index)
     }
 
     fn end(&mut self, act: Act, at: u32) -> Result<u32, LowerFault>
+        requires { at + 1 < 2 ^ 32 }
         ensures index { IfOk result (λ index. index ≡ at + 1) }
         ensures items { OnOk result (items_of self.new.ops.items
             ≡ items_of self.old.ops.items ++ an_act act 0) }
+        ensures fault { HasNumber act.operation → IfErr result (λ fault. fault ≡ LowerFault.Memory) }
     {
         self.act(act, 0)?;
-        further(at, 1)
+        Ok(at + 1)
     }
 
     /// Writes a block at a place: its list, where functions have these entries.
     ///
     /// # Errors
-    /// `TooLong` where an index would not fit, `OutOfRange` where a constant of an operation
-    /// doesn't, and `Memory`. The list then has some of the block.
+    /// `OutOfRange` where a constant of an operation doesn't fit its number, and `Memory`. The list
+    /// then has some of the block.
+    #[tactic(auto, using(crate::proofs::Room::measured_within, crate::proofs::Room::stays, crate::proofs::Room::measured_span))]
     #[cycle(block)]
     pub fn block(
         &mut self,
@@ -227,9 +253,12 @@ impl Writer {
         near: bool,
         place: Place,
     ) -> Result<(), LowerFault>
-        ensures { OnOk result (items_of self.new.ops.items ≡ items_of self.old.ops.items
+        requires measured { IsPartMeasured (part_of block.now) }
+        requires room { place.at + (span_in (part_of block.now).spans near).extent < 2 ^ 32 }
+        ensures items { OnOk result (items_of self.new.ops.items ≡ items_of self.old.ops.items
             ++ written (entry_of entries.now.of_bindings.items entries.now.end) near
             (around_of place.around) place.at place.next (part_of block.now).pieces) }
+        ensures fault { AreNumbered (part_of block.now).pieces → IfErr result (λ fault. fault ≡ LowerFault.Memory) }
     {
         let mut rests = block.rests(self.alloc, near)?;
         let mut at = place.at;
@@ -237,6 +266,7 @@ impl Writer {
             let Some(rest) = rests.pop() else {
                 unreachable!()
             };
+            has_room(piece, rest, at);
             at = self.piece(entries, piece, rest, Place { at, ..place })?;
         }
         Ok(())
@@ -251,10 +281,14 @@ impl Writer {
         rest: Span,
         place: Place,
     ) -> Result<u32, LowerFault>
+        requires measured { IsPieceMeasured (piece_of piece.now) }
+        requires within { IsWithin rest }
+        requires room { place.at + (before (piece_of piece.now) rest).extent < 2 ^ 32 }
         ensures index { IfOk result (λ index. index ≡ behind_of (piece_of piece.now) rest place.at) }
         ensures items { OnOk result (items_of self.new.ops.items ≡ items_of self.old.ops.items
             ++ piece_written (entry_of entries.now.of_bindings.items entries.now.end)
             (piece_of piece.now) rest (around_of place.around) place.at place.next) }
+        ensures fault { IsNumbered (piece_of piece.now) → IfErr result (λ fault. fault ≡ LowerFault.Memory) }
     {
         match piece {
             Piece::Perform(act) => self.perform(*act, rest, place),
@@ -284,6 +318,11 @@ impl Writer {
         rest: Span,
         place: Place,
     ) -> Result<u32, LowerFault>
+        requires measured { let x = part_of first.now in let y = part_of second.now in
+            IsPieceMeasured (t.Choose act x.pieces x.spans y.pieces y.spans) }
+        requires within { IsWithin rest }
+        requires room { let x = part_of first.now in let y = part_of second.now in
+            place.at + (before (t.Choose act x.pieces x.spans y.pieces y.spans) rest).extent < 2 ^ 32 }
         ensures index { let x = part_of first.now in let y = part_of second.now in
             IfOk result (λ index. index ≡ behind_of (t.Choose act x.pieces x.spans y.pieces y.spans) rest place.at) }
         ensures items { let x = part_of first.now in let y = part_of second.now in
@@ -291,16 +330,18 @@ impl Writer {
             ++ piece_written (entry_of entries.now.of_bindings.items entries.now.end)
             (t.Choose act x.pieces x.spans y.pieces y.spans) rest
             (around_of place.around) place.at place.next) }
+        ensures fault { let x = part_of first.now in let y = part_of second.now in
+            IsNumbered (t.Choose act x.pieces x.spans y.pieces y.spans) → IfErr result (λ fault. fault ≡ LowerFault.Memory) }
     {
         let beside = is_beside(second, rest);
-        let onward = first.spans.of(beside);
-        let aside = second.spans.of(rest.here);
-        let at = further(place.at, 1 + gap(onward.here))?;
-        let middle = further(at, onward.extent)?;
-        let end = further(middle, aside.extent)?;
-        let next = place.target(rest.start, end, place.next)?;
-        self.act(act, place.target(aside.start, middle, next)?)?;
-        self.skip(onward.here, place.target(onward.start, at, next)?)?;
+        let onward = first.span(beside);
+        let aside = second.span(rest.here);
+        let at = place.at + (1 + gap(onward.here));
+        let middle = at + onward.extent;
+        let end = middle + aside.extent;
+        let next = place.target(rest.start, end, place.next);
+        self.act(act, place.target(aside.start, middle, next))?;
+        self.skip(onward.here, place.target(onward.start, at, next))?;
         self.block(entries, first, beside, Place { at, next, ..place })?;
         self.block(
             entries,
@@ -325,6 +366,11 @@ impl Writer {
         rest: Span,
         place: Place,
     ) -> Result<u32, LowerFault>
+        requires measured { let x = part_of test.now in let y = part_of body.now in let z = part_of step.now in
+            IsPieceMeasured (t.While x.pieces x.spans y.pieces y.spans z.pieces z.spans) }
+        requires within { IsWithin rest }
+        requires room { let x = part_of test.now in let y = part_of body.now in let z = part_of step.now in
+            place.at + (before (t.While x.pieces x.spans y.pieces y.spans z.pieces z.spans) rest).extent < 2 ^ 32 }
         ensures index { let x = part_of test.now in let y = part_of body.now in let z = part_of step.now in
             IfOk result (λ index. index ≡ behind_of (t.While x.pieces x.spans y.pieces y.spans z.pieces z.spans) rest place.at) }
         ensures items { let x = part_of test.now in let y = part_of body.now in let z = part_of step.now in
@@ -332,20 +378,22 @@ impl Writer {
             ++ piece_written (entry_of entries.now.of_bindings.items entries.now.end)
             (t.While x.pieces x.spans y.pieces y.spans z.pieces z.spans) rest
             (around_of place.around) place.at place.next) }
+        ensures fault { let x = part_of test.now in let y = part_of body.now in let z = part_of step.now in
+            IsNumbered (t.While x.pieces x.spans y.pieces y.spans z.pieces z.spans) → IfErr result (λ fault. fault ≡ LowerFault.Memory) }
     {
         let steps = step.spans.far.here;
-        let turn = body.spans.of(steps);
-        let body_at = further(place.at, test.spans.of(turn.here).extent)?;
-        let step_at = further(body_at, turn.extent)?;
-        let end = further(step_at, step.spans.far.extent)?;
-        let behind = place.target(rest.start, end, place.next)?;
+        let turn = body.span(steps);
+        let body_at = place.at + test.spans.of(turn.here).extent;
+        let step_at = body_at + turn.extent;
+        let end = step_at + step.spans.far.extent;
+        let behind = place.target(rest.start, end, place.next);
         let onward = chosen(steps, step_at, place.at);
         let inside = Place {
             around: Some(Loop { behind, onward }),
             at: place.at,
             next: place.at,
         };
-        let next = inside.target(turn.start, body_at, onward)?;
+        let next = inside.target(turn.start, body_at, onward);
         self.block(entries, test, turn.here, Place { next, ..inside })?;
         self.block(
             entries,
@@ -378,6 +426,11 @@ impl Writer {
         rest: Span,
         place: Place,
     ) -> Result<u32, LowerFault>
+        requires measured { let x = part_of body.now in let y = part_of test.now in
+            IsPieceMeasured (t.Until x.pieces x.spans y.pieces y.spans) }
+        requires within { IsWithin rest }
+        requires room { let x = part_of body.now in let y = part_of test.now in
+            place.at + (before (t.Until x.pieces x.spans y.pieces y.spans) rest).extent < 2 ^ 32 }
         ensures index { let x = part_of body.now in let y = part_of test.now in
             IfOk result (λ index. index ≡ behind_of (t.Until x.pieces x.spans y.pieces y.spans) rest place.at) }
         ensures items { let x = part_of body.now in let y = part_of test.now in
@@ -385,17 +438,19 @@ impl Writer {
             ++ piece_written (entry_of entries.now.of_bindings.items entries.now.end)
             (t.Until x.pieces x.spans y.pieces y.spans) rest
             (around_of place.around) place.at place.next) }
+        ensures fault { let x = part_of body.now in let y = part_of test.now in
+            IsNumbered (t.Until x.pieces x.spans y.pieces y.spans) → IfErr result (λ fault. fault ≡ LowerFault.Memory) }
     {
-        let turn = body.spans.near;
-        let onward = further(place.at, turn.extent)?;
-        let end = further(onward, test.spans.far.extent)?;
-        let behind = place.target(rest.start, end, place.next)?;
+        let turn = body.span(true);
+        let onward = place.at + turn.extent;
+        let end = onward + test.spans.far.extent;
+        let behind = place.target(rest.start, end, place.next);
         let inside = Place {
             around: Some(Loop { behind, onward }),
             at: place.at,
             next: onward,
         };
-        let next = inside.target(turn.start, place.at, onward)?;
+        let next = inside.target(turn.start, place.at, onward);
         self.block(entries, body, true, inside)?;
         self.block(
             entries,
@@ -420,6 +475,11 @@ impl Writer {
         rest: Span,
         place: Place,
     ) -> Result<u32, LowerFault>
+        requires measured { let x = part_of opening.now in
+            IsPieceMeasured (t.Call act function x.pieces x.spans) }
+        requires within { IsWithin rest }
+        requires room { let x = part_of opening.now in
+            place.at + (before (t.Call act function x.pieces x.spans) rest).extent < 2 ^ 32 }
         ensures index { let x = part_of opening.now in
             IfOk result (λ index. index ≡ behind_of (t.Call act function x.pieces x.spans) rest place.at) }
         ensures items { let x = part_of opening.now in
@@ -427,11 +487,13 @@ impl Writer {
             ++ piece_written (entry_of entries.now.of_bindings.items entries.now.end)
             (t.Call act function x.pieces x.spans) rest
             (around_of place.around) place.at place.next) }
+        ensures fault { let x = part_of opening.now in
+            IsNumbered (t.Call act function x.pieces x.spans) → IfErr result (λ fault. fault ≡ LowerFault.Memory) }
     {
         let entry = entries.of(function);
-        let at = further(place.at, 1)?;
-        let next = further(at, opening.spans.near.extent)?;
-        let end = further(next, 1 + gap(rest.here))?;
+        let at = place.at + 1;
+        let next = at + opening.spans.near.extent;
+        let end = next + (1 + gap(rest.here));
         self.act(act, entry)?;
         self.block(
             entries,
@@ -444,7 +506,7 @@ impl Writer {
             },
         )?;
         self.jump(entry)?;
-        self.skip(rest.here, place.target(rest.start, end, place.next)?)?;
+        self.skip(rest.here, place.target(rest.start, end, place.next))?;
         Ok(end)
     }
 }

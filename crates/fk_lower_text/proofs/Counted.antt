@@ -1,5 +1,5 @@
 -- A count of code counts all that is shown of it.
-use Rattle.std.proofs.Common.{◌≡◌, ℕ, suc, ◌+◌, ◌-◌, ◌^◌, ◌≤◌, min, List, [], ◌∷◌, ◌++◌, length, refl, ◌∙◌, ap, arith, length-append}
+use Rattle.std.proofs.Common.{◌≡◌, ℕ, ◌+◌, ◌-◌, ◌^◌, ◌≤◌, min, List, [], ◌∷◌, ◌++◌, length, refl, ap, arith, length-append}
 use Rattle.fk_forms.specs.Code as c
 use Rattle.fk_forms.specs.Expressions.{Coded, Signature}
 use Rattle.fk_walk.specs.Through.{through}

@@ -1,5 +1,5 @@
 -- A block behind others, and the sites of what is shown.
-use Rattle.std.proofs.Common.{◌≡◌, ℕ, suc, ◌+◌, ◌-◌, ◌≤◌, true, false, cond, List, [], ◌∷◌, ◌++◌, length, map, replicate, refl, ◌∙◌, sym, ap, ap₂, arith}
+use Rattle.std.proofs.Common.{◌≡◌, ℕ, suc, ◌+◌, ◌-◌, true, false, cond, List, [], ◌∷◌, ◌++◌, map, replicate, refl, ◌∙◌, sym, ap, ap₂, arith}
 use Rattle.std.specs.List.{count_by}
 use Rattle.std.proofs.lemmas.List.{append_assoc, map-append, replicate_more}
 use Rattle.std.proofs.lemmas.List.Sums.{sum_by-append}
@@ -11,12 +11,12 @@ use Rattle.fk_walk.specs.declared.known.Known.{Known}
 use Rattle.fk_walk.specs.Known.{tables_of}
 use Rattle.fk_walk_statements.specs.Texts.{code_in}
 use Rattle.fk_lower.specs.Building as b
-use Rattle.fk_lower.specs.Building.{Event, events_of, IsUnbegun}
+use Rattle.fk_lower.specs.Building.{Event, has_site, events_of, IsUnbegun}
 use Rattle.fk_lower.specs.declared.block.Block.{Block}
 use Rattle.fk_lower.specs.View.{part_of}
 use Rattle.fk_lower.specs.BuilderView.{block_code, IsBlockMeasured}
 use Rattle.fk_lower.specs.Lowered.{AreMeasured}
-use Rattle.fk_lower_text.specs.Laid.{has_site, codes_of, laid}
+use Rattle.fk_lower_text.specs.Laid.{codes_of, laid}
 
 pub codes_more : (blocks : List Block) (block : Block) → codes_of (blocks ++ block ∷ []) ≡ codes_of blocks ++ block_code block ∷ []
 codes_more blocks block = map-append block_code blocks (block ∷ [])

@@ -127,14 +127,14 @@ module _ (known : Known) where
       in_blocks : (b : ℕ) → bodies_in (map part_of blocks) b ≡ bodies_of (tables_of known) program b
       in_blocks b = in_parts blocks b ∙ ap (λ xs. code_at xs b) (are plain) ∙ sym (bodies_are b)
 
-      pub has_program : (core : List CoreOp) (entry : ℕ → ℕ) → AreShaped (bodies_in (map part_of blocks)) → IsFlat (bodies_in (map part_of blocks)) core entry
-          → HasProgram known program core entry
-      has_program core entry shape flat =
-          let shaped = subst (λ (bodies : ℕ → Code ℕ). AreShaped bodies) (λ i. λ b. in_blocks b i) shape in
-          let is_flat = subst (λ (bodies : ℕ → Code ℕ). IsFlat bodies core entry) (λ i. λ b. in_blocks b i) flat in
-          record { flat = is_flat; code = flat_code_stands (tables_of known) program core entry shaped is_flat }
+      pub shaped_in_blocks : AreShaped (bodies_in (map part_of blocks))
+      shaped_in_blocks = subst (λ (bodies : ℕ → Code ℕ). AreShaped bodies) (λ i. λ b. sym (in_blocks b) i) lowerable.shaped
 
-      pub has_its_runs : (core : List CoreOp) (entry : ℕ → ℕ) → AreShaped (bodies_in (map part_of blocks)) → IsFlat (bodies_in (map part_of blocks)) core entry
-          → HasItsRuns known program core entry
-      has_its_runs core entry shape flat =
-          let has = has_program core entry shape flat in flat_lists_keep_runs (tables_of known) program core entry has.code
+      pub has_program : (core : List CoreOp) (entry : ℕ → ℕ) → IsFlat (bodies_in (map part_of blocks)) core entry → HasProgram known program core entry
+      has_program core entry flat =
+          let is_flat = subst (λ (bodies : ℕ → Code ℕ). IsFlat bodies core entry) (λ i. λ b. in_blocks b i) flat in
+          record { flat = is_flat; code = flat_code_stands (tables_of known) program core entry lowerable.shaped is_flat }
+
+      pub has_its_runs : (core : List CoreOp) (entry : ℕ → ℕ) → IsFlat (bodies_in (map part_of blocks)) core entry → HasItsRuns known program core entry
+      has_its_runs core entry flat =
+          let has = has_program core entry flat in flat_lists_keep_runs (tables_of known) program core entry has.code

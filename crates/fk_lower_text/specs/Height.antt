@@ -1,5 +1,5 @@
 -- How many values the running call has at a place in code. Numbers above the greatest one stay at it.
-use Rattle.std.specs.Prelude.{ℕ, ◌+◌, ◌-◌, ◌^◌, min, Bool, Option, Some, None, if◌then◌else◌}
+use Rattle.std.specs.Prelude.{ℕ, ◌-◌, ◌^◌, min, Option, Some, None}
 use Rattle.fk_syntax.specs.declared.place.Place.{Place}
 use Rattle.fk_operation.specs.declared.operation.Operation.{Operation}
 use Rattle.fk_walk.specs.declared.visitor.Event.{Event}

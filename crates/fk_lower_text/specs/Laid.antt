@@ -1,24 +1,13 @@
 -- The code of functions, each at its binding.
-use Rattle.std.specs.Prelude.{ℕ, suc, ◌+◌, ◌-◌, ◌≤◌, Bool, true, false, List, [], ◌∷◌, ◌++◌, map, replicate}
+use Rattle.std.specs.Prelude.{ℕ, suc, ◌+◌, ◌-◌, ◌≤◌, List, [], ◌∷◌, ◌++◌, map, replicate}
 use Rattle.fk_syntax.specs.Program.{FunctionTree}
 use Rattle.fk_forms.specs.Code.{Code, done, size, numbered}
 use Rattle.fk_forms.specs.Program.{binding_of}
 use Rattle.fk_walk.specs.declared.known.Known.{Known}
 use Rattle.fk_walk.specs.Known.{tables_of}
 use Rattle.fk_walk_statements.specs.Texts.{code_in}
-use Rattle.fk_lower.specs.Building as b
-use Rattle.fk_lower.specs.Building.{Event}
 use Rattle.fk_lower.specs.declared.block.Block.{Block}
 use Rattle.fk_lower.specs.BuilderView.{block_code}
-
--- what has a site of all that is shown of code
-abbrev pub has_site : Event → Bool
-has_site (b.Perform op) = true
-has_site (b.Choose op) = true
-has_site (b.Quit op) = true
-has_site (b.Call op function) = true
-has_site (b.Ends op) = true
-has_site event = false
 
 abbrev pub codes_of : List Block → List (Code ℕ)
 codes_of blocks = map block_code blocks

@@ -14,13 +14,15 @@ use Rattle.fk_core.specs.declared.op.CoreOp.{CoreOp}
 use Rattle.fk_core.specs.Next.{next, opening}
 use Rattle.fk_core.specs.KeepsRuns.{HasCodeOf}
 use Rattle.fk_flat.specs.Items.{Item, acts, jumps, calls}
-use Rattle.fk_flat.specs.Laws.{IsFlat}
+use Rattle.fk_flat.specs.Laws.{AreShaped, IsFlat}
 use Rattle.fk_lower.specs.Lowered.{IsListOf}
 use Rattle.fk_lower_text.specs.Whole.{AreWhole}
 
--- a program of these items, of whose code is asked that each number of its operations has room in a word
+-- a program of these items, of whose code is asked that it has the shape of flat lists, and that each number of its operations has
+-- room in a word
 pub record IsLowerable (known : Known) (program : ProgramTree) : Type 0 where
   pub items : program.items ≡ items_in known
+  pub shaped : AreShaped (bodies_of (tables_of known) program)
   pub whole : AreWhole known (functions_in known)
 
 module _ (known : Known) (program : ProgramTree) (core : List CoreOp) (entry : (binding : ℕ) → ℕ) where

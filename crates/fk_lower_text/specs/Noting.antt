@@ -1,5 +1,5 @@
 -- A visitor that writes down what it is shown, as long as there is room.
-use Rattle.std.specs.Prelude.{ℕ, ◌+◌, length, nat_lt, Bool, if◌then◌else◌}
+use Rattle.std.specs.Prelude.{ℕ, ◌+◌, length, nat_lt, if◌then◌else◌}
 use Rattle.std.specs.Vec.{with_item}
 use Rattle.fk_walk.specs.declared.visitor.Event.{Event}
 use Rattle.fk_walk.specs.declared.visitor.Event.TheVariants as v

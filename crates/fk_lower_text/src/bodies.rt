@@ -9,11 +9,12 @@ ghost use Rattle.fk_forms.specs.Code.{size, numbered};
 ghost use Rattle.fk_forms.specs.Program.{functions_of};
 ghost use Rattle.fk_walk.specs.Known.{IsSound};
 ghost use Rattle.fk_walk_statements.specs.Texts.{functions_in, code_in};
+ghost use Rattle.fk_lower.specs.Building.{has_site};
 ghost use Rattle.fk_lower.specs.View.{part_of};
 ghost use Rattle.fk_lower.specs.BuilderView.{event_of, block_code, IsBlockMeasured};
 ghost use Rattle.fk_lower.specs.Lowered.{AreMeasured};
 ghost use Rattle.fk_lower_text.specs.Whole.{IsPlain, ArePlain};
-ghost use Rattle.fk_lower_text.specs.Laid.{has_site, codes_of, laid, GoUp};
+ghost use Rattle.fk_lower_text.specs.Laid.{codes_of, laid, GoUp};
 
 use crate::main_entry::binding_of;
 use crate::noting::events_of;
@@ -87,7 +88,7 @@ impl Bodies {
         ensures site { self.new.site ≡ self.old.site }
         ensures measured { AreMeasured (map part_of self.new.blocks.items) }
     {
-        let empty = Block::of(Vec::new(self.alloc))?;
+        let empty = Block::of(Vec::new(self.alloc));
         self.keep(empty)
     }
 

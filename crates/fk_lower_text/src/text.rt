@@ -1,34 +1,20 @@
 //! From a text to its flat list.
 
-ghost use Rattle.std.specs.Prelude.{◌≡◌, IfOk, OnOk, map};
+ghost use Rattle.std.specs.Prelude.{◌≡◌, IfOk, OnOk};
 ghost use Rattle.fk_syntax.specs.Program.{ProgramTree};
 ghost use Rattle.fk_forms.specs.Program.{main_of};
 ghost use Rattle.fk_walk.specs.Known.{tables_of, items_in, IsSound};
 ghost use Rattle.fk_walk_statements.specs.Texts.{functions_in};
 ghost use Rattle.fk_core.specs.WellFormed.{HasDepths};
-ghost use Rattle.fk_flat.specs.Laws.{AreShaped};
-ghost use Rattle.fk_lower.specs.View.{part_of};
 ghost use Rattle.fk_lower.specs.Written.{entry_of};
-ghost use Rattle.fk_lower.specs.Lowered.{bodies_in};
 ghost use Rattle.fk_lower_text.specs.Laid.{GoUp};
 ghost use Rattle.fk_lower_text.specs.Lowered.{IsLowerable, HasProgram, HasItsRuns, HasSites};
 
 use crate::bodies::Bodies;
 use crate::main_entry::check_depths;
-use fk_lower::{Block, LowerFault, Lowered, are_shaped, lower};
+use fk_lower::{Block, LowerFault, Lowered, lower};
 use fk_walk::Known;
 use std::alloc::Global;
-
-// Whether code has the shape that lists want.
-fn check_shape(bodies: &[Block]) -> Result<(), LowerFault>
-    ensures { OnOk result (AreShaped (bodies_in (map part_of bodies.now))) }
-{
-    if are_shaped(bodies) {
-        Ok(())
-    } else {
-        Err(LowerFault::Misplaced)
-    }
-}
 
 /// The flat list of a text, by what is known of it: each function at its binding, each operation
 /// with its rank among those of the text as its site, and with as many values as its processor has
@@ -36,10 +22,9 @@ fn check_shape(bodies: &[Block]) -> Result<(), LowerFault>
 /// of a function.
 ///
 /// # Errors
-/// `Misplaced` where the bindings of the functions don't go up in the order of the text, where code
-/// has not the shape that lists want (the condition of a loop begins with no operation, or a
-/// function is called that has no body), or where the ways of a choice or a loop, or those behind a
-/// call, don't come together with as many values; `TooLong` where the list would have more than
+/// `Misplaced` where the bindings of the functions don't go up in the order of the text, or where the
+/// ways of a choice or a loop, or those behind a call, don't come together with as many values;
+/// `TooLong` where the list would have more than
 /// 2^32 - 1 operations and jumps; `OutOfRange` where a constant of an operation is too large for its
 /// number; and `Memory`.
 pub fn lower_text(alloc: Global, known: &Known) -> Result<Lowered, LowerFault>
@@ -60,7 +45,6 @@ pub fn lower_text(alloc: Global, known: &Known) -> Result<Lowered, LowerFault>
 {
     let bodies = Bodies::of(alloc, known)?;
     let blocks: &[Block] = &bodies.blocks;
-    check_shape(blocks)?;
     let lowered = lower(alloc, blocks)?;
     check_depths(alloc, known, &lowered)?;
     Ok(lowered)

@@ -603,3 +603,34 @@ no_depth_rounds = replicate 255 (1 ∷ [])
 no_depth : seen (next_in no_depth_tables no_depth_program) (setting_of 1 [] []) no_depth_rounds (Some (1 ∷ [])) [] (opening no_depth_tables no_depth_program [] [] [] 1)
     ≡ (lines [] [], [], SourceFaulted (record { site = 0; processor = 0 }), true)
 no_depth = refl
+
+-- sync void f(void) { sh int a[524281]; } void main(void) { start f(); }
+abbrev pub no_frame_program : ProgramTree
+no_frame_program = record {
+  items =
+      (p.FunctionItem (function m.Sync (ty t.Void 0) (nm (codes "f") 2 1 11) [] (Some ((p.statement (p.Declare ((dc true (ty t.Int 0) (nm (codes "a") 9 1 28) (Some 524281) None) ∷ [])) p.no_statements)))))
+      ∷ (p.FunctionItem (function m.Async (ty t.Void 0) (nm (codes "main") 16 1 46) [] (Some ((p.statement (p.Start (sp 21 1 59) None (p.Expression (t.Postfix (t.Variable (nm (codes "f") 22 1 65)) (t.call (sp 23 1 66) t.no_trees t.no_suffixes)))) p.no_statements)))))
+      ∷ [];
+  end = place 1 71;
+  tokens = 27;
+}
+
+abbrev pub no_frame_tables : Tables
+no_frame_tables = record {
+  notes = nn ∷ nn ∷ nt 0 0 false false false ∷ nn ∷ nn ∷ nn ∷ nn ∷ nn ∷ nn ∷ nt 1 1 false false false ∷ nn ∷ nn ∷ nn ∷ nn ∷ nn ∷ nn ∷ nt 0 2 false false false ∷ nn ∷ nn ∷ nn ∷ nn ∷ nt 0 0 false false false ∷ nt 0 0 true false false ∷ nt 0 0 true false false ∷ [];
+  kinds = kd 0 false false 0 ∷ kd 524281 false true 4 ∷ [];
+  slots = sl h.NoWord 0 ∷ sl (h.Group 0) 0 ∷ sl h.NoWord 0 ∷ [];
+  regions = rg 2 0 0 524281 ∷ [];
+}
+
+no_frame_sites : sites_of no_frame_tables no_frame_program
+    ≡ k 11 ∷ k 2 ∷ k 23 ∷ at 22 1 65 ∷ at 25 1 65 ∷ k 29 ∷ k 30 ∷ k 34 ∷ []
+no_frame_sites = refl
+
+-- by hand: of the 524,288 words of the group space 8 are its header, so one word more is wanted than is free
+abbrev pub no_frame_rounds : Schedule
+no_frame_rounds = (1 ∷ []) ∷ (1 ∷ []) ∷ (1 ∷ []) ∷ []
+
+no_frame : seen (next_in no_frame_tables no_frame_program) (setting_of 1 [] []) no_frame_rounds (Some (1 ∷ [])) [] (opening no_frame_tables no_frame_program [] [] [] 1)
+    ≡ (lines [] [], [], SourceFaulted (record { site = 4; processor = 0 }), true)
+no_frame = refl

@@ -4,6 +4,8 @@
 #[cfg(test)]
 mod flat_list;
 #[cfg(test)]
+mod fork;
+#[cfg(test)]
 mod forms;
 #[cfg(test)]
 mod graph;

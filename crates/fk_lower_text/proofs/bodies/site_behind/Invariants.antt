@@ -1,8 +1,8 @@
 -- The site so far, and those that are left, come to the one behind all.
 use Rattle.std.proofs.Common.{◌≡◌, ◌+◌, map, drop}
 use Rattle.std.specs.List.{count_by}
+use Rattle.fk_lower.specs.Building.{has_site}
 use Rattle.fk_lower.specs.BuilderView.{event_of}
-use Rattle.fk_lower_text.specs.Laid.{has_site}
 use Rattle.fk_lower_text.proofs.bodies.site_behind.Given as goal
 
 abbrev pub invariant-loop-event : goal.invariant-loop-event

@@ -1,10 +1,11 @@
 -- What is written so far, and the list of the pieces that are left, are what was written before and the list of all of them. The
 -- measures left are those of the code behind each of these pieces.
-use Rattle.std.proofs.Common.{◌≡◌, ◌+◌, ◌*◌, ◌++◌, map, drop}
+use Rattle.std.proofs.Common.{◌≡◌, ◌+◌, ◌*◌, ◌^◌, ◌<◌, ◌++◌, map, drop}
 use Rattle.std.specs.Prelude.{max}
-use Rattle.fk_lower.specs.Tree.{pieces_of}
+use Rattle.fk_lower.specs.Tree.{pieces_of, IsMeasured}
 use Rattle.fk_lower.specs.View.{piece_of}
-use Rattle.fk_lower.specs.Measures.{rests}
+use Rattle.fk_lower.specs.Measures.{measured, rests}
+use Rattle.fk_lower.specs.Faults.{AreNumbered}
 use Rattle.fk_lower.specs.Written.{items_of, entry_of, around_of, written}
 use Rattle.fk_lower.proofs.write.Writer.+block.Given as goal
 
@@ -13,6 +14,9 @@ invariant-block-loop-piece l = record {
   rests : l.rests.items ≡ rests l.near (pieces_of (map piece_of (drop l.piece-index l.piece-items)));
   items : items_of l.self.ops.items ++ written (entry_of l.entries.of_bindings.items l.entries.end) l.near (around_of l.place.around) l.at l.place.next (pieces_of (map piece_of (drop l.piece-index l.piece-items)))
       ≡ items_of l.fn.self.ops.items ++ written (entry_of l.entries.of_bindings.items l.entries.end) l.near (around_of l.place.around) l.place.at l.place.next (pieces_of (map piece_of l.piece-items));
+  whole : IsMeasured (pieces_of (map piece_of (drop l.piece-index l.piece-items)));
+  room : l.at + (measured l.near (pieces_of (map piece_of (drop l.piece-index l.piece-items)))).extent < 2 ^ 32;
+  numbered : AreNumbered (pieces_of (map piece_of l.piece-items)) → AreNumbered (pieces_of (map piece_of (drop l.piece-index l.piece-items)));
 }
 
 -- how deep the deepest block is; a function that is given several blocks passes on each of them

@@ -2,9 +2,8 @@ use Rattle.std.proofs.Common.{◌≡◌, ◌+◌, ◌∙◌, ap, map, List}
 use Rattle.std.specs.List.{count_by}
 use Rattle.fk_syntax.specs.ProgramView.{function_of}
 use Rattle.fk_walk_statements.specs.Texts.{code_in}
-use Rattle.fk_lower.specs.Building.{Event, events_of}
+use Rattle.fk_lower.specs.Building.{Event, has_site, events_of}
 use Rattle.fk_lower.specs.BuilderView.{event_of}
-use Rattle.fk_lower_text.specs.Laid.{has_site}
 use Rattle.fk_lower_text.proofs.Keeping.{sized}
 use Rattle.fk_lower_text.proofs.bodies.Bodies.push.Goals as goal
 
