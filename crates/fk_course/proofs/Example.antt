@@ -1,8 +1,10 @@
--- A program in place: void f(void) {} void main(void) { if (1) ; start { while ($) if ($) f(); farm { f(); barrier; } } start f(); }
+-- A program in place:
+-- void f(void) {} void main(void) { if (1) ; start { while ($) if ($) f(); farm { f(); barrier; } fork (2; @=$ && 1; $=$) f(); } start f(); }
 use Rattle.std.specs.Prelude.{ℕ, ◌==◌, Bool, true, false, [], ◌∷◌, codes, Some, None}
 use Rattle.std.proofs.Common.{refl}
 use Rattle.fk_syntax.specs.declared.facts.Note.{Note}
 use Rattle.fk_syntax.specs.declared.program.Mode.TheVariants as m
+use Rattle.fk_syntax.specs.declared.sign.Sign.TheVariants as g
 use Rattle.fk_syntax.specs.Tree as t
 use Rattle.fk_syntax.specs.Program as p
 use Rattle.fk_syntax.specs.Program.{Statement, Statements, ProgramTree}
@@ -22,10 +24,15 @@ called_f token = p.Expression (t.Postfix (t.Variable (nm (codes "f") token 1 1))
 abbrev rank : t.Tree
 rank = t.GroupRank (sp 0 1 1)
 
+-- by the note of its token the group splits there
+abbrev part : t.Tree
+part = t.Chain rank (t.link (sp 3 1 1) g.AndAnd (t.Number (sp 0 1 1) 1 false) t.no_links)
+
 abbrev in_start : Statements
 in_start =
     p.statement (p.While (sp 3 1 1) rank (p.If (sp 4 1 1) rank (called_f 5)))
-    (p.statement (p.Farm (sp 0 1 1) (p.Block (p.statement (called_f 6) (p.statement (p.Barrier (sp 0 1 1)) p.no_statements)))) p.no_statements)
+    (p.statement (p.Farm (sp 0 1 1) (p.Block (p.statement (called_f 6) (p.statement (p.Barrier (sp 0 1 1)) p.no_statements))))
+    (p.statement (p.Fork (sp 0 1 1) (t.Number (sp 0 1 1) 2 false) part (Some rank) (called_f 8)) p.no_statements))
 
 abbrev in_main : Statements
 in_main =
@@ -37,7 +44,7 @@ program = record {
   items = p.FunctionItem (function m.Sync (ty t.Void 0) (nm (codes "f") 1 1 1) [] (Some p.no_statements))
       ∷ p.FunctionItem (function m.Async (ty t.Void 0) (nm (codes "main") 2 1 1) [] (Some in_main)) ∷ [];
   end = place 1 1;
-  tokens = 8;
+  tokens = 9;
 }
 
 abbrev of_f : Note
@@ -45,7 +52,7 @@ of_f = nt 0 1 false false false
 
 abbrev tables : Tables
 tables = record {
-  notes = nn ∷ of_f ∷ nn ∷ nt 0 0 true false true ∷ nt 0 0 true false true ∷ of_f ∷ of_f ∷ of_f ∷ [];
+  notes = nn ∷ of_f ∷ nn ∷ nt 0 0 true false true ∷ nt 0 0 true false true ∷ of_f ∷ of_f ∷ of_f ∷ of_f ∷ [];
   kinds = [];
   slots = [];
   regions = [];
@@ -56,7 +63,7 @@ may_call in_group binding = binding == 1
 
 is_in_place : IsInPlace tables program may_call
 is_in_place = record {
-  shaped = (tt, (((tt, tt), ((tt, ((tt, (tt, (tt, (((λ k. refl), (λ e. untrue e)), tt, tt)))), (((tt, (((λ k. refl), (λ e. untrue e)), tt, tt)), (tt, tt)), tt))), ((tt, (tt, (((λ k. refl), (λ e. untrue e)), tt, tt))), tt))), tt));
+  shaped = (tt, (((tt, tt), ((tt, ((tt, (tt, (tt, (((λ k. refl), (λ e. untrue e)), tt, tt)))), (((tt, (((λ k. refl), (λ e. untrue e)), tt, tt)), (tt, tt)), ((tt, (tt, (tt, tt)), tt, (tt, (((λ k. refl), (λ e. untrue e)), tt, tt))), tt)))), ((tt, (tt, (((λ k. refl), (λ e. untrue e)), tt, tt))), tt))), tt));
   noted = ((λ e. tt), ((λ e. untrue e), tt));
   in_place = (
     (λ e. (refl, tt)),
@@ -70,7 +77,7 @@ is_in_place = record {
         (
           ((λ f. untrue f), tt, tt),
           (
-            (refl, tt, (((λ f. refl), tt, ((λ f. refl), tt, (refl, (tt, tt)))), ((refl, ((refl, (tt, tt)), (tt, tt))), tt)), ((refl, tt, (refl, tt, (refl, (tt, tt)))), (tt, tt))),
+            (refl, tt, (((λ f. refl), tt, ((λ f. refl), tt, (refl, (tt, tt)))), ((refl, ((refl, (tt, tt)), (tt, tt))), ((refl, tt, (tt, ((λ e f. refl), tt, tt)), tt, (refl, (tt, tt)), ((tt, (tt, (refl, refl), tt)), refl), (tt, refl)), tt))), ((refl, tt, (refl, tt, (refl, (tt, tt)))), (tt, ((tt, (tt, ((λ e. refl), tt, tt)), tt, (refl, (tt, tt))), tt)))),
             ((refl, tt, (refl, (tt, tt)), (refl, (tt, tt))), tt),
           ),
         ),

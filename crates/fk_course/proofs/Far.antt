@@ -94,12 +94,11 @@ module _ (P : Stand → Work → Type 0) (bodies : ℕ → Code ℕ) where
       λ onward. (joined (outs (rest onward)) (starts (rest onward)) (outs here) (starts here) (go onward) (even onward), f onward)
 
   -- parts of a group
-  pub one_part : (split : Split) → (split ≡ s.IfElse → ⊥) → (split ≡ s.Fork → ⊥) → (here : Work) (rest : Bool → Work) (outs_of_part : List Work)
+  pub one_part : (split : Split) → (split ≡ s.IfElse → ⊥) → (here : Work) (rest : Bool → Work) (outs_of_part : List Work)
       → outs_of_part ≡ rest false ∷ all_outs here → all_outs (rest false) ≡ all_outs here → P (Waits true) (rest false) → P (InGroup false) (rest true)
       → Parts (next bodies) all_outs P split here rest outs_of_part
-  one_part s.IfElse a b here rest xs e f p q = absurd (a refl)
-  one_part s.Fork a b here rest xs e f p q = absurd (b refl)
-  one_part split a b here rest xs e f p q =
+  one_part s.IfElse a here rest xs e f p q = absurd (a refl)
+  one_part split a here rest xs e f p q =
       subst (λ ys. Parts (next bodies) all_outs P split here rest ys) (sym e) (refl, f, p, q, refl)
 
   pub two_parts : (parent : Work) (here : Work) (rest : Bool → Work) (outs_of_part : List Work)

@@ -230,11 +230,11 @@ module _ (may_call : (in_group : Bool) → (function : ℕ) → Bool) (bodies : 
       abbrev ways : Bool → Work
       ways onward = going (append (if onward then a else z) y) callers
 
-      one : (by ≡ v.IfElse → ⊥) → (by ≡ v.Fork → ⊥) → Shape true false none a → z ≡ done → (first : Work) → outs (going (append a y) callers) ≡ first ∷ outs here
+      one : (by ≡ v.IfElse → ⊥) → Shape true false none a → z ≡ done → (first : Work) → outs (going (append a y) callers) ≡ first ∷ outs here
           → Does' n (InGroup agreed) (o.Divide by) here ways
-      one not_two not_fork h e first behind =
+      one not_two h e first behind =
           subst (λ c. Does' n (InGroup agreed) (o.Divide by) here (λ onward. going (append (if onward then a else c) y) callers)) (sym e)
-          (one_part (F may_call bodies n) bodies by not_two not_fork here (λ onward. going (append (if onward then a else done) y) callers)
+          (one_part (F may_call bodies n) bodies by not_two here (λ onward. going (append (if onward then a else done) y) callers)
           (all_outs (going (append a y) callers)) (all_part a h p.2 (is_behind first behind h)) (all_parent first behind h) waiting_parent (enters a h p.2 i.1))
 
     pub first_parts : (agreed within : Bool) (ahead : List Work) (callers : List (Code ℕ)) (part : Bool) (x : Exits) (t : ℕ) (by : Split) (a z rest d : Code ℕ)
@@ -243,7 +243,6 @@ module _ (may_call : (in_group : Bool) → (function : ℕ) → Bool) (bodies : 
         (here : Work) (even : starts here ≡ ahead)
         → GoesOn (o.Divide by) here (outs here) (λ onward. going (append (if onward then a else z) (append rest d)) callers)
         → Does' n (InGroup agreed) (o.Divide by) here (λ onward. going (append (if onward then a else z) (append rest d)) callers)
-    first_parts agreed within ahead callers part x t v.Fork a z rest d h p i b here even g = untrue p.1
     first_parts agreed within ahead callers part x t v.IfElse a z rest d h p i b here even g =
         two_parts (F may_call bodies n) bodies (going (append rest d) callers) here (λ onward. going (append (if onward then a else z) (append rest d)) callers)
         (all_outs (going (append a (append rest d)) callers))
@@ -257,13 +256,15 @@ module _ (may_call : (in_group : Bool) → (function : ℕ) → Bool) (bodies : 
         behind : outs (going (append rest d) callers) ≡ outs here
         behind = is_behind agreed within ahead callers part x t v.IfElse a z rest d h p i b here even g.0 g.2 h.2
     first_parts agreed within ahead callers part x t v.IfAlone a z rest d h p i b here even g =
-        one agreed within ahead callers part x t v.IfAlone a z rest d h p i b here even (λ e. absurd (cc e)) (λ e. absurd (cc e)) h.2 (h.4 refl) (going (append z (append rest d)) callers) g.1
+        one agreed within ahead callers part x t v.IfAlone a z rest d h p i b here even (λ e. absurd (cc e)) h.2 (h.4 refl) (going (append z (append rest d)) callers) g.1
+    first_parts agreed within ahead callers part x t v.Fork a z rest d h p i b here even g =
+        one agreed within ahead callers part x t v.Fork a z rest d h p i b here even (λ e. absurd (cc e)) h.2 (h.4 refl) (going (append z (append rest d)) callers) g.1
     first_parts agreed within ahead callers part x t v.AndThen a z rest d h p i b here even g =
-        one agreed within ahead callers part x t v.AndThen a z rest d h p i b here even (λ e. absurd (cc e)) (λ e. absurd (cc e)) h.2 (h.4 refl) (going (append z (append rest d)) callers) g.1
+        one agreed within ahead callers part x t v.AndThen a z rest d h p i b here even (λ e. absurd (cc e)) h.2 (h.4 refl) (going (append z (append rest d)) callers) g.1
     first_parts agreed within ahead callers part x t v.OrElse a z rest d h p i b here even g =
-        one agreed within ahead callers part x t v.OrElse a z rest d h p i b here even (λ e. absurd (cc e)) (λ e. absurd (cc e)) h.2 (h.4 refl) (going (append z (append rest d)) callers) g.1
+        one agreed within ahead callers part x t v.OrElse a z rest d h p i b here even (λ e. absurd (cc e)) h.2 (h.4 refl) (going (append z (append rest d)) callers) g.1
     first_parts agreed within ahead callers part x t v.Loop a z rest d h p i b here even g =
-        one agreed within ahead callers part x t v.Loop a z rest d h p i b here even (λ e. absurd (cc e)) (λ e. absurd (cc e)) h.2 (h.4 refl) (going (append z (append rest d)) callers) g.1
+        one agreed within ahead callers part x t v.Loop a z rest d h p i b here even (λ e. absurd (cc e)) h.2 (h.4 refl) (going (append z (append rest d)) callers) g.1
 
     -- a body opens
     abbrev Opens : (here : Work) (rest : Bool → Work) → Type 0
@@ -422,11 +423,9 @@ module _ (may_call : (in_group : Bool) → (function : ℕ) → Bool) (bodies : 
     first_choose OfGroup agreed within ahead callers part x t o.Seq a z rest d s p low i b here even g =
         opens ahead callers part x a z rest d s.2 s.6 (s.4 refl) p.2 p.5 i.3 (of_any_within within ahead callers part x d b) here even
         (nested_append part false x (choose t o.Seq a z rest) d s b.nested.left b.allows b.quiet b.first).8 g.0 g.1
-    first_choose OfBody agreed within ahead callers part x t (o.Divide v.Fork) a z rest d s p low i b here even g = untrue p.1
     first_choose OfBody agreed within ahead callers part x t (o.Divide by) a z rest d s p low i b here even g = untrue p.1
     first_choose OfBody agreed within ahead callers part x t o.Farm a z rest d s p low i b here even g = untrue p.1
     first_choose OfBody agreed within ahead callers part x t o.Seq a z rest d s p low i b here even g = untrue p.1
-    first_choose (OfMain c) agreed within ahead callers part x t (o.Divide v.Fork) a z rest d s p low i b here even g = untrue p.1
     first_choose (OfMain c) agreed within ahead callers part x t (o.Divide by) a z rest d s p low i b here even g = untrue p.1
     first_choose (OfMain c) agreed within ahead callers part x t o.Farm a z rest d s p low i b here even g = untrue p.1
     first_choose (OfMain c) agreed within ahead callers part x t o.Seq a z rest d s p low i b here even g = untrue p.1

@@ -1,3 +1,4 @@
+pub mod Pending
 pub mod Even
 pub mod Far
 pub mod Behind
@@ -7,5 +8,7 @@ pub mod Walk
 pub mod Main
 pub mod Forms
 pub mod Texts
+pub mod Valued
+pub mod Numbers
 pub mod Programs
 mod Example

@@ -3,7 +3,6 @@ use Rattle.std.proofs.Common.{◌≡◌, ℕ, zero, suc, Bool, true, false, true
 use Rattle.std.specs.Prelude.{if◌then◌else◌}
 use Rattle.fk_operation.specs.declared.operation.Operation.{Operation}
 use Rattle.fk_operation.specs.declared.operation.Operation.TheVariants as o
-use Rattle.fk_operation.specs.declared.operation.Split.TheVariants as v
 use Rattle.fk_forms.specs.Code.{Code, done, perform, choose, while, until, turn, again, quit, break, continue, call, ends, append}
 use Rattle.fk_source.specs.Left.{settled}
 use Rattle.fk_source.specs.Next.{Work, going}
@@ -278,7 +277,6 @@ module _ (may_call : (in_group : Bool) → (function : ℕ) → Bool) (bodies : 
         by false e f = f e
     follows (choose t (o.Branch on) a z rest) s p n = branches t on a z rest (s, p) (follows rest s.6 p.5) n
     follows (choose t o.Begin a z rest) s p n = begins_main t a z rest (s, p) (resumes rest s.6 p.5) n
-    follows (choose t (o.Divide v.Fork) a z rest) s p n = untrue p.1
     follows (choose t (o.Divide by) a z rest) s p n = untrue p.1
     follows (choose t o.Farm a z rest) s p n = untrue p.1
     follows (choose t o.Seq a z rest) s p n = untrue p.1

@@ -1,7 +1,7 @@
 -- Programs whose text is in place: how they go on, and what is left of them.
-use Rattle.std.proofs.Common.{◌≡◌, ℕ, suc, ◌+◌, Bool, true, false, List, [], ◌∷◌, Option, Some, None, slice_index, sym, refl, subst}
-use Rattle.std.proofs.lemmas.Bool.{eqb-true}
-use Rattle.std.specs.Prelude.{◌==◌, is_some, if◌then◌else◌}
+use Rattle.std.proofs.Common.{◌≡◌, ◌⊎◌, inl, inr, ℕ, suc, ◌+◌, Bool, true, false, List, [], ◌∷◌, Option, Some, None, slice_index, ap, ◌∙◌, sym, refl, subst}
+use Rattle.std.proofs.lemmas.Bool.{eqb-true, eq-eqb}
+use Rattle.std.specs.Prelude.{◌==◌, ◌||◌, is_some, if◌then◌else◌}
 use Rattle.fk_syntax.specs.declared.program.Mode.{Mode}
 use Rattle.fk_syntax.specs.Tree.{Named, TypeTree}
 use Rattle.fk_syntax.specs.Program.{DeclaredTree, Statements, FunctionTree, ProgramTree}
@@ -19,6 +19,11 @@ use Rattle.fk_course.specs.Placed as w
 use Rattle.fk_course.specs.Placed.{Who, OfGroup, OfBody, OfMain, inner, callee_of, who_in, Placed}
 use Rattle.fk_course.specs.Ahead.{all_outs, AreCourses}
 use Rattle.fk_course.specs.InPlace.{BodyInPlace, FunctionsInPlace, IsInPlace, ProgramsFollow, ProgramsHaveOneProgram}
+use Rattle.fk_nesting.proofs.Spine.{untrue}
+use Rattle.fk_together.specs.Counts.{IsCounted}
+use Rattle.fk_course.specs.Pending.{above, Idle, many_at, fork_counts}
+use Rattle.fk_course.proofs.Pending.{settled_idle, code_is_counted}
+use Rattle.fk_course.proofs.Numbers.{anyone, body_idle, numbered_idle}
 use Rattle.fk_course.proofs.Main.{code_follows}
 use Rattle.fk_course.proofs.Texts.{body_in_place}
 
@@ -118,6 +123,42 @@ module _ (tables : Tables) (may_call : (in_group : Bool) → (function : ℕ) �
   in_main main [] h = tt
   in_main main (f ∷ fs) h = ((λ e. let g = h.2 e in (true, g.0, refl, g.1)), in_main main fs h.3)
 
+-- what is pending in them
+module _ (tables : Tables) (may_call : (in_group : Bool) → (function : ℕ) → Bool) (everyone : List FunctionTree) where
+  function_idle : (main : Bool) (who : Who) (f : FunctionTree) → BodyInPlace tables may_call main who f.body → Idle (anyone may_call) (code_of tables everyone f)
+  function_idle main who f h = by f.body h
+    where
+      by : (body : Option Statements) → BodyInPlace tables may_call main who body
+          → let g : FunctionTree = record f { body = body } in Idle (anyone may_call) (code_of tables everyone g)
+      by None h' = (refl, tt)
+      by (Some statements) h' =
+          let inside : Inside = record { main = is_main f; framed = is_some (frame_at tables f.name.at 0) } in
+          body_idle may_call tables (signature_in tables everyone) main who inside (is_nothing f.result) statements h'
+
+  bodies_idle : (main binding : ℕ) (fs : List FunctionTree) (first : ℕ) → (anyone may_call binding ≡ true) ⊎ (binding ≡ main) → FunctionsInPlace tables may_call main fs
+      → Idle (anyone may_call) (body_in tables everyone first fs binding)
+  bodies_idle main binding [] first may h = (refl, tt)
+  bodies_idle main binding (f ∷ fs) first may h =
+      by (binding_of tables f == binding) refl (bodies_idle main binding fs (first + size (code_of tables everyone f)) may h.3)
+    where
+      same : (binding_of tables f == binding) ≡ true → binding_of tables f ≡ binding
+      same e = eqb-true (binding_of tables f) binding e
+
+      in_any : binding_of tables f ≡ binding → (a b : Bool) → may_call true binding ≡ a → may_call false binding ≡ b → (a || b) ≡ true → Idle (anyone may_call) (code_of tables everyone f)
+      in_any e true b is is' some = function_idle false OfGroup f (h.0 (ap (may_call true) e ∙ is)).1
+      in_any e false true is is' some = function_idle false OfBody f (h.1 (ap (may_call false) e ∙ is')).1
+      in_any e false false is is' some = untrue some
+
+      here : binding_of tables f ≡ binding → (anyone may_call binding ≡ true) ⊎ (binding ≡ main) → Idle (anyone may_call) (code_of tables everyone f)
+      here e (inl some) = in_any e (may_call true binding) (may_call false binding) refl refl some
+      here e (inr is) = function_idle true (OfMain true) f (h.2 (eq-eqb (binding_of tables f) main (e ∙ is))).1
+
+      by : (is : Bool) → (binding_of tables f == binding) ≡ is
+          → Idle (anyone may_call) (body_in tables everyone (first + size (code_of tables everyone f)) fs binding)
+          → Idle (anyone may_call) (if is then numbered first (code_of tables everyone f) else body_in tables everyone (first + size (code_of tables everyone f)) fs binding)
+      by true is others = numbered_idle (anyone may_call) (code_of tables everyone f) first (here (same is) may)
+      by false is others = others
+
 -- programs
 are_courses : (tables : Tables) (program : ProgramTree) (may_call : (in_group : Bool) → (function : ℕ) → Bool) → IsInPlace tables program may_call
     → AreCourses may_call (bodies_of tables program) (main_of tables program)
@@ -136,7 +177,19 @@ pub programs_follow : ProgramsFollow
 programs_follow tables program may_call h =
     code_follows may_call (bodies_of tables program) (main_of tables program) (are_courses tables program may_call h)
 
+programs_are_counted : (tables : Tables) (program : ProgramTree) (may_call : (in_group : Bool) → (function : ℕ) → Bool) → IsInPlace tables program may_call
+    → (above None (main_work tables program).left ≡ None) × IsCounted (next_in tables program) all_outs fork_counts (main_work tables program)
+programs_are_counted tables program may_call h =
+    let fs = functions_of program.items in
+    let main = main_of tables program in
+    let first = bodies_idle tables may_call fs main main fs 0 (inr refl) h.in_place in (
+      (settled_idle (anyone may_call) (bodies_of tables program main) first).0,
+      code_is_counted (anyone may_call) (bodies_of tables program) (programs_are_nested tables program h.shaped) (λ f may. bodies_idle tables may_call fs main f fs 0 (inl may) h.in_place) main first,
+    )
+
 pub programs_have_one_program : ProgramsHaveOneProgram
 programs_have_one_program tables program may_call h setting schedule words firsts input processors some lawful fine =
+    let counted = programs_are_counted tables program may_call h in
     groups_have_one_program Work (next_in tables program) all_outs (main_work tables program) (programs_follow tables program may_call h)
+    fork_counts (ap many_at counted.0) counted.1
     setting schedule processors words input (slice_index firsts) some lawful fine

@@ -8,11 +8,11 @@ use Rattle.fk_syntax.specs.Program as p
 use Rattle.fk_syntax.specs.Program.{DeclaredTree, Statement, Statements, FunctionTree, ProgramTree}
 use Rattle.fk_operation.specs.declared.operation.Operation.TheVariants as o
 use Rattle.fk_operation.specs.declared.operation.Known.TheVariants as n
-use Rattle.fk_operation.specs.declared.operation.Split.TheVariants.{IfAlone, IfElse, Loop}
+use Rattle.fk_operation.specs.declared.operation.Split.TheVariants.{IfAlone, IfElse, Loop, Fork}
 use Rattle.fk_forms.specs.Code as c
 use Rattle.fk_forms.specs.Code.{Code, done, perform, choose, while, until, turn, again, quit, break, continue, call, ends, size, numbered}
 use Rattle.fk_forms.specs.Tables.{Tables, note, frame_at}
-use Rattle.fk_forms.specs.Expressions.{Coded, Standing, nowhere, plain, agreed, token, Signature, addressed, assigned, dropped, variable}
+use Rattle.fk_forms.specs.Expressions.{Coded, Standing, nowhere, plain, agreed, token, Signature, addressed, assigned, dropped, variable, value}
 use Rattle.fk_forms.specs.Statements.{Inside, is_scalar, used, used_or, value_or, declared, all_declared, part_frame, leaving, tested, looping, left_by, executed, all_executed, end_of, body_of}
 use Rattle.fk_nesting.proofs.Spine.{untrue}
 use Rattle.fk_lockstep.specs.InStep.{InStep}
@@ -126,6 +126,12 @@ module _ (tables : Tables) (functions : (binding : ℕ) → Signature) (may_call
       value_in_place tables functions may_call who e h (if inside.main then plain o.DropLast (ends nowhere o.Halt rest) else ends nowhere (o.Leave true inside.framed) rest)
       (gives who inside.main inside.framed is rest q)
 
+  -- who splits is a group
+  in_group : (who : Who) → is_group who ≡ true → (code : Coded) → Fine OfGroup code → Fine (inner who) code
+  in_group OfGroup e code p = p
+  in_group OfBody e code p = untrue e
+  in_group (OfMain b) e code p = untrue e
+
   -- a body that ends its part
   parts : (who : Who) (spot : Spot) (part : ℕ) (body : Coded → Coded) → Keeps who body → Fine who (part_frame tables functions spot part (body (plain o.End done)))
   parts who spot part body keeps = part_frames who spot part (body (plain o.End done)) (keeps (plain o.End done) (refl, refl))
@@ -206,7 +212,23 @@ module _ (tables : Tables) (functions : (binding : ℕ) → Signature) (may_call
           (λ f. starts_in_step spot inside body h.3),
           (refl, q),
         )
-    statement who inside (p.Fork spot k part rank body) h rest q = absurd h
+    statement who inside (p.Fork spot count part rank body) h rest q =
+        let run = executed tables functions inside body in
+        let split = choose spot.place (o.Divide Fork) (part_frame tables functions spot 0 (run (plain o.End done))) done (plain o.Resume rest) in
+        let ranks = value_or tables functions (plain (o.Get n.Rank)) rank split in
+        let told = value tables functions part ranks in
+        value_in_place tables functions may_call who count h.1 (plain o.Agree told) (
+          refl,
+          value_in_place tables functions may_call who part h.2 ranks
+              (gives_or who (plain (o.Get n.Rank)) (λ rest' q'. (refl, q')) rank h.3 split (
+                refl,
+                h.0,
+                in_group who h.0 (part_frame tables functions spot 0 (run (plain o.End done))) (parts OfGroup spot 0 run (statement OfGroup inside body h.4)),
+                refl,
+                (λ f. untrue f),
+                (refl, q),
+              )),
+        )
     statement who inside (p.Farm spot body) h rest q = (farms who h.0 (executed tables functions inside body done) (statement OfBody inside body h.1 done refl) rest q).0
     statement who inside (p.Seq spot body) h rest q = (farms who h.0 (executed tables functions inside body done) (statement OfBody inside body h.1 done refl) rest q).1
     statement who inside (p.Barrier spot) h rest q = (refl, q)

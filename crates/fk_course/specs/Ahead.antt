@@ -34,7 +34,7 @@ starts work = map (λ code. let at : Work = record { left = code; callers = [] }
 abbrev pub all_outs : Work → List Work
 all_outs work = outs work ++ starts work
 
--- the functions of a program without `fork`, and its `main`
+-- the functions of a program, and its `main`
 pub record AreCourses (may_call : (in_group : Bool) → (function : ℕ) → Bool) (bodies : (binding : ℕ) → Code ℕ) (main : ℕ) : Type 0 where
   pub nested : (function : ℕ) → Shape false false of_function (bodies function)
   pub in_step : (function : ℕ) → may_call true function ≡ true → InStep (may_call true) false (bodies function)

@@ -1,6 +1,6 @@
 -- What is asked of the functions of a program, so that it goes through its groups, parts and bodies in their order: where
--- processors run by themselves nothing splits and no group begins, but by `start` on the outermost level of `main`; and there
--- is no `fork`.
+-- processors run by themselves nothing splits and no group begins, but by `start` on the outermost level of `main`; and what a
+-- `fork` computes behind its number of parts gives one value each, and calls no function of the program.
 use Rattle.std.specs.Prelude.{◌≡◌, ℕ, ◌≤◌, ◌==◌, Bool, true, false, List, [], ◌∷◌, Option, Some, None}
 use Rattle.fk_syntax.specs.Tree.{Named, Tree}
 use Rattle.fk_syntax.specs.Program as p
@@ -17,6 +17,7 @@ use Rattle.fk_together.specs.Course.{ByItself, Follows}
 use Rattle.fk_together.specs.OneProgram.{KeepOneProgram}
 use Rattle.fk_course.specs.Placed.{Who, OfGroup, OfBody, OfMain, is_group, is_outermost, inner}
 use Rattle.fk_course.specs.Placed as g
+use Rattle.fk_course.specs.Valued.{IsValued, OptionValued}
 use Rattle.fk_course.specs.Ahead.{all_outs}
 
 module _ (tables : Tables) (may_call : (in_group : Bool) → (function : ℕ) → Bool) where
@@ -61,7 +62,9 @@ module _ (tables : Tables) (may_call : (in_group : Bool) → (function : ℕ) �
         × StatementNoted tables (may_call true) body
     StatementInPlace main who (p.Farm spot body) = (is_group who ≡ true) × StatementInPlace main OfBody body
     StatementInPlace main who (p.Seq spot body) = (is_group who ≡ true) × StatementInPlace main OfBody body
-    StatementInPlace main who (p.Fork spot parts part rank body) = ⊥
+    StatementInPlace main who (p.Fork spot parts part rank body) =
+        (is_group who ≡ true) × InPlace (is_group who) parts × InPlace (is_group who) part × OptionInPlace (is_group who) rank
+        × StatementInPlace main OfGroup body × IsValued tables part × OptionValued tables rank
     StatementInPlace main who (p.Barrier spot) = Unit {0}
     StatementInPlace main who (p.Break spot) = Unit {0}
     StatementInPlace main who (p.Continue spot) = Unit {0}

@@ -1,3 +1,5 @@
 pub mod Placed
 pub mod Ahead
+pub mod Pending
+pub mod Valued
 pub mod InPlace

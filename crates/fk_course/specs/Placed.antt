@@ -2,7 +2,6 @@
 use Rattle.std.specs.Prelude.{◌≡◌, ℕ, Bool, true, false, not, if◌then◌else◌}
 use Rattle.fk_operation.specs.declared.operation.Operation.{Operation}
 use Rattle.fk_operation.specs.declared.operation.Operation.TheVariants as o
-use Rattle.fk_operation.specs.declared.operation.Split.TheVariants.{Fork}
 use Rattle.fk_forms.specs.Code.{Code, done, perform, choose, while, until, turn, again, quit, break, continue, call, ends}
 use Rattle.fk_nesting.specs.Shape.{splits}
 use Rattle.fk_lockstep.specs.InStep.{InStep}
@@ -49,10 +48,9 @@ may_perform resuming o.Resume = resuming
 may_perform resuming o.Halt = false
 may_perform resuming op = not resuming
 
--- groups split, but for `fork`, and have bodies. A group begins on the outermost level of `main` alone
+-- groups split, and have bodies. A group begins on the outermost level of `main` alone
 abbrev pub may_choose : Who → Operation → Bool
 may_choose who (o.Branch onward) = true
-may_choose who (o.Divide Fork) = false
 may_choose who (o.Divide by) = is_group who
 may_choose who o.Farm = is_group who
 may_choose who o.Seq = is_group who

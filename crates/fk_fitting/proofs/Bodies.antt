@@ -132,7 +132,7 @@ module _ (program : ProgramTree) (facts : Facts) (valid : IsCorrect program fact
       by (Some body) h = or_right (binding_of (tables program facts valid) g == b) _ h
 
   -- a declaration has one number
-  one_number : (i j : ℕ) (d : DeclarationTree) → slice_get (declarations program) i ≡ Some d → slice_get (declarations program) j ≡ Some d → i ≡ j
+  pub one_number : (i j : ℕ) (d : DeclarationTree) → slice_get (declarations program) i ≡ Some d → slice_get (declarations program) j ≡ Some d → i ≡ j
   one_number i j d is other = elim (cases_order i j) [
     | inl same ↦ same
     | inr (inl less) ↦ absurd ((tokens_apart program valid.well_formed).declared i j d d less is other refl)

@@ -1,7 +1,7 @@
 -- What a valid program declares: a function's name has no slot, and its number is that of the header with its body.
 use Rattle.std.proofs.Common.{◌≡◌, inl, inr, ℕ, zero, suc, ◌<◌, Bool, true, false, List, [], ◌∷◌, ◌++◌, length, take, flat_map, Option, Some, None, slice_get, refl, sym, ap, subst, ◌∙◌, append-nil, arith}
-use Rattle.std.specs.Prelude.{IsSome, if◌then◌else◌}
-use Rattle.std.proofs.lemmas.Bool.{cases_order}
+use Rattle.std.specs.Prelude.{min, IsSome, if◌then◌else◌}
+use Rattle.std.proofs.lemmas.Bool.{false≢true, cases_order}
 use Rattle.std.proofs.lemmas.List.Concat.{flat_map-append}
 use Rattle.std.proofs.lemmas.Option.{same_Some}
 use Rattle.fk_syntax.specs.declared.facts.Facts.{Facts}
@@ -22,13 +22,15 @@ use Rattle.fk_token_laws.proofs.Pieces.{declared_by_piece, of_items}
 use Rattle.fk_token_laws.proofs.Tokens.{tokens_apart}
 use Rattle.fk_bindings.proofs.Below.{declared_below}
 use Rattle.fk_bindings.proofs.BodyLemmas.{declared_here}
-use Rattle.fk_forms.specs.declared.tables.Home.TheVariants.{NoWord}
+use Rattle.fk_forms.specs.declared.tables.Home.{Home}
+use Rattle.fk_forms.specs.declared.tables.Home.TheVariants.{Global, FilePrivate, Private, Group, NoWord}
 use Rattle.fk_forms.specs.declared.tables.Slot.{Slot}
 use Rattle.fk_forms.specs.Tables.{nth, no_slot, slot}
 use Rattle.fk_forms.specs.Program.{binding_of}
 use Rattle.fk_slots.specs.Told.{Told, splits_at}
+use Rattle.fk_slots.specs.Frames.{last_word}
 use Rattle.fk_slots.specs.Places as l
-use Rattle.fk_slots.specs.Places.{none_taken, no_slots, variables_slots, parameters_slots, file_slots, behind_variable, behind_parameter, behind_parameters}
+use Rattle.fk_slots.specs.Places.{none_taken, no_slots, slot_in, file_slot, variables_slots, parameters_slots, file_slots, behind_variable, behind_parameter, behind_parameters}
 use Rattle.fk_slots.specs.Slots.{slots_in, all_slots_in, behind, behind_body_frame, begun, begun_two, opening, body_slots, item_slots, items_slots, slots_of, behind_item}
 use Rattle.fk_layout.specs.Layout.{told_by}
 use Rattle.fk_fitting.specs.Correct.{IsCorrect}
@@ -49,7 +51,7 @@ module _ (Q : Slot → DeclarationTree → Type 0) where
   join (s ∷ ss) ts [] es h k = absurd h
   join (s ∷ ss) ts (d ∷ ds) es h k = (h.0, join ss ts ds es h.1 k)
 
-  beside_at : (ss : List Slot) (ds : List DeclarationTree) → Beside ss ds → (i : ℕ) (d : DeclarationTree) → slice_get ds i ≡ Some d → Q (nth no_slot ss i) d
+  pub beside_at : (ss : List Slot) (ds : List DeclarationTree) → Beside ss ds → (i : ℕ) (d : DeclarationTree) → slice_get ds i ≡ Some d → Q (nth no_slot ss i) d
   beside_at [] [] h i d is = absurd (cc)
   beside_at [] (e ∷ ds) h i d is = absurd h
   beside_at (s ∷ ss) [] h i d is = absurd h
@@ -67,14 +69,47 @@ abbrev IsVariable : Slot → DeclarationTree → Type 0
 IsVariable s (Variable x) = Unit {0}
 IsVariable s (Header f) = ⊥
 
-abbrev Declared : List PieceTree → List DeclarationTree
+-- the words of `sh` variables are shared, and a private one has a private place
+abbrev pub IsHomeFor : (shared : Bool) → Home → Type 0
+IsHomeFor true Global = Unit {0}
+IsHomeFor true (Group number) = Unit {0}
+IsHomeFor true home = ⊥
+IsHomeFor false FilePrivate = Unit {0}
+IsHomeFor false Private = Unit {0}
+IsHomeFor false home = ⊥
+
+abbrev HasHome : Slot → DeclarationTree → Type 0
+HasHome s (Variable x) = IsHomeFor x.shared s.home
+HasHome s (Header f) = ⊥
+
+a_variable : (s : Slot) (d : DeclarationTree) → HasHome s d → IsVariable s d
+a_variable s (Variable x) h = tt
+a_variable s (Header f) h = h
+
+home_by : (shared : Bool) (a b : Slot) → IsHomeFor true a.home → IsHomeFor false b.home → (λ (s : Slot). IsHomeFor shared s.home) (if shared then a else b)
+home_by true a b h k = h
+home_by false a b h k = k
+
+home_in : (frame : ℕ) (taken : _) (x : DeclaredTree) → HasHome (slot_in frame taken x) (Variable x)
+unfolding slot_in
+home_in frame taken x = home_by x.shared (record { home = Group frame; index = min taken.words last_word }) (record { home = Private; index = taken.privates }) tt tt
+
+file_home : (taken : _) (x : DeclaredTree) → HasHome (file_slot taken x) (Variable x)
+unfolding file_slot
+file_home taken x = home_by x.shared (record { home = Global; index = taken.words }) (record { home = FilePrivate; index = taken.privates }) tt tt
+
+abbrev pub Declared : List PieceTree → List DeclarationTree
 Declared ps = flat_map declared_by_piece ps
 
 abbrev Fits : List Slot → List PieceTree → Type 0
-Fits ss ps = Beside IsVariable ss (Declared ps)
+Fits ss ps = Beside HasHome ss (Declared ps)
+
+joined : (Q : Slot → DeclarationTree → Type 0) (ss ts : List Slot) (ps qs : List PieceTree) → Beside Q ss (Declared ps) → Beside Q ts (Declared qs)
+    → Beside Q (ss ++ ts) (Declared (ps ++ qs))
+joined Q ss ts ps qs h k = subst (Beside Q (ss ++ ts)) (sym (flat_map-append declared_by_piece ps qs)) (join Q ss ts (Declared ps) (Declared qs) h k)
 
 both : (ss ts : List Slot) (ps qs : List PieceTree) → Fits ss ps → Fits ts qs → Fits (ss ++ ts) (ps ++ qs)
-both ss ts ps qs h k = subst (Beside IsVariable (ss ++ ts)) (sym (flat_map-append declared_by_piece ps qs)) (join IsVariable ss ts (Declared ps) (Declared qs) h k)
+both ss ts ps qs h k = joined HasHome ss ts ps qs h k
 
 either_way : (b : Bool) (ss ts : List Slot) (ps : List PieceTree) → Fits ss ps → Fits ts ps → Fits (if b then ss else ts) ps
 either_way true ss ts ps h k = h
@@ -90,17 +125,17 @@ condition_behind ss ps x h = subst (λ xs. Fits xs (ps ++ q.Used role.Condition 
 module _ (told : Told) where
   of_variables : (frame : ℕ) (taken : _) (xs : List DeclaredTree) → Fits (variables_slots told frame taken xs) (variables_pieces xs)
   of_variables frame taken [] = tt
-  of_variables frame taken (x ∷ xs) = (tt, of_variables frame (behind_variable told taken x) xs)
+  of_variables frame taken (x ∷ xs) = (home_in frame taken x, of_variables frame (behind_variable told taken x) xs)
 
   of_parameters : (frame : ℕ) (taken : _) (xs : List DeclaredTree) → Fits (parameters_slots told frame taken xs) (parameters_pieces xs)
   of_parameters frame taken [] = tt
-  of_parameters frame taken (x ∷ xs) = (tt, of_parameters frame (behind_parameter told taken x) xs)
+  of_parameters frame taken (x ∷ xs) = (home_in frame taken x, of_parameters frame (behind_parameter told taken x) xs)
 
   of_file : (taken : _) (xs : List DeclaredTree) → Fits (file_slots told taken xs) (file_pieces xs)
   of_file taken [] = tt
-  of_file taken (x ∷ xs) = (tt, of_file (behind_variable told taken x) xs)
+  of_file taken (x ∷ xs) = (file_home taken x, of_file (behind_variable told taken x) xs)
 
-  of_header : (xs : List DeclaredTree) → Fits (no_slots xs) (parameters_pieces xs)
+  of_header : (xs : List DeclaredTree) → Beside IsVariable (no_slots xs) (Declared (parameters_pieces xs))
   of_header [] = tt
   of_header (x ∷ xs) = (tt, of_header xs)
 
@@ -144,12 +179,17 @@ module _ (told : Told) where
     of_statements r frame taken (p.statement first others) =
         both _ _ (statement_pieces r first) (statements_pieces r others) (of_statement r frame taken first) (of_statements r frame (behind told taken first) others)
 
-  of_body : (r : TypeTree) (file : _) (parameters : List DeclaredTree) (body : Option Statements) → Fits (body_slots told file parameters body) (parameters_pieces parameters ++ body_pieces r body)
-  of_body r file parameters None = subst (λ ss. Fits ss (parameters_pieces parameters ++ [])) (append-nil (no_slots parameters))
-      (both (no_slots parameters) [] (parameters_pieces parameters) [] (of_header parameters) tt)
-  of_body r file parameters (Some body) =
+  with_body : (r : TypeTree) (file : _) (parameters : List DeclaredTree) (body : Statements)
+      → Fits (body_slots told file parameters (Some body)) (parameters_pieces parameters ++ statements_pieces r body)
+  with_body r file parameters body =
       both _ _ (parameters_pieces parameters) (statements_pieces r body) (of_parameters file.frames (opening told file parameters body) parameters)
       (of_statements r file.frames (behind_parameters told (opening told file parameters body) parameters) body)
+
+  of_body : (r : TypeTree) (file : _) (parameters : List DeclaredTree) (body : Option Statements)
+      → Beside IsVariable (body_slots told file parameters body) (Declared (parameters_pieces parameters ++ body_pieces r body))
+  of_body r file parameters None = subst (λ ss. Beside IsVariable ss (Declared (parameters_pieces parameters ++ []))) (append-nil (no_slots parameters))
+      (joined IsVariable (no_slots parameters) [] (parameters_pieces parameters) [] (of_header parameters) tt)
+  of_body r file parameters (Some body) = weaker HasHome IsVariable a_variable _ _ (with_body r file parameters body)
 
   -- a function's name has no word, and the function stands among these items
   abbrev pub IsOf : List ItemTree → Slot → DeclarationTree → Type 0
@@ -164,7 +204,7 @@ module _ (told : Told) where
 
   of_item : (file : _) (x : ItemTree) (xs : List ItemTree) → Beside (IsOf (x ∷ xs)) (item_slots told file x) (Declared (item_pieces x))
   of_item file (StructItem name members) xs = tt
-  of_item file (VariablesItem variables) xs = weaker IsVariable (IsOf (VariablesItem variables ∷ xs)) (no_header (VariablesItem variables ∷ xs)) _ _ (of_file file variables)
+  of_item file (VariablesItem variables) xs = weaker HasHome (IsOf (VariablesItem variables ∷ xs)) (λ s d h. no_header (VariablesItem variables ∷ xs) s d (a_variable s d h)) _ _ (of_file file variables)
   of_item file (FunctionItem f) xs = (
     (λ g e. (refl, 0, cc)),
     weaker IsVariable (IsOf (FunctionItem f ∷ xs)) (no_header (FunctionItem f ∷ xs)) _ _ (of_body f.result file f.parameters f.body),
@@ -175,6 +215,42 @@ module _ (told : Told) where
   of_all file (x ∷ xs) = subst (Beside (IsOf (x ∷ xs)) (items_slots told file (x ∷ xs))) (sym (flat_map-append declared_by_piece (item_pieces x) (items_pieces xs)))
       (join (IsOf (x ∷ xs)) (item_slots told file x) (items_slots told (behind_item told file x) xs) (Declared (item_pieces x)) (Declared (items_pieces xs)) (of_item file x xs)
       (weaker (IsOf xs) (IsOf (x ∷ xs)) (further x xs) _ _ (of_all (behind_item told file x) xs)))
+
+  -- a variable has its home, unless it is a parameter of a header without a body
+  abbrev pub MayHaveHome : Slot → DeclarationTree → Type 0
+  MayHaveHome s (Variable x) = IsHomeFor x.shared s.home
+  MayHaveHome s (Header f) = Unit {0}
+
+  has_home : (s : Slot) (d : DeclarationTree) → HasHome s d → MayHaveHome s d
+  has_home s (Variable x) h = h
+  has_home s (Header f) h = tt
+
+  -- what is declared, with a body where it is a function
+  abbrev pub IsWholeItem : ItemTree → Type 0
+  IsWholeItem (FunctionItem f) = IsSome f.body
+  IsWholeItem x = Unit {0}
+
+  pub item_homes : (file : _) (x : ItemTree) → IsWholeItem x → Beside MayHaveHome (item_slots told file x) (Declared (item_pieces x))
+  item_homes file (StructItem name members) whole = tt
+  item_homes file (VariablesItem variables) whole = weaker HasHome MayHaveHome has_home _ _ (of_file file variables)
+  item_homes file (FunctionItem f) whole = (tt, by f.body whole)
+    where
+      by : (o : Option Statements) → IsSome o → Beside MayHaveHome (body_slots told file f.parameters o) (Declared (parameters_pieces f.parameters ++ body_pieces f.result o))
+      by None whole = absurd (false≢true whole)
+      by (Some body) whole = weaker HasHome MayHaveHome has_home _ _ (with_body f.result file f.parameters body)
+
+  -- and there are as many slots as declarations
+  abbrev Any : Slot → DeclarationTree → Type 0
+  Any s d = Unit {0}
+
+  as_many : (ss : List Slot) (ds : List DeclarationTree) → Beside Any ss ds → length ss ≡ length ds
+  as_many [] [] h = refl
+  as_many [] (d ∷ ds) h = absurd h
+  as_many (s ∷ ss) [] h = absurd h
+  as_many (s ∷ ss) (d ∷ ds) h = ap suc (as_many ss ds h.1)
+
+  pub item_length : (file : _) (x : ItemTree) → length (item_slots told file x) ≡ length (Declared (item_pieces x))
+  item_length file x = as_many _ _ (weaker (IsOf (x ∷ [])) Any (λ s d h. tt) _ _ (of_item file x []))
 
 module _ (program : ProgramTree) (facts : Facts) (valid : IsCorrect program facts) where
   pub header_at : (number : ℕ) (f : FunctionTree) → slice_get (declarations program) number ≡ Some (Header f)

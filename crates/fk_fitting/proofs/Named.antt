@@ -28,6 +28,7 @@ use Rattle.fk_pieces.specs.Pieces as q
 use Rattle.fk_pieces.specs.Pieces.{PieceTree, pieces}
 use Rattle.fk_references.specs.References.{Name}
 use Rattle.fk_type_rules.specs.Pieces.{PieceBreaks}
+use Rattle.fk_type_rules.proofs.Meanings.{means-something}
 use Rattle.fk_type_rules.specs.Bound as b
 use Rattle.fk_type_rules.specs.Bound.{pieces_references}
 use Rattle.fk_token_laws.proofs.Pieces.{declared_by_piece, of_items}
@@ -40,7 +41,6 @@ use Rattle.fk_nesting.specs.Calls.{takes_two}
 use Rattle.fk_nesting.specs.Shaped.{Takes as TakesIn}
 use Rattle.fk_fitting.specs.Correct.{IsCorrect}
 use Rattle.fk_fitting.proofs.Each.{Each, each, one_of}
-use Rattle.fk_fitting.proofs.Meant.{nothing}
 use Rattle.fk_fitting.proofs.Typed.{Unbroken, Not, IsGood, MembersTyped}
 use Rattle.fk_fitting.proofs.Notes.{tables, binding_is}
 use Rattle.fk_fitting.proofs.Numbers.{number_low}
@@ -200,27 +200,30 @@ module _ (program : ProgramTree) (facts : Facts) (valid : IsCorrect program fact
   abbrev pub Known : Named → Type 0
   Known name = ((meaning : Meaning) → IsKnown name meaning → ⊥) → ⊥
 
-  pub known : (name : Named) (from : ℕ) → UsesAt (outline program) name from → Contains (pieces_references (pieces program)) (Name name) → Known name
-  known name from used referred none = nothing (outline program) name.bytes from by
-    where
-      low : name.at < program.tokens
-      low = references_below program valid.well_formed (Name name) referred
+  module _ (name : Named) (from : ℕ) (used : UsesAt (outline program) name from) (referred : Contains (pieces_references (pieces program)) (Name name)) where
+    low : name.at < program.tokens
+    low = references_below program valid.well_formed (Name name) referred
 
-      number_is : (number : ℕ) → b.Refers env program (Name name) number → (note (tables program facts valid) name.at).binding ≡ number
-      number_is number refers = binding_is program facts valid name.at number low (b.refers (Name name) number referred refl refers)
+    number_is : (number : ℕ) → b.Refers env program (Name name) number → (note (tables program facts valid) name.at).binding ≡ number
+    number_is number refers = binding_is program facts valid name.at number low (b.refers (Name name) number referred refl refers)
 
-      means : (meaning : Meaning) → MeansAt (outline program) name.bytes from meaning → Means program name.at meaning
-      means meaning is = record { name = name; from = from; used = used; here = refl; meant = is }
+    means : (meaning : Meaning) → MeansAt (outline program) name.bytes from meaning → Means program name.at meaning
+    means meaning is = record { name = name; from = from; used = used; here = refl; meant = is }
 
-      told : (meaning : Meaning) → MeansAt (outline program) name.bytes from meaning → Binds meaning (note (tables program facts valid) name.at).binding → ⊥
-      told meaning is binds =
-          let meant = valid.known.types.right.meant name meaning (means meaning is) in
-          none meaning (record { means = means meaning is; meant = meant; binds = binds; good = meant_good name meaning meant })
+    binds : (meaning : Meaning) → MeansAt (outline program) name.bytes from meaning → Binds meaning (note (tables program facts valid) name.at).binding
+    binds (m.Declared number) is = number_is number (b.declared name number (means (m.Declared number) is))
+    binds m.Predeclared is = number_is (2 ^ 32 - 1) (b.predeclared name (means m.Predeclared is))
+    binds m.Undeclared is = valid.known.types.kept name.place rules.Undeclared (inl (inr (inl (refl, (from, name, used, is, refl)))))
 
-      by : (meaning : Meaning) → MeansAt (outline program) name.bytes from meaning → ⊥
-      by (m.Declared number) is = told (m.Declared number) is (number_is number (b.declared name number (means (m.Declared number) is)))
-      by m.Predeclared is = told m.Predeclared is (number_is (2 ^ 32 - 1) (b.predeclared name (means m.Predeclared is)))
-      by m.Undeclared is = valid.known.types.kept name.place rules.Undeclared (inl (inr (inl (refl, (from, name, used, is, refl)))))
+    -- it means something
+    pub meant_at : (meaning : Meaning) × MeansAt (outline program) name.bytes from meaning × IsKnown name meaning
+    meant_at =
+        let found = means-something (outline program) name.bytes from in
+        let meant = valid.known.types.right.meant name found.0 (means found.0 found.1) in
+        (found.0, found.1, record { means = means found.0 found.1; meant = meant; binds = binds found.0 found.1; good = meant_good name found.0 meant })
+
+    pub known : Known name
+    known none = let found = meant_at in none found.0 found.2
 
   pub declared_low : (number : ℕ) (d : DeclarationTree) → slice_get (declarations program) number ≡ Some d → number < 2 ^ 32 - 1
   declared_low number d is = omega (arith, number_low program valid.well_formed number d is, valid.small)

@@ -1,4 +1,4 @@
--- The functions of a correct program fit, where their loops' conditions begin with an operation.
+-- The functions of a correct program fit.
 use Rattle.std.proofs.Common.{◌≡◌, ℕ, Bool, true, false, List, [], ◌∷◌, ◌++◌, Option, Some, None, refl, sym, subst}
 use Rattle.std.specs.Prelude.{if◌then◌else◌}
 use Rattle.fk_syntax.specs.declared.facts.Facts.{Facts}
@@ -17,12 +17,14 @@ use Rattle.fk_forms.specs.Program.{functions_of, with_body, signature_in, is_mai
 use Rattle.fk_shapes.specs.Fitting as f
 use Rattle.fk_fitting.specs.Correct.{IsCorrect}
 use Rattle.fk_fitting.specs.Conditions.{BodyBegins, FunctionsBegin}
-use Rattle.fk_fitting.specs.Laws.{CorrectProgramsFit}
+use Rattle.fk_fitting.specs.Laws.{ConditionsOfLoopsBegin, CorrectProgramsFit}
 use Rattle.fk_fitting.proofs.Each.{Each, each, front_of, rest_of}
 use Rattle.fk_fitting.proofs.Typed.{Unbroken}
 use Rattle.fk_fitting.proofs.Notes.{tables, among, all_unmisplaced}
 use Rattle.fk_fitting.proofs.Named.{env, unbroken_pieces}
 use Rattle.fk_fitting.proofs.Bodies.{has_body}
+use Rattle.fk_fitting.proofs.Addresses.{all_kept}
+use Rattle.fk_fitting.proofs.Conditions.{all_begun}
 use Rattle.fk_fitting.proofs.Statements.{Right, Stands, Refers, Fine, scope_of, statements_fit}
 
 module _ (program : ProgramTree) (facts : Facts) (valid : IsCorrect program facts) where
@@ -86,10 +88,18 @@ module _ (program : ProgramTree) (facts : Facts) (valid : IsCorrect program fact
     fine_pieces ps u.1 (rest_of (Refers program facts valid functions) (piece_references x) (pieces_references ps) c),
   )
 
+  fine : Each F (pieces program)
+  fine = fine_pieces (pieces program) (unbroken_pieces program facts valid)
+      (each (Refers program facts valid functions) (pieces_references (pieces program)) (λ i x is. among (pieces_references (pieces program)) i x is))
+
   fit : Begin fs → Fit fs
-  fit = all_fit program.items (all_unmisplaced program facts valid) (each S (outline program) (λ i x is. (i, is)))
-      (fine_pieces (pieces program) (unbroken_pieces program facts valid)
-      (each (Refers program facts valid functions) (pieces_references (pieces program)) (λ i x is. among (pieces_references (pieces program)) i x is)))
+  fit = all_fit program.items (all_unmisplaced program facts valid) (each S (outline program) (λ i x is. (i, is))) fine
+
+-- the conditions of loops begin with an operation
+pub conditions_begin : ConditionsOfLoopsBegin
+conditions_begin program facts valid trim =
+    all_begun program facts valid trim (functions program facts valid) program.items trim (all_kept program facts valid trim (functions program facts valid))
+    (each (S program facts valid) (outline program) (λ i x is. (i, is))) (fine program facts valid)
 
 pub correct_programs_fit : CorrectProgramsFit
-correct_programs_fit program facts valid begin = fit program facts valid begin
+correct_programs_fit program facts valid trim = fit program facts valid (conditions_begin program facts valid trim)

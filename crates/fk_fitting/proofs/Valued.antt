@@ -90,12 +90,12 @@ module _ (env : Env) (tables : Tables) (functions : (binding : ℕ) → Signatur
   abbrev Has : Term → Type 0
   Has term = There (value_in (type_of env term))
 
-  -- a name that has a value begins; and one whose address is taken performs
+  -- a name that has a value begins; and one whose address is taken performs, where it has a type
   abbrev pub NameFact : Named → Type 0
   NameFact name = There (value_in (name_type (env.meant name))) → Begins (x.variable tables functions name)
 
   abbrev pub AddressFact : Named → Type 0
-  AddressFact name = Performs (x.variable tables functions name)
+  AddressFact name = There (name_type (env.meant name)) → Performs (x.variable tables functions name)
 
   abbrev pub OperandTold : Tree → Type 0
   OperandTold (t.Variable name) = AddressFact name
@@ -170,7 +170,7 @@ module _ (env : Env) (tables : Tables) (functions : (binding : ℕ) → Signatur
     links_valued before (t.link spot sign right others) some n a h = links_valued (joined_term spot sign before (term_of right)) others refl n.2 a.1 h
 
     addressed : (e : Tree) → Told Any NameFact e → AddressesTold e → OperandTold e → is_no_target env (term_of e) ≡ false → There (type_of env (term_of e)) → b.Addressed tables functions e
-    addressed (t.Variable name) n a o target h = o
+    addressed (t.Variable name) n a o target h = o h
     addressed (t.Prefix spot g.Star operand) n a o target h = valued operand n a.1 (there_has (value_in (type_of env (term_of operand))) h)
     addressed (t.Prefix spot g.Ampersand operand) n a o target h = absurd (false≢true (sym target))
     addressed (t.Prefix spot sign operand) n a o target h = absurd (false≢true (sym target))

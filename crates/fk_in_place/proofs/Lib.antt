@@ -2,4 +2,5 @@ pub mod RegionTokens
 pub mod SharingTokens
 pub mod Notes
 pub mod Statements
+pub mod NoForks
 pub mod Programs

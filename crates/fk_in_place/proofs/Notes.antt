@@ -1,5 +1,5 @@
 -- What the notes of a valid program say of its tokens, and what is known of the tokens themselves.
-use Rattle.std.proofs.Common.{◌≡◌, ◌≢◌, inl, inr, ℕ, ◌<◌, ◌≤◌, true, List, [], ◌∷◌, length, Option, Some, slice_get, refl, sym, ap, subst, ◌∙◌, arith}
+use Rattle.std.proofs.Common.{◌≡◌, inl, inr, ℕ, ◌<◌, ◌≤◌, true, List, [], ◌∷◌, length, Option, Some, slice_get, refl, sym, ap, subst, ◌∙◌, arith}
 use Rattle.std.proofs.lemmas.Bool.{cases_lt, false≢true}
 use Rattle.fk_syntax.specs.declared.facts.Facts.{Facts}
 use Rattle.fk_syntax.specs.declared.facts.Note.{Note}
@@ -9,7 +9,6 @@ use Rattle.fk_rules.specs.declared.rule.Rule.{Rule}
 use Rattle.fk_class.specs.declared.thing.Thing.{Thing}
 use Rattle.fk_class.specs.Things.{Tells}
 use Rattle.fk_regions.specs.declared.around.Region.TheVariants.{Synchronous}
-use Rattle.fk_regions.specs.declared.token.Word.TheVariants.{Fork}
 use Rattle.fk_regions.specs.Around.{region}
 use Rattle.fk_regions.specs.Tokens as r
 use Rattle.fk_regions.specs.Broken.{IsSynchronous}
@@ -65,7 +64,6 @@ module _ (program : ProgramTree) (facts : Facts) (valid : IsValid program facts)
     pub unbroken : Unmisplaced program facts correct x
     pub sync : region x.around ≡ Synchronous → (note tables x.spot.at).sync ≡ true
     pub alone : (note tables x.spot.at).splits ≡ true → region x.around ≡ Synchronous
-    pub no_fork : x.word ≢ Fork
 
   right : (i : ℕ) (x : Theirs program facts correct) → slice_get (r.tokens program) i ≡ Some x → IsRight x
   right i x is = record {
@@ -74,7 +72,6 @@ module _ (program : ProgramTree) (facts : Facts) (valid : IsValid program facts)
     alone = λ e.
         let h = splits-synchronous program x.spot.at (splits_from x.spot.at e) in
         subst (λ (y : Theirs program facts correct). region y.around ≡ Synchronous) (region_same h.0 i h.1 x h.2 is h.3) h.4;
-    no_fork = valid.no_fork i x is;
   }
 
   pub all_right : Each IsRight (r.tokens program)

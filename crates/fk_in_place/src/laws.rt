@@ -1,10 +1,16 @@
 //! Laws of programs that keep all rules.
 
-ghost use Rattle.fk_in_place.specs.Valid.{ValidProgramsAreInPlace, ValidProgramsHaveOneProgram};
+ghost use Rattle.fk_in_place.specs.Valid.{ForkFreeProgramsAreValued, ValidProgramsAreInPlace, ValidProgramsHaveOneProgram};
 
-/// A program that keeps the forty rules and has no `fork` is in place: its parts, bodies and loops
-/// are nested, what groups run is noted as such, groups alone split, and no name in them means a
-/// function that may not be called there.
+/// Where no token of a program is a `fork`, nothing else is asked of what it computes for one.
+pub fn fork_free_programs_are_valued()
+    ensures { ForkFreeProgramsAreValued }
+{}
+
+/// A program that keeps the forty rules is in place, where each part and rank that it tells for a
+/// `fork` gives one value, whichever way is gone in it, and calls no function of the program. Its
+/// parts, bodies and loops are nested, what groups run is noted as such, groups alone split, and no
+/// name in them means a function that may not be called there.
 pub fn valid_programs_are_in_place()
     ensures { ValidProgramsAreInPlace }
 {}

@@ -1,0 +1,31 @@
+-- Programs whose structs have members, and whose parameters have no lengths.
+use Rattle.std.specs.Prelude.{◌≡◌, ℕ, List, [], ◌∷◌, None}
+use Rattle.fk_syntax.specs.Program.{DeclaredTree, ItemTree, StructItem, VariablesItem, FunctionItem, ProgramTree}
+use Rattle.fk_lex.specs.Reading.{Spelled, Tokens}
+use Rattle.fk_parse.specs.Parses.{SpellsProgram}
+
+abbrev pub HasMembers : List DeclaredTree → Type 0
+HasMembers [] = ⊥
+HasMembers (x ∷ xs) = Unit {0}
+
+abbrev pub AreWithoutLengths : List DeclaredTree → Type 0
+AreWithoutLengths [] = Unit {0}
+AreWithoutLengths (x ∷ xs) = (x.length ≡ None) × AreWithoutLengths xs
+
+abbrev pub ItemIsProper : ItemTree → Type 0
+ItemIsProper (StructItem name members) = HasMembers members
+ItemIsProper (VariablesItem variables) = Unit {0}
+ItemIsProper (FunctionItem f) = AreWithoutLengths f.parameters
+
+abbrev pub ItemsAreProper : List ItemTree → Type 0
+ItemsAreProper [] = Unit {0}
+ItemsAreProper (x ∷ xs) = ItemIsProper x × ItemsAreProper xs
+
+abbrev pub ProgramIsProper : ProgramTree → Type 0
+ProgramIsProper program = ItemsAreProper program.items
+
+-- the program of a text is so
+abbrev pub TextsAreProper : Type 0
+TextsAreProper =
+    (source : List ℕ) (tokens : List Spelled) (program : ProgramTree)
+    → Tokens source tokens → SpellsProgram tokens program → ProgramIsProper program

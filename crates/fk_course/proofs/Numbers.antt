@@ -1,0 +1,408 @@
+-- In the code of programs that are in place a number is pending before a `fork` alone.
+use Rattle.std.proofs.Common.{◌≡◌, ℕ, suc, ◌+◌, Bool, true, false, List, [], ◌∷◌, Option, Some, None, ap, ◌∙◌, sym, refl, subst}
+use Rattle.std.specs.Prelude.{not, ◌&&◌, ◌||◌, if◌then◌else◌}
+use Rattle.fk_syntax.specs.declared.facts.Note.{Note}
+use Rattle.fk_syntax.specs.declared.place.Place.{Place}
+use Rattle.fk_syntax.specs.declared.place.Spot.{Spot}
+use Rattle.fk_syntax.specs.Tree.{Named, Tree}
+use Rattle.fk_syntax.specs.Program as p
+use Rattle.fk_syntax.specs.Program.{DeclaredTree, Statement, Statements, FunctionTree}
+use Rattle.fk_operation.specs.declared.operation.Operation.{Operation}
+use Rattle.fk_operation.specs.declared.operation.Operation.TheVariants as o
+use Rattle.fk_operation.specs.declared.operation.Variable.TheVariants as v
+use Rattle.fk_operation.specs.declared.operation.Known.TheVariants as n
+use Rattle.fk_operation.specs.declared.operation.Split.{Split}
+use Rattle.fk_operation.specs.declared.operation.Split.TheVariants.{IfAlone, IfElse, Loop, Fork}
+use Rattle.fk_forms.specs.declared.tables.Region.{Region}
+use Rattle.fk_forms.specs.Code as c
+use Rattle.fk_forms.specs.Code.{Code, done, perform, choose, while, until, turn, again, quit, break, continue, call, ends, size, numbered}
+use Rattle.fk_forms.specs.Tables.{Tables, note, slot, frame_at}
+use Rattle.fk_forms.specs.Expressions.{Coded, nowhere, plain, Standing, Signature, agreed, token, addressed, assigned, dropped, variable, framed, parameters, value}
+use Rattle.fk_forms.specs.Statements.{Inside, is_scalar, used, used_or, value_or, declared, all_declared, part_frame, leaving, tested, looping, left_by, executed, all_executed, end_of, body_of}
+use Rattle.fk_nesting.specs.Shape.{ends_part}
+use Rattle.fk_nesting.proofs.Spine.{untrue}
+use Rattle.fk_nesting.proofs.Kept.{entered}
+use Rattle.fk_lockstep.proofs.Kept as k
+use Rattle.fk_lockstep.proofs.Kept.{is_plain, is_of_value, IsKept}
+use Rattle.fk_course.specs.Placed.{Who, OfGroup, OfBody, is_group, inner}
+use Rattle.fk_course.specs.InPlace.{Splits, Calls, InPlace, OptionInPlace, VariablesInPlace, StatementInPlace, StatementsInPlace}
+use Rattle.fk_course.specs.Pending as pending
+use Rattle.fk_course.specs.Pending.{is_fork, before_it, before_way, above, leads, MayStand, MayChoose, Counted, At}
+use Rattle.fk_course.specs.Valued.{OptionValued}
+use Rattle.fk_course.proofs.Forms.{inner_group}
+use Rattle.fk_course.proofs.Valued.{value_evaluates}
+
+-- some who may call a function
+abbrev pub anyone : (may_call : (in_group : Bool) → (function : ℕ) → Bool) → (function : ℕ) → Bool
+anyone may_call function = may_call true function || may_call false function
+
+module _ (may_call : (in_group : Bool) → (function : ℕ) → Bool) where
+  abbrev Idle : Coded → Type 0
+  Idle code = pending.Idle (anyone may_call) code
+
+  anyone_may : (in_group : Bool) (function : ℕ) → may_call in_group function ≡ true → anyone may_call function ≡ true
+  anyone_may true function e = ap (λ (b : Bool). b || may_call false function) e
+  anyone_may false function e = by (may_call true function)
+    where
+      by : (b : Bool) → (b || may_call false function) ≡ true
+      by true = refl
+      by false = e
+
+  idle_done : Idle done
+  idle_done = (refl, tt)
+
+  goes : (t : Place) (op : Operation) (rest : Coded) → is_fork op ≡ false → Idle rest → Idle (perform t op rest)
+  goes t op rest f h = (ap (before_it op) h.0, (f, subst (λ (x : Option ℕ). MayStand op x (leads rest)) (sym h.0) tt, h.1))
+
+  either : (b : Bool) (x y : Coded) → Idle x → Idle y → Idle (if b then x else y)
+  either true x y p q = p
+  either false x y p q = q
+
+  -- nothing is pending on either way
+  ways : (op : Operation) (a b rest : Coded) → Idle a → Idle b → above None rest ≡ None
+      → MayChoose op (above None rest) (above (above None rest) a) (above (above None rest) b)
+      × Counted (anyone may_call) (above None rest) a × Counted (anyone may_call) (above None rest) b
+  ways op a b rest p q e =
+      subst (λ (behind : Option ℕ). MayChoose op behind (above behind a) (above behind b) × Counted (anyone may_call) behind a × Counted (anyone may_call) behind b)
+      (sym e) ((p.0, q.0), p.1, q.1)
+
+  chooses : (t : Place) (op : Operation) (a b rest : Coded) → is_fork op ≡ false → Idle a → Idle b → Idle rest → Idle (choose t op a b rest)
+  chooses t op a b rest f p q r = (
+    ap (λ (fork : Bool). if fork then Some 2 else before_way op true (above (above None rest) a)) f
+        ∙ ap (λ (behind : Option ℕ). before_way op true (above behind a)) r.0 ∙ ap (before_way op true) p.0,
+    (ways op a b rest p q r.0, r.1),
+  )
+
+  agrees_or : (sync : Bool) (rest : Coded) → Idle rest → Idle (agreed sync rest)
+  agrees_or true rest p = goes nowhere o.Agree rest refl p
+  agrees_or false rest p = p
+
+  module _ (tables : Tables) (functions : (binding : ℕ) → Signature) where
+    frames : (r : Option Region) (place : Place) (rest : Coded) → Idle rest → Idle (framed tables functions r place rest)
+    frames None place rest p = p
+    frames (Some r) place rest p = goes place (o.Frame r.level r.words) rest refl p
+
+    puts_in : (i : ℕ) (xs : List DeclaredTree) → Idle (parameters tables functions i xs)
+    puts_in i [] = idle_done
+    puts_in i (x ∷ xs) =
+        let others = parameters tables functions (suc i) xs in
+        let dropping = plain o.DropLast others in
+        let writing = plain o.Write dropping in
+        let reading = plain (o.Get (n.Value (v.Private i))) writing in
+        let address = o.Get (n.FrameAddress 0 (slot tables (note tables x.name.at).binding).index) in
+        let rest = puts_in (suc i) xs in
+        either x.shared (plain address reading) others
+        (goes nowhere address reading refl (goes nowhere (o.Get (n.Value (v.Private i))) writing refl (goes nowhere o.Write dropping refl (goes nowhere o.DropLast others refl rest)))) rest
+
+    enters : (who : Who) (name : Named) (rest : Coded) → Calls tables may_call (is_group who) name → Idle rest → Idle (entered tables functions name rest)
+    enters who name rest means p =
+        let function = functions (note tables name.at).binding in
+        let opening = parameters tables functions 0 function.parameters in
+        (refl, (refl, anyone_may (is_group who) (note tables name.at).binding means, frames (frame_at tables function.at 0) name.place opening (puts_in 0 function.parameters), p))
+
+    performs : (who : Who) (t : Place) (op : Operation) (rest : Coded) → is_plain op ≡ true → Idle rest → Idle (perform t op rest)
+    performs who t (o.Divide by) rest e p = untrue e
+    performs who t op rest e p = goes t op rest refl p
+
+    divides : (who : Who) (spot : Spot) (by : Split) (a b rest : Coded) → is_of_value by ≡ true → Splits tables may_call (is_group who) spot.at → (note tables spot.at).splits ≡ true
+        → Idle a → Idle b → Idle rest → Idle (choose spot.place (o.Divide by) a b (plain o.Resume rest))
+    divides who spot Fork a b rest e splits is p q r = untrue e
+    divides who spot by a b rest e splits is p q r = chooses spot.place (o.Divide by) a b (plain o.Resume rest) refl p q (goes nowhere o.Resume rest refl r)
+
+    kept : IsKept tables functions Who (λ who. Idle) (λ who. Splits tables may_call (is_group who)) (λ who. Calls tables may_call (is_group who))
+    kept = record {
+      inner = inner;
+      told = λ who e h. subst (λ b. InPlace tables may_call b e) (sym (inner_group who)) h;
+      performs = performs;
+      allots = λ who rest p. goes nowhere o.Agree (plain o.Block rest) refl (goes nowhere o.Block rest refl p);
+      ends = λ who. idle_done;
+      part_ends = λ who. goes nowhere o.End done refl idle_done;
+      divides = divides;
+      branches = λ who spot onward a b rest splits p q r. agrees_or (note tables spot.at).sync (choose nowhere (o.Branch onward) a b rest) (chooses nowhere (o.Branch onward) a b rest refl p q r);
+      enters = enters;
+    }
+
+    abbrev Keeps : (Coded → Coded) → Type 0
+    Keeps f = (rest : Coded) → Idle rest → Idle (f rest)
+
+    gives : (who : Who) (e : Tree) → InPlace tables may_call (is_group who) e → Keeps (value tables functions e)
+    gives who e h rest q = k.value_is_kept kept who e h rest q
+
+    uses : (who : Who) (e : Tree) → InPlace tables may_call (is_group who) e → Keeps (used tables functions e)
+    uses who e h rest q = gives who e h (dropped tables functions (token e) rest) (k.drops kept who (token e) rest q)
+
+    uses_or : (who : Who) (e : Option Tree) → OptionInPlace tables may_call (is_group who) e → Keeps (used_or tables functions e)
+    uses_or who None h rest q = q
+    uses_or who (Some e) h rest q = uses who e h rest q
+
+    gives_or : (who : Who) (absent : Coded → Coded) → Keeps absent → (e : Option Tree) → OptionInPlace tables may_call (is_group who) e → Keeps (value_or tables functions absent e)
+    gives_or who absent keeps None h rest q = keeps rest q
+    gives_or who absent keeps (Some e) h rest q = gives who e h rest q
+
+    declares_one : (who : Who) (x : DeclaredTree) → Calls tables may_call (is_group who) x.name → OptionInPlace tables may_call (is_group who) x.first → Keeps (declared tables functions x)
+    declares_one who x calls h rest q =
+        let k' : Standing → Coded = λ s. addressed tables functions s (value_or tables functions (plain (o.Push 0)) x.first (assigned tables functions s (plain o.DropLast rest))) in
+        either (is_scalar x) (variable tables functions x.name k') rest
+        (k.names kept who x.name calls k'
+        (λ s fits.
+        let new = assigned tables functions s (plain o.DropLast rest) in
+        k.addresses kept who s (value_or tables functions (plain (o.Push 0)) x.first new)
+        (gives_or who (plain (o.Push 0)) (λ rest' q'. goes nowhere (o.Push 0) rest' refl q') x.first h new (k.assigns kept who s (plain o.DropLast rest) (goes nowhere o.DropLast rest refl q)))))
+        q
+
+    declares : (who : Who) (xs : List DeclaredTree) → VariablesInPlace tables may_call (is_group who) xs → Keeps (all_declared tables functions xs)
+    declares who [] h rest q = q
+    declares who (x ∷ xs) h rest q = declares_one who x h.0 h.1 (all_declared tables functions xs rest) (declares who xs h.2 rest q)
+
+    part_frames : (spot : Spot) (part : ℕ) → Keeps (part_frame tables functions spot part)
+    part_frames spot part rest q = frames (frame_at tables spot.at part) spot.place rest q
+
+    -- tests of loops
+    leaves : (here : Note) → Idle (leaving tables functions here)
+    leaves here =
+        either here.splits (quit nowhere o.Shrink done) (agreed here.sync (quit nowhere (o.Branch true) done)) (refl, (refl, idle_done))
+        (agrees_or here.sync (quit nowhere (o.Branch true) done) (refl, (refl, idle_done)))
+
+    tests : (who : Who) (spot : Spot) (condition : Option Tree) → OptionInPlace tables may_call (is_group who) condition → Idle (tested tables functions spot condition)
+    tests who spot condition h =
+        gives_or who (plain (o.Push 1)) (λ rest q. goes nowhere (o.Push 1) rest refl q) condition h (leaving tables functions (note tables spot.at)) (leaves (note tables spot.at))
+
+    loops : (spot : Spot) (loop : Coded → Coded) → Keeps loop → Keeps (looping tables functions spot loop)
+    loops spot loop keeps rest q =
+        let part = part_frame tables functions spot 0 (loop done) in
+        either (note tables spot.at).splits (choose spot.place (o.Divide Loop) part done (plain o.Resume rest)) (loop rest)
+        (chooses spot.place (o.Divide Loop) part done (plain o.Resume rest) refl (part_frames spot 0 (loop done) (keeps done idle_done)) idle_done (goes nowhere o.Resume rest refl q))
+        (keeps rest q)
+
+    whiles : (test body step : Coded) → Idle test → Idle body → Idle step → Keeps (c.while test body step)
+    whiles test body step a b d rest q = (refl, (a, b, d, q))
+
+    untils : (body test : Coded) → Idle body → Idle test → Keeps (c.until body test)
+    untils body test a b rest q = (refl, (a, b, q))
+
+    leaf : (op : Operation) (rest : Coded) → is_fork op ≡ false → Idle rest → Idle (ends nowhere op rest)
+    leaf op rest f q = (refl, (f, q))
+
+    halts : (main framed : Bool) → Keeps (ends nowhere (if main then o.Halt else o.Leave false framed))
+    halts true framed rest q = leaf o.Halt rest refl q
+    halts false framed rest q = leaf (o.Leave false framed) rest refl q
+
+    hands : (main framed : Bool) (rest : Coded) → Idle rest → Idle (if main then plain o.DropLast (ends nowhere o.Halt rest) else ends nowhere (o.Leave true framed) rest)
+    hands true framed rest q = goes nowhere o.DropLast (ends nowhere o.Halt rest) refl (leaf o.Halt rest refl q)
+    hands false framed rest q = leaf (o.Leave true framed) rest refl q
+
+    returns : (who : Who) (inside : Inside) (e : Option Tree) → OptionInPlace tables may_call (is_group who) e → Keeps (left_by tables functions inside e)
+    returns who inside None h rest q = halts inside.main inside.framed rest q
+    returns who inside (Some e) h rest q =
+        gives who e h (if inside.main then plain o.DropLast (ends nowhere o.Halt rest) else ends nowhere (o.Leave true inside.framed) rest) (hands inside.main inside.framed rest q)
+
+    parts : (spot : Spot) (part : ℕ) (body : Coded → Coded) → Keeps body → Idle (part_frame tables functions spot part (body (plain o.End done)))
+    parts spot part body keeps = part_frames spot part (body (plain o.End done)) (keeps (plain o.End done) (goes nowhere o.End done refl idle_done))
+
+    -- a `fork`: from the agree on its number of parts it is pending
+    forked : (spot : Spot) (body : Coded → Coded) → Keeps body → (rest : Coded) → Idle rest
+        → At (anyone may_call) true None 2 (choose spot.place (o.Divide Fork) (part_frame tables functions spot 0 (body (plain o.End done))) done (plain o.Resume rest))
+    forked spot body keeps rest q =
+        let part = part_frame tables functions spot 0 (body (plain o.End done)) in
+        let resumed : Idle (plain o.Resume rest) = goes nowhere o.Resume rest refl q in
+        record {
+          there = refl;
+          counted = (ways (o.Divide Fork) part done (plain o.Resume rest) (parts spot 0 body keeps) idle_done resumed.0, resumed.1);
+          leading = λ is. refl;
+        }
+
+    ranked : (rank : Option Tree) → OptionValued tables rank → (rest : Coded) → At (anyone may_call) true None 2 rest → At (anyone may_call) true None 1 (value_or tables functions (plain (o.Get n.Rank)) rank rest)
+    ranked None h rest a = record {
+      there = ap (before_it (o.Get n.Rank)) a.there;
+      counted = (refl, subst (λ (x : Option ℕ). MayStand (o.Get n.Rank) x (leads rest)) (sym a.there) refl, a.counted);
+      leading = a.leading;
+    }
+    ranked (Some e) h rest a = value_evaluates (anyone may_call) tables functions e h true None 1 rest a
+
+    agreeing : (rest : Coded) → At (anyone may_call) true None 0 rest → Idle (plain o.Agree rest)
+    agreeing rest a =
+        (ap (before_it o.Agree) a.there, (refl, subst (λ (x : Option ℕ). MayStand o.Agree x (leads rest)) (sym a.there) (a.leading refl), a.counted))
+
+    inner_one : (who : Who) (e : Tree) → InPlace tables may_call (is_group who) e → InPlace tables may_call (is_group (inner who)) e
+    inner_one who e h = subst (λ b. InPlace tables may_call b e) (sym (inner_group who)) h
+
+    inner_if : (who : Who) (e : Option Tree) → OptionInPlace tables may_call (is_group who) e → OptionInPlace tables may_call (is_group (inner who)) e
+    inner_if who e h = subst (λ b. OptionInPlace tables may_call b e) (sym (inner_group who)) h
+
+    mutual
+      statement : (main : Bool) (who : Who) (inside : Inside) (s : Statement) → StatementInPlace tables may_call main who s → Keeps (executed tables functions inside s)
+      statement main who inside p.Empty h rest q = q
+      statement main who inside (p.Expression e) h rest q = uses who e h rest q
+      statement main who inside (p.Block statements) h rest q = all_statements main who inside statements h rest q
+      statement main who inside (p.Declare variables) h rest q = declares who variables h rest q
+      statement main who inside (p.If spot condition first) h rest q =
+          let here = note tables spot.at in
+          let body = executed tables functions inside first in
+          let parted = choose spot.place (o.Divide IfAlone) (part_frame tables functions spot 0 (body (plain o.End done))) done (plain o.Resume rest) in
+          let branched = choose nowhere (o.Branch true) (body done) done rest in
+          let in_body = statement main (inner who) inside first h.2 in
+          gives who condition h.1 (if here.splits then parted else agreed here.sync branched)
+          (either here.splits parted (agreed here.sync branched)
+          (chooses spot.place (o.Divide IfAlone) (part_frame tables functions spot 0 (body (plain o.End done))) done (plain o.Resume rest) refl (parts spot 0 body in_body) idle_done (goes nowhere o.Resume rest refl q))
+          (agrees_or here.sync branched (chooses nowhere (o.Branch true) (body done) done rest refl (in_body done idle_done) idle_done q)))
+      statement main who inside (p.IfElse spot condition first second) h rest q =
+          let here = note tables spot.at in
+          let a = executed tables functions inside first in
+          let b = executed tables functions inside second in
+          let part_a = part_frame tables functions spot 0 (a (plain o.End done)) in
+          let part_b = part_frame tables functions spot 1 (b (plain o.End done)) in
+          let parted = choose spot.place (o.Divide IfElse) part_a part_b (plain o.Resume rest) in
+          let branched = choose nowhere (o.Branch true) (a done) (b done) rest in
+          let in_a = statement main (inner who) inside first h.2 in
+          let in_b = statement main (inner who) inside second h.3 in
+          gives who condition h.1 (if here.splits then parted else agreed here.sync branched)
+          (either here.splits parted (agreed here.sync branched)
+          (chooses spot.place (o.Divide IfElse) part_a part_b (plain o.Resume rest) refl (parts spot 0 a in_a) (parts spot 1 b in_b) (goes nowhere o.Resume rest refl q))
+          (agrees_or here.sync branched (chooses nowhere (o.Branch true) (a done) (b done) rest refl (in_a done idle_done) (in_b done idle_done) q)))
+      statement main who inside (p.While spot condition body) h rest q =
+          loops spot (c.while (tested tables functions spot (Some condition)) (executed tables functions inside body done) done)
+          (whiles (tested tables functions spot (Some condition)) (executed tables functions inside body done) done (tests who spot (Some condition) h.1)
+          (statement main (inner who) inside body h.2 done idle_done) idle_done) rest q
+      statement main who inside (p.DoWhile spot body condition) h rest q =
+          loops spot (c.until (executed tables functions inside body done) (tested tables functions spot (Some condition)))
+          (untils (executed tables functions inside body done) (tested tables functions spot (Some condition)) (statement main (inner who) inside body h.2 done idle_done)
+          (tests who spot (Some condition) h.1)) rest q
+      statement main who inside (p.For spot before condition after body) h rest q =
+          let loop = c.while (tested tables functions spot condition) (executed tables functions inside body done) (used_or tables functions after done) in
+          uses_or who before h.1 (looping tables functions spot loop rest)
+          (loops spot loop
+          (whiles (tested tables functions spot condition) (executed tables functions inside body done) (used_or tables functions after done) (tests who spot condition h.2)
+          (statement main (inner who) inside body h.4 done idle_done) (uses_or who after h.3 done idle_done)) rest q)
+      statement main who inside (p.Start spot count body) h rest q =
+          let run = executed tables functions inside body in
+          let part = part_frame tables functions spot 0 (run (plain o.End done)) in
+          gives_or who (plain (o.Get n.Processors)) (λ rest' q'. goes nowhere (o.Get n.Processors) rest' refl q') count h.1
+          (choose nowhere o.Begin part done (plain o.Resume rest))
+          (chooses nowhere o.Begin part done (plain o.Resume rest) refl (parts spot 0 run (statement main OfGroup inside body h.2)) idle_done (goes nowhere o.Resume rest refl q))
+      statement main who inside (p.Fork spot count part rank body) h rest q =
+          let run = executed tables functions inside body in
+          let split = choose spot.place (o.Divide Fork) (part_frame tables functions spot 0 (run (plain o.End done))) done (plain o.Resume rest) in
+          let ranks = value_or tables functions (plain (o.Get n.Rank)) rank split in
+          let told = value tables functions part ranks in
+          gives who count h.1 (plain o.Agree told)
+          (agreeing told (value_evaluates (anyone may_call) tables functions part h.5 true None 0 ranks (ranked rank h.6 split (forked spot run (statement main OfGroup inside body h.4) rest q))))
+      statement main who inside (p.Farm spot body) h rest q =
+          chooses nowhere o.Farm (executed tables functions inside body done) done (plain (o.Meet true) rest) refl (statement main OfBody inside body h.1 done idle_done) idle_done (goes nowhere (o.Meet true) rest refl q)
+      statement main who inside (p.Seq spot body) h rest q =
+          chooses nowhere o.Seq (executed tables functions inside body done) done (plain (o.Meet true) rest) refl (statement main OfBody inside body h.1 done idle_done) idle_done (goes nowhere (o.Meet true) rest refl q)
+      statement main who inside (p.Barrier spot) h rest q = goes nowhere (o.Meet false) rest refl q
+      statement main who inside (p.Break spot) h rest q = (refl, q)
+      statement main who inside (p.Continue spot) h rest q = (refl, q)
+      statement main who inside (p.Return spot e) h rest q = returns who inside e h.1 rest q
+
+      all_statements : (main : Bool) (who : Who) (inside : Inside) (statements : Statements) → StatementsInPlace tables may_call main who statements → Keeps (all_executed tables functions inside statements)
+      all_statements main who inside p.no_statements h rest q = q
+      all_statements main who inside (p.statement first others) h rest q =
+          statement main who inside first h.0 (all_executed tables functions inside others rest) (all_statements main who inside others h.1 rest q)
+
+    end_idle : (inside : Inside) (void : Bool) → Idle (end_of tables functions inside void)
+    end_idle inside void = by inside.main void
+      where
+        by : (main void : Bool) → Idle (
+            if main then ends nowhere o.Halt done
+            else if void then ends nowhere (o.Leave false inside.framed) done
+            else plain (o.Push 0) (ends nowhere (o.Leave true inside.framed) done))
+        by true void = leaf o.Halt done refl idle_done
+        by false true = leaf (o.Leave false inside.framed) done refl idle_done
+        by false false = goes nowhere (o.Push 0) (ends nowhere (o.Leave true inside.framed) done) refl (leaf (o.Leave true inside.framed) done refl idle_done)
+
+    pub body_idle : (main : Bool) (who : Who) (inside : Inside) (void : Bool) (statements : Statements) → StatementsInPlace tables may_call main who statements → Idle (body_of tables functions inside void statements)
+    body_idle main who inside void statements h = all_statements main who inside statements h (end_of tables functions inside void) (end_idle inside void)
+
+may_stand_as : (op : Operation) (x y : Option ℕ) (l k : Bool) → x ≡ y → l ≡ k → MayStand op x l → MayStand op y k
+may_stand_as op x y l k e f h = subst (λ (z : Option ℕ). MayStand op z k) e (subst (λ (b : Bool). MayStand op x b) f h)
+
+may_choose_as : (op : Operation) (r x x' y y' : Option ℕ) → x ≡ x' → y ≡ y' → MayChoose op r x y → MayChoose op r x' y'
+may_choose_as op r x x' y y' e f h = subst (λ (z : Option ℕ). MayChoose op r x' z) f (subst (λ (z : Option ℕ). MayChoose op r z y) e h)
+
+module _ {A : Type 0} (may : (function : ℕ) → Bool) where
+  -- numbers in place of the places change nothing
+  same_above : (after : Option ℕ) (code : Code A) (first : ℕ) → above after (numbered first code) ≡ above after code
+  same_above after done first = refl
+  same_above after (perform t op rest) first = ap (before_it op) (same_above after rest (suc first))
+  same_above after (choose t op a b rest) first =
+      ap (λ (behind : Option ℕ). if is_fork op then Some 2 else before_way op true (above behind (numbered (suc first) a))) (same_above after rest (suc first + size a + size b))
+      ∙ ap (λ (x : Option ℕ). if is_fork op then Some 2 else before_way op true x) (same_above (above after rest) a (suc first))
+  same_above after (while test body step rest) first = refl
+  same_above after (until body test rest) first = refl
+  same_above after (turn test body step rest) first = refl
+  same_above after (again test body step rest) first = refl
+  same_above after (quit t op rest) first = refl
+  same_above after (break rest) first = refl
+  same_above after (continue rest) first = refl
+  same_above after (call t op f opening rest) first = refl
+  same_above after (ends t op rest) first = refl
+
+  same_leads : (code : Code A) (first : ℕ) → leads (numbered first code) ≡ leads code
+  same_leads done first = refl
+  same_leads (perform t op rest) first = ap (λ (l : Bool). not (ends_part op) && l) (same_leads rest (suc first))
+  same_leads (choose t op a b rest) first = ap (λ (l : Bool). is_fork op || l) (same_leads rest (suc first + size a + size b))
+  same_leads (while test body step rest) first = refl
+  same_leads (until body test rest) first = refl
+  same_leads (turn test body step rest) first = refl
+  same_leads (again test body step rest) first = refl
+  same_leads (quit t op rest) first = refl
+  same_leads (break rest) first = refl
+  same_leads (continue rest) first = refl
+  same_leads (call t op f opening rest) first = refl
+  same_leads (ends t op rest) first = refl
+
+  same_counted : (after : Option ℕ) (code : Code A) (first : ℕ) → Counted may after code → Counted may after (numbered first code)
+  same_counted after done first h = tt
+  same_counted after (perform t op rest) first h = (
+    h.0,
+    may_stand_as op (above after rest) (above after (numbered (suc first) rest)) (leads rest) (leads (numbered (suc first) rest)) (sym (same_above after rest (suc first))) (sym (same_leads rest (suc first))) h.1,
+    same_counted after rest (suc first) h.2,
+  )
+  same_counted after (choose t op a b rest) first h = (
+    subst (λ (behind : Option ℕ). MayChoose op behind (above behind (numbered (suc first) a)) (above behind (numbered (suc first + size a) b))
+        × Counted may behind (numbered (suc first) a) × Counted may behind (numbered (suc first + size a) b))
+        (sym (same_above after rest (suc first + size a + size b))) (
+          may_choose_as op (above after rest) (above (above after rest) a) (above (above after rest) (numbered (suc first) a)) (above (above after rest) b) (above (above after rest) (numbered (suc first + size a) b))
+              (sym (same_above (above after rest) a (suc first))) (sym (same_above (above after rest) b (suc first + size a))) h.0.0,
+          same_counted (above after rest) a (suc first) h.0.1,
+          same_counted (above after rest) b (suc first + size a) h.0.2,
+        ),
+    same_counted after rest (suc first + size a + size b) h.1,
+  )
+  same_counted after (while test body step rest) first h = (
+    (same_above None test first ∙ h.0.0, same_counted None test first h.0.1),
+    (same_above None body (first + size test) ∙ h.1.0, same_counted None body (first + size test) h.1.1),
+    (same_above None step (first + size test + size body) ∙ h.2.0, same_counted None step (first + size test + size body) h.2.1),
+    (same_above after rest (first + size test + size body + size step) ∙ h.3.0, same_counted after rest (first + size test + size body + size step) h.3.1),
+  )
+  same_counted after (until body test rest) first h = (
+    (same_above None body first ∙ h.0.0, same_counted None body first h.0.1),
+    (same_above None test (first + size body) ∙ h.1.0, same_counted None test (first + size body) h.1.1),
+    (same_above after rest (first + size body + size test) ∙ h.2.0, same_counted after rest (first + size body + size test) h.2.1),
+  )
+  same_counted after (turn test body step rest) first h = (
+    (same_above None test first ∙ h.0.0, same_counted None test first h.0.1),
+    (same_above None body (first + size test) ∙ h.1.0, same_counted None body (first + size test) h.1.1),
+    (same_above None step (first + size test + size body) ∙ h.2.0, same_counted None step (first + size test + size body) h.2.1),
+    (same_above after rest (first + size test + size body + size step) ∙ h.3.0, same_counted after rest (first + size test + size body + size step) h.3.1),
+  )
+  same_counted after (again test body step rest) first h = (
+    (same_above None test first ∙ h.0.0, same_counted None test first h.0.1),
+    (same_above None body (first + size test) ∙ h.1.0, same_counted None body (first + size test) h.1.1),
+    (same_above None step (first + size test + size body) ∙ h.2.0, same_counted None step (first + size test + size body) h.2.1),
+    (same_above after rest (first + size test + size body + size step) ∙ h.3.0, same_counted after rest (first + size test + size body + size step) h.3.1),
+  )
+  same_counted after (quit t op rest) first h = (h.0, (same_above after rest (suc first) ∙ h.1.0, same_counted after rest (suc first) h.1.1))
+  same_counted after (break rest) first h = (same_above after rest first ∙ h.0, same_counted after rest first h.1)
+  same_counted after (continue rest) first h = (same_above after rest first ∙ h.0, same_counted after rest first h.1)
+  same_counted after (call t op f opening rest) first h = (
+    h.0,
+    h.1,
+    (same_above None opening (suc first) ∙ h.2.0, same_counted None opening (suc first) h.2.1),
+    (same_above after rest (suc first + size opening) ∙ h.3.0, same_counted after rest (suc first + size opening) h.3.1),
+  )
+  same_counted after (ends t op rest) first h = (h.0, (same_above after rest (suc first) ∙ h.1.0, same_counted after rest (suc first) h.1.1))
+
+  pub numbered_idle : (code : Code A) (first : ℕ) → pending.Idle may code → pending.Idle may (numbered first code)
+  numbered_idle code first h = (same_above None code first ∙ h.0, same_counted None code first h.1)

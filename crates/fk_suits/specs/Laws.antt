@@ -1,0 +1,36 @@
+-- What is so of the flat lists of programs.
+use Rattle.std.specs.Prelude.{◌≡◌, ℕ, ◌+◌, ◌<◌, ◌≤◌, true, List, length, false}
+use Rattle.fk_syntax.specs.Program.{ProgramTree}
+use Rattle.fk_forms.specs.Code.{Code}
+use Rattle.fk_forms.specs.Tables.{Tables}
+use Rattle.fk_forms.specs.Program.{bodies_of, main_of}
+use Rattle.fk_core.specs.declared.op.CoreOp.{CoreOp}
+use Rattle.fk_flat.specs.Flat.{extent}
+use Rattle.fk_flat.specs.Shape.{is_closed}
+use Rattle.fk_flat.specs.Laws.{AreShaped, IsFlat}
+use Rattle.fk_block_law.specs.Lists.{IsFree}
+use Rattle.fk_text.specs.Built.{AreBuilt}
+use Rattle.fk_typed_forms.specs.Asked.{ProgramAsked}
+
+-- an index lies in the code of a function that is written from a place on
+abbrev pub LiesIn : (bodies : (binding : ℕ) → Code ℕ) → (place : ℕ → ℕ) → (index binding : ℕ) → Type 0
+LiesIn bodies place i f = (place f ≤ i) × (i < place f + extent false (bodies f))
+
+abbrev pub AreApart : (bodies : (binding : ℕ) → Code ℕ) → (place : ℕ → ℕ) → Type 0
+AreApart bodies place = (i f g : ℕ) → LiesIn bodies place i f → LiesIn bodies place i g → f ≡ g
+
+abbrev pub FlatListsAreApart : Type 0
+FlatListsAreApart =
+    (tables : Tables) (program : ProgramTree) (core : List CoreOp) (entry : ℕ → ℕ) → AreBuilt tables program
+    → (flat : IsFlat (bodies_of tables program) core entry) → AreApart (bodies_of tables program) flat.place
+
+-- a list that goes on within itself from `main` on
+pub record StaysWithin (core : List CoreOp) (main : ℕ) : Type 0 where
+  pub begins : main < length core
+  pub free : IsFree core
+
+abbrev pub ListsAreFree : Type 0
+ListsAreFree =
+    (tables : Tables) (program : ProgramTree) (core : List CoreOp) (entry : ℕ → ℕ) → ProgramAsked tables program → AreBuilt tables program
+    → AreShaped (bodies_of tables program) → IsFlat (bodies_of tables program) core entry
+    → is_closed (bodies_of tables program (main_of tables program)) ≡ true → StaysWithin core (entry (main_of tables program))

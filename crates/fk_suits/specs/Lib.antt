@@ -1,0 +1,3 @@
+pub mod Rooms
+pub mod Suiting
+pub mod Laws

@@ -1,0 +1,17 @@
+pub mod Granting
+pub mod Examples
+pub mod Weaker
+pub mod Done
+pub mod System
+mod Marks
+pub mod Rising
+pub mod Standing
+pub mod Sound
+pub mod Listed
+pub mod Valued
+mod Held
+pub mod Free
+pub mod Knowing
+pub mod Depths
+pub mod Suiting
+mod ListExample

@@ -1,0 +1,236 @@
+-- A list that another interpreter of the same rules made, of functions that are well typed:
+-- int f(int n) { return n ? 1 + f(n - 1) : 0; } void main(void) { putint(f(3)); }
+use Rattle.std.proofs.Common.{◌≡◌, ℕ, zero, suc, ◌+◌, ◌<◌, ◌≤◌, Bool, true, false, List, [], ◌∷◌, slice_get, get_or, Option, None, Some, inl, inr, refl, sym, ap, ◌∙◌, subst, arith}
+use Rattle.std.specs.Prelude.{◌==◌, ◌||◌, ◌&&◌, ◌⊎◌}
+use Rattle.std.proofs.lemmas.Bool.{eqb-true}
+use Rattle.fk_operation.specs.declared.operation.Operation.{Operation}
+use Rattle.fk_operation.specs.declared.operation.Operation.TheVariants as o
+use Rattle.fk_forms.specs.Code.{done}
+use Rattle.fk_core.specs.declared.op.CoreOp.{CoreOp}
+use Rattle.fk_core.specs.Numbers.{operation_of}
+use Rattle.fk_core.specs.Next.{is_jump}
+use Rattle.fk_core.proofs.Leading.{op_stops}
+use Rattle.fk_core.proofs.Examples.{recursion_core as core}
+use Rattle.fk_flat.specs.Flat.{extent}
+use Rattle.fk_flat.proofs.ListExamples.{f_code, main_code, of_binding, bodies, entry, is_flat, are_shaped}
+use Rattle.fk_block_law.specs.Ready.{is_alone}
+use Rattle.fk_block_law.specs.Lists.{IsFree}
+use Rattle.fk_block_law.specs.Stands.{Frames}
+use Rattle.fk_block_law.specs.Suits.{Suits}
+use Rattle.fk_depths.specs.Local.{HasLocalDepths}
+use Rattle.fk_kept.specs.declared.places.Place.{Place}
+use Rattle.fk_kept.specs.declared.places.Place.TheVariants.{Main, Called}
+use Rattle.fk_known.specs.Local.{HasKnowledge}
+use Rattle.fk_known.specs.Values.{constants}
+use Rattle.fk_typed_code.specs.Values.{Unknown, State, bare, Grants}
+use Rattle.fk_typed_code.specs.Typed.{Typed, IsTyped, AreTyped}
+use Rattle.fk_typed_code.specs.Heights.{HasHeights}
+use Rattle.fk_typed_code.specs.Words.{Words, first_words, AreWritten, WritesFirst, IsLow, ahead_in, FitFrames}
+use Rattle.fk_typed_code.specs.Laws.{IsTypedList, IsLone, HasHeightsOf}
+use Rattle.fk_typed_code.proofs.Granting.{none_asked, good_as_itself, grants_itself}
+use Rattle.fk_typed_code.proofs.Examples.{may, at}
+use Rattle.fk_typed_code.proofs.Free.{typed_lists_are_free}
+use Rattle.fk_typed_code.proofs.Knowing.{typed_lists_know}
+use Rattle.fk_typed_code.proofs.Depths.{typed_lists_have_depths}
+use Rattle.fk_typed_code.proofs.Suiting.{typed_lists_suit}
+
+abbrev place_of : ℕ → Place
+place_of f = of_binding (Called true) Main (Called true) (f == 0) (f == 1)
+
+abbrev none : State
+none = at (Called true) []
+
+abbrev one : State
+one = at (Called true) (Unknown ∷ [])
+
+-- one value of which nothing is asked, whatever constant it is
+any : (place : Place) (n : ℕ) → Grants (record { place = place; values = Unknown ∷ []; constants = constants (Some n) None }) (at place (Unknown ∷ []))
+any place n = record { place = refl; values = good_as_itself (Unknown ∷ []); constants = none_asked _ }
+
+f_is_typed : IsTyped place_of 0 f_code
+f_is_typed = (
+  none,
+  (
+    may _ _ (omega arith, omega arith) tt,
+    (
+      may _ _ (omega arith, omega arith) tt,
+      one,
+      (may _ _ (omega arith, omega arith) tt, (may _ _ (omega arith, omega arith) tt, (may _ _ (omega arith, omega arith) tt, (may _ _ (omega arith, omega arith) tt, (may _ _ (omega arith, omega arith) tt, true, refl, grants_itself none, (may _ _ (omega arith, omega arith) tt, grants_itself one)))))),
+      (may _ _ (omega arith, omega arith) tt, any (Called true) 0),
+      (may _ _ (omega arith, omega arith) tt, refl, (may _ _ (omega arith, omega arith) tt, (may _ _ (omega arith, omega arith) tt, refl, grants_itself none))),
+    ),
+  ),
+)
+
+main_is_typed : IsTyped place_of 1 main_code
+main_is_typed = (
+  at Main [],
+  (
+    may _ _ (omega arith, omega arith) tt,
+    (may _ _ (omega arith, omega arith) tt, true, refl, grants_itself none, (may _ _ (omega arith, omega arith) tt, (may _ _ (omega arith, omega arith) tt, refl, grants_itself (at Main [])))),
+  ),
+)
+
+typed_by : (is_f is_main : Bool)
+    → (end : State) × Typed place_of None (bare (of_binding (Called true) Main (Called true) is_f is_main)) (of_binding f_code main_code done is_f is_main) end
+typed_by true is_main = f_is_typed
+typed_by false true = main_is_typed
+typed_by false false = (none, grants_itself none)
+
+are_typed : AreTyped place_of bodies
+are_typed f = typed_by (f == 0) (f == 1)
+
+-- which binding an index lies in
+abbrev owner : ℕ → ℕ → Type 0
+owner i f = ((i < 14) × (f ≡ 0)) ⊎ ((14 ≤ i) × (f ≡ 1))
+
+owned : (i f : ℕ) (is_f is_main : Bool) → (f == 0) ≡ is_f → (f == 1) ≡ is_main
+    → of_binding 0 14 19 is_f is_main ≤ i → i < of_binding 0 14 19 is_f is_main + extent false (of_binding f_code main_code done is_f is_main) → owner i f
+owned i f true is_main a b low high = inl ((let h : i < 0 + 14 = high in omega (arith, h)), eqb-true f 0 a)
+owned i f false true a b low high = inr (low, eqb-true f 1 b)
+owned i f false false a b low high = absurd (let h : i < 19 + 0 = high in let l : 19 ≤ i = low in let z : ⊥ = omega (arith, h, l) in z)
+
+same_owner : (i f g : ℕ) → owner i f → owner i g → f ≡ g
+same_owner i f g (inl a) (inl b) = a.1 ∙ sym b.1
+same_owner i f g (inr a) (inr b) = a.1 ∙ sym b.1
+same_owner i f g (inl a) (inr b) = absurd (let x = a.0 in let y = b.0 in let z : ⊥ = omega (arith, x, y) in z)
+same_owner i f g (inr a) (inl b) = absurd (let x = a.0 in let y = b.0 in let z : ⊥ = omega (arith, x, y) in z)
+
+typed_list : IsTypedList bodies core entry place_of
+typed_list = record {
+  shaped = are_shaped;
+  flat = is_flat;
+  apart = λ i f g a b. same_owner i f g (owned i f (f == 0) (f == 1) refl refl a.0 a.1) (owned i g (g == 0) (g == 1) refl refl b.0 b.1);
+  typed = are_typed;
+}
+
+-- the depths in the list are those that are counted
+abbrev depth : ℕ → ℕ
+depth n = get_or (0 ∷ 1 ∷ 0 ∷ 1 ∷ 2 ∷ 3 ∷ 2 ∷ 2 ∷ 0 ∷ 1 ∷ 0 ∷ 1 ∷ 0 ∷ 1 ∷ 1 ∷ 0 ∷ []) n 0
+
+abbrev is_told : CoreOp → Bool
+is_told op = is_jump op || (op.depth == depth op.site)
+
+-- all of a list are so
+abbrev each : (p : CoreOp → Bool) → List CoreOp → Bool
+each p [] = true
+each p (op ∷ ops) = p op && each p ops
+
+both : (a b : Bool) → (a && b) ≡ true → (a ≡ true) × (b ≡ true)
+both true true e = (refl, refl)
+both true false e = absurd (cc)
+both false b e = absurd (cc)
+
+each_at : (p : CoreOp → Bool) (ops : List CoreOp) (i : ℕ) (op : CoreOp) → each p ops ≡ true → slice_get ops i ≡ Some op → p op ≡ true
+each_at p [] i op h e = absurd (cc)
+each_at p (x ∷ xs) zero op h e = let same : x ≡ op = cc in subst (λ y. p y ≡ true) same (both (p x) (each p xs) h).0
+each_at p (x ∷ xs) (suc i) op h e = each_at p xs i op (both (p x) (each p xs) h).1 e
+
+heights_by : (is_f is_main : Bool) → HasHeights place_of depth 0 (of_binding f_code main_code done is_f is_main)
+heights_by true is_main = (refl, (refl, (refl, (refl, (refl, (refl, (refl, tt, (refl, tt)))))), (refl, tt), (refl, (refl, (refl, tt)))))
+heights_by false true = (refl, (refl, tt, (refl, (refl, tt))))
+heights_by false false = tt
+
+has_heights : HasHeightsOf bodies core place_of
+has_heights = record {
+  depth = depth;
+  told = λ i op operation e r.
+      (let n = op_stops core entry i op operation e r op e in
+      let t = each_at is_told core i op refl e in
+      eqb-true op.depth (depth op.site) (sym (ap (λ b. b || (op.depth == depth op.site)) n) ∙ t));
+  heights = λ f. heights_by (f == 0) (f == 1);
+}
+
+has_depths : HasLocalDepths core 14
+has_depths = typed_lists_have_depths bodies core entry place_of typed_list has_heights 1 refl
+
+-- and each operation is one without a group, or a halt
+abbrev is_halt : Operation → Bool
+is_halt o.Halt = true
+is_halt op = false
+
+abbrev is_lone_by : Option Operation → Bool
+is_lone_by None = true
+is_lone_by (Some op) = is_alone op || is_halt op
+
+lone_or_halt : (op : Operation) → (is_alone op || is_halt op) ≡ true → (is_alone op ≡ true) ⊎ (op ≡ o.Halt)
+lone_or_halt o.Halt e = inr refl
+lone_or_halt op e = inl (only (is_alone op) e)
+  where
+    only : (b : Bool) → (b || false) ≡ true → b ≡ true
+    only true e = refl
+    only false e = e
+
+lone : IsLone core
+lone i op operation e r =
+    lone_or_halt operation (ap is_lone_by (sym r) ∙ each_at (λ op. is_lone_by (operation_of op.kind op.number)) core i op refl e)
+
+has_knowledge : HasKnowledge core 14
+has_knowledge = typed_lists_know bodies core entry place_of typed_list lone 1 refl
+
+is_free : IsFree core
+is_free = typed_lists_are_free bodies core entry place_of typed_list lone
+
+-- `f` has one private word, its parameter, and at most 3 values; `main` has none, and at most 1
+abbrev parameters : ℕ → ℕ
+parameters f = of_binding 1 0 0 (f == 0) (f == 1)
+
+abbrev most : ℕ → ℕ
+most f = of_binding 3 1 0 (f == 0) (f == 1)
+
+room_by : (is_f is_main : Bool)
+    → ahead_in 0 (of_binding (Called true) Main (Called true) is_f is_main) + 8 + of_binding 1 0 0 is_f is_main + of_binding 3 1 0 is_f is_main ≤ 64
+room_by true is_main = omega arith
+room_by false true = omega arith
+room_by false false = omega arith
+
+same_words : (written : Words) → AreWritten written written
+same_words written word e = e
+
+f_writes_first : WritesFirst 0 1 parameters None (first_words 1) f_code (first_words 1)
+f_writes_first = (
+  refl,
+  (
+    tt,
+    first_words 1,
+    (tt, (refl, (tt, (tt, (refl, omega arith, omega arith, (tt, same_words (first_words 1))))))),
+    (tt, same_words (first_words 1)),
+    (tt, (tt, (tt, same_words (first_words 1)))),
+  ),
+)
+
+main_writes_first : WritesFirst 0 0 parameters None (first_words 0) main_code (first_words 0)
+main_writes_first = (tt, (refl, omega arith, omega arith, (tt, (tt, same_words (first_words 0)))))
+
+written_by : (is_f is_main : Bool) → (end : Words)
+    × WritesFirst 0 (of_binding 1 0 0 is_f is_main) parameters None (first_words (of_binding 1 0 0 is_f is_main)) (of_binding f_code main_code done is_f is_main) end
+written_by true is_main = (first_words 1, f_writes_first)
+written_by false true = (first_words 0, main_writes_first)
+written_by false false = (first_words 0, same_words (first_words 0))
+
+low_by : (is_f is_main : Bool) → IsLow place_of (of_binding 3 1 0 is_f is_main) 0 (of_binding f_code main_code done is_f is_main)
+low_by true is_main = (
+  omega arith,
+  (
+    omega arith,
+    (omega arith, (omega arith, (omega arith, (omega arith, (omega arith, omega arith, (omega arith, omega arith)))))),
+    (omega arith, omega arith),
+    (omega arith, (omega arith, (omega arith, omega arith))),
+  ),
+)
+low_by false true = (omega arith, (omega arith, omega arith, (omega arith, (omega arith, omega arith))))
+low_by false false = omega arith
+
+fits : FitFrames bodies place_of 0
+fits = record {
+  parameters = parameters;
+  words = parameters;
+  most = most;
+  few = λ f. omega arith;
+  room = λ f. room_by (f == 0) (f == 1);
+  written = λ f. written_by (f == 0) (f == 1);
+  low = λ f. low_by (f == 0) (f == 1);
+}
+
+suits : (frames : Frames) × (frames.of_file ≡ 0) × Suits core frames 14
+suits = typed_lists_suit bodies core entry place_of 0 typed_list has_heights fits 1 refl

@@ -1,0 +1,69 @@
+-- What is so of the flat lists of well typed code.
+use Rattle.std.specs.Prelude.{◌≡◌, ℕ, ◌+◌, ◌<◌, ◌≤◌, ◌⊎◌, List, slice_get, true, false, Some}
+use Rattle.fk_operation.specs.declared.operation.Operation.{Operation}
+use Rattle.fk_operation.specs.declared.operation.Operation.TheVariants.{Halt}
+use Rattle.fk_forms.specs.Code.{Code}
+use Rattle.fk_core.specs.declared.op.CoreOp.{CoreOp}
+use Rattle.fk_core.specs.Numbers.{operation_of}
+use Rattle.fk_flat.specs.Flat.{extent}
+use Rattle.fk_flat.specs.Laws.{AreShaped, IsFlat}
+use Rattle.fk_block_law.specs.Ready.{is_alone}
+use Rattle.fk_block_law.specs.Lists.{IsFree}
+use Rattle.fk_block_law.specs.Stands.{Frames}
+use Rattle.fk_block_law.specs.Suits.{Suits}
+use Rattle.fk_depths.specs.Local.{HasLocalDepths}
+use Rattle.fk_kept.specs.declared.places.Place.{Place}
+use Rattle.fk_kept.specs.declared.places.Place.TheVariants.{Main}
+use Rattle.fk_known.specs.Local.{HasKnowledge}
+use Rattle.fk_typed_code.specs.Typed.{AreTyped}
+use Rattle.fk_typed_code.specs.Heights.{HasHeights}
+use Rattle.fk_typed_code.specs.Words.{FitFrames}
+
+module _ (bodies : (binding : ℕ) → Code ℕ) (core : List CoreOp) (entry : ℕ → ℕ) (place_of : (binding : ℕ) → Place) where
+  -- an index lies in the code of a function
+  abbrev pub LiesIn : (place : ℕ → ℕ) → (index binding : ℕ) → Type 0
+  LiesIn place i f = (place f ≤ i) × (i < place f + extent false (bodies f))
+
+  -- A flat list of well typed functions, where no index lies in the code of two. They are in `main`, or are called
+  pub record IsTypedList : Type 0 where
+    pub shaped : AreShaped bodies
+    pub flat : IsFlat bodies core entry
+    pub apart : (i f g : ℕ) → LiesIn flat.place i f → LiesIn flat.place i g → f ≡ g
+    pub typed : AreTyped place_of bodies
+
+-- each operation is one without a group, or a halt
+abbrev pub IsLone : List CoreOp → Type 0
+IsLone core =
+    (i : ℕ) (op : CoreOp) (operation : Operation) → slice_get core i ≡ Some op → operation_of op.kind op.number ≡ Some operation
+    → (is_alone operation ≡ true) ⊎ (operation ≡ Halt)
+
+-- the depth of each operation of a list is told by its site, and is as high as the code before it makes it
+pub record HasHeightsOf (bodies : (binding : ℕ) → Code ℕ) (core : List CoreOp) (place_of : (binding : ℕ) → Place) : Type 0 where
+  pub depth : (site : ℕ) → ℕ
+  pub told : (i : ℕ) (op : CoreOp) (operation : Operation) → slice_get core i ≡ Some op
+      → operation_of op.kind op.number ≡ Some operation → op.depth ≡ depth op.site
+  pub heights : (binding : ℕ) → HasHeights place_of depth 0 (bodies binding)
+
+abbrev pub TypedListsAreFree : Type 0
+TypedListsAreFree =
+    (bodies : (binding : ℕ) → Code ℕ) (core : List CoreOp) (entry : ℕ → ℕ) (place_of : (binding : ℕ) → Place)
+    → IsTypedList bodies core entry place_of → IsLone core → IsFree core
+
+abbrev pub TypedListsKnow : Type 0
+TypedListsKnow =
+    (bodies : (binding : ℕ) → Code ℕ) (core : List CoreOp) (entry : ℕ → ℕ) (place_of : (binding : ℕ) → Place)
+    → IsTypedList bodies core entry place_of → IsLone core
+    → (main : ℕ) → place_of main ≡ Main → HasKnowledge core (entry main)
+
+abbrev pub TypedListsHaveDepths : Type 0
+TypedListsHaveDepths =
+    (bodies : (binding : ℕ) → Code ℕ) (core : List CoreOp) (entry : ℕ → ℕ) (place_of : (binding : ℕ) → Place)
+    → IsTypedList bodies core entry place_of → HasHeightsOf bodies core place_of
+    → (main : ℕ) → place_of main ≡ Main → HasLocalDepths core (entry main)
+
+-- frames that hold the words that are written, with so many private variables of file scope
+abbrev pub TypedListsSuit : Type 0
+TypedListsSuit =
+    (bodies : (binding : ℕ) → Code ℕ) (core : List CoreOp) (entry : ℕ → ℕ) (place_of : (binding : ℕ) → Place) (firsts : ℕ)
+    → IsTypedList bodies core entry place_of → HasHeightsOf bodies core place_of → FitFrames bodies place_of firsts
+    → (main : ℕ) → place_of main ≡ Main → (frames : Frames) × (frames.of_file ≡ firsts) × Suits core frames (entry main)

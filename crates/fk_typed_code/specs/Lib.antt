@@ -1,0 +1,5 @@
+pub mod Values
+pub mod Typed
+pub mod Heights
+pub mod Words
+pub mod Laws

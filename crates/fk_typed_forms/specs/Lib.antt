@@ -1,0 +1,4 @@
+pub mod Ways
+pub mod Asked
+pub mod Typed
+pub mod Laws

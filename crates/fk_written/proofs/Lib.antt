@@ -1,0 +1,6 @@
+pub mod Ok
+pub mod Forms
+pub mod Statements
+pub mod Programs
+pub mod Low
+pub mod Frames

@@ -1,0 +1,57 @@
+-- Frames that have room for the private words and the values of functions, and for one value more. A call has room for a result
+-- also where the function that is called has none.
+use Rattle.std.specs.Prelude.{◌≡◌, ℕ, ◌+◌, ◌-◌, ◌≤◌, true, false, List, [], ◌∷◌}
+use Rattle.fk_syntax.specs.Program.{FunctionTree, ItemTree, ProgramTree}
+use Rattle.fk_sizes.specs.Operations.{takes}
+use Rattle.fk_forms.specs.Code.{Code, done, perform, choose, while, until, quit, break, continue, call, ends}
+use Rattle.fk_forms.specs.Tables.{Tables}
+use Rattle.fk_forms.specs.Program.{functions_of, bodies_of}
+use Rattle.fk_slots.specs.Slots.{own_of}
+use Rattle.fk_layout.specs.Frames.{told_in, file_privates, private_words}
+use Rattle.fk_shapes.specs.Fitting.{ProgramFits}
+use Rattle.fk_kept.specs.declared.places.Place.{Place}
+use Rattle.fk_text.specs.Built.{AreBuilt}
+use Rattle.fk_typed_code.specs.Heights.{raised, results_of, height}
+use Rattle.fk_typed_code.specs.Typed.{AreTyped}
+use Rattle.fk_typed_code.specs.Words.{FitFrames}
+use Rattle.fk_typed_forms.specs.Asked.{place_of}
+use Rattle.fk_written.specs.Scopes.{ProgramScoped}
+
+-- code with at most so many values at each of its places, counted as in `height`
+module _ (place_of : (binding : ℕ) → Place) (most : ℕ) where
+  abbrev pub HasFew : (values : ℕ) → Code ℕ → Type 0
+  HasFew h done = h ≤ most
+  HasFew h (perform n op rest) = (h ≤ most) × HasFew (raised h op true) rest
+  HasFew h (choose n op x y rest) =
+      (h ≤ most) × HasFew (raised h op true) x × HasFew (raised h op false) y × HasFew (height place_of (raised h op true) x) rest
+  HasFew h (while test body step rest) =
+      let b = height place_of h test in
+      let s = height place_of b body in
+      HasFew h test × HasFew b body × HasFew s step × HasFew (height place_of s step) rest
+  HasFew h (until body test rest) =
+      let t = height place_of h body in HasFew h body × HasFew t test × HasFew (height place_of t test) rest
+  HasFew h (quit n op rest) = (h ≤ most) × HasFew (raised h op true) rest
+  HasFew h (break rest) = HasFew h rest
+  HasFew h (continue rest) = HasFew h rest
+  HasFew h (call n op f opening rest) = (h ≤ most) × HasFew (h - takes op + results_of (place_of f)) rest
+  HasFew h (ends n op rest) = (h ≤ most) × HasFew (raised h op true) rest
+  HasFew h code = ⊥
+
+module _ (tables : Tables) (items : List ItemTree) where
+  -- the private words of a function, those of file scope apart
+  abbrev pub own_words : FunctionTree → ℕ
+  own_words f = (own_of (told_in tables) f).privates
+
+  -- the private frames of functions have at most so many words
+  abbrev pub HaveRoom : (most : ℕ) → List FunctionTree → Type 0
+  HaveRoom most [] = Unit {0}
+  HaveRoom most (f ∷ fs) = (private_words tables items f ≤ most) × HaveRoom most fs
+
+-- So programs fit frames whose code is well typed, and writes first
+abbrev pub FormsFitFrames : Type 0
+FormsFitFrames =
+    (tables : Tables) (program : ProgramTree)
+    → ProgramFits tables program → AreBuilt tables program → AreTyped (place_of tables program) (bodies_of tables program)
+    → ProgramScoped tables (own_words tables program.items) (file_privates program.items) program
+    → HaveRoom tables program.items 63 (functions_of program.items)
+    → FitFrames (bodies_of tables program) (place_of tables program) (file_privates program.items)
