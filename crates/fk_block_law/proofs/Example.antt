@@ -1,4 +1,4 @@
--- The law of blocks, made once: a list that pushes a number, drops it and halts, in thirteen words.
+-- The law of blocks, made once: a list that pushes a number, drops it and halts, in seventeen words.
 use Rattle.std.proofs.Common.{◌≡◌, ℕ, zero, suc, ◌+◌, ◌-◌, ◌*◌, ◌%◌, ◌<◌, List, [], ◌∷◌, length, Some, true, false, sym, ap, subst, ◌∙◌, arith, refl, inl, eq-eqb}
 use Rattle.std.specs.Prelude.{◌==◌, if◌then◌else◌, slice_get}
 use Rattle.std.proofs.lemmas.Bool.{ne_eqb}
@@ -44,7 +44,7 @@ core = pushes ∷ drops ∷ halts ∷ []
 
 abbrev pub places : Places
 places = record {
-  block = λ i. if i == 0 then 8 else if i == 1 then 10 else 11;
+  block = λ i. if i == 0 then 12 else if i == 1 then 14 else 15;
   frames = record { keeps = λ i word. false; is_main = λ i. true; of_file = 0 };
 }
 
@@ -55,16 +55,20 @@ pub record HasCode (image : Image) : Type 0 where
   pub at0 : IsAt image 0 (Lui 8 0x20000) 0
   pub at1 : IsAt image 1 (Addi 9 8 256) 0
   pub at2 : IsAt image 2 (Lui 22 0x20000) 0
-  pub at3 : IsAt image 3 (Lui 23 0x4000) 0
-  pub at4 : IsAt image 4 (Lui 24 0x8004) 0
-  pub at5 : IsAt image 5 (Lui 5 0x30000) 0
-  pub at6 : IsAt image 6 (Lw 19 5 20) 0
-  pub at7 : IsAt image 7 (Lw 20 5 24) 0
-  pub at8 : IsAt image 8 (Addi 6 0 5) 0
-  pub at9 : IsAt image 9 (Sw 9 6 0xfffffffc) 1
-  pub at10 : IsAt image 10 (Addi 0 0 0) 1
-  pub at11 : IsAt image 11 (Lui 5 0x30000) 0
-  pub at12 : IsAt image 12 (Sw 5 0 12) 1
+  pub at3 : IsAt image 3 (Lui 23 0x10000) 0
+  pub at4 : IsAt image 4 (Lui 24 0x20010) 0
+  pub at5 : IsAt image 5 (Lui 25 0xffc00) 0
+  pub at6 : IsAt image 6 (Addi 25 25 3) 0
+  pub at7 : IsAt image 7 (Lui 26 0x30000) 0
+  pub at8 : IsAt image 8 (Lui 27 0xffff0) 0
+  pub at9 : IsAt image 9 (Addi 27 27 3) 0
+  pub at10 : IsAt image 10 (Lw 19 26 20) 0
+  pub at11 : IsAt image 11 (Lw 20 26 24) 0
+  pub at12 : IsAt image 12 (Addi 6 0 5) 0
+  pub at13 : IsAt image 13 (Sw 9 6 0xfffffffc) 1
+  pub at14 : IsAt image 14 (Addi 0 0 0) 1
+  pub at15 : IsAt image 15 (Lui 5 0x30000) 0
+  pub at16 : IsAt image 16 (Sw 5 0 12) 1
 
 private : (image : Image) (t : MachineSetting) (number k : ℕ) (i : Instruction) (h h' : Hart) → Holds image t → IsAt image k i 0 → h.pc ≡ 4 * k
     → h.ended ≡ false → ((s : Shared) → GoesAlone (perform t number i h s) h' s) → IsPrivateIn image t number h h'
@@ -97,48 +101,21 @@ begins image code setting t number running =
     let h1 = writes h0 8 0x20000000 in
     let h2 = writes h1 9 0x20000100 in
     let h3 = writes h2 22 0x20000000 in
-    let h4 = writes h3 23 0x04000000 in
-    let h5 = writes h4 24 0x08004000 in
-    let h6 = writes h5 5 0x30000000 in
-    let h7 = writes h6 19 number in
-    let h8 = writes h7 20 t.harts in
+    let h4 = writes h3 23 0x10000000 in
+    let h5 = writes h4 24 0x20010000 in
+    let h6 = writes h5 25 0xffc00000 in
+    let h7 = writes h6 25 0xffc00003 in
+    let h8 = writes h7 26 0x30000000 in
+    let h9 = writes h8 27 0xffff0000 in
+    let h10 = writes h9 27 0xffff0003 in
+    let h11 = writes h10 19 number in
+    let h12 = writes h11 20 t.harts in
     record {
-      cycles = 8;
+      cycles = 12;
       few = omega arith;
-      hart = h8;
-      runs = (
-        h1,
-        private image t number 0 _ h0 h1 running.code code.at0 refl refl (λ s. (s.reserved, refl)),
-        (
-          h2,
-          private image _ number 1 _ h1 h2 running.code code.at1 refl refl (λ s. (s.reserved, refl)),
-          (
-            h3,
-            private image _ number 2 _ h2 h3 running.code code.at2 refl refl (λ s. (s.reserved, refl)),
-            (
-              h4,
-              private image _ number 3 _ h3 h4 running.code code.at3 refl refl (λ s. (s.reserved, refl)),
-              (
-                h5,
-                private image _ number 4 _ h4 h5 running.code code.at4 refl refl (λ s. (s.reserved, refl)),
-                (
-                  h6,
-                  private image _ number 5 _ h5 h6 running.code code.at5 refl refl (λ s. (s.reserved, refl)),
-                  (
-                    h7,
-                    private image _ number 6 _ h6 h7 running.code code.at6 refl refl (λ s. (s.reserved, lw-hart_id _ number 19 5 20 h6 s refl place-hart_id)),
-                    (
-                      h8,
-                      private image _ number 7 _ h7 h8 running.code code.at7 refl refl (λ s. (s.reserved, lw-harts _ number 20 5 24 h7 s refl place-harts)),
-                      refl,
-                    ),
-                  ),
-                ),
-              ),
-            ),
-          ),
-        ),
-      );
+      hart = h12;
+      runs =
+          (h1, private image t number 0 _ h0 h1 running.code code.at0 refl refl (λ s. (s.reserved, refl)), (h2, private image _ number 1 _ h1 h2 running.code code.at1 refl refl (λ s. (s.reserved, refl)), (h3, private image _ number 2 _ h2 h3 running.code code.at2 refl refl (λ s. (s.reserved, refl)), (h4, private image _ number 3 _ h3 h4 running.code code.at3 refl refl (λ s. (s.reserved, refl)), (h5, private image _ number 4 _ h4 h5 running.code code.at4 refl refl (λ s. (s.reserved, refl)), (h6, private image _ number 5 _ h5 h6 running.code code.at5 refl refl (λ s. (s.reserved, refl)), (h7, private image _ number 6 _ h6 h7 running.code code.at6 refl refl (λ s. (s.reserved, refl)), (h8, private image _ number 7 _ h7 h8 running.code code.at7 refl refl (λ s. (s.reserved, refl)), (h9, private image _ number 8 _ h8 h9 running.code code.at8 refl refl (λ s. (s.reserved, refl)), (h10, private image _ number 9 _ h9 h10 running.code code.at9 refl refl (λ s. (s.reserved, refl)), (h11, private image _ number 10 _ h10 h11 running.code code.at10 refl refl (λ s. (s.reserved, lw-hart_id _ number 19 26 20 h10 s refl place-hart_id)), (h12, private image _ number 11 _ h11 h12 running.code code.at11 refl refl (λ s. (s.reserved, lw-harts _ number 20 26 24 h11 s refl place-harts)), refl))))))))))));
       at = record {
         live = refl;
         at = refl;
@@ -153,6 +130,9 @@ begins image code setting t number running =
           local = refl;
           shared_data = refl;
           private_heap = refl;
+          shared_mask = refl;
+          devices = refl;
+          heap_mask = refl;
           running = record { home = refl; values = tt; privates = λ i e. never e };
           waiting = tt;
           own = λ i lt. absurd (omega arith);
@@ -179,7 +159,7 @@ waiting_kept : (m m' : Memory) (backs : List ℕ) (calls : List Call) → ((j : 
 waiting_kept m m' [] [] same held = tt
 waiting_kept m m' (i ∷ backs) (c ∷ calls) same held = (
   record {
-    code = same (64 * suc (length calls)) (omega arith) ∙ held.0.code;
+    code = ap (λ v. v + 16) (same (64 * suc (length calls)) (omega arith)) ∙ held.0.code;
     frame = same (64 * suc (length calls) + 1) (omega arith) ∙ held.0.frame;
     result = same (64 * suc (length calls) + 2) (omega arith) ∙ held.0.result;
     room = held.0.room;
@@ -207,8 +187,8 @@ push_does image code at setting t p h en =
     let n = length p.runner.has.callers in
     let stands = en.at.stands in
     let h1 = writes h 6 (word_sum (h.registers 0) 5) in
-    let pc : h.pc ≡ 4 * 8 = en.at.at ∙ ap (λ j. 4 * places.block j) en.index in
-    let pc1 : h1.pc ≡ 4 * 9 = omega (arith, pc) in
+    let pc : h.pc ≡ 4 * 12 = en.at.at ∙ ap (λ j. 4 * places.block j) en.index in
+    let pc1 : h1.pc ≡ 4 * 13 = omega (arith, pc) in
     let word = 64 * suc n - 1 in
     let lt = en.ready.in_range.waiting in
     let address : place_of (word_sum (h1.registers 9) 0xfffffffc) ≡ LocalWord word = last_word n lt (h.registers 9) stands.behind in
@@ -223,10 +203,10 @@ push_does image code at setting t p h en =
       few_behind = omega arith;
       does = record {
         committing = h1;
-        runs = (h1, private image t number 8 _ h h1 en.running.code code.at8 pc en.at.live (λ s. (s.reserved, refl)), refl);
+        runs = (h1, private image t number 12 _ h h1 en.running.code code.at12 pc en.at.live (λ s. (s.reserved, refl)), refl);
         commits = record {
           live = en.at.live;
-          counted = ap (count_in image.commits.items) pc1 ∙ code.at9.counted;
+          counted = ap (count_in image.commits.items) pc1 ∙ code.at13.counted;
           does = λ s. inl (record {
             hart = h2;
             store = s;
@@ -234,7 +214,7 @@ push_does image code at setting t p h en =
             part = operations_are_next core 0 pushes (Push 5) setting s p at en.index;
             goes = λ earlier sh shows. (
               _,
-              step_at image 9 1 _ code.at9 _ en.running.code number h1 sh pc1 ∙ sw-local _ number 9 6 0xfffffffc word h1 sh aligned address,
+              step_at image 13 1 _ code.at13 _ en.running.code number h1 sh pc1 ∙ sw-local _ number 9 6 0xfffffffc word h1 sh aligned address,
               record { words = shows.words; output = shows.output; common = shows.common },
               λ j e. refl,
             );
@@ -257,6 +237,9 @@ push_does image code at setting t p h en =
                     local = stands.local;
                     shared_data = stands.shared_data;
                     private_heap = stands.private_heap;
+                    shared_mask = stands.shared_mask;
+                    devices = stands.devices;
+                    heap_mask = stands.heap_mask;
                     running = record { home = stands.running.home; values = values_pushed m' (64 * suc n) 5 (values p.runner.has) en.ready.depth (same_word h.local word _ ∙ five); privates = λ w e. never e };
                     waiting = waiting_kept h.local m' p.runner.left.callers p.runner.has.callers (λ j l. lower_word h.local word _ j (ne_eqb j word (λ e. omega arith))) stands.waiting;
                     own = λ j l. absurd (omega arith);
@@ -274,8 +257,8 @@ drop_does : (image : Image) → HasCode image → StandsOp core 1 drops DropLast
 drop_does image code at setting t p h en =
     let number = number_of p in
     let stands = en.at.stands in
-    let pc : h.pc ≡ 4 * 10 = en.at.at ∙ ap (λ j. 4 * places.block j) en.index in
-    let next_pc : word_sum h.pc 4 ≡ 4 * 11 = omega (arith, pc) in
+    let pc : h.pc ≡ 4 * 14 = en.at.at ∙ ap (λ j. 4 * places.block j) en.index in
+    let next_pc : word_sum h.pc 4 ≡ 4 * 15 = omega (arith, pc) in
     record {
       before = 0;
       behind = 0;
@@ -286,13 +269,13 @@ drop_does image code at setting t p h en =
         runs = refl;
         commits = record {
           live = en.at.live;
-          counted = ap (count_in image.commits.items) pc ∙ code.at10.counted;
+          counted = ap (count_in image.commits.items) pc ∙ code.at14.counted;
           does = λ s. inl (record {
             hart = moves h;
             store = s;
             done = record { acting = done (step_of core 1 drops DropLast p.runner.left.callers) true (drop_last 1 p.runner.has); heap = p.heap };
             part = operations_are_next core 1 drops DropLast setting s p at en.index;
-            goes = λ earlier sh shows. (sh, step_at image 10 1 _ code.at10 _ en.running.code number h sh pc, shows, λ j e. refl);
+            goes = λ earlier sh shows. (sh, step_at image 14 1 _ code.at14 _ en.running.code number h sh pc, shows, λ j e. refl);
             follows = (
               moves h,
               refl,
@@ -312,6 +295,9 @@ drop_does image code at setting t p h en =
                     local = stands.local;
                     shared_data = stands.shared_data;
                     private_heap = stands.private_heap;
+                    shared_mask = stands.shared_mask;
+                    devices = stands.devices;
+                    heap_mask = stands.heap_mask;
                     running = record { home = stands.running.home; values = values_before h.local _ (values p.runner.has) stands.running.values; privates = λ w e. never e };
                     waiting = stands.waiting;
                     own = stands.own;
@@ -329,23 +315,23 @@ halt_does : (image : Image) → HasCode image → StandsOp core 2 halts Halt →
 halt_does image code at setting t p h en =
     let number = number_of p in
     let h1 = writes h 5 0x30000000 in
-    let pc : h.pc ≡ 4 * 11 = en.at.at ∙ ap (λ j. 4 * places.block j) en.index in
-    let pc1 : h1.pc ≡ 4 * 12 = omega (arith, pc) in
+    let pc : h.pc ≡ 4 * 15 = en.at.at ∙ ap (λ j. 4 * places.block j) en.index in
+    let pc1 : h1.pc ≡ 4 * 16 = omega (arith, pc) in
     record {
       before = 1;
       few_before = omega arith;
       does = record {
         committing = h1;
-        runs = (h1, private image t number 11 _ h h1 en.running.code code.at11 pc en.at.live (λ s. (s.reserved, refl)), refl);
+        runs = (h1, private image t number 15 _ h h1 en.running.code code.at15 pc en.at.live (λ s. (s.reserved, refl)), refl);
         commits = record {
           live = en.at.live;
-          counted = ap (count_in image.commits.items) pc1 ∙ code.at12.counted;
+          counted = ap (count_in image.commits.items) pc1 ∙ code.at16.counted;
           does = λ s. inl (record {
             hart = record (moves h1) { ended = true };
             store = s;
             done = record { acting = taking p.runner (Some (step_of core 2 halts Halt p.runner.left.callers)); heap = p.heap };
             part = operations_are_next core 2 halts Halt setting s p at en.index;
-            goes = λ earlier sh shows. (sh, step_at image 12 1 _ code.at12 _ en.running.code number h1 sh pc1 ∙ sw-halt _ number 5 0 12 h1 sh refl place_of-halt, shows, λ j e. refl);
+            goes = λ earlier sh shows. (sh, step_at image 16 1 _ code.at16 _ en.running.code number h1 sh pc1 ∙ sw-halt _ number 5 0 12 h1 sh refl place_of-halt, shows, λ j e. refl);
             follows = (record (moves h1) { ended = true }, refl, refl);
           });
         };

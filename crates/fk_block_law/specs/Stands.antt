@@ -12,7 +12,7 @@ use Rattle.fk_block_law.specs.Owner.{Owner}
 -- what stands in frames
 pub record Frames : Type 0 where
   -- whether a private word of the running call stands in its frame at an index of the list. One that does not is written
-  -- before it is read
+  -- before it is read; those that do where a call begins are its arguments or 0
   pub keeps : (index word : ℕ) → Bool
   -- whether an index lies in `main`
   pub is_main : (index : ℕ) → Bool
@@ -30,8 +30,9 @@ abbrev pub local_address : (word : ℕ) → ℕ
 local_address word = 0x20000000 + 4 * word
 
 -- registers: the addresses of the running call's frame and of the word behind it; `@`, `$` and the size of the group;
--- how many words of the private heap are taken; and three that never change: the address of the local memory, and how many
--- words lie before shared data and before the private heap
+-- how many words of the private heap are taken; and six that never change: the addresses of the local memory, of shared data,
+-- of the private heap and of the devices, and two masks. An address with the mask of shared data is the address of shared data
+-- exactly where it is that of one of its words, and so it is with the private heap
 abbrev pub frame_register : ℕ
 frame_register = 8
 
@@ -58,6 +59,15 @@ shared_register = 23
 
 abbrev pub heap_register : ℕ
 heap_register = 24
+
+abbrev pub shared_mask_register : ℕ
+shared_mask_register = 25
+
+abbrev pub device_register : ℕ
+device_register = 26
+
+abbrev pub heap_mask_register : ℕ
+heap_mask_register = 27
 
 -- the last value lowest
 abbrev pub HasValues : Memory → (behind : ℕ) → List ℕ → Type 0
@@ -90,10 +100,10 @@ module _ (places : Places) where
     pub values : HasValues memory (frame_end waiting) call.values
     pub privates : (i : ℕ) → places.frames.keeps at i ≡ true → memory (frame_start waiting + 8 + i) ≡ call.privates i
 
-  -- the header of a call: where it returns to, the frame of the call that waits there, and the word where that takes the
+  -- the header of a call: an address four words before the one that it returns to, the frame of the call that waits there, and the word where that takes the
   -- result. There is room for it
   pub record Returns (memory : Memory) (waiting back : ℕ) (call : Call) : Type 0 where
-    pub code : memory (frame_start (suc waiting)) ≡ 4 * places.block back
+    pub code : memory (frame_start (suc waiting)) + 16 ≡ 4 * places.block back
     pub frame : memory (frame_start (suc waiting) + 1) ≡ local_address (frame_start waiting)
     pub result : memory (frame_start (suc waiting) + 2) ≡ local_address (frame_end waiting - suc (length call.values))
     pub room : HasRoom places.frames back (suc (length call.values))
@@ -116,8 +126,11 @@ module _ (places : Places) where
     pub size : h.registers size_register ≡ p.runner.has.level.size
     pub top : h.registers top_register ≡ p.runner.has.top
     pub local : h.registers local_register ≡ local_address 0
-    pub shared_data : h.registers shared_register ≡ 0x04000000
-    pub private_heap : h.registers heap_register ≡ 0x08004000
+    pub shared_data : h.registers shared_register ≡ 0x10000000
+    pub private_heap : h.registers heap_register ≡ 0x20010000
+    pub shared_mask : h.registers shared_mask_register ≡ 0xffc00003
+    pub devices : h.registers device_register ≡ 0x30000000
+    pub heap_mask : h.registers heap_mask_register ≡ 0xffff0003
     pub running : HasFrame h.local (length p.runner.has.callers) p.runner.left.at p.runner.has.call
     pub waiting : HasWaiting h.local p.runner.left.callers p.runner.has.callers
     pub own : (i : ℕ) → i < places.frames.of_file → h.local (8 + i) ≡ p.runner.has.own i

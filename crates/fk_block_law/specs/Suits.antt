@@ -1,4 +1,4 @@
--- Lists that suit frames: words are written before they are read, and values have room beside the words that are kept.
+-- Lists that suit frames: words that are read were kept or written, and values have room beside the words that are kept.
 use Rattle.std.specs.Prelude.{◌≡◌, ℕ, suc, ◌+◌, ◌-◌, ◌==◌, ◌<◌, ◌≤◌, List, [], slice_get, Bool, true, false, Some}
 use Rattle.fk_operation.specs.declared.operation.Known.{Known}
 use Rattle.fk_operation.specs.declared.operation.Known.TheVariants.{Value}
@@ -44,15 +44,15 @@ module _ (core : List CoreOp) (frames : Frames) where
     pub main : frames.is_main j ≡ frames.is_main i
     pub kept : (word : ℕ) → frames.keeps j word ≡ true → written word ≡ false → frames.keeps i word ≡ true
 
-  -- a call, which begins at the next index, with a jump: its arguments are its private words, and no others are kept. Behind
-  -- the jump there is room for a result in their place
+  -- a call, which begins at the next index, with a jump. A frame has room for the private words that are kept there: its
+  -- arguments, and others, which begin as 0. Behind the jump there is room for a result in place of the arguments
   pub record Calls (arguments i depth : ℕ) : Type 0 where
     pub entry : CoreOp
     pub stands : slice_get core (suc i) ≡ Some entry
     pub leads : is_jump entry ≡ true
     pub few : arguments ≤ 56
     pub inside : frames.is_main (suc i) ≡ false
-    pub kept : (word : ℕ) → frames.keeps (suc i) word ≡ true → word < arguments
+    pub kept : (word : ℕ) → frames.keeps (suc i) word ≡ true → word < 56
     pub back : Flows nothing i (suc (suc i))
     pub room : HasRoom frames (suc (suc i)) (suc (depth - arguments))
 

@@ -8,4 +8,4 @@ mod certain;
 #[cfg(test)]
 mod tests;
 
-pub use certain::is_certain;
+pub use certain::certificate_of;

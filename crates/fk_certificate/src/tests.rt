@@ -2,11 +2,15 @@
 
 ghost use Rattle.fk_core.specs.Numbers.{HasNumber};
 
-use crate::is_certain;
+use crate::certificate_of;
 use fk_core::CoreOp;
 use fk_num::Op;
 use fk_operation::{Known, Operation, Unary, Variable};
 use std::alloc::{AllocError, Global};
+
+fn is_certain(alloc: Global, ops: &[CoreOp], main: u32, firsts: u32) -> Result<bool, AllocError> {
+    Ok(certificate_of(alloc, ops, main, firsts)?.is_some())
+}
 
 const GLOBAL: u32 = 0x1000_0000;
 
@@ -103,11 +107,12 @@ fn an_address_is_checked(rt: HostRuntime) -> Result<(), AllocError> {
 
 #[test]
 fn frames_suit_a_list(rt: HostRuntime) -> Result<(), AllocError> {
-    // the words of `main` begin with 0, and those of a function that are no arguments are written
-    // before they are read
+    // words begin with 0, in `main` and in a function, where they have room in its frame
     let second = stands(Operation::Get(Known::Value(Variable::Private(1))), 0);
+    let past = stands(Operation::Get(Known::Value(Variable::Private(56))), 0);
     assert!(rt; with(rt.alloc(), 6, second)?);
-    assert!(rt; !with(rt.alloc(), 14, second)?);
+    assert!(rt; with(rt.alloc(), 14, second)?);
+    assert!(rt; !with(rt.alloc(), 14, past)?);
     // a function that halts, and a `main` that returns
     assert!(rt; !with(rt.alloc(), 17, stands(Operation::Halt, 1))?);
     assert!(rt;

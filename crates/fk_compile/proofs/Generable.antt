@@ -7,6 +7,7 @@ use Rattle.fk_core.specs.Next.{is_jump}
 use Rattle.fk_core.specs.Numbers.{operation_of}
 use Rattle.fk_core.specs.WellFormed.{IsOperation, LeadsOn}
 use Rattle.fk_block_law.proofs.Standing.{landing_here}
+use Rattle.fk_kept.specs.declared.set.Set.{Set}
 use Rattle.fk_certificate.specs.Certain.{IsCertain}
 use Rattle.fk_generate.specs.Generable.{IsGenerable}
 
@@ -25,15 +26,16 @@ are_operations core leads i op e f =
     let same : at.op ≡ op = let stands = at.stands in cc in
     subst (λ (x : CoreOp). IsSome (operation_of x.kind x.number)) same (subst IsSome (sym at.is_read) refl)
 
-pub certain_is_generable : (core : List CoreOp) (main : ℕ) (firsts : List ℕ) → IsCertain core main (length firsts)
+pub certain_is_generable : (core : List CoreOp) (kept : List Set) (main : ℕ) (firsts : List ℕ) → IsCertain core kept main (length firsts)
     → All (λ op. (op.site < 2 ^ 32) × (op.number < 2 ^ 32)) core → All (λ v. v < 2 ^ 32) firsts
-    → LeadsOn core → IsGenerable core main firsts
-certain_is_generable core main firsts certain words first_words leads = record {
+    → LeadsOn core → IsGenerable core kept main firsts
+certain_is_generable core kept main firsts certain words first_words leads = record {
   free = certain.free;
   operations = are_operations core leads;
   begins = certain.begins;
   frames = certain.frames;
   suits = certain.suits;
+  keeps = certain.keeps;
   of_file = certain.of_file;
   words = words;
   first_words = first_words;

@@ -8,3 +8,5 @@ pub mod Theorem
 pub mod Made
 -- so it never traps
 pub mod Untrapped
+-- a text that keeps all rules and has a layout can be lowered
+pub mod Lowerable

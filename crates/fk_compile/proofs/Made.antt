@@ -22,6 +22,7 @@ use Rattle.fk_asm.specs.Commits.{IsCommitTable}
 use Rattle.fk_asm.specs.declared.code.Code.{Code}
 use Rattle.fk_block_law.specs.Stands.{Places}
 use Rattle.fk_block_law.specs.Block.{BlockLaw}
+use Rattle.fk_kept.specs.declared.set.Set.{Set}
 use Rattle.fk_certificate.specs.Certain.{IsCertain}
 use Rattle.fk_text.specs.declared.refusal.Refusal.{Refusal}
 use Rattle.fk_text.specs.Refusal.{IsRefused}
@@ -37,16 +38,20 @@ passes_on (Ok a) refusal source same h = tt
 passes_on (Err z) refusal source same h = subst (IsRefused source) (sym same) h
 
 -- the code of a list, of which the parts of a layout are handed over
-pub does_the_list : (core ops : List CoreOp) (main : ℕ) (firsts given : List ℕ) (count globals : ℕ) (code : Code) → ops ≡ core → given ≡ firsts → globals ≡ count
-    → DoesTheList ops main given globals code → DoesTheList core main firsts count code
-does_the_list core ops main firsts given count globals code same_ops same_firsts same_count law =
-    let of_core = subst (λ (list : List CoreOp). DoesTheList list main given globals code) same_ops law in
-    subst (λ (n : ℕ). DoesTheList core main firsts n code) same_count (subst (λ (ws : List ℕ). DoesTheList core main ws globals code) same_firsts of_core)
+pub does_the_list : (core ops : List CoreOp) (kept kept' : List Set) (main : ℕ) (firsts given : List ℕ) (count globals : ℕ) (code : Code) → ops ≡ core → kept' ≡ kept
+    → given ≡ firsts → globals ≡ count → DoesTheList ops kept' main given globals code → DoesTheList core kept main firsts count code
+does_the_list core ops kept kept' main firsts given count globals code same_ops same_kept same_firsts same_count law =
+    let of_core = subst (λ (list : List CoreOp). DoesTheList list kept' main given globals code) same_ops law in
+    let with_kept = subst (λ (sets : List Set). DoesTheList core sets main given globals code) same_kept of_core in
+    subst (λ (n : ℕ). DoesTheList core kept main firsts n code) same_count (subst (λ (ws : List ℕ). DoesTheList core kept main ws globals code) same_firsts with_kept)
 
 -- a list of which code is made
-pub is_generable : (core ops : List CoreOp) (main : ℕ) (firsts given : List ℕ) → ops ≡ core → given ≡ firsts → IsGenerable core main firsts → IsGenerable ops main given
-is_generable core ops main firsts given same_ops same_firsts h =
-    subst (λ (list : List CoreOp). IsGenerable list main given) (sym same_ops) (subst (λ (ws : List ℕ). IsGenerable core main ws) (sym same_firsts) h)
+pub is_generable : (core ops : List CoreOp) (kept kept' : List Set) (main : ℕ) (firsts given : List ℕ) → ops ≡ core → kept' ≡ kept → given ≡ firsts
+    → IsGenerable core kept main firsts → IsGenerable ops kept' main given
+is_generable core ops kept kept' main firsts given same_ops same_kept same_firsts h =
+    let with_firsts = subst (λ (ws : List ℕ). IsGenerable core kept main ws) (sym same_firsts) h in
+    let with_kept = subst (λ (sets : List Set). IsGenerable core sets main given) (sym same_kept) with_firsts in
+    subst (λ (list : List CoreOp). IsGenerable list kept' main given) (sym same_ops) with_kept
 
 -- the sites of a layout, as an image has them
 as_in_image : (all : List (ℕ × Place)) → map in_table (map site all) ≡ map in_image all
@@ -63,12 +68,12 @@ module _ (program : ProgramTree) (facts : Facts) (layout : Layout) (laid : IsLay
       let held = layout.words.ok.0 in
       omega (arith, count, all, few, held)
 
-  module _ (core : List CoreOp) (main : ℕ) (code : Code) (image : Image) where
+  module _ (core : List CoreOp) (kept : List Set) (main : ℕ) (code : Code) (image : Image) where
     -- what the code and the table of sites are, of which the image is put together
     pub record IsPutTogether : Type 0 where
       pub list : IsListFor (tables_by program facts) program core main
-      pub certain : IsCertain core main (length layout.firsts.items)
-      pub blocks : DoesTheList core main layout.firsts.items (vec_len layout.words) code
+      pub certain : IsCertain core kept main (length layout.firsts.items)
+      pub blocks : DoesTheList core kept main layout.firsts.items (vec_len layout.words) code
       pub table : IsCommitTable (vec_len code.words) code.commits.items
       pub some : 1 ≤ vec_len code.words
       pub few : vec_len code.words ≤ 262144
@@ -92,14 +97,14 @@ module _ (program : ProgramTree) (facts : Facts) (layout : Layout) (laid : IsLay
             commits = ap (λ v. v.items) p.has_commits;
             globals_of = let held = layout.words.ok.0 in let same = ap (λ v. length v.items) p.has_globals in omega (arith, held, same);
           } in
-          let given = p.blocks image p.certain.frames has p.certain.suits p.certain.of_file in
+          let given = p.blocks image p.certain.frames has p.certain.suits p.certain.keeps p.certain.of_file in
           let all : Places = record { block = given.0; frames = p.certain.frames } in
           (all, subst (λ (firsts : List ℕ). BlockLaw core image all firsts main) laid.firsts given.1)
 
-      pub is_compiled : IsCompiled program facts core main image
+      pub is_compiled : IsCompiled program facts core kept main image
       is_compiled = record {
         list = p.list;
-        certain = subst (λ (firsts : List ℕ). IsCertain core main (length firsts)) laid.firsts p.certain;
+        certain = subst (λ (firsts : List ℕ). IsCertain core kept main (length firsts)) laid.firsts p.certain;
         places = places.0;
         blocks = places.1;
         firsts_are_words = subst (All (λ w. w < 2 ^ 32)) laid.firsts p.firsts_are_words;

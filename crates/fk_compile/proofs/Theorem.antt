@@ -13,15 +13,16 @@ use Rattle.fk_block_law.specs.Stands.{Places}
 use Rattle.fk_block_law.specs.Block.{BlockLaw}
 use Rattle.fk_simulation.specs.Follows.{Follows}
 use Rattle.fk_simulation.specs.Simulation.{Carries, MachinesFollowPrograms}
+use Rattle.fk_kept.specs.declared.set.Set.{Set}
 use Rattle.fk_certificate.specs.Certain.{IsCertain}
 use Rattle.fk_compile.specs.Lists.{IsListFor}
 use Rattle.fk_compile.specs.Faithful.{in_image, words_by, firsts_by, IsFaithfulTo}
 
-module _ (program : ProgramTree) (facts : Facts) (core : List CoreOp) (main : ℕ) (image : Image) where
+module _ (program : ProgramTree) (facts : Facts) (core : List CoreOp) (kept : List Set) (main : ℕ) (image : Image) where
   -- what the parts of the compiler say of the list and the image
   pub record IsCompiled : Type 0 where
     pub list : IsListFor (tables_by program facts) program core main
-    pub certain : IsCertain core main (length (firsts_by program facts))
+    pub certain : IsCertain core kept main (length (firsts_by program facts))
     pub places : Places
     pub blocks : BlockLaw core image places (firsts_by program facts) main
     pub firsts_are_words : All (λ w. w < 2 ^ 32) (firsts_by program facts)

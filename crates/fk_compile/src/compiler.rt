@@ -11,6 +11,7 @@ use crate::image::{are_words, site_table};
 use crate::list::{certify, list_of};
 use fk_generate::generate;
 use fk_image::Image;
+use fk_lowerable::laws::firsts_are_few;
 use fk_simulation::laws::machines_follow_programs;
 use fk_text::{Refusal, built_text};
 use std::alloc::Global;
@@ -34,8 +35,9 @@ pub fn compile(alloc: Global, source: &[u8]) -> Result<Image, Refusal>
     let list = list_of(alloc, &text)?;
     let layout = text.layout;
     let globals = layout.words.len() as u32;
-    certify(alloc, &list, &layout.firsts)?;
-    let code = generate(alloc, &list.ops, list.main, &layout.firsts, globals).map_err(
+    firsts_are_few();
+    let kept = certify(alloc, &list, &layout.firsts)?;
+    let code = generate(alloc, &list.ops, &kept, list.main, &layout.firsts, globals).map_err(
         Refusal::Memory,
     )?;
     let sites = site_table(alloc, &layout.sites).map_err(Refusal::Memory)?;

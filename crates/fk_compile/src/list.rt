@@ -1,12 +1,13 @@
 //! The flat list of a text, and whether it is certain that its code does what it does.
 
-ghost use Rattle.std.specs.Prelude.{◌≡◌, ◌<◌, ◌≤◌, ◌^◌, ℕ, All, List as Listed, IfErr, IfOk, OnOk, alloc_error, length, sum_by};
+ghost use Rattle.std.specs.Prelude.{◌≡◌, ◌<◌, ◌≤◌, ◌^◌, ℕ, All, List as Listed, IfErr, IfOk, alloc_error, length, sum_by};
 ghost use Rattle.fk_syntax.specs.Program.{ProgramTree};
 ghost use Rattle.fk_syntax.specs.ProgramView.{program_of};
 ghost use Rattle.fk_syntax.specs.WellFormed.{IsWellFormed};
 ghost use Rattle.fk_walk.specs.Known.{IsSound, tables_of};
 ghost use Rattle.fk_layout.specs.Layout.{IsLayout, tables_by};
-ghost use Rattle.fk_lower_text.specs.Lowered.{IsLowerable};
+ghost use Rattle.fk_layout.specs.Refusal.{Fits};
+ghost use Rattle.fk_lower_text.specs.Lowered.{IsLowerable, HasSites};
 ghost use Rattle.fk_core.specs.WellFormed.{LeadsOn};
 ghost use Rattle.fk_certificate.specs.Certain.{IsCertain};
 ghost use Rattle.fk_generate.specs.Generable.{IsGenerable, most_words};
@@ -15,20 +16,21 @@ ghost use Rattle.fk_text.specs.Text.{IsChecked};
 ghost use Rattle.fk_compile.specs.Lists.{IsListFor};
 
 use crate::image::are_words;
-use fk_certificate::is_certain;
+use fk_certificate::certificate_of;
 use fk_core::CoreOp;
-use fk_generate::is_small;
+use fk_fitting::laws::correct_programs_fit;
+use fk_kept::Set;
 use fk_lookup::Lookup;
 use fk_lower::LowerFault;
 use fk_lower_text::{entry_of_main, lower_text};
+use fk_lowerable::laws::lists_are_small;
 use fk_numbers::laws::texts_have_words;
+use fk_parsed::laws::texts_are_trim;
+use fk_room::laws::numbers_have_room;
+use fk_shapes::laws::forms_are_shaped;
 use fk_text::{Built, Refusal, known_of};
 use fk_walk::Known;
-use fk_whole::operations_have_room;
 use std::alloc::{AllocError, Global};
-
-/// How many private variables of file scope a frame has room for.
-const MOST_FIRSTS: usize = 56;
 
 /// The flat list of a text, and the index where its `main` begins.
 #[derive(Drop)]
@@ -49,6 +51,8 @@ fn lowered(alloc: Global, known: &Known) -> Result<List, Refusal>
     requires { IsSound known.now }
     ensures list { (program : ProgramTree) → IsLowerable known.now program
         → IfOk result (λ list. IsListFor (tables_of known.now) program list.ops.items list.main) }
+    ensures sites { (program : ProgramTree) → IsLowerable known.now program
+        → IfOk result (λ list. HasSites known.now list.ops.items) }
     ensures refused { IfErr result (λ refusal. (source : Listed ℕ) → IsRefused source refusal) }
 {
     match lower_text(alloc, known) {
@@ -64,23 +68,30 @@ fn lowered(alloc: Global, known: &Known) -> Result<List, Refusal>
     }
 }
 
-/// The list of a text that keeps all rules.
+/// The list of a text that keeps all rules and has a layout.
 pub(crate) fn list_of(alloc: Global, text: &Built) -> Result<List, Refusal>
+    requires checked { (source : Listed ℕ)
+        × IsChecked source (program_of text.now.tree) text.now.facts }
     requires laid { IsLayout (program_of text.now.tree) text.now.facts text.now.layout }
+    requires fits { Fits (tables_by (program_of text.now.tree) text.now.facts)
+        (program_of text.now.tree).items }
     requires well_formed { IsWellFormed (program_of text.now.tree) }
-    requires small { text.now.tree.tokens ≤ 2 ^ 20 }
-    ensures list { (source : Listed ℕ) → IsChecked source (program_of text.now.tree) text.now.facts
-        → IfOk result (λ list. IsListFor (tables_by (program_of text.now.tree) text.now.facts)
+    requires tokens { text.now.tree.tokens ≤ 2 ^ 20 }
+    ensures list { IfOk result
+        (λ list. IsListFor (tables_by (program_of text.now.tree) text.now.facts)
         (program_of text.now.tree) list.ops.items list.main) }
+    ensures small { IfOk result (λ list. sum_by most_words list.ops.items ≤ 256000) }
     ensures refused { IfErr result (λ refusal. (source : Listed ℕ) → IsRefused source refusal) }
 {
     let bare = known_of(&text.tree, &text.facts, &text.layout);
     let lookup = Lookup::of(alloc, &bare).map_err(Refusal::Memory)?;
     let known = lookup.complete(bare);
     texts_have_words();
-    if !operations_have_room(&known) {
-        return Err(uncertain());
-    }
+    texts_are_trim();
+    correct_programs_fit();
+    forms_are_shaped();
+    lists_are_small();
+    numbers_have_room();
     lowered(alloc, &known)
 }
 
@@ -101,22 +112,20 @@ fn have_words(ops: &[CoreOp])
     }
 }
 
-/// That code is made of a list, with the first values of private variables of file scope, and that
-/// it is certain that the code does what the list does.
-pub(crate) fn certify(alloc: Global, list: &List, firsts: &[u32]) -> Result<(), Refusal>
-    ensures certain { OnOk result (IsCertain list.now.ops.items list.now.main (length firsts.now)) }
-    ensures generable { OnOk result (LeadsOn list.now.ops.items → IsGenerable list.now.ops.items list.now.main firsts.now) }
-    ensures small { OnOk result (sum_by most_words list.now.ops.items ≤ 256000) }
+/// The private words that calls keep at each index of a list, where it is certain that the code does
+/// what the list does. Code is made of it, with the first values of private variables of file scope.
+pub(crate) fn certify(alloc: Global, list: &List, firsts: &[u32]) -> Result<Vec<Set>, Refusal>
+    requires few { length firsts.now ≤ 56 }
+    ensures certain { IfOk result (λ kept. IsCertain list.now.ops.items kept.items list.now.main (length firsts.now)) }
+    ensures generable { IfOk result (λ kept. LeadsOn list.now.ops.items
+        → IsGenerable list.now.ops.items kept.items list.now.main firsts.now) }
     ensures refused { IfErr result (λ refusal. (source : Listed ℕ) → IsRefused source refusal) }
 {
-    if firsts.len() > MOST_FIRSTS || !is_small(&list.ops) {
-        return Err(uncertain());
-    }
     have_words(&list.ops);
     are_words(firsts);
-    match is_certain(alloc, &list.ops, list.main, firsts.len() as u32) {
-        Ok(true) => Ok(()),
-        Ok(false) => Err(uncertain()),
+    match certificate_of(alloc, &list.ops, list.main, firsts.len() as u32) {
+        Ok(Some(kept)) => Ok(kept),
+        Ok(None) => Err(uncertain()),
         Err(error) => Err(Refusal::Memory(error)),
     }
 }

@@ -31,7 +31,8 @@ use Rattle.fk_block_law.proofs.Standing.{operations_are_next}
 use Rattle.fk_asm.specs.Block.{MarkedLine}
 use Rattle.fk_gen.specs.Lines.{commits}
 use Rattle.fk_gen.specs.InPlace.{LinesAt, HasBlock}
-use Rattle.fk_gen.proofs.Walk.{told_of, Reached, after, CanRun, can_run_goes, can_run_goes_on, Quiets, quiet_lines, walk, CanWalk, walked, lines_split}
+use Rattle.fk_gen.specs.Keeps.{DoesAnd}
+use Rattle.fk_gen.proofs.Walk.{told_of, Reached, after, CanRun, can_run_goes, can_run_goes_on, Quiets, quiet_lines, walk, CanWalk, walked}
 
 pub quiet_length : (ls : Quiets) → length (quiet_lines ls) ≡ length ls
 quiet_length [] = refl
@@ -68,13 +69,11 @@ module _ (core : List CoreOp) (image : Image) (places : Places) where
       → (behind : ℕ) → behind ≤ most_behind → (h' : Hart)
       → RunsPrivately image (later t) (number_of p) behind (after (told_of t (number_of p)) first r h) h'
       → StandsAt places (owner_of (local_doing setting i op operation p)) h'
-      → Does core image places setting t p h
-  local_does_by setting t i op operation p h stands kind en first r at can behind few h' runs stands' =
+      → (Also : Hart → Type 0) → Also h' → DoesAnd core image places setting t p h 0 behind Also
+  local_does_by setting t i op operation p h stands kind en first r at can behind few h' runs stands' Also also =
       let number = number_of p in
       let pc : h.pc ≡ 4 * places.block i = en.at.at ∙ ap (λ j. 4 * places.block j) en.index in
       record {
-        before = 0;
-        behind = behind;
         few_before = omega arith;
         few_behind = few;
         does = record {
@@ -95,7 +94,7 @@ module _ (core : List CoreOp) (image : Image) (places : Places) where
                     record { words = shows.words; output = shows.output; common = shows.common },
                     λ j e. refl,
                   );
-              follows = (h', runs, record { done = refl; at = stands' });
+              follows = (h', runs, (record { done = refl; at = stands' }, also));
             });
           };
         };
@@ -119,8 +118,8 @@ module _ (core : List CoreOp) (image : Image) (places : Places) where
       → length rest ≤ most_behind → CanWalk (told_of t (number_of p)) ((first, r) ∷ rest) h
       → (follows core operation i op.target p.runner.left.callers (is_onward operation p.runner.has)).at ≡ suc i
       → StandsFor places (owner_of (local_doing setting i op operation p)) (walk (told_of t (number_of p)) ((first, r) ∷ rest) h)
-      → Does core image places setting t p h
-  local_does bound setting t i op operation p h stands kind en first r rest has few can on stands' =
+      → (Also : Hart → Type 0) → Also (walk (told_of t (number_of p)) ((first, r) ∷ rest) h) → DoesAnd core image places setting t p h 0 (length rest) Also
+  local_does bound setting t i op operation p h stands kind en first r rest has few can on stands' Also also =
       let number = number_of p in
       let told = told_of t number in
       let h1 = after told first r h in
@@ -133,7 +132,7 @@ module _ (core : List CoreOp) (image : Image) (places : Places) where
       let after-all : places.block (suc i) ≡ places.block i + suc (length (quiet_lines rest)) = has.next in
       let next : places.block (suc i) ≡ suc (places.block i) + length rest = omega arith in
       let w = walks_on bound (later t) number i (suc (places.block i)) rest (owner_of (local_doing setting i op operation p)) h1 en.running.code has.lines.1 pc1 (goes.1 ∙ en.at.live) can.1 next on stands' in
-      local_does_by setting t i op operation p h stands kind en first r has.lines.0 can.0 (length rest) few (walk told rest h1) w.0 w.1
+      local_does_by setting t i op operation p h stands kind en first r has.lines.0 can.0 (length rest) few (walk told rest h1) w.0 w.1 Also also
 
   -- ---- requests
 
@@ -144,7 +143,7 @@ module _ (core : List CoreOp) (image : Image) (places : Places) where
     heap = store.heaps (number_of p);
   }
 
-  asks : (setting : Setting) (i : ℕ) (op : CoreOp) (operation : Operation) (s : Commons) (p : Owner) → StandsOp core i op operation
+  pub asks : (setting : Setting) (i : ℕ) (op : CoreOp) (operation : Operation) (s : Commons) (p : Owner) → StandsOp core i op operation
       → class_of operation ≡ Request → p.runner.left.at ≡ i
       → part core setting 1 s p
       ≡ as_part (number_of p) (answered (step_of core i op operation p.runner.left.callers) p.runner.has (serve (request operation p.runner.has) (found s p.heap) (number_of p)))
@@ -173,7 +172,7 @@ module _ (core : List CoreOp) (image : Image) (places : Places) where
 
   -- from hart h1 an instruction serves the request of a processor on a store, and the hart runs privately to where its
   -- processor goes on
-  pub record ServesRequest (setting : Setting) (t : MachineSetting) (i : ℕ) (op : CoreOp) (operation : Operation) (p : Owner) (c : Instruction) (behind : ℕ) (h1 : Hart) (s : Commons) : Type 0 where
+  pub record ServesRequest (setting : Setting) (t : MachineSetting) (i : ℕ) (op : CoreOp) (operation : Operation) (p : Owner) (c : Instruction) (behind : ℕ) (h1 : Hart) (Also : Hart → Type 0) (s : Commons) : Type 0 where
     pub hart : Hart
     pub store : Store
     pub answer : ℕ
@@ -184,6 +183,7 @@ module _ (core : List CoreOp) (image : Image) (places : Places) where
     pub end : Hart
     pub runs : RunsPrivately image (later t) (number_of p) behind hart end
     pub at : StandsAt places (owner_of (request_doing i op operation p store answer)) end
+    pub also : Also end
 
   -- or it is refused, and the instruction is its fault
   pub record RefusesRequest (setting : Setting) (t : MachineSetting) (op : CoreOp) (operation : Operation) (p : Owner) (c : Instruction) (h1 : Hart) (s : Commons) : Type 0 where
@@ -192,24 +192,22 @@ module _ (core : List CoreOp) (image : Image) (places : Places) where
     pub stops : (earlier : List ℕ) (sh : Shared) → Shows (core_source core setting) earlier sh s
         → perform t (number_of p) c h1 sh ≡ Stops (Faulted op.site (number_of p))
 
-  abbrev pub Answers : Setting → MachineSetting → (i : ℕ) → CoreOp → Operation → Owner → Instruction → (behind : ℕ) → Hart → Commons → Type 0
-  Answers setting t i op operation p c behind h1 s =
-      ServesRequest setting t i op operation p c behind h1 s ⊎ RefusesRequest setting t op operation p c h1 s
+  abbrev pub Answers : Setting → MachineSetting → (i : ℕ) → CoreOp → Operation → Owner → Instruction → (behind : ℕ) → Hart → (Also : Hart → Type 0) → Commons → Type 0
+  Answers setting t i op operation p c behind h1 Also s =
+      ServesRequest setting t i op operation p c behind h1 Also s ⊎ RefusesRequest setting t op operation p c h1 s
 
   -- a request that commits after private instructions
   pub request_does_by : (setting : Setting) (t : MachineSetting) (i : ℕ) (op : CoreOp) (operation : Operation) (p : Owner) (h : Hart)
       → StandsOp core i op operation → class_of operation ≡ Request → Enters core image places setting t i op operation p h
       → (before behind : ℕ) → before ≤ most_before → behind ≤ most_behind → (h1 : Hart) → RunsPrivately image t (number_of p) before h h1
       → (k : ℕ) (c : Instruction) → IsAt image k c 1 → h1.pc ≡ 4 * k → h1.ended ≡ false
-      → ((s : Commons) → Answers setting (in_cycles before t) i op operation p c behind h1 s)
-      → Does core image places setting t p h
-  request_does_by setting t i op operation p h stands kind en before behind few_before few_behind h1 runs k c at pc live answers =
+      → (Also : Hart → Type 0) → ((s : Commons) → Answers setting (in_cycles before t) i op operation p c behind h1 Also s)
+      → DoesAnd core image places setting t p h before behind Also
+  request_does_by setting t i op operation p h stands kind en before behind few_before few_behind h1 runs k c at pc live Also answers =
       let number = number_of p in
       let t1 = in_cycles before t in
       let holds = holds_in_cycles image before t en.running.code in
       record {
-        before = before;
-        behind = behind;
         few_before = few_before;
         few_behind = few_behind;
         does = record {
@@ -228,7 +226,7 @@ module _ (core : List CoreOp) (image : Image) (places : Places) where
                   goes = λ earlier sh shows.
                       let g = y.goes earlier sh shows in
                       (g.0, step_at image k 1 c at t1 holds number h1 sh pc ∙ g.1, g.2, λ j e. g.3 j);
-                  follows = (y.end, y.runs, record { done = refl; at = y.at });
+                  follows = (y.end, y.runs, (record { done = refl; at = y.at }, y.also));
                 }))
                 (λ n. inr (record {
                   site = op.site;
@@ -240,65 +238,35 @@ module _ (core : List CoreOp) (image : Image) (places : Places) where
         };
       }
 
-  -- one whose lines run straight on to the next block: quiet ones, one that commits, and quiet ones. What it comes to is told
-  -- by the hart behind the one that commits
-  pub record ServesStraight (setting : Setting) (t : MachineSetting) (i : ℕ) (op : CoreOp) (operation : Operation) (p : Owner) (c : Instruction) (rest : Quiets) (h1 : Hart) (s : Commons) : Type 0 where
-    pub hart : Hart
-    pub store : Store
-    pub answer : ℕ
-    pub served : serve (request operation p.runner.has) (found s p.heap) (number_of p) ≡ Served store answer
-    pub goes : (earlier : List ℕ) (sh : Shared) → Shows (core_source core setting) earlier sh s
-        → (sh' : Shared) × (perform t (number_of p) c h1 sh ≡ Goes hart sh') × Shows (core_source core setting) earlier sh' (commons_of store)
-        × ((j : ℕ) → sh'.control j ≡ sh.control j)
-    pub pc : hart.pc ≡ word_sum h1.pc 4
-    pub live : hart.ended ≡ false
-    pub can : CanWalk (told_of t (number_of p)) rest hart
-    pub stands : StandsFor places (owner_of (request_doing i op operation p store answer)) (walk (told_of t (number_of p)) rest hart)
+  -- ---- without what holds more
 
-  pub request_does : (bound : ℕ → ℕ) (setting : Setting) (t : MachineSetting) (i : ℕ) (op : CoreOp) (operation : Operation) (p : Owner) (h : Hart)
-      → StandsOp core i op operation → class_of operation ≡ Request → Enters core image places setting t i op operation p h
-      → (ps : Quiets) (c : Instruction) (rest : Quiets) → HasBlock image bound places i (quiet_lines ps ++ commits c ∷ quiet_lines rest)
-      → length ps ≤ most_before → length rest ≤ most_behind → CanWalk (told_of t (number_of p)) ps h
-      → (follows core operation i op.target p.runner.left.callers true).at ≡ suc i
-      → ((s : Commons)
-      → ServesStraight setting (in_cycles (length ps) t) i op operation p c rest (walk (told_of t (number_of p)) ps h) s
-      ⊎ RefusesRequest setting (in_cycles (length ps) t) op operation p c (walk (told_of t (number_of p)) ps h) s)
+  pub does_of : (setting : Setting) (t : MachineSetting) (p : Owner) (h : Hart) (before behind : ℕ) (Also : Hart → Type 0) → DoesAnd core image places setting t p h before behind Also
       → Does core image places setting t p h
-  request_does bound setting t i op operation p h stands kind en ps c rest has few_before few_behind can on answers =
-      let number = number_of p in
-      let told = told_of t number in
-      let h1 = walk told ps h in
-      let t1 = in_cycles (length ps) t in
-      let holds = holds_in_cycles image (length ps) t en.running.code in
-      let pc : h.pc ≡ 4 * places.block i = en.at.at ∙ ap (λ j. 4 * places.block j) en.index in
-      let lines = lines_split image bound (places.block i) (quiet_lines ps) (commits c ∷ quiet_lines rest) has.lines in
-      let n = quiet_length ps in
-      let m = quiet_length rest in
-      let w = walked image bound t number en.running.code ps (places.block i) h lines.0 pc en.at.live can in
-      let k = places.block i + length (quiet_lines ps) in
-      let at = lines.1.0 in
-      let within = at.within in
-      let w-pc = w.pc in
-      let pc1 : h1.pc ≡ 4 * k = omega arith in
-      let whole = length_both (quiet_lines ps) (commits c) (quiet_lines rest) in
-      let has-next = has.next in
-      let next : places.block (suc i) ≡ suc k + length rest = omega arith in
-      request_does_by setting t i op operation p h stands kind en (length ps) (length rest) few_before few_behind h1 w.runs k c at pc1 w.live
-      (λ s.
-      ⊎_elim
-      (λ y.
-      let y-pc = y.pc in
-      let pc2 : y.hart.pc ≡ 4 * suc k = omega arith in
-      let on' = walks_on bound (later t1) number i (suc k) rest (owner_of (request_doing i op operation p y.store y.answer)) y.hart holds lines.1.1 pc2 y.live y.can next on y.stands in
-      inl (record {
-        hart = y.hart;
-        store = y.store;
-        answer = y.answer;
-        served = y.served;
-        goes = y.goes;
-        end = walk (told_of t1 number) rest y.hart;
-        runs = on'.0;
-        at = on'.1;
-      }))
-      inr
-      (answers s))
+  does_of setting t p h before behind Also does =
+      let one = does.does in
+      record {
+        before = before;
+        behind = behind;
+        few_before = does.few_before;
+        few_behind = does.few_behind;
+        does = record {
+          committing = one.committing;
+          runs = one.runs;
+          commits = record {
+            live = one.commits.live;
+            counted = one.commits.counted;
+            does = λ s.
+                ⊎_elim
+                (λ v. inl (record {
+                  hart = v.hart;
+                  store = v.store;
+                  done = v.done;
+                  part = v.part;
+                  goes = v.goes;
+                  follows = (v.follows.0, v.follows.1, v.follows.2.0);
+                }))
+                inr
+                (one.commits.does s);
+          };
+        };
+      }

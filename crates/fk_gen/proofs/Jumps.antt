@@ -1,5 +1,5 @@
 -- Jumps and branches in their places.
-use Rattle.std.proofs.Common.{◌≡◌, ℕ, ◌*◌, ◌/◌, ◌%◌, ◌^◌, ◌<◌, ◌≤◌, true, false, ap, ◌∙◌, arith, eq-eqb}
+use Rattle.std.proofs.Common.{◌≡◌, ℕ, ◌*◌, ◌/◌, ◌%◌, ◌≤◌, true, false, ap, ◌∙◌, arith, eq-eqb}
 use Rattle.std.specs.Prelude.{◌==◌}
 use Rattle.fk_num.specs.Word.{word_sum}
 use Rattle.fk_image.specs.declared.Image.{Image}
@@ -49,14 +49,6 @@ jal_private image bound t number k rd label h holds at near pc live =
     private image t number k (Jal rd imm) h (jumps h rd (4 * bound label)) holds at pc live
     (λ s. (s.reserved, jal_goes t number rd imm (4 * bound label) h s e aligned))
 
--- `jalr` to an address of a word
-pub jalr_private : (image : Image) (t : Setting) (number k rd rs target : ℕ) (h : Hart) → Holds image t
-    → IsAt image k (Jalr rd rs 0) 0 → h.registers rs ≡ 4 * target → target < 2 ^ 30 → h.pc ≡ 4 * k → h.ended ≡ false
-    → IsPrivateIn image t number h (jumps h rd (4 * target))
-jalr_private image t number k rd rs target h holds at e small pc live =
-    private image t number k (Jalr rd rs 0) h (jumps h rd (4 * target)) holds at pc live
-    (λ s. (s.reserved, jalr_goes t number rd rs 0 (4 * target) h s (omega arith) (omega arith)))
-
 -- the hart behind a branch
 abbrev pub goes_to_pc : Hart → (target : ℕ) → Hart
 goes_to_pc h target = record h { pc = target }
@@ -77,25 +69,25 @@ beq_on_goes : (t : Setting) (number a b imm : ℕ) (h : Hart) (s : Shared) → (
     → perform t number (Beq a b imm) h s ≡ Goes (goes_to_pc h (word_sum h.pc 4)) s
 beq_on_goes t number a b imm h s e = rw e
 
--- a branch over the next instruction
-pub bne_taken : (image : Image) (t : Setting) (number k a b : ℕ) (h : Hart) → Holds image t → IsAt image k (Bne a b 8) 0 → h.pc ≡ 4 * k → h.ended ≡ false
-    → (h.registers a == h.registers b) ≡ false → IsPrivateIn image t number h (goes_to_pc h (word_sum h.pc 8))
-bne_taken image t number k a b h holds at pc live e =
-    private image t number k (Bne a b 8) h (goes_to_pc h (word_sum h.pc 8)) holds at pc live
-    (λ s. (s.reserved, bne_taken_goes t number a b 8 h s e (eq-eqb _ 0 (omega arith))))
+-- a branch that goes as far, and one that goes on
+pub bne_taken : (image : Image) (t : Setting) (number k a b imm : ℕ) (h : Hart) → Holds image t → IsAt image k (Bne a b imm) 0 → h.pc ≡ 4 * k → h.ended ≡ false
+    → (h.registers a == h.registers b) ≡ false → word_sum h.pc imm % 4 ≡ 0 → IsPrivateIn image t number h (goes_to_pc h (word_sum h.pc imm))
+bne_taken image t number k a b imm h holds at pc live e aligned =
+    private image t number k (Bne a b imm) h (goes_to_pc h (word_sum h.pc imm)) holds at pc live
+    (λ s. (s.reserved, bne_taken_goes t number a b imm h s e (eq-eqb _ 0 aligned)))
 
-pub bne_on : (image : Image) (t : Setting) (number k a b : ℕ) (h : Hart) → Holds image t → IsAt image k (Bne a b 8) 0 → h.pc ≡ 4 * k → h.ended ≡ false
+pub bne_on : (image : Image) (t : Setting) (number k a b imm : ℕ) (h : Hart) → Holds image t → IsAt image k (Bne a b imm) 0 → h.pc ≡ 4 * k → h.ended ≡ false
     → (h.registers a == h.registers b) ≡ true → IsPrivateIn image t number h (goes_to_pc h (word_sum h.pc 4))
-bne_on image t number k a b h holds at pc live e =
-    private image t number k (Bne a b 8) h (goes_to_pc h (word_sum h.pc 4)) holds at pc live (λ s. (s.reserved, bne_on_goes t number a b 8 h s e))
+bne_on image t number k a b imm h holds at pc live e =
+    private image t number k (Bne a b imm) h (goes_to_pc h (word_sum h.pc 4)) holds at pc live (λ s. (s.reserved, bne_on_goes t number a b imm h s e))
 
-pub beq_taken : (image : Image) (t : Setting) (number k a b : ℕ) (h : Hart) → Holds image t → IsAt image k (Beq a b 8) 0 → h.pc ≡ 4 * k → h.ended ≡ false
-    → (h.registers a == h.registers b) ≡ true → IsPrivateIn image t number h (goes_to_pc h (word_sum h.pc 8))
-beq_taken image t number k a b h holds at pc live e =
-    private image t number k (Beq a b 8) h (goes_to_pc h (word_sum h.pc 8)) holds at pc live
-    (λ s. (s.reserved, beq_taken_goes t number a b 8 h s e (eq-eqb _ 0 (omega arith))))
+pub beq_taken : (image : Image) (t : Setting) (number k a b imm : ℕ) (h : Hart) → Holds image t → IsAt image k (Beq a b imm) 0 → h.pc ≡ 4 * k → h.ended ≡ false
+    → (h.registers a == h.registers b) ≡ true → word_sum h.pc imm % 4 ≡ 0 → IsPrivateIn image t number h (goes_to_pc h (word_sum h.pc imm))
+beq_taken image t number k a b imm h holds at pc live e aligned =
+    private image t number k (Beq a b imm) h (goes_to_pc h (word_sum h.pc imm)) holds at pc live
+    (λ s. (s.reserved, beq_taken_goes t number a b imm h s e (eq-eqb _ 0 aligned)))
 
-pub beq_on : (image : Image) (t : Setting) (number k a b : ℕ) (h : Hart) → Holds image t → IsAt image k (Beq a b 8) 0 → h.pc ≡ 4 * k → h.ended ≡ false
+pub beq_on : (image : Image) (t : Setting) (number k a b imm : ℕ) (h : Hart) → Holds image t → IsAt image k (Beq a b imm) 0 → h.pc ≡ 4 * k → h.ended ≡ false
     → (h.registers a == h.registers b) ≡ false → IsPrivateIn image t number h (goes_to_pc h (word_sum h.pc 4))
-beq_on image t number k a b h holds at pc live e =
-    private image t number k (Beq a b 8) h (goes_to_pc h (word_sum h.pc 4)) holds at pc live (λ s. (s.reserved, beq_on_goes t number a b 8 h s e))
+beq_on image t number k a b imm h holds at pc live e =
+    private image t number k (Beq a b imm) h (goes_to_pc h (word_sum h.pc 4)) holds at pc live (λ s. (s.reserved, beq_on_goes t number a b imm h s e))

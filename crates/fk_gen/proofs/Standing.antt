@@ -66,7 +66,7 @@ waiting_kept places m m' [] [] few same held = tt
 waiting_kept places m m' (i ∷ backs) (c ∷ calls) few same held =
     let n = length calls in (
       record {
-        code = same (64 * suc n) (omega arith) (omega arith) ∙ held.0.code;
+        code = ap (λ v. v + 16) (same (64 * suc n) (omega arith) (omega arith)) ∙ held.0.code;
         frame = same (64 * suc n + 1) (omega arith) (omega arith) ∙ held.0.frame;
         result = same (64 * suc n + 2) (omega arith) (omega arith) ∙ held.0.result;
         room = held.0.room;
@@ -113,6 +113,7 @@ SameRegisters h h' =
     (h'.registers 0 ≡ h.registers 0) × (h'.registers 8 ≡ h.registers 8) × (h'.registers 9 ≡ h.registers 9)
     × (h'.registers 18 ≡ h.registers 18) × (h'.registers 19 ≡ h.registers 19) × (h'.registers 20 ≡ h.registers 20)
     × (h'.registers 22 ≡ h.registers 22) × (h'.registers 23 ≡ h.registers 23) × (h'.registers 24 ≡ h.registers 24)
+    × (h'.registers 25 ≡ h.registers 25) × (h'.registers 26 ≡ h.registers 26) × (h'.registers 27 ≡ h.registers 27)
 
 -- a hart that keeps them stands for a processor of the same level, with as many calls waiting, that it has in memory
 pub stands_with : (places : Places) (p p' : Owner) (h h' : Hart) → StandsFor places p h → SameRegisters h h'
@@ -129,6 +130,9 @@ stands_with places p p' h h' s r level calls top m = record {
   local = r.6 ∙ s.local;
   shared_data = r.7 ∙ s.shared_data;
   private_heap = r.8 ∙ s.private_heap;
+  shared_mask = r.9 ∙ s.shared_mask;
+  devices = r.10 ∙ s.devices;
+  heap_mask = r.11 ∙ s.heap_mask;
   running = m.running;
   waiting = m.waiting;
   own = m.own;

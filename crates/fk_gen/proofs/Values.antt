@@ -1,6 +1,7 @@
 -- Values in frames, the addresses of values and variables, and numbers of two parts.
-use Rattle.std.proofs.Common.{◌≡◌, ℕ, zero, suc, ◌+◌, ◌-◌, ◌*◌, ◌%◌, ◌<◌, ◌≤◌, List, [], ◌∷◌, length, ap, subst, ◌∙◌, arith, refl, ◌⊎◌, inl, inr, eq-eqb}
-use Rattle.std.proofs.lemmas.Bool.{cases_lt, lt-ltb, le-ltb, ne_eqb}
+use Rattle.std.proofs.Common.{◌≡◌, ℕ, zero, suc, ◌+◌, ◌-◌, ◌*◌, ◌%◌, ◌<◌, ◌≤◌, List, [], ◌∷◌, length, ap, subst, ◌∙◌, arith, refl, sym, true, ◌⊎◌, inl, inr, eq-eqb}
+use Rattle.std.specs.Prelude.{◌==◌}
+use Rattle.std.proofs.lemmas.Bool.{cases_lt, lt-ltb, le-ltb, ne_eqb, eqb-true}
 use Rattle.fk_num.specs.Word.{Memory, put, word, word_sum}
 use Rattle.fk_run.specs.Processor.{last, before}
 use Rattle.fk_run.specs.Local.{joined}
@@ -89,3 +90,7 @@ number_of_parts n = split n (cases_lt (n % 4096) 2048)
     split : (n : ℕ) → ((n % 4096 < 2048) ⊎ (2048 ≤ n % 4096)) → word_sum (high_part n * 4096) (low_part n) ≡ word n
     split n (inl lt) = rw (lt-ltb (n % 4096) 2048 lt) (omega arith)
     split n (inr le) = rw (le-ltb (n % 4096) 2048 le) (omega arith)
+
+-- one whose upper part is 0 is the lower one
+pub number_of_low_part : (n : ℕ) → (high_part n == 0) ≡ true → word_sum 0 (low_part n) ≡ word n
+number_of_low_part n e = ap (λ v. word_sum (v * 4096) (low_part n)) (sym (eqb-true (high_part n) 0 e)) ∙ number_of_parts n

@@ -1,3 +1,4 @@
 pub mod Registers
 pub mod Lines
 pub mod InPlace
+pub mod Keeps

@@ -1,12 +1,14 @@
 -- The lines of blocks, and what stands in them.
-use Rattle.std.specs.Prelude.{ℕ, ◌+◌, ◌-◌, ◌*◌, ◌/◌, ◌%◌, ◌^◌, List, [], ◌∷◌, Bool, true, false, Option, Some, None, IfSome}
+use Rattle.std.specs.Prelude.{ℕ, ◌+◌, ◌-◌, ◌*◌, ◌/◌, ◌%◌, ◌^◌, ◌==◌, List, [], ◌∷◌, Bool, true, false, Option, Some, None, IfSome}
 use Rattle.fk_isa.specs.declared.instruction.Instruction.{Instruction}
+use Rattle.fk_isa.specs.declared.instruction.Instruction.TheVariants.{Lui, Addi}
 use Rattle.fk_isa.specs.Bits.{extended}
 use Rattle.fk_isa.specs.Fits.{Fits}
 use Rattle.fk_asm.specs.Jump.{IsJump}
 use Rattle.fk_asm.specs.Assembly.{straight, jump_to}
 use Rattle.fk_asm.specs.Block.{MarkedLine, plain, committing}
 use Rattle.fk_gen.specs.declared.block_line.BlockLine.{BlockLine}
+use Rattle.fk_gen.specs.Registers.{zero_register, t0}
 
 -- the line of an instruction that does no operation
 abbrev pub quiet : Instruction → MarkedLine
@@ -55,12 +57,24 @@ high_part n = (n + 2048) / 4096 % 1048576
 abbrev pub low_part : ℕ → ℕ
 low_part n = extended 12 (n % 4096)
 
+-- a number comes to t0: by one instruction where its upper part is 0
+abbrev pub load_by : (short : Bool) (n : ℕ) → List Instruction
+load_by true n = Addi t0 zero_register (low_part n) ∷ []
+load_by false n = Lui t0 (high_part n) ∷ Addi t0 t0 (low_part n) ∷ []
+
+abbrev pub load_number : ℕ → List Instruction
+load_number n = load_by (high_part n == 0) n
+
 -- ---- labels
 
--- where the code that all calls share is entered with so many arguments, 0 to 56
+-- where the code that all calls share is entered to copy so many arguments, 0 to 56
 abbrev pub copy_label : (arguments : ℕ) → ℕ
 copy_label arguments = arguments
 
+-- where the code that all calls share is entered to clear so many of the last words of a frame, 0 to 56
+abbrev pub clear_label : (words : ℕ) → ℕ
+clear_label words = 64 + words
+
 -- the block of an index of the list
 abbrev pub label_of : (index : ℕ) → ℕ
-label_of index = 64 + index
+label_of index = 128 + index

@@ -5,7 +5,7 @@ use Rattle.std.specs.Prelude.{ℕ}
 abbrev pub zero_register : ℕ
 zero_register = 0
 
--- where a call goes on, from its block to the code that all calls share
+-- what a call stores in its frame to return by
 abbrev pub ra : ℕ
 ra = 1
 
@@ -21,3 +21,10 @@ t2 = 7
 
 abbrev pub t3 : ℕ
 t3 = 28
+
+-- what is known of the hart's node of the tree of groups
+abbrev pub a0 : ℕ
+a0 = 10
+
+abbrev pub a1 : ℕ
+a1 = 11

@@ -3,8 +3,10 @@
 ghost use Rattle.std.specs.Prelude.{◌≡◌, ◌+◌, ◌-◌, ◌^◌, ◌<◌, [], ◌∷◌, All, OnOk, OnErr, length, map};
 ghost use Rattle.fk_asm.specs.Assembly.{AreFollowed};
 ghost use Rattle.fk_asm.specs.Block.{GoesToMade, HasBegun, with_block};
-ghost use Rattle.fk_gen.specs.Lines.{marked, FitLine, FitLines};
+ghost use Rattle.fk_gen.specs.Lines.{marked, quiet, load_number, FitLine, FitLines};
 
+use crate::numbers::{high_part, low_part};
+use crate::registers::{T0, ZERO};
 use fk_asm::{Assembler, Line};
 use fk_isa::Instruction;
 use std::alloc::AllocError;
@@ -90,5 +92,27 @@ fn emit_line(into: &mut Assembler, line: BlockLine) -> Result<(), AllocError>
     match line.line.label {
         Some(label) => into.jump(line.line.instruction, label),
         None => into.emit(line.line.instruction),
+    }
+}
+
+/// Adds the lines by which a number comes to `t0`. None of them commits.
+pub fn emit_number(into: &mut Assembler, number: u32) -> Result<(), AllocError>
+    requires room { length into.old.lines + 2 < 2 ^ 30 }
+    requires free { AreFollowed into.old }
+    ensures added { OnOk result (into.new ≡ with_block into.old (map quiet (load_number number))) }
+    ensures begun { OnErr result (HasBegun (map quiet (load_number number)) into.old into.new) }
+{
+    let high = high_part(number);
+    let low = low_part(number);
+    if high == 0 {
+        emit_lines(into, &[BlockLine::quiet(Instruction::Addi(T0, ZERO, low))])
+    } else {
+        emit_lines(
+            into,
+            &[
+                BlockLine::quiet(Instruction::Lui(T0, high)),
+                BlockLine::quiet(Instruction::Addi(T0, T0, low)),
+            ],
+        )
     }
 }

@@ -8,4 +8,6 @@ pub struct Placed {
     pub op: CoreOp,
     /// How many words of globals the image has.
     pub globals: u32,
+    /// Whether the call that it begins has private words behind its arguments that have to be 0.
+    pub clears: bool,
 }

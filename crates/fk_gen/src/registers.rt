@@ -2,7 +2,7 @@
 
 /// `zero` stays 0.
 pub const ZERO: u8 = 0;
-/// `ra`: where a call goes on, from its block to the code that all calls share.
+/// `ra`: what a call stores in its frame to return by.
 pub const RA: u8 = 1;
 /// `t0` to `t3` are free in each block.
 pub const T0: u8 = 5;
@@ -26,7 +26,13 @@ pub const SIZE: u8 = 20;
 pub const TOP: u8 = 21;
 /// The address of local memory. It never changes.
 pub const LOCAL: u8 = 22;
-/// How many words of addresses lie before shared data. It never changes.
+/// The address of shared data. It never changes.
 pub const SHARED: u8 = 23;
-/// How many words of addresses lie before the private heap. It never changes.
+/// The address of the private heap. It never changes.
 pub const HEAP: u8 = 24;
+/// The bits of an address that tell whether it is that of a word of shared data. It never changes.
+pub const SHARED_MASK: u8 = 25;
+/// The address of the devices. It never changes.
+pub const DEVICES: u8 = 26;
+/// The bits of an address that tell whether it is that of a word of the private heap. It never changes.
+pub const HEAP_MASK: u8 = 27;

@@ -20,11 +20,12 @@ use Rattle.fk_block_law.specs.Owner.{Commons, Owner, Doing, number_of, idle, fou
 use Rattle.fk_block_law.specs.Stands.{Places, HasRoom, StandsFor, frame_end, top_register}
 use Rattle.fk_block_law.specs.Next.{StandsOp, step_at as step_of}
 use Rattle.fk_block_law.specs.Suits.{Fits, Flows, nothing}
-use Rattle.fk_block_law.specs.Block.{Enters, Does}
+use Rattle.fk_block_law.specs.Block.{Enters}
 use Rattle.fk_gen.specs.Lines.{at_value}
 use Rattle.fk_gen_access.specs.Blocks.{lines, read_block, write_block, combine_block}
 use Rattle.fk_gen_access.proofs.Addresses.{IsShared, IsPrivate, used, shared_place, private_place}
 use Rattle.fk_gen.specs.InPlace.{HasBlock}
+use Rattle.fk_gen.specs.Keeps.{Keeps, DoesAnd}
 use Rattle.fk_gen.proofs.Walk.{told_of}
 use Rattle.fk_gen.proofs.Values.{other_word, values_kept, values_before, length_before}
 use Rattle.fk_gen_access.proofs.Walk.{walk_straight, local_index}
@@ -36,7 +37,7 @@ use Rattle.fk_gen_access.proofs.Memory.{load, amo, after_amo, read_shared, write
 
 module _ (core : List CoreOp) (image : Image) (places : Places) (i : ℕ) (op : CoreOp) (setting : Setting) (t : MachineSetting) (p : Owner) (h : Hart) where
   pub read_does : (bound : ℕ → ℕ) → StandsOp core i op Read → Enters core image places setting t i op Read p h → Fits core places.frames i op Read
-      → HasBlock image bound places i (lines (read_block op.depth)) → Does core image places setting t p h
+      → HasBlock image bound places i (lines (read_block op.depth)) → DoesAnd core image places setting t p h 1 1 (Keeps places (length p.runner.has.callers) op.depth nothing h)
   read_does bound op_at en fits has =
       let b = read_block op.depth in
       let committing = walk_straight (told_of t (number_of p)) b.before h in
@@ -69,7 +70,7 @@ module _ (core : List CoreOp) (image : Image) (places : Places) (i : ℕ) (op : 
         can = λ told. (some.place, tt);
         at = refl;
         stands = λ told. stands_on places p i (suc i) op.depth p.runner.has.top (v ∷ before 1 vs) p.heap h (walk_straight told b.behind (writes committing 5 v)) stands en.index fits.room core (fits.goes_on true)
-            (record { nought = refl; frame = refl; behind = refl; number = refl; rank = refl; size = refl; local = refl; shared_data = refl; private_heap = refl })
+            (record { nought = refl; frame = refl; behind = refl; number = refl; rank = refl; size = refl; local = refl; shared_data = refl; private_heap = refl; shared_mask = refl; devices = refl; heap_mask = refl; node = refl; body = refl })
             stands.top (below_put h.local (frame_end n - op.depth) word v (omega arith))
             (value_put h.local (frame_end n) word v v (before 1 vs) (omega arith) (omega arith) refl (values_before 1 h.local (frame_end n) vs stands.running.values))
             (λ k lt. other_word h.local word v (16384 + k) (λ e. omega arith) ∙ stands.heap k lt);
@@ -82,6 +83,7 @@ module _ (core : List CoreOp) (image : Image) (places : Places) (i : ℕ) (op : 
       → length p.runner.has.callers < 256 → v ≡ w
       → (word : ℕ) → word ≡ frame_end (length p.runner.has.callers) - (d - 1)
       → StandsFor places (went places p j (w ∷ before 1 (before 1 (values p.runner.has))) heap top) (record m { local = put m.local word v; pc = word_sum m.pc 4 })
+      × Keeps places (length p.runner.has.callers) d nothing h (record m { local = put m.local word v; pc = word_sum m.pc 4 })
   replaced j d top v w heap m stands at room depth two flows same top' low high calls e word index =
       let n = length p.runner.has.callers in
       let vs = values p.runner.has in
@@ -91,7 +93,7 @@ module _ (core : List CoreOp) (image : Image) (places : Places) (i : ℕ) (op : 
       let held = values_before 1 h.local (frame_end n) (before 1 vs) (values_before 1 h.local (frame_end n) vs stands.running.values) in
       let held' = values_kept h.local m.local (frame_end n) (before 1 (before 1 vs)) (omega arith) (λ k from lt. low k (omega arith)) held in
       stands_on places p i j d top (w ∷ before 1 (before 1 vs)) heap h (record m { local = put m.local word v; pc = word_sum m.pc 4 }) stands at room core flows
-      (record { nought = same.nought; frame = same.frame; behind = same.behind; number = same.number; rank = same.rank; size = same.size; local = same.local; shared_data = same.shared_data; private_heap = same.private_heap })
+      (record { nought = same.nought; frame = same.frame; behind = same.behind; number = same.number; rank = same.rank; size = same.size; local = same.local; shared_data = same.shared_data; private_heap = same.private_heap; shared_mask = same.shared_mask; devices = same.devices; heap_mask = same.heap_mask; node = same.node; body = same.body })
       top' (record { same = λ k from lt. other_word m.local word v k (λ e. omega arith) ∙ low k (omega arith) })
       (value_put m.local (frame_end n) word v w (before 1 (before 1 vs)) (omega arith) (omega arith) e held')
       (λ k lt. other_word m.local word v (16384 + k) (λ e. omega arith) ∙ high k lt)
@@ -110,7 +112,7 @@ module _ (core : List CoreOp) (image : Image) (places : Places) (i : ℕ) (op : 
   write_commits : Enters core image places setting t i op Write p h → Fits core places.frames i op Write
       → IsFound p h (op.depth - 1) (last (before 1 (values p.runner.has))) → IsFound p h op.depth (last (values p.runner.has))
       → (IsShared (last (before 1 (values p.runner.has))) ⊎ ((false ≡ false) × IsPrivate (last (before 1 (values p.runner.has)))))
-      → (s : Commons) → Commits core image places i op Write setting p (write_block op.depth) (walk_straight (told_of t (number_of p)) (write_block op.depth).before h) s
+      → (s : Commons) → Commits core image places i op Write setting p (write_block op.depth) h (walk_straight (told_of t (number_of p)) (write_block op.depth).before h) s
   write_commits en fits first second (inl at) s =
       let b = write_block op.depth in
       let committing = walk_straight (told_of t (number_of p)) b.before h in
@@ -140,7 +142,7 @@ module _ (core : List CoreOp) (image : Image) (places : Places) (i : ℕ) (op : 
         at = refl;
         stands = λ told. replaced (suc i) op.depth p.runner.has.top (committing.registers 6) v p.heap (moves committing) stands en.index fits.room en.ready.depth (let l = first.some in omega arith)
             (fits.goes_on true)
-            (record { nought = refl; frame = refl; behind = refl; number = refl; rank = refl; size = refl; local = refl; shared_data = refl; private_heap = refl })
+            (record { nought = refl; frame = refl; behind = refl; number = refl; rank = refl; size = refl; local = refl; shared_data = refl; private_heap = refl; shared_mask = refl; devices = refl; heap_mask = refl; node = refl; body = refl })
             stands.top (λ k lt. refl) stands.heap first.calls second.value _ first.index;
       }
   write_commits en fits first second (inr (_, at)) s =
@@ -173,14 +175,14 @@ module _ (core : List CoreOp) (image : Image) (places : Places) (i : ℕ) (op : 
         at = refl;
         stands = λ told. replaced (suc i) op.depth p.runner.has.top (committing.registers 6) v (put p.heap x v) m stands en.index fits.room en.ready.depth (let l = first.some in omega arith)
             (fits.goes_on true)
-            (record { nought = refl; frame = refl; behind = refl; number = refl; rank = refl; size = refl; local = refl; shared_data = refl; private_heap = refl })
+            (record { nought = refl; frame = refl; behind = refl; number = refl; rank = refl; size = refl; local = refl; shared_data = refl; private_heap = refl; shared_mask = refl; devices = refl; heap_mask = refl; node = refl; body = refl })
             stands.top (λ k lt. other_word h.local (16384 + x) (committing.registers 6) k (λ e. omega arith))
             (λ k lt. heap_put h.local p.heap x (committing.registers 6) stands.heap k lt ∙ ap (λ w. put p.heap x w k) second.value)
             first.calls second.value _ first.index;
       }
 
   pub write_does : (bound : ℕ → ℕ) → StandsOp core i op Write → Enters core image places setting t i op Write p h → Fits core places.frames i op Write
-      → HasBlock image bound places i (lines (write_block op.depth)) → Does core image places setting t p h
+      → HasBlock image bound places i (lines (write_block op.depth)) → DoesAnd core image places setting t p h 2 1 (Keeps places (length p.runner.has.callers) op.depth nothing h)
   write_does bound op_at en fits has =
       let first = earlier_found core image places i op Write setting t p h en fits (let l = fits.values in omega arith) in
       let second = last_found core image places i op Write setting t p h en fits (let l = fits.values in omega arith) in
@@ -214,7 +216,7 @@ module _ (core : List CoreOp) (image : Image) (places : Places) (i : ℕ) (op : 
   combine_commits : (by : Multiprefix) → Enters core image places setting t i op (Combine by) p h → Fits core places.frames i op (Combine by)
       → IsFound p h (op.depth - 1) (last (before 1 (values p.runner.has))) → IsFound p h op.depth (last (values p.runner.has))
       → Flows core places.frames nothing i (suc i) → IsShared (last (before 1 (values p.runner.has)))
-      → (s : Commons) → Commits core image places i op (Combine by) setting p (combine_block by op.depth) (walk_straight (told_of t (number_of p)) (combine_block by op.depth).before h) s
+      → (s : Commons) → Commits core image places i op (Combine by) setting p (combine_block by op.depth) h (walk_straight (told_of t (number_of p)) (combine_block by op.depth).before h) s
   combine_commits by en fits first second flows at s =
       let b = combine_block by op.depth in
       let committing = walk_straight (told_of t (number_of p)) b.before h in
@@ -245,7 +247,7 @@ module _ (core : List CoreOp) (image : Image) (places : Places) (i : ℕ) (op : 
         at = refl;
         stands = λ told. replaced (suc i) op.depth p.runner.has.top (s.words x) (s.words x) p.heap (writes committing 5 (s.words x)) stands en.index fits.room en.ready.depth (let l = first.some in omega arith)
             flows
-            (record { nought = refl; frame = refl; behind = refl; number = refl; rank = refl; size = refl; local = refl; shared_data = refl; private_heap = refl })
+            (record { nought = refl; frame = refl; behind = refl; number = refl; rank = refl; size = refl; local = refl; shared_data = refl; private_heap = refl; shared_mask = refl; devices = refl; heap_mask = refl; node = refl; body = refl })
             stands.top (λ k lt. refl) stands.heap first.calls refl _ first.index;
       }
 
@@ -255,7 +257,7 @@ module _ (core : List CoreOp) (image : Image) (places : Places) (i : ℕ) (op : 
 
   pub combine_does : (by : Multiprefix) (bound : ℕ → ℕ) → StandsOp core i op (Combine by) → Enters core image places setting t i op (Combine by) p h
       → Fits core places.frames i op (Combine by)
-      → HasBlock image bound places i (lines (combine_block by op.depth)) → Does core image places setting t p h
+      → HasBlock image bound places i (lines (combine_block by op.depth)) → DoesAnd core image places setting t p h 2 1 (Keeps places (length p.runner.has.callers) op.depth nothing h)
   combine_does by bound op_at en fits has =
       let first = earlier_found core image places i op (Combine by) setting t p h en fits (let l = fits.values in omega arith) in
       let second = last_found core image places i op (Combine by) setting t p h en fits (let l = fits.values in omega arith) in

@@ -17,10 +17,12 @@ use Rattle.fk_nodes.proofs.InPlace.{step_at}
 use Rattle.fk_block_law.specs.Owner.{Commons, Owner, Doing, number_of, idle, as_part, phases, core_source}
 use Rattle.fk_block_law.specs.Stands.{Places, StandsFor}
 use Rattle.fk_block_law.specs.Next.{StandsOp, step_at as step_of}
-use Rattle.fk_block_law.specs.Block.{Enters, Does, most_before, most_behind}
+use Rattle.fk_block_law.specs.Suits.{nothing}
+use Rattle.fk_block_law.specs.Block.{Enters, most_before, most_behind}
 use Rattle.fk_block_law.proofs.Standing.{operations_are_next}
 use Rattle.fk_gen.specs.Lines.{quiet, commits}
 use Rattle.fk_gen.specs.InPlace.{LinesAt, HasBlock}
+use Rattle.fk_gen.specs.Keeps.{Keeps, DoesAnd}
 use Rattle.fk_gen.proofs.Walk.{Told, told_of, walked, lines_split}
 use Rattle.fk_gen.proofs.Does.{holds_in_cycles}
 use Rattle.fk_gen_access.specs.Blocks.{Straight, lines}
@@ -36,8 +38,12 @@ module _ (core : List CoreOp) (image : Image) (places : Places) (i : ℕ) (op : 
   abbrev pub part_of : Commons → Part Commons Doing
   part_of s = as_part (number_of p) (phases core setting s p.heap (taking p.runner (Some (step_of core i op operation p.runner.left.callers))))
 
+  -- what its block keeps
+  abbrev pub KeepsMost : Hart → Hart → Type 0
+  KeepsMost h h' = Keeps places (length p.runner.has.callers) op.depth nothing h h'
+
   -- on a store that is shown the instruction that commits does the operation, and what follows leads to the next block
-  pub record Commits (b : Straight) (committing : Hart) (s : Commons) : Type 0 where
+  pub record Commits (b : Straight) (h committing : Hart) (s : Commons) : Type 0 where
     pub hart : Hart
     pub store : Commons
     pub owner : Owner
@@ -49,7 +55,7 @@ module _ (core : List CoreOp) (image : Image) (places : Places) (i : ℕ) (op : 
     pub live : hart.ended ≡ false
     pub can : (told : Told) → CanWalkStraight told b.behind hart
     pub at : owner.runner.left.at ≡ suc i
-    pub stands : (told : Told) → StandsFor places owner (walk_straight told b.behind hart)
+    pub stands : (told : Told) → StandsFor places owner (walk_straight told b.behind hart) × KeepsMost h (walk_straight told b.behind hart)
 
   -- or it is refused
   pub record Refuses (b : Straight) (committing : Hart) (s : Commons) : Type 0 where
@@ -65,8 +71,8 @@ module _ (core : List CoreOp) (image : Image) (places : Places) (i : ℕ) (op : 
   pub does : (b : Straight) (bound : ℕ → ℕ) (t : MachineSetting) (h : Hart) → StandsOp core i op operation → Enters core image places setting t i op operation p h
       → HasBlock image bound places i (lines b) → length b.before ≤ most_before → length b.behind ≤ most_behind
       → CanWalkStraight (told_of t (number_of p)) b.before h
-      → ((s : Commons) → Commits b (committing_of b t h) s ⊎ Refuses b (committing_of b t h) s)
-      → Does core image places setting t p h
+      → ((s : Commons) → Commits b h (committing_of b t h) s ⊎ Refuses b (committing_of b t h) s)
+      → DoesAnd core image places setting t p h (length b.before) (length b.behind) (KeepsMost h)
   does b bound t h op_at en has few_before few_behind can each =
       let number = number_of p in
       let told = told_of t number in
@@ -88,9 +94,8 @@ module _ (core : List CoreOp) (image : Image) (places : Places) (i : ℕ) (op : 
       let pc : committing.pc ≡ 4 * k = omega arith in
       let whole = length_of b in
       let next = has.next in
-      record {
-        before = length before;
-        behind = length b.behind;
+      subst (λ n. DoesAnd core image places setting t p h n (length b.behind) (KeepsMost h)) count
+      (record {
         few_before = omega (arith, few_before, count);
         few_behind = few_behind;
         does = record {
@@ -121,7 +126,7 @@ module _ (core : List CoreOp) (image : Image) (places : Places) (i : ℕ) (op : 
                     follows = (
                       walk_straight told1 b.behind c.hart,
                       subst (λ n. RunsPrivately image (later t1) number n c.hart (walk_straight told1 b.behind c.hart)) count' rest.runs,
-                      record { done = refl; at = record { live = rest.live; at = end; stands = c.stands told1 } },
+                      (record { done = refl; at = record { live = rest.live; at = end; stands = (c.stands told1).0 } }, (c.stands told1).1),
                     );
                   })
               | inr r ↦ inr (record {
@@ -132,4 +137,4 @@ module _ (core : List CoreOp) (image : Image) (places : Places) (i : ℕ) (op : 
             ];
           };
         };
-      }
+      })

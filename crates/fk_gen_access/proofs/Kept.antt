@@ -7,8 +7,10 @@ use Rattle.fk_core.specs.declared.op.CoreOp.{CoreOp}
 use Rattle.fk_core.specs.Next.{position}
 use Rattle.fk_machine.specs.Hart.{Hart}
 use Rattle.fk_block_law.specs.Owner.{Owner}
-use Rattle.fk_block_law.specs.Stands.{Places, HasValues, HasFrame, HasRoom, HasWaiting, StandsFor, frame_end, frame_start, ahead, frame_register, end_register, number_register, rank_register, size_register, top_register, local_register, shared_register, heap_register}
+use Rattle.fk_block_law.specs.Stands.{Places, HasValues, HasFrame, HasRoom, HasWaiting, StandsFor, frame_end, frame_start, ahead, frame_register, end_register, number_register, rank_register, size_register, top_register, local_register, shared_register, heap_register, shared_mask_register, device_register, heap_mask_register}
 use Rattle.fk_block_law.specs.Suits.{Flows, nothing}
+use Rattle.fk_gen.specs.Registers.{a0, a1}
+use Rattle.fk_gen.specs.Keeps.{Keeps}
 use Rattle.fk_gen.proofs.Values.{other_word}
 use Rattle.fk_gen.proofs.Standing.{lies_in, waiting_kept}
 
@@ -51,6 +53,11 @@ module _ (places : Places) where
     pub local : h'.registers local_register ≡ h.registers local_register
     pub shared_data : h'.registers shared_register ≡ h.registers shared_register
     pub private_heap : h'.registers heap_register ≡ h.registers heap_register
+    pub shared_mask : h'.registers shared_mask_register ≡ h.registers shared_mask_register
+    pub devices : h'.registers device_register ≡ h.registers device_register
+    pub heap_mask : h'.registers heap_mask_register ≡ h.registers heap_mask_register
+    pub node : h'.registers a0 ≡ h.registers a0
+    pub body : h'.registers a1 ≡ h.registers a1
 
   -- a processor that has gone on to an index, with other values, another private heap and another top of it
   abbrev pub went : Owner → (index : ℕ) → (values : List ℕ) → (heap : Memory) → (top : ℕ) → Owner
@@ -63,7 +70,7 @@ module _ (places : Places) where
       → HasRoom places.frames i d → (core : List CoreOp) → Flows core places.frames nothing i j → SameRegisters h h'
       → h'.registers top_register ≡ top → SameBelow (frame_end (length p.runner.has.callers) - d) h.local h'.local
       → HasValues h'.local (frame_end (length p.runner.has.callers)) vs → ((k : ℕ) → k < 16384 → h'.local (16384 + k) ≡ heap k)
-      → StandsFor places (went p j vs heap top) h'
+      → StandsFor places (went p j vs heap top) h' × Keeps places (length p.runner.has.callers) d nothing h h'
   stands_on p i j d top vs heap h h' stands at room core flows same top' below values heap' =
       let n = length p.runner.has.callers in
       let frame = subst (λ k. HasFrame places h.local n k p.runner.has.call) at stands.running in
@@ -71,28 +78,33 @@ module _ (places : Places) where
       let l = lies_in places n i d few frame.home room in
       let start = l.start in
       let low = l.values in
-      let short = l.few in
-      record {
-        nought = same.nought ∙ stands.nought;
-        frame = same.frame ∙ stands.frame;
-        behind = same.behind ∙ stands.behind;
-        number = same.number ∙ stands.number;
-        rank = same.rank ∙ stands.rank;
-        size = same.size ∙ stands.size;
-        top = top';
-        local = same.local ∙ stands.local;
-        shared_data = same.shared_data ∙ stands.shared_data;
-        private_heap = same.private_heap ∙ stands.private_heap;
-        running = record {
-          home = flows.main ∙ frame.home;
-          values = values;
-          privates = λ word kept.
-              let kept' = flows.kept word kept refl in
-              let lt = l.kept word kept' in
-              below.same (frame_start places n + 8 + word) (omega arith) (omega arith) ∙ frame.privates word kept';
-        };
-        waiting = waiting_kept places h.local h'.local p.runner.left.callers p.runner.has.callers few
-            (λ k le lt. below.same k (omega arith) (omega arith)) stands.waiting;
-        own = λ k lt. below.same (8 + k) (omega arith) (omega arith) ∙ stands.own k lt;
-        heap = heap';
-      }
+      let short = l.few in (
+        record {
+          nought = same.nought ∙ stands.nought;
+          frame = same.frame ∙ stands.frame;
+          behind = same.behind ∙ stands.behind;
+          number = same.number ∙ stands.number;
+          rank = same.rank ∙ stands.rank;
+          size = same.size ∙ stands.size;
+          top = top';
+          local = same.local ∙ stands.local;
+          shared_data = same.shared_data ∙ stands.shared_data;
+          private_heap = same.private_heap ∙ stands.private_heap;
+          shared_mask = same.shared_mask ∙ stands.shared_mask;
+          devices = same.devices ∙ stands.devices;
+          heap_mask = same.heap_mask ∙ stands.heap_mask;
+          running = record {
+            home = flows.main ∙ frame.home;
+            values = values;
+            privates = λ word kept.
+                let kept' = flows.kept word kept refl in
+                let lt = l.kept word kept' in
+                below.same (frame_start places n + 8 + word) (omega arith) (omega arith) ∙ frame.privates word kept';
+          };
+          waiting = waiting_kept places h.local h'.local p.runner.left.callers p.runner.has.callers few
+              (λ k le lt. below.same k (omega arith) (omega arith)) stands.waiting;
+          own = λ k lt. below.same (8 + k) (omega arith) (omega arith) ∙ stands.own k lt;
+          heap = heap';
+        },
+        record { node = same.node; body = same.body; words = λ k from lt apart. below.same k (omega arith) (omega arith) },
+      )

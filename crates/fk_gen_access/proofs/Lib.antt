@@ -1,5 +1,6 @@
 pub mod Addresses
 pub mod Checked
+pub mod Difference
 pub mod Takes
 pub mod Walk
 pub mod Does

@@ -13,12 +13,13 @@ use Rattle.fk_nodes.specs.Source.{Part, Passes}
 use Rattle.fk_block_law.specs.Owner.{Commons, Owner, Doing, number_of, idle}
 use Rattle.fk_block_law.specs.Stands.{Places, frame_end}
 use Rattle.fk_block_law.specs.Next.{StandsOp}
-use Rattle.fk_block_law.specs.Suits.{Fits}
-use Rattle.fk_block_law.specs.Block.{Enters, Does}
+use Rattle.fk_block_law.specs.Suits.{Fits, nothing}
+use Rattle.fk_block_law.specs.Block.{Enters}
 use Rattle.fk_gen.specs.Lines.{at_value}
 use Rattle.fk_gen_access.specs.Blocks.{lines, take_block}
 use Rattle.fk_gen_access.proofs.Takes.{size_word, left_word, take_word, top_word, takes}
 use Rattle.fk_gen.specs.InPlace.{HasBlock}
+use Rattle.fk_gen.specs.Keeps.{Keeps, DoesAnd}
 use Rattle.fk_gen.proofs.Walk.{told_of, after, can_run_goes}
 use Rattle.fk_gen.proofs.Values.{other_word, values_before, length_before}
 use Rattle.fk_gen_access.proofs.Walk.{local_index, reached, walk_straight}
@@ -43,7 +44,7 @@ module _ (core : List CoreOp) (image : Image) (places : Places) (i : ℕ) (op : 
   took s q = Passes s (idle (record { runner = record { left = position (suc i) p.runner.left.callers; has = q }; heap = p.heap }))
 
   pub take_does : (bound : ℕ → ℕ) → StandsOp core i op Take → Enters core image places setting t i op Take p h → Fits core places.frames i op Take
-      → HasBlock image bound places i (lines (take_block op.depth)) → Does core image places setting t p h
+      → HasBlock image bound places i (lines (take_block op.depth)) → DoesAnd core image places setting t p h 0 14 (Keeps places (length p.runner.has.callers) op.depth nothing h)
   take_does bound op_at en fits has =
       let b = take_block op.depth in
       let stands = en.at.stands in
@@ -79,7 +80,7 @@ module _ (core : List CoreOp) (image : Image) (places : Places) (i : ℕ) (op : 
         can = λ told. (tt, (tt, (tt, (tt, (tt, (tt, (tt, (tt, (tt, (tt, (tt, (some.place, (tt, (tt, tt))))))))))))));
         at = refl;
         stands = λ told. stands_on places p i (suc i) op.depth (top_word (last vs) top) (take_word (last vs) top ∷ before 1 vs) p.heap h m stands en.index fits.room core (fits.goes_on true)
-            (record { nought = refl; frame = refl; behind = refl; number = refl; rank = refl; size = refl; local = refl; shared_data = refl; private_heap = refl })
+            (record { nought = refl; frame = refl; behind = refl; number = refl; rank = refl; size = refl; local = refl; shared_data = refl; private_heap = refl; shared_mask = refl; devices = refl; heap_mask = refl; node = refl; body = refl })
             more (below_put h.local (frame_end n - op.depth) found_at v (omega arith))
             (value_put h.local (frame_end n) found_at v (take_word (last vs) top) (before 1 vs) (omega arith) (omega arith) answer (values_before 1 h.local (frame_end n) vs stands.running.values))
             (λ k lt. other_word h.local found_at v (16384 + k) (λ e. omega arith) ∙ stands.heap k lt);

@@ -19,9 +19,10 @@ use Rattle.fk_block_law.specs.Owner.{Commons, Owner, number_of, idle}
 use Rattle.fk_block_law.specs.Stands.{Places, frame_end}
 use Rattle.fk_block_law.specs.Next.{StandsOp}
 use Rattle.fk_block_law.specs.Suits.{Fits, Flows, nothing}
-use Rattle.fk_block_law.specs.Block.{Enters, Does}
+use Rattle.fk_block_law.specs.Block.{Enters}
 use Rattle.fk_gen_access.specs.Blocks.{lines, print_block, number_device, byte_device}
 use Rattle.fk_gen.specs.InPlace.{HasBlock}
+use Rattle.fk_gen.specs.Keeps.{Keeps, DoesAnd}
 use Rattle.fk_gen.proofs.Walk.{told_of}
 use Rattle.fk_gen.proofs.Values.{values_before}
 use Rattle.fk_gen_access.proofs.Walk.{walk_straight}
@@ -45,22 +46,22 @@ print_does : (core : List CoreOp) (image : Image) (places : Places) (i : ℕ) (o
     → HasBlock image bound places i (lines (print_block device op.depth))
     → ((s : Commons) → part_of core image places i op operation setting p s
     ≡ Passes (record s { output = s.output ++ bytes (last (values p.runner.has)) }) (idle (went places p (suc i) (before 1 (values p.runner.has)) p.heap p.runner.has.top)))
-    → ((t' : MachineSetting) (g : Hart) (sh : Shared) → g.registers 6 ≡ 0x30000000
-    → perform t' (number_of p) (Sw 6 5 device) g sh ≡ Goes (moves g) (record sh { output = sh.output ++ bytes (g.registers 5) }))
-    → Does core image places setting t p h
+    → ((t' : MachineSetting) (g : Hart) (sh : Shared) → g.registers 26 ≡ 0x30000000
+    → perform t' (number_of p) (Sw 26 5 device) g sh ≡ Goes (moves g) (record sh { output = sh.output ++ bytes (g.registers 5) }))
+    → DoesAnd core image places setting t p h 1 0 (Keeps places (length p.runner.has.callers) op.depth nothing h)
 print_does core image places i op operation setting t p h device bytes bound op_at en fits some flows has part performs =
     let b = print_block device op.depth in
     let committing = walk_straight (told_of t (number_of p)) b.before h in
     let stands = en.at.stands in
     let found = last_found core image places i op operation setting t p h en fits some in
-    does core image places i op operation setting p b bound t h op_at en has (omega arith) (omega arith) (found.place, (tt, tt)) (λ s. inl (record {
+    does core image places i op operation setting p b bound t h op_at en has (omega arith) (omega arith) (found.place, tt) (λ s. inl (record {
       hart = moves committing;
       store = record s { output = s.output ++ bytes (last (values p.runner.has)) };
       owner = went places p (suc i) (before 1 (values p.runner.has)) p.heap p.runner.has.top;
       part = part s;
       goes = λ t' earlier sh shows. (
         record sh { output = sh.output ++ bytes (committing.registers 5) },
-        performs t' committing sh refl,
+        performs t' committing sh stands.devices,
         record {
           words = shows.words;
           output = sym (append_assoc earlier sh.output (bytes (committing.registers 5)))
@@ -75,7 +76,7 @@ print_does core image places i op operation setting t p h device bytes bound op_
       can = λ told. tt;
       at = refl;
       stands = λ told. stands_on places p i (suc i) op.depth p.runner.has.top (before 1 (values p.runner.has)) p.heap h (moves committing) stands en.index fits.room core flows
-          (record { nought = refl; frame = refl; behind = refl; number = refl; rank = refl; size = refl; local = refl; shared_data = refl; private_heap = refl })
+          (record { nought = refl; frame = refl; behind = refl; number = refl; rank = refl; size = refl; local = refl; shared_data = refl; private_heap = refl; shared_mask = refl; devices = refl; heap_mask = refl; node = refl; body = refl })
           stands.top (record { same = λ j from lt. refl })
           (values_before 1 h.local (frame_end (length p.runner.has.callers)) (values p.runner.has) stands.running.values)
           stands.heap;
@@ -83,14 +84,14 @@ print_does core image places i op operation setting t p h device bytes bound op_
 
 pub print_number_does : (core : List CoreOp) (image : Image) (places : Places) (i : ℕ) (op : CoreOp) (setting : Setting) (t : MachineSetting) (p : Owner) (h : Hart) (bound : ℕ → ℕ)
     → StandsOp core i op PrintNumber → Enters core image places setting t i op PrintNumber p h → Fits core places.frames i op PrintNumber
-    → HasBlock image bound places i (lines (print_block number_device op.depth)) → Does core image places setting t p h
+    → HasBlock image bound places i (lines (print_block number_device op.depth)) → DoesAnd core image places setting t p h 1 0 (Keeps places (length p.runner.has.callers) op.depth nothing h)
 print_number_does core image places i op setting t p h bound op_at en fits has =
     print_does core image places i op PrintNumber setting t p h number_device signed_line bound op_at en fits (let l = fits.values in omega arith) (fits.goes_on true) has
-    (λ s. refl) (λ t' g sh e. sw-out_int t' (number_of p) 6 5 0 g sh (omega arith) (ap (λ a. place_of (word_sum a 0)) e ∙ place_of-out_int))
+    (λ s. refl) (λ t' g sh e. sw-out_int t' (number_of p) 26 5 0 g sh (omega arith) (ap (λ a. place_of (word_sum a 0)) e ∙ place_of-out_int))
 
 pub print_byte_does : (core : List CoreOp) (image : Image) (places : Places) (i : ℕ) (op : CoreOp) (setting : Setting) (t : MachineSetting) (p : Owner) (h : Hart) (bound : ℕ → ℕ)
     → StandsOp core i op PrintByte → Enters core image places setting t i op PrintByte p h → Fits core places.frames i op PrintByte
-    → HasBlock image bound places i (lines (print_block byte_device op.depth)) → Does core image places setting t p h
+    → HasBlock image bound places i (lines (print_block byte_device op.depth)) → DoesAnd core image places setting t p h 1 0 (Keeps places (length p.runner.has.callers) op.depth nothing h)
 print_byte_does core image places i op setting t p h bound op_at en fits has =
     print_does core image places i op PrintByte setting t p h byte_device (λ v. v % 256 ∷ []) bound op_at en fits (let l = fits.values in omega arith) (fits.goes_on true) has
-    (λ s. refl) (λ t' g sh e. sw-out_char t' (number_of p) 6 5 4 g sh (omega arith) (ap (λ a. place_of (word_sum a 4)) e ∙ place_of-out_char))
+    (λ s. refl) (λ t' g sh e. sw-out_char t' (number_of p) 26 5 4 g sh (omega arith) (ap (λ a. place_of (word_sum a 4)) e ∙ place_of-out_char))

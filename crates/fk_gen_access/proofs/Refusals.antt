@@ -1,182 +1,400 @@
 -- The blocks of checks do so.
-use Rattle.std.proofs.Common.{◌≡◌, ℕ, suc, ◌+◌, ◌^◌, ◌<◌, ◌≤◌, List, [], ◌∷◌, length, Bool, true, false, ap, ◌∙◌, arith, refl, ◌⊎◌, inl, inr, All}
-use Rattle.std.specs.Prelude.{if◌then◌else◌}
-use Rattle.std.specs.Int.{from_bool}
-use Rattle.std.proofs.lemmas.Bool.{lt-ltb}
+use Rattle.std.proofs.Common.{◌≡◌, ℕ, suc, ◌+◌, ◌*◌, ◌^◌, ◌<◌, ◌≤◌, List, [], ◌∷◌, ◌++◌, map, length, Bool, true, false, ap, subst, sym, ◌∙◌, arith, refl, inl, inr, All}
+use Rattle.std.specs.Prelude.{◌==◌, bit_and, if◌then◌else◌}
+use Rattle.std.proofs.lemmas.List.{length-append}
 use Rattle.std.proofs.lemmas.List.Elements.{All-head}
-use Rattle.fk_num.specs.Word.{word, word_sum, put}
-use Rattle.fk_num.specs.Op.{applied}
-use Rattle.fk_num.specs.declared.operator.Op.TheVariants.{Sub, Mul, Shl, ShrU, LtU}
+use Rattle.fk_num.specs.Word.{word_sum}
 use Rattle.fk_operation.specs.declared.operation.Operation.TheVariants.{Check}
 use Rattle.fk_operation.specs.declared.kinds.FaultKind.TheVariants.{BadAddress}
-use Rattle.fk_store.specs.Serve.{Answer, Served, Faults, may_use}
+use Rattle.fk_store.specs.Serve.{Served, Faults, serve, may_use}
 use Rattle.fk_run.specs.Processor.{Setting, values, last}
-use Rattle.fk_run.specs.Round.{answered}
+use Rattle.fk_run.specs.Request.{request}
 use Rattle.fk_core.specs.declared.op.CoreOp.{CoreOp}
 use Rattle.fk_image.specs.declared.Image.{Image}
+use Rattle.fk_isa.specs.declared.instruction.Instruction.TheVariants.{Lui, Addi, And, Beq}
 use Rattle.fk_machine.specs.Place.{place_of}
 use Rattle.fk_machine.specs.declared.stand.Stand.TheVariants.{Faulted}
 use Rattle.fk_machine.specs.Hart.{Hart, Stops, Setting as MachineSetting}
-use Rattle.fk_machine.proofs.Performs.{moves, sw-local, sw-fault}
-use Rattle.fk_machine.proofs.Places.{place_of-local, place_of-fault}
-use Rattle.fk_nodes.specs.Source.{Part}
-use Rattle.fk_block_law.specs.Owner.{Commons, Owner, Doing, number_of, found, as_part}
-use Rattle.fk_block_law.specs.Stands.{Places, frame_end}
-use Rattle.fk_block_law.specs.Next.{StandsOp, step_at as step_of}
-use Rattle.fk_block_law.specs.Suits.{Fits, Flows, nothing}
-use Rattle.fk_block_law.specs.Block.{Enters, Does, most_before}
-use Rattle.fk_gen.specs.InPlace.{HasBlock}
-use Rattle.fk_gen.proofs.Walk.{told_of}
-use Rattle.fk_gen.proofs.Values.{other_word, values_kept, number_of_parts}
-use Rattle.fk_gen_access.specs.Blocks.{lines, check_block}
-use Rattle.fk_gen_access.proofs.Checked.{Checks, May, Refused, turned_word, check_word, checks}
-use Rattle.fk_gen_access.proofs.Walk.{walk_straight, CanWalkStraight}
-use Rattle.fk_gen_access.proofs.Does.{Commits, Refuses, part_of, does}
-use Rattle.fk_gen_access.proofs.Kept.{SameRegisters, went, stands_on}
-use Rattle.fk_gen_access.proofs.Operands.{IsFound, last_found}
-
--- the address that the site goes to, by the word that is 0 where the address may be used
-abbrev chosen_by : (nought local x : ℕ) → ℕ
-chosen_by nought local x = word_sum (word_sum (applied Shl (applied LtU nought x) 28) local) 8
-
-abbrev chosen : (local x : ℕ) → ℕ
-chosen local x = chosen_by 0 local x
-
-chosen_may : (local x : ℕ) → local ≡ 0x20000000 → x ≡ 0 → chosen local x ≡ 0x20000008
-chosen_may local x e z = ap (λ a. chosen local a) z ∙ ap (λ a. chosen a 0) e
-
-chosen_refused : (local x : ℕ) → local ≡ 0x20000000 → 0 < x → chosen local x ≡ 0x30000008
-chosen_refused local x e lt =
-    ap (λ b. word_sum (word_sum (applied Shl (from_bool b) 28) local) 8) (lt-ltb 0 x lt) ∙ ap (λ a. word_sum (word_sum (applied Shl 1 28) a) 8) e
+use Rattle.fk_machine.proofs.Performs.{sw-fault}
+use Rattle.fk_machine.proofs.Places.{place_of-fault}
+use Rattle.fk_nodes.specs.Alone.{Holds, IsAt, IsPrivateIn, RunsPrivately, in_cycles}
+use Rattle.fk_asm.specs.Block.{MarkedLine}
+use Rattle.fk_block_law.specs.Owner.{Commons, Owner, number_of, found}
+use Rattle.fk_block_law.specs.Stands.{Places, frame_end, local_address}
+use Rattle.fk_block_law.specs.Next.{StandsOp}
+use Rattle.fk_block_law.specs.Suits.{Fits, nothing}
+use Rattle.fk_block_law.specs.Block.{Enters}
+use Rattle.fk_gen.specs.InPlace.{HasBlock, LinesAt}
+use Rattle.fk_gen.specs.Keeps.{Keeps, DoesAnd}
+use Rattle.fk_gen.specs.Lines.{quiet, commits, at_value, high_part, low_part, load_by}
+use Rattle.fk_gen.proofs.Walk.{Told, told_of, Plain, LocalAt, Quiets, quiet_lines, after, walk, CanWalk, walked, lines_split, runs_join, private}
+use Rattle.fk_gen.proofs.Does.{holds_in_cycles, quiet_length, request_does_by}
+use Rattle.fk_gen.proofs.Jumps.{goes_to_pc, beq_taken, beq_on}
+use Rattle.fk_gen.proofs.Values.{values_kept, number_of_parts, number_of_low_part}
+use Rattle.fk_gen_access.specs.Blocks.{check_block, test_lines, load_last, idle, refuse, test_steps, before_commit}
+use Rattle.fk_gen_access.proofs.Checked.{shared_bits, heap_bits, Checks, InShared, InHeap, Nowhere, checks}
+use Rattle.fk_gen_access.proofs.Walk.{local_index}
+use Rattle.fk_gen_access.proofs.Kept.{SameRegisters, stands_on}
+use Rattle.fk_gen_access.proofs.Operands.{last_found}
 
 pub last_is_word : (vs : List ℕ) → All (λ v. v < 2 ^ 32) vs → last vs < 2 ^ 32
 last_is_word [] all = omega arith
 last_is_word (v ∷ vs) all = All-head (λ v. v < 2 ^ 32) v vs all
 
+-- ---- the lines: those that run straight, and those that choose
+
+-- a number comes to t0
+abbrev number_quiets : (short : Bool) (n : ℕ) → Quiets
+number_quiets true n = (Addi 5 0 (low_part n), Plain) ∷ []
+number_quiets false n = (Lui 5 (high_part n), Plain) ∷ (Addi 5 5 (low_part n), Plain) ∷ []
+
+-- the last value, which stands at a word of local memory, with the masks
+abbrev masks : (alone : Bool) (d w : ℕ) → Quiets
+masks true d w = (load_last 6 d, LocalAt w) ∷ (And 6 6 25, Plain) ∷ []
+masks false d w = (load_last 6 d, LocalAt w) ∷ (And 7 6 25, Plain) ∷ (And 6 6 27, Plain) ∷ []
+
+abbrev straight : (short alone : Bool) (d site w : ℕ) → Quiets
+straight short alone d site w = number_quiets short site ++ masks alone d w
+
+abbrev choices : (alone : Bool) → List MarkedLine
+choices true = quiet (Beq 6 23 8) ∷ commits refuse ∷ commits idle ∷ []
+choices false = quiet (Beq 7 23 12) ∷ quiet (Beq 6 24 12) ∷ commits refuse ∷ quiet idle ∷ commits idle ∷ []
+
+-- the register that the address with the mask of shared data comes to
+abbrev shared_test_register : (alone : Bool) → ℕ
+shared_test_register true = 6
+shared_test_register false = 7
+
+are_lines : (short alone : Bool) (d site w : ℕ) → map quiet (load_by short site) ++ test_lines alone d ≡ quiet_lines (straight short alone d site w) ++ choices alone
+are_lines true true d site w = refl
+are_lines true false d site w = refl
+are_lines false true d site w = refl
+are_lines false false d site w = refl
+
+-- the ways through the choices take equally many
+abbrev chosen_in : (alone : Bool) → (before : ℕ) → ℕ
+chosen_in true before = before + 1
+chosen_in false before = before + 1 + 1
+
+all_steps : (short alone : Bool) (d site w : ℕ) → chosen_in alone (length (straight short alone d site w)) ≡ length (load_by short site) + test_steps alone
+all_steps true true d site w = refl
+all_steps true false d site w = refl
+all_steps false true d site w = refl
+all_steps false false d site w = refl
+
+few_straight : (short alone : Bool) (d site w : ℕ) → length (straight short alone d site w) ≤ 5
+few_straight true true d site w = omega arith
+few_straight true false d site w = omega arith
+few_straight false true d site w = omega arith
+few_straight false false d site w = omega arith
+
+-- what the lines that run straight come to
+record IsTested (places : Places) (told : Told) (quiets : Quiets) (h : Hart) (alone : Bool) (address of_site : ℕ) : Type 0 where
+  pub can : CanWalk told quiets h
+  pub site : (walk told quiets h).registers 5 ≡ of_site
+  pub same : SameRegisters places h (walk told quiets h)
+  pub top : (walk told quiets h).registers 21 ≡ h.registers 21
+  pub local : (k : ℕ) → (walk told quiets h).local k ≡ h.local k
+  pub live : (walk told quiets h).ended ≡ h.ended
+  pub shared : (walk told quiets h).registers (shared_test_register alone) ≡ shared_bits address
+  pub heap : alone ≡ false → (walk told quiets h).registers 6 ≡ heap_bits address
+
+masked : (v m a n : ℕ) → v ≡ a → m ≡ n → bit_and v m ≡ bit_and a n
+masked v m a n e f = ap (λ x. bit_and x m) e ∙ ap (bit_and a) f
+
+short_site : (z n : ℕ) → z ≡ 0 → (high_part n == 0) ≡ true → n < 2 ^ 32 → word_sum z (low_part n) ≡ n
+short_site z n e is small = ap (λ x. word_sum x (low_part n)) e ∙ number_of_low_part n is ∙ omega arith
+
+long_site : (n : ℕ) → n < 2 ^ 32 → word_sum (high_part n * 4096) (low_part n) ≡ n
+long_site n small = number_of_parts n ∙ omega arith
+
+is_tested : (places : Places) (told : Told) (h : Hart) (short alone : Bool) (d site w a : ℕ) → (high_part site == 0) ≡ short → site < 2 ^ 32
+    → h.registers 0 ≡ 0 → h.registers 25 ≡ 0xffc00003 → h.registers 27 ≡ 0xffff0003
+    → (w < 32768) × (word_sum (h.registers 9) (at_value d) ≡ local_address w) → h.local w ≡ a
+    → IsTested places told (straight short alone d site w) h alone a site
+is_tested places told h true true d site w a is small nought shared heap at v = record {
+  can = (tt, (at, (tt, tt)));
+  site = short_site (h.registers 0) site nought is small;
+  same = record { nought = refl; frame = refl; behind = refl; number = refl; rank = refl; size = refl; local = refl; shared_data = refl; private_heap = refl; shared_mask = refl; devices = refl; heap_mask = refl; node = refl; body = refl };
+  top = refl;
+  local = λ k. refl;
+  live = refl;
+  shared = masked (h.local w) (h.registers 25) a 0xffc00003 v shared;
+  heap = λ e. absurd (cc);
+}
+is_tested places told h true false d site w a is small nought shared heap at v = record {
+  can = (tt, (at, (tt, (tt, tt))));
+  site = short_site (h.registers 0) site nought is small;
+  same = record { nought = refl; frame = refl; behind = refl; number = refl; rank = refl; size = refl; local = refl; shared_data = refl; private_heap = refl; shared_mask = refl; devices = refl; heap_mask = refl; node = refl; body = refl };
+  top = refl;
+  local = λ k. refl;
+  live = refl;
+  shared = masked (h.local w) (h.registers 25) a 0xffc00003 v shared;
+  heap = λ e. masked (h.local w) (h.registers 27) a 0xffff0003 v heap;
+}
+is_tested places told h false true d site w a is small nought shared heap at v = record {
+  can = (tt, (tt, (at, (tt, tt))));
+  site = long_site site small;
+  same = record { nought = refl; frame = refl; behind = refl; number = refl; rank = refl; size = refl; local = refl; shared_data = refl; private_heap = refl; shared_mask = refl; devices = refl; heap_mask = refl; node = refl; body = refl };
+  top = refl;
+  local = λ k. refl;
+  live = refl;
+  shared = masked (h.local w) (h.registers 25) a 0xffc00003 v shared;
+  heap = λ e. absurd (cc);
+}
+is_tested places told h false false d site w a is small nought shared heap at v = record {
+  can = (tt, (tt, (at, (tt, (tt, tt)))));
+  site = long_site site small;
+  same = record { nought = refl; frame = refl; behind = refl; number = refl; rank = refl; size = refl; local = refl; shared_data = refl; private_heap = refl; shared_mask = refl; devices = refl; heap_mask = refl; node = refl; body = refl };
+  top = refl;
+  local = λ k. refl;
+  live = refl;
+  shared = masked (h.local w) (h.registers 25) a 0xffc00003 v shared;
+  heap = λ e. masked (h.local w) (h.registers 27) a 0xffff0003 v heap;
+}
+
+-- ---- the ways through the block
+
 module _ (core : List CoreOp) (image : Image) (places : Places) (i : ℕ) (op : CoreOp) (setting : Setting) (t : MachineSetting) (p : Owner) (h : Hart) where
-  abbrev checked_part : (alone : Bool) → Commons → Answer → Part Commons Doing
-  checked_part alone s answer = as_part (number_of p) (answered (step_of core i op (Check alone) p.runner.left.callers) p.runner.has answer)
+  abbrev number : ℕ
+  number = number_of p
 
-  part_by : (alone : Bool) (s : Commons) (b : Bool) → may_use alone (last (values p.runner.has)) ≡ b
-      → part_of core image places i op (Check alone) setting p s ≡ checked_part alone s (if b then Served (found s p.heap) 0 else Faults BadAddress)
-  part_by alone s b e = ap (λ m. checked_part alone s (if m then Served (found s p.heap) 0 else Faults BadAddress)) e
+  abbrev told : Told
+  told = told_of t number
 
-  -- the registers before its commit, of either block
-  abbrev committing : (alone : Bool) → Hart
-  committing alone = walk_straight (told_of t (number_of p)) (check_block alone op.depth op.site).before h
+  abbrev a : ℕ
+  a = last (values p.runner.has)
 
-  can_walk : (alone : Bool) → IsFound p h op.depth (last (values p.runner.has)) → CanWalkStraight (told_of t (number_of p)) (check_block alone op.depth op.site).before h
-  can_walk true some = (some.place, (tt, (tt, (tt, (tt, (tt, (tt, (tt, (tt, (tt, (tt, tt)))))))))))
-  can_walk false some = (some.place, (tt, (tt, (tt, (tt, (tt, (tt, (tt, (tt, (tt, (tt, (tt, (tt, (tt, tt))))))))))))))
+  abbrev pub KeepsMost : Hart → Type 0
+  KeepsMost h' = Keeps places (length p.runner.has.callers) op.depth nothing h h'
 
-  pub record Chooses (alone : Bool) (a : ℕ) : Type 0 where
-    pub address : word_sum ((committing alone).registers 5) 8 ≡ chosen 0x20000000 (check_word alone a)
-    pub value : (committing alone).registers 6 ≡ word op.site
-    pub local : (k : ℕ) → (committing alone).local k ≡ h.local k
-    pub live : (committing alone).ended ≡ h.ended
-    pub same : SameRegisters places h (committing alone)
-    pub top : (committing alone).registers 21 ≡ h.registers 21
+  pub record IsHere (alone : Bool) : Type 0 where
+    pub at : StandsOp core i op (Check alone)
+    pub enters : Enters core image places setting t i op (Check alone) p h
+    pub fits : Fits core places.frames i op (Check alone)
 
-  chooses : (alone : Bool) (v : ℕ) → h.registers 0 ≡ 0 → h.registers 22 ≡ 0x20000000 → h.registers 23 ≡ 0x04000000 → h.registers 24 ≡ 0x08004000
-      → IsFound p h op.depth v → Chooses alone v
-  chooses true v nought local shared heap some = record {
-    address =
-        ap (λ a. chosen_by (h.registers 0) (h.registers 22) (applied ShrU (applied Sub (turned_word a) (h.registers 23)) 20)) some.value
-        ∙ ap (λ x. chosen_by (h.registers 0) (h.registers 22) (applied ShrU (applied Sub (turned_word v) x) 20)) shared
-        ∙ ap (λ x. chosen_by (h.registers 0) x (check_word true v)) local
-        ∙ ap (λ x. chosen_by x 0x20000000 (check_word true v)) nought;
-    value = number_of_parts op.site;
-    local = λ k. refl;
-    live = refl;
-    same = record { nought = refl; frame = refl; behind = refl; number = refl; rank = refl; size = refl; local = refl; shared_data = refl; private_heap = refl };
-    top = refl;
+  -- a hart that comes to a commit with the site in t0, and has left alone what its block leaves alone
+  record IsChecked (before kc : ℕ) (g : Hart) : Type 0 where
+    pub few : before ≤ 7
+    pub runs : RunsPrivately image t number before h g
+    pub pc : g.pc ≡ 4 * kc
+    pub site : g.registers 5 ≡ op.site
+    pub same : SameRegisters places h g
+    pub top : g.registers 21 ≡ h.registers 21
+    pub local : (k : ℕ) → g.local k ≡ h.local k
+    pub live : g.ended ≡ false
+
+  -- that goes on to another place by one more instruction, which changes no register that a block keeps
+  more : (before kc kc' : ℕ) (g g' : Hart) → IsChecked before kc g → suc before ≤ 7 → IsPrivateIn image (in_cycles before t) number g g' → g'.pc ≡ 4 * kc'
+      → g'.registers 5 ≡ g.registers 5 → SameRegisters places g g' → g'.registers 21 ≡ g.registers 21 → ((k : ℕ) → g'.local k ≡ g.local k) → g'.ended ≡ g.ended
+      → IsChecked (before + 1) kc' g'
+  more before kc kc' g g' c few goes pc site same top local live = record {
+    few = omega arith;
+    runs = runs_join image t number before 1 h g g' c.runs (g', goes, refl);
+    pc = pc;
+    site = site ∙ c.site;
+    same = record {
+      nought = same.nought ∙ c.same.nought;
+      frame = same.frame ∙ c.same.frame;
+      behind = same.behind ∙ c.same.behind;
+      number = same.number ∙ c.same.number;
+      rank = same.rank ∙ c.same.rank;
+      size = same.size ∙ c.same.size;
+      local = same.local ∙ c.same.local;
+      shared_data = same.shared_data ∙ c.same.shared_data;
+      private_heap = same.private_heap ∙ c.same.private_heap;
+      shared_mask = same.shared_mask ∙ c.same.shared_mask;
+      devices = same.devices ∙ c.same.devices;
+      heap_mask = same.heap_mask ∙ c.same.heap_mask;
+      node = same.node ∙ c.same.node;
+      body = same.body ∙ c.same.body;
+    };
+    top = top ∙ c.top;
+    local = λ k. local k ∙ c.local k;
+    live = live ∙ c.live;
   }
-  chooses false v nought local shared heap some = record {
-    address =
-        ap (λ a. chosen_by (h.registers 0) (h.registers 22) (applied Mul (applied ShrU (applied Sub (turned_word a) (h.registers 24)) 14) (applied ShrU (applied Sub (turned_word a) (h.registers 23)) 20))) some.value
-        ∙ ap (λ x. chosen_by (h.registers 0) (h.registers 22) (applied Mul (applied ShrU (applied Sub (turned_word v) x) 14) (applied ShrU (applied Sub (turned_word v) (h.registers 23)) 20))) heap
-        ∙ ap (λ x. chosen_by (h.registers 0) (h.registers 22) (applied Mul (applied ShrU (applied Sub (turned_word v) 0x08004000) 14) (applied ShrU (applied Sub (turned_word v) x) 20))) shared
-        ∙ ap (λ x. chosen_by (h.registers 0) x (check_word false v)) local
-        ∙ ap (λ x. chosen_by x 0x20000000 (check_word false v)) nought;
-    value = number_of_parts op.site;
-    local = λ k. refl;
-    live = refl;
-    same = record { nought = refl; frame = refl; behind = refl; number = refl; rank = refl; size = refl; local = refl; shared_data = refl; private_heap = refl };
-    top = refl;
-  }
 
-  passes : (alone : Bool) → Enters core image places setting t i op (Check alone) p h → Fits core places.frames i op (Check alone)
-      → Flows core places.frames nothing i (suc i)
-      → Chooses alone (last (values p.runner.has)) → may_use alone (last (values p.runner.has)) ≡ true → check_word alone (last (values p.runner.has)) ≡ 0
-      → (s : Commons) → Commits core image places i op (Check alone) setting p (check_block alone op.depth op.site) (committing alone) s
-  passes alone en fits flows found' may zero' s =
+  branched : (before kc kc' pc : ℕ) (g : Hart) → IsChecked before kc g → suc before ≤ 7 → IsPrivateIn image (in_cycles before t) number g (goes_to_pc g pc) → pc ≡ 4 * kc'
+      → IsChecked (before + 1) kc' (goes_to_pc g pc)
+  branched before kc kc' pc g c few goes is =
+      more before kc kc' g (goes_to_pc g pc) c few goes is refl
+      (record { nought = refl; frame = refl; behind = refl; number = refl; rank = refl; size = refl; local = refl; shared_data = refl; private_heap = refl; shared_mask = refl; devices = refl; heap_mask = refl; node = refl; body = refl })
+      refl (λ k. refl) refl
+
+  idled : (before kc : ℕ) (g : Hart) → Holds image t → IsChecked before kc g → suc before ≤ 7 → IsAt image kc idle 0 → IsChecked (before + 1) (suc kc) (after told idle Plain g)
+  idled before kc g holds c few at =
+      let within = at.within in
+      let pc = c.pc in
+      more before kc (suc kc) g (after told idle Plain g) c few
+      (private image (in_cycles before t) number kc idle g (after told idle Plain g) (holds_in_cycles image before t holds) at c.pc c.live (λ s. (s.reserved, refl)))
+      (omega arith) refl
+      (record { nought = refl; frame = refl; behind = refl; number = refl; rank = refl; size = refl; local = refl; shared_data = refl; private_heap = refl; shared_mask = refl; devices = refl; heap_mask = refl; node = refl; body = refl })
+      refl (λ k. refl) refl
+
+  asked : (alone : Bool) (s : Commons) (b : Bool) → may_use alone a ≡ b
+      → serve (request (Check alone) p.runner.has) (found s p.heap) number ≡ (if b then Served (found s p.heap) 0 else Faults BadAddress)
+  asked alone s b e = ap (λ m. if m then Served (found s p.heap) 0 else Faults BadAddress) e
+
+  -- an address that may be used
+  passes : (alone : Bool) → IsHere alone → (before kc : ℕ) (g : Hart) → IsChecked before kc g → IsAt image kc idle 1 → places.block (suc i) ≡ suc kc
+      → may_use alone a ≡ true → DoesAnd core image places setting t p h before 0 KeepsMost
+  passes alone here before kc g c at next may =
+      let en = here.enters in
       let stands = en.at.stands in
       let n = length p.runner.has.callers in
       let vs = values p.runner.has in
-      let header = fits.room.header in
-      let depth = en.ready.depth in
-      let at : word_sum ((committing alone).registers 5) 8 ≡ 0x20000008 = found'.address ∙ chosen_may 0x20000000 (check_word alone (last vs)) refl zero' in
-      let g = committing alone in
-      let v = g.registers 6 in
-      let m' = put g.local 2 v in
-      let same = found'.same in
-      record {
-        hart = record (moves g) { local = m' };
-        store = s;
-        owner = went places p (suc i) vs p.heap p.runner.has.top;
-        part = part_by alone s true may;
-        goes = λ t' earlier sh shows. (
-          _,
-          sw-local t' (number_of p) 5 6 8 2 g sh (omega (arith, at)) (ap place_of at ∙ place_of-local 0x20000008 2 (omega arith) (omega arith)),
-          record { words = shows.words; output = shows.output; common = shows.common },
-          refl,
-        );
-        pc = refl;
-        live = found'.live ∙ en.at.live;
-        can = λ told. tt;
-        at = refl;
-        stands = λ told. stands_on places p i (suc i) op.depth p.runner.has.top vs p.heap h (record (moves g) { local = m' }) stands en.index fits.room core flows
-            (record { nought = same.nought; frame = same.frame; behind = same.behind; number = same.number; rank = same.rank; size = same.size; local = same.local; shared_data = same.shared_data; private_heap = same.private_heap })
-            (found'.top ∙ stands.top)
-            (record { same = λ j from lt. other_word g.local 2 v j (λ e. omega arith) ∙ found'.local j })
-            (values_kept h.local m' (frame_end n) vs (omega arith) (λ j from lt. other_word g.local 2 v j (λ e. omega arith) ∙ found'.local j) stands.running.values)
-            (λ k lt. other_word g.local 2 v (16384 + k) (λ e. omega arith) ∙ found'.local (16384 + k) ∙ stands.heap k lt);
-      }
+      let header = here.fits.room.header in
+      let within = at.within in
+      let few = c.few in
+      let pc = c.pc in
+      let e = after told idle Plain g in
+      let same = c.same in
+      let on =
+      stands_on places p i (suc i) op.depth p.runner.has.top vs p.heap h e stands en.index here.fits.room core (here.fits.goes_on true)
+      (record { nought = same.nought; frame = same.frame; behind = same.behind; number = same.number; rank = same.rank; size = same.size; local = same.local; shared_data = same.shared_data; private_heap = same.private_heap; shared_mask = same.shared_mask; devices = same.devices; heap_mask = same.heap_mask; node = same.node; body = same.body })
+      (c.top ∙ stands.top)
+      (record { same = λ j from lt. c.local j })
+      (values_kept h.local e.local (frame_end n) vs (omega arith) (λ j from lt. c.local j) stands.running.values)
+      (λ k lt. c.local (16384 + k) ∙ stands.heap k lt) in
+      request_does_by core image places setting t i op (Check alone) p h here.at refl en before 0 (omega arith) (omega arith) g c.runs kc idle at c.pc c.live KeepsMost
+      (λ s. inl (record {
+        hart = e;
+        store = found s p.heap;
+        answer = 0;
+        served = asked alone s true may;
+        goes = λ earlier sh shows. (sh, refl, record { words = shows.words; output = shows.output; common = shows.common }, λ j. refl);
+        end = e;
+        runs = refl;
+        at = record {
+          live = c.live;
+          at = omega arith;
+          stands = on.0;
+        };
+        also = on.1;
+      }))
 
-  refuses : (alone : Bool) → op.site < 2 ^ 32
-      → Chooses alone (last (values p.runner.has)) → may_use alone (last (values p.runner.has)) ≡ false → 0 < check_word alone (last (values p.runner.has))
-      → (s : Commons) → Refuses core image places i op (Check alone) setting p (check_block alone op.depth op.site) (committing alone) s
-  refuses alone few found' may more s =
-      let vs = values p.runner.has in
-      let at : word_sum ((committing alone).registers 5) 8 ≡ 0x30000008 = found'.address ∙ chosen_refused 0x20000000 (check_word alone (last vs)) refl more in
-      let value = found'.value in
-      let is : (committing alone).registers 6 ≡ op.site = omega arith in
-      record {
-        site = op.site;
-        part = part_by alone s false may;
-        stops = λ t' earlier sh shows.
-            sw-fault t' (number_of p) 5 6 8 (committing alone) sh (omega (arith, at)) (ap place_of at ∙ place_of-fault)
-            ∙ ap (λ site. Stops (Faulted site (number_of p))) is;
-      }
+  -- one that may not
+  refuses : (alone : Bool) → IsHere alone → (before kc : ℕ) (g : Hart) → IsChecked before kc g → IsAt image kc refuse 1 → may_use alone a ≡ false
+      → DoesAnd core image places setting t p h before 0 KeepsMost
+  refuses alone here before kc g c at may =
+      let few = c.few in
+      let device : g.registers 26 ≡ 0x30000000 = c.same.devices ∙ here.enters.at.stands.devices in
+      request_does_by core image places setting t i op (Check alone) p h here.at refl here.enters before 0 (omega arith) (omega arith) g c.runs kc refuse at c.pc c.live KeepsMost
+      (λ s. inr (record {
+        kind = BadAddress;
+        refused = asked alone s false may;
+        stops = λ earlier sh shows.
+            sw-fault (in_cycles before t) number 26 5 8 g sh (omega (arith, device)) (ap (λ d. place_of (word_sum d 8)) device ∙ place_of-fault)
+            ∙ ap (λ site. Stops (Faulted site number)) c.site;
+      }))
 
-  each : (alone : Bool) → Enters core image places setting t i op (Check alone) p h → Fits core places.frames i op (Check alone)
-      → Flows core places.frames nothing i (suc i) → op.site < 2 ^ 32
-      → Chooses alone (last (values p.runner.has)) → Checks alone (last (values p.runner.has)) → (s : Commons)
-      → Commits core image places i op (Check alone) setting p (check_block alone op.depth op.site) (committing alone) s
-      ⊎ Refuses core image places i op (Check alone) setting p (check_block alone op.depth op.site) (committing alone) s
-  each alone en fits flows few found' (May may zero') s = inl (passes alone en fits flows found' may zero' s)
-  each alone en fits flows few found' (Refused may more) s = inr (refuses alone few found' may more s)
+  -- ---- from the lines that run straight on
 
-  before_few : (alone : Bool) → length (check_block alone op.depth op.site).before ≤ most_before
-  before_few true = omega arith
-  before_few false = omega arith
+  test_is : (x y b c : ℕ) (r : Bool) → x ≡ b → y ≡ c → (b == c) ≡ r → (x == y) ≡ r
+  test_is x y b c r e f g = ap (λ v. v == y) e ∙ ap (λ v. b == v) f ∙ g
+
+  chosen_alone : IsHere true → (bound : ℕ → ℕ) (before kb : ℕ) (g : Hart) → before ≤ 5 → IsChecked before kb g → LinesAt image bound kb (choices true) → places.block (suc i) ≡ kb + 3
+      → g.registers 6 ≡ shared_bits a → Checks true a → DoesAnd core image places setting t p h (before + 1) 0 KeepsMost
+  chosen_alone here bound before kb g few c lines next test (InShared may is) =
+      let t1 = in_cycles before t in
+      let holds = holds_in_cycles image before t here.enters.running.code in
+      let within = lines.1.1.0.within in
+      let pc = c.pc in
+      let e : (g.registers 6 == g.registers 23) ≡ true = test_is _ _ _ _ true test (c.same.shared_data ∙ here.enters.at.stands.shared_data) is in
+      let goes = beq_taken image t1 number kb 6 23 8 g holds lines.0 c.pc c.live e (omega arith) in
+      passes true here (before + 1) (suc (suc kb)) (goes_to_pc g (word_sum g.pc 8)) (branched before kb (suc (suc kb)) (word_sum g.pc 8) g c (omega arith) goes (omega arith)) lines.1.1.0 (omega arith) may
+  chosen_alone here bound before kb g few c lines next test (InHeap alone may other is) = absurd (cc)
+  chosen_alone here bound before kb g few c lines next test (Nowhere may other not_heap) =
+      let t1 = in_cycles before t in
+      let holds = holds_in_cycles image before t here.enters.running.code in
+      let within = lines.1.1.0.within in
+      let pc = c.pc in
+      let e : (g.registers 6 == g.registers 23) ≡ false = test_is _ _ _ _ false test (c.same.shared_data ∙ here.enters.at.stands.shared_data) other in
+      let goes = beq_on image t1 number kb 6 23 8 g holds lines.0 c.pc c.live e in
+      refuses true here (before + 1) (suc kb) (goes_to_pc g (word_sum g.pc 4)) (branched before kb (suc kb) (word_sum g.pc 4) g c (omega arith) goes (omega arith)) lines.1.0 may
+
+  chosen_any : IsHere false → (bound : ℕ → ℕ) (before kb : ℕ) (g : Hart) → before ≤ 5 → IsChecked before kb g → LinesAt image bound kb (choices false) → places.block (suc i) ≡ kb + 5
+      → g.registers 7 ≡ shared_bits a → g.registers 6 ≡ heap_bits a → Checks false a → DoesAnd core image places setting t p h (before + 1 + 1) 0 KeepsMost
+  chosen_any here bound before kb g few c lines next test test' (InShared may is) =
+      let code = here.enters.running.code in
+      let holds = holds_in_cycles image before t code in
+      let within = lines.1.1.1.1.0.within in
+      let pc = c.pc in
+      let e : (g.registers 7 == g.registers 23) ≡ true = test_is _ _ _ _ true test (c.same.shared_data ∙ here.enters.at.stands.shared_data) is in
+      let goes = beq_taken image (in_cycles before t) number kb 7 23 12 g holds lines.0 c.pc c.live e (omega arith) in
+      let k3 = suc (suc (suc kb)) in
+      let g1 = goes_to_pc g (word_sum g.pc 12) in
+      let c1 = branched before kb k3 (word_sum g.pc 12) g c (omega arith) goes (omega arith) in
+      passes false here (before + 1 + 1) (suc k3) (after told idle Plain g1) (idled (before + 1) k3 g1 code c1 (omega arith) lines.1.1.1.0) lines.1.1.1.1.0 (omega arith) may
+  chosen_any here bound before kb g few c lines next test test' (InHeap alone may other is) =
+      let code = here.enters.running.code in
+      let within = lines.1.1.1.1.0.within in
+      let pc = c.pc in
+      let e : (g.registers 7 == g.registers 23) ≡ false = test_is _ _ _ _ false test (c.same.shared_data ∙ here.enters.at.stands.shared_data) other in
+      let goes = beq_on image (in_cycles before t) number kb 7 23 12 g (holds_in_cycles image before t code) lines.0 c.pc c.live e in
+      let g1 = goes_to_pc g (word_sum g.pc 4) in
+      let c1 = branched before kb (suc kb) (word_sum g.pc 4) g c (omega arith) goes (omega arith) in
+      let pc1 = c1.pc in
+      let k4 = suc (suc (suc (suc kb))) in
+      let e1 : (g1.registers 6 == g1.registers 24) ≡ true = test_is _ _ _ _ true test' (c.same.private_heap ∙ here.enters.at.stands.private_heap) is in
+      let goes1 = beq_taken image (in_cycles (before + 1) t) number (suc kb) 6 24 12 g1 (holds_in_cycles image (before + 1) t code) lines.1.0 c1.pc c1.live e1 (omega arith) in
+      passes false here (before + 1 + 1) k4 (goes_to_pc g1 (word_sum g1.pc 12)) (branched (before + 1) (suc kb) k4 (word_sum g1.pc 12) g1 c1 (omega arith) goes1 (omega arith)) lines.1.1.1.1.0 (omega arith) may
+  chosen_any here bound before kb g few c lines next test test' (Nowhere may other not_heap) =
+      let code = here.enters.running.code in
+      let within = lines.1.1.1.1.0.within in
+      let pc = c.pc in
+      let e : (g.registers 7 == g.registers 23) ≡ false = test_is _ _ _ _ false test (c.same.shared_data ∙ here.enters.at.stands.shared_data) other in
+      let goes = beq_on image (in_cycles before t) number kb 7 23 12 g (holds_in_cycles image before t code) lines.0 c.pc c.live e in
+      let g1 = goes_to_pc g (word_sum g.pc 4) in
+      let c1 = branched before kb (suc kb) (word_sum g.pc 4) g c (omega arith) goes (omega arith) in
+      let pc1 = c1.pc in
+      let e1 : (g1.registers 6 == g1.registers 24) ≡ false = test_is _ _ _ _ false test' (c.same.private_heap ∙ here.enters.at.stands.private_heap) (not_heap refl) in
+      let goes1 = beq_on image (in_cycles (before + 1) t) number (suc kb) 6 24 12 g1 (holds_in_cycles image (before + 1) t code) lines.1.0 c1.pc c1.live e1 in
+      refuses false here (before + 1 + 1) (suc (suc kb)) (goes_to_pc g1 (word_sum g1.pc 4)) (branched (before + 1) (suc kb) (suc (suc kb)) (word_sum g1.pc 4) g1 c1 (omega arith) goes1 (omega arith)) lines.1.1.0 may
+
+  chosen : (alone : Bool) → IsHere alone → (bound : ℕ → ℕ) (before kb : ℕ) (g : Hart) → before ≤ 5 → IsChecked before kb g → LinesAt image bound kb (choices alone)
+      → places.block (suc i) ≡ kb + length (choices alone) → g.registers (shared_test_register alone) ≡ shared_bits a → (alone ≡ false → g.registers 6 ≡ heap_bits a)
+      → Checks alone a → DoesAnd core image places setting t p h (chosen_in alone before) 0 KeepsMost
+  chosen true here bound before kb g few c lines next test heap finds = chosen_alone here bound before kb g few c lines next test finds
+  chosen false here bound before kb g few c lines next test heap finds = chosen_any here bound before kb g few c lines next test (heap refl) finds
+
+  check_by : (alone short : Bool) → (high_part op.site == 0) ≡ short → IsHere alone → (bound : ℕ → ℕ) → op.site < 2 ^ 32
+      → HasBlock image bound places i (map quiet (load_by short op.site) ++ test_lines alone op.depth) → DoesAnd core image places setting t p h (length (load_by short op.site) + test_steps alone) 0 KeepsMost
+  check_by alone short is here bound small has =
+      let en = here.enters in
+      let stands = en.at.stands in
+      let d = op.depth in
+      let some = last_found core image places i op (Check alone) setting t p h en here.fits (let l = here.fits.values in omega arith) in
+      let w = local_index (word_sum (h.registers 9) (at_value d)) in
+      let qs = straight short alone d op.site w in
+      let stands_at = subst (HasBlock image bound places i) (are_lines short alone d op.site w) has in
+      let k = places.block i in
+      let entry : h.pc ≡ 4 * k = en.at.at ∙ ap (λ j. 4 * places.block j) en.index in
+      let split = lines_split image bound k (quiet_lines qs) (choices alone) stands_at.lines in
+      let tested = is_tested places told h short alone d op.site w a is small stands.nought stands.shared_mask stands.heap_mask some.place some.value in
+      let walks = walked image bound t number en.running.code qs k h split.0 entry en.at.live tested.can in
+      let count = quiet_length qs in
+      let few = few_straight short alone d op.site w in
+      let all = length-append (quiet_lines qs) (choices alone) in
+      let next = stands_at.next in
+      let kb = k + length (quiet_lines qs) in
+      subst (λ steps. DoesAnd core image places setting t p h steps 0 KeepsMost) (all_steps short alone d op.site w)
+      (chosen alone here bound (length qs) kb (walk told qs h) few
+      (record {
+        few = omega arith;
+        runs = walks.runs;
+        pc = walks.pc ∙ ap (λ n. 4 * (k + n)) (sym count);
+        site = tested.site;
+        same = tested.same;
+        top = tested.top;
+        local = tested.local;
+        live = walks.live;
+      })
+      split.1 (omega arith) tested.shared tested.heap
+      (checks alone a (last_is_word (values p.runner.has) en.ready.in_range.values)))
 
   pub check_does : (alone : Bool) (bound : ℕ → ℕ) → StandsOp core i op (Check alone) → Enters core image places setting t i op (Check alone) p h
       → Fits core places.frames i op (Check alone) → op.site < 2 ^ 32
-      → HasBlock image bound places i (lines (check_block alone op.depth op.site)) → Does core image places setting t p h
+      → HasBlock image bound places i (check_block alone op.depth op.site) → DoesAnd core image places setting t p h (before_commit (Check alone) op.site) 0 KeepsMost
   check_does alone bound op_at en fits few has =
-      let some = last_found core image places i op (Check alone) setting t p h en fits (let l = fits.values in omega arith) in
-      let stands = en.at.stands in
-      let found' = chooses alone (last (values p.runner.has)) stands.nought stands.local stands.shared_data stands.private_heap some in
-      does core image places i op (Check alone) setting p (check_block alone op.depth op.site) bound t h op_at en has (before_few alone) (omega arith) (can_walk alone some)
-      (each alone en fits (fits.goes_on true) few found' (checks alone (last (values p.runner.has)) (last_is_word (values p.runner.has) en.ready.in_range.values)))
+      check_by alone (high_part op.site == 0) refl (record { at = op_at; enters = en; fits = fits }) bound few has

@@ -12,7 +12,7 @@ use Rattle.fk_store.specs.Store.{private_words, private_address}
 use Rattle.fk_store.specs.Serve.{words_of}
 use Rattle.fk_run.specs.Processor.{Processor, in_place}
 use Rattle.fk_run.specs.Local.{taken}
-use Rattle.fk_gen_access.proofs.Checked.{difference}
+use Rattle.fk_gen_access.proofs.Difference.{difference}
 
 -- the words of a size, how many there are left, all ones where they are enough, and else 0
 abbrev pub size_word : (bytes : ℕ) → ℕ

@@ -1,17 +1,17 @@
 -- The blocks of accesses: `malloc`, checks of addresses, reads, writes, multiprefixes and prints.
-use Rattle.std.specs.Prelude.{◌≡◌, ℕ, ◌-◌, ◌≤◌, List, [], ◌∷◌, ◌++◌, map, Bool, true, false, Option, Some}
+use Rattle.std.specs.Prelude.{◌≡◌, ℕ, ◌-◌, ◌≤◌, ◌+◌, List, [], ◌∷◌, ◌++◌, map, length, Bool, true, false, Option, Some}
 use Rattle.fk_operation.specs.declared.operation.Multiprefix.{Multiprefix}
 use Rattle.fk_operation.specs.declared.operation.Multiprefix.TheVariants.{MpAdd, MpMax, MpAnd, MpOr}
 use Rattle.fk_operation.specs.declared.operation.Operation.{Operation}
 use Rattle.fk_operation.specs.declared.operation.Operation.TheVariants.{Take, Check, Read, Write, Combine, PrintNumber, PrintByte}
 use Rattle.fk_isa.specs.declared.instruction.Instruction.{Instruction}
-use Rattle.fk_isa.specs.declared.instruction.Instruction.TheVariants.{Lui, Addi, Slli, Srli, Add, Sub, Sltu, Or, And, Mul, Lw, Sw, AmoAddW, AmoAndW, AmoOrW, AmoMaxW}
+use Rattle.fk_isa.specs.declared.instruction.Instruction.TheVariants.{Lui, Addi, Slli, Srli, Add, Sub, Sltu, And, Beq, Lw, Sw, AmoAddW, AmoAndW, AmoOrW, AmoMaxW}
 use Rattle.fk_asm.specs.Block.{MarkedLine}
-use Rattle.fk_block_law.specs.Stands.{end_register, top_register, local_register, shared_register, heap_register}
+use Rattle.fk_block_law.specs.Stands.{end_register, top_register, shared_register, heap_register, shared_mask_register, device_register, heap_mask_register}
 use Rattle.fk_core.specs.Numbers.{operation_of}
 use Rattle.fk_gen.specs.declared.placed.Placed.{Placed}
 use Rattle.fk_gen.specs.Registers.{zero_register, t0, t1, t2, t3}
-use Rattle.fk_gen.specs.Lines.{quiet, commits, at_value, high_part, low_part}
+use Rattle.fk_gen.specs.Lines.{quiet, commits, at_value, load_number}
 
 -- a block runs straight: what precedes its commit, the commit, and what follows it
 pub record Straight : Type 0 where
@@ -22,10 +22,7 @@ pub record Straight : Type 0 where
 abbrev pub lines : Straight → List MarkedLine
 lines b = map quiet b.before ++ (commits b.commit ∷ map quiet b.behind)
 
--- where the devices stand, and from there on those that print a number, that print a byte, and that end a run at a site
-abbrev pub devices : ℕ
-devices = 0x30000
-
+-- how far from the first device on those stand that print a number, that print a byte, and that end a run at a site
 abbrev pub number_device : ℕ
 number_device = 0
 
@@ -51,8 +48,8 @@ store_earlier r d = Sw end_register r (at_value (d - 1))
 -- prints the last value as a number, or its lowest byte
 abbrev pub print_block : (device depth : ℕ) → Straight
 print_block device d = record {
-  before = load_last t0 d ∷ Lui t1 devices ∷ [];
-  commit = Sw t1 t0 device;
+  before = load_last t0 d ∷ [];
+  commit = Sw device_register t0 device;
   behind = [];
 }
 
@@ -86,29 +83,31 @@ combine_block by d = record {
   behind = store_earlier t0 d ∷ [];
 }
 
--- An address is turned right by two places, so that one that is no multiple of 4 becomes large. How far it then lies behind
--- the first word of shared data, and behind that of the private heap, is less than their numbers of words exactly within
--- them: so it is 0 when these numbers are shifted out. The product of both is 0 exactly where the address may be used
-abbrev pub turn : (depth : ℕ) → List Instruction
-turn d = load_last t0 d ∷ Srli t1 t0 2 ∷ Slli t0 t0 30 ∷ Or t0 t0 t1 ∷ []
+-- An address is told by its mask: that of shared data, or of the private heap. One that may be used leads past the store to
+-- the device that ends the run at the site, to an instruction that does nothing. Either of the two commits, and as many
+-- instructions precede it on each way
+abbrev pub idle : Instruction
+idle = Addi zero_register zero_register 0
 
-abbrev pub tests : (shared_alone : Bool) → List Instruction
-tests true = Sub t0 t0 shared_register ∷ Srli t0 t0 20 ∷ []
-tests false =
-    Sub t1 t0 shared_register ∷ Srli t1 t1 20 ∷ Sub t0 t0 heap_register ∷ Srli t0 t0 14 ∷ Mul t0 t0 t1 ∷ []
+abbrev pub refuse : Instruction
+refuse = Sw device_register t0 fault_device
 
--- the site goes to the device that ends the run at it; or, of an address that may be used, to a word of local memory that
--- nobody needs
-abbrev pub choose : (site : ℕ) → List Instruction
-choose site =
-    Sltu t0 zero_register t0 ∷ Slli t0 t0 28 ∷ Add t0 t0 local_register ∷ Lui t1 (high_part site) ∷ Addi t1 t1 (low_part site) ∷ []
+abbrev pub shared_test : (depth : ℕ) → List MarkedLine
+shared_test d =
+    quiet (load_last t1 d) ∷ quiet (And t1 t1 shared_mask_register) ∷ quiet (Beq t1 shared_register 8) ∷ commits refuse ∷
+    commits idle ∷ []
 
-abbrev pub check_block : (shared_alone : Bool) → (depth site : ℕ) → Straight
-check_block alone d site = record {
-  before = turn d ++ (tests alone ++ choose site);
-  commit = Sw t0 t1 fault_device;
-  behind = [];
-}
+abbrev pub any_test : (depth : ℕ) → List MarkedLine
+any_test d =
+    quiet (load_last t1 d) ∷ quiet (And t2 t1 shared_mask_register) ∷ quiet (And t1 t1 heap_mask_register) ∷
+    quiet (Beq t2 shared_register 12) ∷ quiet (Beq t1 heap_register 12) ∷ commits refuse ∷ quiet idle ∷ commits idle ∷ []
+
+abbrev pub test_lines : (shared_alone : Bool) → (depth : ℕ) → List MarkedLine
+test_lines true d = shared_test d
+test_lines false d = any_test d
+
+abbrev pub check_block : (shared_alone : Bool) → (depth site : ℕ) → List MarkedLine
+check_block alone d site = map quiet (load_number site) ++ test_lines alone d
 
 -- how many words the private heap has, and its address, each by its upper 20 bits
 abbrev pub heap_words : ℕ
@@ -142,13 +141,34 @@ is_access operation = false
 -- the block of an access that finds so many values, at a site
 abbrev pub block_of : Option Operation → (depth site : ℕ) → List MarkedLine
 block_of (Some Take) d site = lines (take_block d)
-block_of (Some (Check shared_alone)) d site = lines (check_block shared_alone d site)
+block_of (Some (Check shared_alone)) d site = check_block shared_alone d site
 block_of (Some Read) d site = lines (read_block d)
 block_of (Some Write) d site = lines (write_block d)
 block_of (Some (Combine by)) d site = lines (combine_block by d)
 block_of (Some PrintNumber) d site = lines (print_block number_device d)
 block_of (Some PrintByte) d site = lines (print_block byte_device d)
 block_of operation d site = []
+
+-- how many instructions precede the commit of its block, and follow it
+abbrev pub test_steps : (shared_alone : Bool) → ℕ
+test_steps true = 3
+test_steps false = 5
+
+abbrev pub before_commit : Operation → (site : ℕ) → ℕ
+before_commit (Check shared_alone) site = length (load_number site) + test_steps shared_alone
+before_commit Read site = 1
+before_commit Write site = 2
+before_commit (Combine by) site = 2
+before_commit PrintNumber site = 1
+before_commit PrintByte site = 1
+before_commit operation site = 0
+
+abbrev pub behind_commit : Operation → ℕ
+behind_commit Take = 14
+behind_commit Read = 1
+behind_commit Write = 1
+behind_commit (Combine by) = 1
+behind_commit operation = 0
 
 -- a block is made for an access that finds so many values at most
 pub record HasAccess (placed : Placed) : Type 0 where

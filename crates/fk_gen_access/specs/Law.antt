@@ -8,7 +8,8 @@ use Rattle.fk_block_law.specs.Next.{StandsOp}
 use Rattle.fk_block_law.specs.Suits.{Fits}
 use Rattle.fk_block_law.specs.Block.{BlockDoes}
 use Rattle.fk_gen.specs.InPlace.{HasBlock}
-use Rattle.fk_gen_access.specs.Blocks.{is_access, block_of}
+use Rattle.fk_gen.specs.Keeps.{BlockDoesBy}
+use Rattle.fk_gen_access.specs.Blocks.{is_access, block_of, before_commit, behind_commit}
 
 -- the block of an access in its place, in a list whose values have room, does the access
 abbrev pub AccessBlocksDo : Type 0
@@ -17,3 +18,11 @@ AccessBlocksDo =
     → StandsOp core i op operation → is_access (Some operation) ≡ true → op.site < 2 ^ 32
     → HasBlock image bound places i (block_of (Some operation) op.depth op.site) → Fits core places.frames i op operation
     → BlockDoes core image places i op operation
+
+-- it takes so many cycles, and keeps what such a block keeps
+abbrev pub AccessBlocksKeep : Type 0
+AccessBlocksKeep =
+    (core : List CoreOp) (image : Image) (bound : ℕ → ℕ) (places : Places) (i : ℕ) (op : CoreOp) (operation : Operation)
+    → StandsOp core i op operation → is_access (Some operation) ≡ true → op.site < 2 ^ 32
+    → HasBlock image bound places i (block_of (Some operation) op.depth op.site) → Fits core places.frames i op operation
+    → BlockDoesBy core image places (before_commit operation op.site) (λ onward. behind_commit operation) i op operation

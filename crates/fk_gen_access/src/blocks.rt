@@ -4,19 +4,19 @@ ghost use Rattle.std.specs.Prelude.{◌≡◌, ◌+◌, ◌^◌, ◌<◌, ◌≤
 ghost use Rattle.fk_isa.specs.Fits.{Fits};
 ghost use Rattle.fk_asm.specs.Assembly.{AreFollowed};
 ghost use Rattle.fk_asm.specs.Block.{HasBegun, with_block};
-ghost use Rattle.fk_gen_access.specs.Blocks.{lines, load_last, load_earlier, store_last, store_earlier, combining, take_block, check_block, read_block, write_block, combine_block, print_block};
+ghost use Rattle.fk_gen_access.specs.Blocks.{lines, load_last, load_earlier, store_last, store_earlier, combining, take_block, check_block, shared_test, any_test, test_lines, read_block, write_block, combine_block, print_block};
 
 use fk_asm::{Assembler, Blocks};
-use fk_gen::numbers::{at_value, high_part, low_part};
-use fk_gen::registers::{END, HEAP, LOCAL, SHARED, T0, T1, T2, T3, TOP, ZERO};
-use fk_gen::{BlockLine, Placed, emit_lines};
+use fk_gen::numbers::at_value;
+use fk_gen::registers::{
+    DEVICES, END, HEAP, HEAP_MASK, SHARED, SHARED_MASK, T0, T1, T2, T3, TOP, ZERO,
+};
+use fk_gen::{BlockLine, Placed, emit_lines, emit_number};
 use fk_isa::Instruction;
 use fk_operation::{Multiprefix, Operation};
 use std::alloc::AllocError;
 
-/// The upper 20 bits of the addresses of devices.
-const DEVICES: u32 = 0x30000;
-/// How far from there on the device stands that prints a number.
+/// How far from the first device on the one stands that prints a number.
 const NUMBER_DEVICE: u32 = 0;
 /// The one that prints a byte.
 const BYTE_DEVICE: u32 = 4;
@@ -85,71 +85,69 @@ fn take(into: &mut Assembler, depth: u32) -> Result<(), AllocError>
 
 fn check(into: &mut Assembler, shared_alone: bool, depth: u32, site: u32) -> Result<(), AllocError>
     requires depth { depth ≤ 56 }
-    requires room { length into.old.lines + length (lines (check_block shared_alone depth site)) < 2 ^ 30 }
+    requires room { length into.old.lines + length (check_block shared_alone depth site) < 2 ^ 30 }
     requires free { AreFollowed into.old }
-    ensures added { OnOk result (into.new ≡ with_block into.old (lines (check_block shared_alone depth site))) }
-    ensures begun { OnErr result (HasBegun (lines (check_block shared_alone depth site)) into.old into.new) }
+    ensures added { OnOk result (into.new ≡ with_block into.old (check_block shared_alone depth site)) }
+    ensures begun { OnErr result (HasBegun (check_block shared_alone depth site) into.old into.new) }
+{
+    emit_number(into, site)?;
+    test(into, shared_alone, depth)
+}
+
+// Ends the run at the site in `t0`, unless the last value is an address that may be used.
+fn test(into: &mut Assembler, shared_alone: bool, depth: u32) -> Result<(), AllocError>
+    requires depth { depth ≤ 56 }
+    requires room { length into.old.lines + length (test_lines shared_alone depth) < 2 ^ 30 }
+    requires free { AreFollowed into.old }
+    ensures added { OnOk result (into.new ≡ with_block into.old (test_lines shared_alone depth)) }
+    ensures begun { OnErr result (HasBegun (test_lines shared_alone depth) into.old into.new) }
 {
     if shared_alone {
-        check_shared(into, depth, site)
+        test_shared(into, depth)
     } else {
-        check_any(into, depth, site)
+        test_any(into, depth)
     }
 }
 
 // That of an address of shared data alone.
-fn check_shared(into: &mut Assembler, depth: u32, site: u32) -> Result<(), AllocError>
+fn test_shared(into: &mut Assembler, depth: u32) -> Result<(), AllocError>
     requires depth { depth ≤ 56 }
-    requires room { length into.old.lines + length (lines (check_block true depth site)) < 2 ^ 30 }
+    requires room { length into.old.lines + 5 < 2 ^ 30 }
     requires free { AreFollowed into.old }
-    ensures added { OnOk result (into.new ≡ with_block into.old (lines (check_block true depth site))) }
-    ensures begun { OnErr result (HasBegun (lines (check_block true depth site)) into.old into.new) }
+    ensures added { OnOk result (into.new ≡ with_block into.old (shared_test depth)) }
+    ensures begun { OnErr result (HasBegun (shared_test depth) into.old into.new) }
 {
     emit_lines(
         into,
         &[
-            BlockLine::quiet(load_last(T0, depth)),
-            BlockLine::quiet(Instruction::Srli(T1, T0, 2)),
-            BlockLine::quiet(Instruction::Slli(T0, T0, 30)),
-            BlockLine::quiet(Instruction::Or(T0, T0, T1)),
-            BlockLine::quiet(Instruction::Sub(T0, T0, SHARED)),
-            BlockLine::quiet(Instruction::Srli(T0, T0, 20)),
-            BlockLine::quiet(Instruction::Sltu(T0, ZERO, T0)),
-            BlockLine::quiet(Instruction::Slli(T0, T0, 28)),
-            BlockLine::quiet(Instruction::Add(T0, T0, LOCAL)),
-            BlockLine::quiet(Instruction::Lui(T1, high_part(site))),
-            BlockLine::quiet(Instruction::Addi(T1, T1, low_part(site))),
-            BlockLine::commits(Instruction::Sw(T0, T1, FAULT_DEVICE)),
+            BlockLine::quiet(load_last(T1, depth)),
+            BlockLine::quiet(Instruction::And(T1, T1, SHARED_MASK)),
+            BlockLine::quiet(Instruction::Beq(T1, SHARED, 8)),
+            BlockLine::commits(Instruction::Sw(DEVICES, T0, FAULT_DEVICE)),
+            BlockLine::commits(Instruction::Addi(ZERO, ZERO, 0)),
         ],
     )
 }
 
 // That of an address of shared data or of the private heap.
-fn check_any(into: &mut Assembler, depth: u32, site: u32) -> Result<(), AllocError>
+fn test_any(into: &mut Assembler, depth: u32) -> Result<(), AllocError>
     requires depth { depth ≤ 56 }
-    requires room { length into.old.lines + length (lines (check_block false depth site)) < 2 ^ 30 }
+    requires room { length into.old.lines + 8 < 2 ^ 30 }
     requires free { AreFollowed into.old }
-    ensures added { OnOk result (into.new ≡ with_block into.old (lines (check_block false depth site))) }
-    ensures begun { OnErr result (HasBegun (lines (check_block false depth site)) into.old into.new) }
+    ensures added { OnOk result (into.new ≡ with_block into.old (any_test depth)) }
+    ensures begun { OnErr result (HasBegun (any_test depth) into.old into.new) }
 {
     emit_lines(
         into,
         &[
-            BlockLine::quiet(load_last(T0, depth)),
-            BlockLine::quiet(Instruction::Srli(T1, T0, 2)),
-            BlockLine::quiet(Instruction::Slli(T0, T0, 30)),
-            BlockLine::quiet(Instruction::Or(T0, T0, T1)),
-            BlockLine::quiet(Instruction::Sub(T1, T0, SHARED)),
-            BlockLine::quiet(Instruction::Srli(T1, T1, 20)),
-            BlockLine::quiet(Instruction::Sub(T0, T0, HEAP)),
-            BlockLine::quiet(Instruction::Srli(T0, T0, 14)),
-            BlockLine::quiet(Instruction::Mul(T0, T0, T1)),
-            BlockLine::quiet(Instruction::Sltu(T0, ZERO, T0)),
-            BlockLine::quiet(Instruction::Slli(T0, T0, 28)),
-            BlockLine::quiet(Instruction::Add(T0, T0, LOCAL)),
-            BlockLine::quiet(Instruction::Lui(T1, high_part(site))),
-            BlockLine::quiet(Instruction::Addi(T1, T1, low_part(site))),
-            BlockLine::commits(Instruction::Sw(T0, T1, FAULT_DEVICE)),
+            BlockLine::quiet(load_last(T1, depth)),
+            BlockLine::quiet(Instruction::And(T2, T1, SHARED_MASK)),
+            BlockLine::quiet(Instruction::And(T1, T1, HEAP_MASK)),
+            BlockLine::quiet(Instruction::Beq(T2, SHARED, 12)),
+            BlockLine::quiet(Instruction::Beq(T1, HEAP, 12)),
+            BlockLine::commits(Instruction::Sw(DEVICES, T0, FAULT_DEVICE)),
+            BlockLine::quiet(Instruction::Addi(ZERO, ZERO, 0)),
+            BlockLine::commits(Instruction::Addi(ZERO, ZERO, 0)),
         ],
     )
 }
@@ -219,8 +217,7 @@ fn print(into: &mut Assembler, device: u32, depth: u32) -> Result<(), AllocError
         into,
         &[
             BlockLine::quiet(load_last(T0, depth)),
-            BlockLine::quiet(Instruction::Lui(T1, DEVICES)),
-            BlockLine::commits(Instruction::Sw(T1, T0, device)),
+            BlockLine::commits(Instruction::Sw(DEVICES, T0, device)),
         ],
     )
 }

@@ -1,6 +1,8 @@
 -- The block of each operation of expressions does it.
 use Rattle.std.proofs.Common.{◌≡◌, ℕ, suc, ◌+◌, ◌-◌, ◌*◌, ◌^◌, ◌<◌, ◌≤◌, List, [], ◌∷◌, ◌++◌, length, Bool, true, false, refl, sym, ap, subst, ◌∙◌, arith}
+use Rattle.std.specs.Prelude.{◌==◌}
 use Rattle.std.proofs.lemmas.List.{length-append}
+use Rattle.std.proofs.lemmas.Bool.{eqb-true, eq-eqb}
 use Rattle.fk_num.specs.Word.{put, word, word_sum}
 use Rattle.fk_num.specs.Op.{applied}
 use Rattle.fk_num.specs.declared.operator.Op.{Op}
@@ -18,25 +20,26 @@ use Rattle.fk_core.specs.declared.op.CoreOp.{CoreOp}
 use Rattle.fk_core.specs.Next.{position}
 use Rattle.fk_image.specs.declared.Image.{Image}
 use Rattle.fk_isa.specs.declared.instruction.Instruction.{Instruction}
-use Rattle.fk_isa.specs.declared.instruction.Instruction.TheVariants.{Lui, Addi, Add, Mul, Lw, Sw}
+use Rattle.fk_isa.specs.declared.instruction.Instruction.TheVariants.{Lui, Addi, Slli, Add, Mul, Lw, Sw}
 use Rattle.fk_machine.specs.Hart.{Hart, Setting as MachineSetting}
 use Rattle.fk_block_law.specs.Owner.{Owner, number_of, owner_of}
 use Rattle.fk_block_law.specs.Stands.{Places, HasRoom, frame_end, frame_start, local_address, StandsFor}
 use Rattle.fk_block_law.specs.Next.{StandsOp}
 use Rattle.fk_block_law.specs.Suits.{Fits, Flows, writes}
-use Rattle.fk_block_law.specs.Block.{Enters, Does}
+use Rattle.fk_block_law.specs.Block.{Enters}
 use Rattle.fk_gen.specs.InPlace.{HasBlock}
-use Rattle.fk_gen.specs.Lines.{at_value, at_private, high_part, low_part}
+use Rattle.fk_gen.specs.Keeps.{Keeps, DoesAnd, past_first, peak}
+use Rattle.fk_gen.specs.Lines.{at_value, at_private, high_part, low_part, load_by, load_number}
 use Rattle.fk_gen.proofs.Walk.{Told, Quiets, Reached, Plain, LocalAt, TellsNumber, TellsHarts, TellsInputs, walk, CanWalk, told_of, after}
 use Rattle.fk_gen_expr.specs.Operators.{operator_code, sign_instruction}
-use Rattle.fk_gen_expr.specs.Expressions.{IsExpression, expression_block, first_commits, load_value, store_value}
-use Rattle.fk_gen_expr.specs.Law.{ExpressionsDo}
-use Rattle.fk_gen.proofs.Values.{values_before, value_at, values_put, joined_is, value_place, private_place, own_place, number_of_parts}
-use Rattle.fk_gen.proofs.Does.{local_doing}
+use Rattle.fk_gen_expr.specs.Expressions.{IsExpression, expression_block, first_commits, load_value, store_value, times_size}
+use Rattle.fk_gen_expr.specs.Law.{ExpressionsDo, ExpressionsKeep}
+use Rattle.fk_gen.proofs.Values.{other_word, values_before, value_at, values_put, joined_is, value_place, private_place, own_place, number_of_parts, number_of_low_part}
+use Rattle.fk_gen.proofs.Does.{local_doing, does_of}
 use Rattle.fk_gen.proofs.Standing.{InMemory, in_memory, stands_with, with_list, value_written, nothing_written, private_written, own_written}
 use Rattle.fk_gen_expr.proofs.Local.{length-on_registers, IsLocal, code_does, instructions_of, on_registers, instructions_of-append, walk-append, can_walk-append}
 use Rattle.fk_gen_expr.proofs.Operators.{few_of_operator, HasSame, Gives, HasOperands, itself, gives_behind, operator_gives, sign_gives}
-use Rattle.fk_gen_expr.proofs.Values.{last_word, words_before, element}
+use Rattle.fk_gen_expr.proofs.Values.{last_word, words_before, element, word_element}
 
 less_room : (places : Places) (i more less : ℕ) → less ≤ more → HasRoom places.frames i more → HasRoom places.frames i less
 less_room places i more less le room =
@@ -69,12 +72,19 @@ module _ (core : List CoreOp) (image : Image) (places : Places) (bound : ℕ →
     pub fits : Fits core places.frames i op operation
     pub enters : Enters core image places setting t i op operation p h
 
+  -- it does its operation, and keeps what such a block keeps
+  abbrev KeepsMost : Operation → Hart → Type 0
+  KeepsMost operation h' = Keeps places n (peak operation d) (writes operation) h h'
+
+  abbrev pub IsDone : Operation → Type 0
+  IsDone operation = DoesAnd core image places setting t p h 0 (past_first (expression_block globals d operation)) (KeepsMost operation)
+
   -- behind its code it stands for a processor of the same level, with as many calls waiting, that it has in memory
   stands_after : (operation : Operation) (h2 : Hart) (p2 : Owner) → Here operation → HasSame h h2 → p2.runner.has.level ≡ p.runner.has.level
       → length p2.runner.has.callers ≡ n → p2.runner.has.top ≡ p.runner.has.top → InMemory places h2.local p2 → StandsFor places p2 h2
   stands_after operation h2 p2 here same level calls top held =
       stands_with places p p2 h h2 here.enters.at.stands
-      (same.0, same.1, same.2, same.3, same.4, same.5, same.6, same.7, same.8) level calls (same.9 ∙ here.enters.at.stands.top ∙ sym top) held
+      (same.0, same.1, same.2, same.3, same.4, same.5, same.6, same.7, same.8, same.10, same.11, same.12) level calls (same.9 ∙ here.enters.at.stands.top ∙ sym top) held
 
   -- code that leaves a value in a register, which then is stored in place of the last so many
   value_does : (operation : Operation) (code : Quiets) (register dropped k v : ℕ) → Here operation
@@ -84,9 +94,9 @@ module _ (core : List CoreOp) (image : Image) (places : Places) (bound : ℕ →
       → local setting operation p.runner.has ≡ with_values p.runner.has (v ∷ before dropped vs)
       → Gives told code h register v
       → Flows core places.frames (λ word. false) i (suc i)
-      → HasRoom places.frames i k → dropped ≤ length vs → k ≡ suc (length vs) - dropped
-      → Does core image places setting t p h
-  value_does operation code register dropped k v here same short is_local done gives flows room enough top =
+      → HasRoom places.frames i k → dropped ≤ length vs → k ≡ suc (length vs) - dropped → k ≤ peak operation d
+      → IsDone operation
+  value_does operation code register dropped k v here same short is_local done gives flows room enough top high =
       let stands = here.enters.at.stands in
       let store : Instruction × Reached = (store_value register k, LocalAt (frame_end n - k)) in
       let full : Quiets = code ++ store ∷ [] in
@@ -104,11 +114,19 @@ module _ (core : List CoreOp) (image : Image) (places : Places) (bound : ℕ →
       let standing : StandsFor places (with_list core places (suc i) new p) h2 =
       stands_after operation h2 (with_list core places (suc i) new p) here gives.same refl refl refl (subst (λ m. InMemory places m (with_list core places (suc i) new p)) memory written) in
       let size : length full ≡ length code + 1 = length-append code (store ∷ []) in
-      code_does core image places bound i op operation setting t p h full here.at here.enters
+      let kept : KeepsMost operation h2 =
+      record {
+        node = gives.same.13;
+        body = gives.same.14;
+        words = λ j from lt apart. ap (λ m. m j) (sym memory) ∙ other_word h.local (frame_end n - k) v j (λ e. omega arith);
+      } in
+      subst (λ block. DoesAnd core image places setting t p h 0 (past_first block) (KeepsMost operation)) same
+      (code_does core image places bound i op operation setting t p h full (KeepsMost operation) here.at here.enters
       (subst (HasBlock image bound places i) (sym same) here.block) (omega arith) (omega arith) is_local can
       (subst (λ w. StandsFor places (record p { runner = record { left = w; has = local setting operation p.runner.has } }) (walk told full h)) (sym is_local.onward)
       (subst (λ q. StandsFor places (record p { runner = record { left = position (suc i) p.runner.left.callers; has = q } }) (walk told full h)) (sym done)
       (subst (StandsFor places (with_list core places (suc i) new p)) (sym (walk-append told code (store ∷ []) h)) standing)))
+      (subst (KeepsMost operation) (sym (walk-append told code (store ∷ []) h)) kept))
 
   -- ---- what a hart finds
 
@@ -135,20 +153,40 @@ module _ (core : List CoreOp) (image : Image) (places : Places) (bound : ℕ →
   room_for_one : HasRoom places.frames i (suc d) → HasRoom places.frames i (d + 1)
   room_for_one room = less_room places i (suc d) (d + 1) (omega arith) room
 
-  push_does : (number : ℕ) → Here (Push number) → Does core image places setting t p h
+  -- the lines of a number and a store
+  number_lines : (short : Bool) (number : ℕ) (store : Instruction) (word : ℕ) → (high_part number == 0) ≡ short
+      → first_commits (instructions_of (on_registers (load_by short number) ++ (store, LocalAt word) ∷ [])) ≡ first_commits (load_number number ++ store ∷ [])
+  number_lines short number store word e =
+      ap first_commits (instructions_of-append (load_by short number) ((store, LocalAt word) ∷ [])) ∙ ap (λ b. first_commits (load_by b number ++ store ∷ [])) (sym e)
+
+  few_of_number : (short : Bool) (number : ℕ) → length (on_registers (load_by short number)) ≤ 20
+  few_of_number true number = omega arith
+  few_of_number false number = omega arith
+
+  number_gives : (short : Bool) (number : ℕ) → (high_part number == 0) ≡ short → h.registers 0 ≡ 0 → Gives told (on_registers (load_by short number)) h 5 (word number)
+  number_gives true number e nought = record {
+    can = (tt, tt);
+    same = itself h;
+    local = refl;
+    result = ap (λ z. word_sum z (low_part number)) nought ∙ number_of_low_part number e;
+  }
+  number_gives false number e nought = record {
+    can = (tt, (tt, tt));
+    same = itself h;
+    local = refl;
+    result = number_of_parts number;
+  }
+
+  push_does : (number : ℕ) → Here (Push number) → IsDone (Push number)
   push_does number here =
       let depth = here.enters.ready.depth in
-      value_does (Push number) ((Lui 5 (high_part number), Plain) ∷ (Addi 5 5 (low_part number), Plain) ∷ []) 5 0 (d + 1) (word number) here refl (omega arith)
+      let short = high_part number == 0 in
+      value_does (Push number) (on_registers (load_by short number)) 5 0 (d + 1) (word number) here (number_lines short number _ _ refl) (few_of_number short number)
       record { kind = refl; onward = refl } refl
-      record {
-        can = (tt, (tt, tt));
-        same = itself h;
-        local = refl;
-        result = number_of_parts number;
-      }
-      (here.fits.goes_on true) (room_for_one here.fits.place) (omega arith) (omega arith)
+      (number_gives short number refl here.enters.at.stands.nought)
+      (here.fits.goes_on true) (room_for_one here.fits.place) (omega arith) (omega arith) (omega arith)
 
-  copy_does : Here CopyLast → Does core image places setting t p h
+  copy_does : Here CopyLast → IsDone CopyLast
   copy_does here =
       let depth = here.enters.ready.depth in
       let is = here.is in
@@ -160,28 +198,27 @@ module _ (core : List CoreOp) (image : Image) (places : Places) (bound : ℕ →
         local = refl;
         result = top_at CopyLast here is.0;
       }
-      (here.fits.goes_on true) (room_for_one here.fits.place) (omega arith) (omega arith)
+      (here.fits.goes_on true) (room_for_one here.fits.place) (omega arith) (omega arith) (omega arith)
 
   -- what code leaves in a register of what is known
   get_with : (known : Known) (code : Quiets) (register v : ℕ) → Here (Get known)
       → first_commits (instructions_of (code ++ (store_value register (d + 1), LocalAt (frame_end n - (d + 1))) ∷ [])) ≡ expression_block globals d (Get known)
       → length code ≤ 20
       → local setting (Get known) p.runner.has ≡ with_values p.runner.has (v ∷ vs)
-      → Gives told code h register v → Does core image places setting t p h
+      → Gives told code h register v → IsDone (Get known)
   get_with known code register v here same short done gives =
       let depth = here.enters.ready.depth in
       let place = here.fits.place in
       value_does (Get known) code register 0 (d + 1) v here same short record { kind = refl; onward = refl } done gives
-      (here.fits.goes_on true) (room_for_one place.1) (omega arith) (omega arith)
+      (here.fits.goes_on true) (room_for_one place.1) (omega arith) (omega arith) (omega arith)
 
   -- one that a register has
   in_register : (register v : ℕ) → h.registers register ≡ v → Gives told [] h register v
   in_register register v e = record { can = tt; same = itself h; local = refl; result = e }
 
   -- one that a device tells
-  by_device : (offset v : ℕ) (reached : Reached) → CanWalk told ((Lui 5 0x30000, Plain) ∷ (Lw 5 5 offset, reached) ∷ []) h
-      → (walk told ((Lui 5 0x30000, Plain) ∷ (Lw 5 5 offset, reached) ∷ []) h).registers 5 ≡ v
-      → Gives told ((Lui 5 0x30000, Plain) ∷ (Lw 5 5 offset, reached) ∷ []) h 5 v
+  by_device : (offset v : ℕ) (reached : Reached) → CanWalk told ((Lw 5 26 offset, reached) ∷ []) h → (walk told ((Lw 5 26 offset, reached) ∷ []) h).registers 5 ≡ v
+      → Gives told ((Lw 5 26 offset, reached) ∷ []) h 5 v
   by_device offset v reached can e = record {
     can = can;
     same = itself h;
@@ -189,7 +226,7 @@ module _ (core : List CoreOp) (image : Image) (places : Places) (bound : ℕ →
     result = e;
   }
 
-  get_does : (known : Known) → Here (Get known) → Does core image places setting t p h
+  get_does : (known : Known) → Here (Get known) → IsDone (Get known)
   get_does (Value (Private w)) here =
       let stands = here.enters.at.stands in
       let is = here.is in
@@ -216,31 +253,34 @@ module _ (core : List CoreOp) (image : Image) (places : Places) (bound : ℕ →
   get_does GroupNumber here = get_with GroupNumber [] 18 p.runner.has.level.number here refl (omega arith) refl (in_register 18 _ here.enters.at.stands.number)
   get_does GroupSize here = get_with GroupSize [] 20 p.runner.has.level.size here refl (omega arith) refl (in_register 20 _ here.enters.at.stands.size)
   get_does ProcessorNumber here =
-      get_with ProcessorNumber ((Lui 5 0x30000, Plain) ∷ (Lw 5 5 20, TellsNumber) ∷ []) 5 p.runner.has.number here refl (omega arith) refl
-      (by_device 20 p.runner.has.number TellsNumber (tt, (refl, tt)) refl)
+      get_with ProcessorNumber ((Lw 5 26 20, TellsNumber) ∷ []) 5 p.runner.has.number here refl (omega arith) refl
+      (by_device 20 p.runner.has.number TellsNumber (ap (λ a. word_sum a 20) here.enters.at.stands.devices, tt) refl)
   get_does Processors here =
-      get_with Processors ((Lui 5 0x30000, Plain) ∷ (Lw 5 5 24, TellsHarts) ∷ []) 5 setting.processors here refl (omega arith) refl
-      (by_device 24 setting.processors TellsHarts (tt, (refl, tt)) here.enters.running.processors)
+      get_with Processors ((Lw 5 26 24, TellsHarts) ∷ []) 5 setting.processors here refl (omega arith) refl
+      (by_device 24 setting.processors TellsHarts (ap (λ a. word_sum a 24) here.enters.at.stands.devices, tt) here.enters.running.processors)
   get_does InputLength here =
-      get_with InputLength ((Lui 5 0x30000, Plain) ∷ (Lw 5 5 28, TellsInputs) ∷ []) 5 setting.inputs here refl (omega arith) refl
-      (by_device 28 setting.inputs TellsInputs (tt, (refl, tt)) here.enters.running.inputs)
+      get_with InputLength ((Lw 5 26 28, TellsInputs) ∷ []) 5 setting.inputs here refl (omega arith) refl
+      (by_device 28 setting.inputs TellsInputs (ap (λ a. word_sum a 28) here.enters.at.stands.devices, tt) here.enters.running.inputs)
   get_does InputAddress here =
       let is = here.is in
       let small = is.1 in
       let e = here.enters.running.globals in
       let whole : word (address_of globals) ≡ address_of setting.globals = omega arith in
-      get_with InputAddress ((Lui 5 (high_part (address_of globals)), Plain) ∷ (Addi 5 5 (low_part (address_of globals)), Plain) ∷ []) 5 (address_of setting.globals) here refl (omega arith) refl
+      let short = high_part (address_of globals) == 0 in
+      let gives = number_gives short (address_of globals) refl here.enters.at.stands.nought in
+      get_with InputAddress (on_registers (load_by short (address_of globals))) 5 (address_of setting.globals) here
+      (number_lines short (address_of globals) _ _ refl) (few_of_number short (address_of globals)) refl
       record {
-        can = (tt, (tt, tt));
-        same = itself h;
-        local = refl;
-        result = number_of_parts (address_of globals) ∙ whole;
+        can = gives.can;
+        same = gives.same;
+        local = gives.local;
+        result = gives.result ∙ whole;
       }
   get_does (FrameAddress nesting w) here = let is = here.is in absurd is.1
 
   -- ---- signs, operators and indices
 
-  apply_does : (sign : Unary) → Here (Apply sign) → Does core image places setting t p h
+  apply_does : (sign : Unary) → Here (Apply sign) → IsDone (Apply sign)
   apply_does sign here =
       let depth = here.enters.ready.depth in
       let is = here.is in
@@ -250,7 +290,7 @@ module _ (core : List CoreOp) (image : Image) (places : Places) (bound : ℕ →
       (gives_behind told (load ∷ []) (on_registers (sign_instruction sign ∷ [])) h 5 (applied_to sign (last vs))
       (reaches (Apply sign) d here is.0 is.1, tt) (itself h) refl
       (sign_gives told sign (after told load.0 load.1 h) (last vs) here.enters.at.stands.nought (top_at (Apply sign) here is.0)))
-      (here.fits.goes_on true) here.fits.room (omega arith) (omega arith)
+      (here.fits.goes_on true) here.fits.room (omega arith) (omega arith) (omega arith)
 
   join_with : (sign : Op) (turned : Bool) (first second : Instruction × Reached) (a b : ℕ) → Here (Join sign turned)
       → first_commits (first.0 ∷ second.0 ∷ (operator_code sign ++ store_value 5 (d - 1) ∷ [])) ≡ expression_block globals d (Join sign turned)
@@ -258,7 +298,7 @@ module _ (core : List CoreOp) (image : Image) (places : Places) (bound : ℕ →
       → (walk told (first ∷ second ∷ []) h).local ≡ h.local
       → HasOperands (walk told (first ∷ second ∷ []) h) a b
       → in_order turned (applied sign) (last (before 1 vs)) (last vs) ≡ applied sign a b
-      → Does core image places setting t p h
+      → IsDone (Join sign turned)
   join_with sign turned first second a b here same can unchanged locals operands order =
       let depth = here.enters.ready.depth in
       let is = here.is in
@@ -271,9 +311,9 @@ module _ (core : List CoreOp) (image : Image) (places : Places) (bound : ℕ →
       (ap (with_values p.runner.has) (joined_is (in_order turned (applied sign)) vs (omega arith) ∙ ap (λ v. v ∷ before 2 vs) order))
       (gives_behind told (first ∷ second ∷ []) (on_registers (operator_code sign)) h 5 (applied sign a b) can unchanged locals
       (operator_gives told sign (walk told (first ∷ second ∷ []) h) a b operands))
-      (here.fits.goes_on true) (less_room places i d (d - 1) (omega arith) here.fits.room) (omega arith) (omega arith)
+      (here.fits.goes_on true) (less_room places i d (d - 1) (omega arith) here.fits.room) (omega arith) (omega arith) (omega arith)
 
-  join_does : (sign : Op) (turned : Bool) → Here (Join sign turned) → Does core image places setting t p h
+  join_does : (sign : Op) (turned : Bool) → Here (Join sign turned) → IsDone (Join sign turned)
   join_does sign false here =
       let is = here.is in
       let words = here.enters.ready.in_range.values in
@@ -311,48 +351,71 @@ module _ (core : List CoreOp) (image : Image) (places : Places) (bound : ℕ →
       }
       refl
 
-  index_does : (size : ℕ) → Here (Index size) → Does core image places setting t p h
-  index_does size here =
+  -- code behind the two values, that leaves the address in t0
+  index_with : (size : ℕ) (code : Quiets) → Here (Index size)
+      → first_commits (load_value 5 (d - 1) ∷ load_value 6 d ∷ instructions_of (code ++ (store_value 5 (d - 1), LocalAt (frame_end n - (d - 1))) ∷ [])) ≡ expression_block globals d (Index size)
+      → length code ≤ 10
+      → ((g : Hart) → g.registers 5 ≡ last (before 1 vs) → g.registers 6 ≡ last vs → Gives told code g 5 (word (last (before 1 vs) + last vs * size)))
+      → IsDone (Index size)
+  index_with size code here same few gives =
       let depth = here.enters.ready.depth in
       let is = here.is in
       let first : Instruction × Reached = (load_value 5 (d - 1), LocalAt (frame_end n - (d - 1))) in
       let second : Instruction × Reached = (load_value 6 d, LocalAt (frame_end n - d)) in
-      let number = word_sum (high_part size * 4096) (low_part size) in
-      value_does (Index size)
-      (first ∷ second ∷ (Lui 7 (high_part size), Plain) ∷ (Addi 7 7 (low_part size), Plain) ∷ (Mul 6 6 7, Plain) ∷ (Add 5 5 6, Plain) ∷ [])
-      5 2 (d - 1) (word (last (before 1 vs) + last vs * size)) here refl (omega arith)
+      value_does (Index size) (first ∷ second ∷ code) 5 2 (d - 1) (word (last (before 1 vs) + last vs * size)) here same (omega arith)
       record { kind = refl; onward = refl }
       (ap (with_values p.runner.has) (joined_is (λ address index. word (address + index * size)) vs (omega arith)))
-      record {
-        can = (
-          reaches (Index size) (d - 1) here (omega arith) (omega arith),
-          (reaches (Index size) d here (omega arith) is.1, (tt, (tt, (tt, (tt, tt))))),
-        );
-        same = itself h;
+      (gives_behind told (first ∷ second ∷ []) code h 5 (word (last (before 1 vs) + last vs * size))
+      (reaches (Index size) (d - 1) here (omega arith) (omega arith), (reaches (Index size) d here (omega arith) is.1, tt)) (itself h) refl
+      (gives (walk told (first ∷ second ∷ []) h) (second_at (Index size) here is.0) (top_at (Index size) here (omega arith))))
+      (here.fits.goes_on true) (less_room places i d (d - 1) (omega arith) here.fits.room) (omega arith) (omega arith) (omega arith)
+
+  index_by : (size : ℕ) (is_word : Bool) → (size == 4) ≡ is_word → Here (Index size) → IsDone (Index size)
+  index_by size true e here =
+      index_with size ((Slli 6 6 2, Plain) ∷ (Add 5 5 6, Plain) ∷ []) here
+      (ap (λ b. first_commits (load_value 5 (d - 1) ∷ load_value 6 d ∷ (times_size b size ++ Add 5 5 6 ∷ store_value 5 (d - 1) ∷ []))) (sym e)) (omega arith)
+      (λ g a b. record {
+        can = (tt, (tt, tt));
+        same = itself g;
         local = refl;
         result =
-            ap (λ a. word_sum a (word (h.local (frame_end n - d) * number))) (second_at (Index size) here is.0)
-            ∙ ap (λ b. word_sum (last (before 1 vs)) (word (b * number))) (top_at (Index size) here (omega arith))
+            ap (λ x. word_sum x (word (g.registers 6 * 4))) a ∙ ap (λ x. word_sum (last (before 1 vs)) (word (x * 4))) b
+            ∙ word_element (last (before 1 vs)) (last vs) size (eqb-true size 4 e);
+      })
+  index_by size false e here =
+      let is = here.is in
+      let number = word_sum (high_part size * 4096) (low_part size) in
+      index_with size ((Lui 7 (high_part size), Plain) ∷ (Addi 7 7 (low_part size), Plain) ∷ (Mul 6 6 7, Plain) ∷ (Add 5 5 6, Plain) ∷ []) here
+      (ap (λ b. first_commits (load_value 5 (d - 1) ∷ load_value 6 d ∷ (times_size b size ++ Add 5 5 6 ∷ store_value 5 (d - 1) ∷ []))) (sym e)) (omega arith)
+      (λ g a b. record {
+        can = (tt, (tt, (tt, (tt, tt))));
+        same = itself g;
+        local = refl;
+        result =
+            ap (λ x. word_sum x (word (g.registers 6 * number))) a ∙ ap (λ x. word_sum (last (before 1 vs)) (word (x * number))) b
             ∙ element (last (before 1 vs)) (last vs) size is.2;
-      }
-      (here.fits.goes_on true) (less_room places i d (d - 1) (omega arith) here.fits.room) (omega arith) (omega arith)
+      })
+
+  index_does : (size : ℕ) → Here (Index size) → IsDone (Index size)
+  index_does size here = index_by size (size == 4) refl here
 
   -- ---- operations that store a variable, or nothing
 
-  drop_does : Here DropLast → Does core image places setting t p h
+  drop_does : Here DropLast → IsDone DropLast
   drop_does here =
       let flows : Flows core places.frames (λ word. false) i (suc i) = here.fits.goes_on true in
       let h1 = after told (Addi 0 0 0) Plain h in
       let new = before 1 vs in
-      code_does core image places bound i op DropLast setting t p h ((Addi 0 0 0, Plain) ∷ []) here.at here.enters here.block (omega arith) (omega arith)
+      code_does core image places bound i op DropLast setting t p h ((Addi 0 0 0, Plain) ∷ []) (KeepsMost DropLast) here.at here.enters here.block (omega arith) (omega arith)
       record { kind = refl; onward = refl }
       (tt, tt)
       (stands_after DropLast h1 (with_list core places (suc i) new p) here (itself h) refl refl refl
       (nothing_written core places h.local p i (suc i) d new here.few here.enters.ready.in_range.waiting here.enters.index here.fits.room flows
       (in_memory places p h here.enters.at.stands)
       (values_before 1 h.local (frame_end n) vs here.enters.at.stands.running.values)))
+      record { node = refl; body = refl; words = λ j from lt apart. refl }
 
-  set_does : (variable : Variable) → Here (Set variable) → Does core image places setting t p h
+  set_does : (variable : Variable) → Here (Set variable) → IsDone (Set variable)
   set_does (Private w) here =
       let depth = here.enters.ready.depth in
       let stands = here.enters.at.stands in
@@ -365,13 +428,14 @@ module _ (core : List CoreOp) (image : Image) (places : Places) (bound : ℕ →
       let h2 = after told store.0 store.1 h1 in
       let new : Owner = owner_of (local_doing core image places setting i op (Set (Private w)) p) in
       let found = ap (put h.local (frame_start places n + 8 + w)) (sym (top_at (Set (Private w)) here is.0)) in
-      code_does core image places bound i op (Set (Private w)) setting t p h (load ∷ store ∷ []) here.at here.enters here.block (omega arith) (omega arith)
+      code_does core image places bound i op (Set (Private w)) setting t p h (load ∷ store ∷ []) (KeepsMost (Set (Private w))) here.at here.enters here.block (omega arith) (omega arith)
       record { kind = refl; onward = refl }
       (reaches (Set (Private w)) d here is.0 is.1, (private_place places (h.registers 8) n w stands.frame waiting here.few is.2, tt))
       (stands_after (Set (Private w)) h2 new here (itself h) refl refl refl
       (subst (λ m. InMemory places m new) found
       (private_written core places h.local p i (suc i) w (last vs) d here.few waiting here.enters.index here.fits.room (omega arith) here.fits.place flows
       (in_memory places p h stands))))
+      record { node = refl; body = refl; words = λ j from lt apart. other_word h.local (frame_start places n + 8 + w) (h1.registers 5) j (apart w (eq-eqb w w refl)) }
   set_does (OfFile w) here =
       let depth = here.enters.ready.depth in
       let stands = here.enters.at.stands in
@@ -380,20 +444,22 @@ module _ (core : List CoreOp) (image : Image) (places : Places) (bound : ℕ →
       let flows : Flows core places.frames (λ word. false) i (suc i) = here.fits.goes_on true in
       let load : Instruction × Reached = (load_value 5 d, LocalAt (frame_end n - d)) in
       let store : Instruction × Reached = (Sw 22 5 (at_private w), LocalAt (8 + w)) in
+      let place = here.fits.place in
       let h1 = after told load.0 load.1 h in
       let h2 = after told store.0 store.1 h1 in
       let new : Owner = owner_of (local_doing core image places setting i op (Set (OfFile w)) p) in
       let found = ap (put h.local (8 + w)) (sym (top_at (Set (OfFile w)) here is.0)) in
-      code_does core image places bound i op (Set (OfFile w)) setting t p h (load ∷ store ∷ []) here.at here.enters here.block (omega arith) (omega arith)
+      code_does core image places bound i op (Set (OfFile w)) setting t p h (load ∷ store ∷ []) (KeepsMost (Set (OfFile w))) here.at here.enters here.block (omega arith) (omega arith)
       record { kind = refl; onward = refl }
       (reaches (Set (OfFile w)) d here is.0 is.1, (own_place (h.registers 22) w stands.local is.2, tt))
       (stands_after (Set (OfFile w)) h2 new here (itself h) refl refl refl
       (subst (λ m. InMemory places m new) found
       (own_written core places h.local p i (suc i) w (last vs) d here.few waiting here.enters.index here.fits.room (omega arith) here.fits.place flows
       (in_memory places p h stands))))
+      record { node = refl; body = refl; words = λ j from lt apart. other_word h.local (8 + w) (h1.registers 5) j (λ e. omega arith) }
 
   -- each of them
-  pub block_does : (operation : Operation) → Here operation → Does core image places setting t p h
+  pub block_does : (operation : Operation) → Here operation → IsDone operation
   block_does (Push number) here = push_does number here
   block_does (Get known) here = get_does known here
   block_does (Set variable) here = set_does variable here
@@ -404,7 +470,11 @@ module _ (core : List CoreOp) (image : Image) (places : Places) (bound : ℕ →
   block_does (Index size) here = index_does size here
   block_does operation here = let is = here.is in absurd (assumption is)
 
-pub expressions_do : ExpressionsDo
-expressions_do core image places bound i op operation at is block few fits setting t p h enters =
+pub expressions_keep : ExpressionsKeep
+expressions_keep core image places bound i op operation at is block few fits setting t p h enters =
     block_does core image places bound i op setting t p h operation
     record { at = at; is = is; block = block; few = few; fits = fits; enters = enters }
+
+pub expressions_do : ExpressionsDo
+expressions_do core image places bound i op operation at is block few fits setting t p h enters =
+    does_of core image places setting t p h _ _ _ (expressions_keep core image places bound i op operation at is block few fits setting t p h enters)

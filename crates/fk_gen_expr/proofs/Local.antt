@@ -1,5 +1,5 @@
 -- Code by what each of its instructions reaches, and blocks of such code.
-use Rattle.std.proofs.Common.{◌≡◌, ℕ, suc, ◌<◌, ◌≤◌, List, [], ◌∷◌, ◌++◌, map, length, ap, subst, arith, refl}
+use Rattle.std.proofs.Common.{◌≡◌, ℕ, suc, ◌<◌, ◌≤◌, List, [], ◌∷◌, ◌++◌, map, length, ap, subst, sym, ◌∙◌, arith, refl}
 use Rattle.fk_operation.specs.Kinds.{class_of}
 use Rattle.fk_operation.specs.declared.kinds.Class.TheVariants.{Local}
 use Rattle.fk_operation.specs.declared.operation.Operation.{Operation}
@@ -13,11 +13,12 @@ use Rattle.fk_machine.specs.Hart.{Hart, Setting as MachineSetting}
 use Rattle.fk_block_law.specs.Owner.{Owner, number_of, owner_of}
 use Rattle.fk_block_law.specs.Stands.{Places, StandsFor}
 use Rattle.fk_block_law.specs.Next.{StandsOp}
-use Rattle.fk_block_law.specs.Block.{Enters, Does}
+use Rattle.fk_block_law.specs.Block.{Enters}
 use Rattle.fk_gen.specs.Lines.{quiet, commits}
 use Rattle.fk_gen.specs.InPlace.{HasBlock}
-use Rattle.fk_gen.proofs.Walk.{Told, Quiets, Plain, quiet_lines, walk, CanWalk, told_of, after}
-use Rattle.fk_gen.proofs.Does.{local_does, local_doing}
+use Rattle.fk_gen.specs.Keeps.{DoesAnd, past_first}
+use Rattle.fk_gen.proofs.Walk.{Told, Quiets, Reached, Plain, quiet_lines, walk, CanWalk, told_of, after}
+use Rattle.fk_gen.proofs.Does.{quiet_length, local_does, local_doing}
 use Rattle.fk_gen_expr.specs.Expressions.{first_commits}
 
 abbrev pub instructions_of : Quiets → List Instruction
@@ -54,19 +55,24 @@ pub record IsLocal (core : List CoreOp) (i : ℕ) (op : CoreOp) (operation : Ope
   pub kind : class_of operation ≡ Local
   pub onward : follows core operation i op.target p.runner.left.callers (is_onward operation p.runner.has) ≡ position (suc i) p.runner.left.callers
 
+lines_behind : (l : Instruction × Reached) (ls : Quiets) → length ls ≡ past_first (first_commits (instructions_of (l ∷ ls)))
+lines_behind l ls = sym (ap length (quiet_lines-instructions ls) ∙ quiet_length ls)
+
 -- such code stands at the index, its first instruction commits, and behind it the hart stands for the processor that has done
--- its operation
+-- its operation, and something more holds
 pub code_does : (core : List CoreOp) (image : Image) (places : Places) (bound : ℕ → ℕ) (i : ℕ) (op : CoreOp) (operation : Operation)
-    (setting : Setting) (t : MachineSetting) (p : Owner) (h : Hart) (code : Quiets)
+    (setting : Setting) (t : MachineSetting) (p : Owner) (h : Hart) (code : Quiets) (Also : Hart → Type 0)
     → StandsOp core i op operation → Enters core image places setting t i op operation p h
     → HasBlock image bound places i (first_commits (instructions_of code))
     → 0 < length code → length code ≤ 100
     → IsLocal core i op operation p
     → CanWalk (told_of t (number_of p)) code h
     → StandsFor places (owner_of (local_doing core image places setting i op operation p)) (walk (told_of t (number_of p)) code h)
-    → Does core image places setting t p h
-code_does core image places bound i op operation setting t p h [] op_at en has some few is_local can stands = absurd (omega arith)
-code_does core image places bound i op operation setting t p h (l ∷ ls) op_at en has some few is_local can stands =
-    local_does core image places bound setting t i op operation p h op_at is_local.kind en l.0 l.1 ls
+    → Also (walk (told_of t (number_of p)) code h)
+    → DoesAnd core image places setting t p h 0 (past_first (first_commits (instructions_of code))) Also
+code_does core image places bound i op operation setting t p h [] Also op_at en has some few is_local can stands also = absurd (omega arith)
+code_does core image places bound i op operation setting t p h (l ∷ ls) Also op_at en has some few is_local can stands also =
+    subst (λ n. DoesAnd core image places setting t p h 0 n Also) (lines_behind l ls)
+    (local_does core image places bound setting t i op operation p h op_at is_local.kind en l.0 l.1 ls
     (subst (λ rest. HasBlock image bound places i (commits l.0 ∷ rest)) (quiet_lines-instructions ls) has)
-    (omega arith) can (ap (λ w. w.at) is_local.onward) stands
+    (omega arith) can (ap (λ w. w.at) is_local.onward) stands Also also)

@@ -1,16 +1,19 @@
 -- The shape of the blocks: few lines, none of which goes to a label.
-use Rattle.std.proofs.Common.{◌≡◌, ℕ, ◌-◌, ◌≤◌, List, [], ◌∷◌, ◌++◌, map, length, true, false, All, arith, refl}
+use Rattle.std.proofs.Common.{◌≡◌, ℕ, ◌+◌, ◌-◌, ◌≤◌, List, [], ◌∷◌, ◌++◌, map, length, Bool, true, false, All, arith, refl}
+use Rattle.std.specs.Prelude.{◌==◌}
 use Rattle.std.proofs.lemmas.List.{length-append, length-map}
 use Rattle.std.proofs.lemmas.List.Elements.{All-nil, All-cons}
 use Rattle.fk_operation.specs.declared.operation.Known.TheVariants.{Value, Rank, GroupNumber, ProcessorNumber, Processors, GroupSize, InputLength, FrameAddress, InputAddress}
 use Rattle.fk_operation.specs.declared.operation.Operation.{Operation}
 use Rattle.fk_operation.specs.declared.operation.Operation.TheVariants.{Push, Get, Set, DropLast, CopyLast, Apply, Join, Index}
+use Rattle.fk_store.specs.Store.{address_of}
 use Rattle.fk_isa.specs.declared.instruction.Instruction.{Instruction}
+use Rattle.fk_isa.specs.declared.instruction.Instruction.TheVariants.{Add}
 use Rattle.fk_asm.proofs.Straight.{IsUnlabeled}
-use Rattle.fk_gen.specs.Lines.{quiet, commits}
+use Rattle.fk_gen.specs.Lines.{quiet, commits, high_part, load_by}
 use Rattle.fk_gen.specs.Registers.{t0, t1}
 use Rattle.fk_gen_expr.specs.Operators.{operator_code}
-use Rattle.fk_gen_expr.specs.Expressions.{IsExpression, expression_block, expression_code, first_commits, load_value, store_value}
+use Rattle.fk_gen_expr.specs.Expressions.{IsExpression, expression_block, expression_code, first_commits, load_value, store_value, times_size}
 use Rattle.fk_gen_expr.proofs.Operators.{few_of_operator}
 
 quiet_unlabeled : (is : List Instruction) → All IsUnlabeled (map quiet is)
@@ -41,8 +44,16 @@ joined_few is a b s some few =
     let f = length-append is (s ∷ []) in
     record { some = omega arith; few = omega arith }
 
+number_short : (short : Bool) (n : ℕ) (s : Instruction) → IsShortCode (length (first_commits (load_by short n ++ s ∷ [])))
+number_short true n s = record { some = omega arith; few = omega arith }
+number_short false n s = record { some = omega arith; few = omega arith }
+
+index_short : (is_word : Bool) (size : ℕ) (a b c s : Instruction) → IsShortCode (length (first_commits (a ∷ b ∷ (times_size is_word size ++ c ∷ s ∷ []))))
+index_short true size a b c s = record { some = omega arith; few = omega arith }
+index_short false size a b c s = record { some = omega arith; few = omega arith }
+
 pub block_short : (globals d : ℕ) (operation : Operation) → IsExpression globals d operation → IsShortCode (length (expression_block globals d operation))
-block_short globals d (Push n) is = record { some = omega arith; few = omega arith }
+block_short globals d (Push n) is = number_short (high_part n == 0) n (store_value t0 (d + 1))
 block_short globals d (Get (Value variable)) is = record { some = omega arith; few = omega arith }
 block_short globals d (Get Rank) is = record { some = omega arith; few = omega arith }
 block_short globals d (Get GroupNumber) is = record { some = omega arith; few = omega arith }
@@ -50,7 +61,7 @@ block_short globals d (Get GroupSize) is = record { some = omega arith; few = om
 block_short globals d (Get ProcessorNumber) is = record { some = omega arith; few = omega arith }
 block_short globals d (Get Processors) is = record { some = omega arith; few = omega arith }
 block_short globals d (Get InputLength) is = record { some = omega arith; few = omega arith }
-block_short globals d (Get InputAddress) is = record { some = omega arith; few = omega arith }
+block_short globals d (Get InputAddress) is = number_short (high_part (address_of globals) == 0) (address_of globals) (store_value t0 (d + 1))
 block_short globals d (Get (FrameAddress nesting word)) is = absurd is.1
 block_short globals d (Set variable) is = record { some = omega arith; few = omega arith }
 block_short globals d DropLast is = record { some = omega arith; few = omega arith }
@@ -58,5 +69,5 @@ block_short globals d CopyLast is = record { some = omega arith; few = omega ari
 block_short globals d (Apply sign) is = record { some = omega arith; few = omega arith }
 block_short globals d (Join sign false) is = joined_few (operator_code sign) (load_value t0 (d - 1)) (load_value t1 d) (store_value t0 (d - 1)) (omega arith) (few_of_operator sign)
 block_short globals d (Join sign true) is = joined_few (operator_code sign) (load_value t1 (d - 1)) (load_value t0 d) (store_value t0 (d - 1)) (omega arith) (few_of_operator sign)
-block_short globals d (Index size) is = record { some = omega arith; few = omega arith }
+block_short globals d (Index size) is = index_short (size == 4) size (load_value t0 (d - 1)) (load_value t1 d) (Add t0 t0 t1) (store_value t0 (d - 1))
 block_short globals d operation is = absurd (assumption is)

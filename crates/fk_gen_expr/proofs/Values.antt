@@ -1,5 +1,5 @@
 -- Words among values, and the address of an element.
-use Rattle.std.proofs.Common.{◌≡◌, ℕ, ◌+◌, ◌*◌, ◌^◌, ◌<◌, List, [], ◌∷◌, All, ap, ◌∙◌, arith}
+use Rattle.std.proofs.Common.{◌≡◌, ℕ, ◌+◌, ◌*◌, ◌^◌, ◌<◌, List, [], ◌∷◌, All, ap, sym, ◌∙◌, arith}
 use Rattle.std.proofs.lemmas.List.Elements.{All-head, All-tail}
 use Rattle.fk_num.specs.Word.{word, word_sum}
 use Rattle.fk_run.specs.Processor.{last, before}
@@ -14,11 +14,15 @@ pub words_before : (vs : List ℕ) → All (λ v. v < 2 ^ 32) vs → All (λ v. 
 words_before [] all = all
 words_before (v ∷ vs) all = All-tail (λ v. v < 2 ^ 32) v vs all
 
+sum : (a x : ℕ) → word_sum a (word x) ≡ word (a + x)
+sum a x = omega arith
+
 pub element : (address index size : ℕ) → size < 2 ^ 32
     → word_sum address (word (index * word_sum (high_part size * 4096) (low_part size))) ≡ word (address + index * size)
 element address index size small =
     let e : word_sum (high_part size * 4096) (low_part size) ≡ size = number_of_parts size ∙ omega arith in
     ap (λ s. word_sum address (word (index * s))) e ∙ sum address (index * size)
-  where
-    sum : (a x : ℕ) → word_sum a (word x) ≡ word (a + x)
-    sum a x = omega arith
+
+-- that of one of a word
+pub word_element : (address index size : ℕ) → size ≡ 4 → word_sum address (word (index * 4)) ≡ word (address + index * size)
+word_element address index size e = sum address (index * 4) ∙ ap (λ s. word (address + index * s)) (sym e)

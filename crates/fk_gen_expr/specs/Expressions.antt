@@ -1,7 +1,7 @@
 -- The blocks of expressions.
 --
 -- The first instruction commits: a processor does a local operation at once, and its hart catches up with it.
-use Rattle.std.specs.Prelude.{ℕ, ◌+◌, ◌-◌, ◌^◌, ◌<◌, ◌≤◌, List, [], ◌∷◌, ◌++◌, map, true, false, IsSomeAnd}
+use Rattle.std.specs.Prelude.{ℕ, ◌+◌, ◌-◌, ◌^◌, ◌<◌, ◌≤◌, ◌==◌, List, [], ◌∷◌, ◌++◌, map, Bool, true, false, IsSomeAnd}
 use Rattle.std.specs.Option.{option_map_or}
 use Rattle.fk_num.specs.declared.operator.Op.{Op}
 use Rattle.fk_operation.specs.declared.operation.Known.{Known}
@@ -13,12 +13,12 @@ use Rattle.fk_operation.specs.declared.operation.Variable.TheVariants.{Private, 
 use Rattle.fk_store.specs.Store.{address_of}
 use Rattle.fk_core.specs.Numbers.{operation_of}
 use Rattle.fk_isa.specs.declared.instruction.Instruction.{Instruction}
-use Rattle.fk_isa.specs.declared.instruction.Instruction.TheVariants.{Lui, Addi, Add, Mul, Lw, Sw}
+use Rattle.fk_isa.specs.declared.instruction.Instruction.TheVariants.{Lui, Addi, Slli, Add, Mul, Lw, Sw}
 use Rattle.fk_asm.specs.Block.{MarkedLine}
-use Rattle.fk_block_law.specs.Stands.{frame_register, end_register, number_register, rank_register, size_register, local_register}
+use Rattle.fk_block_law.specs.Stands.{frame_register, end_register, number_register, rank_register, size_register, local_register, device_register}
 use Rattle.fk_gen.specs.declared.placed.Placed.{Placed}
 use Rattle.fk_gen.specs.Registers.{zero_register, t0, t1, t2}
-use Rattle.fk_gen.specs.Lines.{quiet, commits, at_value, at_private, high_part, low_part}
+use Rattle.fk_gen.specs.Lines.{quiet, commits, at_value, at_private, high_part, low_part, load_number}
 use Rattle.fk_gen_expr.specs.Operators.{operator_code, sign_instruction}
 
 -- ---- instructions
@@ -45,18 +45,14 @@ load_variable variable = Lw t0 (base_of variable) (at_private (place_of variable
 abbrev pub store_variable : Variable → Instruction
 store_variable variable = Sw (base_of variable) t0 (at_private (place_of variable))
 
--- a number
-abbrev pub load_number : (register n : ℕ) → List Instruction
-load_number register n = Lui register (high_part n) ∷ Addi register register (low_part n) ∷ []
-
 -- ---- the code of each operation, where the call has so many values
 
 -- the word of a device, by its offset from the first
 abbrev pub push_device : (depth offset : ℕ) → List Instruction
-push_device d offset = Lui t0 0x30000 ∷ Lw t0 t0 offset ∷ store_value t0 (d + 1) ∷ []
+push_device d offset = Lw t0 device_register offset ∷ store_value t0 (d + 1) ∷ []
 
 abbrev pub push_number : (depth n : ℕ) → List Instruction
-push_number d n = load_number t0 n ++ store_value t0 (d + 1) ∷ []
+push_number d n = load_number n ++ store_value t0 (d + 1) ∷ []
 
 abbrev pub get_code : (globals depth : ℕ) → Known → List Instruction
 get_code globals d (Value variable) = load_variable variable ∷ store_value t0 (d + 1) ∷ []
@@ -74,11 +70,14 @@ abbrev pub join_code : (depth : ℕ) → Op → (first second : ℕ) → List In
 join_code d sign first second =
     load_value first (d - 1) ∷ load_value second d ∷ (operator_code sign ++ store_value t0 (d - 1) ∷ [])
 
--- an index times the size of an element, added to an address
+-- an index times the size of an element, added to an address. That of a word is a shift
+abbrev pub times_size : (is_word : Bool) (size : ℕ) → List Instruction
+times_size true size = Slli t1 t1 2 ∷ []
+times_size false size = Lui t2 (high_part size) ∷ Addi t2 t2 (low_part size) ∷ Mul t1 t1 t2 ∷ []
+
 abbrev pub index_code : (depth size : ℕ) → List Instruction
 index_code d size =
-    load_value t0 (d - 1) ∷ load_value t1 d
-    ∷ (load_number t2 size ++ Mul t1 t1 t2 ∷ Add t0 t0 t1 ∷ store_value t0 (d - 1) ∷ [])
+    load_value t0 (d - 1) ∷ load_value t1 d ∷ (times_size (size == 4) size ++ Add t0 t0 t1 ∷ store_value t0 (d - 1) ∷ [])
 
 abbrev pub expression_code : (globals depth : ℕ) → Operation → List Instruction
 expression_code globals d (Push n) = push_number d n

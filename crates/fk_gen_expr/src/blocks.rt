@@ -9,16 +9,16 @@ ghost use Rattle.fk_gen_expr.specs.Expressions as code;
 
 use fk_asm::{Assembler, Blocks};
 use fk_gen::numbers::{at_private, at_value, high_part, low_part};
-use fk_gen::registers::{END, FRAME, LOCAL, NUMBER, RANK, SIZE, T0, T1, T2, ZERO};
+use fk_gen::registers::{DEVICES, END, FRAME, LOCAL, NUMBER, RANK, SIZE, T0, T1, T2, ZERO};
 use fk_gen::{BlockLine, Placed, emit_lines};
 use fk_isa::Instruction;
 use fk_num::Op;
 use fk_operation::{Known, Operation, Unary, Variable};
 use std::alloc::AllocError;
 
-/// The upper 20 bits of the addresses of devices.
-const DEVICES: u32 = 0x30000;
-/// How far from there on the devices stand that tell a hart its number, how many harts there are, and how
+/// How many bytes a word has.
+const WORD: u32 = 4;
+/// How far from the first device on those stand that tell a hart its number, how many harts there are, and how
 /// many input numbers.
 const HART_NUMBER: u32 = 20;
 
@@ -78,19 +78,26 @@ fn emit_expression(
 
 fn push_number(into: &mut Assembler, depth: u32, number: u32) -> Result<(), AllocError>
     requires depth { depth < 64 }
-    requires room { length into.old.lines + 3 < 2 ^ 30 }
+    requires room { length into.old.lines + length (code.first_commits (code.push_number depth number)) < 2 ^ 30 }
     requires free { AreFollowed into.old }
     ensures added { OnOk result (into.new ≡ with_block into.old (code.first_commits (code.push_number depth number))) }
     ensures begun { OnErr result (HasBegun (code.first_commits (code.push_number depth number)) into.old into.new) }
 {
-    emit_lines(
-        into,
-        &[
-            BlockLine::commits(Instruction::Lui(T0, high_part(number))),
-            BlockLine::quiet(Instruction::Addi(T0, T0, low_part(number))),
-            BlockLine::quiet(store_value(T0, depth + 1)),
-        ],
-    )
+    let high = high_part(number);
+    let low = low_part(number);
+    let store = store_value(T0, depth + 1);
+    if high == 0 {
+        move_word(into, Instruction::Addi(T0, ZERO, low), store)
+    } else {
+        emit_lines(
+            into,
+            &[
+                BlockLine::commits(Instruction::Lui(T0, high)),
+                BlockLine::quiet(Instruction::Addi(T0, T0, low)),
+                BlockLine::quiet(store),
+            ],
+        )
+    }
 }
 
 fn get(into: &mut Assembler, globals: u32, depth: u32, known: Known) -> Result<(), AllocError>
@@ -142,41 +149,51 @@ fn move_word(into: &mut Assembler, load: Instruction, store: Instruction) -> Res
 fn push_device(into: &mut Assembler, depth: u32, offset: u32) -> Result<(), AllocError>
     requires depth { depth < 64 }
     requires offset { offset ≤ 28 }
-    requires room { length into.old.lines + 3 < 2 ^ 30 }
+    requires room { length into.old.lines + 2 < 2 ^ 30 }
     requires free { AreFollowed into.old }
     ensures added { OnOk result (into.new ≡ with_block into.old (code.first_commits (code.push_device depth offset))) }
     ensures begun { OnErr result (HasBegun (code.first_commits (code.push_device depth offset)) into.old into.new) }
 {
-    emit_lines(
+    move_word(
         into,
-        &[
-            BlockLine::commits(Instruction::Lui(T0, DEVICES)),
-            BlockLine::quiet(Instruction::Lw(T0, T0, offset)),
-            BlockLine::quiet(store_value(T0, depth + 1)),
-        ],
+        Instruction::Lw(T0, DEVICES, offset),
+        store_value(T0, depth + 1),
     )
 }
 
 fn index(into: &mut Assembler, depth: u32, size: u32) -> Result<(), AllocError>
     requires two { 2 ≤ depth }
     requires depth { depth ≤ 64 }
-    requires room { length into.old.lines + 7 < 2 ^ 30 }
+    requires room { length into.old.lines + length (code.first_commits (code.index_code depth size)) < 2 ^ 30 }
     requires free { AreFollowed into.old }
     ensures added { OnOk result (into.new ≡ with_block into.old (code.first_commits (code.index_code depth size))) }
     ensures begun { OnErr result (HasBegun (code.first_commits (code.index_code depth size)) into.old into.new) }
 {
-    emit_lines(
-        into,
-        &[
-            BlockLine::commits(load_value(T0, depth - 1)),
-            BlockLine::quiet(load_value(T1, depth)),
-            BlockLine::quiet(Instruction::Lui(T2, high_part(size))),
-            BlockLine::quiet(Instruction::Addi(T2, T2, low_part(size))),
-            BlockLine::quiet(Instruction::Mul(T1, T1, T2)),
-            BlockLine::quiet(Instruction::Add(T0, T0, T1)),
-            BlockLine::quiet(store_value(T0, depth - 1)),
-        ],
-    )
+    if size == WORD {
+        emit_lines(
+            into,
+            &[
+                BlockLine::commits(load_value(T0, depth - 1)),
+                BlockLine::quiet(load_value(T1, depth)),
+                BlockLine::quiet(Instruction::Slli(T1, T1, 2)),
+                BlockLine::quiet(Instruction::Add(T0, T0, T1)),
+                BlockLine::quiet(store_value(T0, depth - 1)),
+            ],
+        )
+    } else {
+        emit_lines(
+            into,
+            &[
+                BlockLine::commits(load_value(T0, depth - 1)),
+                BlockLine::quiet(load_value(T1, depth)),
+                BlockLine::quiet(Instruction::Lui(T2, high_part(size))),
+                BlockLine::quiet(Instruction::Addi(T2, T2, low_part(size))),
+                BlockLine::quiet(Instruction::Mul(T1, T1, T2)),
+                BlockLine::quiet(Instruction::Add(T0, T0, T1)),
+                BlockLine::quiet(store_value(T0, depth - 1)),
+            ],
+        )
+    }
 }
 
 fn apply(into: &mut Assembler, depth: u32, sign: Unary) -> Result<(), AllocError>

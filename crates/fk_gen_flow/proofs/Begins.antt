@@ -81,8 +81,9 @@ firsts_come image bound number main (v ∷ vs) t i k h Goal few about lines le s
 
 abbrev register_quiets : (of_file : ℕ) → Quiets
 register_quiets of_file =
-    (Lui 8 0x20000, Plain) ∷ (Addi 8 8 (4 * of_file), Plain) ∷ (Lui 9 0x20000, Plain) ∷ (Addi 9 9 256, Plain) ∷ (Lui 22 0x20000, Plain) ∷
-    (Lui 23 0x4000, Plain) ∷ (Lui 24 0x8004, Plain) ∷ (Lui 5 0x30000, Plain) ∷ (Lw 19 5 20, TellsNumber) ∷ (Lw 20 5 24, TellsHarts) ∷ []
+    (Lui 22 0x20000, Plain) ∷ (Addi 8 22 (4 * of_file), Plain) ∷ (Addi 9 22 256, Plain) ∷ (Lui 23 0x10000, Plain) ∷ (Lui 24 0x20010, Plain) ∷
+    (Lui 25 0xffc00, Plain) ∷ (Addi 25 25 3, Plain) ∷ (Lui 27 0xffff0, Plain) ∷ (Addi 27 27 3, Plain) ∷ (Lui 26 0x30000, Plain) ∷
+    (Lw 19 26 20, TellsNumber) ∷ (Lw 20 26 24, TellsHarts) ∷ []
 
 pub opening_begins : (core : List CoreOp) (image : Image) (bound : ℕ → ℕ) (places : Places) (firsts : List ℕ) (main : ℕ) → HasOpening image bound places firsts main
     → AreFirsts places.frames.of_file firsts → places.frames.is_main main ≡ true
@@ -92,18 +93,18 @@ opening_begins core image bound places firsts main opening are is_main setting t
     let few = are.few in
     let within = are.within in
     let split = lines_split image bound 0 (register_lines of_file) (first_lines 0 firsts ++ jump_block main) opening.lines in
-    let w = walked image bound t number running.code (register_quiets of_file) 0 first_hart split.0 refl refl (tt, (tt, (tt, (tt, (tt, (tt, (tt, (tt, (refl, (refl, tt)))))))))) in
+    let w = walked image bound t number running.code (register_quiets of_file) 0 first_hart split.0 refl refl (tt, (tt, (tt, (tt, (tt, (tt, (tt, (tt, (tt, (tt, (refl, (refl, tt)))))))))))) in
     let h = walk (told_of t number) (register_quiets of_file) first_hart in
-    let about : IsAbout image (in_cycles 10 t) 10 h = record { code = running.code; live = w.live; at = w.pc } in
-    let comes = firsts_come image bound number main firsts (in_cycles 10 t) 0 10 h (λ h'. (h'.ended ≡ false) × (h'.pc ≡ 4 * bound (label_of main)) × (h'.local ≡ filled (λ i. 0) 0 firsts) × ((r : ℕ) → (r == 5) ≡ false → h'.registers r ≡ h.registers r))
+    let about : IsAbout image (in_cycles 12 t) 12 h = record { code = running.code; live = w.live; at = w.pc } in
+    let comes = firsts_come image bound number main firsts (in_cycles 12 t) 0 12 h (λ h'. (h'.ended ≡ false) × (h'.pc ≡ 4 * bound (label_of main)) × (h'.local ≡ filled (λ i. 0) 0 firsts) × ((r : ℕ) → (r == 5) ≡ false → h'.registers r ≡ h.registers r))
     (omega arith) about split.1 (opening.labels.within (label_of main)) refl (λ h' a b c d. (a, b, c, d)) in
     let goal = comes.goal in
     let same = goal.3 in
     record {
-      cycles = 10 + cycles_of firsts;
+      cycles = 12 + cycles_of firsts;
       few = let e = few_cycles firsts in omega arith;
       hart = comes.hart;
-      runs = runs_join image t number 10 (cycles_of firsts) first_hart h comes.hart w.runs comes.runs;
+      runs = runs_join image t number 12 (cycles_of firsts) first_hart h comes.hart w.runs comes.runs;
       at = record {
         live = goal.0;
         at = goal.1 ∙ ap (λ k. 4 * k) (opening.labels.blocks main);
@@ -118,6 +119,9 @@ opening_begins core image bound places firsts main opening are is_main setting t
           local = same 22 refl;
           shared_data = same 23 refl;
           private_heap = same 24 refl;
+          shared_mask = same 25 refl;
+          devices = same 26 refl;
+          heap_mask = same 27 refl;
           running = record {
             home = is_main;
             values = tt;

@@ -1,4 +1,4 @@
--- The code that all calls share.
+-- What a call copies, and its new frame.
 use Rattle.std.proofs.Common.{◌≡◌, ℕ, zero, suc, ◌+◌, ◌-◌, ◌*◌, ◌<◌, ◌≤◌, List, [], ◌∷◌, length, false, ap, subst, sym, ◌∙◌, arith, refl, inl, inr}
 use Rattle.std.specs.Prelude.{◌==◌, ◌⊎◌}
 use Rattle.std.proofs.lemmas.Bool.{cases_lt}
@@ -13,8 +13,8 @@ use Rattle.fk_gen.specs.Lines.{at_value, at_private, copy_label}
 use Rattle.fk_gen.specs.InPlace.{LinesAt}
 use Rattle.fk_gen.proofs.Values.{same_word, other_word}
 use Rattle.fk_gen.proofs.Jumps.{jumps}
-use Rattle.fk_gen_flow.specs.Calls.{header_lines, HasCopying}
-use Rattle.fk_gen_flow.proofs.Walk.{Comes, IsAbout, there, first, writing, storing, value_word, near_word, lw_goes, sw_goes, jalr_goes}
+use Rattle.fk_gen_flow.specs.Calls.{copy_lines, own_copies, frame_lines, HasChain}
+use Rattle.fk_gen_flow.proofs.Walk.{Comes, IsAbout, there, first, writing, storing, word_before, near_word, lw_goes, sw_goes, link_goes}
 
 -- ---- arguments
 
@@ -63,19 +63,24 @@ pub few_copies : (n rest : ℕ) → copy_cycles n rest ≡ 2 * n + rest
 few_copies zero rest = omega arith
 few_copies (suc n) rest = let e = few_copies n rest in omega arith
 
+-- lines that copy so many arguments, where those for the last k begin at a word
+pub record AreCopies (image : Image) (bound : ℕ → ℕ) (n : ℕ) (word : ℕ → ℕ) : Type 0 where
+  pub copies : (k : ℕ) → k < n → LinesAt image bound (word (suc k)) (copy_lines k)
+  pub next : (k : ℕ) → k < n → word k ≡ word (suc k) + 2
+
 -- what follows the copies
-abbrev pub AfterCopies : (image : Image) (bound : ℕ → ℕ) (number s e n rest : ℕ) (h : Hart) (Goal : Hart → Type 0) → Type 0
-AfterCopies image bound number s e n rest h Goal =
-    (t' : Setting) (h' : Hart) → IsAbout image t' (bound (copy_label 0)) h' → ((r : ℕ) → (r == 5) ≡ false → h'.registers r ≡ h.registers r)
+abbrev pub AfterCopies : (image : Image) (number s e n end rest : ℕ) (h : Hart) (Goal : Hart → Type 0) → Type 0
+AfterCopies image number s e n end rest h Goal =
+    (t' : Setting) (h' : Hart) → IsAbout image t' end h' → ((r : ℕ) → (r == 5) ≡ false → h'.registers r ≡ h.registers r)
     → Copied h.local h'.local s e n → Comes image t' number rest h' Goal
 
-pub copies_come : (image : Image) (bound : ℕ → ℕ) (number s e rest : ℕ) (Goal : Hart → Type 0) → HasCopying image bound → s ≤ e → e + 64 ≤ 16384
-    → (n : ℕ) (t : Setting) (h : Hart) → n ≤ 56 → n ≤ s → IsAbout image t (bound (copy_label n)) h → h.registers 7 ≡ local_address s → h.registers 9 ≡ local_address e
-    → AfterCopies image bound number s e n rest h Goal → Comes image t number (copy_cycles n rest) h Goal
-copies_come image bound number s e rest Goal copying le few zero t h most enough about from to next =
+pub copies_come : (image : Image) (bound : ℕ → ℕ) (number s e rest most : ℕ) (word : ℕ → ℕ) (Goal : Hart → Type 0) → AreCopies image bound most word → s ≤ e → e + 64 ≤ 16384
+    → most ≤ 56 → (n : ℕ) (t : Setting) (h : Hart) → n ≤ most → n ≤ s → IsAbout image t (word n) h → h.registers 7 ≡ local_address (s - 1) → h.registers 9 ≡ local_address e
+    → AfterCopies image number s e n (word 0) rest h Goal → Comes image t number (copy_cycles n rest) h Goal
+copies_come image bound number s e rest most word Goal copying le few many zero t h within enough about from to next =
     next t h about (λ r f. refl) (record { copies = λ a lt. absurd (omega arith); others = λ j out. refl })
-copies_come image bound number s e rest Goal copying le few (suc n) t h most enough about from to next =
-    let k = bound (copy_label (suc n)) in
+copies_come image bound number s e rest most word Goal copying le few many (suc n) t h within enough about from to next =
+    let k = word (suc n) in
     let lines = copying.copies n (omega arith) in
     let below = copying.next n (omega arith) in
     let v = h.local (s - suc n) in
@@ -85,89 +90,79 @@ copies_come image bound number s e rest Goal copying le few (suc n) t h most eno
     let about1 = writing image t k h 5 v about lines.0.within in
     let about2 = storing image (later t) (suc k) h1 m2 about1 lines.1.0.within in
     let at2 = about2.at in
-    let about3 : IsAbout image (later (later t)) (bound (copy_label n)) h2 = record { code = about2.code; live = about2.live; at = omega arith } in
-    first image t number (suc (copy_cycles n rest)) k _ h h1 Goal about lines.0 (lw_goes t number 5 7 (at_value (suc n)) (s - suc n) h (value_word s (suc n) (h.registers 7) from (omega arith) (omega arith) (omega arith)))
+    let about3 : IsAbout image (later (later t)) (word n) h2 = record { code = about2.code; live = about2.live; at = omega arith } in
+    first image t number (suc (copy_cycles n rest)) k _ h h1 Goal about lines.0 (lw_goes t number 5 7 (at_value n) (s - suc n) h (word_before s n (h.registers 7) from (omega arith) (omega arith)))
     (first image (later t) number (copy_cycles n rest) (suc k) _ h1 h2 Goal about1 lines.1.0 (sw_goes (later t) number 9 5 (at_private n) (e + 8 + n) h1 (near_word e (8 + n) (e + 8 + n) (h1.registers 9) (at_private n) to refl (omega arith) (omega arith)))
-    (copies_come image bound number s e rest Goal copying le few n (later (later t)) h2 (omega arith) (omega arith) about3 from to
+    (copies_come image bound number s e rest most word Goal copying le few many n (later (later t)) h2 (omega arith) (omega arith) about3 from to
     (λ t' h' about' same copied. next t' h' about' (λ r f. same r f ∙ rw f) (copied_more h.local h'.local s e n le copied))))
 
--- ---- the header
+-- those in the block of a call
+pub own_are_copies : (image : Image) (bound : ℕ → ℕ) (n k : ℕ) → LinesAt image bound k (own_copies n) → AreCopies image bound n (λ m. k + 2 * (n - m))
+own_are_copies image bound zero k lines = record { copies = λ j lt. absurd (omega arith); next = λ j lt. absurd (omega arith) }
+own_are_copies image bound (suc n) k lines =
+    let rest = own_are_copies image bound n (suc (suc k)) lines.1.1 in
+    record {
+      copies = λ j lt. at j lt (cases_lt j n) rest;
+      next = λ j lt. omega arith;
+    }
+  where
+    at : (j : ℕ) → j < suc n → ((j < n) ⊎ (n ≤ j)) → AreCopies image bound n (λ m. suc (suc k) + 2 * (n - m)) → LinesAt image bound (k + 2 * (suc n - suc j)) (copy_lines j)
+    at j lt (inl less) rest =
+        let e : suc (suc k) + 2 * (n - suc j) ≡ k + 2 * (suc n - suc j) = omega arith in
+        subst (λ w. LinesAt image bound w (copy_lines j)) e (rest.copies j less)
+    at j lt (inr more) rest =
+        let last : n ≡ j = omega arith in
+        let e : k ≡ k + 2 * (suc n - suc j) = omega arith in
+        subst (λ w. LinesAt image bound w (copy_lines j)) e (subst (λ m. LinesAt image bound k (copy_lines m)) last (lines.0, (lines.1.0, tt)))
 
--- a hart whose frame is the new one, with its header, and that goes on at word b
-pub record Headed (h h' : Hart) (s e b : ℕ) : Type 0 where
+pub shared_are_copies : (image : Image) (bound : ℕ → ℕ) → HasChain image bound copy_label copy_lines 2 → AreCopies image bound 56 (λ m. bound (copy_label m))
+shared_are_copies image bound copying = record { copies = copying.parts; next = copying.next }
+
+-- ---- the new frame
+
+-- a hart whose frame is the new one, that has stored the address of the instruction behind its link, and goes on at word b
+pub record Framed (h h' : Hart) (e k : ℕ) : Type 0 where
   pub live : h'.ended ≡ false
-  pub at : h'.pc ≡ 4 * b
-  pub same : (r : ℕ) → (r == 5) ≡ false → (r == 7) ≡ false → (r == 8) ≡ false → (r == 9) ≡ false → h'.registers r ≡ h.registers r
+  pub at : h'.pc ≡ 4 * (k + 4)
+  pub same : (r : ℕ) → (r == 1) ≡ false → (r == 8) ≡ false → (r == 9) ≡ false → h'.registers r ≡ h.registers r
   pub start : h'.registers 8 ≡ local_address e
   pub behind : h'.registers 9 ≡ local_address (e + 64)
-  pub code : h'.local e ≡ 4 * suc b
-  pub frame : h'.local (e + 1) ≡ h.registers 8
-  pub result : h'.local (e + 2) ≡ local_address (s - 1)
-  pub others : (j : ℕ) → ((j < e) ⊎ (e + 3 ≤ j)) → h'.local j ≡ h.local j
+  pub code : h'.local e ≡ 4 * suc k
+  pub others : (j : ℕ) → (j ≡ e → ⊥) → h'.local j ≡ h.local j
 
-three_words : (m : Memory) (e a b c j : ℕ) → ((j < e) ⊎ (e + 3 ≤ j)) → put (put (put m e a) (e + 1) b) (e + 2) c j ≡ m j
-three_words m e a b c j (inl lt) =
-    other_word (put (put m e a) (e + 1) b) (e + 2) c j (λ f. omega arith) ∙ other_word (put m e a) (e + 1) b j (λ f. omega arith) ∙ other_word m e a j (λ f. omega arith)
-three_words m e a b c j (inr le) =
-    other_word (put (put m e a) (e + 1) b) (e + 2) c j (λ f. omega arith) ∙ other_word (put m e a) (e + 1) b j (λ f. omega arith) ∙ other_word m e a j (λ f. omega arith)
-
-pub header_comes : (image : Image) (bound : ℕ → ℕ) (number s e b : ℕ) (Goal : Hart → Type 0) (t : Setting) (h : Hart) → LinesAt image bound (bound (copy_label 0)) header_lines
-    → 0 < s → s ≤ e → e + 64 ≤ 16384 → b ≤ 262144 → IsAbout image t (bound (copy_label 0)) h
-    → h.registers 7 ≡ local_address s → h.registers 9 ≡ local_address e → h.registers 1 ≡ 4 * b
-    → ((h' : Hart) → Headed h h' s e b → Goal h') → Comes image t number 8 h Goal
-header_comes image bound number s e b Goal t h lines pos le few small about from to back goal =
-    let k = bound (copy_label 0) in
+pub frame_comes : (image : Image) (bound : ℕ → ℕ) (number e k : ℕ) (Goal : Hart → Type 0) (t : Setting) (h : Hart) → LinesAt image bound k frame_lines
+    → e + 64 ≤ 16384 → IsAbout image t k h → h.registers 9 ≡ local_address e → ((h' : Hart) → Framed h h' e k → Goal h') → Comes image t number 4 h Goal
+frame_comes image bound number e k Goal t h lines few about to goal =
     let l0 = lines.0 in
     let l1 = lines.1.0 in
     let l2 = lines.1.1.0 in
     let l3 = lines.1.1.1.0 in
-    let l4 = lines.1.1.1.1.0 in
-    let l5 = lines.1.1.1.1.1.0 in
-    let l6 = lines.1.1.1.1.1.1.0 in
-    let l7 = lines.1.1.1.1.1.1.1.0 in
-    let v = word_sum (h.registers 1) 4 in
-    let r = word_sum (h.registers 7) (at_value 1) in
-    let m1 = put h.local e v in
-    let m2 = put m1 (e + 1) (h.registers 8) in
-    let m3 = put m2 (e + 2) r in
-    let h1 = writes h 5 v in
-    let h2 : Hart = record (moves h1) { local = m1 } in
-    let h3 : Hart = record (moves h2) { local = m2 } in
-    let h4 = writes h3 7 r in
-    let h5 : Hart = record (moves h4) { local = m3 } in
-    let h6 = writes h5 8 (word_sum (h.registers 9) 0) in
-    let h7 = writes h6 9 (word_sum (h.registers 9) 256) in
-    let h8 = jumps h7 0 (4 * b) in
+    let within = l3.within in
+    let h1 = jumps h 1 (4 * suc k) in
+    let link = h1.registers 1 in
+    let m = put h.local e link in
+    let h2 : Hart = record (moves h1) { local = m } in
+    let h3 = writes h2 8 (word_sum (h.registers 9) 0) in
+    let h4 = writes h3 9 (word_sum (h.registers 9) 256) in
     let t1 = later t in
     let t2 = later t1 in
     let t3 = later t2 in
-    let t4 = later t3 in
-    let t5 = later t4 in
-    let t6 = later t5 in
-    let t7 = later t6 in
-    let about1 = writing image t k h 5 v about l0.within in
-    let about2 = storing image t1 (suc k) h1 m1 about1 l1.within in
-    let about3 = storing image t2 (suc (suc k)) h2 m2 about2 l2.within in
-    let about4 = writing image t3 (suc (suc (suc k))) h3 7 r about3 l3.within in
-    let about5 = storing image t4 (suc (suc (suc (suc k)))) h4 m3 about4 l4.within in
-    let about6 = writing image t5 (suc (suc (suc (suc (suc k))))) h5 8 (word_sum (h.registers 9) 0) about5 l5.within in
-    let about7 = writing image t6 (suc (suc (suc (suc (suc (suc k)))))) h6 9 (word_sum (h.registers 9) 256) about6 l6.within in
-    first image t number 7 k _ h h1 Goal about l0 (λ s. (s.reserved, refl))
-    (first image t1 number 6 (suc k) _ h1 h2 Goal about1 l1 (sw_goes t1 number 9 5 0 e h1 (near_word e 0 e (h.registers 9) 0 to refl (omega arith) (omega arith)))
-    (first image t2 number 5 (suc (suc k)) _ h2 h3 Goal about2 l2 (sw_goes t2 number 9 8 4 (e + 1) h2 (near_word e 1 (e + 1) (h.registers 9) 4 to refl (omega arith) (omega arith)))
-    (first image t3 number 4 (suc (suc (suc k))) _ h3 h4 Goal about3 l3 (λ s. (s.reserved, refl))
-    (first image t4 number 3 (suc (suc (suc (suc k)))) _ h4 h5 Goal about4 l4 (sw_goes t4 number 9 7 8 (e + 2) h4 (near_word e 2 (e + 2) (h.registers 9) 8 to refl (omega arith) (omega arith)))
-    (first image t5 number 2 (suc (suc (suc (suc (suc k))))) _ h5 h6 Goal about5 l5 (λ s. (s.reserved, refl))
-    (first image t6 number 1 (suc (suc (suc (suc (suc (suc k)))))) _ h6 h7 Goal about6 l6 (λ s. (s.reserved, refl))
-    (first image t7 number 0 (suc (suc (suc (suc (suc (suc (suc k))))))) _ h7 h8 Goal about7 l7 (jalr_goes t7 number 0 1 b h7 back (omega arith))
-    (there image _ number _ Goal (goal h8 (record {
+    let about1 : IsAbout image t1 (suc k) h1 = record { code = about.code; live = about.live; at = refl } in
+    let about2 = storing image t1 (suc k) h1 m about1 l1.within in
+    let about3 = writing image t2 (suc (suc k)) h2 8 (word_sum (h.registers 9) 0) about2 l2.within in
+    let about4 = writing image t3 (suc (suc (suc k))) h3 9 (word_sum (h.registers 9) 256) about3 l3.within in
+    let pc = about.at in
+    let at4 = about4.at in
+    first image t number 3 k _ h h1 Goal about l0 (link_goes t number 1 k h about.at l0.within)
+    (first image t1 number 2 (suc k) _ h1 h2 Goal about1 l1 (sw_goes t1 number 9 1 0 e h1 (near_word e 0 e (h.registers 9) 0 to refl (omega arith) (omega arith)))
+    (first image t2 number 1 (suc (suc k)) _ h2 h3 Goal about2 l2 (λ s. (s.reserved, refl))
+    (first image t3 number 0 (suc (suc (suc k))) _ h3 h4 Goal about3 l3 (λ s. (s.reserved, refl))
+    (there image _ number _ Goal (goal h4 (record {
       live = about.live;
-      at = refl;
-      same = λ x a b c d. rw (d, c, b, a);
+      at = omega arith;
+      same = λ x a b c. rw (c, b, a);
       start = omega (arith, to);
       behind = omega (arith, to);
-      code = other_word m2 (e + 2) r e (λ f. omega arith) ∙ other_word m1 (e + 1) (h.registers 8) e (λ f. omega arith) ∙ same_word h.local e v ∙ omega (arith, back);
-      frame = other_word m2 (e + 2) r (e + 1) (λ f. omega arith) ∙ same_word m1 (e + 1) (h.registers 8);
-      result = same_word m2 (e + 2) r ∙ (value_word s 1 (h.registers 7) from (omega arith) (omega arith) (omega arith)).0;
-      others = λ j out. three_words h.local e v (h.registers 8) r j out;
-    }))))))))))
+      code = same_word h.local e link ∙ omega (arith, pc);
+      others = λ j ne. other_word h.local e link j ne;
+    }))))))

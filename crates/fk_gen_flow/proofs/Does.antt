@@ -8,8 +8,9 @@ use Rattle.fk_run.specs.Local.{is_onward}
 use Rattle.fk_run.specs.Round.{done, taking}
 use Rattle.fk_core.specs.declared.op.CoreOp.{CoreOp}
 use Rattle.fk_image.specs.declared.Image.{Image}
-use Rattle.fk_isa.specs.declared.instruction.Instruction.TheVariants.{Lui, Lw}
+use Rattle.fk_isa.specs.declared.instruction.Instruction.TheVariants.{Lw}
 use Rattle.fk_machine.specs.Hart.{Hart, Shared, Goes, Setting as MachineSetting}
+use Rattle.fk_machine.specs.Place.{place_of}
 use Rattle.fk_machine.specs.Step.{perform}
 use Rattle.fk_machine.specs.Run.{count_in}
 use Rattle.fk_machine.proofs.Performs.{writes, moves, lw-local, sw-halt}
@@ -100,6 +101,9 @@ jump_goes core image bound places i op block flows t p h holds e at =
           local = stands.local;
           shared_data = stands.shared_data;
           private_heap = stands.private_heap;
+          shared_mask = stands.shared_mask;
+          devices = stands.devices;
+          heap_mask = stands.heap_mask;
           running = flows_on places core nothing h.local _ i op.target p.runner.has.call p.runner.has.call (λ w. refl) flows refl frame.values frame;
           waiting = stands.waiting;
           own = stands.own;
@@ -151,6 +155,9 @@ module _ (core : List CoreOp) (image : Image) (bound : ℕ → ℕ) (places : Pl
         local = stands.local;
         shared_data = stands.shared_data;
         private_heap = stands.private_heap;
+        shared_mask = stands.shared_mask;
+        devices = stands.devices;
+        heap_mask = stands.heap_mask;
         running = subst (λ j. HasFrame places h.local (length p.runner.has.callers) j (drop_last 1 p.runner.has).call) (sym f)
             (flows_on places core nothing h.local _ i j p.runner.has.call (drop_last 1 p.runner.has).call (λ w. refl) flows refl (values_before 1 h.local _ (values p.runner.has) frame.values) frame);
         waiting = rw g stands.waiting;
@@ -234,25 +241,29 @@ halt_does core image bound places i op block stands_op setting t p h enters =
     let number = number_of p in
     let about = about_block image bound places t p h i enters.running.code enters.index enters.at in
     let l0 = block.lines.0 in
-    let l1 = block.lines.1.0 in
-    let h1 = writes h 5 0x30000000 in
-    let about1 = writing image t (places.block i) h 5 0x30000000 about l0.within in
+    let device : h.registers 26 ≡ 0x30000000 = enters.at.stands.devices in
     record {
-      before = 1;
+      before = 0;
       few_before = omega arith;
       does = record {
-        committing = h1;
-        runs = (h1, private image t number (places.block i) (Lui 5 0x30000) h h1 about.code l0 about.at about.live (λ s. (s.reserved, refl)), refl);
+        committing = h;
+        runs = refl;
         commits = record {
           live = enters.at.live;
-          counted = ap (count_in image.commits.items) about1.at ∙ l1.counted;
+          counted = ap (count_in image.commits.items) about.at ∙ l0.counted;
           does = λ s. inl (record {
-            hart = record (moves h1) { ended = true };
+            hart = record (moves h) { ended = true };
             store = s;
             done = record { acting = taking p.runner (Some (step_of core i op Halt p.runner.left.callers)); heap = p.heap };
             part = operations_are_next core i op Halt setting s p stands_op enters.index;
-            goes = λ earlier sh shows. (sh, step_at image (suc (places.block i)) 1 _ l1 _ about1.code number h1 sh about1.at ∙ sw-halt _ number 5 0 12 h1 sh refl place_of-halt, shows, λ j e. refl);
-            follows = (record (moves h1) { ended = true }, refl, refl);
+            goes = λ earlier sh shows. (
+              sh,
+              step_at image (places.block i) 1 _ l0 t enters.running.code number h sh about.at
+                  ∙ sw-halt t number 26 0 12 h sh (omega (arith, device)) (ap (λ a. place_of (word_sum a 12)) device ∙ place_of-halt),
+              shows,
+              λ j e. refl,
+            );
+            follows = (record (moves h) { ended = true }, refl, refl);
           });
         };
       };

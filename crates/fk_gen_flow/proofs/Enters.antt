@@ -1,8 +1,9 @@
 -- A call.
-use Rattle.std.proofs.Common.{◌≡◌, ℕ, zero, suc, ◌+◌, ◌-◌, ◌*◌, ◌/◌, ◌<◌, ◌≤◌, ◌^◌, List, [], ◌∷◌, length, Bool, Some, None, true, false, ap, subst, sym, ◌∙◌, arith, refl, inl, inr}
-use Rattle.std.specs.Prelude.{◌==◌, slice_get, nat_lt, if◌then◌else◌}
+use Rattle.std.proofs.Common.{◌≡◌, ℕ, zero, suc, ◌+◌, ◌-◌, ◌*◌, ◌<◌, ◌≤◌, ◌^◌, List, [], ◌∷◌, ◌++◌, length, eq-eqb, Bool, Some, None, true, false, ap, subst, sym, ◌∙◌, arith, refl, inl, inr}
+use Rattle.std.specs.Prelude.{◌==◌, ◌⊎◌, slice_get, nat_lt, nat_le, if◌then◌else◌}
+use Rattle.std.proofs.lemmas.List.{length-append}
 use Rattle.std.proofs.lemmas.Bool.{lt-ltb, le-ltb, cases_lt, ne_eqb}
-use Rattle.fk_num.specs.Word.{Memory, put, word, word_sum}
+use Rattle.fk_num.specs.Word.{Memory, put, word_sum}
 use Rattle.fk_operation.specs.declared.operation.Operation.TheVariants.{Enter}
 use Rattle.fk_operation.specs.declared.kinds.FaultKind.TheVariants.{CallDepth}
 use Rattle.fk_store.specs.Serve.{Served, Faults as Refused}
@@ -12,7 +13,7 @@ use Rattle.fk_run.specs.Round.{answered}
 use Rattle.fk_core.specs.declared.op.CoreOp.{CoreOp}
 use Rattle.fk_core.specs.Next.{position, behind_jump, is_jump}
 use Rattle.fk_image.specs.declared.Image.{Image}
-use Rattle.fk_isa.specs.declared.instruction.Instruction.TheVariants.{Lui, Addi, Add, Slli, Srli, Sw}
+use Rattle.fk_isa.specs.declared.instruction.Instruction.TheVariants.{Lui, Addi, Sw}
 use Rattle.fk_machine.specs.declared.stand.Stand.TheVariants.{Faulted}
 use Rattle.fk_machine.specs.Hart.{Hart, Stops, Setting as MachineSetting}
 use Rattle.fk_machine.specs.Run.{count_in}
@@ -26,20 +27,22 @@ use Rattle.fk_block_law.specs.Owner.{Commons, Owner, Doing, number_of, part, as_
 use Rattle.fk_block_law.specs.Stands.{Places, StandsAt, HasFrame, HasRoom, frame_end, frame_start, local_address}
 use Rattle.fk_block_law.specs.Next.{StandsOp, step_at as step_of}
 use Rattle.fk_block_law.specs.Suits.{Fits, nothing}
-use Rattle.fk_block_law.specs.Block.{HasDone, BlockDoes}
+use Rattle.fk_block_law.specs.Block.{Enters, Does, HasDone, BlockDoes}
 use Rattle.fk_block_law.proofs.Standing.{operations_are_next}
-use Rattle.fk_gen.specs.Lines.{at_value, high_part, low_part, copy_label}
-use Rattle.fk_gen.specs.InPlace.{HasBlock}
-use Rattle.fk_gen.proofs.Values.{other_word, values_before, length_before}
+use Rattle.fk_gen.specs.Lines.{at_value, high_part, low_part, copy_label, clear_label}
+use Rattle.fk_gen.specs.InPlace.{HasBlock, LinesAt}
+use Rattle.fk_gen.proofs.Values.{same_word, other_word, values_before, length_before}
 use Rattle.fk_gen.proofs.Standing.{frame_kept, waiting_kept}
-use Rattle.fk_gen.proofs.Walk.{private}
-use Rattle.fk_gen.proofs.Jumps.{jumps}
-use Rattle.fk_gen_flow.specs.Calls.{enter_block, HasCopying}
-use Rattle.fk_gen_flow.proofs.Walk.{Comes, IsAbout, first, writing, storing, words_back, jal_goes}
+use Rattle.fk_gen.proofs.Walk.{private, lines_split}
+use Rattle.fk_gen.proofs.Jumps.{jumps, goes_to_pc, bne_taken, bne_on}
+use Rattle.fk_gen_flow.specs.Calls.{enter_block, own_copies, copies_by, clears_by, word_lines, frame_lines, most_privates, HasShared}
+use Rattle.fk_gen_flow.specs.Laws.{ClearsEnough}
+use Rattle.fk_gen_flow.proofs.Walk.{Comes, IsAbout, first, writing, storing, next_word, words_back, near_word, sw_goes, jal_goes, jalr_goes}
 use Rattle.fk_gen_flow.proofs.Frames.{room_below, flows_on}
 use Rattle.fk_gen_flow.proofs.Does.{about_block}
 use Rattle.fk_gen_flow.proofs.Begins.{number_of_parts}
-use Rattle.fk_gen_flow.proofs.Copies.{arguments_at, copies_come, copy_cycles, few_copies, header_comes}
+use Rattle.fk_gen_flow.proofs.Copies.{Copied, Framed, arguments_at, copies_come, copy_cycles, few_copies, frame_comes, own_are_copies, shared_are_copies}
+use Rattle.fk_gen_flow.proofs.Clears.{arguments_end, clears_come, clear_cycles, few_clears}
 
 -- ---- where a call returns
 
@@ -53,28 +56,29 @@ behind_here (o ∷ core) (suc i) op e f = ap suc (behind_here core i op e f)
 
 -- ---- the processor that has entered
 
-module _ (core : List CoreOp) (image : Image) (bound : ℕ → ℕ) (places : Places) (i : ℕ) (op : CoreOp) (n : ℕ) where
+module _ (core : List CoreOp) (image : Image) (bound : ℕ → ℕ) (places : Places) (i : ℕ) (op : CoreOp) (n : ℕ) (clears : Bool) where
   abbrev pub entering : (p : Owner) → (back : ℕ) → Doing
   entering p back = record { acting = record { due = None; runner = record { left = position (suc i) (back ∷ p.runner.left.callers); has = entered n p.runner.has } }; heap = p.heap }
 
-  -- memory when a call has begun: its frame has a header and its arguments, and below it at most the third word has changed
+  -- memory when a call has begun: its frame has a header and its private words
   record HasBegun (m m' : Memory) (p : Owner) (s e : ℕ) : Type 0 where
-    pub code : m' e ≡ 4 * places.block (suc (suc i))
+    pub code : m' e + 16 ≡ 4 * places.block (suc (suc i))
     pub frame : m' (e + 1) ≡ local_address (frame_start places (length p.runner.has.callers))
     pub result : m' (e + 2) ≡ local_address (s - 1)
     pub copies : (a : ℕ) → a < n → m' (e + 8 + a) ≡ m (s - suc a)
-    pub below : (j : ℕ) → j < e → (j ≡ 2 → ⊥) → m' j ≡ m j
+    pub zeros : clears ≡ true → (a : ℕ) → n ≤ a → a < 56 → m' (e + 8 + a) ≡ 0
+    pub below : (j : ℕ) → j < e → m' j ≡ m j
     pub above : (j : ℕ) → e + 64 ≤ j → m' j ≡ m j
 
   entered_stands : (p : Owner) (h h' : Hart) (s : ℕ) → p.runner.left.at ≡ i → length (values p.runner.has) ≡ op.depth → StandsAt places p h → Fits core places.frames i op (Enter n)
-      → places.frames.of_file ≤ 56 → length p.runner.has.callers < 255 → s ≡ frame_end (length p.runner.has.callers) - (op.depth - n)
+      → ClearsEnough places.frames i clears (Enter n) → places.frames.of_file ≤ 56 → length p.runner.has.callers < 255 → s ≡ frame_end (length p.runner.has.callers) - (op.depth - n)
       → HasBegun h.local h'.local p s (frame_end (length p.runner.has.callers))
       → h'.ended ≡ false → h'.pc ≡ 4 * places.block (suc i)
       → ((r : ℕ) → (r == 1) ≡ false → (r == 5) ≡ false → (r == 6) ≡ false → (r == 7) ≡ false → (r == 8) ≡ false → (r == 9) ≡ false → h'.registers r ≡ h.registers r)
       → h'.registers 8 ≡ local_address (frame_end (length p.runner.has.callers))
       → h'.registers 9 ≡ local_address (frame_end (length p.runner.has.callers) + 64)
       → HasDone core image places (entering p (suc (suc i))) h'
-  entered_stands p h h' s e depth at fits few waiting from begun live pc same start behind =
+  entered_stands p h h' s e depth at fits enough few waiting from begun live pc same start behind =
       let stands = at.stands in
       let w = length p.runner.has.callers in
       let end = frame_end w in
@@ -105,10 +109,16 @@ module _ (core : List CoreOp) (image : Image) (bound : ℕ → ℕ) (places : Pl
             local = same 22 refl refl refl refl refl refl ∙ stands.local;
             shared_data = same 23 refl refl refl refl refl refl ∙ stands.shared_data;
             private_heap = same 24 refl refl refl refl refl refl ∙ stands.private_heap;
+            shared_mask = same 25 refl refl refl refl refl refl ∙ stands.shared_mask;
+            devices = same 26 refl refl refl refl refl refl ∙ stands.devices;
+            heap_mask = same 27 refl refl refl refl refl refl ∙ stands.heap_mask;
             running = record {
               home = calls.inside ∙ sym more;
               values = tt;
-              privates = λ a k. let lt = calls.kept a k in begun.copies a lt ∙ arguments_at h.local end n vs a (s - suc a) held.values (omega arith) (omega arith) lt (omega arith);
+              privates = λ a k. elim (cases_lt a n) [
+                | inl lt ↦ begun.copies a lt ∙ arguments_at h.local end n vs a (s - suc a) held.values (omega arith) (omega arith) lt (omega arith)
+                | inr le ↦ begun.zeros (enough a k le) a le (calls.kept a k) ∙ sym (arguments_end n vs a le)
+              ];
             };
             waiting = (
               record {
@@ -117,10 +127,10 @@ module _ (core : List CoreOp) (image : Image) (bound : ℕ → ℕ) (places : Pl
                 result = begun.result ∙ omega arith;
                 room = room;
               },
-              frame_kept places h.local h'.local w (suc (suc i)) (length (before n vs)) call' few (room_below places (suc (suc i)) (length (before n vs)) (suc (length (before n vs))) (omega arith) room) (omega arith) (λ j a b. begun.below j b (λ f. omega arith)) flowed,
-              waiting_kept places h.local h'.local p.runner.left.callers p.runner.has.callers few (λ j a b. begun.below j (omega arith) (λ f. omega arith)) stands.waiting,
+              frame_kept places h.local h'.local w (suc (suc i)) (length (before n vs)) call' few (room_below places (suc (suc i)) (length (before n vs)) (suc (length (before n vs))) (omega arith) room) (omega arith) (λ j a b. begun.below j b) flowed,
+              waiting_kept places h.local h'.local p.runner.left.callers p.runner.has.callers few (λ j a b. begun.below j (omega arith)) stands.waiting,
             );
-            own = λ j lt. begun.below (8 + j) (omega arith) (λ f. omega arith) ∙ stands.own j lt;
+            own = λ j lt. begun.below (8 + j) (omega arith) ∙ stands.own j lt;
             heap = λ j lt. begun.above (16384 + j) (omega arith) ∙ stands.heap j lt;
           };
         };
@@ -128,16 +138,51 @@ module _ (core : List CoreOp) (image : Image) (bound : ℕ → ℕ) (places : Pl
 
 -- ---- the depth
 
-end_low : (w a b : ℕ) → w < 255 → a ≡ local_address (64 * suc w) → b ≡ local_address 0 → word_sum (word (a / 65536 * 268435456)) b ≡ 0x20000000
-end_low w a b lt e f = let q : a / 65536 ≡ 8192 = omega arith in rw q (omega arith)
+abbrev is_last : (a b : ℕ) → Bool
+is_last a b = a == b
 
-end_high : (w a b : ℕ) → w ≡ 255 → a ≡ local_address (64 * suc w) → b ≡ local_address 0 → word_sum (word (a / 65536 * 268435456)) b ≡ 0x30000000
-end_high w a b is e f = let q : a / 65536 ≡ 8193 = omega arith in rw q (omega arith)
+may_wait : (w a b : ℕ) → w < 255 → a ≡ local_address (64 * suc w) → b ≡ 0x20010000 → is_last a b ≡ false
+may_wait w a b lt e f = ne_eqb a b (λ g. omega arith)
 
-module _ (core : List CoreOp) (image : Image) (bound : ℕ → ℕ) (places : Places) (i : ℕ) (op : CoreOp) (n : ℕ)
-    (few : places.frames.of_file ≤ 56) (small : op.site < 2 ^ 32) (copying : HasCopying image bound)
-    (block : HasBlock image bound places i (enter_block n op.depth op.site)) (behind : places.block (suc (suc i)) ≡ suc (places.block (suc i)))
-    (stands_op : StandsOp core i op (Enter n)) (fits : Fits core places.frames i op (Enter n)) where
+no_more : (w a b : ℕ) → w ≡ 255 → a ≡ local_address (64 * suc w) → b ≡ 0x20010000 → is_last a b ≡ true
+no_more w a b is e f = eq-eqb a b (omega arith)
+
+length-own : (n : ℕ) → length (own_copies n) ≡ 2 * n
+length-own zero = refl
+length-own (suc n) = let e = length-own n in omega arith
+
+two_words : (m : Memory) (e a b j : ℕ) → ((j < e) ⊎ (e + 3 ≤ j)) → put (put m (e + 1) a) (e + 2) b j ≡ m j
+two_words m e a b j (inl lt) = other_word (put m (e + 1) a) (e + 2) b j (λ f. omega arith) ∙ other_word m (e + 1) a j (λ f. omega arith)
+two_words m e a b j (inr le) = other_word (put m (e + 1) a) (e + 2) b j (λ f. omega arith) ∙ other_word m (e + 1) a j (λ f. omega arith)
+
+-- how many cycles the arguments take, and what follows them
+abbrev argument_cycles : (few : Bool) (n rest : ℕ) → ℕ
+argument_cycles true n rest = copy_cycles n rest
+argument_cycles false n rest = suc (copy_cycles n (suc rest))
+
+-- and what is cleared
+abbrev clearing_cycles : (clears : Bool) (n rest : ℕ) → ℕ
+clearing_cycles true n rest = suc (clear_cycles (most_privates - n) (suc rest))
+clearing_cycles false n rest = rest
+
+few_arguments_take : (few : Bool) (n rest : ℕ) → argument_cycles few n rest ≤ 2 * n + 2 + rest
+few_arguments_take true n rest = let e = few_copies n rest in omega arith
+few_arguments_take false n rest = let e = few_copies n (suc rest) in omega arith
+
+few_clears_take : (clears : Bool) (n rest : ℕ) → n ≤ 56 → clearing_cycles clears n rest ≤ 58 - n + rest
+few_clears_take true n rest le = let e = few_clears (most_privates - n) (suc rest) in omega arith
+few_clears_take false n rest le = omega arith
+
+few_rest : (few clears : Bool) (n : ℕ) → n ≤ 56 → argument_cycles few n (clearing_cycles clears n 4) ≤ 150
+few_rest few clears n le =
+    let e = few_arguments_take few n (clearing_cycles clears n 4) in
+    let f = few_clears_take clears n 4 le in
+    omega arith
+
+module _ (core : List CoreOp) (image : Image) (bound : ℕ → ℕ) (places : Places) (i : ℕ) (op : CoreOp) (n : ℕ) (clears : Bool)
+    (few : places.frames.of_file ≤ 56) (small : op.site < 2 ^ 32) (shared : HasShared image bound)
+    (block : HasBlock image bound places i (enter_block clears n op.depth op.site)) (behind : places.block (suc (suc i)) ≡ suc (places.block (suc i)))
+    (stands_op : StandsOp core i op (Enter n)) (fits : Fits core places.frames i op (Enter n)) (enough : ClearsEnough places.frames i clears (Enter n)) where
   -- what becomes of the depth
   answer_of : (p : Owner) → Commons → Bool → nodes.Part Commons Doing
   answer_of p s b = as_part (number_of p) (answered (step_of core i op (Enter n) p.runner.left.callers) p.runner.has (if b then Served (found s p.heap) 0 else Refused CallDepth))
@@ -146,158 +191,326 @@ module _ (core : List CoreOp) (image : Image) (bound : ℕ → ℕ) (places : Pl
   unfolding answer_of
   asked setting s p b e is = operations_are_next core i op (Enter n) setting s p stands_op e ∙ ap (answer_of p s) is
 
-  served : (setting : Setting) (s : Commons) (p : Owner) → p.runner.left.at ≡ i → length p.runner.has.callers < 255 → part core setting 1 s p ≡ nodes.Passes s (entering core image bound places i op n p (suc (suc i)))
+  served : (setting : Setting) (s : Commons) (p : Owner) → p.runner.left.at ≡ i → length p.runner.has.callers < 255 → part core setting 1 s p ≡ nodes.Passes s (entering core image bound places i op n clears p (suc (suc i)))
   unfolding answer_of
   served setting s p e lt =
       asked setting s p true e (lt-ltb (suc (length p.runner.has.callers)) 256 (omega arith))
-      ∙ ap (λ b. nodes.Passes s (entering core image bound places i op n p b)) (behind_here core (suc i) fits.goes_on.entry fits.goes_on.stands fits.goes_on.leads)
+      ∙ ap (λ b. nodes.Passes s (entering core image bound places i op n clears p b)) (behind_here core (suc i) fits.goes_on.entry fits.goes_on.stands fits.goes_on.leads)
 
   refused : (setting : Setting) (s : Commons) (p : Owner) → p.runner.left.at ≡ i → 255 ≤ length p.runner.has.callers → part core setting 1 s p ≡ nodes.Breaks op.site
   unfolding answer_of
   refused setting s p e le = asked setting s p false e (le-ltb (suc (length p.runner.has.callers)) 256 (omega arith))
 
-  -- from there on
-  call_comes : (t : MachineSetting) (p : Owner) (h h6 : Hart) → p.runner.left.at ≡ i → length (values p.runner.has) ≡ op.depth → StandsAt places p h → length p.runner.has.callers < 255
-      → (v : ℕ) → h6.local ≡ put h.local 2 v → ((r : ℕ) → (r == 5) ≡ false → (r == 6) ≡ false → h6.registers r ≡ h.registers r)
-      → IsAbout image t (suc (suc (suc (suc (suc (suc (places.block i))))))) h6
-      → Comes image t (number_of p) (suc (suc (copy_cycles n 8))) h6 (HasDone core image places (entering core image bound places i op n p (suc (suc i))))
-  call_comes t p h h6 e depth at waiting v stored same6 about6 =
-      let number = number_of p in
-      let stands = at.stands in
-      let w = length p.runner.has.callers in
-      let end = 64 * suc w in
-      let looks = fits.values in
-      let header = fits.room.header in
-      let calls = fits.goes_on in
-      let few_arguments = calls.few in
-      let s = end - (op.depth - n) in
-      let b = places.block (suc i) in
-      let k6 = suc (suc (suc (suc (suc (suc (places.block i)))))) in
-      let l6 = block.lines.1.1.1.1.1.1.0 in
-      let l7 = block.lines.1.1.1.1.1.1.1.0 in
-      let within = l7.within in
-      let next = block.next in
-      let Goal = HasDone core image places (entering core image bound places i op n p (suc (suc i))) in
-      let ends : h6.registers 9 ≡ local_address end = same6 9 refl refl ∙ stands.behind in
-      let from : word_sum (h6.registers 9) (at_value (op.depth - n)) ≡ local_address s = words_back end (op.depth - n) (h6.registers 9) ends (omega arith) (omega arith) in
-      let h7 = writes h6 7 (word_sum (h6.registers 9) (at_value (op.depth - n))) in
-      let about7 = writing image t k6 h6 7 (word_sum (h6.registers 9) (at_value (op.depth - n))) about6 l6.within in
-      let entry = bound (copy_label n) in
-      let h8 = jumps h7 1 (4 * entry) in
-      let about8 : IsAbout image (later (later t)) entry h8 = record { code = about7.code; live = about7.live; at = refl } in
-      let at7 = about7.at in
-      let back : h8.registers 1 ≡ 4 * b = omega arith in
-      first image t number (suc (copy_cycles n 8)) k6 _ h6 h7 Goal about6 l6 (λ s. (s.reserved, refl))
-      (first image (later t) number (copy_cycles n 8) (suc k6) _ h7 h8 Goal about7 l7 (jal_goes (later t) number 1 0 (suc k6) entry h7 about7.at l7.within (block.labels.within (copy_label n)))
-      (copies_come image bound number s end 8 Goal copying (omega arith) (omega arith) n (later (later t)) h8 few_arguments (omega arith) about8 from ends
-      (λ t' h' about' same copied.
-      header_comes image bound number s end b Goal t' h' copying.header (omega arith) (omega arith) (omega arith) (omega arith) about' (same 7 refl ∙ from) (same 9 refl ∙ ends) (same 1 refl ∙ back)
-      (λ h'' headed.
-      entered_stands core image bound places i op n p h h'' s e depth at fits few waiting refl
-      (record {
-        code = headed.code ∙ ap (λ x. 4 * x) (sym behind);
-        frame = headed.frame ∙ same 8 refl ∙ same6 8 refl refl ∙ stands.frame;
-        result = headed.result;
-        copies = λ a lt. headed.others (end + 8 + a) (inr (omega arith)) ∙ copied.copies a lt ∙ ap (λ m. m (s - suc a)) stored ∙ other_word h.local 2 v (s - suc a) (λ f. omega arith);
-        below = λ j lt ne. headed.others j (inl lt) ∙ copied.others j (inl (omega arith)) ∙ ap (λ m. m j) stored ∙ other_word h.local 2 v j ne;
-        above = λ j le. headed.others j (inr (omega arith)) ∙ copied.others j (inr (omega arith)) ∙ ap (λ m. m j) stored ∙ other_word h.local 2 v j (λ f. omega arith);
-      })
-      headed.live headed.at (λ r a1 a5 a6 a7 a8 a9. headed.same r a5 a7 a8 a9 ∙ same r a5 ∙ rw (a1, a7) (same6 r a5 a6)) headed.start headed.behind))))
+  -- from the commit on: the hart has stored the frame of the call that waits, and where it takes its result
+  module _ (p : Owner) (h h4 : Hart) (index : p.runner.left.at ≡ i) (depth : length (values p.runner.has) ≡ op.depth) (at : StandsAt places p h)
+      (waiting : length p.runner.has.callers < 255) where
+    abbrev end : ℕ
+    end = 64 * suc (length p.runner.has.callers)
 
-  pub enter_does : BlockDoes core image places i op (Enter n)
-  enter_does setting t p h enters =
+    abbrev s : ℕ
+    s = end - (op.depth - n)
+
+    abbrev Goal : Hart → Type 0
+    Goal = HasDone core image places (entering core image bound places i op n clears p (suc (suc i)))
+
+    record HasStored : Type 0 where
+      pub first : h4.registers 7 ≡ local_address (s - 1)
+      pub same : (r : ℕ) → (r == 7) ≡ false → h4.registers r ≡ h.registers r
+      pub frame : h4.local (end + 1) ≡ h.registers 8
+      pub result : h4.local (end + 2) ≡ local_address (s - 1)
+      pub others : (j : ℕ) → ((j < end) ⊎ (end + 3 ≤ j)) → h4.local j ≡ h.local j
+
+    -- the private words of the new frame stand in it, and nothing else has changed
+    record HasWords (m m' : Memory) : Type 0 where
+      pub copies : (a : ℕ) → a < n → m' (end + 8 + a) ≡ m (s - suc a)
+      pub zeros : clears ≡ true → (a : ℕ) → n ≤ a → a < 56 → m' (end + 8 + a) ≡ 0
+      pub others : (j : ℕ) → ((j < end + 8) ⊎ (end + 64 ≤ j)) → m' j ≡ m j
+
+    -- with them and the frame it has begun its call
+    has_begun : (kf : ℕ) (hx hf : Hart) → HasStored → HasWords h4.local hx.local
+        → ((r : ℕ) → (r == 5) ≡ false → (r == 6) ≡ false → hx.registers r ≡ h4.registers r) → Framed hx hf end kf → places.block (suc i) ≡ kf + 4 → Goal hf
+    has_begun kf hx hf stored words same framed next =
+        let stands = at.stands in
+        let looks = fits.values in
+        let header = fits.room.header in
+        let calls = fits.goes_on in
+        let few_arguments = calls.few in
+        let code = framed.code in
+        let old : (j : ℕ) → (j ≡ end → ⊥) → hf.local j ≡ hx.local j = framed.others in
+        entered_stands core image bound places i op n clears p h hf s index depth at fits enough few waiting refl
+        (record {
+          code = omega (arith, code, next, behind);
+          frame = old (end + 1) (λ f. omega arith) ∙ words.others (end + 1) (inl (omega arith)) ∙ stored.frame ∙ stands.frame;
+          result = old (end + 2) (λ f. omega arith) ∙ words.others (end + 2) (inl (omega arith)) ∙ stored.result;
+          copies = λ a lt. old (end + 8 + a) (λ f. omega arith) ∙ words.copies a lt ∙ stored.others (s - suc a) (inl (omega arith));
+          zeros = λ does a le lt. old (end + 8 + a) (λ f. omega arith) ∙ words.zeros does a le lt;
+          below = λ j lt. old j (λ f. omega arith) ∙ words.others j (inl (omega arith)) ∙ stored.others j (inl lt);
+          above = λ j le. old j (λ f. omega arith) ∙ words.others j (inr le) ∙ stored.others j (inr (omega arith));
+        })
+        framed.live (framed.at ∙ ap (λ k. 4 * k) (sym next))
+        (λ r a1 a5 a6 a7 a8 a9. framed.same r a1 a8 a9 ∙ same r a5 a6 ∙ stored.same r a7) framed.start framed.behind
+
+    -- the new frame
+    frame_begins : (t : MachineSetting) (k : ℕ) (hx : Hart) → IsAbout image t k hx → HasStored → LinesAt image bound k frame_lines
+        → HasWords h4.local hx.local → ((r : ℕ) → (r == 5) ≡ false → (r == 6) ≡ false → hx.registers r ≡ h4.registers r)
+        → places.block (suc i) ≡ k + 4 → Comes image t (number_of p) 4 hx Goal
+    frame_begins t k hx about stored lines words same next =
+        frame_comes image bound (number_of p) end k Goal t hx lines (omega arith) about (same 9 refl refl ∙ stored.same 9 refl ∙ at.stands.behind)
+        (λ hf framed. has_begun k hx hf stored words same framed next)
+
+    -- what is cleared
+    words_come : (b : Bool) (t : MachineSetting) (k : ℕ) (hc : Hart) → clears ≡ b → IsAbout image t k hc → HasStored → LinesAt image bound k (clears_by b n)
+        → LinesAt image bound (k + length (clears_by b n)) frame_lines → Copied h4.local hc.local s end n
+        → ((r : ℕ) → (r == 5) ≡ false → (r == 6) ≡ false → hc.registers r ≡ h4.registers r)
+        → places.block (suc i) ≡ k + length (clears_by b n) + 4 → Comes image t (number_of p) (clearing_cycles b n 4) hc Goal
+    words_come false t k hc does about stored lines frame copied same next =
+        let few_arguments = fits.goes_on.few in
+        let here : k + 0 ≡ k = omega arith in
+        frame_begins t k hc about stored (subst (λ j. LinesAt image bound j frame_lines) here frame)
+        (record {
+          copies = copied.copies;
+          zeros = λ e. absurd (cc);
+          others = λ j out. elim out [
+            | inl lt ↦ copied.others j (inl lt)
+            | inr le ↦ copied.others j (inr (omega arith))
+          ];
+        })
+        same (omega arith)
+    words_come true t k hc does about stored lines frame copied same next =
+        let number = number_of p in
+        let few_arguments = fits.goes_on.few in
+        let l0 = lines.0 in
+        let last = most_privates - n in
+        let entry = bound (clear_label last) in
+        let pc = about.at in
+        let within = l0.within in
+        let h5 = jumps hc 6 (4 * entry) in
+        let begin : IsAbout image (later t) entry h5 = record { code = about.code; live = about.live; at = refl } in
+        let back : h5.registers 6 + 0 ≡ 4 * suc k = omega arith in
+        let here : k + 1 ≡ suc k = omega arith in
+        first image t number (clear_cycles last 5) k _ hc h5 Goal about l0 (jal_goes t number 6 0 k entry hc about.at l0.within (block.labels.within (clear_label last)))
+        (clears_come image bound number end 5 Goal shared.clearing (omega arith) last (later t) h5 (omega arith) begin
+        (same 0 refl refl ∙ stored.same 0 refl ∙ at.stands.nought) (same 9 refl refl ∙ stored.same 9 refl ∙ at.stands.behind)
+        (λ t' h' about' same' cleared.
+        let hx = jumps h' 0 (4 * suc k) in
+        let link : h'.registers 6 + 0 ≡ 4 * suc k = ap (λ v. v + 0) (same' 6) ∙ back in
+        let there' : IsAbout image (later t') (suc k) hx = record { code = about'.code; live = about'.live; at = refl } in
+        first image t' number 4 (bound (clear_label 0)) _ h' hx Goal about' shared.clearing.back.0 (jalr_goes t' number 0 6 0 (suc k) h' link (omega arith))
+        (frame_begins (later t') (suc k) hx there' stored (subst (λ j. LinesAt image bound j frame_lines) here frame)
+        (record {
+          copies = λ a lt. cleared.others (end + 8 + a) (inl (omega arith)) ∙ copied.copies a lt;
+          zeros = λ e a le lt. cleared.zeros a (omega arith) lt;
+          others = λ j out. elim out [
+            | inl lt ↦ cleared.others j (inl (omega arith)) ∙ copied.others j (inl lt)
+            | inr le ↦ cleared.others j (inr le) ∙ copied.others j (inr (omega arith))
+          ];
+        })
+        (λ r a b. same' r ∙ rw b (same r a b)) (omega arith))))
+
+    -- the arguments
+    arguments_come : (own : Bool) (rest : ℕ) (t : MachineSetting) (k7 : ℕ) → IsAbout image t k7 h4 → HasStored → LinesAt image bound k7 (copies_by own n)
+        → ((t' : MachineSetting) (h' : Hart) → IsAbout image t' (k7 + length (copies_by own n)) h' → Copied h4.local h'.local s end n
+        → ((r : ℕ) → (r == 5) ≡ false → (r == 6) ≡ false → h'.registers r ≡ h4.registers r) → Comes image t' (number_of p) rest h' Goal)
+        → Comes image t (number_of p) (argument_cycles own n rest) h4 Goal
+    arguments_come true rest t k7 about stored lines after =
+        let number = number_of p in
+        let looks = fits.values in
+        let header = fits.room.header in
+        let few_arguments = fits.goes_on.few in
+        let many = length-own n in
+        let word : ℕ → ℕ = λ m. k7 + 2 * (n - m) in
+        let at4 = about.at in
+        let begin : IsAbout image t (word n) h4 = record { code = about.code; live = about.live; at = omega arith } in
+        copies_come image bound number s end rest n word Goal (own_are_copies image bound n k7 lines) (omega arith) (omega arith) few_arguments n t h4 (omega arith) (omega arith) begin
+        stored.first (stored.same 9 refl ∙ at.stands.behind)
+        (λ t' h' about' same copied.
+        let pc = about'.at in
+        let there' : IsAbout image t' (k7 + length (own_copies n)) h' = record { code = about'.code; live = about'.live; at = omega (arith, pc, many) } in
+        after t' h' there' copied (λ r a b. same r a))
+    arguments_come false rest t k7 about stored lines after =
+        let number = number_of p in
+        let looks = fits.values in
+        let header = fits.room.header in
+        let few_arguments = fits.goes_on.few in
+        let l0 = lines.0 in
+        let within = l0.within in
+        let entry = bound (copy_label n) in
+        let pc = about.at in
+        let h5 = jumps h4 6 (4 * entry) in
+        let begin : IsAbout image (later t) entry h5 = record { code = about.code; live = about.live; at = refl } in
+        let back : h5.registers 6 + 0 ≡ 4 * suc k7 = omega arith in
+        let here : suc k7 ≡ k7 + 1 = omega arith in
+        first image t number (copy_cycles n (suc rest)) k7 _ h4 h5 Goal about l0 (jal_goes t number 6 0 k7 entry h4 about.at l0.within (block.labels.within (copy_label n)))
+        (copies_come image bound number s end (suc rest) 56 (λ m. bound (copy_label m)) Goal (shared_are_copies image bound shared.copying) (omega arith) (omega arith) (omega arith) n (later t) h5 few_arguments (omega arith) begin
+        stored.first (stored.same 9 refl ∙ at.stands.behind)
+        (λ t' h' about' same copied.
+        let hx = jumps h' 0 (4 * suc k7) in
+        let link : h'.registers 6 + 0 ≡ 4 * suc k7 = ap (λ v. v + 0) (same 6 refl) ∙ back in
+        let there' : IsAbout image (later t') (suc k7) hx = record { code = about'.code; live = about'.live; at = refl } in
+        first image t' number rest (bound (copy_label 0)) _ h' hx Goal about' shared.copying.back.0 (jalr_goes t' number 0 6 0 (suc k7) h' link (omega arith))
+        (after (later t') hx (subst (λ k. IsAbout image (later t') k hx) here there') copied (λ r a b. same r a ∙ rw b))))
+
+    call_comes : (own : Bool) (t : MachineSetting) (k7 : ℕ) → IsAbout image t k7 h4 → HasStored → LinesAt image bound k7 ((copies_by own n ++ clears_by clears n) ++ frame_lines)
+        → places.block (suc i) ≡ k7 + length (copies_by own n ++ clears_by clears n) + 4 → Comes image t (number_of p) (argument_cycles own n (clearing_cycles clears n 4)) h4 Goal
+    call_comes own t k7 about stored lines next =
+        let split = lines_split image bound k7 (copies_by own n ++ clears_by clears n) frame_lines lines in
+        let words = lines_split image bound k7 (copies_by own n) (clears_by clears n) split.0 in
+        let total = length-append (copies_by own n) (clears_by clears n) in
+        let there' : k7 + length (copies_by own n ++ clears_by clears n) ≡ k7 + length (copies_by own n) + length (clears_by clears n) = omega arith in
+        arguments_come own (clearing_cycles clears n 4) t k7 about stored words.0
+        (λ t' h' about' copied same.
+        words_come clears t' (k7 + length (copies_by own n)) h' refl about' stored words.1 (subst (λ k. LinesAt image bound k frame_lines) there' split.1) copied same (omega arith))
+
+  -- 255 calls wait already
+  faults : (setting : Setting) (t : MachineSetting) (p : Owner) (h : Hart) → Enters core image places setting t i op (Enter n) p h → 255 ≤ length p.runner.has.callers
+      → Does core image places setting t p h
+  faults setting t p h enters le =
       let number = number_of p in
-      let at = enters.at in
-      let stands = at.stands in
+      let stands = enters.at.stands in
       let w = length p.runner.has.callers in
-      let waiting = enters.ready.in_range.waiting in
+      let most = enters.ready.in_range.waiting in
       let k = places.block i in
-      let about = about_block image bound places t p h i enters.running.code enters.index at in
+      let about = about_block image bound places t p h i enters.running.code enters.index enters.at in
       let l0 = block.lines.0 in
       let l1 = block.lines.1.0 in
       let l2 = block.lines.1.1.0 in
       let l3 = block.lines.1.1.1.0 in
-      let l4 = block.lines.1.1.1.1.0 in
-      let l5 = block.lines.1.1.1.1.1.0 in
-      let v1 = h.registers 9 / 65536 in
-      let v2 = word (v1 * 268435456) in
-      let v3 = word_sum v2 (h.registers 22) in
-      let v4 = high_part op.site * 4096 in
-      let v5 = word_sum v4 (low_part op.site) in
-      let h1 = writes h 5 v1 in
+      let v2 = high_part op.site * 4096 in
+      let v3 = word_sum v2 (low_part op.site) in
+      let h1 = goes_to_pc h (word_sum h.pc 4) in
       let h2 = writes h1 5 v2 in
       let h3 = writes h2 5 v3 in
-      let h4 = writes h3 6 v4 in
-      let h5 = writes h4 6 v5 in
       let t1 = later t in
       let t2 = later t1 in
       let t3 = later t2 in
-      let t4 = later t3 in
-      let t5 = later t4 in
-      let about1 = writing image t k h 5 v1 about l0.within in
+      let about1 : IsAbout image t1 (suc k) h1 = record { code = about.code; live = about.live; at = next_word h.pc k about.at l0.within } in
       let about2 = writing image t1 (suc k) h1 5 v2 about1 l1.within in
       let about3 = writing image t2 (suc (suc k)) h2 5 v3 about2 l2.within in
-      let about4 = writing image t3 (suc (suc (suc k))) h3 6 v4 about3 l3.within in
-      let about5 = writing image t4 (suc (suc (suc (suc k)))) h4 6 v5 about4 l4.within in
-      let about6 = storing image t5 (suc (suc (suc (suc (suc k))))) h5 (put h.local 2 v5) about5 l5.within in
-      let few_arguments = fits.goes_on.few in
-      let cycles = few_copies n 8 in
+      let last = no_more w (h.registers 9) (h.registers 24) (omega arith) stands.behind stands.private_heap in
+      let device : h3.registers 26 ≡ 0x30000000 = stands.devices in
       record {
-        before = 5;
-        behind = suc (suc (copy_cycles n 8));
+        before = 3;
+        behind = 0;
         few_before = omega arith;
         few_behind = omega arith;
         does = record {
-          committing = h5;
+          committing = h3;
           runs = (
             h1,
-            private image t number k (Srli 5 9 16) h h1 about.code l0 about.at about.live (λ s. (s.reserved, refl)),
+            bne_on image t number k 9 24 16 h about.code l0 about.at about.live last,
             (
               h2,
-              private image t1 number (suc k) (Slli 5 5 28) h1 h2 about1.code l1 about1.at about1.live (λ s. (s.reserved, refl)),
-              (
-                h3,
-                private image t2 number (suc (suc k)) (Add 5 5 22) h2 h3 about2.code l2 about2.at about2.live (λ s. (s.reserved, refl)),
-                (
-                  h4,
-                  private image t3 number (suc (suc (suc k))) (Lui 6 (high_part op.site)) h3 h4 about3.code l3 about3.at about3.live (λ s. (s.reserved, refl)),
-                  (h5, private image t4 number (suc (suc (suc (suc k)))) (Addi 6 6 (low_part op.site)) h4 h5 about4.code l4 about4.at about4.live (λ s. (s.reserved, refl)), refl),
-                ),
-              ),
+              private image t1 number (suc k) (Lui 5 (high_part op.site)) h1 h2 about1.code l1 about1.at about1.live (λ s. (s.reserved, refl)),
+              (h3, private image t2 number (suc (suc k)) (Addi 5 5 (low_part op.site)) h2 h3 about2.code l2 about2.at about2.live (λ s. (s.reserved, refl)), refl),
             ),
           );
           commits = record {
-            live = at.live;
-            counted = ap (count_in image.commits.items) about5.at ∙ l5.counted;
-            does = λ s. elim (cases_lt w 255) [
-              | inl lt ↦
-                  inl (record {
-                    hart = record (moves h5) { local = put h.local 2 v5 };
-                    store = s;
-                    done = entering core image bound places i op n p (suc (suc i));
-                    part = served setting s p enters.index lt;
-                    goes = λ earlier sh shows. (
-                      _,
-                      step_at image (suc (suc (suc (suc (suc k))))) 1 (Sw 5 6 8) l5 t5 about5.code number h5 sh about5.at
-                          ∙ sw-local t5 number 5 6 8 2 h5 sh (let low = end_low w (h.registers 9) (h.registers 22) lt stands.behind stands.local in omega arith) (place_of-local _ 2 (omega arith) (let low = end_low w (h.registers 9) (h.registers 22) lt stands.behind stands.local in omega arith)),
-                      record { words = shows.words; output = shows.output; common = shows.common },
-                      λ j e. refl,
-                    );
-                    follows =
-                        let comes = call_comes (later t5) p h (record (moves h5) { local = put h.local 2 v5 }) enters.index enters.ready.depth at lt v5 refl (λ r a b. rw (b, a)) about6 in
-                        (comes.hart, comes.runs, comes.goal);
-                  })
-              | inr le ↦
-                  inr (record {
-                    site = op.site;
-                    part = refused setting s p enters.index le;
-                    stops = λ earlier sh shows.
-                        step_at image (suc (suc (suc (suc (suc k))))) 1 (Sw 5 6 8) l5 t5 about5.code number h5 sh about5.at
-                        ∙ sw-fault t5 number 5 6 8 h5 sh (let high = end_high w (h.registers 9) (h.registers 22) (omega arith) stands.behind stands.local in omega arith)
-                        (ap (λ a. place_of (word_sum a 8)) (end_high w (h.registers 9) (h.registers 22) (omega arith) stands.behind stands.local) ∙ place_of-fault)
-                        ∙ ap (λ v. Stops (Faulted v number)) (number_of_parts op.site small);
-                  })
-            ];
+            live = about3.live;
+            counted = ap (count_in image.commits.items) about3.at ∙ l3.counted;
+            does = λ s. inr (record {
+              site = op.site;
+              part = refused setting s p enters.index le;
+              stops = λ earlier sh shows.
+                  step_at image (suc (suc (suc k))) 1 (Sw 26 5 8) l3 t3 about3.code number h3 sh about3.at
+                  ∙ sw-fault t3 number 26 5 8 h3 sh (omega (arith, device)) (ap (λ a. place_of (word_sum a 8)) device ∙ place_of-fault)
+                  ∙ ap (λ v. Stops (Faulted v number)) (number_of_parts op.site small);
+            });
           };
         };
       }
+
+  -- else there is room
+  begins : (setting : Setting) (t : MachineSetting) (p : Owner) (h : Hart) → Enters core image places setting t i op (Enter n) p h → length p.runner.has.callers < 255
+      → Does core image places setting t p h
+  begins setting t p h enters lt =
+      let number = number_of p in
+      let stands = enters.at.stands in
+      let w = length p.runner.has.callers in
+      let e = 64 * suc w in
+      let looks = fits.values in
+      let header = fits.room.header in
+      let few_arguments = fits.goes_on.few in
+      let k = places.block i in
+      let about = about_block image bound places t p h i enters.running.code enters.index enters.at in
+      let l0 = block.lines.0 in
+      let l4 = block.lines.1.1.1.1.0 in
+      let l5 = block.lines.1.1.1.1.1.0 in
+      let l6 = block.lines.1.1.1.1.1.1.0 in
+      let within = l6.within in
+      let k4 = suc (suc (suc (suc k))) in
+      let place = e - (op.depth - n) - 1 in
+      let v = word_sum (h.registers 9) (at_value (op.depth - n + 1)) in
+      let same_place : e - (op.depth - n + 1) ≡ place = omega arith in
+      let first_place : v ≡ local_address place = words_back e (op.depth - n + 1) (h.registers 9) stands.behind (omega arith) (omega arith) ∙ ap local_address same_place in
+      let m1 = put h.local (e + 1) (h.registers 8) in
+      let m2 = put m1 (e + 2) v in
+      let h1 = goes_to_pc h (word_sum h.pc 16) in
+      let h2 : Hart = record (moves h1) { local = m1 } in
+      let h3 = writes h2 7 v in
+      let h4 : Hart = record (moves h3) { local = m2 } in
+      let t1 = later t in
+      let t2 = later t1 in
+      let t3 = later t2 in
+      let pc = about.at in
+      let about1 : IsAbout image t1 k4 h1 = record { code = about.code; live = about.live; at = omega arith } in
+      let about2 = storing image t1 k4 h1 m1 about1 l4.within in
+      let about3 = writing image t2 (suc k4) h2 7 v about2 l5.within in
+      let about4 = storing image t3 (suc (suc k4)) h3 m2 about3 l6.within in
+      let wait = may_wait w (h.registers 9) (h.registers 24) lt stands.behind stands.private_heap in
+      let second = near_word e 2 (e + 2) (h3.registers 9) 8 stands.behind refl (omega arith) (omega arith) in
+      let short = few_rest (nat_le n 1) clears n few_arguments in
+      let words = word_lines clears n in
+      let total = length-append words frame_lines in
+      let next = block.next in
+      record {
+        before = 3;
+        behind = argument_cycles (nat_le n 1) n (clearing_cycles clears n 4);
+        few_before = omega arith;
+        few_behind = omega arith;
+        does = record {
+          committing = h3;
+          runs = (
+            h1,
+            bne_taken image t number k 9 24 16 h about.code l0 about.at about.live wait (omega arith),
+            (
+              h2,
+              private image t1 number k4 (Sw 9 8 4) h1 h2 about1.code l4 about1.at about1.live (sw_goes t1 number 9 8 4 (e + 1) h1 (near_word e 1 (e + 1) (h.registers 9) 4 stands.behind refl (omega arith) (omega arith))),
+              (h3, private image t2 number (suc k4) (Addi 7 9 (at_value (op.depth - n + 1))) h2 h3 about2.code l5 about2.at about2.live (λ s. (s.reserved, refl)), refl),
+            ),
+          );
+          commits = record {
+            live = about3.live;
+            counted = ap (count_in image.commits.items) about3.at ∙ l6.counted;
+            does = λ s. inl (record {
+              hart = h4;
+              store = s;
+              done = entering core image bound places i op n clears p (suc (suc i));
+              part = served setting s p enters.index lt;
+              goes = λ earlier sh shows. (
+                _,
+                step_at image (suc (suc k4)) 1 (Sw 9 7 8) l6 t3 about3.code number h3 sh about3.at
+                    ∙ sw-local t3 number 9 7 8 (e + 2) h3 sh (omega (arith, second.0)) (place_of-local _ (e + 2) second.1 second.0),
+                record { words = shows.words; output = shows.output; common = shows.common },
+                λ j e. refl,
+              );
+              follows =
+                  let comes = call_comes p h h4 enters.index enters.ready.depth enters.at lt (nat_le n 1) (later t3) (suc (suc (suc k4))) about4
+                  (record {
+                    first = first_place;
+                    same = λ r f. rw f;
+                    frame = other_word m1 (e + 2) v (e + 1) (λ f. omega arith) ∙ same_word h.local (e + 1) (h.registers 8);
+                    result = same_word m1 (e + 2) v ∙ first_place;
+                    others = λ j out. two_words h.local e (h.registers 8) v j out;
+                  })
+                  block.lines.1.1.1.1.1.1.1 (omega arith) in
+                  (comes.hart, comes.runs, comes.goal);
+            });
+          };
+        };
+      }
+
+  pub enter_does : BlockDoes core image places i op (Enter n)
+  enter_does setting t p h enters = elim (cases_lt (length p.runner.has.callers) 255) [
+    | inl lt ↦ begins setting t p h enters lt
+    | inr le ↦ faults setting t p h enters le
+  ]

@@ -1,5 +1,5 @@
 -- The laws of the blocks, from what each block does.
-use Rattle.std.proofs.Common.{◌≡◌, ℕ, suc, ◌^◌, ◌<◌, ◌≤◌, List, true, false, Some, ap, subst, ◌∙◌, arith}
+use Rattle.std.proofs.Common.{◌≡◌, ℕ, suc, ◌^◌, ◌<◌, ◌≤◌, List, Bool, true, false, Some, ap, subst, ◌∙◌, arith}
 use Rattle.std.specs.Prelude.{if◌then◌else◌}
 use Rattle.fk_operation.specs.declared.operation.Operation.{Operation}
 use Rattle.fk_operation.specs.declared.operation.Operation.TheVariants.{Branch, Leave, Enter, Halt}
@@ -14,9 +14,9 @@ use Rattle.fk_block_law.specs.Suits.{Fits}
 use Rattle.fk_block_law.specs.Block.{BlockDoes}
 use Rattle.fk_gen.specs.InPlace.{HasBlock}
 use Rattle.fk_gen_flow.specs.Flow.{jump_block}
-use Rattle.fk_gen_flow.specs.Calls.{HasCopying}
+use Rattle.fk_gen_flow.specs.Calls.{HasShared}
 use Rattle.fk_gen_flow.specs.Blocks.{is_flow, flow_block, block_by}
-use Rattle.fk_gen_flow.specs.Laws.{JumpsGo, FlowBlocksDo, HaltsEnd, HartsBegin, JumpsStand}
+use Rattle.fk_gen_flow.specs.Laws.{JumpsGo, FlowBlocksDo, HaltsEnd, HartsBegin, JumpsStand, ClearsEnough}
 use Rattle.fk_gen_flow.proofs.Does.{jump_goes, branch_does, halt_does}
 use Rattle.fk_gen_flow.proofs.Leaves.{leave_does}
 use Rattle.fk_gen_flow.proofs.Enters.{enter_does}
@@ -25,46 +25,46 @@ use Rattle.fk_gen_flow.proofs.Begins.{opening_begins}
 never : {A : Type 0} → false ≡ true → A
 never e = absurd (cc)
 
-block_of_jump : (op : CoreOp) → is_jump op ≡ true → flow_block op ≡ jump_block op.target
-block_of_jump op e = ap (λ b. if b then jump_block op.target else block_by op (operation_of op.kind op.number)) e
+pub block_of_jump : (clears : Bool) (op : CoreOp) → is_jump op ≡ true → flow_block clears op ≡ jump_block op.target
+block_of_jump clears op e = ap (λ b. if b then jump_block op.target else block_by clears op (operation_of op.kind op.number)) e
 
-block_of_operation : (core : List CoreOp) (i : ℕ) (op : CoreOp) (operation : Operation) → StandsOp core i op operation → flow_block op ≡ block_by op (Some operation)
-block_of_operation core i op operation at =
-    ap (λ b. if b then jump_block op.target else block_by op (operation_of op.kind op.number)) at.no_jump ∙ ap (block_by op) at.is_read
+block_of_operation : (core : List CoreOp) (i : ℕ) (op : CoreOp) (operation : Operation) (clears : Bool) → StandsOp core i op operation
+    → flow_block clears op ≡ block_by clears op (Some operation)
+block_of_operation core i op operation clears at =
+    ap (λ b. if b then jump_block op.target else block_by clears op (operation_of op.kind op.number)) at.no_jump ∙ ap (block_by clears op) at.is_read
 
 pub jumps_go : JumpsGo
-jumps_go core image places bound i op jump block flows =
-    jump_goes core image bound places i op (subst (HasBlock image bound places i) (block_of_jump op jump) block) flows
+jumps_go core image places bound i op jump block flows = jump_goes core image bound places i op block flows
 
 pub halts_end : HaltsEnd
-halts_end core image places bound i op at block =
-    halt_does core image bound places i op (subst (HasBlock image bound places i) (block_of_operation core i op Halt at) block) at
+halts_end core image places bound i op clears at block =
+    halt_does core image bound places i op (subst (HasBlock image bound places i) (block_of_operation core i op Halt clears at) block) at
 
 pub harts_begin : HartsBegin
 harts_begin core image places bound firsts main opening are is_main setting t number running =
     opening_begins core image bound places firsts main opening are is_main setting t number running
 
 -- behind a call stands a jump, which is one word
-behind_jump : (image : Image) (bound : ℕ → ℕ) (places : Places) (i : ℕ) (op : CoreOp) → is_jump op ≡ true → HasBlock image bound places i (flow_block op) → places.block (suc i) ≡ suc (places.block i)
-behind_jump image bound places i op jump block =
-    let stands = subst (HasBlock image bound places i) (block_of_jump op jump) block in
+behind_jump : (image : Image) (bound : ℕ → ℕ) (places : Places) (i : ℕ) (op : CoreOp) → HasBlock image bound places i (jump_block op.target) → places.block (suc i) ≡ suc (places.block i)
+behind_jump image bound places i op stands =
     let next = stands.next in
     omega arith
 
-does : (core : List CoreOp) (image : Image) (places : Places) (bound : ℕ → ℕ) (i : ℕ) (op : CoreOp) (operation : Operation)
+does : (core : List CoreOp) (image : Image) (places : Places) (bound : ℕ → ℕ) (i : ℕ) (op : CoreOp) (operation : Operation) (clears : Bool)
     → StandsOp core i op operation → is_alone operation ≡ true → is_flow operation ≡ true → op.site < 2 ^ 32
-    → HasBlock image bound places i (block_by op (Some operation)) → HasCopying image bound → JumpsStand core image bound places
-    → places.frames.of_file ≤ 56 → Fits core places.frames i op operation → BlockDoes core image places i op operation
-does core image places bound i op (Branch onward) at alone flow small block copying jumps few fits = branch_does core image bound places i op onward block at fits
-does core image places bound i op (Leave gives false) at alone flow small block copying jumps few fits = leave_does core image bound places i op gives few block at fits
-does core image places bound i op (Leave gives true) at alone flow small block copying jumps few fits = never alone
-does core image places bound i op (Enter arguments) at alone flow small block copying jumps few fits =
+    → HasBlock image bound places i (block_by clears op (Some operation)) → HasShared image bound → JumpsStand core image bound places
+    → places.frames.of_file ≤ 56 → Fits core places.frames i op operation → ClearsEnough places.frames i clears operation
+    → BlockDoes core image places i op operation
+does core image places bound i op (Branch onward) clears at alone flow small block shared jumps few fits enough = branch_does core image bound places i op onward block at fits
+does core image places bound i op (Leave gives false) clears at alone flow small block shared jumps few fits enough = leave_does core image bound places i op gives few block at fits
+does core image places bound i op (Leave gives true) clears at alone flow small block shared jumps few fits enough = never alone
+does core image places bound i op (Enter arguments) clears at alone flow small block shared jumps few fits enough =
     let calls = fits.goes_on in
-    enter_does core image bound places i op arguments few small copying block
-    (behind_jump image bound places (suc i) calls.entry calls.leads (jumps (suc i) calls.entry calls.stands calls.leads)) at fits
-does core image places bound i op Halt at alone flow small block copying jumps few fits = never alone
-does core image places bound i op operation at alone flow small block copying jumps few fits = never flow
+    enter_does core image bound places i op arguments clears few small shared block
+    (behind_jump image bound places (suc i) calls.entry (jumps (suc i) calls.entry calls.stands calls.leads)) at fits enough
+does core image places bound i op Halt clears at alone flow small block shared jumps few fits enough = never alone
+does core image places bound i op operation clears at alone flow small block shared jumps few fits enough = never flow
 
 pub flow_blocks_do : FlowBlocksDo
-flow_blocks_do core image places bound i op operation at alone flow small block copying jumps few fits =
-    does core image places bound i op operation at alone flow small (subst (HasBlock image bound places i) (block_of_operation core i op operation at) block) copying jumps few fits
+flow_blocks_do core image places bound i op operation clears at alone flow small block shared jumps few fits enough =
+    does core image places bound i op operation clears at alone flow small (subst (HasBlock image bound places i) (block_of_operation core i op operation clears at) block) shared jumps few fits enough

@@ -33,7 +33,7 @@ abbrev pub back_to : Hart → (w target : ℕ) → Hart
 back_to h w target = jumps (writes (writes h 9 (word_sum (h.registers 8) 0)) 8 (h.local w)) 0 (4 * target)
 
 pub returning_comes : (image : Image) (bound : ℕ → ℕ) (t : MachineSetting) (number k w target : ℕ) (h : Hart) (Goal : Hart → Type 0) → IsAbout image t k h
-    → LinesAt image bound k returning → IsLocal (word_sum (h.registers 8) 4) w → h.registers 6 ≡ 4 * target → target ≤ 262144
+    → LinesAt image bound k returning → IsLocal (word_sum (h.registers 8) 4) w → h.registers 6 + 16 ≡ 4 * target → target ≤ 262144
     → Goal (back_to h w target) → Comes image t number 3 h Goal
 returning_comes image bound t number k w target h Goal about lines is back le goal =
     let h1 = writes h 9 (word_sum (h.registers 8) 0) in
@@ -42,7 +42,7 @@ returning_comes image bound t number k w target h Goal about lines is back le go
     let about2 = writing image (later t) (suc k) h1 8 (h.local w) about1 lines.1.0.within in
     first image t number 2 k _ h h1 Goal about lines.0 (λ s. (s.reserved, refl))
     (first image (later t) number 1 (suc k) _ h1 h2 Goal about1 lines.1.0 (lw_goes (later t) number 8 8 4 w h1 is)
-    (first image (later (later t)) number 0 (suc (suc k)) _ h2 (jumps h2 0 (4 * target)) Goal about2 lines.1.1.0 (jalr_goes (later (later t)) number 0 6 target h2 back le)
+    (first image (later (later t)) number 0 (suc (suc k)) _ h2 (jumps h2 0 (4 * target)) Goal about2 lines.1.1.0 (jalr_goes (later (later t)) number 0 6 16 target h2 back le)
     (there image _ number _ Goal goal)))
 
 -- ---- what a processor is then
@@ -128,6 +128,9 @@ module _ (core : List CoreOp) (image : Image) (bound : ℕ → ℕ) (places : Pl
             local = after.same 22 refl refl refl refl refl ∙ stands.local;
             shared_data = after.same 23 refl refl refl refl refl ∙ stands.shared_data;
             private_heap = after.same 24 refl refl refl refl refl ∙ stands.private_heap;
+            shared_mask = after.same 25 refl refl refl refl refl ∙ stands.shared_mask;
+            devices = after.same 26 refl refl refl refl refl ∙ stands.devices;
+            heap_mask = after.same 27 refl refl refl refl refl ∙ stands.heap_mask;
             running = record {
               home = l.frame.home;
               values = values;

@@ -10,6 +10,8 @@ pub mod Leaves
 pub mod Begins
 -- the code that all calls share
 pub mod Copies
+-- what calls clear
+pub mod Clears
 -- calls
 pub mod Enters
 -- the laws

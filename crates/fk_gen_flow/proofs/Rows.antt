@@ -1,11 +1,10 @@
 -- Lists that are alike element by element, and what is added to an assembler one after another.
-use Rattle.std.proofs.Common.{◌≡◌, ℕ, zero, suc, ◌+◌, ◌*◌, ◌<◌, ◌≤◌, List, [], ◌∷◌, ◌++◌, length, take, ap, sym, subst, Option, false, ◌∙◌, refl, arith, get_or}
-use Rattle.std.specs.Prelude.{if◌then◌else◌, All, OnOk, Result, Ok, Err}
-use Rattle.std.proofs.lemmas.List.{length-append, length-map}
+use Rattle.std.proofs.Common.{◌≡◌, ℕ, zero, suc, ◌+◌, ◌*◌, ◌<◌, ◌≤◌, List, [], ◌∷◌, ◌++◌, length, take, ap, sym, Option, Bool, false, ◌∙◌, refl, arith, get_or}
+use Rattle.std.specs.Prelude.{if◌then◌else◌, All}
+use Rattle.std.proofs.lemmas.List.Elements.{All-nil, All-cons, All-head, All-tail}
 use Rattle.fk_asm.specs.Assembly.{Assembly}
-use Rattle.fk_asm.specs.Block.{MarkedLine, GoesToMade, lines_of, with_block}
-use Rattle.fk_asm.specs.Assembly.{AreFollowed}
-use Rattle.fk_asm.proofs.Straight.{with_block-append, AreFollowed-with_block}
+use Rattle.fk_asm.specs.Block.{with_block}
+use Rattle.fk_asm.proofs.Straight.{with_block-append}
 use Rattle.fk_operation.specs.declared.operation.Operation.{Operation}
 use Rattle.fk_core.specs.declared.op.CoreOp.{CoreOp}
 use Rattle.fk_core.specs.Next.{is_jump}
@@ -37,13 +36,6 @@ many_first_lines i zero firsts le = refl
 many_first_lines i (suc n) [] le = absurd (omega arith)
 many_first_lines i (suc n) (v ∷ firsts) le = let e = many_first_lines (suc i) n firsts (omega arith) in omega arith
 
-pub many_lines : (old new : Assembly) (block : List MarkedLine) (n : ℕ) → new ≡ with_block old block → length block ≡ n → length new.lines ≡ length old.lines + n
-many_lines old new block n e f =
-    ap (λ a. length a.lines) e ∙ length-append old.lines (lines_of block) ∙ ap (λ k. length old.lines + k) (length-map block (λ m. m.line) ∙ f)
-
-pub followed : (old new : Assembly) (block : List MarkedLine) → AreFollowed old → new ≡ with_block old block → AreFollowed new
-followed old new block f e = subst AreFollowed (sym e) (AreFollowed-with_block old block f)
-
 pub one_first_more : (old mid new : Assembly) (firsts : List ℕ) (n k : ℕ) → n < length firsts → k ≡ n + 1 → mid ≡ with_block old (first_lines 0 (take n firsts))
     → new ≡ with_block mid (first_line n (get_or firsts n 0)) → new ≡ with_block old (first_lines 0 (take k firsts))
 one_first_more old mid new firsts n k lt is e f =
@@ -57,17 +49,20 @@ opening_joined a b c d of_file firsts main e f g =
     ∙ ap (λ x. with_block x (first_lines 0 firsts ++ jump_block main)) e ∙ with_block-append a (register_lines of_file) (first_lines 0 firsts ++ jump_block main)
 
 -- an operation that is no jump has its block
-pub chosen : (op : CoreOp) (operation : Option Operation) → is_jump op ≡ false → operation ≡ operation_of op.kind op.number → flow_block op ≡ block_by op operation
-chosen op operation e f =
-    ap (λ b. if b then jump_block op.target else block_by op (operation_of op.kind op.number)) e ∙ ap (block_by op) (sym f)
+pub chosen : (clears : Bool) (op : CoreOp) (operation : Option Operation) → is_jump op ≡ false → operation ≡ operation_of op.kind op.number
+    → flow_block clears op ≡ block_by clears op operation
+chosen clears op operation e f =
+    ap (λ b. if b then jump_block op.target else block_by clears op (operation_of op.kind op.number)) e ∙ ap (block_by clears op) (sym f)
 
 pub many_firsts : (i : ℕ) (firsts : List ℕ) → length (first_lines i firsts) ≡ 3 * length firsts
 many_firsts i [] = refl
 many_firsts i (v ∷ firsts) = let e = many_firsts (suc i) firsts in omega arith
 
-pub bound_stays : (old new : Assembly) (block lines : List MarkedLine) → new ≡ with_block old block → All (GoesToMade old.bound) lines → All (GoesToMade new.bound) lines
-bound_stays old new block lines e all = subst (λ a. All (GoesToMade a.bound) lines) (sym e) all
+-- what is so of all of two lists is so of each
+pub all_front : {X : Type 0} (P : X → Type 0) (xs ys : List X) → All P (xs ++ ys) → All P xs
+all_front P [] ys all = All-nil P
+all_front P (x ∷ xs) ys all = All-cons P x xs (All-head P x (xs ++ ys) all) (all_front P xs ys (All-tail P x (xs ++ ys) all))
 
-pub on_ok : {T E : Type 0} (r : Result T E) (P Q : Type 0) → (P → Q) → OnOk r P → OnOk r Q
-on_ok (Ok x) P Q f p = f p
-on_ok (Err e) P Q f p = tt
+pub all_back : {X : Type 0} (P : X → Type 0) (xs ys : List X) → All P (xs ++ ys) → All P ys
+all_back P [] ys all = all
+all_back P (x ∷ xs) ys all = all_back P xs ys (All-tail P x (xs ++ ys) all)

@@ -57,6 +57,10 @@ IsLocal a w = (a ≡ local_address w) × (w < 32768)
 pub words_back : (e d a : ℕ) → a ≡ local_address e → d ≤ e → e ≤ 16384 → word_sum a (at_value d) ≡ local_address (e - d)
 words_back e d a same le most = omega arith
 
+-- the word so many words before one
+pub word_before : (e d a : ℕ) → a ≡ local_address (e - 1) → d < e → e ≤ 16384 → IsLocal (word_sum a (at_value d)) (e - suc d)
+word_before e d a same lt most = (omega arith, omega arith)
+
 pub value_word : (e d a : ℕ) → a ≡ local_address e → d ≤ e → 0 < d → e ≤ 16384 → IsLocal (word_sum a (at_value d)) (e - d)
 value_word e d a same le pos most = (omega arith, omega arith)
 
@@ -80,6 +84,11 @@ jal_goes t number rd imm k target h e lt le s = (
   jal t number rd (cast_unsigned w32 (distance k target)) (4 * target) h s (ap (λ a. word_sum a (cast_unsigned w32 (distance k target))) e ∙ word_sum-distance k target (omega arith) (omega arith)) (omega arith),
 )
 
-pub jalr_goes : (t : Setting) (number rd rs target : ℕ) (h : Hart) → h.registers rs ≡ 4 * target → target ≤ 262144
-    → (s : Shared) → GoesAlone (perform t number (Jalr rd rs 0) h s) (jumps h rd (4 * target)) s
-jalr_goes t number rd rs target h e le s = (s.reserved, jalr t number rd rs 0 (4 * target) h s (omega arith) (omega arith))
+pub jalr_goes : (t : Setting) (number rd rs imm target : ℕ) (h : Hart) → h.registers rs + imm ≡ 4 * target → target ≤ 262144
+    → (s : Shared) → GoesAlone (perform t number (Jalr rd rs imm) h s) (jumps h rd (4 * target)) s
+jalr_goes t number rd rs imm target h e le s = (s.reserved, jalr t number rd rs imm (4 * target) h s (omega arith) (omega arith))
+
+-- one to the next instruction
+pub link_goes : (t : Setting) (number rd k : ℕ) (h : Hart) → h.pc ≡ 4 * k → k < 262144
+    → (s : Shared) → GoesAlone (perform t number (Jal rd 4) h s) (jumps h rd (4 * suc k)) s
+link_goes t number rd k h e lt s = (s.reserved, jal t number rd 4 (4 * suc k) h s (omega arith) (omega arith))

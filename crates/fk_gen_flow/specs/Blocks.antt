@@ -18,16 +18,16 @@ is_flow (Enter arguments) = true
 is_flow Halt = true
 is_flow operation = false
 
-abbrev pub block_by : CoreOp → Option Operation → List MarkedLine
-block_by op (Some (Branch onward)) = branch_block onward op.depth op.target
-block_by op (Some (Leave gives framed)) = leave_block gives op.depth
-block_by op (Some (Enter arguments)) = enter_block arguments op.depth op.site
-block_by op (Some Halt) = halt_block
-block_by op operation = []
+abbrev pub block_by : (clears : Bool) → CoreOp → Option Operation → List MarkedLine
+block_by clears op (Some (Branch onward)) = branch_block onward op.depth op.target
+block_by clears op (Some (Leave gives framed)) = leave_block gives op.depth
+block_by clears op (Some (Enter arguments)) = enter_block clears arguments op.depth op.site
+block_by clears op (Some Halt) = halt_block
+block_by clears op operation = []
 
--- the block of a jump or an operation
-abbrev pub flow_block : CoreOp → List MarkedLine
-flow_block op = if is_jump op then jump_block op.target else block_by op (operation_of op.kind op.number)
+-- the block of a jump or an operation. Where it is a call, it clears the private words behind its arguments or it doesn't
+abbrev pub flow_block : (clears : Bool) → CoreOp → List MarkedLine
+flow_block clears op = if is_jump op then jump_block op.target else block_by clears op (operation_of op.kind op.number)
 
 -- the target of a branch has a label, and a call has its arguments
 abbrev pub HasOperands : (depth target : ℕ) → Option Operation → Type 0

@@ -1,44 +1,80 @@
--- The block of a call, and the code that all calls share.
-use Rattle.std.specs.Prelude.{◌≡◌, ℕ, zero, suc, ◌+◌, ◌-◌, ◌<◌, List, [], ◌∷◌, ◌++◌}
+-- The block of a call, and the code that calls share.
+use Rattle.std.specs.Prelude.{◌≡◌, ℕ, zero, suc, ◌+◌, ◌-◌, ◌<◌, nat_le, Bool, true, false, List, [], ◌∷◌, ◌++◌}
 use Rattle.fk_image.specs.declared.Image.{Image}
-use Rattle.fk_isa.specs.declared.instruction.Instruction.TheVariants.{Lui, Jal, Jalr, Lw, Sw, Addi, Slli, Srli, Add}
+use Rattle.fk_isa.specs.declared.instruction.Instruction.TheVariants.{Lui, Jal, Jalr, Bne, Lw, Sw, Addi}
 use Rattle.fk_asm.specs.Block.{MarkedLine}
-use Rattle.fk_block_law.specs.Stands.{frame_register, end_register, local_register}
+use Rattle.fk_block_law.specs.Stands.{frame_register, end_register, heap_register, device_register}
 use Rattle.fk_gen.specs.Registers.{zero_register, ra, t0, t1, t2}
-use Rattle.fk_gen.specs.Lines.{quiet, commits, goes_to, at_value, at_private, high_part, low_part, copy_label}
+use Rattle.fk_gen.specs.Lines.{quiet, commits, goes_to, at_value, at_private, high_part, low_part, copy_label, clear_label}
 use Rattle.fk_gen.specs.InPlace.{LinesAt}
 
--- The site goes to the device that faults, at 0x30000008, where 255 calls wait already: then the end of the frame has bit 16.
--- Else it goes to a word of the local memory that is free for any use. t2 is then the address behind the first argument
-abbrev pub enter_block : (arguments depth site : ℕ) → List MarkedLine
-enter_block arguments depth site =
-    quiet (Srli t0 end_register 16) ∷ quiet (Slli t0 t0 28) ∷ quiet (Add t0 t0 local_register) ∷
-    quiet (Lui t1 (high_part site)) ∷ quiet (Addi t1 t1 (low_part site)) ∷ commits (Sw t0 t1 8) ∷
-    quiet (Addi t2 end_register (at_value (depth - arguments))) ∷ goes_to (Jal ra 0) (copy_label arguments) ∷ []
+-- Where 255 calls wait already, the word behind the frame is the first of the private heap: the site goes to the device that
+-- faults. Else that is passed by, and t2 is the address of the first argument, where the call takes its result. As many
+-- instructions precede the commit on both ways
+abbrev pub depth_lines : (arguments depth site : ℕ) → List MarkedLine
+depth_lines arguments depth site =
+    quiet (Bne end_register heap_register 16) ∷ quiet (Lui t0 (high_part site)) ∷ quiet (Addi t0 t0 (low_part site)) ∷
+    commits (Sw device_register t0 8) ∷ quiet (Sw end_register frame_register 4) ∷
+    quiet (Addi t2 end_register (at_value (depth - arguments + 1))) ∷ commits (Sw end_register t2 8) ∷ []
 
--- one argument: the word k + 1 words before t2 becomes private word k of the new frame
+-- one argument: the word k words before the first one becomes private word k of the new frame
 abbrev pub copy_lines : (k : ℕ) → List MarkedLine
-copy_lines k = quiet (Lw t0 t2 (at_value (suc k))) ∷ quiet (Sw end_register t0 (at_private k)) ∷ []
+copy_lines k = quiet (Lw t0 t2 (at_value k)) ∷ quiet (Sw end_register t0 (at_private k)) ∷ []
 
--- the header of the new frame. The call goes on behind the jump at ra, and takes its result where its first argument was
-abbrev pub header_lines : List MarkedLine
-header_lines =
-    quiet (Addi t0 ra 4) ∷ quiet (Sw end_register t0 0) ∷ quiet (Sw end_register frame_register 4) ∷
-    quiet (Addi t2 t2 (at_value 1)) ∷ quiet (Sw end_register t2 8) ∷ quiet (Addi frame_register end_register 0) ∷
-    quiet (Addi end_register end_register 256) ∷ quiet (Jalr zero_register ra 0) ∷ []
+-- so many arguments, the last one first
+abbrev pub own_copies : (arguments : ℕ) → List MarkedLine
+own_copies zero = []
+own_copies (suc k) = copy_lines k ++ own_copies k
 
--- so many arguments, the last one first, and the header
-unfoldable pub copying_lines : (arguments : ℕ) → List MarkedLine
-copying_lines zero = header_lines
-copying_lines (suc k) = copy_lines k ++ copying_lines k
+-- one is copied in the block of the call, and more by the code that all calls share
+abbrev pub copies_by : (few : Bool) (arguments : ℕ) → List MarkedLine
+copies_by true arguments = own_copies arguments
+copies_by false arguments = goes_to (Jal t1 0) (copy_label arguments) ∷ []
 
--- how many arguments a call has at most
-abbrev pub most_arguments : ℕ
-most_arguments = 56
+abbrev pub argument_lines : (arguments : ℕ) → List MarkedLine
+argument_lines arguments = copies_by (nat_le arguments 1) arguments
 
--- the code that all calls share stands in an image: at the label of so many arguments the last one is copied, and at that of
--- none the header is made
-pub record HasCopying (image : Image) (bound : ℕ → ℕ) : Type 0 where
-  pub copies : (k : ℕ) → k < most_arguments → LinesAt image bound (bound (copy_label (suc k))) (copy_lines k)
-  pub next : (k : ℕ) → k < most_arguments → bound (copy_label k) ≡ bound (copy_label (suc k)) + 2
-  pub header : LinesAt image bound (bound (copy_label 0)) header_lines
+-- the new frame. Its call goes on behind the jump that follows
+abbrev pub frame_lines : List MarkedLine
+frame_lines =
+    quiet (Jal ra 4) ∷ quiet (Sw end_register ra 0) ∷ quiet (Addi frame_register end_register 0) ∷
+    quiet (Addi end_register end_register 256) ∷ []
+
+-- how many private words a frame has, and so how many arguments a call has, at most
+abbrev pub most_privates : ℕ
+most_privates = 56
+
+-- where a call clears, all private words of the new frame behind its arguments become 0
+abbrev pub clears_by : (clears : Bool) (arguments : ℕ) → List MarkedLine
+clears_by true arguments = goes_to (Jal t1 0) (clear_label (most_privates - arguments)) ∷ []
+clears_by false arguments = []
+
+abbrev pub word_lines : (clears : Bool) (arguments : ℕ) → List MarkedLine
+word_lines clears arguments = argument_lines arguments ++ clears_by clears arguments
+
+abbrev pub enter_block : (clears : Bool) (arguments depth site : ℕ) → List MarkedLine
+enter_block clears arguments depth site = depth_lines arguments depth site ++ (word_lines clears arguments ++ frame_lines)
+
+-- the code that all calls share is two chains: each has parts, the last one first, with a label before each of them and one
+-- before its end, which goes back to the call. In one, each part copies an argument; in the other, each clears a word of the
+-- new frame, the last one in part 0
+abbrev pub back_lines : List MarkedLine
+back_lines = quiet (Jalr zero_register t1 0) ∷ []
+
+unfoldable pub chain_lines : (part : ℕ → List MarkedLine) → (parts : ℕ) → List MarkedLine
+chain_lines part zero = back_lines
+chain_lines part (suc k) = part k ++ chain_lines part k
+
+abbrev pub clear_lines : (k : ℕ) → List MarkedLine
+clear_lines k = quiet (Sw end_register zero_register (at_private (most_privates - 1 - k))) ∷ []
+
+-- a chain stands in an image, each part of so many words, and each at its label
+pub record HasChain (image : Image) (bound label : ℕ → ℕ) (part : ℕ → List MarkedLine) (width : ℕ) : Type 0 where
+  pub parts : (k : ℕ) → k < most_privates → LinesAt image bound (bound (label (suc k))) (part k)
+  pub next : (k : ℕ) → k < most_privates → bound (label k) ≡ bound (label (suc k)) + width
+  pub back : LinesAt image bound (bound (label 0)) back_lines
+
+-- the code that all calls share stands in an image
+pub record HasShared (image : Image) (bound : ℕ → ℕ) : Type 0 where
+  pub copying : HasChain image bound copy_label copy_lines 2
+  pub clearing : HasChain image bound clear_label clear_lines 1

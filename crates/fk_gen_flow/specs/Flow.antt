@@ -1,9 +1,9 @@
 -- The blocks of jumps, branches, ends of calls and halts.
 use Rattle.std.specs.Prelude.{ℕ, List, [], ◌∷◌, Bool, true, false}
 use Rattle.fk_isa.specs.declared.instruction.Instruction.{Instruction}
-use Rattle.fk_isa.specs.declared.instruction.Instruction.TheVariants.{Lui, Jal, Jalr, Beq, Bne, Lw, Sw, Addi}
+use Rattle.fk_isa.specs.declared.instruction.Instruction.TheVariants.{Jal, Jalr, Beq, Bne, Lw, Sw, Addi}
 use Rattle.fk_asm.specs.Block.{MarkedLine}
-use Rattle.fk_block_law.specs.Stands.{frame_register, end_register}
+use Rattle.fk_block_law.specs.Stands.{frame_register, end_register, device_register}
 use Rattle.fk_gen.specs.Registers.{zero_register, t0, t1, t2}
 use Rattle.fk_gen.specs.Lines.{quiet, commits, goes_to, at_value, label_of}
 
@@ -22,11 +22,12 @@ abbrev pub branch_block : (onward : Bool) (depth target : ℕ) → List MarkedLi
 branch_block onward depth target =
     commits (Lw t0 end_register (at_value depth)) ∷ quiet (passes onward) ∷ jump_line target ∷ []
 
--- the frame of the call that waits is that of the running call again, and its hart goes to the address in t1
+-- the frame of the call that waits is that of the running call again, and its hart goes on four words behind the address in
+-- t1: the rest of the block of the call and the jump behind it
 abbrev pub returning : List MarkedLine
 returning =
     quiet (Addi end_register frame_register 0) ∷ quiet (Lw frame_register frame_register 4) ∷
-    quiet (Jalr zero_register t1 0) ∷ []
+    quiet (Jalr zero_register t1 16) ∷ []
 
 abbrev pub leave_block : (gives : Bool) (depth : ℕ) → List MarkedLine
 leave_block true depth =
@@ -35,4 +36,4 @@ leave_block true depth =
 leave_block false depth = commits (Lw t1 frame_register 0) ∷ returning
 
 abbrev pub halt_block : List MarkedLine
-halt_block = quiet (Lui t0 0x30000) ∷ commits (Sw t0 zero_register 12) ∷ []
+halt_block = commits (Sw device_register zero_register 12) ∷ []

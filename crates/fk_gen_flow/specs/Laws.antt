@@ -1,19 +1,20 @@
 -- What the blocks do where they stand.
-use Rattle.std.specs.Prelude.{◌≡◌, ℕ, ◌^◌, ◌<◌, ◌≤◌, List, true, Some, slice_get, slice_index}
+use Rattle.std.specs.Prelude.{◌≡◌, ℕ, suc, ◌^◌, ◌<◌, ◌≤◌, List, Bool, true, Some, slice_get, slice_index}
 use Rattle.fk_operation.specs.declared.operation.Operation.{Operation}
-use Rattle.fk_operation.specs.declared.operation.Operation.TheVariants.{Halt}
+use Rattle.fk_operation.specs.declared.operation.Operation.TheVariants.{Enter, Halt}
 use Rattle.fk_run.specs.Processor.{Setting}
 use Rattle.fk_core.specs.declared.op.CoreOp.{CoreOp}
 use Rattle.fk_core.specs.Next.{is_jump}
 use Rattle.fk_image.specs.declared.Image.{Image}
 use Rattle.fk_machine.specs.Hart.{Setting as MachineSetting}
-use Rattle.fk_block_law.specs.Stands.{Places}
+use Rattle.fk_block_law.specs.Stands.{Places, Frames}
 use Rattle.fk_block_law.specs.Next.{StandsOp}
 use Rattle.fk_block_law.specs.Ready.{is_alone}
 use Rattle.fk_block_law.specs.Suits.{Flows, Fits, nothing}
 use Rattle.fk_block_law.specs.Block.{IsRunning, BlockDoes, BlockJumps, BlockHalts, Begins, beginner}
 use Rattle.fk_gen.specs.InPlace.{HasBlock}
-use Rattle.fk_gen_flow.specs.Calls.{HasCopying}
+use Rattle.fk_gen_flow.specs.Flow.{jump_block}
+use Rattle.fk_gen_flow.specs.Calls.{HasShared}
 use Rattle.fk_gen_flow.specs.Opening.{AreFirsts, HasOpening}
 use Rattle.fk_gen_flow.specs.Blocks.{is_flow, flow_block}
 
@@ -21,26 +22,32 @@ use Rattle.fk_gen_flow.specs.Blocks.{is_flow, flow_block}
 abbrev pub JumpsGo : Type 0
 JumpsGo =
     (core : List CoreOp) (image : Image) (places : Places) (bound : ℕ → ℕ) (i : ℕ) (op : CoreOp) → is_jump op ≡ true
-    → HasBlock image bound places i (flow_block op) → Flows core places.frames nothing i op.target → BlockJumps core image places i op
+    → HasBlock image bound places i (jump_block op.target) → Flows core places.frames nothing i op.target → BlockJumps core image places i op
 
 -- the jumps of a list have their blocks
 abbrev pub JumpsStand : List CoreOp → Image → (bound : ℕ → ℕ) → Places → Type 0
 JumpsStand core image bound places =
-    (i : ℕ) (op : CoreOp) → slice_get core i ≡ Some op → is_jump op ≡ true → HasBlock image bound places i (flow_block op)
+    (i : ℕ) (op : CoreOp) → slice_get core i ≡ Some op → is_jump op ≡ true → HasBlock image bound places i (jump_block op.target)
+
+-- a call clears where a word behind its arguments is kept as it begins
+abbrev pub ClearsEnough : Frames → (i : ℕ) (clears : Bool) → Operation → Type 0
+ClearsEnough frames i clears (Enter arguments) = (word : ℕ) → frames.keeps (suc i) word ≡ true → arguments ≤ word → clears ≡ true
+ClearsEnough frames i clears operation = Unit {0}
 
 -- those of branches, calls and ends of calls do their operations, where the code that calls share and the jumps stand too
 abbrev pub FlowBlocksDo : Type 0
 FlowBlocksDo =
-    (core : List CoreOp) (image : Image) (places : Places) (bound : ℕ → ℕ) (i : ℕ) (op : CoreOp) (operation : Operation)
+    (core : List CoreOp) (image : Image) (places : Places) (bound : ℕ → ℕ) (i : ℕ) (op : CoreOp) (operation : Operation) (clears : Bool)
     → StandsOp core i op operation → is_alone operation ≡ true → is_flow operation ≡ true → op.site < 2 ^ 32
-    → HasBlock image bound places i (flow_block op) → HasCopying image bound → JumpsStand core image bound places
-    → places.frames.of_file ≤ 56 → Fits core places.frames i op operation → BlockDoes core image places i op operation
+    → HasBlock image bound places i (flow_block clears op) → HasShared image bound → JumpsStand core image bound places
+    → places.frames.of_file ≤ 56 → Fits core places.frames i op operation → ClearsEnough places.frames i clears operation
+    → BlockDoes core image places i op operation
 
 -- that of a halt ends its hart
 abbrev pub HaltsEnd : Type 0
 HaltsEnd =
-    (core : List CoreOp) (image : Image) (places : Places) (bound : ℕ → ℕ) (i : ℕ) (op : CoreOp) → StandsOp core i op Halt
-    → HasBlock image bound places i (flow_block op) → BlockHalts core image places i op
+    (core : List CoreOp) (image : Image) (places : Places) (bound : ℕ → ℕ) (i : ℕ) (op : CoreOp) (clears : Bool) → StandsOp core i op Halt
+    → HasBlock image bound places i (flow_block clears op) → BlockHalts core image places i op
 
 -- from the opening each hart comes to the block where `main` begins, with the first values of private variables
 abbrev pub HartsBegin : Type 0

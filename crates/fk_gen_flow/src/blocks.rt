@@ -4,25 +4,23 @@ ghost use Rattle.std.specs.Prelude.{◌≡◌, ◌+◌, ◌^◌, ◌<◌, ◌≤
 ghost use Rattle.fk_asm.specs.Assembly.{AreFollowed};
 ghost use Rattle.fk_asm.specs.Block.{GoesToMade, HasBegun, with_block};
 ghost use Rattle.fk_gen_flow.specs.Flow.{jump_block, branch_block, leave_block, halt_block, passes};
-ghost use Rattle.fk_gen_flow.specs.Calls.{enter_block};
 ghost use Rattle.fk_isa.specs.Fits.{Fits};
 
+use crate::calls::emit_enter;
 use fk_asm::{Assembler, Blocks};
-use fk_gen::numbers::{at_value, high_part, low_part};
-use fk_gen::registers::{END, FRAME, LOCAL, RA, T0, T1, T2, ZERO};
+use fk_gen::numbers::at_value;
+use fk_gen::registers::{DEVICES, END, FRAME, T0, T1, T2, ZERO};
 use fk_gen::{BlockLine, Placed, emit_lines};
 use fk_isa::Instruction;
 use fk_operation::Operation;
 use std::alloc::AllocError;
 
 /// The label of the block of the first operation.
-pub const FIRST_LABEL: u32 = 64;
-/// The upper 20 bits of the addresses of devices.
-const DEVICES: u32 = 0x30000;
-/// How far from there on the device stands that ends a run at a site.
-const FAULT_DEVICE: u32 = 8;
-/// How far from there on the one stands that ends its hart.
+pub const FIRST_LABEL: u32 = 128;
+/// How far from the first device on the one stands that ends its hart.
 const HALT_DEVICE: u32 = 12;
+/// How far behind the address that a call stores it goes on.
+const CALL_REST: u32 = 16;
 
 /// The blocks of jumps, branches, calls, ends of calls and halts.
 #[derive(Clone, Copy, Drop)]
@@ -33,9 +31,10 @@ impl Blocks<Placed> for FlowBlocks {
 
     ghost has_block = { HasFlow };
 
-    ghost block = { λ placed. flow_block placed.op };
+    ghost block = { λ placed. flow_block placed.clears placed.op };
 
     fn emit_op(&self, op: &Placed, into: &mut Assembler) -> Result<(), AllocError> {
+        let clears = op.clears;
         let op = op.op;
         if op.is_jump() {
             return emit_jump(into, op.target);
@@ -43,7 +42,9 @@ impl Blocks<Placed> for FlowBlocks {
         match op.operation() {
             Some(Operation::Branch(onward)) => emit_branch(into, onward, op.depth, op.target),
             Some(Operation::Leave { gives, .. }) => emit_leave(into, gives, op.depth),
-            Some(Operation::Enter(arguments)) => emit_enter(into, arguments, op.depth, op.site),
+            Some(Operation::Enter(arguments)) => {
+                emit_enter(into, clears, arguments, op.depth, op.site)
+            }
             Some(Operation::Halt) => emit_halt(into),
             _ => Ok(()),
         }
@@ -117,7 +118,7 @@ fn emit_leave(into: &mut Assembler, gives: bool, depth: u32) -> Result<(), Alloc
                 BlockLine::quiet(Instruction::Sw(T2, T0, 0)),
                 BlockLine::quiet(Instruction::Addi(END, FRAME, 0)),
                 BlockLine::quiet(Instruction::Lw(FRAME, FRAME, 4)),
-                BlockLine::quiet(Instruction::Jalr(ZERO, T1, 0)),
+                BlockLine::quiet(Instruction::Jalr(ZERO, T1, CALL_REST)),
             ],
         )
     } else {
@@ -127,47 +128,20 @@ fn emit_leave(into: &mut Assembler, gives: bool, depth: u32) -> Result<(), Alloc
                 BlockLine::commits(Instruction::Lw(T1, FRAME, 0)),
                 BlockLine::quiet(Instruction::Addi(END, FRAME, 0)),
                 BlockLine::quiet(Instruction::Lw(FRAME, FRAME, 4)),
-                BlockLine::quiet(Instruction::Jalr(ZERO, T1, 0)),
+                BlockLine::quiet(Instruction::Jalr(ZERO, T1, CALL_REST)),
             ],
         )
     }
 }
 
-fn emit_enter(into: &mut Assembler, arguments: u32, depth: u32, site: u32) -> Result<(), AllocError>
-    requires depth { depth ≤ 56 }
-    requires arguments { arguments ≤ depth }
-    requires labels { All (GoesToMade into.old.bound) (enter_block arguments depth site) }
-    requires room { length into.old.lines + 8 < 2 ^ 30 }
-    requires free { AreFollowed into.old }
-    ensures added { OnOk result (into.new ≡ with_block into.old (enter_block arguments depth site)) }
-    ensures begun { OnErr result (HasBegun (enter_block arguments depth site) into.old into.new) }
-{
-    emit_lines(
-        into,
-        &[
-            BlockLine::quiet(Instruction::Srli(T0, END, 16)),
-            BlockLine::quiet(Instruction::Slli(T0, T0, 28)),
-            BlockLine::quiet(Instruction::Add(T0, T0, LOCAL)),
-            BlockLine::quiet(Instruction::Lui(T1, high_part(site))),
-            BlockLine::quiet(Instruction::Addi(T1, T1, low_part(site))),
-            BlockLine::commits(Instruction::Sw(T0, T1, FAULT_DEVICE)),
-            BlockLine::quiet(Instruction::Addi(T2, END, at_value(depth - arguments))),
-            BlockLine::goes_to(Instruction::Jal(RA, 0), arguments),
-        ],
-    )
-}
-
 fn emit_halt(into: &mut Assembler) -> Result<(), AllocError>
-    requires room { length into.old.lines + 2 < 2 ^ 30 }
+    requires room { length into.old.lines + 1 < 2 ^ 30 }
     requires free { AreFollowed into.old }
     ensures added { OnOk result (into.new ≡ with_block into.old halt_block) }
     ensures begun { OnErr result (HasBegun halt_block into.old into.new) }
 {
     emit_lines(
         into,
-        &[
-            BlockLine::quiet(Instruction::Lui(T0, DEVICES)),
-            BlockLine::commits(Instruction::Sw(T0, ZERO, HALT_DEVICE)),
-        ],
+        &[BlockLine::commits(Instruction::Sw(DEVICES, ZERO, HALT_DEVICE))],
     )
 }

@@ -1,18 +1,135 @@
-//! The code that all calls share.
+//! The block of a call, and the code that calls share.
 
-ghost use Rattle.std.specs.Prelude.{◌≡◌, ◌+◌, ◌^◌, ◌<◌, OnOk, OnErr, length};
+ghost use Rattle.std.specs.Prelude.{◌≡◌, ◌+◌, ◌^◌, ◌<◌, ◌≤◌, All, OnOk, OnErr, length};
 ghost use Rattle.fk_asm.specs.Assembly.{AreFollowed};
-ghost use Rattle.fk_asm.specs.Block.{HasBegun, with_block};
-ghost use Rattle.fk_gen_flow.specs.Calls.{copy_lines, header_lines};
+ghost use Rattle.fk_asm.specs.Block.{GoesToMade, HasBegun, with_block};
+ghost use Rattle.fk_gen_flow.specs.Calls.{depth_lines, copy_lines, clear_lines, argument_lines, clears_by, word_lines, frame_lines, enter_block, back_lines, most_privates};
 
 use fk_asm::Assembler;
-use fk_gen::numbers::{at_private, at_value};
-use fk_gen::registers::{END, FRAME, RA, T0, T2, ZERO};
+use fk_gen::numbers::{at_private, at_value, high_part, low_part};
+use fk_gen::registers::{DEVICES, END, FRAME, HEAP, RA, T0, T1, T2, ZERO};
 use fk_gen::{BlockLine, emit_lines};
 use fk_isa::Instruction;
 use std::alloc::AllocError;
 
-/// Adds the lines that copy an argument, from 0 on, into the new frame. They stand at the label of one argument more.
+/// How far from the first device on the one stands that ends a run at a site.
+const FAULT_DEVICE: u32 = 8;
+/// How many private words a frame has.
+const MOST_PRIVATES: u32 = 56;
+/// The label where the shared code clears no word of a frame; behind it come those where it clears more.
+const CLEAR_LABEL: u32 = 64;
+
+pub(crate) fn emit_enter(
+    into: &mut Assembler,
+    clears: bool,
+    arguments: u32,
+    depth: u32,
+    site: u32,
+) -> Result<(), AllocError>
+    requires depth { depth ≤ 56 }
+    requires arguments { arguments ≤ depth }
+    requires labels { All (GoesToMade into.old.bound) (enter_block clears arguments depth site) }
+    requires room { length into.old.lines + length (enter_block clears arguments depth site) < 2 ^ 30 }
+    requires free { AreFollowed into.old }
+    ensures added { OnOk result (into.new ≡ with_block into.old (enter_block clears arguments depth site)) }
+    ensures begun { OnErr result (HasBegun (enter_block clears arguments depth site) into.old into.new) }
+{
+    emit_depth(into, arguments, depth, site)?;
+    emit_words(into, clears, arguments)?;
+    emit_frame(into)
+}
+
+// The site faults where no more calls may wait.
+fn emit_depth(into: &mut Assembler, arguments: u32, depth: u32, site: u32) -> Result<(), AllocError>
+    requires depth { depth ≤ 56 }
+    requires arguments { arguments ≤ depth }
+    requires room { length into.old.lines + 7 < 2 ^ 30 }
+    requires free { AreFollowed into.old }
+    ensures added { OnOk result (into.new ≡ with_block into.old (depth_lines arguments depth site)) }
+    ensures begun { OnErr result (HasBegun (depth_lines arguments depth site) into.old into.new) }
+{
+    emit_lines(
+        into,
+        &[
+            BlockLine::quiet(Instruction::Bne(END, HEAP, 16)),
+            BlockLine::quiet(Instruction::Lui(T0, high_part(site))),
+            BlockLine::quiet(Instruction::Addi(T0, T0, low_part(site))),
+            BlockLine::commits(Instruction::Sw(DEVICES, T0, FAULT_DEVICE)),
+            BlockLine::quiet(Instruction::Sw(END, FRAME, 4)),
+            BlockLine::quiet(Instruction::Addi(T2, END, at_value(depth - arguments + 1))),
+            BlockLine::commits(Instruction::Sw(END, T2, 8)),
+        ],
+    )
+}
+
+// The private words of the new frame: the arguments, and 0 behind them where the call clears.
+fn emit_words(into: &mut Assembler, clears: bool, arguments: u32) -> Result<(), AllocError>
+    requires arguments { arguments ≤ 56 }
+    requires labels { All (GoesToMade into.old.bound) (word_lines clears arguments) }
+    requires room { length into.old.lines + length (word_lines clears arguments) + 4 < 2 ^ 30 }
+    requires free { AreFollowed into.old }
+    ensures added { OnOk result (into.new ≡ with_block into.old (word_lines clears arguments)) }
+    ensures begun { OnErr result (HasBegun (word_lines clears arguments) into.old into.new) }
+{
+    emit_arguments(into, arguments)?;
+    emit_clears(into, clears, arguments)
+}
+
+fn emit_clears(into: &mut Assembler, clears: bool, arguments: u32) -> Result<(), AllocError>
+    requires arguments { arguments ≤ 56 }
+    requires labels { All (GoesToMade into.old.bound) (clears_by clears arguments) }
+    requires room { length into.old.lines + 1 < 2 ^ 30 }
+    requires free { AreFollowed into.old }
+    ensures added { OnOk result (into.new ≡ with_block into.old (clears_by clears arguments)) }
+    ensures begun { OnErr result (HasBegun (clears_by clears arguments) into.old into.new) }
+{
+    if clears {
+        let label = CLEAR_LABEL + (MOST_PRIVATES - arguments);
+        emit_lines(into, &[BlockLine::goes_to(Instruction::Jal(T1, 0), label)])
+    } else {
+        Ok(())
+    }
+}
+
+// The arguments come into the new frame.
+fn emit_arguments(into: &mut Assembler, arguments: u32) -> Result<(), AllocError>
+    requires arguments { arguments ≤ 56 }
+    requires labels { All (GoesToMade into.old.bound) (argument_lines arguments) }
+    requires room { length into.old.lines + 4 < 2 ^ 30 }
+    requires free { AreFollowed into.old }
+    ensures added { OnOk result (into.new ≡ with_block into.old (argument_lines arguments)) }
+    ensures begun { OnErr result (HasBegun (argument_lines arguments) into.old into.new) }
+{
+    match arguments {
+        0 => Ok(()),
+        1 => emit_copy(into, 0),
+        _ => emit_lines(
+            into,
+            &[BlockLine::goes_to(Instruction::Jal(T1, 0), arguments)],
+        ),
+    }
+}
+
+// The new frame is that of the running call.
+fn emit_frame(into: &mut Assembler) -> Result<(), AllocError>
+    requires room { length into.old.lines + 4 < 2 ^ 30 }
+    requires free { AreFollowed into.old }
+    ensures added { OnOk result (into.new ≡ with_block into.old frame_lines) }
+    ensures begun { OnErr result (HasBegun frame_lines into.old into.new) }
+{
+    emit_lines(
+        into,
+        &[
+            BlockLine::quiet(Instruction::Jal(RA, 4)),
+            BlockLine::quiet(Instruction::Sw(END, RA, 0)),
+            BlockLine::quiet(Instruction::Addi(FRAME, END, 0)),
+            BlockLine::quiet(Instruction::Addi(END, END, 256)),
+        ],
+    )
+}
+
+/// Adds the lines that copy an argument, from 0 on, into the new frame. In the code that calls share they stand at the label of
+/// one argument more.
 pub fn emit_copy(into: &mut Assembler, argument: u32) -> Result<(), AllocError>
     requires argument { argument < 56 }
     requires room { length into.old.lines + 2 < 2 ^ 30 }
@@ -23,30 +140,34 @@ pub fn emit_copy(into: &mut Assembler, argument: u32) -> Result<(), AllocError>
     emit_lines(
         into,
         &[
-            BlockLine::quiet(Instruction::Lw(T0, T2, at_value(argument + 1))),
+            BlockLine::quiet(Instruction::Lw(T0, T2, at_value(argument))),
             BlockLine::quiet(Instruction::Sw(END, T0, at_private(argument))),
         ],
     )
 }
 
-/// Adds the lines that make the header of the new frame. They stand at the label of no argument.
-pub fn emit_header(into: &mut Assembler) -> Result<(), AllocError>
-    requires room { length into.old.lines + 8 < 2 ^ 30 }
+/// Adds the line that clears a private word of the new frame, one of so many from the end of the frame on. In the code that
+/// calls share it stands at the label of one word more.
+pub fn emit_clear(into: &mut Assembler, behind: u32) -> Result<(), AllocError>
+    requires behind { behind < 56 }
+    requires room { length into.old.lines + 1 < 2 ^ 30 }
     requires free { AreFollowed into.old }
-    ensures added { OnOk result (into.new ≡ with_block into.old header_lines) }
-    ensures begun { OnErr result (HasBegun header_lines into.old into.new) }
+    ensures added { OnOk result (into.new ≡ with_block into.old (clear_lines behind)) }
+    ensures begun { OnErr result (HasBegun (clear_lines behind) into.old into.new) }
 {
+    let word = MOST_PRIVATES - 1 - behind;
     emit_lines(
         into,
-        &[
-            BlockLine::quiet(Instruction::Addi(T0, RA, 4)),
-            BlockLine::quiet(Instruction::Sw(END, T0, 0)),
-            BlockLine::quiet(Instruction::Sw(END, FRAME, 4)),
-            BlockLine::quiet(Instruction::Addi(T2, T2, at_value(1))),
-            BlockLine::quiet(Instruction::Sw(END, T2, 8)),
-            BlockLine::quiet(Instruction::Addi(FRAME, END, 0)),
-            BlockLine::quiet(Instruction::Addi(END, END, 256)),
-            BlockLine::quiet(Instruction::Jalr(ZERO, RA, 0)),
-        ],
+        &[BlockLine::quiet(Instruction::Sw(END, ZERO, at_private(word)))],
     )
+}
+
+/// Adds the line that goes back to the call. It stands at the label of no argument, and at that of no word.
+pub fn emit_back(into: &mut Assembler) -> Result<(), AllocError>
+    requires room { length into.old.lines + 1 < 2 ^ 30 }
+    requires free { AreFollowed into.old }
+    ensures added { OnOk result (into.new ≡ with_block into.old back_lines) }
+    ensures begun { OnErr result (HasBegun back_lines into.old into.new) }
+{
+    emit_lines(into, &[BlockLine::quiet(Instruction::Jalr(ZERO, T1, 0))])
 }

@@ -8,5 +8,5 @@ pub mod laws;
 mod opening;
 
 pub use blocks::FlowBlocks;
-pub use calls::{emit_copy, emit_header};
+pub use calls::{emit_back, emit_clear, emit_copy};
 pub use opening::emit_opening;

@@ -9,7 +9,9 @@ ghost use Rattle.fk_gen_flow.specs.Opening.{register_lines, first_lines, first_l
 use crate::blocks::emit_jump;
 use fk_asm::Assembler;
 use fk_gen::numbers::{at_private, high_part, low_part};
-use fk_gen::registers::{END, FRAME, HEAP, LOCAL, RANK, SHARED, SIZE, T0};
+use fk_gen::registers::{
+    DEVICES, END, FRAME, HEAP, HEAP_MASK, LOCAL, RANK, SHARED, SHARED_MASK, SIZE, T0,
+};
 use fk_gen::{BlockLine, emit_lines};
 use fk_isa::Instruction;
 use std::alloc::AllocError;
@@ -30,23 +32,25 @@ pub fn emit_opening(into: &mut Assembler, firsts: &[u32], main: u32) -> Result<(
 
 fn emit_registers(into: &mut Assembler, of_file: u32) -> Result<(), AllocError>
     requires few { of_file ≤ 56 }
-    requires room { length into.old.lines + 10 < 2 ^ 30 }
+    requires room { length into.old.lines + 12 < 2 ^ 30 }
     requires free { AreFollowed into.old }
     ensures added { OnOk result (into.new ≡ with_block into.old (register_lines of_file)) }
 {
     emit_lines(
         into,
         &[
-            BlockLine::quiet(Instruction::Lui(FRAME, 0x20000)),
-            BlockLine::quiet(Instruction::Addi(FRAME, FRAME, 4 * of_file)),
-            BlockLine::quiet(Instruction::Lui(END, 0x20000)),
-            BlockLine::quiet(Instruction::Addi(END, END, 256)),
             BlockLine::quiet(Instruction::Lui(LOCAL, 0x20000)),
-            BlockLine::quiet(Instruction::Lui(SHARED, 0x4000)),
-            BlockLine::quiet(Instruction::Lui(HEAP, 0x8004)),
-            BlockLine::quiet(Instruction::Lui(T0, 0x30000)),
-            BlockLine::quiet(Instruction::Lw(RANK, T0, 20)),
-            BlockLine::quiet(Instruction::Lw(SIZE, T0, 24)),
+            BlockLine::quiet(Instruction::Addi(FRAME, LOCAL, 4 * of_file)),
+            BlockLine::quiet(Instruction::Addi(END, LOCAL, 256)),
+            BlockLine::quiet(Instruction::Lui(SHARED, 0x10000)),
+            BlockLine::quiet(Instruction::Lui(HEAP, 0x20010)),
+            BlockLine::quiet(Instruction::Lui(SHARED_MASK, 0xffc00)),
+            BlockLine::quiet(Instruction::Addi(SHARED_MASK, SHARED_MASK, 3)),
+            BlockLine::quiet(Instruction::Lui(HEAP_MASK, 0xffff0)),
+            BlockLine::quiet(Instruction::Addi(HEAP_MASK, HEAP_MASK, 3)),
+            BlockLine::quiet(Instruction::Lui(DEVICES, 0x30000)),
+            BlockLine::quiet(Instruction::Lw(RANK, DEVICES, 20)),
+            BlockLine::quiet(Instruction::Lw(SIZE, DEVICES, 24)),
         ],
     )
 }

@@ -6,7 +6,7 @@ use Rattle.std.proofs.lemmas.List.{take_more, take_all, append-nil, length-map, 
 use Rattle.std.proofs.lemmas.List.Concat.{flat_map-append}
 use Rattle.std.proofs.lemmas.List.Folds.{length-flat_map-take}
 use Rattle.std.proofs.lemmas.Option.{slice_get-get_or}
-use Rattle.fk_core.specs.declared.op.CoreOp.{CoreOp}
+use Rattle.fk_gen.specs.declared.placed.Placed.{Placed}
 use Rattle.fk_asm.specs.Assembly.{Assembly, AreFollowed}
 use Rattle.fk_asm.specs.Block.{MarkedLine, lines_of, with_block}
 use Rattle.fk_asm.proofs.Straight.{with_block-nil, with_block-append, AreFollowed-with_block}
@@ -17,7 +17,7 @@ pub length-with_block : (a : Assembly) (block : List MarkedLine) → length (wit
 length-with_block a block =
     length-append a.lines (lines_of block) ∙ ap (λ n. length a.lines + n) (length-map block (λ m. m.line))
 
-module _ (block : CoreOp → List MarkedLine) (ops : List CoreOp) where
+module _ (block : Placed → List MarkedLine) (ops : List Placed) where
   -- the blocks below an index are added, and the labels from there on are free
   pub record IsSoFar (i : ℕ) (old now : Assembly) : Type 0 where
     pub made : now ≡ record (with_block old (flat_map block (take i ops))) { bound = now.bound }
@@ -51,7 +51,7 @@ module _ (block : CoreOp → List MarkedLine) (ops : List CoreOp) where
       slice_get-get_or now.bound (label_of i) None in' ∙ ap Some free
 
   -- and there is room for it
-  pub has_room : (i : ℕ) (x : CoreOp) (old now : Assembly) → IsSoFar i old now → i < length ops
+  pub has_room : (i : ℕ) (x : Placed) (old now : Assembly) → IsSoFar i old now → i < length ops
       → length old.lines + length (flat_map block ops) < 2 ^ 30 → length now.lines + length (block (get_or ops i x)) < 2 ^ 30
   has_room i x old now s lt room =
       let at = here i old now s in
@@ -61,14 +61,14 @@ module _ (block : CoreOp → List MarkedLine) (ops : List CoreOp) where
   abbrev binding : (i : ℕ) → Assembly → List (Option ℕ)
   binding i now = slice_set now.bound (label_of i) (Some (length now.lines))
 
-  one_block : (i : ℕ) (x : CoreOp) → i < length ops
+  one_block : (i : ℕ) (x : Placed) → i < length ops
       → flat_map block (take (i + 1) ops) ≡ flat_map block (take i ops) ++ block (get_or ops i x)
   one_block i x lt =
       ap (flat_map block) (take_more ops i x lt)
       ∙ flat_map-append block (take i ops) (get_or ops i x ∷ [])
       ∙ ap (λ l. flat_map block (take i ops) ++ l) (append-nil (block (get_or ops i x)))
 
-  made_more : (i : ℕ) (x : CoreOp) (old now new : Assembly) → i < length ops
+  made_more : (i : ℕ) (x : Placed) (old now new : Assembly) → i < length ops
       → new ≡ with_block (record now { bound = binding i now }) (block (get_or ops i x))
       → IsSoFar i old now
       → new ≡ record (with_block old (flat_map block (take (i + 1) ops))) { bound = binding i now }
@@ -84,7 +84,7 @@ module _ (block : CoreOp → List MarkedLine) (ops : List CoreOp) where
       → slice_index_or (binding i now) label None ≡ slice_index_or now.bound label None
   bound_other i label now ne = get_or-set_other now.bound (label_of i) label (Some (length now.lines)) None ne
 
-  pub one_more : (i : ℕ) (x : CoreOp) (old now mid new : Assembly) → i < length ops → label_of (length ops) ≤ length old.bound
+  pub one_more : (i : ℕ) (x : Placed) (old now mid new : Assembly) → i < length ops → label_of (length ops) ≤ length old.bound
       → mid ≡ record now { bound = binding i now }
       → new ≡ with_block mid (block (get_or ops i x))
       → IsSoFar i old now → IsSoFar (i + 1) old new
@@ -114,7 +114,7 @@ module _ (block : CoreOp → List MarkedLine) (ops : List CoreOp) where
 
   pub at_end : (i : ℕ) (old now : Assembly) → length ops ≤ i → IsSoFar i old now → AddsBlocks block ops old now
   at_end i old now le s = record {
-    made = s.made ∙ ap (λ (l : List CoreOp). record (with_block old (flat_map block l)) { bound = now.bound }) (take_all i ops le);
+    made = s.made ∙ ap (λ (l : List Placed). record (with_block old (flat_map block l)) { bound = now.bound }) (take_all i ops le);
     count = s.count;
     labels = λ j lt. s.labels j (omega arith);
     others = s.others;

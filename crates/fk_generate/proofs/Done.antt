@@ -1,8 +1,8 @@
 -- A list that code is made of has blocks, and an image with its code does what the law of blocks asks.
 use Rattle.std.proofs.Common.{◌≡◌, ℕ, ◌^◌, ◌<◌, ◌≤◌, List, length, map, Option, Some, None, All, true, false, sym, subst, refl, arith}
-use Rattle.std.specs.Prelude.{slice_get, sum_by, get_or, IsSome, Bool}
-use Rattle.std.proofs.lemmas.List.Elements.{All-get_or, All-from_get_or}
-use Rattle.std.proofs.lemmas.Option.{slice_get-get_or, slice_get_within, get_or_from_slice_get}
+use Rattle.std.specs.Prelude.{slice_get, sum_by, IsSome, Bool}
+use Rattle.std.proofs.lemmas.List.Elements.{All-get_or}
+use Rattle.std.proofs.lemmas.Option.{slice_get_within, get_or_from_slice_get}
 use Rattle.fk_operation.specs.declared.operation.Operation.{Operation}
 use Rattle.fk_core.specs.declared.op.CoreOp.{CoreOp}
 use Rattle.fk_core.specs.Next.{is_jump}
@@ -12,13 +12,16 @@ use Rattle.fk_asm.specs.declared.code.Code.{Code}
 use Rattle.fk_asm.specs.Assembly.{Assembly, instructions}
 use Rattle.fk_asm.specs.Block.{MarkedLine}
 use Rattle.fk_block_law.specs.Next.{StandsOp}
+use Rattle.fk_kept.specs.declared.set.Set.{Set}
+use Rattle.fk_gen.specs.declared.placed.Placed.{Placed}
 use Rattle.fk_gen.specs.InPlace.{LinesAt, HasBlock}
 use Rattle.fk_gen_flow.specs.Opening.{opening_lines}
 use Rattle.fk_generate.specs.Generable.{IsGenerable, DoesTheList, most_words}
 use Rattle.fk_generate.specs.Kinds.{HasBlockOf, block_of}
-use Rattle.fk_generate.specs.Layout.{placed, front, place, all_lines, IsLaid}
+use Rattle.fk_generate.specs.Layout.{placed, all_placed, front, place, all_lines, IsLaid}
 use Rattle.fk_generate.proofs.InImage.{IsAssembled, bound_in}
-use Rattle.fk_generate.proofs.Laid.{places, has_labels, has_opening, has_copying, has_block}
+use Rattle.fk_generate.proofs.Laid.{places, has_labels, has_opening, has_shared, has_block}
+use Rattle.fk_generate.proofs.AllPlaced.{placed_get, all_from}
 use Rattle.fk_generate.proofs.Whole.{assembled}
 use Rattle.fk_generate.proofs.Suited.{has_block_of, has_operands, jump_has}
 use Rattle.fk_generate.proofs.Laws.{AreInRange, AreInPlace, law_of_blocks}
@@ -30,7 +33,7 @@ never e = absurd (cc)
 at_index : {A : Type 0} (P : A → Type 0) (xs : List A) (i : ℕ) (x : A) → All P xs → slice_get xs i ≡ Some x → P x
 at_index P xs i x all e = subst P (get_or_from_slice_get xs i x x e) (All-get_or P xs i x (slice_get_within xs i x e) all)
 
-module _ (core : List CoreOp) (main : ℕ) (firsts : List ℕ) (globals : ℕ) (is : IsGenerable core main firsts) (few : globals ≤ 2 ^ 20) where
+module _ (core : List CoreOp) (kept : List Set) (main : ℕ) (firsts : List ℕ) (globals : ℕ) (is : IsGenerable core kept main firsts) (few : globals ≤ 2 ^ 20) where
   number_few : (i : ℕ) (op : CoreOp) → slice_get core i ≡ Some op → op.number < 2 ^ 32
   number_few i op at = (at_index (λ o. (o.site < 2 ^ 32) × (o.number < 2 ^ 32)) core i op is.words at).1
 
@@ -40,58 +43,57 @@ module _ (core : List CoreOp) (main : ℕ) (firsts : List ℕ) (globals : ℕ) (
   -- ---- it has blocks
 
   operation_has : length core < 2 ^ 31 → (i : ℕ) (op : CoreOp) → slice_get core i ≡ Some op → is_jump op ≡ false → (o : Option Operation)
-      → operation_of op.kind op.number ≡ o → IsSome o → HasBlockOf (placed globals op)
+      → operation_of op.kind op.number ≡ o → IsSome o → HasBlockOf (placed globals kept i op)
   operation_has short i op at no_jump None e some = never some
   operation_has short i op at no_jump (Some operation) e some =
       let stands : StandsOp core i op operation = record { stands = at; no_jump = no_jump; is_read = e } in
       let fits = is.suits.fits i op operation stands in
-      has_block_of core is.frames i globals op operation stands fits is.suits.few (number_few i op at)
+      has_block_of core is.frames i globals op operation (placed globals kept i op).clears stands fits is.suits.few (number_few i op at)
       (has_operands core is.frames i op operation stands fits is.free short) few (is.free.alone i op operation at e)
 
-  has_by : length core < 2 ^ 31 → (i : ℕ) (op : CoreOp) → slice_get core i ≡ Some op → (jump : Bool) → is_jump op ≡ jump → HasBlockOf (placed globals op)
+  has_by : length core < 2 ^ 31 → (i : ℕ) (op : CoreOp) → slice_get core i ≡ Some op → (jump : Bool) → is_jump op ≡ jump → HasBlockOf (placed globals kept i op)
   has_by short i op at true jump =
       let there = is.free.jumps i op at jump in
       let within = slice_get_within core op.target there.op there.stands in
-      jump_has op globals jump (omega arith)
+      jump_has op globals (placed globals kept i op).clears jump (omega arith)
   has_by short i op at false jump = operation_has short i op at jump (operation_of op.kind op.number) refl (is.operations i op at jump)
 
-  pub all_have : length core < 2 ^ 31 → All (λ op. HasBlockOf (placed globals op)) core
+  pub all_have : length core < 2 ^ 31 → All HasBlockOf (all_placed globals kept core)
   all_have short =
-      let none : CoreOp = record { kind = 0; site = 0; number = 0; target = 0; depth = 0 } in
-      All-from_get_or (λ op. HasBlockOf (placed globals op)) core none
-      (λ i lt. has_by short i (get_or core i none) (slice_get-get_or core i none lt) (is_jump (get_or core i none)) refl)
+      all_from HasBlockOf globals kept 0 core
+      (λ i j op at same. has_by short j op (subst (λ k. slice_get core k ≡ Some op) (let e : i ≡ j = omega arith in e) at) (is_jump op) refl)
 
   -- ---- and an image with its code does what the law of blocks asks
 
-  abbrev block : CoreOp → List MarkedLine
-  block op = block_of (placed globals op)
+  abbrev ops : List Placed
+  ops = all_placed globals kept core
 
   abbrev opening : List MarkedLine
   opening = opening_lines (length firsts) firsts main
 
-  pub does_the_list : sum_by most_words core ≤ 256000 → (a : Assembly) → IsLaid block opening core a → (code : Code)
-      → map row code.words.items ≡ map Some (instructions a.bound a.lines) → code.commits.items ≡ a.commits → DoesTheList core main firsts globals code
-  does_the_list small a laid code rows entries image frames has suits of_file =
-      let built : IsAssembled image a.bound (all_lines block opening core) =
-      assembled core main firsts globals is small a laid image code.words.items code.commits.items has.words has.commits rows entries in
-      let bound = bound_in a.bound (length (all_lines block opening core)) in
-      let there = places block opening core a laid frames in
-      let in_place : AreInPlace core image there bound = record {
+  pub does_the_list : sum_by most_words core ≤ 256000 → (a : Assembly) → IsLaid block_of opening ops a → (code : Code)
+      → map row code.words.items ≡ map Some (instructions a.bound a.lines) → code.commits.items ≡ a.commits → DoesTheList core kept main firsts globals code
+  does_the_list small a laid code rows entries image frames has suits keeps of_file =
+      let built : IsAssembled image a.bound (all_lines block_of opening ops) =
+      assembled core kept main firsts globals is small a laid image code.words.items code.commits.items has.words has.commits rows entries in
+      let bound = bound_in a.bound (length (all_lines block_of opening ops)) in
+      let there = places block_of opening ops a laid frames in
+      let in_place : AreInPlace core image there bound kept = record {
         blocks = λ i op at.
-            subst (λ n. HasBlock image bound there i (block_of (record { op = op; globals = n }))) (sym has.globals_of)
-            (has_block block opening core a laid image built frames i op at);
-        copying = has_copying block opening core a laid image built;
+            subst (λ n. HasBlock image bound there i (block_of (placed n kept i op))) (sym has.globals_of)
+            (has_block block_of opening ops a laid image built frames i (placed globals kept i op) (placed_get globals kept 0 i i op core at (omega arith)));
+        shared = has_shared block_of opening ops a laid image built;
       } in
       let ranges : AreInRange core (length image.globals.items) = record {
         sites = site_few;
         numbers = number_few;
         globals_few = let e = has.globals_of in omega arith;
       } in (
-        place block (length (front opening)) core,
-        law_of_blocks core image there bound firsts main suits ranges in_place
+        place block_of (length (front opening)) ops,
+        law_of_blocks core image there bound kept firsts main suits keeps ranges in_place
             (record {
-              labels = has_labels block opening core a laid image built frames;
-              lines = subst (λ n. LinesAt image bound 0 (opening_lines n firsts main)) (sym of_file) (has_opening block opening core a laid image built);
+              labels = has_labels block_of opening ops a laid image built frames;
+              lines = subst (λ n. LinesAt image bound 0 (opening_lines n firsts main)) (sym of_file) (has_opening block_of opening ops a laid image built);
             })
             (sym of_file) is.first_words,
       )

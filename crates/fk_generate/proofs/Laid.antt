@@ -1,27 +1,29 @@
 -- A whole code: its labels are words of it, and each part stands at its place.
-use Rattle.std.proofs.Common.{◌≡◌, ℕ, zero, suc, ◌+◌, ◌-◌, ◌<◌, ◌≤◌, List, [], ◌∷◌, length, take, Option, Some, None, IsSomeAnd, IfSome, All, ◌⊎◌, inl, inr, sym, ap, subst, ◌∙◌, arith, length-append}
+use Rattle.std.proofs.Common.{◌≡◌, ℕ, zero, suc, ◌+◌, ◌-◌, ◌<◌, ◌≤◌, List, [], ◌∷◌, ◌++◌, length, take, Option, Some, None, IsSomeAnd, IfSome, All, ◌⊎◌, inl, inr, sym, ap, subst, ◌∙◌, arith, length-append}
 use Rattle.std.specs.Prelude.{flat_map, slice_get, slice_index_or, replicate}
 use Rattle.std.proofs.lemmas.Bool.{cases_lt}
 use Rattle.std.proofs.lemmas.List.{take_all, length-replicate, get_or-replicate, get_or_past}
 use Rattle.std.proofs.lemmas.List.Elements.{All-weaker}
-use Rattle.fk_core.specs.declared.op.CoreOp.{CoreOp}
+use Rattle.fk_gen.specs.declared.placed.Placed.{Placed}
 use Rattle.fk_image.specs.declared.Image.{Image}
 use Rattle.fk_asm.specs.Assembly.{Assembly, empty}
 use Rattle.fk_asm.specs.Block.{MarkedLine, with_block}
 use Rattle.fk_asm.proofs.Straight.{with_block-append}
 use Rattle.fk_block_law.specs.Stands.{Places, Frames}
-use Rattle.fk_gen.specs.Lines.{copy_label, label_of}
+use Rattle.fk_gen.specs.Lines.{copy_label, clear_label, label_of}
 use Rattle.fk_gen.specs.InPlace.{LinesAt, HasLabels, HasBlock}
-use Rattle.fk_gen_flow.specs.Calls.{copy_lines, header_lines, copying_lines, most_arguments, HasCopying}
-use Rattle.fk_generate.specs.Layout.{place, copy_place, front, all_lines, AddsBlocks, AddsCopying, IsLaid}
+use Rattle.fk_gen_flow.specs.Calls.{chain_lines, copy_lines, clear_lines, back_lines, most_privates, HasChain, HasShared}
+use Rattle.fk_generate.specs.Layout.{place, copy_offset, clear_offset, copying_lines, clearing_lines, front, all_lines, AddsBlocks, AddsCopying, AddsClearing, IsSpare, IsLaid}
 use Rattle.fk_generate.proofs.Blocks.{length-with_block}
-use Rattle.fk_generate.proofs.Copied.{length-copying_lines, copy_within, header_within}
+use Rattle.fk_generate.proofs.Chain.{IsChain, copying_chain, clearing_chain, length-chain, offset_within, part_within, back_within}
 use Rattle.fk_generate.proofs.InImage.{Within, within_self, within_front, within_back, IsAssembled, bound_in, word_or, lines_at}
 use Rattle.fk_generate.proofs.Near.{IsFar, GoesFar}
 
 -- the labels of so many operations
 abbrev pub IsLabel : (operations label : ℕ) → Type 0
-IsLabel n label = (label ≤ most_arguments) ⊎ ((label_of 0 ≤ label) × (label < label_of n))
+IsLabel n label =
+    (label ≤ copy_label most_privates)
+    ⊎ (((clear_label 0 ≤ label) × (label ≤ clear_label most_privates)) ⊎ ((label_of 0 ≤ label) × (label < label_of n)))
 
 -- a line goes to none, or far, to one of them
 abbrev pub GoesTo : (operations : ℕ) → MarkedLine → Type 0
@@ -29,7 +31,7 @@ GoesTo n m = IfSome m.line.label (λ label. IsLabel n label × IsFar m.line.inst
 
 -- ---- blocks in their list
 
-pub within_blocks : (block : CoreOp → List MarkedLine) (all : List MarkedLine) (ops : List CoreOp) (k i : ℕ) (op : CoreOp)
+pub within_blocks : (block : Placed → List MarkedLine) (all : List MarkedLine) (ops : List Placed) (k i : ℕ) (op : Placed)
     → Within all k (flat_map block ops) → slice_get ops i ≡ Some op → Within all (place block k ops i) (block op)
 within_blocks block all [] k i op w e = absurd (cc)
 within_blocks block all (o ∷ ops) k zero op w e =
@@ -43,7 +45,7 @@ within_blocks block all (o ∷ ops) k (suc i) op w e =
     let there : place block (k + length (block o)) ops i ≡ place block k (o ∷ ops) (suc i) = omega arith in
     subst (λ j. Within all j (block op)) there rest
 
-pub place-suc : (block : CoreOp → List MarkedLine) (ops : List CoreOp) (k i : ℕ) (op : CoreOp) → slice_get ops i ≡ Some op
+pub place-suc : (block : Placed → List MarkedLine) (ops : List Placed) (k i : ℕ) (op : Placed) → slice_get ops i ≡ Some op
     → place block k ops (suc i) ≡ place block k ops i + length (block op)
 place-suc block [] k i op e = absurd (cc)
 place-suc block (o ∷ ops) k zero op e =
@@ -56,7 +58,7 @@ place-suc block (o ∷ ops) k (suc i) op e =
     let sum' = length-append (block o) (flat_map block (take i ops)) in
     omega arith
 
-pub place_within : (block : CoreOp → List MarkedLine) (ops : List CoreOp) (k i : ℕ) → place block k ops i ≤ k + length (flat_map block ops)
+pub place_within : (block : Placed → List MarkedLine) (ops : List Placed) (k i : ℕ) → place block k ops i ≤ k + length (flat_map block ops)
 place_within block [] k zero = omega arith
 place_within block [] k (suc i) = omega arith
 place_within block (o ∷ ops) k zero = omega arith
@@ -66,50 +68,100 @@ place_within block (o ∷ ops) k (suc i) =
     let sum' = length-append (block o) (flat_map block ops) in
     omega arith
 
-place_end : (block : CoreOp → List MarkedLine) (ops : List CoreOp) (k i : ℕ) → length ops ≤ i → place block k ops i ≡ k + length (flat_map block ops)
+place_end : (block : Placed → List MarkedLine) (ops : List Placed) (k i : ℕ) → length ops ≤ i → place block k ops i ≡ k + length (flat_map block ops)
 place_end block ops k i le = ap (λ l. k + length (flat_map block l)) (take_all i ops le)
 
-module _ (block : CoreOp → List MarkedLine) (opening : List MarkedLine) (ops : List CoreOp) where
-  length-front : length (front opening) ≡ length opening + 120
+pub length-copying : length copying_lines ≡ 113
+length-copying = let e = length-chain copy_label copy_offset copy_lines 2 copying_chain in omega (arith, e)
+
+pub length-clearing : length clearing_lines ≡ 57
+length-clearing = let e = length-chain clear_label clear_offset clear_lines 1 clearing_chain in omega (arith, e)
+
+-- a chain stands in an image where it stands among its lines
+stands_chain : (label offset : ℕ → ℕ) (part : ℕ → List MarkedLine) (width : ℕ) → IsChain label offset part width
+    → (image : Image) (bounds : List (Option ℕ)) (all : List MarkedLine) → IsAssembled image bounds all → (end first : ℕ)
+    → Within all first (chain_lines part most_privates) → ((n : ℕ) → n ≤ most_privates → bound_in bounds end (label n) ≡ first + offset n)
+    → HasChain image (bound_in bounds end) label part width
+stands_chain label offset part width chain image bounds all code end first w at =
+    let begins = chain.begins in
+    let zero' : first ≡ first + offset most_privates = omega (arith, begins) in
+    let there = subst (λ k. Within all k (chain_lines part most_privates)) zero' w in
+    record {
+      parts = λ k lt.
+          subst (λ j. LinesAt image (bound_in bounds end) j (part k)) (sym (at (suc k) lt))
+          (lines_at image bounds all code end (first + offset (suc k)) (part k)
+          (part_within label offset part width chain all first most_privates k (omega arith) there lt));
+      next = λ k lt.
+          let e = at (suc k) lt in
+          let e' = at k (omega arith) in
+          let step = chain.steps k lt in
+          omega (arith, e, e', step);
+      back =
+          subst (λ j. LinesAt image (bound_in bounds end) j back_lines) (sym (at 0 (omega arith)))
+          (lines_at image bounds all code end (first + offset 0) back_lines
+          (back_within label offset part width chain all first most_privates (omega arith) there));
+    }
+
+module _ (block : Placed → List MarkedLine) (opening : List MarkedLine) (ops : List Placed) where
+  abbrev copied_front : List MarkedLine
+  copied_front = opening ++ copying_lines
+
+  length-copied : length copied_front ≡ length opening + 113
+  length-copied =
+      let sum = length-append opening copying_lines in
+      let copying = length-copying in
+      omega (arith, sum, copying)
+
+  pub length-front : length (front opening) ≡ length opening + 170
   length-front =
-      let sum = length-append opening (copying_lines most_arguments) in
-      let copying = length-copying_lines most_arguments in
-      omega arith
+      let sum = length-append copied_front clearing_lines in
+      let first = length-copied in
+      let clearing = length-clearing in
+      omega (arith, sum, first, clearing)
 
   length-all : length (all_lines block opening ops) ≡ length (front opening) + length (flat_map block ops)
   length-all = length-append (front opening) (flat_map block ops)
 
   -- ---- it is laid part by part
 
-  laid_made : (bound : List (Option ℕ)) (opened copied laid : Assembly)
-      → opened ≡ with_block (record empty { bound = bound }) opening → AddsCopying opened copied → AddsBlocks block ops copied laid
+  laid_made : (bound : List (Option ℕ)) (opened copied cleared laid : Assembly)
+      → opened ≡ with_block (record empty { bound = bound }) opening → AddsCopying opened copied → AddsClearing copied cleared → AddsBlocks block ops cleared laid
       → laid ≡ record (with_block empty (all_lines block opening ops)) { bound = laid.bound }
-  laid_made bound opened copied laid o c b =
+  laid_made bound opened copied cleared laid o c d b =
       b.made
-      ∙ ap (λ (a : Assembly). record (with_block a (flat_map block ops)) { bound = laid.bound }) c.made
-      ∙ ap (λ (a : Assembly). record (with_block (with_block a (copying_lines most_arguments)) (flat_map block ops)) { bound = laid.bound }) o
-      ∙ ap (λ (a : Assembly). record (with_block a (flat_map block ops)) { bound = laid.bound }) (with_block-append empty opening (copying_lines most_arguments))
+      ∙ ap (λ (a : Assembly). record (with_block a (flat_map block ops)) { bound = laid.bound }) d.made
+      ∙ ap (λ (a : Assembly). record (with_block (with_block a clearing_lines) (flat_map block ops)) { bound = laid.bound }) c.made
+      ∙ ap (λ (a : Assembly). record (with_block (with_block (with_block a copying_lines) clearing_lines) (flat_map block ops)) { bound = laid.bound }) o
+      ∙ ap (λ (a : Assembly). record (with_block (with_block a clearing_lines) (flat_map block ops)) { bound = laid.bound }) (with_block-append empty opening copying_lines)
+      ∙ ap (λ (a : Assembly). record (with_block a (flat_map block ops)) { bound = laid.bound }) (with_block-append empty copied_front clearing_lines)
       ∙ ap (λ (a : Assembly). record a { bound = laid.bound }) (with_block-append empty (front opening) (flat_map block ops))
 
-  pub laid_all : (opened copied laid : Assembly)
+  pub laid_all : (opened copied cleared laid : Assembly)
       → opened ≡ with_block (record empty { bound = replicate (label_of (length ops)) None }) opening
-      → AddsCopying opened copied → AddsBlocks block ops copied laid → IsLaid block opening ops laid
-  laid_all opened copied laid o c b =
+      → AddsCopying opened copied → AddsClearing copied cleared → AddsBlocks block ops cleared laid → IsLaid block opening ops laid
+  laid_all opened copied cleared laid o c d b =
       let bound : opened.bound ≡ replicate (label_of (length ops)) None = ap (λ (a : Assembly). a.bound) o in
       let first : length opened.lines ≡ length opening =
       ap (λ (a : Assembly). length a.lines) o ∙ length-with_block (record empty { bound = replicate (label_of (length ops)) None }) opening ∙ omega arith in
-      let second : length copied.lines ≡ length (front opening) =
-      ap (λ (a : Assembly). length a.lines) c.made ∙ length-with_block opened (copying_lines most_arguments)
-      ∙ ap (λ n. n + length (copying_lines most_arguments)) first ∙ sym (length-append opening (copying_lines most_arguments)) in
+      let second : length copied.lines ≡ length copied_front =
+      ap (λ (a : Assembly). length a.lines) c.made ∙ length-with_block opened copying_lines
+      ∙ ap (λ n. n + length copying_lines) first ∙ sym (length-append opening copying_lines) in
+      let third : length cleared.lines ≡ length (front opening) =
+      ap (λ (a : Assembly). length a.lines) d.made ∙ length-with_block copied clearing_lines
+      ∙ ap (λ n. n + length clearing_lines) second ∙ sym (length-append copied_front clearing_lines) in
       record {
-        made = laid_made (replicate (label_of (length ops)) None) opened copied laid o c b;
-        count = b.count ∙ c.count ∙ ap length bound ∙ length-replicate (label_of (length ops)) None;
-        copies = λ n few. b.others n (omega arith) ∙ c.copies n few ∙ ap (λ k. Some (copy_place k n)) first;
-        spare = λ label more less.
+        made = laid_made (replicate (label_of (length ops)) None) opened copied cleared laid o c d b;
+        count = b.count ∙ d.count ∙ c.count ∙ ap length bound ∙ length-replicate (label_of (length ops)) None;
+        copies = λ n few.
+            b.others (copy_label n) (omega arith) ∙ d.others (copy_label n) (λ m le e. absurd (omega arith))
+            ∙ c.entries n few ∙ ap (λ k. Some (k + copy_offset n)) first;
+        clears = λ n few. b.others (clear_label n) (omega arith) ∙ d.entries n few ∙ ap (λ k. Some (k + clear_offset n)) second;
+        spare = λ label is.
+            let low = is.low in
             let in' : label < label_of (length ops) = omega arith in
-            b.others label less ∙ c.others label more ∙ ap (λ l. slice_index_or l label None) bound
+            b.others label is.low ∙ d.others label is.no_clear ∙ c.others label is.no_copy ∙ ap (λ l. slice_index_or l label None) bound
             ∙ get_or-replicate (label_of (length ops)) label None None in';
-        labels = λ i lt. b.labels i lt ∙ ap (λ k. Some (place block k ops i)) second;
+        labels = λ i lt. b.labels i lt ∙ ap (λ k. Some (place block k ops i)) third;
       }
 
   -- ---- labels
@@ -118,13 +170,30 @@ module _ (block : CoreOp → List MarkedLine) (opening : List MarkedLine) (ops :
     abbrev end : ℕ
     end = length (all_lines block opening ops)
 
-    label_within : (label : ℕ) → IsLabel (length ops) label → IsSomeAnd (slice_index_or a.bound label None) (λ word. word ≤ end)
-    label_within label (inl copy) =
+    copy_end : (n : ℕ) → n ≤ most_privates → length opening + copy_offset n ≤ end
+    copy_end n few =
         let whole = length-all in
         let begin = length-front in
-        let here : copy_place (length opening) label ≤ end = omega arith in
-        subst (λ o. IsSomeAnd o (λ word. word ≤ end)) (sym (is.copies label copy)) here
-    label_within label (inr of_block) =
+        omega (arith, whole, begin)
+
+    clear_end : (n : ℕ) → n ≤ most_privates → length copied_front + clear_offset n ≤ end
+    clear_end n few =
+        let whole = length-all in
+        let begin = length-front in
+        let first = length-copied in
+        omega (arith, whole, begin, first)
+
+    label_within : (label : ℕ) → IsLabel (length ops) label → IsSomeAnd (slice_index_or a.bound label None) (λ word. word ≤ end)
+    label_within label (inl copy) = subst (λ o. IsSomeAnd o (λ word. word ≤ end)) (sym (is.copies label copy)) (copy_end label copy)
+    label_within label (inr (inl clear)) =
+        let n = label - clear_label 0 in
+        let low = clear.0 in
+        let high = clear.1 in
+        let same : clear_label n ≡ label = omega arith in
+        let few : n ≤ most_privates = omega arith in
+        subst (λ o. IsSomeAnd o (λ word. word ≤ end))
+        (sym (ap (λ l. slice_index_or a.bound l None) (sym same) ∙ is.clears n few)) (clear_end n few)
+    label_within label (inr (inr of_block)) =
         let i = label - label_of 0 in
         let low = of_block.0 in
         let high = of_block.1 in
@@ -161,19 +230,40 @@ module _ (block : CoreOp → List MarkedLine) (opening : List MarkedLine) (ops :
           ∙ length-all ∙ sym (place_end block ops (length (front opening)) i ge)
     ]
 
-    bound_copy : (n : ℕ) → n ≤ most_arguments → bound (copy_label n) ≡ copy_place (length opening) n
+    bound_copy : (n : ℕ) → n ≤ most_privates → bound (copy_label n) ≡ length opening + copy_offset n
     bound_copy n few = ap (word_or end) (is.copies n few)
+
+    bound_clear : (n : ℕ) → n ≤ most_privates → bound (clear_label n) ≡ length copied_front + clear_offset n
+    bound_clear n few = ap (word_or end) (is.clears n few)
+
+    bound_spare : (label : ℕ) → IsSpare label → bound label ≤ end
+    bound_spare label spare = let e : bound label ≡ end = ap (word_or end) (is.spare label spare) in omega (arith, e)
+
+    -- one that is no label of a block
+    bound_low : (label : ℕ) → label < label_of 0 → bound label ≤ end
+    bound_low label low = elim (cases_lt most_privates label) [
+      | inr copy ↦
+          let e = bound_copy label (omega arith) in
+          let le = copy_end label (omega arith) in
+          omega (arith, e, le)
+      | inl more ↦ elim (cases_lt label (clear_label 0)) [
+        | inl less ↦ bound_spare label (record { low = low; no_copy = λ n le e. omega arith; no_clear = λ n le e. omega arith })
+        | inr from ↦ elim (cases_lt (clear_label most_privates) label) [
+          | inl past ↦ bound_spare label (record { low = low; no_copy = λ n le e. omega arith; no_clear = λ n le e. omega arith })
+          | inr clear ↦
+              let n = label - clear_label 0 in
+              let same : label ≡ clear_label n = omega arith in
+              let few : n ≤ most_privates = omega arith in
+              let e : bound label ≡ length copied_front + clear_offset n = ap bound same ∙ bound_clear n few in
+              let le = clear_end n few in
+              omega (arith, e, le)
+        ]
+      ]
+    ]
 
     bound_within : (label : ℕ) → bound label ≤ end
     bound_within label = elim (cases_lt label (label_of 0)) [
-      | inl low ↦ elim (cases_lt most_arguments label) [
-        | inl spare ↦ let e : bound label ≡ end = ap (word_or end) (is.spare label spare low) in omega arith
-        | inr copy ↦
-            let e = bound_copy label (omega arith) in
-            let whole = length-all in
-            let begin = length-front in
-            omega arith
-      ]
+      | inl low ↦ bound_low label low
       | inr high ↦
           let i = label - label_of 0 in
           let same : label ≡ label_of i = omega arith in
@@ -198,39 +288,34 @@ module _ (block : CoreOp → List MarkedLine) (opening : List MarkedLine) (ops :
         within = λ label. let in' = bound_within label in let few = code.few in omega arith;
       }
 
+      behind : (xs ys : List MarkedLine) → Within all 0 (xs ++ ys) → Within all (length xs) ys
+      behind xs ys w =
+          let zero' : 0 + length xs ≡ length xs = omega arith in
+          subst (λ k. Within all k ys) zero' (within_back all xs ys 0 w)
+
       in_front : Within all 0 (front opening)
       in_front = within_front all (front opening) (flat_map block ops) 0 (within_self all)
 
-      in_copying : Within all (length opening) (copying_lines most_arguments)
-      in_copying =
-          let zero : 0 + length opening ≡ length opening = omega arith in
-          subst (λ k. Within all k (copying_lines most_arguments)) zero (within_back all opening (copying_lines most_arguments) 0 in_front)
+      in_copied : Within all 0 copied_front
+      in_copied = within_front all copied_front clearing_lines 0 in_front
 
       in_blocks : Within all (length (front opening)) (flat_map block ops)
-      in_blocks =
-          let zero : 0 + length (front opening) ≡ length (front opening) = omega arith in
-          subst (λ k. Within all k (flat_map block ops)) zero (within_back all (front opening) (flat_map block ops) 0 (within_self all))
+      in_blocks = behind (front opening) (flat_map block ops) (within_self all)
 
       pub has_opening : LinesAt image bound 0 opening
-      has_opening = lines_at image a.bound all code end 0 opening (within_front all opening (copying_lines most_arguments) 0 in_front)
+      has_opening = lines_at image a.bound all code end 0 opening (within_front all opening copying_lines 0 in_copied)
 
-      pub has_copying : HasCopying image bound
-      has_copying = record {
-        copies = λ k lt.
-            let e = bound_copy (suc k) lt in
-            lines_at image a.bound all code end (bound (copy_label (suc k))) (copy_lines k)
-            (copy_within all most_arguments k (length opening) (bound (copy_label (suc k))) in_copying lt e);
-        next = λ k lt.
-            let e = bound_copy (suc k) lt in
-            let e' = bound_copy k (omega arith) in
-            omega arith;
-        header =
-            let e = bound_copy 0 (omega arith) in
-            lines_at image a.bound all code end (bound (copy_label 0)) header_lines
-            (header_within all most_arguments (length opening) (bound (copy_label 0)) in_copying e);
+      pub has_shared : HasShared image bound
+      has_shared = record {
+        copying =
+            stands_chain copy_label copy_offset copy_lines 2 copying_chain image a.bound all code end (length opening)
+            (behind opening copying_lines in_copied) bound_copy;
+        clearing =
+            stands_chain clear_label clear_offset clear_lines 1 clearing_chain image a.bound all code end (length copied_front)
+            (behind copied_front clearing_lines in_front) bound_clear;
       }
 
-      pub has_block : (frames : Frames) (i : ℕ) (op : CoreOp) → slice_get ops i ≡ Some op → HasBlock image bound (places frames) i (block op)
+      pub has_block : (frames : Frames) (i : ℕ) (op : Placed) → slice_get ops i ≡ Some op → HasBlock image bound (places frames) i (block op)
       has_block frames i op e = record {
         labels = has_labels frames;
         lines = lines_at image a.bound all code end (place block (length (front opening)) ops i) (block op)

@@ -41,7 +41,8 @@ goes_to_made n bound ms count go = All-weaker (GoesTo n) (GoesToMade bound) (λ 
   where
     below : (label : ℕ) → IsLabel n label → label < length bound
     below label (inl copy) = omega arith
-    below label (inr of_block) = let high = of_block.1 in omega arith
+    below label (inr (inl clear)) = let high = clear.1 in omega arith
+    below label (inr (inr of_block)) = let high = of_block.1 in omega arith
 
     made : (P : Type 0) (label : Option ℕ) → IfSome label (λ l. IsLabel n l × P) → IfSome label (λ l. l < length bound)
     made P None goes = tt

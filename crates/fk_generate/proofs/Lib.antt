@@ -1,7 +1,8 @@
 pub mod Blocks
 pub mod InImage
 pub mod Near
-pub mod Copied
+pub mod Chain
+pub mod AllPlaced
 pub mod Laid
 pub mod Shapes
 pub mod Whole

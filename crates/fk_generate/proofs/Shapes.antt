@@ -1,11 +1,11 @@
 -- The labels that blocks go to, and how many words they have.
-use Rattle.std.proofs.Common.{◌≡◌, ℕ, suc, ◌+◌, ◌*◌, ◌<◌, ◌≤◌, List, [], ◌∷◌, ◌++◌, map, length, Bool, true, false, Option, Some, None, All, inl, inr, IfSome, ap, refl, arith, length-append}
-use Rattle.std.specs.Prelude.{slice_get, flat_map, sum_by, ◌||◌, if◌then◌else◌}
+use Rattle.std.proofs.Common.{◌≡◌, ℕ, zero, suc, ◌+◌, ◌-◌, ◌*◌, ◌<◌, ◌≤◌, List, [], ◌∷◌, ◌++◌, map, length, Bool, true, false, Option, Some, None, All, inl, inr, IfSome, ap, refl, arith, length-append}
+use Rattle.std.specs.Prelude.{◌==◌, nat_le, slice_get, flat_map, sum_by, ◌||◌, if◌then◌else◌}
 use Rattle.std.specs.Option.{option_map_or}
+use Rattle.std.proofs.lemmas.Bool.{leb-true}
 use Rattle.std.proofs.lemmas.List.{length-map}
-use Rattle.std.proofs.lemmas.List.Concat.{length-flat_map}
 use Rattle.std.proofs.lemmas.List.Elements.{All-nil, All-cons, All-append, All-from_recursion, All-weaker}
-use Rattle.std.proofs.lemmas.List.Sums.{sum_by-le-sum_by}
+use Rattle.std.proofs.lemmas.List.Sums.{sum_by-cons}
 use Rattle.std.proofs.lemmas.Option.{slice_get_within}
 use Rattle.fk_num.specs.declared.operator.Op.{Op}
 use Rattle.fk_num.specs.declared.operator.Op.TheVariants as op
@@ -16,23 +16,28 @@ use Rattle.fk_operation.specs.declared.operation.Operation.TheVariants as o
 use Rattle.fk_core.specs.declared.op.CoreOp.{CoreOp}
 use Rattle.fk_core.specs.Next.{is_jump}
 use Rattle.fk_core.specs.Numbers.{operation_of}
+use Rattle.fk_store.specs.Store.{address_of}
 use Rattle.fk_isa.specs.declared.instruction.Instruction.{Instruction}
+use Rattle.fk_isa.specs.declared.instruction.Instruction.TheVariants.{Add}
 use Rattle.fk_asm.specs.Block.{MarkedLine}
-use Rattle.fk_gen.specs.Lines.{quiet, commits}
+use Rattle.fk_gen.specs.declared.placed.Placed.{Placed}
+use Rattle.fk_gen.specs.Lines.{quiet, commits, high_part, load_by, load_number}
 use Rattle.fk_gen.specs.Registers.{t0, t1}
+use Rattle.fk_kept.specs.declared.set.Set.{Set}
 use Rattle.fk_gen_access.specs.Blocks as accesses
 use Rattle.fk_gen_expr.specs.Expressions as expressions
 use Rattle.fk_gen_flow.specs.Blocks as flow
 use Rattle.fk_block_law.specs.Next.{StandsOp}
-use Rattle.fk_gen_flow.specs.Calls.{most_arguments}
+use Rattle.fk_gen_flow.specs.Calls as calls
+use Rattle.fk_gen_flow.specs.Calls.{most_privates}
 use Rattle.fk_gen_flow.specs.Flow as f
 use Rattle.fk_gen_flow.specs.Opening.{register_lines, first_line, first_lines, opening_lines}
 use Rattle.fk_generate.specs.Generable.{IsGenerable, most_words, words_by}
 use Rattle.fk_generate.specs.declared.kind.Kind.{Kind}
 use Rattle.fk_generate.specs.declared.kind.Kind.TheVariants.{Flow, Access, Expression}
 use Rattle.fk_generate.specs.Kinds.{kind_of, kind_by, block_in, block_of}
-use Rattle.fk_generate.specs.Layout.{placed}
-use Rattle.fk_generate.proofs.Copied.{IsUnlabeled}
+use Rattle.fk_generate.specs.Layout.{placed, placed_from}
+use Rattle.fk_generate.proofs.Chain.{IsUnlabeled}
 use Rattle.fk_generate.proofs.Laid.{GoesTo, IsLabel}
 use Rattle.fk_generate.proofs.Near.{IsFar}
 
@@ -58,9 +63,14 @@ straight_all b =
     All-append IsUnlabeled (map quiet b.before) (commits b.commit ∷ map quiet b.behind) (quiet_all b.before)
     (All-cons IsUnlabeled (commits b.commit) (map quiet b.behind) refl (quiet_all b.behind))
 
+test_all : (alone : Bool) (d : ℕ) → All IsUnlabeled (accesses.test_lines alone d)
+test_all true d = All-from_recursion IsUnlabeled (accesses.shared_test d) (refl, (refl, (refl, (refl, (refl, tt)))))
+test_all false d = All-from_recursion IsUnlabeled (accesses.any_test d) (refl, (refl, (refl, (refl, (refl, (refl, (refl, (refl, tt))))))))
+
 access_all : (operation : Option Operation) (d site : ℕ) → All IsUnlabeled (accesses.block_of operation d site)
 access_all (Some o.Take) d site = straight_all (accesses.take_block d)
-access_all (Some (o.Check alone)) d site = straight_all (accesses.check_block alone d site)
+access_all (Some (o.Check alone)) d site =
+    All-append IsUnlabeled (map quiet (load_number site)) (accesses.test_lines alone d) (quiet_all (load_number site)) (test_all alone d)
 access_all (Some o.Read) d site = straight_all (accesses.read_block d)
 access_all (Some o.Write) d site = straight_all (accesses.write_block d)
 access_all (Some (o.Combine by)) d site = straight_all (accesses.combine_block by d)
@@ -78,75 +88,101 @@ expression_all globals d (Some operation) = first_all (expressions.expression_co
 -- what an operation goes to is there
 abbrev Leads : (n : ℕ) → CoreOp → Option Operation → Type 0
 Leads n op (Some (o.Branch onward)) = op.target < n
-Leads n op (Some (o.Enter arguments)) = arguments ≤ most_arguments
+Leads n op (Some (o.Enter arguments)) = arguments ≤ most_privates
 Leads n op operation = Unit {0}
 
 jump_goes : (n target : ℕ) → target < n → GoesTo n (f.jump_line target)
-jump_goes n target lt = (inr (omega arith, omega arith), (0, refl))
+jump_goes n target lt = (inr (inr (omega arith, omega arith)), (0, refl))
 
 jump_all : (n target : ℕ) → target < n → All (GoesTo n) (f.jump_block target)
 jump_all n target lt = All-from_recursion (GoesTo n) (f.jump_block target) (jump_goes n target lt, tt)
 
-flow_all : (n : ℕ) (op : CoreOp) (operation : Option Operation) → Leads n op operation → All (GoesTo n) (flow.block_by op operation)
-flow_all n op (Some (o.Branch onward)) leads =
-    All-from_recursion (GoesTo n) (f.branch_block onward op.depth op.target) (tt, (tt, (jump_goes n op.target leads, tt)))
-flow_all n op (Some (o.Leave true framed)) leads =
-    All-from_recursion (GoesTo n) (f.leave_block true op.depth) (tt, (tt, (tt, (tt, (tt, (tt, (tt, tt)))))))
-flow_all n op (Some (o.Leave false framed)) leads =
-    All-from_recursion (GoesTo n) (f.leave_block false op.depth) (tt, (tt, (tt, (tt, tt))))
-flow_all n op (Some (o.Enter arguments)) leads =
-    All-from_recursion (GoesTo n) (flow.block_by op (Some (o.Enter arguments)))
-    (tt, (tt, (tt, (tt, (tt, (tt, (tt, ((inl leads, (1, refl)), tt))))))))
-flow_all n op (Some o.Halt) leads = All-from_recursion (GoesTo n) f.halt_block (tt, (tt, tt))
-flow_all n op operation leads = All-nil (GoesTo n)
+arguments_all : (n : ℕ) (own : Bool) (arguments : ℕ) → arguments ≤ most_privates → All (GoesTo n) (calls.copies_by own arguments)
+arguments_all n true zero le = All-nil (GoesTo n)
+arguments_all n true (suc k) le =
+    All-append (GoesTo n) (calls.copy_lines k) (calls.own_copies k) (All-from_recursion (GoesTo n) (calls.copy_lines k) (tt, (tt, tt)))
+    (arguments_all n true k (omega arith))
+arguments_all n false arguments le = All-from_recursion (GoesTo n) (calls.copies_by false arguments) ((inl le, (6, refl)), tt)
 
-flow_block_all : (n : ℕ) (op : CoreOp) → (is_jump op ≡ true → op.target < n)
-    → (is_jump op ≡ false → Leads n op (operation_of op.kind op.number)) → All (GoesTo n) (flow.flow_block op)
-flow_block_all n op jumps leads = by (is_jump op) jumps leads
+clears_all : (n : ℕ) (clears : Bool) (arguments : ℕ) → All (GoesTo n) (calls.clears_by clears arguments)
+clears_all n true arguments = All-from_recursion (GoesTo n) (calls.clears_by true arguments) ((inr (inl (omega arith, omega arith)), (6, refl)), tt)
+clears_all n false arguments = All-nil (GoesTo n)
+
+flow_all : (n : ℕ) (clears : Bool) (op : CoreOp) (operation : Option Operation) → Leads n op operation → All (GoesTo n) (flow.block_by clears op operation)
+flow_all n clears op (Some (o.Branch onward)) leads =
+    All-from_recursion (GoesTo n) (f.branch_block onward op.depth op.target) (tt, (tt, (jump_goes n op.target leads, tt)))
+flow_all n clears op (Some (o.Leave true framed)) leads =
+    All-from_recursion (GoesTo n) (f.leave_block true op.depth) (tt, (tt, (tt, (tt, (tt, (tt, (tt, tt)))))))
+flow_all n clears op (Some (o.Leave false framed)) leads =
+    All-from_recursion (GoesTo n) (f.leave_block false op.depth) (tt, (tt, (tt, (tt, tt))))
+flow_all n clears op (Some (o.Enter arguments)) leads =
+    All-append (GoesTo n) (calls.depth_lines arguments op.depth op.site) (calls.word_lines clears arguments ++ calls.frame_lines)
+    (All-from_recursion (GoesTo n) (calls.depth_lines arguments op.depth op.site) (tt, (tt, (tt, (tt, (tt, (tt, (tt, tt))))))))
+    (All-append (GoesTo n) (calls.word_lines clears arguments) calls.frame_lines
+    (All-append (GoesTo n) (calls.argument_lines arguments) (calls.clears_by clears arguments) (arguments_all n (nat_le arguments 1) arguments leads) (clears_all n clears arguments))
+    (All-from_recursion (GoesTo n) calls.frame_lines (tt, (tt, (tt, (tt, tt))))))
+flow_all n clears op (Some o.Halt) leads = All-from_recursion (GoesTo n) f.halt_block (tt, tt)
+flow_all n clears op operation leads = All-nil (GoesTo n)
+
+flow_block_all : (n : ℕ) (clears : Bool) (op : CoreOp) → (is_jump op ≡ true → op.target < n)
+    → (is_jump op ≡ false → Leads n op (operation_of op.kind op.number)) → All (GoesTo n) (flow.flow_block clears op)
+flow_block_all n clears op jumps leads = by (is_jump op) jumps leads
   where
     by : (jump : Bool) → (jump ≡ true → op.target < n) → (jump ≡ false → Leads n op (operation_of op.kind op.number))
-        → All (GoesTo n) (if jump then f.jump_block op.target else flow.block_by op (operation_of op.kind op.number))
+        → All (GoesTo n) (if jump then f.jump_block op.target else flow.block_by clears op (operation_of op.kind op.number))
     by true jumps leads = jump_all n op.target (jumps refl)
-    by false jumps leads = flow_all n op (operation_of op.kind op.number) (leads refl)
+    by false jumps leads = flow_all n clears op (operation_of op.kind op.number) (leads refl)
 
-block_all : (n globals : ℕ) (op : CoreOp) → (is_jump op ≡ true → op.target < n)
-    → (is_jump op ≡ false → Leads n op (operation_of op.kind op.number)) → All (GoesTo n) (block_of (placed globals op))
-block_all n globals op jumps leads = by (kind_of op)
+block_all : (n : ℕ) (p : Placed) → (is_jump p.op ≡ true → p.op.target < n)
+    → (is_jump p.op ≡ false → Leads n p.op (operation_of p.op.kind p.op.number)) → All (GoesTo n) (block_of p)
+block_all n p jumps leads = by (kind_of p.op)
   where
-    by : (kind : Kind) → All (GoesTo n) (block_in kind (placed globals op))
-    by Flow = flow_block_all n op jumps leads
-    by Access = go_nowhere n _ (access_all (operation_of op.kind op.number) op.depth op.site)
-    by Expression = go_nowhere n _ (expression_all globals op.depth (operation_of op.kind op.number))
+    by : (kind : Kind) → All (GoesTo n) (block_in kind p)
+    by Flow = flow_block_all n p.clears p.op jumps leads
+    by Access = go_nowhere n _ (access_all (operation_of p.op.kind p.op.number) p.op.depth p.op.site)
+    by Expression = go_nowhere n _ (expression_all p.globals p.op.depth (operation_of p.op.kind p.op.number))
 
 -- ---- in a list
 
-leads_by : (core : List CoreOp) (main : ℕ) (firsts : List ℕ) (i : ℕ) (op : CoreOp) (operation : Option Operation)
-    → IsGenerable core main firsts → slice_get core i ≡ Some op → is_jump op ≡ false → operation_of op.kind op.number ≡ operation
+leads_by : (core : List CoreOp) (kept : List Set) (main : ℕ) (firsts : List ℕ) (i : ℕ) (op : CoreOp) (operation : Option Operation)
+    → IsGenerable core kept main firsts → slice_get core i ≡ Some op → is_jump op ≡ false → operation_of op.kind op.number ≡ operation
     → Leads (length core) op operation
-leads_by core main firsts i op (Some (o.Branch onward)) is e quiet' read = (is.free.within i op (o.Branch onward) e read refl false).at
-leads_by core main firsts i op (Some (o.Enter arguments)) is e quiet' read =
+leads_by core kept main firsts i op (Some (o.Branch onward)) is e quiet' read = (is.free.within i op (o.Branch onward) e read refl false).at
+leads_by core kept main firsts i op (Some (o.Enter arguments)) is e quiet' read =
     let stands : StandsOp core i op (o.Enter arguments) = record { stands = e; no_jump = quiet'; is_read = read } in
     (is.suits.fits i op (o.Enter arguments) stands).goes_on.few
-leads_by core main firsts i op operation is e quiet' read = tt
+leads_by core kept main firsts i op operation is e quiet' read = tt
 
-jumps_to : (core : List CoreOp) (main : ℕ) (firsts : List ℕ) (i : ℕ) (op : CoreOp) → IsGenerable core main firsts
+jumps_to : (core : List CoreOp) (kept : List Set) (main : ℕ) (firsts : List ℕ) (i : ℕ) (op : CoreOp) → IsGenerable core kept main firsts
     → slice_get core i ≡ Some op → is_jump op ≡ true → op.target < length core
-jumps_to core main firsts i op is e jump =
+jumps_to core kept main firsts i op is e jump =
     let there = is.free.jumps i op e jump in
     slice_get_within core op.target there.op there.stands
 
-pub op_goes : (core : List CoreOp) (main : ℕ) (firsts : List ℕ) (globals i : ℕ) (op : CoreOp) → IsGenerable core main firsts
-    → slice_get core i ≡ Some op → All (GoesTo (length core)) (block_of (placed globals op))
-op_goes core main firsts globals i op is e =
-    block_all (length core) globals op (jumps_to core main firsts i op is e)
-    (λ quiet'. leads_by core main firsts i op (operation_of op.kind op.number) is e quiet' refl)
+pub op_goes : (core : List CoreOp) (kept : List Set) (main : ℕ) (firsts : List ℕ) (globals i : ℕ) (op : CoreOp) → IsGenerable core kept main firsts
+    → slice_get core i ≡ Some op → All (GoesTo (length core)) (block_of (placed globals kept i op))
+op_goes core kept main firsts globals i op is e =
+    block_all (length core) (placed globals kept i op) (jumps_to core kept main firsts i op is e)
+    (λ quiet'. leads_by core kept main firsts i op (operation_of op.kind op.number) is e quiet' refl)
 
 -- ---- how many words
 
+number_few : (short : Bool) (n : ℕ) → length (load_by short n) ≤ 2
+number_few true n = omega arith
+number_few false n = omega arith
+
+test_few : (alone : Bool) (d : ℕ) → length (accesses.test_lines alone d) ≤ 8
+test_few true d = omega arith
+test_few false d = omega arith
+
 access_length : (operation : Option Operation) (d site : ℕ) → length (accesses.block_of operation d site) ≤ 15
 access_length (Some o.Take) d site = omega arith
-access_length (Some (o.Check true)) d site = omega arith
-access_length (Some (o.Check false)) d site = omega arith
+access_length (Some (o.Check alone)) d site =
+    let all = length-append (map quiet (load_number site)) (accesses.test_lines alone d) in
+    let same = length-map (load_number site) quiet in
+    let number = number_few (high_part site == 0) site in
+    let test = test_few alone d in
+    omega arith
 access_length (Some o.Read) d site = omega arith
 access_length (Some o.Write) d site = omega arith
 access_length (Some (o.Combine by)) d site = omega arith
@@ -173,6 +209,16 @@ join_length d op.MinU first second = omega arith
 join_length d op.MaxU first second = omega arith
 join_length d sign first second = omega arith
 
+push_length : (d n : ℕ) → length (expressions.push_number d n) ≤ 15
+push_length d n =
+    let all = length-append (load_number n) (expressions.store_value t0 (d + 1) ∷ []) in
+    let number = number_few (high_part n == 0) n in
+    omega arith
+
+index_length : (d size : ℕ) (is_word : Bool) (a b c s : Instruction) → length (a ∷ b ∷ (expressions.times_size is_word size ++ c ∷ s ∷ [])) ≤ 15
+index_length d size true a b c s = omega arith
+index_length d size false a b c s = omega arith
+
 get_length : (globals d : ℕ) (which : Known) → length (expressions.get_code globals d which) ≤ 15
 get_length globals d (known.Value variable) = omega arith
 get_length globals d known.Rank = omega arith
@@ -181,11 +227,11 @@ get_length globals d known.GroupSize = omega arith
 get_length globals d known.ProcessorNumber = omega arith
 get_length globals d known.Processors = omega arith
 get_length globals d known.InputLength = omega arith
-get_length globals d known.InputAddress = omega arith
+get_length globals d known.InputAddress = push_length d (address_of globals)
 get_length globals d (known.FrameAddress nesting word) = omega arith
 
 code_length : (globals d : ℕ) (operation : Operation) → length (expressions.expression_code globals d operation) ≤ words_by (Some operation)
-code_length globals d (o.Push n) = omega arith
+code_length globals d (o.Push n) = push_length d n
 code_length globals d (o.Get which) = get_length globals d which
 code_length globals d (o.Set variable) = omega arith
 code_length globals d o.DropLast = omega arith
@@ -193,8 +239,8 @@ code_length globals d o.CopyLast = omega arith
 code_length globals d (o.Apply sign) = omega arith
 code_length globals d (o.Join sign false) = join_length d sign t0 t1
 code_length globals d (o.Join sign true) = join_length d sign t1 t0
-code_length globals d (o.Index size) = omega arith
-code_length globals d (o.Enter arguments) = omega arith
+code_length globals d (o.Index size) =
+    index_length d size (size == 4) (expressions.load_value t0 (d - 1)) (expressions.load_value t1 d) (Add t0 t0 t1) (expressions.store_value t0 (d - 1))
 code_length globals d operation = omega arith
 
 expression_words : (globals d : ℕ) (operation : Option Operation)
@@ -205,33 +251,53 @@ expression_words globals d (Some operation) =
     let few = code_length globals d operation in
     omega arith
 
-flow_words : (op : CoreOp) (operation : Option Operation) → length (flow.block_by op operation) ≤ words_by operation
-flow_words op (Some (o.Branch onward)) = omega arith
-flow_words op (Some (o.Leave true framed)) = omega arith
-flow_words op (Some (o.Leave false framed)) = omega arith
-flow_words op (Some (o.Enter arguments)) = omega arith
-flow_words op (Some o.Halt) = omega arith
-flow_words op operation = omega arith
+own_length : (n : ℕ) → length (calls.own_copies n) ≡ 2 * n
+own_length zero = refl
+own_length (suc n) = let e = own_length n in omega arith
 
-words_of : (jump : Bool) (globals : ℕ) (op : CoreOp) (operation : Option Operation) → is_jump op ≡ jump → operation_of op.kind op.number ≡ operation
-    → length (block_in (kind_by (jump || flow.is_some_flow operation) (accesses.is_access operation)) (placed globals op))
-    ≤ (if jump then 1 else words_by operation)
-words_of true globals op operation j read = rw j (omega arith)
-words_of false globals op operation j read = by (kind_by (flow.is_some_flow operation) (accesses.is_access operation))
-  where
-    by : (kind : Kind) → length (block_in kind (placed globals op)) ≤ words_by operation
-    by Flow = rw (j, read) (flow_words op operation)
-    by Access = rw read (access_words operation op.depth op.site)
-    by Expression = rw read (expression_words globals op.depth operation)
+arguments_few : (own : Bool) (arguments : ℕ) → nat_le arguments 1 ≡ own → length (calls.copies_by own arguments) ≤ 2
+arguments_few true arguments e = let few = leb-true arguments 1 e in let all = own_length arguments in omega arith
+arguments_few false arguments e = omega arith
 
-block_words : (globals : ℕ) (op : CoreOp) → length (block_of (placed globals op)) ≤ most_words op
-block_words globals op = words_of (is_jump op) globals op (operation_of op.kind op.number) refl refl
+clears_few : (clears : Bool) (arguments : ℕ) → length (calls.clears_by clears arguments) ≤ 1
+clears_few true arguments = omega arith
+clears_few false arguments = omega arith
 
-pub all_words : (globals : ℕ) (core : List CoreOp) → length (flat_map (λ op. block_of (placed globals op)) core) ≤ sum_by most_words core
-all_words globals core =
-    let sum = length-flat_map (λ op. block_of (placed globals op)) core in
-    let le = sum_by-le-sum_by (λ op. length (block_of (placed globals op))) most_words core (block_words globals) in
+flow_words : (clears : Bool) (op : CoreOp) (operation : Option Operation) → length (flow.block_by clears op operation) ≤ words_by operation
+flow_words clears op (Some (o.Branch onward)) = omega arith
+flow_words clears op (Some (o.Leave true framed)) = omega arith
+flow_words clears op (Some (o.Leave false framed)) = omega arith
+flow_words clears op (Some (o.Enter arguments)) =
+    let all = length-append (calls.word_lines clears arguments) calls.frame_lines in
+    let both = length-append (calls.argument_lines arguments) (calls.clears_by clears arguments) in
+    let few = arguments_few (nat_le arguments 1) arguments refl in
+    let one = clears_few clears arguments in
     omega arith
+flow_words clears op (Some o.Halt) = omega arith
+flow_words clears op operation = omega arith
+
+words_of : (jump : Bool) (p : Placed) (operation : Option Operation) → is_jump p.op ≡ jump → operation_of p.op.kind p.op.number ≡ operation
+    → length (block_in (kind_by (jump || flow.is_some_flow operation) (accesses.is_access operation)) p)
+    ≤ (if jump then 1 else words_by operation)
+words_of true p operation j read = rw j (omega arith)
+words_of false p operation j read = by (kind_by (flow.is_some_flow operation) (accesses.is_access operation))
+  where
+    by : (kind : Kind) → length (block_in kind p) ≤ words_by operation
+    by Flow = rw (j, read) (flow_words p.clears p.op operation)
+    by Access = rw read (access_words operation p.op.depth p.op.site)
+    by Expression = rw read (expression_words p.globals p.op.depth operation)
+
+block_words : (p : Placed) → length (block_of p) ≤ most_words p.op
+block_words p = words_of (is_jump p.op) p (operation_of p.op.kind p.op.number) refl refl
+
+pub all_words : (globals : ℕ) (kept : List Set) (k : ℕ) (core : List CoreOp) → length (flat_map block_of (placed_from globals kept k core)) ≤ sum_by most_words core
+all_words globals kept k [] = omega arith
+all_words globals kept k (op ∷ core) =
+    let rest = all_words globals kept (suc k) core in
+    let sum = length-append (block_of (placed globals kept k op)) (flat_map block_of (placed_from globals kept (suc k) core)) in
+    let most = sum_by-cons most_words op core in
+    let one = block_words (placed globals kept k op) in
+    omega (arith, rest, sum, most, one)
 
 -- ---- the opening
 
@@ -244,7 +310,7 @@ firsts_all i (v ∷ firsts) =
 registers_all : (of_file : ℕ) → All IsUnlabeled (register_lines of_file)
 registers_all of_file =
     All-from_recursion IsUnlabeled (register_lines of_file)
-    (refl, (refl, (refl, (refl, (refl, (refl, (refl, (refl, (refl, (refl, tt))))))))))
+    (refl, (refl, (refl, (refl, (refl, (refl, (refl, (refl, (refl, (refl, (refl, (refl, tt))))))))))))
 
 pub opening_goes : (n of_file : ℕ) (firsts : List ℕ) (main : ℕ) → main < n → All (GoesTo n) (opening_lines of_file firsts main)
 opening_goes n of_file firsts main lt =
@@ -257,7 +323,7 @@ firsts_length : (i : ℕ) (firsts : List ℕ) → length (first_lines i firsts) 
 firsts_length i [] = refl
 firsts_length i (v ∷ firsts) = let rest = firsts_length (suc i) firsts in omega arith
 
-pub opening_length : (of_file : ℕ) (firsts : List ℕ) (main : ℕ) → length (opening_lines of_file firsts main) ≡ 3 * length firsts + 11
+pub opening_length : (of_file : ℕ) (firsts : List ℕ) (main : ℕ) → length (opening_lines of_file firsts main) ≡ 3 * length firsts + 13
 opening_length of_file firsts main =
     let sum = length-append (register_lines of_file ++ first_lines 0 firsts) (f.jump_block main) in
     let sum' = length-append (register_lines of_file) (first_lines 0 firsts) in

@@ -125,10 +125,10 @@ no_halt : (operation : Operation) → (is_alone operation ≡ true) ⊎ (operati
 no_halt operation (inl alone) f = alone
 no_halt operation (inr e) f = never (sym f ∙ ap is_flow e)
 
-module _ (core : List CoreOp) (frames : Frames) (i globals : ℕ) (op : CoreOp) (operation : Operation) where
+module _ (core : List CoreOp) (frames : Frames) (i globals : ℕ) (op : CoreOp) (operation : Operation) (clears : Bool) where
   has_by : (flow access : Bool) → is_flow operation ≡ flow → is_access (Some operation) ≡ access → StandsOp core i op operation
       → Fits core frames i op operation → frames.of_file ≤ 56 → op.number < 2 ^ 32 → HasOperands op.depth op.target (Some operation)
-      → globals ≤ 2 ^ 20 → (is_alone operation ≡ true) ⊎ (operation ≡ Halt) → HasBlockIn (kind_by flow access) (record { op = op; globals = globals })
+      → globals ≤ 2 ^ 20 → (is_alone operation ≡ true) ⊎ (operation ≡ Halt) → HasBlockIn (kind_by flow access) (record { op = op; globals = globals; clears = clears })
   has_by true access f a stands fits few number operands some alone = record {
     kind = inr (ap is_some_flow stands.is_read ∙ f);
     depth = λ e. shallow core frames i op operation fits;
@@ -145,17 +145,17 @@ module _ (core : List CoreOp) (frames : Frames) (i globals : ℕ) (op : CoreOp) 
 
   -- an operation that suits frames has a block
   pub has_block_of : StandsOp core i op operation → Fits core frames i op operation → frames.of_file ≤ 56 → op.number < 2 ^ 32 → HasOperands op.depth op.target (Some operation)
-      → globals ≤ 2 ^ 20 → (is_alone operation ≡ true) ⊎ (operation ≡ Halt) → HasBlockOf (record { op = op; globals = globals })
+      → globals ≤ 2 ^ 20 → (is_alone operation ≡ true) ⊎ (operation ≡ Halt) → HasBlockOf (record { op = op; globals = globals; clears = clears })
   has_block_of stands fits few number operands some alone =
-      subst (λ k. HasBlockIn k (record { op = op; globals = globals })) (sym (kind_here core i op operation stands))
+      subst (λ k. HasBlockIn k (record { op = op; globals = globals; clears = clears })) (sym (kind_here core i op operation stands))
       (has_by (is_flow operation) (is_access (Some operation)) refl refl stands fits few number operands some alone)
 
 -- and so has a jump
-pub jump_has : (op : CoreOp) (globals : ℕ) → is_jump op ≡ true → op.target < 2 ^ 31 → HasBlockOf (record { op = op; globals = globals })
-jump_has op globals jump target =
+pub jump_has : (op : CoreOp) (globals : ℕ) (clears : Bool) → is_jump op ≡ true → op.target < 2 ^ 31 → HasBlockOf (record { op = op; globals = globals; clears = clears })
+jump_has op globals clears jump target =
     let none : operation_of op.kind op.number ≡ None = ap (λ k. operation_of k op.number) (eqb-true op.kind 0 jump) in
     let e = ap (λ b. kind_by (b || is_some_flow (operation_of op.kind op.number)) (is_access (operation_of op.kind op.number))) jump in
-    subst (λ k. HasBlockIn k (record { op = op; globals = globals })) (sym e)
+    subst (λ k. HasBlockIn k (record { op = op; globals = globals; clears = clears })) (sym e)
     (record {
       kind = inl jump;
       depth = λ no. never (sym no ∙ jump);

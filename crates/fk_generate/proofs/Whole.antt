@@ -1,76 +1,83 @@
 -- The whole code of a list: its size, its labels, and what an image with it does.
 use Rattle.std.proofs.Common.{◌≡◌, ℕ, ◌+◌, ◌*◌, ◌<◌, ◌≤◌, ℤ, List, [], ◌∷◌, map, length, Some, All, sym, ap, subst, ◌∙◌, arith, length-append}
-use Rattle.std.specs.Prelude.{flat_map, sum_by, get_or}
-use Rattle.std.proofs.lemmas.List.Elements.{All-nil, All-append, All-head, All-tail, All-from_get_or}
+use Rattle.std.specs.Prelude.{◌++◌, flat_map, slice_get, sum_by}
+use Rattle.std.proofs.lemmas.List.Elements.{All-nil, All-append, All-head, All-tail}
 use Rattle.std.proofs.lemmas.List.{length-map}
-use Rattle.std.proofs.lemmas.Option.{slice_get-get_or}
 use Rattle.fk_core.specs.declared.op.CoreOp.{CoreOp}
 use Rattle.fk_image.specs.declared.Image.{Image}
 use Rattle.fk_isa.specs.Find.{row}
 use Rattle.fk_asm.specs.Assembly.{Assembly, instructions, IsBound, IsFirstTooFar}
 use Rattle.fk_asm.specs.Block.{MarkedLine, lines_of, entries_from}
-use Rattle.fk_gen_flow.specs.Calls.{copying_lines, most_arguments}
+use Rattle.fk_kept.specs.declared.set.Set.{Set}
+use Rattle.fk_gen.specs.declared.placed.Placed.{Placed}
 use Rattle.fk_gen_flow.specs.Opening.{opening_lines}
 use Rattle.fk_generate.specs.Generable.{IsGenerable, most_words}
 use Rattle.fk_generate.specs.Kinds.{block_of}
-use Rattle.fk_generate.specs.Layout.{placed, front, all_lines, IsLaid}
-use Rattle.fk_generate.proofs.Copied.{length-copying_lines, copying_straight}
+use Rattle.fk_generate.specs.Layout.{placed, all_placed, copying_lines, clearing_lines, front, all_lines, IsLaid}
+use Rattle.fk_generate.proofs.Chain.{copying_straight, clearing_straight}
 use Rattle.fk_generate.proofs.InImage.{IsAssembled}
-use Rattle.fk_generate.proofs.Laid.{GoesTo, all_go_far}
+use Rattle.fk_generate.proofs.Laid.{GoesTo, length-front, all_go_far}
 use Rattle.fk_generate.proofs.Near.{are_bound, none_too_far}
+use Rattle.fk_generate.proofs.AllPlaced.{length-placed, all_from}
 use Rattle.fk_generate.proofs.Shapes.{go_nowhere, op_goes, all_words, opening_goes, opening_length}
 
-all_flat : (P : MarkedLine → Type 0) (block : CoreOp → List MarkedLine) (ops : List CoreOp) → All (λ op. All P (block op)) ops
+all_flat : (P : MarkedLine → Type 0) (block : Placed → List MarkedLine) (ops : List Placed) → All (λ op. All P (block op)) ops
     → All P (flat_map block ops)
 all_flat P block [] all = All-nil P
 all_flat P block (op ∷ ops) all =
     All-append P (block op) (flat_map block ops) (All-head (λ o. All P (block o)) op ops all)
     (all_flat P block ops (All-tail (λ o. All P (block o)) op ops all))
 
-module _ (core : List CoreOp) (main : ℕ) (firsts : List ℕ) (globals : ℕ) (is : IsGenerable core main firsts) where
-  abbrev pub block : CoreOp → List MarkedLine
-  block op = block_of (placed globals op)
+module _ (core : List CoreOp) (kept : List Set) (main : ℕ) (firsts : List ℕ) (globals : ℕ) (is : IsGenerable core kept main firsts) where
+  abbrev pub ops : List Placed
+  ops = all_placed globals kept core
 
   abbrev pub opening : List MarkedLine
   opening = opening_lines (length firsts) firsts main
 
   abbrev pub whole : List MarkedLine
-  whole = all_lines block opening core
+  whole = all_lines block_of opening ops
 
-  pub blocks_go : All (λ op. All (GoesTo (length core)) (block op)) core
+  pub length-ops : length ops ≡ length core
+  length-ops = length-placed globals kept 0 core
+
+  pub blocks_go : All (λ op. All (GoesTo (length ops)) (block_of op)) ops
   blocks_go =
-      let none : CoreOp = record { kind = 0; site = 0; number = 0; target = 0; depth = 0 } in
-      All-from_get_or (λ op. All (GoesTo (length core)) (block op)) core none
-      (λ i lt. op_goes core main firsts globals i (get_or core i none) is (slice_get-get_or core i none lt))
+      all_from (λ op. All (GoesTo (length ops)) (block_of op)) globals kept 0 core
+      (λ i j op at same.
+      subst (λ n. All (GoesTo n) (block_of (placed globals kept j op))) (sym length-ops)
+      (op_goes core kept main firsts globals j op is (subst (λ k. slice_get core k ≡ Some op) (let e : i ≡ j = omega arith in e) at)))
 
-  pub all_go : All (GoesTo (length core)) whole
+  pub all_go : All (GoesTo (length ops)) whole
   all_go =
-      All-append (GoesTo (length core)) (front opening) (flat_map block core)
-      (All-append (GoesTo (length core)) opening (copying_lines most_arguments)
-      (opening_goes (length core) (length firsts) firsts main is.begins)
-      (go_nowhere (length core) (copying_lines most_arguments) (copying_straight most_arguments)))
-      (all_flat (GoesTo (length core)) block core blocks_go)
+      let main_there : main < length ops = let e = length-ops in let lt = is.begins in omega (arith, e, lt) in
+      All-append (GoesTo (length ops)) (front opening) (flat_map block_of ops)
+      (All-append (GoesTo (length ops)) (opening ++ copying_lines) clearing_lines
+      (All-append (GoesTo (length ops)) opening copying_lines
+      (opening_goes (length ops) (length firsts) firsts main main_there)
+      (go_nowhere (length ops) copying_lines copying_straight))
+      (go_nowhere (length ops) clearing_lines clearing_straight))
+      (all_flat (GoesTo (length ops)) block_of ops blocks_go)
 
   pub few_firsts : length firsts ≤ 56
   few_firsts = let few = is.suits.few in let same = is.of_file in omega arith
 
-  pub length-whole : length whole ≡ 3 * length firsts + 131 + length (flat_map block core)
+  pub length-whole : length whole ≡ 3 * length firsts + 183 + length (flat_map block_of ops)
   length-whole =
-      let sum = length-append (front opening) (flat_map block core) in
-      let sum' = length-append opening (copying_lines most_arguments) in
-      let first = opening_length (length firsts) firsts main in
-      let second = length-copying_lines most_arguments in
-      omega arith
+      let sum = length-append (front opening) (flat_map block_of ops) in
+      let first = length-front block_of opening ops in
+      let second = opening_length (length firsts) firsts main in
+      omega (arith, sum, first, second)
 
   module _ (small : sum_by most_words core ≤ 256000) where
     pub few_words : length whole < 262144
     few_words =
         let all = length-whole in
         let firsts' = few_firsts in
-        let blocks = all_words globals core in
+        let blocks = all_words globals kept 0 core in
         omega arith
 
-    module _ (a : Assembly) (laid : IsLaid block opening core a) where
+    module _ (a : Assembly) (laid : IsLaid block_of opening ops a) where
       same_lines : a.lines ≡ lines_of whole
       same_lines = ap (λ (x : Assembly). x.lines) laid.made
 
@@ -78,14 +85,14 @@ module _ (core : List CoreOp) (main : ℕ) (firsts : List ℕ) (globals : ℕ) (
       same_commits = ap (λ (x : Assembly). x.commits) laid.made
 
       whole_bound : All (IsBound a.bound) (lines_of whole)
-      whole_bound = are_bound a.bound (length whole) whole (all_go_far block opening core a laid all_go)
+      whole_bound = are_bound a.bound (length whole) whole (all_go_far block_of opening ops a laid all_go)
 
       pub lines_bound : All (IsBound a.bound) a.lines
       lines_bound = subst (All (IsBound a.bound)) (sym same_lines) whole_bound
 
       pub lines_near : (k : ℕ) (d : ℤ) → IsFirstTooFar a.bound a.lines k d → ⊥
       lines_near k d first =
-          none_too_far a.bound whole k d few_words (all_go_far block opening core a laid all_go)
+          none_too_far a.bound whole k d few_words (all_go_far block_of opening ops a laid all_go)
           (subst (λ l. IsFirstTooFar a.bound l k d) same_lines first)
 
       pub count_lines : length a.lines ≡ length whole

@@ -22,7 +22,7 @@ kind_of op =
     kind_by (is_jump op || flow.is_some_flow operation) (accesses.is_access operation)
 
 abbrev pub block_in : Kind → Placed → List MarkedLine
-block_in Flow placed = flow.flow_block placed.op
+block_in Flow placed = flow.flow_block placed.clears placed.op
 block_in Access placed = accesses.block_of (operation_of placed.op.kind placed.op.number) placed.op.depth placed.op.site
 block_in Expression placed = expressions.block_of placed
 

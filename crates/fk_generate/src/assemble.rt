@@ -6,15 +6,17 @@ ghost use Rattle.fk_asm.specs.Assembly.{empty, instructions, AreFollowed, IsBoun
 ghost use Rattle.fk_asm.specs.Commits.{IsCommitTable};
 ghost use Rattle.fk_asm.specs.Block.{GoesToMade};
 ghost use Rattle.fk_gen.specs.Lines.{label_of};
-ghost use Rattle.fk_generate.specs.Layout.{AddsBlocks, placed};
+ghost use Rattle.fk_generate.specs.Layout.{AddsBlocks, all_placed};
 
+use crate::placing::placed;
 use fk_asm::{AsmFault, Assembler, Blocks, Code};
 use fk_core::CoreOp;
 use fk_gen::Placed;
+use fk_kept::Set;
 use std::alloc::AllocError;
 
 /// The label of the block of the first operation.
-pub(crate) const FIRST_LABEL: u32 = 64;
+pub(crate) const FIRST_LABEL: u32 = 128;
 
 /// So many labels, for an assembler without any.
 pub(crate) fn make_labels(into: &mut Assembler, count: u32) -> Result<(), AllocError>
@@ -27,26 +29,27 @@ pub(crate) fn make_labels(into: &mut Assembler, count: u32) -> Result<(), AllocE
     Ok(())
 }
 
-/// Adds the blocks of a list, and binds the label of each where it begins.
+/// Adds the blocks of a list in which calls keep these words, and binds the label of each where it begins.
 pub(crate) fn emit_blocks<B: Blocks<Placed>>(
     blocks: &B,
     ops: &[CoreOp],
+    kept: &[Set],
     globals: u32,
     into: &mut Assembler,
 ) -> Result<(), AllocError>
-    requires known { All (λ op. B.has_block (placed globals op)) ops.now }
-    requires goes { All (λ op. All (GoesToMade into.old.bound) (B.block (placed globals op))) ops.now }
-    requires room { length into.old.lines + length (flat_map (λ op. B.block (placed globals op)) ops.now) < 2 ^ 30 }
+    requires known { All B.has_block (all_placed globals kept.now ops.now) }
+    requires goes { All (λ op. All (GoesToMade into.old.bound) (B.block op)) (all_placed globals kept.now ops.now) }
+    requires room { length into.old.lines + length (flat_map B.block (all_placed globals kept.now ops.now)) < 2 ^ 30 }
     requires followed { AreFollowed into.old }
     requires made { label_of (length ops.now) ≤ length into.old.bound }
     requires few { label_of (length ops.now) < 2 ^ 32 }
     requires free { (i : ℕ) → i < length ops.now → slice_index_or into.old.bound (label_of i) None ≡ None }
-    ensures added { OnOk result (AddsBlocks (λ op. B.block (placed globals op)) ops.now into.old into.new) }
+    ensures added { OnOk result (AddsBlocks B.block (all_placed globals kept.now ops.now) into.old into.new) }
     ensures followed { OnOk result (AreFollowed into.new) }
 {
     for (i, op) in ops.iter().enumerate() {
         into.bind(FIRST_LABEL + i as u32)?;
-        blocks.emit_op(&Placed { op: *op, globals }, into)?;
+        blocks.emit_op(&placed(*op, kept, i, globals), into)?;
     }
     Ok(())
 }

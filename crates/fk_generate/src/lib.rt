@@ -6,7 +6,6 @@ mod assemble;
 mod code;
 mod copying;
 mod kind;
-mod size;
+mod placing;
 
 pub use code::generate;
-pub use size::is_small;

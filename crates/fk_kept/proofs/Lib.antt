@@ -1,2 +1,4 @@
 pub mod Words
+pub mod Bits
 pub mod Jumps
+pub mod Asked

@@ -1,3 +1,4 @@
 pub mod Sets
 pub mod Frames
+pub mod Live
 pub mod Free

@@ -53,12 +53,12 @@ impl List<'_> {
             IsTrue result → (word : ℕ) → frames.keeps to word ≡ true
             → written_in written word ≡ false → frames.keeps from word ≡ true }
     {
-        for word in 0..64 {
-            if self.keeps(to, word) && written != Some(word) && !self.keeps(from, word) {
-                return false;
-            }
-        }
-        true
+        let kept = self.kept_at(from);
+        let there = match written {
+            Some(word) => kept.with(word),
+            None => kept,
+        };
+        self.kept_at(to).is_within(there)
     }
 
     fn flows(&self, written: Option<u32>, from: usize, to: usize) -> bool
@@ -75,12 +75,7 @@ impl List<'_> {
         ensures { let frames = frames_of self.now.places.now self.now.kept.now self.now.firsts in
             IsTrue result → (word : ℕ) → frames.keeps index word ≡ true → word < bound }
     {
-        for word in 0..64 {
-            if self.keeps(index, word) && u64::from(word) >= bound {
-                return false;
-            }
-        }
-        true
+        self.kept_at(index).is_below(bound)
     }
 
     // How many words stand before the header's end in the frame of an index, those of file scope in
@@ -152,13 +147,13 @@ impl List<'_> {
         }
     }
 
-    // Whether a call that begins at an index keeps its arguments at most.
+    // Whether a call may begin at an index, with so many arguments.
     fn begins(&self, arguments: u32, index: usize) -> bool
         ensures { let frames = frames_of self.now.places.now self.now.kept.now self.now.firsts in
             IsTrue result → (arguments ≤ 56) × (frames.is_main index ≡ false)
-            × ((word : ℕ) → frames.keeps index word ≡ true → word < arguments) }
+            × ((word : ℕ) → frames.keeps index word ≡ true → word < 56) }
     {
-        arguments <= 56 && !self.is_main(index) && self.words_below(index, u64::from(arguments))
+        arguments <= 56 && !self.is_main(index) && self.words_below(index, 56)
     }
 
     // Whether a call goes on at another index, with so many values.

@@ -1,7 +1,7 @@
 //! Which private words a call keeps at each index of a flat list, and whether the list suits frames
 //! that hold no others.
 //!
-//! The words are computed first, of which nothing is claimed, and then checked.
+//! The words are computed first, the fewest that do, and then frames that hold them are checked.
 #![tactic(auto)]
 
 mod check;
@@ -10,6 +10,8 @@ mod list;
 mod live;
 mod places;
 mod set;
+#[cfg(test)]
+mod tests;
 
 pub use check::suits_frames;
 pub use free::{is_alone, is_free};

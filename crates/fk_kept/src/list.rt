@@ -1,8 +1,9 @@
 //! A list with what is found at its indices.
 
-ghost use Rattle.std.specs.Prelude.{◌≡◌, ◌<◌, [], length, slice_get};
+ghost use Rattle.std.specs.Prelude.{◌≡◌, ◌<◌, ℕ, [], length, slice_get};
 ghost use Rattle.fk_core.specs.Next as n;
 ghost use Rattle.fk_kept.specs.Frames.{frames_of, place_in};
+ghost use Rattle.fk_kept.specs.Sets.{is_in};
 
 use crate::places::Place;
 use crate::set::Set;
@@ -70,6 +71,17 @@ impl List<'_> {
         match self.place(index) {
             Place::Main => true,
             Place::Called(_) => false,
+        }
+    }
+
+    // The words that are kept at an index.
+    pub(crate) fn kept_at(&self, index: usize) -> Set
+        ensures { (word : ℕ) → (frames_of self.now.places.now self.now.kept.now self.now.firsts).keeps index word
+            ≡ is_in result.mask word }
+    {
+        match self.kept.get(index) {
+            Some(set) => *set,
+            None => Set::empty(),
         }
     }
 

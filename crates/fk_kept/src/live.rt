@@ -1,83 +1,129 @@
 //! Which private words are read before they are written.
 
-use crate::list::op_at;
+ghost use Rattle.std.specs.Prelude.{◌≡◌, ◌<◌, ℕ, true, false, IfOk, IsTrue, length, slice_get};
+ghost use Rattle.fk_kept.specs.Frames.{kept_in};
+ghost use Rattle.fk_kept.specs.Live as v;
+ghost use Rattle.fk_kept.specs.Sets.{is_in};
+
+use crate::list::{follows, op_at};
 use crate::set::Set;
 use fk_core::CoreOp;
 use fk_operation::{Known, Operation, Variable};
 use std::alloc::{AllocError, Global};
 
-// How often the list is gone through at most. One time more than loops are nested does.
-const PASSES: u32 = 64;
-
-fn set_at(sets: &[Set], index: usize) -> Set {
+fn set_at(sets: &[Set], index: usize) -> Set
+    ensures { (word : ℕ) → is_in result.mask word ≡ v.words_in sets.now index word }
+{
     match sets.get(index) {
         Some(set) => *set,
         None => Set::empty(),
     }
 }
 
-// The words that are live before an operation, by those behind it.
-fn before(operation: Operation, next: Set, other: Set, behind_call: Set) -> Set {
+// The words that are kept where an operation goes on.
+fn behind(ops: &[CoreOp], live: &[Set], operation: Operation, index: usize, target: u32) -> Set
+    requires { index < length ops.now }
+    ensures { (word : ℕ) → is_in result.mask word
+        ≡ v.kept_behind ops.now (v.words_in live.now) operation index target word }
+{
     match operation {
-        Operation::Get(Known::Value(Variable::Private(word))) => next.with(word),
-        Operation::Set(Variable::Private(word)) => next.without(word),
-        Operation::Branch(_) => next.union(other),
-        Operation::Enter(_) => behind_call,
+        Operation::Enter(_) => set_at(live, index + 2),
         Operation::Leave { .. } | Operation::Halt => Set::empty(),
-        _ => next,
+        _ => {
+            let onward = set_at(live, follows(ops, operation, index, target, true));
+            let aside = set_at(live, follows(ops, operation, index, target, false));
+            onward.union(aside)
+        }
     }
 }
 
-// The words that are live at an index, by those that are known to be live elsewhere.
-fn live_at(ops: &[CoreOp], live: &[Set], index: usize) -> Set {
+// The words that are to be kept before an operation, by those that are kept behind it.
+fn before(operation: Operation, behind: Set) -> Set
+    ensures { (word : ℕ) → is_in result.mask word
+        ≡ v.needed operation (is_in behind.mask word) word }
+{
+    match operation {
+        Operation::Get(Known::Value(Variable::Private(word))) => behind.with(word),
+        Operation::Set(Variable::Private(word)) => behind.without(word),
+        _ => behind,
+    }
+}
+
+// The words that are to be kept at an index, by those that are kept elsewhere.
+fn asked(ops: &[CoreOp], live: &[Set], index: usize) -> Set
+    ensures { (word : ℕ) → is_in result.mask word
+        ≡ v.asked ops.now (v.words_in live.now) index word }
+{
     let Some(op) = op_at(ops, index) else {
         return Set::empty();
     };
-    let other = set_at(live, op.target as usize);
     if op.is_jump() {
-        return other;
+        return set_at(live, op.target as usize);
     }
-    let behind_call = if index < ops.len().saturating_sub(2) {
-        set_at(live, index + 2)
-    } else {
-        Set::empty()
-    };
-    let next = if index < ops.len() {
-        set_at(live, index + 1)
-    } else {
-        Set::empty()
-    };
     match op.operation() {
-        Some(operation) => before(operation, next, other, behind_call),
+        Some(operation) => before(operation, behind(ops, live, operation, index, op.target)),
         None => Set::empty(),
     }
 }
 
+// Keeps at an index what is to be kept there. Answers whether that is a word more.
+fn grow(ops: &[CoreOp], live: &mut [Set], index: usize) -> bool
+    requires { index < length live.old }
+    ensures least { v.IsLeast ops.now (v.words_in live.old)
+        → v.IsLeast ops.now (v.words_in live.new) }
+    ensures found { IsTrue result → v.left_over live.new < v.left_over live.old }
+    ensures same { result ≡ false → live.new ≡ live.old }
+    ensures all { result ≡ false → (word : ℕ)
+        → v.asked ops.now (v.words_in live.old) index word ≡ true
+        → v.words_in live.old index word ≡ true }
+{
+    let old = live[index];
+    let new = old.union(asked(ops, live, index));
+    if new.mask == old.mask {
+        return false;
+    }
+    live[index] = new;
+    true
+}
+
 // Goes through the list once, from its end. Answers whether it found another word.
-fn pass(ops: &[CoreOp], live: &mut [Set]) -> bool {
+fn pass(ops: &[CoreOp], live: &mut [Set]) -> bool
+    requires long { length live.old ≡ length ops.now }
+    requires least { v.IsLeast ops.now (v.words_in live.old) }
+    ensures least { v.IsLeast ops.now (v.words_in live.new) }
+    ensures found { IsTrue result → v.left_over live.new < v.left_over live.old }
+    ensures all { result ≡ false → v.IsLive ops.now (v.words_in live.new) }
+{
     let mut found = false;
-    let mut index = ops.len();
-    while index > 0 {
+    let mut index = live.len();
+    'back: while index > 0 {
         index -= 1;
-        let old = set_at(live, index);
-        let new = old.union(live_at(ops, live, index));
-        if index < live.len() {
-            found = found || new != old;
-            live[index] = new;
+        if grow(ops, live, index) {
+            found = true;
         }
     }
     found
 }
 
+// Keeps at each index what is to be kept there.
+fn settle(ops: &[CoreOp], live: &mut [Set])
+    requires long { length live.old ≡ length ops.now }
+    requires least { v.IsLeast ops.now (v.words_in live.old) }
+    ensures least { v.IsLeast ops.now (v.words_in live.new) }
+    ensures all { v.IsLive ops.now (v.words_in live.new) }
+{
+    'passes: while pass(ops, live) {}
+}
+
 /// The private words of the running call that may be read before they are written, at each index of
-/// a list. Nothing is claimed of them: a list is checked with them. It takes time and memory linear
-/// in the list. Fails only for want of memory.
-pub fn live_words(alloc: Global, ops: &[CoreOp]) -> Result<Vec<Set>, AllocError> {
+/// a list: the fewest that include what each operation reads, and what is kept where it goes on and
+/// it doesn't write. A pass takes time linear in the list and no memory, and there is one more than
+/// loops are nested. Fails only for want of memory.
+pub fn live_words(alloc: Global, ops: &[CoreOp]) -> Result<Vec<Set>, AllocError>
+    ensures live { IfOk result (λ sets. v.IsLive ops.now (v.words_in sets.items)) }
+    ensures least { IfOk result (λ sets. v.IsLeast ops.now (v.words_in sets.items)) }
+{
     let mut live = vec![in alloc; Set::empty(); ops.len()]?;
-    for _ in 0..PASSES {
-        if !pass(ops, &mut live) {
-            break;
-        }
-    }
+    settle(ops, &mut live);
     Ok(live)
 }

@@ -1,6 +1,6 @@
 //! Sets of small numbers.
 
-ghost use Rattle.std.specs.Prelude.{◌≡◌};
+ghost use Rattle.std.specs.Prelude.{◌≡◌, ◌==◌, ◌+◌, ◌<◌, ◌≤◌, ◌||◌, ◌&&◌, not, nat_lt, ℕ, true, false, IsTrue};
 ghost use Rattle.fk_kept.specs.Sets.{is_in};
 
 /// A set of numbers below 64.
@@ -11,7 +11,9 @@ pub struct Set {
 }
 
 impl Set {
-    pub fn empty() -> Set {
+    pub fn empty() -> Set
+        ensures { (n : ℕ) → is_in result.mask n ≡ false }
+    {
         Set { mask: 0 }
     }
 
@@ -26,27 +28,66 @@ impl Set {
         number < 64 && (self.mask >> number) % 2 == 1
     }
 
-    // The number alone; none where it is 64 or more.
-    fn alone(number: u32) -> Set {
+    pub fn is_empty(&self) -> bool
+        ensures { IsTrue result → (n : ℕ) → is_in self.now.mask n ≡ false }
+    {
+        self.mask == 0
+    }
+
+    /// Whether all its numbers are in another set.
+    pub fn is_within(&self, other: Set) -> bool
+        ensures { IsTrue result → (n : ℕ) → is_in self.now.mask n ≡ true → is_in other.mask n ≡ true }
+    {
+        self.mask & other.mask == self.mask
+    }
+
+    /// Whether all its numbers are below a bound.
+    pub fn is_below(&self, bound: u64) -> bool
+        ensures { IsTrue result → (n : ℕ) → is_in self.now.mask n ≡ true → n < bound }
+    {
+        bound >= 64 || self.mask < 1 << bound
+    }
+
+    /// The numbers from one on, each by how far it stands behind that.
+    pub fn from(&self, first: u32) -> Set
+        ensures { (n : ℕ) → is_in result.mask n ≡ is_in self.now.mask (first + n) }
+    {
         Set {
-            mask: if number < 64 { 1 << number } else { 0 },
+            mask: if first < 64 { self.mask >> first } else { 0 },
         }
     }
 
-    /// The set with a number more.
-    pub fn with(&self, number: u32) -> Set {
-        Set {
-            mask: self.mask | Set::alone(number).mask,
+    /// The set with a number more, if that is below 64.
+    pub fn with(&self, number: u32) -> Set
+        ensures { (n : ℕ) → is_in result.mask n
+            ≡ (is_in self.now.mask n || ((n == number) && nat_lt n 64)) }
+    {
+        if number < 64 {
+            Set {
+                mask: self.mask | 1 << number,
+            }
+        } else {
+            *self
         }
     }
 
-    pub fn without(&self, number: u32) -> Set {
-        Set {
-            mask: self.mask & !Set::alone(number).mask,
+    pub fn without(&self, number: u32) -> Set
+        ensures { (n : ℕ) → is_in result.mask n ≡ (is_in self.now.mask n && not (n == number)) }
+    {
+        if number < 64 {
+            Set {
+                mask: self.mask & !(1 << number),
+            }
+        } else {
+            *self
         }
     }
 
-    pub fn union(&self, other: Set) -> Set {
+    /// The numbers of two sets.
+    pub fn union(&self, other: Set) -> Set
+        ensures both { (n : ℕ) → is_in result.mask n ≡ (is_in self.now.mask n || is_in other.mask n) }
+        ensures more { self.now.mask ≤ result.mask }
+    {
         Set {
             mask: self.mask | other.mask,
         }

@@ -1,26 +1,27 @@
--- Knowledge in lists of sets, which is of values below 64.
-use Rattle.std.proofs.Common.{◌≡◌, ℕ, ◌<◌, Bool, true, false, List, slice_get, refl, subst}
+-- Knowledge in lists of sets.
+use Rattle.std.proofs.Common.{◌≡◌, ℕ, zero, suc, ◌+◌, Bool, true, false, List, Some, refl, sym, ap, subst, ◌∙◌, arith}
 use Rattle.fk_core.specs.declared.op.CoreOp.{CoreOp}
 use Rattle.fk_kept.specs.declared.places.Place.{Place}
-use Rattle.fk_kept.specs.declared.set.Set.{Set}
-use Rattle.fk_kept.proofs.Words.{kept_below}
+use Rattle.fk_kept.specs.Sets.{is_in}
 use Rattle.fk_known.specs.declared.change.Change.{Change}
-use Rattle.fk_known.specs.Values.{after}
-use Rattle.fk_known.specs.Lists.{known_in}
+use Rattle.fk_known.specs.Values.{after, pushed}
 use Rattle.fk_known.specs.declared.constants.Constants.{Constants}
 use Rattle.fk_known.specs.Local.{AreSameIn, Leads}
 
-pub known_below : (usable shared : List Set) (shared_alone : Bool) (index value : ℕ) → known_in usable shared shared_alone index value ≡ true → value < 64
-known_below usable shared false index value e = kept_below (slice_get usable index) value e
-known_below usable shared true index value e = kept_below (slice_get shared index) value e
-
-pub only_below : (usable shared : List Set) (shared_alone : Bool) (index value : ℕ) → (value < 64 → known_in usable shared shared_alone index value ≡ false)
-    → known_in usable shared shared_alone index value ≡ false
-only_below usable shared shared_alone index value below = by (known_in usable shared shared_alone index value) refl
+-- what is known behind a change that pushes a value, by the masks of what is known there and of what the change leaves
+pub flows_behind : (change : Change) (pushes : Bool) (known here : ℕ → Bool) (to behind left : ℕ) → change.pushes ≡ Some pushes
+    → ((value : ℕ) → known value ≡ is_in to value) → ((n : ℕ) → is_in behind n ≡ is_in to (1 + n)) → ((n : ℕ) → is_in left n ≡ here (change.drops + n))
+    → ((n : ℕ) → is_in behind n ≡ true → is_in left n ≡ true) → (pushes ≡ false → is_in to 0 ≡ false)
+    → (value : ℕ) → known value ≡ true → after change here value ≡ true
+flows_behind change pushes known here to behind left e same shifted lefts within first value is =
+    ap (λ p. pushed p (λ v. here (change.drops + v)) value) e ∙ by pushes first value is
   where
-    by : (b : Bool) → known_in usable shared shared_alone index value ≡ b → known_in usable shared shared_alone index value ≡ false
-    by false e = e
-    by true e = below (known_below usable shared shared_alone index value e)
+    by : (b : Bool) → (b ≡ false → is_in to 0 ≡ false) → (value : ℕ) → known value ≡ true → pushed (Some b) (λ v. here (change.drops + v)) value ≡ true
+    by true first zero is = refl
+    by false first zero is = sym (first refl) ∙ sym (same 0) ∙ is
+    by b first (suc v) is =
+        let next : 1 + v ≡ suc v = omega arith in
+        sym (lefts v) ∙ within v (shifted v ∙ ap (is_in to) next ∙ sym (same (suc v)) ∙ is)
 
 -- by changes that are the same
 pub leads_as : (core : List CoreOp) (within : ℕ → Place) (known : Bool → (index value : ℕ) → Bool) (constants : ℕ → Constants) (f g : Bool → Change)

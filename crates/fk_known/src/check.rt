@@ -4,6 +4,7 @@ ghost use Rattle.std.specs.Prelude.{◌≡◌, ◌+◌, ◌≤◌, ◌<◌, ℕ,
 ghost use Rattle.fk_kept.specs.declared.places.Place.TheVariants.{Called};
 ghost use Rattle.fk_core.specs.Next as n;
 ghost use Rattle.fk_kept.specs.Frames.{place_in};
+ghost use Rattle.fk_kept.specs.Sets.{is_in};
 ghost use Rattle.fk_known.specs.Values as k;
 ghost use Rattle.fk_known.specs.Local as l;
 ghost use Rattle.fk_known.specs.Lists.{constants_in, known_in, KnowsAt};
@@ -79,40 +80,35 @@ impl Knowledge<'_> {
         }
     }
 
-    // The same of a value behind a change.
-    fn knows_after(&self, change: Change, shared_alone: bool, index: usize, value: u32) -> bool
-        requires drops { change.drops ≤ 64 }
-        requires value { value < 64 }
-        ensures { result ≡ k.after change
-            (known_in self.now.usable.now self.now.shared.now shared_alone index) value }
+    // All of these values.
+    fn known_at(&self, shared_alone: bool, index: usize) -> Set
+        ensures { (value : ℕ) → known_in self.now.usable.now self.now.shared.now shared_alone index value
+            ≡ is_in result.mask value }
     {
-        match change.pushes {
-            None => self.knows(shared_alone, index, change.drops + value),
-            Some(pushed) => {
-                if value == 0 {
-                    pushed
-                } else {
-                    self.knows(shared_alone, index, change.drops + (value - 1))
-                }
-            }
+        let sets = if shared_alone {
+            self.shared
+        } else {
+            self.usable
+        };
+        match sets.get(index) {
+            Some(set) => *set,
+            None => Set::empty(),
         }
     }
 
     // Whether what is known at an index is so behind a change.
     fn flows(&self, change: Change, shared_alone: bool, from: usize, to: usize) -> bool
-        requires drops { change.drops ≤ 64 }
         ensures { let known = known_in self.now.usable.now self.now.shared.now shared_alone in
             IsTrue result → (value : ℕ) → known to value ≡ true
             → k.after change (known from) value ≡ true }
     {
-        for value in 0..64 {
-            if self.knows(shared_alone, to, value)
-                && !self.knows_after(change, shared_alone, from, value)
-            {
-                return false;
-            }
+        let left = self.known_at(shared_alone, from).from(change.drops);
+        let known = self.known_at(shared_alone, to);
+        match change.pushes {
+            None => known.is_within(left),
+            Some(true) => known.from(1).is_within(left),
+            Some(false) => !known.has(0) && known.from(1).is_within(left),
         }
-        true
     }
 
     // Whether an index lies in the same function as another, from which a call goes on there: by
@@ -143,15 +139,7 @@ impl Knowledge<'_> {
         ensures { IsTrue result → (shared_alone : Bool) (value : ℕ)
             → known_in self.now.usable.now self.now.shared.now shared_alone index value ≡ false }
     {
-        for value in 0..64 {
-            if self.knows(false, index, value) {
-                return false;
-            }
-            if self.knows(true, index, value) {
-                return false;
-            }
-        }
-        true
+        self.known_at(false, index).is_empty() && self.known_at(true, index).is_empty()
     }
 
     // Whether nothing is known at an index.

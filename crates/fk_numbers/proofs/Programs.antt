@@ -3,12 +3,13 @@ use Rattle.std.proofs.Common.{ℕ, zero, suc, ◌+◌, List, [], ◌∷◌, ◌+
 use Rattle.std.specs.Prelude.{Bool}
 use Rattle.fk_syntax.specs.Tree.{Tree, BaseType}
 use Rattle.fk_syntax.specs.Program.{DeclaredTree, Statement, statements_of, ItemTree}
-use Rattle.fk_lex.specs.Reading.{Spelled}
+use Rattle.fk_lex.specs.Reading.{Spelled, Tokens}
 use Rattle.fk_reading.specs.Languages.{Placed, numbered, Stretch, tokens_of, Language, maybe}
 use Rattle.fk_expr.specs.Grammar.{Comma}
 use Rattle.fk_declarations.specs.Grammar.{separated, length_of, Declarator, variable, member_name, declared, variables, member, joined_lists, parameter, parameters}
 use Rattle.fk_stmt.specs.Statements.{accepted, not_before, block, condition, if_statement, while_statement, do_statement, for_statement, start_statement, fork_statement, statement, statement_within}
 use Rattle.fk_parse.specs.Items.{struct_item, body, function_item, item}
+use Rattle.fk_parse.specs.Parses.{SpellsItems}
 use Rattle.fk_numbers.specs.Words.{IsWord, TreeHasWords, OptionHasWords, LengthIsWord, VariablesHaveWords, StatementHasWords, StatementsHaveWords, BodyHasWords, ItemHasWords, ItemsHaveWords, TextsHaveWords}
 use Rattle.fk_numbers.proofs.Holding.{IsGood, Good, Holds, Always, always, of_nothing, of_making, of_then, of_or, Each, of_many, OfOption, of_maybe, of_number}
 use Rattle.fk_numbers.proofs.Lexed.{tokens_good}
@@ -183,8 +184,12 @@ stretch_good : (s : Stretch) → Each IsGoodPlaced (tokens_of s) → Good s
 stretch_good [] h = tt
 stretch_good (m ∷ s) h = (h.0, stretch_good s h.1)
 
+-- the tokens of a stretch that spells the items of a text are good
+pub items_good : (source : List ℕ) (tokens : List Spelled) (items : List ItemTree) → Tokens source tokens → (spelled : SpellsItems (numbered 0 tokens) items) → Good spelled.stretch
+items_good source tokens items lexed spelled =
+    stretch_good spelled.stretch (subst (Each IsGoodPlaced) spelled.is (numbered_good 0 tokens (tokens_good source tokens lexed)))
+
 pub texts_have_words : TextsHaveWords
 texts_have_words source tokens program lexed spelled =
     let items = spelled.items in
-    let good = stretch_good items.stretch (subst (Each IsGoodPlaced) items.is (numbered_good 0 tokens (tokens_good source tokens lexed))) in
-    items_have program.items ((of_many (item_has items.spelled.0)).holds items.stretch program.items items.spelled.1 good)
+    items_have program.items ((of_many (item_has items.spelled.0)).holds items.stretch program.items items.spelled.1 (items_good source tokens program.items lexed items))

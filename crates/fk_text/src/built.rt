@@ -1,6 +1,6 @@
 //! A text that is built, with all that is known of it.
 
-ghost use Rattle.std.specs.Prelude.{◌≡◌, ◌≤◌, ◌^◌, ℕ, List, IfErr, IfOk, OnOk, length, vec_len};
+ghost use Rattle.std.specs.Prelude.{◌≡◌, ◌≤◌, ◌^◌, ℕ, List, IfErr, IfOk, OnOk, false, length, true, vec_len};
 ghost use Rattle.fk_syntax.specs.ProgramView.{program_of};
 ghost use Rattle.fk_syntax.specs.WellFormed.{IsWellFormed};
 ghost use Rattle.fk_walk.specs.Known.{items_in, tables_of};
@@ -49,6 +49,18 @@ pub fn known_of<'p, 'a>(
     }
 }
 
+// What a text that has a layout is told, by whether it is built.
+fn told_by(is_built: bool) -> Result<(), Refusal>
+    ensures built { OnOk result (is_built ≡ true) }
+    ensures not_built { IfErr result (λ refusal. (is_built ≡ false) × (refusal ≡ Refusal.NotBuilt)) }
+{
+    if is_built {
+        Ok(())
+    } else {
+        Err(Refusal::NotBuilt)
+    }
+}
+
 // That a text that has a layout is built.
 fn test_built<'p, 'a>(
     alloc: Global,
@@ -65,11 +77,7 @@ fn test_built<'p, 'a>(
 {
     let known = known_of(&text.tree, &text.facts, layout);
     let lookup = Lookup::of(alloc, &known).map_err(Refusal::Memory)?;
-    if are_built(&lookup.complete(known)) {
-        Ok(())
-    } else {
-        Err(Refusal::NotBuilt)
-    }
+    told_by(are_built(&lookup.complete(known)))
 }
 
 /// The tree of a text that keeps all rules and whose operations are all built, its facts and its

@@ -1,6 +1,6 @@
 //! The tree of a text, and what is known of one that keeps the rules.
 
-ghost use Rattle.std.specs.Prelude.{◌≡◌, ◌↔◌, ◌≤◌, ◌^◌, ℕ, List, IfOk, IfErr, OnOk, length, vec_len};
+ghost use Rattle.std.specs.Prelude.{◌≡◌, ◌↔◌, ◌≤◌, ◌<◌, ◌^◌, ℕ, List, IfOk, IfErr, OnOk, length, vec_len};
 ghost use Rattle.fk_lex.specs.View.{IsFault};
 ghost use Rattle.fk_syntax.specs.declared.place.Place.{Place};
 ghost use Rattle.fk_syntax.specs.ProgramView.{program_of};
@@ -19,6 +19,18 @@ use std::alloc::{AllocError, Global};
 /// How many bytes a text may have.
 const MOST_BYTES: usize = 1_048_576;
 
+// That a text isn't too long.
+fn test_length(source: &[u8]) -> Result<(), Refusal>
+    ensures short { OnOk result (length source.now ≤ 1048576) }
+    ensures long { IfErr result (λ refusal. (1048576 < length source.now) × (refusal ≡ Refusal.SourceTooLong (length source.now))) }
+{
+    if source.len() > MOST_BYTES {
+        Err(Refusal::SourceTooLong(source.len() as u64))
+    } else {
+        Ok(())
+    }
+}
+
 /// The tree of a text, or why it has none.
 pub(crate) fn tree_of<'a>(alloc: Global, source: &'a [u8]) -> Result<Tree<'a>, Refusal>
     ensures tree { IfOk result (λ tree. HasTree source.now (program_of tree)) }
@@ -29,9 +41,7 @@ pub(crate) fn tree_of<'a>(alloc: Global, source: &'a [u8]) -> Result<Tree<'a>, R
     ensures short { OnOk result (length source.now ≤ 1048576) }
     ensures refused { IfErr result (IsRefused source.now) }
 {
-    if source.len() > MOST_BYTES {
-        return Err(Refusal::SourceTooLong(source.len() as u64));
-    }
+    test_length(source)?;
     let tokens = lex(alloc, source).map_err(lexical)?;
     let tree = parse(alloc, tokens.as_slice()).map_err(syntactic)?;
     Ok(tree)

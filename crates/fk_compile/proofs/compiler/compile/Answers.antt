@@ -4,7 +4,7 @@ use Rattle.std.specs.Prelude.{vec_len}
 use Rattle.fk_image.specs.declared.Image.{Image}
 use Rattle.fk_layout.specs.declared.listed.Site.{Site}
 use Rattle.fk_core.specs.declared.op.CoreOp.{CoreOp}
-use Rattle.fk_text.proofs.Parts.{kept}
+use Rattle.fk_text.proofs.Parts.{kept as passed}
 use Rattle.fk_certificate.specs.Certain.{IsCertain}
 use Rattle.fk_generate.specs.Generable.{IsGenerable, most_words}
 use Rattle.fk_compile.specs.Faithful.{in_table}
@@ -17,10 +17,10 @@ returns-in_err-list-clause-refused c =
     passes_on c.from_residual-in_err-list.result c.in_err-list.field-0.0 c.args.source.now c.from_residual-in_err-list.ensures.1
     (c.in_err-list.ensures.refused c.args.source.now)
 
-pub returns-in_err-certify-clause-refused : goal.returns-in_err-certify-clause-refused
-returns-in_err-certify-clause-refused c =
-    passes_on c.from_residual-in_err-certify.result c.in_err-certify.field-0.0 c.args.source.now c.from_residual-in_err-certify.ensures.1
-    (c.in_err-certify.ensures.refused c.args.source.now)
+pub returns-in_err-kept-clause-refused : goal.returns-in_err-kept-clause-refused
+returns-in_err-kept-clause-refused c =
+    passes_on c.from_residual-in_err-kept.result c.in_err-kept.field-0.0 c.args.source.now c.from_residual-in_err-kept.ensures.1
+    (c.in_err-kept.ensures.refused c.args.source.now)
 
 pub overflow_cast-globals : goal.overflow_cast-globals
 overflow_cast-globals c =
@@ -37,15 +37,17 @@ generate-requires-clause-globals c =
 pub generate-requires-clause-list : goal.generate-requires-clause-list
 generate-requires-clause-list c =
     let list = c.in_ok-list.list in
+    let kept = c.in_ok-kept.kept in
     let layout = c.in_ok-text.text.layout in
-    let leads = (c.in_ok-list.ensures.list c.args.source.now c.in_ok-text.ensures.checked).code.leads_on in
+    let leads = c.in_ok-list.ensures.list.code.leads_on in
     let generable =
-    subst (λ (firsts : List ℕ). IsGenerable list.ops.items list.main firsts) c.deref.ensures.value (c.in_ok-certify.ensures.generable leads) in
-    is_generable list.ops.items c.deref-2.result.now list.main layout.firsts.items c.deref-3.result.now c.deref-2.ensures.value c.deref-3.ensures.value generable
+    subst (λ (firsts : List ℕ). IsGenerable list.ops.items kept.items list.main firsts) c.deref.ensures.value (c.in_ok-kept.ensures.generable leads) in
+    is_generable list.ops.items c.deref-2.result.now kept.items c.deref-3.result.now list.main layout.firsts.items c.deref-4.result.now
+    c.deref-2.ensures.value c.deref-3.ensures.value c.deref-4.ensures.value generable
 
 pub generate-requires-clause-small : goal.generate-requires-clause-small
 generate-requires-clause-small c =
-    subst (λ (ops : List CoreOp). sum_by most_words ops ≤ 256000) (sym c.deref-2.ensures.value) c.in_ok-certify.ensures.small
+    subst (λ (ops : List CoreOp). sum_by most_words ops ≤ 256000) (sym c.deref-2.ensures.value) c.in_ok-list.ensures.small
 
 pub returns-clause-laid : goal.returns-clause-laid
 returns-clause-laid c =
@@ -69,32 +71,46 @@ returns-clause-faithful c =
     let code = c.in_ok-code.code in
     let sites = c.in_ok-sites.sites in
     let image : Image = record { code = code.words; globals = layout.words; sites = sites; commits = code.commits } in
-    let blocks = kept _ _ c.generate.result c.map_err.result code c.generate.ensures.law c.map_err.ensures.cases c.in_ok-code.was in
-    let certain = subst (λ (firsts : List ℕ). IsCertain list.ops.items list.main (length firsts)) c.deref.ensures.value c.in_ok-certify.ensures.certain in
+    let blocks = passed _ _ c.generate.result c.map_err.result code c.generate.ensures.law c.map_err.ensures.cases c.in_ok-code.was in
+    let kept = c.in_ok-kept.kept in
+    let certain = subst (λ (firsts : List ℕ). IsCertain list.ops.items kept.items list.main (length firsts)) c.deref.ensures.value c.in_ok-kept.ensures.certain in
     record {
       program = tree;
       facts = text.facts;
       checked = c.in_ok-text.ensures.checked;
       built = c.in_ok-text.ensures.built;
       faithful =
-          is_faithful tree text.facts list.ops.items list.main image c.machines_follow_programs.ensures
-          (is_compiled tree text.facts layout c.in_ok-text.ensures.laid c.in_ok-text.ensures.fits list.ops.items list.main code image
+          is_faithful tree text.facts list.ops.items kept.items list.main image c.machines_follow_programs.ensures
+          (is_compiled tree text.facts layout c.in_ok-text.ensures.laid c.in_ok-text.ensures.fits list.ops.items kept.items list.main code image
           (record {
-            list = c.in_ok-list.ensures.list c.args.source.now c.in_ok-text.ensures.checked;
+            list = c.in_ok-list.ensures.list;
             certain = certain;
             blocks =
-                does_the_list list.ops.items c.deref-2.result.now list.main layout.firsts.items c.deref-3.result.now (vec_len layout.words) c.len-globals.result code
-                c.deref-2.ensures.value c.deref-3.ensures.value c.len-globals.ensures blocks;
-            table = kept _ _ c.generate.result c.map_err.result code c.generate.ensures.table c.map_err.ensures.cases c.in_ok-code.was;
-            some = kept _ _ c.generate.result c.map_err.result code c.generate.ensures.some c.map_err.ensures.cases c.in_ok-code.was;
-            few = kept _ _ c.generate.result c.map_err.result code c.generate.ensures.few c.map_err.ensures.cases c.in_ok-code.was;
+                does_the_list list.ops.items c.deref-2.result.now kept.items c.deref-3.result.now list.main layout.firsts.items c.deref-4.result.now (vec_len layout.words)
+                c.len-globals.result code c.deref-2.ensures.value c.deref-3.ensures.value c.deref-4.ensures.value c.len-globals.ensures blocks;
+            table = passed _ _ c.generate.result c.map_err.result code c.generate.ensures.table c.map_err.ensures.cases c.in_ok-code.was;
+            some = passed _ _ c.generate.result c.map_err.result code c.generate.ensures.some c.map_err.ensures.cases c.in_ok-code.was;
+            few = passed _ _ c.generate.result c.map_err.result code c.generate.ensures.few c.map_err.ensures.cases c.in_ok-code.was;
             has_code = refl;
             has_commits = refl;
             has_globals = refl;
             has_sites =
-                kept _ _ c.site_table.result c.map_err-2.result sites c.site_table.ensures c.map_err-2.ensures.cases c.in_ok-sites.was
-                ∙ ap (λ (all : List Site). map in_table all) c.deref-4.ensures.value;
-            firsts_are_words = subst (λ (ws : List ℕ). All (λ w. w < 2 ^ 32) ws) c.deref-5.ensures.value c.are_words.ensures;
-            globals_are_words = subst (λ (ws : List ℕ). All (λ w. w < 2 ^ 32) ws) c.deref-6.ensures.value c.are_words-2.ensures;
+                passed _ _ c.site_table.result c.map_err-2.result sites c.site_table.ensures c.map_err-2.ensures.cases c.in_ok-sites.was
+                ∙ ap (λ (all : List Site). map in_table all) c.deref-5.ensures.value;
+            firsts_are_words = subst (λ (ws : List ℕ). All (λ w. w < 2 ^ 32) ws) c.deref-6.ensures.value c.are_words.ensures;
+            globals_are_words = subst (λ (ws : List ℕ). All (λ w. w < 2 ^ 32) ws) c.deref-7.ensures.value c.are_words-2.ensures;
           }));
     }
+
+pub certify-requires : goal.certify-requires
+certify-requires c =
+    let text = c.in_ok-text.text in
+    let tree = program_of text.tree in
+    let few = c.firsts_are_few.ensures tree text.facts
+    (record { well_formed = c.in_ok-text.ensures.well_formed; small = c.in_ok-text.ensures.small; known = c.in_ok-text.ensures.checked.known }) c.in_ok-text.ensures.fits in
+    omega (
+      arith,
+      few,
+      ap (λ (ws : List ℕ). length ws) c.deref.ensures.value,
+      ap (λ (ws : List ℕ). length ws) c.in_ok-text.ensures.laid.firsts,
+    )

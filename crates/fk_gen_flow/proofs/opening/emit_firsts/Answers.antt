@@ -1,6 +1,7 @@
 use Rattle.std.proofs.Common.{◌+◌, ◌*◌, take, arith, refl, get_or}
 use Rattle.fk_gen_flow.specs.Opening.{first_line, first_lines}
-use Rattle.fk_gen_flow.proofs.Rows.{one_first_more, many_first_lines, many_lines, followed}
+use Rattle.fk_gen.proofs.Emitted.{many_lines, followed}
+use Rattle.fk_gen_flow.proofs.Rows.{one_first_more, many_first_lines}
 use Rattle.fk_gen_flow.proofs.opening.emit_firsts.Goals as goal
 
 pub emit_first-requires-clause-room : goal.emit_first-requires-clause-room

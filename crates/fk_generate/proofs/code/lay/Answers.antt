@@ -1,6 +1,6 @@
 use Rattle.std.proofs.Common.{◌^◌, ◌<◌, ◌≤◌, length, arith, rules}
 use Rattle.fk_generate.proofs.Done.{all_have}
-use Rattle.fk_generate.proofs.Steps.{short_list, room_for_copying, followed, blocks_made, room_for_blocks, labels_free, all_laid}
+use Rattle.fk_generate.proofs.Steps.{short_list, room_for_copying, followed, room_for_clearing, labels_copied, free_copied, enough_labels, blocks_made, room_for_blocks, labels_free, all_laid}
 use Rattle.fk_generate.proofs.code.lay.Goals as goal
 
 pub overflow_cast-ops : goal.overflow_cast-ops
@@ -21,31 +21,56 @@ emit_opening-requires-clause-near c =
 
 pub emit_copying-requires-clause-room : goal.emit_copying-requires-clause-room
 emit_copying-requires-clause-room c =
-    room_for_copying c.args.ops.now c.args.main c.args.firsts.now c.args.globals c.requires.list c.requires.small
+    room_for_copying c.args.ops.now c.args.kept.now c.args.main c.args.firsts.now c.args.globals c.requires.list c.requires.small
     c.make_labels.new.into c.emit_opening.new.into c.in_ok-make_labels.ensures.made c.in_ok-emit_opening.ensures.added
 
 pub emit_copying-requires-clause-followed : goal.emit_copying-requires-clause-followed
 emit_copying-requires-clause-followed c =
-    followed c.args.ops.now c.args.main c.args.firsts.now c.args.globals c.requires.list c.requires.small
+    followed c.args.ops.now c.args.kept.now c.args.main c.args.firsts.now c.args.globals c.requires.list c.requires.small
     c.make_labels.new.into c.emit_opening.new.into c.in_ok-make_labels.ensures.made c.in_ok-emit_opening.ensures.added
 
 pub emit_blocks-requires-clause-known : goal.emit_blocks-requires-clause-known
 emit_blocks-requires-clause-known c =
     let short : length c.args.ops.now ≤ 256000 = short_list c.args.ops.now c.requires.small in
     let below : length c.args.ops.now < 2 ^ 31 = omega arith in
-    all_have c.args.ops.now c.args.main c.args.firsts.now c.args.globals c.requires.list c.requires.globals below
+    all_have c.args.ops.now c.args.kept.now c.args.main c.args.firsts.now c.args.globals c.requires.list c.requires.globals below
+
+pub emit_clearing-requires-clause-room : goal.emit_clearing-requires-clause-room
+emit_clearing-requires-clause-room c =
+    room_for_clearing c.args.ops.now c.args.kept.now c.args.main c.args.firsts.now c.args.globals c.requires.list c.requires.small
+    c.make_labels.new.into c.emit_opening.new.into c.in_ok-make_labels.ensures.made c.in_ok-emit_opening.ensures.added
+    c.emit_copying.new.into c.in_ok-emit_copying.ensures.added
+
+pub emit_clearing-requires-clause-made : goal.emit_clearing-requires-clause-made
+emit_clearing-requires-clause-made c =
+    let count = labels_copied c.args.ops.now c.args.kept.now c.args.main c.args.firsts.now c.args.globals c.requires.list c.requires.small
+    c.make_labels.new.into c.emit_opening.new.into c.in_ok-make_labels.ensures.made c.in_ok-emit_opening.ensures.added
+    c.emit_copying.new.into c.in_ok-emit_copying.ensures.added in
+    omega (arith, count)
+
+pub emit_clearing-requires-clause-free : goal.emit_clearing-requires-clause-free
+emit_clearing-requires-clause-free c =
+    free_copied c.args.ops.now c.args.kept.now c.args.main c.args.firsts.now c.args.globals c.requires.list c.requires.small
+    c.make_labels.new.into c.emit_opening.new.into c.in_ok-make_labels.ensures.made c.in_ok-emit_opening.ensures.added
+    c.emit_copying.new.into c.in_ok-emit_copying.ensures.added
 
 pub emit_blocks-requires-clause-goes : goal.emit_blocks-requires-clause-goes
 emit_blocks-requires-clause-goes c =
-    blocks_made c.args.ops.now c.args.main c.args.firsts.now c.args.globals c.requires.list c.requires.small
+    blocks_made c.args.ops.now c.args.kept.now c.args.main c.args.firsts.now c.args.globals c.requires.list c.requires.small
     c.make_labels.new.into c.emit_opening.new.into c.in_ok-make_labels.ensures.made c.in_ok-emit_opening.ensures.added
-    c.emit_copying.new.into c.in_ok-emit_copying.ensures.added
+    c.emit_copying.new.into c.in_ok-emit_copying.ensures.added c.emit_clearing.new.into c.in_ok-emit_clearing.ensures.added
 
 pub emit_blocks-requires-clause-room : goal.emit_blocks-requires-clause-room
 emit_blocks-requires-clause-room c =
-    room_for_blocks c.args.ops.now c.args.main c.args.firsts.now c.args.globals c.requires.list c.requires.small
+    room_for_blocks c.args.ops.now c.args.kept.now c.args.main c.args.firsts.now c.args.globals c.requires.list c.requires.small
     c.make_labels.new.into c.emit_opening.new.into c.in_ok-make_labels.ensures.made c.in_ok-emit_opening.ensures.added
-    c.emit_copying.new.into c.in_ok-emit_copying.ensures.added
+    c.emit_copying.new.into c.in_ok-emit_copying.ensures.added c.emit_clearing.new.into c.in_ok-emit_clearing.ensures.added
+
+pub emit_blocks-requires-clause-made : goal.emit_blocks-requires-clause-made
+emit_blocks-requires-clause-made c =
+    enough_labels c.args.ops.now c.args.kept.now c.args.main c.args.firsts.now c.args.globals c.requires.list c.requires.small
+    c.make_labels.new.into c.emit_opening.new.into c.in_ok-make_labels.ensures.made c.in_ok-emit_opening.ensures.added
+    c.emit_copying.new.into c.in_ok-emit_copying.ensures.added c.emit_clearing.new.into c.in_ok-emit_clearing.ensures.added
 
 pub emit_blocks-requires-clause-few : goal.emit_blocks-requires-clause-few
 emit_blocks-requires-clause-few c =
@@ -54,12 +79,12 @@ emit_blocks-requires-clause-few c =
 
 pub emit_blocks-requires-clause-free : goal.emit_blocks-requires-clause-free
 emit_blocks-requires-clause-free c =
-    labels_free c.args.ops.now c.args.main c.args.firsts.now c.args.globals c.requires.list c.requires.small
+    labels_free c.args.ops.now c.args.kept.now c.args.main c.args.firsts.now c.args.globals c.requires.list c.requires.small
     c.make_labels.new.into c.emit_opening.new.into c.in_ok-make_labels.ensures.made c.in_ok-emit_opening.ensures.added
-    c.emit_copying.new.into c.in_ok-emit_copying.ensures.added
+    c.emit_copying.new.into c.in_ok-emit_copying.ensures.added c.emit_clearing.new.into c.in_ok-emit_clearing.ensures.added
 
 pub returns-clause-laid : goal.returns-clause-laid
 returns-clause-laid c =
-    all_laid c.args.ops.now c.args.main c.args.firsts.now c.args.globals c.requires.list c.requires.small
+    all_laid c.args.ops.now c.args.kept.now c.args.main c.args.firsts.now c.args.globals c.requires.list c.requires.small
     c.make_labels.new.into c.emit_opening.new.into c.in_ok-make_labels.ensures.made c.in_ok-emit_opening.ensures.added
-    c.emit_copying.new.into c.in_ok-emit_copying.ensures.added c.emit_blocks.new.into c.in_ok-emit_blocks.ensures.added
+    c.emit_copying.new.into c.in_ok-emit_copying.ensures.added c.emit_clearing.new.into c.in_ok-emit_clearing.ensures.added c.emit_blocks.new.into c.in_ok-emit_blocks.ensures.added

@@ -21,7 +21,7 @@ returns c fits =
       leads = sym c.if-not-is_jump.ensures;
       few = begins.0;
       inside = subst (λ i. frames.is_main i ≡ false) next begins.1;
-      kept = subst (λ i. (word : ℕ) → frames.keeps i word ≡ true → word < c.args.arguments) next begins.2;
+      kept = subst (λ i. (word : ℕ) → frames.keeps i word ≡ true → word < 56) next begins.2;
       back = subst (λ i. Flows core frames nothing c.args.index i) after back.0;
       room = subst (λ i. HasRoom frames i (suc (c.args.depth - c.args.arguments))) after (subst (λ v. HasRoom frames (c.args.index + 2) v) values back.1);
     }

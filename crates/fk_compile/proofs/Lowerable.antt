@@ -1,0 +1,38 @@
+-- A text that keeps all rules and has a layout can be lowered.
+use Rattle.std.proofs.Common.{◌≡◌, ◌≤◌, ℕ, List, length, sym, ap, subst, ◌∙◌, arith}
+use Rattle.std.specs.Prelude.{Result, Ok, Err, IfOk}
+use Rattle.fk_syntax.specs.declared.facts.Facts.{Facts}
+use Rattle.fk_syntax.specs.Program.{ItemTree, ProgramTree}
+use Rattle.fk_forms.specs.Tables.{Tables}
+use Rattle.fk_forms.specs.Program.{functions_of, bodies_of, sites_in}
+use Rattle.fk_walk.specs.declared.known.Known.{Known}
+use Rattle.fk_walk.specs.Known.{tables_of}
+use Rattle.fk_walk_statements.specs.Texts.{functions_in, sites_of_text}
+use Rattle.fk_flat.specs.Laws.{AreShaped}
+use Rattle.fk_layout.specs.Layout.{tables_by}
+use Rattle.fk_layout.specs.Refusal.{Fits}
+use Rattle.fk_lower_text.specs.Whole.{AreWhole}
+use Rattle.fk_lower_text.specs.Lowered.{IsLowerable}
+use Rattle.fk_shapes.specs.Fitting.{FormsAreShaped}
+use Rattle.fk_parsed.specs.Trim.{ProgramIsTrim}
+use Rattle.fk_fitting.specs.Correct.{IsCorrect}
+use Rattle.fk_fitting.specs.Laws.{CorrectProgramsFit}
+use Rattle.fk_lowerable.specs.Laws.{IsKnownOf}
+
+module _ (program : ProgramTree) (facts : Facts) (known : Known) (of : IsKnownOf program facts known) where
+  pub lowerable : IsCorrect program facts → ProgramIsTrim program → CorrectProgramsFit → FormsAreShaped → AreWhole known (functions_in known) → IsLowerable known program
+  lowerable valid trim fit shaped whole = record {
+    items = sym of.items;
+    shaped = subst (λ (t : Tables). AreShaped (bodies_of t program)) (sym of.tables) (shaped (tables_by program facts) program (fit program facts valid trim));
+    whole = whole;
+  }
+
+  pub few_sites : Fits (tables_by program facts) program.items → length (sites_of_text known) ≤ 16000
+  few_sites fits =
+      subst (λ (items : List ItemTree). length (sites_in (tables_of known) (functions_of items) (functions_of items)) ≤ 16000) (sym of.items)
+      (subst (λ (t : Tables). length (sites_in t (functions_of program.items) (functions_of program.items)) ≤ 16000) (sym of.tables) fits.sites)
+
+-- what is so of what is answered
+pub answered : {A E : Type 0} (P Q : A → Type 0) (r : Result A E) → ((a : A) → P a → Q a) → IfOk r P → IfOk r Q
+answered P Q (Ok a) go h = go a h
+answered P Q (Err e) go h = tt

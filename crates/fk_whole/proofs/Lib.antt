@@ -1,3 +1,0 @@
-pub mod InExpressions
-pub mod InStatements
-pub mod Whole
