@@ -5,7 +5,7 @@ use Rattle.fk_meeting.specs.Meeting.{IsKept, IsRun, AllLeaveAt, MembersLeaveToge
 use Rattle.fk_meeting.proofs.Leaving.{cycles_keep_arrivals}
 
 -- there are as many harts after a cycle as before
-same_length : (t n lead v v' : ℕ) (fs fs' : List Phase) → AllMove t n lead fs v fs' v' → length fs' ≡ length fs
+pub same_length : (t n lead v v' : ℕ) (fs fs' : List Phase) → AllMove t n lead fs v fs' v' → length fs' ≡ length fs
 same_length t n lead v v' [] [] moves = refl
 same_length t n lead v v' (f ∷ fs) (f' ∷ fs') moves = ap suc (same_length t n lead (word_after f v) v' fs fs' moves.1)
 same_length t n lead v v' fs fs' moves = absurd (assumption moves)
@@ -32,7 +32,7 @@ next_run t n lead word phases run =
 
 -- ---- whether somebody commits
 
-abbrev IsKnown : Type 0 → Type 0
+abbrev pub IsKnown : Type 0 → Type 0
 IsKnown A = A ⊎ (A → ⊥)
 
 commits_known : (f : Phase) → IsKnown (Commits f)
@@ -48,7 +48,7 @@ either_known (inl a) b = inl (inl a)
 either_known (inr f) (inl b) = inl (inr b)
 either_known (inr f) (inr g) = inr (λ x. ⊎_elim f g x)
 
-some_known : (fs : List Phase) → IsKnown (SomeCommits fs)
+pub some_known : (fs : List Phase) → IsKnown (SomeCommits fs)
 some_known [] = inr (λ x. x)
 some_known (f ∷ fs) = either_known (commits_known f) (some_known fs)
 

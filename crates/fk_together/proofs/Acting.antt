@@ -1,6 +1,6 @@
 -- What one processor has after it has acted: with its group, by itself, or where it waits.
-use Rattle.std.proofs.Common.{◌≡◌, ◌≢◌, ◌⊎◌, inl, inr, ⊎_elim, ℕ, zero, suc, Bool, true, false, true≢false, List, ◌∷◌, Option, Some, None, is_some, refl, sym, ap, ◌∙◌, subst, if◌then◌else◌}
-use Rattle.std.specs.Prelude.{◌==◌, not}
+use Rattle.std.proofs.Common.{◌≡◌, ◌≢◌, ◌⊎◌, inl, inr, ⊎_elim, ℕ, zero, suc, Bool, true, false, true≢false, List, [], ◌∷◌, ◌++◌, length, Option, Some, None, is_some, refl, sym, ap, ◌∙◌, subst, if◌then◌else◌}
+use Rattle.std.specs.Prelude.{◌==◌, nat_lt, not}
 use Rattle.fk_operation.specs.Kinds.{class_of, joint_of}
 use Rattle.fk_operation.specs.declared.operation.Operation.{Operation}
 use Rattle.fk_operation.specs.declared.operation.Operation.TheVariants as o
@@ -8,33 +8,72 @@ use Rattle.fk_operation.specs.declared.kinds.Class.{Class}
 use Rattle.fk_operation.specs.declared.kinds.Class.TheVariants.{Local, Request, Tree}
 use Rattle.fk_operation.specs.declared.kinds.Joint.TheVariants as joint
 use Rattle.fk_run.specs.Processor.{Processor, Setting, values, last}
+use Rattle.fk_nesting.specs.Behind.{grown}
 use Rattle.fk_run.specs.Local.{local, is_onward}
 use Rattle.fk_run.specs.Request.{with_answer}
-use Rattle.fk_run.specs.Group.{goes_onward}
+use Rattle.fk_run.specs.Group.{does, goes_onward}
 use Rattle.fk_run.specs.Round.{Step, Runner, Acting, taking, done, do_local, local_phase, after_locals}
 use Rattle.fk_lockstep.specs.InStep.{is_agree}
 use Rattle.fk_lockstep.specs.Untouched.{changes_tree}
 use Rattle.fk_lockstep.proofs.Rounds.{Outcome, OutcomeBy}
 use Rattle.fk_together.specs.Course.{Stand, InGroup, Waits, ByItself, Stays, Does, DoesNext, FollowsFor, Follows}
+use Rattle.fk_together.specs.Counts.{Counts, Leaves, CountsGoOn, CountedNext, CountedFor, IsCounted}
 
 pub untrue : {A : Type 0} → false ≡ true → A
 untrue e = absurd (true≢false (sym e))
 
--- what all members of a group have: what is left, and the value on which they have agreed
+-- what all members of a group have: what is left, the value on which they have agreed, and the numbers of parts that are
+-- pending
 pub record Here (W : Type 0) : Type 0 where
   pub left : W
   pub agreed : Option ℕ
+  pub numbers : List ℕ
+
+-- what is told of it further in
+pub record Out (W : Type 0) : Type 0 where
+  pub left : W
+  pub numbers : List ℕ
+
+abbrev pub told : {W : Type 0} → Here W → Out W
+told x = record { left = x.left; numbers = x.numbers }
+
+abbrev pub lefts : {W : Type 0} → List (Out W) → List W
+lefts [] = []
+lefts (x ∷ xs) = x.left ∷ lefts xs
+
+-- where nothing is pending
+abbrev pub bare : {W : Type 0} → List W → List (Out W)
+bare [] = []
+bare (w ∷ ws) = record { left = w; numbers = [] } ∷ bare ws
+
+pub lefts_bare : {W : Type 0} (ws : List W) → lefts (bare ws) ≡ ws
+lefts_bare [] = refl
+lefts_bare (w ∷ ws) = ap (λ (vs : List _). w ∷ vs) (lefts_bare ws)
+
+-- the numbers end with those that are pending behind the part
+abbrev pub Ends : {W : Type 0} → List (Out W) → List ℕ → Type 0
+Ends [] ns = Unit {0}
+Ends (x ∷ xs) ns = (more : List ℕ) × (ns ≡ more ++ x.numbers)
+
+pub ends_more : {W : Type 0} (b : List (Out W)) (first : Bool) (v : ℕ) (ns : List ℕ) → Ends b ns → Ends b (grown first v ns)
+ends_more [] first v ns e = tt
+ends_more (x ∷ xs) true v ns e = (v ∷ e.0, ap (λ (ms : List ℕ). v ∷ ms) e.1)
+ends_more (x ∷ xs) false v ns e = e
 
 abbrev pub HasValue : {W : Type 0} → Option ℕ → Runner W → Type 0
 HasValue None r = Unit {0}
 HasValue (Some v) r = last (values r.has) ≡ v
 
-pub record Is {W : Type 0} (x : Here W) (r : Runner W) : Type 0 where
-  pub left : r.left ≡ x.left
-  pub value : HasValue x.agreed r
+abbrev pub without : {W : Type 0} → W → List ℕ → Here W
+without w ns = record { left = w; agreed = None; numbers = ns }
 
-abbrev pub without : {W : Type 0} → W → Here W
-without w = record { left = w; agreed = None }
+-- what is pending behind a step of the tree that changes nothing in it
+abbrev pub numbers_after : Operation → (before behind value : ℕ) → List ℕ → List ℕ
+numbers_after op m n v ns = if is_agree op then grown (nat_lt m n) v ns else ns
+
+agree_value : (op : Operation) (v size : ℕ) (p : Processor) → is_agree op ≡ true → last (values (does op v size p)) ≡ v
+agree_value o.Agree v size p e = refl
+agree_value op v size p e = untrue e
 
 abbrev pub within : ℕ → Bool
 within zero = false
@@ -69,30 +108,75 @@ some_if : (v : ℕ) (b : Bool) → b ≡ is_some (if b then Some v else None)
 some_if v true = refl
 some_if v false = refl
 
-module _ {W : Type 0} (next : W → Option (Step W)) (outs : W → List W) where
-  pub record Grouped (behind : List W) (x : Here W) : Type 0 where
-    pub outs_are : outs x.left ≡ behind
-    pub follows : Follows next outs (InGroup (is_some x.agreed)) x.left
+module _ {W : Type 0} (next : W → Option (Step W)) (outs : W → List W) (counts : Counts W) where
+  pub record Is (x : Here W) (r : Runner W) : Type 0 where
+    pub left : r.left ≡ x.left
+    pub value : HasValue x.agreed r
+    pub numbers : counts.numbers x.left r.has ≡ x.numbers
+    pub counted : IsCounted next outs counts x.left
 
-  pub record Parted (n : ℕ) (behind : List W) (x : Here W) : Type 0 where
-    pub outs_are : outs x.left ≡ behind
+  -- there are as many as are pending
+  pub record AtNode (behind : List (Out W)) (x : Here W) : Type 0 where
+    pub many : length x.numbers ≡ counts.pending x.left
+    pub ends : Ends behind x.numbers
+
+  pub record Grouped (behind : List (Out W)) (x : Here W) : Type 0 where
+    pub outs_are : outs x.left ≡ lefts behind
+    pub follows : Follows next outs (InGroup (is_some x.agreed)) x.left
+    pub ends : Ends behind x.numbers
+
+  pub record Parted (n : ℕ) (behind : List (Out W)) (x : Here W) : Type 0 where
+    pub outs_are : outs x.left ≡ lefts behind
     pub follows : Follows next outs (Waits (within n)) x.left
     pub unagreed : x.agreed ≡ None
+    pub at : AtNode behind x
 
-  -- who runs by itself has its meeting ahead, or has ended
-  pub record Loner (alone : Bool) (ahead : List W) (w : W) : Type 0 where
-    pub outs_are : outs w ≡ ahead
-    pub follows : Follows next outs (ByItself alone) w
+  -- who runs by itself has its meeting ahead, or has ended. What is pending there is pending all the while
+  pub record Loner (alone : Bool) (ahead : List W) (ns : List ℕ) (Holds : Type 0) (r : Runner W) : Type 0 where
+    pub outs_are : outs r.left ≡ ahead
+    pub follows : Follows next outs (ByItself alone) r.left
+    pub more : List ℕ
+    pub numbers : counts.numbers r.left r.has ≡ more ++ ns
+    pub counted : IsCounted next outs counts r.left
+    pub holds : Holds
 
-  abbrev pub LonerOrNone : (alone : Bool) (ahead : List W) (w : W) → Type 0
-  LonerOrNone alone ahead w = (next w ≡ None) ⊎ Loner alone ahead w
+  abbrev pub LonerOrNone : (alone : Bool) (ahead : List W) (ns : List ℕ) (Holds : Type 0) (r : Runner W) → Type 0
+  LonerOrNone alone ahead ns Holds r = (next r.left ≡ None) ⊎ Loner alone ahead ns Holds r
 
-  abbrev pub ahead_of : ℕ → List W → Here W → List W
-  ahead_of zero behind x = behind
-  ahead_of (suc n) behind x = x.left ∷ behind
+  abbrev pub ahead_of : ℕ → List (Out W) → Here W → List W
+  ahead_of zero behind x = lefts behind
+  ahead_of (suc n) behind x = x.left ∷ lefts behind
 
-  abbrev pub Apart : (n : ℕ) → List W → Here W → Runner W → Type 0
-  Apart n behind x r = LonerOrNone (within n) (ahead_of n behind x) r.left
+  abbrev pub Apart : (n : ℕ) → List (Out W) → Here W → Runner W → Type 0
+  Apart n behind x r = LonerOrNone (within n) (ahead_of n behind x) x.numbers (AtNode behind x) r
+
+  -- what is pending, operation by operation
+  pub counts_so : (w : W) (step : Step W) → IsCounted next outs counts w → next w ≡ Some step → CountsGoOn next outs counts step.operation w step.rest
+  counts_so w step f e = (subst (CountedNext next outs counts (CountedFor next outs counts 0) w) e (f 1)).0
+
+  pub counts_on : (w : W) (step : Step W) → IsCounted next outs counts w → next w ≡ Some step → (onward : Bool) → IsCounted next outs counts (step.rest onward)
+  counts_on w step f e onward n = (subst (CountedNext next outs counts (CountedFor next outs counts n) w) e (f (suc n))).1 onward
+
+  leaves_by : (op : Operation) (w : W) (rest : Bool → W) (c : Class) → class_of op ≡ c → c ≢ Tree → CountsGoOn next outs counts op w rest → Leaves next outs counts c op w rest
+  leaves_by o.Agree w rest c is isnt h = absurd (isnt (sym is))
+  leaves_by (o.Divide by) w rest c is isnt h = absurd (isnt (sym is))
+  leaves_by o.Farm w rest c is isnt h = absurd (isnt (sym is))
+  leaves_by o.Begin w rest c is isnt h = absurd (isnt (sym is))
+  leaves_by op w rest c is isnt h = subst (λ (c' : Class). Leaves next outs counts c' op w rest) is h
+
+  plain_numbers : (op : Operation) (w : W) (rest : Bool → W) → class_of op ≡ Tree → changes_tree op ≡ false → CountsGoOn next outs counts op w rest
+      → (v size : ℕ) (p : Processor) → counts.numbers (rest true) (does op v size p) ≡ numbers_after op (counts.pending w) (counts.pending (rest true)) v (counts.numbers w p)
+  plain_numbers o.Agree w rest is e h v size p = h v p
+  plain_numbers o.Begin w rest is e h v size p = absurd (true≢false e)
+  plain_numbers (o.Divide by) w rest is e h v size p = absurd (true≢false e)
+  plain_numbers o.Shrink w rest is e h v size p = absurd (true≢false e)
+  plain_numbers o.End w rest is e h v size p = absurd (true≢false e)
+  plain_numbers o.Farm w rest is e h v size p = absurd (true≢false e)
+  plain_numbers o.Seq w rest is e h v size p = absurd (true≢false e)
+  plain_numbers o.Resume w rest is e h v size p = absurd (true≢false e)
+  plain_numbers (o.Meet true) w rest is e h v size p = absurd (true≢false e)
+  plain_numbers (o.Meet false) w rest is e h v size p = h v 0 size p
+  plain_numbers op w rest is e h v size p = (subst (λ (c : Class). Leaves next outs counts c op w rest) is h) v 0 size p
 
   pub does_so : (stand : Stand) (w : W) (step : Step W) → Follows next outs stand w → next w ≡ Some step → (n : ℕ) → Does next outs (FollowsFor next outs n) stand step.operation w step.rest
   does_so stand w step f e n = subst (DoesNext next outs (FollowsFor next outs n) stand w) e (f (suc n))
@@ -228,13 +312,19 @@ module _ {W : Type 0} (next : W → Option (Step W)) (outs : W → List W) where
   alone_joint F true op w rest e h = untrue e
   alone_joint F false op w rest e h = untrue e
 
-  pub going_on : (alone : Bool) (ahead : List W) (w : W) → LonerOrNone alone ahead w → (step : Step W) → next w ≡ Some step → Loner alone ahead w
-  going_on alone ahead w h step e = ⊎_elim (λ none. let clash : None ≡ Some step = sym none ∙ e in absurd (cc)) (λ g. g) h
+  pub going_on : (alone : Bool) (ahead : List W) (ns : List ℕ) (Holds : Type 0) (r : Runner W) → LonerOrNone alone ahead ns Holds r → (step : Step W) → next r.left ≡ Some step → Loner alone ahead ns Holds r
+  going_on alone ahead ns Holds r h step e = ⊎_elim (λ none. let clash : None ≡ Some step = sym none ∙ e in absurd (cc)) (λ g. g) h
 
-  pub lone_joint : (alone : Bool) (ahead : List W) (w : W) → LonerOrNone alone ahead w → (step : Step W) → next w ≡ Some step → changes_tree step.operation ≡ true
+  pub lone_joint : (alone : Bool) (ahead : List W) (ns : List ℕ) (Holds : Type 0) (r : Runner W) → LonerOrNone alone ahead ns Holds r → (step : Step W) → next r.left ≡ Some step → changes_tree step.operation ≡ true
       → joint_of step.operation ≢ joint.Alone
-  lone_joint alone ahead w h step e changes =
-      alone_joint (FollowsFor next outs 0) alone step.operation w step.rest changes (does_so (ByItself alone) w step (going_on alone ahead w h step e).follows e 0)
+  lone_joint alone ahead ns Holds r h step e changes =
+      alone_joint (FollowsFor next outs 0) alone step.operation r.left step.rest changes (does_so (ByItself alone) r.left step (going_on alone ahead ns Holds r h step e).follows e 0)
+
+  -- a processor after a step of the tree that changes nothing in it, where the highest member has a value
+  pub record Settles (v : ℕ) (step : Step W) (q r : Runner W) : Type 0 where
+    pub size : ℕ
+    pub left : r.left ≡ step.rest true
+    pub has : r.has ≡ does step.operation v size q.has
 
   module _ (set : Setting) where
     -- a processor takes an operation, and has done it after the phase of requests unless it is a step of the tree
@@ -265,7 +355,7 @@ module _ {W : Type 0} (next : W → Option (Step W)) (outs : W → List W) where
 
     -- what a group has after local operations, as its members have
     abbrev passed : Here W → Class → Step W → Here W
-    passed x Local step = without (step.rest (way x.agreed step.operation))
+    passed x Local step = without (step.rest (way x.agreed step.operation)) x.numbers
     passed x Request step = x
     passed x Tree step = x
 
@@ -280,11 +370,15 @@ module _ {W : Type 0} (next : W → Option (Step W)) (outs : W → List W) where
     -- and at last, where the highest member has a value
     abbrev closed_tree : Here W → (value : ℕ) → Step W → (changes : Bool) → Here W
     closed_tree x v step true = x
-    closed_tree x v step false = record { left = step.rest true; agreed = if is_agree step.operation then Some v else None }
+    closed_tree x v step false = record {
+      left = step.rest true;
+      agreed = if is_agree step.operation then Some v else None;
+      numbers = numbers_after step.operation (counts.pending x.left) (counts.pending (step.rest true)) v x.numbers;
+    }
 
     abbrev closed_class : Here W → (value : ℕ) → Class → Step W → Here W
-    closed_class x v Local step = without (step.rest (way x.agreed step.operation))
-    closed_class x v Request step = without (step.rest true)
+    closed_class x v Local step = without (step.rest (way x.agreed step.operation)) x.numbers
+    closed_class x v Request step = without (step.rest true) x.numbers
     closed_class x v Tree step = closed_tree x v step (changes_tree step.operation)
 
     abbrev closed_by : Here W → (value : ℕ) → Option (Step W) → Here W
@@ -301,22 +395,34 @@ module _ {W : Type 0} (next : W → Option (Step W)) (outs : W → List W) where
     request_not_tree e = cc
 
     -- one more operation that is no step of the tree
-    one_more : (behind : List W) (x : Here W) → Grouped behind x → (step : Step W) → next x.left ≡ Some step → (c : Class) → class_of step.operation ≡ c → c ≢ Tree
-        → (onward : Bool) → Grouped behind (without (step.rest onward))
+    one_more : (behind : List (Out W)) (x : Here W) → Grouped behind x → (step : Step W) → next x.left ≡ Some step → (c : Class) → class_of step.operation ≡ c → c ≢ Tree
+        → (onward : Bool) → Grouped behind (without (step.rest onward) x.numbers)
     one_more behind x g step e c is isnt onward =
         let so = does_so (InGroup (is_some x.agreed)) x.left step g.follows e in
         record {
           outs_are = (group_stays (FollowsFor next outs 0) (is_some x.agreed) step.operation x.left step.rest c is isnt (so 0) onward).0 ∙ g.outs_are;
           follows = λ n. (group_stays (FollowsFor next outs n) (is_some x.agreed) step.operation x.left step.rest c is isnt (so n) onward).1;
+          ends = g.ends;
         }
 
-    goes_way : (behind : List W) (x : Here W) → Grouped behind x → (r : Runner W) → Is x r → (step : Step W) → next x.left ≡ Some step → is_onward step.operation r.has ≡ way x.agreed step.operation
+    -- and what is pending then
+    one_local : (x : Here W) (r : Runner W) → Is x r → (step : Step W) → next x.left ≡ Some step → class_of step.operation ≡ Local → (onward : Bool)
+        → counts.numbers (step.rest onward) (local set step.operation r.has) ≡ x.numbers
+    one_local x r is step e c onward =
+        leaves_by step.operation x.left step.rest Local c local_not_tree (counts_so x.left step is.counted e) set onward r.has ∙ is.numbers
+
+    one_request : (x : Here W) (r : Runner W) → Is x r → (step : Step W) → next x.left ≡ Some step → class_of step.operation ≡ Request → (a : ℕ)
+        → counts.numbers (step.rest true) (with_answer step.operation a r.has) ≡ x.numbers
+    one_request x r is step e c a =
+        leaves_by step.operation x.left step.rest Request c request_not_tree (counts_so x.left step is.counted e) a r.has ∙ is.numbers
+
+    goes_way : (behind : List (Out W)) (x : Here W) → Grouped behind x → (r : Runner W) → Is x r → (step : Step W) → next x.left ≡ Some step → is_onward step.operation r.has ≡ way x.agreed step.operation
     goes_way behind x g r is step e =
         onward_is x.agreed step.operation r
         (λ onward op. group_branch (FollowsFor next outs 0) (is_some x.agreed) step.operation x.left step.rest onward op (does_so (InGroup (is_some x.agreed)) x.left step g.follows e 0))
         is.value
 
-    passed_grouped : (behind : List W) (x : Here W) → Grouped behind x → (due : Option (Step W)) → next x.left ≡ due → Grouped behind (passed_by x due)
+    passed_grouped : (behind : List (Out W)) (x : Here W) → Grouped behind x → (due : Option (Step W)) → next x.left ≡ due → Grouped behind (passed_by x due)
     passed_grouped behind x g None e = g
     passed_grouped behind x g (Some step) e = by (class_of step.operation) refl
       where
@@ -325,21 +431,26 @@ module _ {W : Type 0} (next : W → Option (Step W)) (outs : W → List W) where
         by Request is = g
         by Tree is = g
 
-    passed_is : (behind : List W) (x : Here W) → Grouped behind x → (r : Runner W) → Is x r → (due : Option (Step W)) → next x.left ≡ due
+    passed_is : (behind : List (Out W)) (x : Here W) → Grouped behind x → (r : Runner W) → Is x r → (due : Option (Step W)) → next x.left ≡ due
         → Is (passed_by x due) (local_phase next set (taking r due) due).runner
     passed_is behind x g r is None e = is
-    passed_is behind x g r is (Some step) e = by (class_of step.operation)
+    passed_is behind x g r is (Some step) e = by (class_of step.operation) refl
       where
-        by : (c : Class) → Is (passed x c step) (do_local next set (taking r (Some step)) c step).runner
-        by Local = record { left = ap step.rest (goes_way behind x g r is step e); value = tt }
-        by Request = is
-        by Tree = is
+        by : (c : Class) → class_of step.operation ≡ c → Is (passed x c step) (do_local next set (taking r (Some step)) c step).runner
+        by Local c = record {
+          left = ap step.rest (goes_way behind x g r is step e);
+          value = tt;
+          numbers = one_local x r is step e c (way x.agreed step.operation);
+          counted = counts_on x.left step is.counted e (way x.agreed step.operation);
+        }
+        by Request c = is
+        by Tree c = is
 
-    pub passing_grouped : (count : ℕ) (behind : List W) (x : Here W) → Grouped behind x → Grouped behind (after_passing count x)
+    pub passing_grouped : (count : ℕ) (behind : List (Out W)) (x : Here W) → Grouped behind x → Grouped behind (after_passing count x)
     passing_grouped zero behind x g = g
     passing_grouped (suc c) behind x g = passing_grouped c behind (passed_by x (next x.left)) (passed_grouped behind x g (next x.left) refl)
 
-    pub passing_is : (count : ℕ) (behind : List W) (x : Here W) → Grouped behind x → (r : Runner W) → Is x r → Is (after_passing count x) (after_locals next set count r)
+    pub passing_is : (count : ℕ) (behind : List (Out W)) (x : Here W) → Grouped behind x → (r : Runner W) → Is x r → Is (after_passing count x) (after_locals next set count r)
     passing_is zero behind x g r is = is
     passing_is (suc c) behind x g r is =
         let x' = passed_by x (next x.left) in
@@ -348,7 +459,7 @@ module _ {W : Type 0} (next : W → Option (Step W)) (outs : W → List W) where
         = subst (λ (d : Option (Step W)). Is x' (local_phase next set (taking r d) d).runner) (sym (ap next is.left)) (passed_is behind x g r is due refl) in
         passing_is c behind x' (passed_grouped behind x g due refl) (local_phase next set (taking r (next r.left)) (next r.left)).runner one
 
-    pub closed_grouped : (v : ℕ) (behind : List W) (x : Here W) → Grouped behind x → Grouped behind (closed v x)
+    pub closed_grouped : (v : ℕ) (behind : List (Out W)) (x : Here W) → Grouped behind x → Grouped behind (closed v x)
     closed_grouped v behind x g = by (next x.left) refl
       where
         by_tree : (step : Step W) → next x.left ≡ Some step → class_of step.operation ≡ Tree → (changes : Bool) → changes_tree step.operation ≡ changes → Grouped behind (closed_tree x v step changes)
@@ -360,7 +471,12 @@ module _ {W : Type 0} (next : W → Option (Step W)) (outs : W → List W) where
               outs_are = (group_plain (FollowsFor next outs 0) (is_some x.agreed) step.operation x.left step.rest is quiet (so 0) true).0 ∙ g.outs_are;
               follows = λ n. subst (λ (b : Bool). FollowsFor next outs n (InGroup b) (step.rest true)) same
                   (group_plain (FollowsFor next outs n) (is_some x.agreed) step.operation x.left step.rest is quiet (so n) true).1;
+              ends = ends_after (is_agree step.operation) (nat_lt (counts.pending x.left) (counts.pending (step.rest true)));
             }
+          where
+            ends_after : (agrees first : Bool) → Ends behind (if agrees then grown first v x.numbers else x.numbers)
+            ends_after true first = ends_more behind first v x.numbers g.ends
+            ends_after false first = g.ends
 
         by_class : (step : Step W) → next x.left ≡ Some step → (c : Class) → class_of step.operation ≡ c → Grouped behind (closed_class x v c step)
         by_class step e Local is = one_more behind x g step e Local is local_not_tree (way x.agreed step.operation)
@@ -376,18 +492,34 @@ module _ {W : Type 0} (next : W → Option (Step W)) (outs : W → List W) where
       abbrev pub quietly : Acting W → Runner W
       quietly b = if is_changing b.due then b.runner else settle b.runner b.due
 
-      module _ (behind : List W) (x : Here W) (g : Grouped behind x) (v : ℕ) (q : Runner W) (is : Is x q)
+      module _ (behind : List (Out W)) (x : Here W) (g : Grouped behind x) (v : ℕ) (q : Runner W) (is : Is x q)
           (none : (r : Runner W) → settle r None ≡ r)
-          (some : (step : Step W) → changes_tree step.operation ≡ false → Is (record { left = step.rest true; agreed = if is_agree step.operation then Some v else None }) (settle q (Some step))) where
+          (some : (step : Step W) → changes_tree step.operation ≡ false → Settles v step q (settle q (Some step))) where
         along : (due : Option (Step W)) → next x.left ≡ due → (r : Runner W) → Is (closed_by x v due) r → Is (closed v x) r
         along due e r h = subst (λ (d : Option (Step W)). Is (closed_by x v d) r) (sym e) h
 
         along_class : (step : Step W) → next q.left ≡ Some step → (c : Class) → class_of step.operation ≡ c → (r : Runner W) → Is (closed_class x v c step) r → Is (closed v x) r
         along_class step e c e' r h = along (Some step) (sym (ap next is.left) ∙ e) r (subst (λ (c' : Class). Is (closed_class x v c' step) r) (sym e') h)
 
-        by_changes : (step : Step W) (changes : Bool) → changes_tree step.operation ≡ changes → Is (closed_tree x v step changes) (if changes then q else settle q (Some step))
-        by_changes step true e = is
-        by_changes step false e = some step e
+        by_changes : (step : Step W) → next x.left ≡ Some step → class_of step.operation ≡ Tree → (changes : Bool) → changes_tree step.operation ≡ changes
+            → Is (closed_tree x v step changes) (if changes then q else settle q (Some step))
+        by_changes step stands tree true e = is
+        by_changes step stands tree false e =
+            let so = some step e in
+            let m = counts.pending x.left in
+            let n = counts.pending (step.rest true) in
+            record {
+              left = so.left;
+              value = value_by (is_agree step.operation) (λ agrees. ap (λ (p : Processor). last (values p)) so.has ∙ agree_value step.operation v so.size q.has agrees);
+              numbers = ap (counts.numbers (step.rest true)) so.has
+                  ∙ plain_numbers step.operation x.left step.rest tree e (counts_so x.left step is.counted stands) v so.size q.has
+                  ∙ ap (numbers_after step.operation m n v) is.numbers;
+              counted = counts_on x.left step is.counted stands true;
+            }
+          where
+            value_by : (agrees : Bool) → (agrees ≡ true → last (values (settle q (Some step)).has) ≡ v) → HasValue (if agrees then Some v else None) (settle q (Some step))
+            value_by true f = f refl
+            value_by false f = tt
 
         pub closed_is : (b : Acting W) → Outcome (taken_by q) (taken_by q).due b → Is (closed v x) (quietly b)
         closed_is b out =
@@ -395,49 +527,98 @@ module _ {W : Type 0} (next : W → Option (Step W)) (outs : W → List W) where
             (λ e. along None (sym (ap next is.left) ∙ e) (settle q None) (subst (Is x) (sym (none q)) is))
             (λ step e c.
             let r = (done step (is_onward step.operation q.has) (local set step.operation q.has)).runner in
+            let stands : next x.left ≡ Some step = sym (ap next is.left) ∙ e in
             along_class step e Local c (settle r None)
-            (subst (Is (without (step.rest (way x.agreed step.operation)))) (sym (none r))
-            (record { left = ap step.rest (goes_way behind x g q is step (sym (ap next is.left) ∙ e)); value = tt })))
+            (subst (Is (without (step.rest (way x.agreed step.operation)) x.numbers)) (sym (none r))
+            (record {
+              left = ap step.rest (goes_way behind x g q is step stands);
+              value = tt;
+              numbers = one_local x q is step stands c (way x.agreed step.operation);
+              counted = counts_on x.left step is.counted stands (way x.agreed step.operation);
+            })))
             (λ step a e c.
             let r = (done step true (with_answer step.operation a q.has)).runner in
+            let stands : next x.left ≡ Some step = sym (ap next is.left) ∙ e in
             along_class step e Request c (settle r None)
-            (subst (Is (without (step.rest true))) (sym (none r)) (record { left = refl; value = tt })))
-            (λ step e c. along_class step e Tree c (if changes_tree step.operation then q else settle q (Some step)) (by_changes step (changes_tree step.operation) refl))
+            (subst (Is (without (step.rest true) x.numbers)) (sym (none r))
+            (record { left = refl; value = tt; numbers = one_request x q is step stands c a; counted = counts_on x.left step is.counted stands true })))
+            (λ step e c.
+            along_class step e Tree c (if changes_tree step.operation then q else settle q (Some step))
+            (by_changes step (sym (ap next is.left) ∙ e) c (changes_tree step.operation) refl))
             out
 
       -- by itself
-      module _ (alone : Bool) (ahead : List W) where
+      module _ (alone : Bool) (ahead : List W) (ns : List ℕ) (Holds : Type 0) where
         abbrev Lone : Runner W → Type 0
-        Lone r = LonerOrNone alone ahead r.left
+        Lone r = LonerOrNone alone ahead ns Holds r
 
-        lone_stays : (w : W) → Loner alone ahead w → (step : Step W) → next w ≡ Some step → (c : Class) → class_of step.operation ≡ c → c ≢ Tree → (onward : Bool) → Loner alone ahead (step.rest onward)
-        lone_stays w g step e c is isnt onward =
-            let so = does_so (ByItself alone) w step g.follows e in
+        abbrev IsLone : Runner W → Type 0
+        IsLone r = Loner alone ahead ns Holds r
+
+        lone_local : (r : Runner W) → IsLone r → (step : Step W) → next r.left ≡ Some step → class_of step.operation ≡ Local
+            → IsLone (done step (is_onward step.operation r.has) (local set step.operation r.has)).runner
+        lone_local r g step e is =
+            let onward = is_onward step.operation r.has in
+            let so = does_so (ByItself alone) r.left step g.follows e in
             record {
-              outs_are = (alone_stays (FollowsFor next outs 0) alone step.operation w step.rest c is isnt (so 0) onward).0 ∙ g.outs_are;
-              follows = λ n. (alone_stays (FollowsFor next outs n) alone step.operation w step.rest c is isnt (so n) onward).1;
+              outs_are = (alone_stays (FollowsFor next outs 0) alone step.operation r.left step.rest Local is local_not_tree (so 0) onward).0 ∙ g.outs_are;
+              follows = λ n. (alone_stays (FollowsFor next outs n) alone step.operation r.left step.rest Local is local_not_tree (so n) onward).1;
+              more = g.more;
+              numbers = leaves_by step.operation r.left step.rest Local is local_not_tree (counts_so r.left step g.counted e) set onward r.has ∙ g.numbers;
+              counted = counts_on r.left step g.counted e onward;
+              holds = g.holds;
             }
 
-        lone_plain : (w : W) → Loner alone ahead w → (step : Step W) → next w ≡ Some step → changes_tree step.operation ≡ false → (onward : Bool) → LonerOrNone alone ahead (step.rest onward)
-        lone_plain w g step e quiet onward =
-            let so = does_so (ByItself alone) w step g.follows e in
+        lone_request : (r : Runner W) → IsLone r → (step : Step W) → next r.left ≡ Some step → class_of step.operation ≡ Request → (a : ℕ)
+            → IsLone (done step true (with_answer step.operation a r.has)).runner
+        lone_request r g step e is a =
+            let so = does_so (ByItself alone) r.left step g.follows e in
+            record {
+              outs_are = (alone_stays (FollowsFor next outs 0) alone step.operation r.left step.rest Request is request_not_tree (so 0) true).0 ∙ g.outs_are;
+              follows = λ n. (alone_stays (FollowsFor next outs n) alone step.operation r.left step.rest Request is request_not_tree (so n) true).1;
+              more = g.more;
+              numbers = leaves_by step.operation r.left step.rest Request is request_not_tree (counts_so r.left step g.counted e) a r.has ∙ g.numbers;
+              counted = counts_on r.left step g.counted e true;
+              holds = g.holds;
+            }
+
+        lone_plain : (r : Runner W) → IsLone r → (step : Step W) → next r.left ≡ Some step → class_of step.operation ≡ Tree → changes_tree step.operation ≡ false
+            → (v : ℕ) (r' : Runner W) → Settles v step r r' → Lone r'
+        lone_plain r g step e tree quiet v r' t =
+            let so = does_so (ByItself alone) r.left step g.follows e in
             ⊎_elim
-            (λ halt. inl (alone_halt (FollowsFor next outs 0) alone step.operation w step.rest halt (so 0) onward))
+            (λ halt. inl (ap next t.left ∙ alone_halt (FollowsFor next outs 0) alone step.operation r.left step.rest halt (so 0) true))
             (λ other. inr (record {
-              outs_are = (alone_plain (FollowsFor next outs 0) alone step.operation w step.rest quiet other (so 0) onward).0 ∙ g.outs_are;
-              follows = λ n. (alone_plain (FollowsFor next outs n) alone step.operation w step.rest quiet other (so n) onward).1;
+              outs_are = ap outs t.left ∙ (alone_plain (FollowsFor next outs 0) alone step.operation r.left step.rest quiet other (so 0) true).0 ∙ g.outs_are;
+              follows = λ n. subst (FollowsFor next outs n (ByItself alone)) (sym t.left) (alone_plain (FollowsFor next outs n) alone step.operation r.left step.rest quiet other (so n) true).1;
+              more = more_by (is_agree step.operation) (nat_lt (counts.pending r.left) (counts.pending (step.rest true)));
+              numbers = ap (λ (w : W). counts.numbers w r'.has) t.left ∙ ap (counts.numbers (step.rest true)) t.has
+                  ∙ plain_numbers step.operation r.left step.rest tree quiet (counts_so r.left step g.counted e) v t.size r.has
+                  ∙ ap (numbers_after step.operation (counts.pending r.left) (counts.pending (step.rest true)) v) g.numbers
+                  ∙ more_is (is_agree step.operation) (nat_lt (counts.pending r.left) (counts.pending (step.rest true)));
+              counted = subst (IsCounted next outs counts) (sym t.left) (counts_on r.left step g.counted e true);
+              holds = g.holds;
             }))
             (halts alone step.operation)
+          where
+            more_by : (agrees first : Bool) → List ℕ
+            more_by true first = grown first v g.more
+            more_by false first = g.more
 
-        goes : (w : W) → LonerOrNone alone ahead w → (step : Step W) → next w ≡ Some step → Loner alone ahead w
-        goes w h step e = going_on alone ahead w h step e
+            more_is : (agrees first : Bool) → (if agrees then grown first v (g.more ++ ns) else g.more ++ ns) ≡ more_by agrees first ++ ns
+            more_is true true = refl
+            more_is true false = refl
+            more_is false first = refl
+
+        goes : (r : Runner W) → Lone r → (step : Step W) → next r.left ≡ Some step → IsLone r
+        goes r h step e = going_on alone ahead ns Holds r h step e
 
         lone_one : (r : Runner W) → Lone r → (due : Option (Step W)) → next r.left ≡ due → Lone (local_phase next set (taking r due) due).runner
         lone_one r h None e = h
         lone_one r h (Some step) e = by (class_of step.operation) refl
           where
             by : (c : Class) → class_of step.operation ≡ c → Lone (do_local next set (taking r (Some step)) c step).runner
-            by Local is = inr (lone_stays r.left (goes r.left h step e) step e Local is local_not_tree (is_onward step.operation r.has))
+            by Local is = inr (lone_local r (goes r h step e) step e is)
             by Request is = h
             by Tree is = h
 
@@ -445,25 +626,25 @@ module _ {W : Type 0} (next : W → Option (Step W)) (outs : W → List W) where
         lone_many zero r h = h
         lone_many (suc c) r h = lone_many c (local_phase next set (taking r (next r.left)) (next r.left)).runner (lone_one r h (next r.left) refl)
 
-        pub lone_closed : (q : Runner W) → Lone q → ((r : Runner W) → settle r None ≡ r)
-            → ((step : Step W) → changes_tree step.operation ≡ false → (settle q (Some step)).left ≡ step.rest true)
+        pub lone_closed : (q : Runner W) → Lone q → ((r : Runner W) → settle r None ≡ r) → (v : ℕ)
+            → ((step : Step W) → changes_tree step.operation ≡ false → Settles v step q (settle q (Some step)))
             → (b : Acting W) → Outcome (taken_by q) (taken_by q).due b → Lone (quietly b)
-        lone_closed q h none some b out =
+        lone_closed q h none v some b out =
             acting_elim (λ (a : Acting W). Lone (quietly a)) q b
             (λ e. subst Lone (sym (none q)) h)
             (λ step e c. subst Lone (sym (none (done step (is_onward step.operation q.has) (local set step.operation q.has)).runner))
-            (inr (lone_stays q.left (goes q.left h step e) step e Local c local_not_tree (is_onward step.operation q.has))))
+            (inr (lone_local q (goes q h step e) step e c)))
             (λ step a e c. subst Lone (sym (none (done step true (with_answer step.operation a q.has)).runner))
-            (inr (lone_stays q.left (goes q.left h step e) step e Request c request_not_tree true)))
-            (λ step e c. by_tree step e (changes_tree step.operation) refl)
+            (inr (lone_request q (goes q h step e) step e c a)))
+            (λ step e c. by_tree step e c (changes_tree step.operation) refl)
             out
           where
-            by_tree : (step : Step W) → next q.left ≡ Some step → (changes : Bool) → changes_tree step.operation ≡ changes → Lone (if changes then q else settle q (Some step))
-            by_tree step e true quiet = h
-            by_tree step e false quiet = subst (LonerOrNone alone ahead) (sym (some step quiet)) (lone_plain q.left (goes q.left h step e) step e quiet true)
+            by_tree : (step : Step W) → next q.left ≡ Some step → class_of step.operation ≡ Tree → (changes : Bool) → changes_tree step.operation ≡ changes → Lone (if changes then q else settle q (Some step))
+            by_tree step e tree true quiet = h
+            by_tree step e tree false quiet = lone_plain q (goes q h step e) step e tree quiet v (settle q (Some step)) (some step quiet)
 
       -- where it waits
-      module _ (n : ℕ) (behind : List W) (x : Here W) (g : Parted n behind x) where
+      module _ (n : ℕ) (behind : List (Out W)) (x : Here W) (g : Parted n behind x) where
         pub resumes : (step : Step W) → next x.left ≡ Some step → step.operation ≡ o.Resume
         resumes step e =
             waits_resume (FollowsFor next outs 0) (within n) step.operation x.left step.rest (does_so (Waits (within n)) x.left step g.follows e 0)

@@ -1,5 +1,5 @@
 -- What a round leaves before the steps that change the tree: who does none of them has gone on.
-use Rattle.std.proofs.Common.{◌≡◌, ◌≢◌, ◌⊎◌, inl, inr, ⊎_elim, ℕ, zero, suc, ◌+◌, ◌<◌, ◌==◌, ◌&&◌, ◌||◌, Bool, true, false, true≢false, List, [], ◌∷◌, length, map, slice_get, Option, Some, None, refl, sym, ap, ◌∙◌, subst, subst₂, arith, if◌then◌else◌}
+use Rattle.std.proofs.Common.{◌≡◌, ◌≢◌, ◌⊎◌, inl, inr, ⊎_elim, ℕ, zero, suc, ◌+◌, ◌<◌, ◌==◌, ◌&&◌, ◌||◌, Bool, true, false, true≢false, List, [], ◌∷◌, length, map, slice_get, Option, Some, None, refl, sym, ap, ◌∙◌, subst, subst₂, arith}
 use Rattle.std.specs.Prelude.{slice_index, option_map, is_none}
 use Rattle.std.specs.List.{list_all}
 use Rattle.std.proofs.lemmas.Bool.{cases_eq, and_parts, eqb-true, eq-eqb}
@@ -19,17 +19,17 @@ use Rattle.fk_tree.specs.Tree.{Tree, members, parent, kind, is_member, ready}
 use Rattle.fk_tree.specs.Sound.{Has, awaits}
 use Rattle.fk_tree.proofs.Shapes.{has_some}
 use Rattle.fk_tree.proofs.Turns.{IsLeaf, leaf_by, leaf_ready, idle-lockstep, idle-asynchronous}
-use Rattle.fk_run.specs.Processor.{Processor, Setting}
-use Rattle.fk_run.specs.Group.{does, goes_onward}
+use Rattle.fk_run.specs.Processor.{Setting}
+use Rattle.fk_run.specs.Group.{does}
 use Rattle.fk_run.specs.Round.{Step, Runner, Fault, State, Round, Acting, Phase, Passes, Breaks, Phases, taking, joint_due, joint_at, same_joint, all_do, joins, do_local, fits_kind, fits, all_fit, after_phase, all_requests, request_phase, lowest, agreed, who, all_changes, settled_by, settled, local_phase, after_locals, begin, begin_all, asking, may_act, all_may_act, result, is_allowed, is_possible}
 use Rattle.fk_run.proofs.Stopped.{phase_fault}
-use Rattle.fk_lockstep.specs.InStep.{is_agree}
 use Rattle.fk_lockstep.specs.Untouched.{changes_tree}
 use Rattle.fk_lockstep.proofs.Rounds.{Outcome, begin_at, map_at, asked_at}
 use Rattle.fk_lockstep.proofs.Moves.{local_number, answer_number}
+use Rattle.fk_together.specs.Counts.{Counts}
 use Rattle.fk_together.specs.OneProgram.{groups_of}
 use Rattle.fk_together.proofs.Sizes.{local_groups, answer_groups}
-use Rattle.fk_together.proofs.Acting.{untrue, Here, HasValue, Is, within, plain_way, Grouped, Parted, ahead_of, Apart, taken_by, acting_elim, after_passing, closed, passing_grouped, passing_is, closed_grouped, quietly, closed_is, lone_many, lone_closed, lone_joint, wait_many, wait_closed, resumes}
+use Rattle.fk_together.proofs.Acting.{untrue, Here, Out, told, Is, AtNode, Settles, within, plain_way, Grouped, Parted, ahead_of, Apart, taken_by, acting_elim, after_passing, closed, passing_grouped, passing_is, closed_grouped, quietly, closed_is, lone_many, lone_closed, lone_joint, wait_many, wait_closed, resumes}
 use Rattle.fk_together.proofs.Trees.{NodeIs, IsThere, Inv, leaf_place}
 
 -- lists
@@ -174,7 +174,7 @@ joint_class (o.Meet true) alone = refl
 joint_class (o.Meet false) alone = refl
 joint_class op alone = absurd (alone refl)
 
-module _ {W : Type 0} (next : W → Option (Step W)) (outs : W → List W) (set : Setting) (round : Round) (s : State W) where
+module _ {W : Type 0} (next : W → Option (Step W)) (outs : W → List W) (counts : Counts W) (set : Setting) (round : Round) (s : State W) where
   abbrev pub phases : Phases W
   phases = all_requests 0 (asking next set round s.runners) s.store
 
@@ -193,15 +193,15 @@ module _ {W : Type 0} (next : W → Option (Step W)) (outs : W → List W) (set 
   abbrev pub has_at : ℕ → Option (Runner W)
   has_at h = slice_get s.runners h
 
-  abbrev pub Sound : (p : ℕ) (tree : Tree) (has : ℕ → Option (Runner W)) (here : ℕ → Here W) (behind : ℕ → List W) → Type 0
-  Sound p tree has here behind = Inv (λ (x : Here W). x.left) (Grouped next outs) (Parted next outs) (Apart next outs) Is p tree has here behind
+  abbrev pub Sound : (p : ℕ) (tree : Tree) (has : ℕ → Option (Runner W)) (here : ℕ → Here W) (behind : ℕ → List (Out W)) → Type 0
+  Sound p tree has here behind = Inv (told {W = W}) (Grouped next outs counts) (Parted next outs counts) (Apart next outs counts) (Is next outs counts) p tree has here behind
 
   -- runners stand in the order of their numbers
   pub record Ordered (p : ℕ) : Type 0 where
     pub many : length s.runners ≡ p
     pub numbers : (h : ℕ) (r : Runner W) → slice_get s.runners h ≡ Some r → r.has.number ≡ h
 
-  module _ (p : ℕ) (here : ℕ → Here W) (behind : ℕ → List W) (inv : Sound p old has_at here behind) (ordered : Ordered p) (possible : is_possible next set round s ≡ true) where
+  module _ (p : ℕ) (here : ℕ → Here W) (behind : ℕ → List (Out W)) (inv : Sound p old has_at here behind) (ordered : Ordered p) (possible : is_possible next set round s ≡ true) where
     both_possible : (is_none s.fault && is_allowed next set round s ≡ true) × (is_none (result next set round s).fault ≡ true)
     both_possible = and_parts (is_none s.fault && is_allowed next set round s) (is_none (result next set round s).fault) possible
 
@@ -259,7 +259,7 @@ module _ {W : Type 0} (next : W → Option (Step W)) (outs : W → List W) (set 
     idles : (h : ℕ) (a : Acts h) → a.count ≡ 0 → a.acting ≡ taking a.runner None
     idles h a e = subst (λ (c : ℕ). Outcome (asked c a.runner) (asked c a.runner).due a.acting) e a.comes
 
-    takes : (h : ℕ) (a : Acts h) (c : ℕ) → a.count ≡ suc c → Outcome (taken_by next outs set (after_locals next set c a.runner)) (taken_by next outs set (after_locals next set c a.runner)).due a.acting
+    takes : (h : ℕ) (a : Acts h) (c : ℕ) → a.count ≡ suc c → Outcome (taken_by next outs counts set (after_locals next set c a.runner)) (taken_by next outs counts set (after_locals next set c a.runner)).due a.acting
     takes h a c e = subst (λ (c' : ℕ). Outcome (asked c' a.runner) (asked c' a.runner).due a.acting) e a.comes
 
     q_number : (h : ℕ) (a : Acts h) (c : ℕ) → (after_locals next set c a.runner).has.number ≡ h
@@ -278,7 +278,7 @@ module _ {W : Type 0} (next : W → Option (Step W)) (outs : W → List W) (set 
         (λ none. subst (λ (b' : Acting W). b'.runner.has.number ≡ h) (sym (idles h a none)) (ordered.numbers h a.runner a.is))
         (λ d.
         let q = after_locals next set d.0 a.runner in
-        acting_elim next outs set (λ (b' : Acting W). b'.runner.has.number ≡ h) q a.acting
+        acting_elim next outs counts set (λ (b' : Acting W). b'.runner.has.number ≡ h) q a.acting
         (λ e. q_number h a d.0)
         (λ step e c. local_number set step.operation q.has ∙ q_number h a d.0)
         (λ step v e c. answer_number step.operation v q.has ∙ q_number h a d.0)
@@ -297,7 +297,7 @@ module _ {W : Type 0} (next : W → Option (Step W)) (outs : W → List W) (set 
         (λ d.
         let q = after_locals next set d.0 a.runner in
         let before : groups_of q.has ≡ groups_of a.runner.has = locals_groups next set d.0 a.runner in
-        acting_elim next outs set (λ (b' : Acting W). groups_of b'.runner.has ≡ groups_of a.runner.has) q a.acting
+        acting_elim next outs counts set (λ (b' : Acting W). groups_of b'.runner.has ≡ groups_of a.runner.has) q a.acting
         (λ e. before)
         (λ step e c. local_groups set step.operation q.has ∙ before)
         (λ step v e c. answer_groups step.operation v q.has ∙ before)
@@ -322,7 +322,7 @@ module _ {W : Type 0} (next : W → Option (Step W)) (outs : W → List W) (set 
         (λ none. no_step step (sym (ap (λ (b : Acting W). b.due) (idles h a none)) ∙ due))
         (λ d.
         let q = after_locals next set d.0 a.runner in
-        acting_elim next outs set (λ (b : Acting W). b ≡ a.acting → Due h a step) q a.acting
+        acting_elim next outs counts set (λ (b : Acting W). b ≡ a.acting → Due h a step) q a.acting
         (λ e same. no_step step (ap (λ (b : Acting W). b.due) same ∙ due))
         (λ step' e c same. no_step step (ap (λ (b : Acting W). b.due) same ∙ due))
         (λ step' v e c same. no_step step (ap (λ (b : Acting W). b.due) same ∙ due))
@@ -337,7 +337,7 @@ module _ {W : Type 0} (next : W → Option (Step W)) (outs : W → List W) (set 
         → a.acting.due ≡ Some step
     due_by h a c step e stands tree =
         let q = after_locals next set c a.runner in
-        acting_elim next outs set (λ (b : Acting W). b.due ≡ Some step) q a.acting
+        acting_elim next outs counts set (λ (b : Acting W). b.due ≡ Some step) q a.acting
         (λ none. no_step step (sym none ∙ stands))
         (λ step' e' c'. let same : step' ≡ step = first_is step' step (sym e' ∙ stands) in clash step' step same c' tree)
         (λ step' v e' c'. let same : step' ≡ step = first_is step' step (sym e' ∙ stands) in clash' step' step same c' tree)
@@ -367,7 +367,7 @@ module _ {W : Type 0} (next : W → Option (Step W)) (outs : W → List W) (set 
       group_leaf = leaf_by p n Lockstep old inv.sound idle-lockstep locked
 
       group_place : (h : ℕ) → Has old n h → old.places h ≡ n
-      group_place h is = leaf_place (λ (x : Here W). x.left) (Grouped next outs) (Parted next outs) (Apart next outs) Is p old has_at here behind inv n group_leaf h is
+      group_place h is = leaf_place (told {W = W}) (Grouped next outs counts) (Parted next outs counts) (Apart next outs counts) (Is next outs counts) p old has_at here behind inv n group_leaf h is
 
       with_one : (g h : ℕ) (a : Acts g) (b : Acts h) → Has old n g → Has old n h → (c : ℕ) → a.count ≡ suc c → b.count ≡ suc c
       with_one g h a b in_g in_h c e =
@@ -393,7 +393,7 @@ module _ {W : Type 0} (next : W → Option (Step W)) (outs : W → List W) (set 
 
     abbrev counted_here : (count n : ℕ) → Here W
     counted_here zero n = here n
-    counted_here (suc c) n = closed next outs set (value n) (after_passing next outs set c (here n))
+    counted_here (suc c) n = closed next outs counts set (value n) (after_passing next outs counts set c (here n))
 
     abbrev here_by : Option Kind → ℕ → Here W
     here_by None n = here n
@@ -405,7 +405,7 @@ module _ {W : Type 0} (next : W → Option (Step W)) (outs : W → List W) (set 
     now_here n = here_by (kind old n) n
 
     abbrev pub quiet : Acting W → Runner W
-    quiet b = quietly next outs set settle b
+    quiet b = quietly next outs counts set settle b
 
     abbrev pub now_has : ℕ → Option (Runner W)
     now_has h = option_map quiet (slice_get actings h)
@@ -413,32 +413,25 @@ module _ {W : Type 0} (next : W → Option (Step W)) (outs : W → List W) (set 
     plain_left : (r : Runner W) (step : Step W) → changes_tree step.operation ≡ false → (settle r (Some step)).left ≡ step.rest true
     plain_left r step e = ap step.rest (plain_way step.operation (agreed actings (members old (old.places r.has.number))) (lowest (members old (old.places r.has.number))) r.has e)
 
-    value_is : (op : Operation) (v v' size : ℕ) (w : W) (q : Processor) → v' ≡ v
-        → HasValue (if is_agree op then Some v else None) (let r : Runner W = record { left = w; has = does op v' size q } in r)
-    value_is o.Agree v v' size w q e = e
-    value_is op v v' size w q e = tt
+    settles : (v : ℕ) (r : Runner W) → agreed actings (members old (old.places r.has.number)) ≡ v → (step : Step W) → changes_tree step.operation ≡ false
+        → Settles next outs counts v step r (settle r (Some step))
+    settles v r same step e = record {
+      size = length (members new (new.places r.has.number));
+      left = plain_left r step e;
+      has = ap (λ (v' : ℕ). does step.operation v' (length (members new (new.places r.has.number))) r.has) same;
+    }
 
-    plain_is : (n : ℕ) (r : Runner W) → old.places r.has.number ≡ n → (step : Step W) → changes_tree step.operation ≡ false
-        → Is (record { left = step.rest true; agreed = if is_agree step.operation then Some (value n) else None }) (settle r (Some step))
-    plain_is n r place step e =
-        let m = old.places r.has.number in
-        record {
-          left = plain_left r step e;
-          value = value_is step.operation (value n) (agreed actings (members old m)) (length (members new (new.places r.has.number)))
-              (step.rest (goes_onward step.operation (agreed actings (members old m)) (lowest (members old m)) r.has)) r.has (ap (λ (i : ℕ). value i) place);
-        }
-
-    counted_is : (n h : ℕ) (a : Acts h) → old.places h ≡ n → Grouped next outs (behind n) (here n) → Is (here n) a.runner → (c : ℕ) → a.count ≡ c → Is (counted_here c n) (quiet a.acting)
-    counted_is n h a place g is zero e = subst (λ (b : Acting W). Is (here n) (quiet b)) (sym (idles h a e)) is
+    counted_is : (n h : ℕ) (a : Acts h) → old.places h ≡ n → Grouped next outs counts (behind n) (here n) → (Is next outs counts) (here n) a.runner → (c : ℕ) → a.count ≡ c → (Is next outs counts) (counted_here c n) (quiet a.acting)
+    counted_is n h a place g is zero e = subst (λ (b : Acting W). (Is next outs counts) (here n) (quiet b)) (sym (idles h a e)) is
     counted_is n h a place g is (suc c) e =
         let q = after_locals next set c a.runner in
-        closed_is next outs set settle (behind n) (after_passing next outs set c (here n)) (passing_grouped next outs set c (behind n) (here n) g) (value n) q
-        (passing_is next outs set c (behind n) (here n) g a.runner is) (λ r. refl)
-        (plain_is n q (ap old.places (q_number h a c) ∙ place))
+        closed_is next outs counts set settle (behind n) (after_passing next outs counts set c (here n)) (passing_grouped next outs counts set c (behind n) (here n) g) (value n) q
+        (passing_is next outs counts set c (behind n) (here n) g a.runner is) (λ r. refl)
+        (settles (value n) q (ap value (ap old.places (q_number h a c) ∙ place)))
         a.acting (takes h a c e)
 
-    group_is : (n h : ℕ) (a : Acts h) → h < p → old.places h ≡ n → kind old n ≡ Some Lockstep → Grouped next outs (behind n) (here n) → Is (here n) a.runner
-        → Is (here_by (Some Lockstep) n) (quiet a.acting)
+    group_is : (n h : ℕ) (a : Acts h) → h < p → old.places h ≡ n → kind old n ≡ Some Lockstep → Grouped next outs counts (behind n) (here n) → (Is next outs counts) (here n) a.runner
+        → (Is next outs counts) (here_by (Some Lockstep) n) (quiet a.acting)
     group_is n h a lt place locked g is =
         let in_h : Has old n h = subst (λ (m : ℕ). Has old m h) place (inv.sound.placed h lt).member in
         let l = lowest (members old n) in
@@ -447,34 +440,34 @@ module _ {W : Type 0} (next : W → Option (Step W)) (outs : W → List W) (set 
         let same : a.count ≡ slice_index round l = one_count n locked l h b a in_l in_h ∙ sym (index_at round l b.count b.counted) in
         counted_is n h a place g is (slice_index round l) same
 
-    wait_is : (n h : ℕ) (a : Acts h) → Parted next outs n (behind n) (here n) → Is (here n) a.runner → Is (here n) (quiet a.acting)
+    wait_is : (n h : ℕ) (a : Acts h) → Parted next outs counts n (behind n) (here n) → (Is next outs counts) (here n) a.runner → (Is next outs counts) (here n) (quiet a.acting)
     wait_is n h a g is =
         ⊎_elim
-        (λ none. subst (λ (b : Acting W). Is (here n) (quiet b)) (sym (idles h a none)) is)
+        (λ none. subst (λ (b : Acting W). (Is next outs counts) (here n) (quiet b)) (sym (idles h a none)) is)
         (λ d.
         let r = a.runner in
         let q = after_locals next set d.0 r in
-        let same : q ≡ r = wait_many next outs set settle n (behind n) (here n) g d.0 r is.left in
+        let same : q ≡ r = wait_many next outs counts set settle n (behind n) (here n) g d.0 r is.left in
         let left : q.left ≡ (here n).left = ap (λ (u : Runner W). u.left) same ∙ is.left in
-        subst (Is (here n)) (sym (wait_closed next outs set settle n (behind n) (here n) g q left (λ u. refl) a.acting (takes h a d.0 d.1) ∙ same)) is)
+        subst ((Is next outs counts) (here n)) (sym (wait_closed next outs counts set settle n (behind n) (here n) g q left (λ u. refl) a.acting (takes h a d.0 d.1) ∙ same)) is)
         (cases_count a.count)
 
-    lone_is : (n h : ℕ) (a : Acts h) → Apart next outs n (behind n) (here n) a.runner → Apart next outs n (behind n) (here n) (quiet a.acting)
+    lone_is : (n h : ℕ) (a : Acts h) → Apart next outs counts n (behind n) (here n) a.runner → Apart next outs counts n (behind n) (here n) (quiet a.acting)
     lone_is n h a g =
         ⊎_elim
-        (λ none. subst (λ (b : Acting W). Apart next outs n (behind n) (here n) (quiet b)) (sym (idles h a none)) g)
+        (λ none. subst (λ (b : Acting W). Apart next outs counts n (behind n) (here n) (quiet b)) (sym (idles h a none)) g)
         (λ d.
         let q = after_locals next set d.0 a.runner in
-        lone_closed next outs set settle (within n) (ahead_of next outs n (behind n) (here n)) q
-        (lone_many next outs set settle (within n) (ahead_of next outs n (behind n) (here n)) d.0 a.runner g)
-        (λ u. refl) (plain_left q) a.acting (takes h a d.0 d.1))
+        lone_closed next outs counts set settle (within n) (ahead_of next outs counts n (behind n) (here n)) (here n).numbers (AtNode next outs counts (behind n) (here n)) q
+        (lone_many next outs counts set settle (within n) (ahead_of next outs counts n (behind n) (here n)) (here n).numbers (AtNode next outs counts (behind n) (here n)) d.0 a.runner g)
+        (λ u. refl) (agreed actings (members old (old.places q.has.number))) (settles (agreed actings (members old (old.places q.has.number))) q refl) a.acting (takes h a d.0 d.1))
         (cases_count a.count)
 
     abbrev IsNow : (n : ℕ) (k : Option Kind) (x : Here W) (r : Runner W) → Type 0
-    IsNow n k x r = IsThere (λ (x : Here W). x.left) (Grouped next outs) (Parted next outs) (Apart next outs) Is p n k (behind n) x r
+    IsNow n k x r = IsThere (told {W = W}) (Grouped next outs counts) (Parted next outs counts) (Apart next outs counts) (Is next outs counts) p n k (behind n) x r
 
     abbrev NodeNow : (n : ℕ) (k : Option Kind) (x : Here W) → Type 0
-    NodeNow n k x = NodeIs (λ (x : Here W). x.left) (Grouped next outs) (Parted next outs) (Apart next outs) Is p n k (behind n) x
+    NodeNow n k x = NodeIs (told {W = W}) (Grouped next outs counts) (Parted next outs counts) (Apart next outs counts) (Is next outs counts) p n k (behind n) x
 
     kind_none : (o' : Option t.Node) → t.kind_of o' ≡ None → o' ≡ None
     kind_none None e = refl
@@ -498,10 +491,10 @@ module _ {W : Type 0} (next : W → Option (Step W)) (outs : W → List W) (set 
         subst (IsNow n (kind old n) (now_here n)) (sym (mapped h a.acting r a.at e))
         (there_by n h a lt refl (kind old n) refl (inv.node n) (inv.there h a.runner lt a.is))
 
-    counted_grouped : (n c : ℕ) → Grouped next outs (behind n) (here n) → Grouped next outs (behind n) (counted_here c n)
+    counted_grouped : (n c : ℕ) → Grouped next outs counts (behind n) (here n) → Grouped next outs counts (behind n) (counted_here c n)
     counted_grouped n zero g = g
     counted_grouped n (suc c) g =
-        closed_grouped next outs set (value n) (behind n) (after_passing next outs set c (here n)) (passing_grouped next outs set c (behind n) (here n) g)
+        closed_grouped next outs counts set (value n) (behind n) (after_passing next outs counts set c (here n)) (passing_grouped next outs counts set c (behind n) (here n) g)
 
     node_by : (n : ℕ) (k : Option Kind) → NodeNow n k (here n) → NodeNow n k (here_by k n)
     node_by n None g = tt
@@ -520,7 +513,7 @@ module _ {W : Type 0} (next : W → Option (Step W)) (outs : W → List W) (set 
       sound = inv.sound;
       chain = λ m ne some.
           let up = parent old m in
-          inv.chain m ne some ∙ ap (λ (x : Here W). x.left ∷ behind up) (sym (waiting_same (kind old up) m up (inv.sound.awaited m ne some)));
+          inv.chain m ne some ∙ ap (λ (x : Here W). told x ∷ behind up) (sym (waiting_same (kind old up) m up (inv.sound.awaited m ne some)));
       node = λ n. node_by n (kind old n) (inv.node n);
       there = now_there;
     }
@@ -555,13 +548,13 @@ module _ {W : Type 0} (next : W → Option (Step W)) (outs : W → List W) (set 
         let in_h : Has old n h = subst (λ (m : ℕ). Has old m h) place (inv.sound.placed h lt).member in
         let b = acts g (inv.sound.within n g in_g) in
         let count : b.count ≡ suc d.count = one_count n locked h g a b in_h in_g ∙ d.counted in
-        let grouped : Grouped next outs (behind n) (here n) = subst (λ (k : Option Kind). NodeNow n k (here n)) locked (inv.node n) in
+        let grouped : Grouped next outs counts (behind n) (here n) = subst (λ (k : Option Kind). NodeNow n k (here n)) locked (inv.node n) in
         let place_g = group_place n locked g in_g in
-        let is_h = subst (λ (k : Option Kind). IsNow n k (here n) a.runner) locked (subst (λ (m : ℕ). IsThere (λ (x : Here W). x.left) (Grouped next outs) (Parted next outs) (Apart next outs) Is p m (kind old m) (behind m) (here m) a.runner) place (inv.there h a.runner lt a.is)) in
-        let is_g = subst (λ (k : Option Kind). IsNow n k (here n) b.runner) locked (subst (λ (m : ℕ). IsThere (λ (x : Here W). x.left) (Grouped next outs) (Parted next outs) (Apart next outs) Is p m (kind old m) (behind m) (here m) b.runner) place_g (inv.there g b.runner (inv.sound.within n g in_g) b.is)) in
-        let x = after_passing next outs set d.count (here n) in
-        let q_h = passing_is next outs set d.count (behind n) (here n) grouped a.runner is_h in
-        let q_g = passing_is next outs set d.count (behind n) (here n) grouped b.runner is_g in
+        let is_h = subst (λ (k : Option Kind). IsNow n k (here n) a.runner) locked (subst (λ (m : ℕ). IsThere (told {W = W}) (Grouped next outs counts) (Parted next outs counts) (Apart next outs counts) (Is next outs counts) p m (kind old m) (behind m) (here m) a.runner) place (inv.there h a.runner lt a.is)) in
+        let is_g = subst (λ (k : Option Kind). IsNow n k (here n) b.runner) locked (subst (λ (m : ℕ). IsThere (told {W = W}) (Grouped next outs counts) (Parted next outs counts) (Apart next outs counts) (Is next outs counts) p m (kind old m) (behind m) (here m) b.runner) place_g (inv.there g b.runner (inv.sound.within n g in_g) b.is)) in
+        let x = after_passing next outs counts set d.count (here n) in
+        let q_h = passing_is next outs counts set d.count (behind n) (here n) grouped a.runner is_h in
+        let q_g = passing_is next outs counts set d.count (behind n) (here n) grouped b.runner is_g in
         let stands : next (after_locals next set d.count b.runner).left ≡ Some step = ap next (q_g.left ∙ sym q_h.left) ∙ d.stands in
         moving g n step.operation b d.count step place_g count stands d.of_tree refl
 
@@ -581,7 +574,7 @@ module _ {W : Type 0} (next : W → Option (Step W)) (outs : W → List W) (set 
         by b one (next b.runner.left) refl does_is
       where
         place_of : (g' : ℕ) → Has old n g' → old.places g' ≡ n
-        place_of g' is = leaf_place (λ (x : Here W). x.left) (Grouped next outs) (Parted next outs) (Apart next outs) Is p old has_at here behind inv n leaf g' is
+        place_of g' is = leaf_place (told {W = W}) (Grouped next outs counts) (Parted next outs counts) (Apart next outs counts) (Is next outs counts) p old has_at here behind inv n leaf g' is
 
         no_alone : {A : Type 0} (j : Joint) → j ≢ joint.Alone → same_joint j joint.Alone ≡ true → A
         no_alone joint.Alone ne e = absurd (ne refl)
@@ -636,17 +629,17 @@ module _ {W : Type 0} (next : W → Option (Step W)) (outs : W → List W) (set 
     move_by n h lt place a step d changes None e node is g in_g = absurd (has_some old n g in_g (kind_none (old.nodes n) e))
     move_by n h lt place a step d changes (Some Lockstep) e node is g in_g = move_together n h lt place e a step d g in_g
     move_by n h lt place a step d changes (Some (Waiting first parts)) e node is g in_g =
-        let same : after_locals next set d.count a.runner ≡ a.runner = wait_many next outs set settle n (behind n) (here n) node d.count a.runner is.left in
+        let same : after_locals next set d.count a.runner ≡ a.runner = wait_many next outs counts set settle n (behind n) (here n) node d.count a.runner is.left in
         let stands : next (here n).left ≡ Some step = sym (ap next (ap (λ (u : Runner W). u.left) same ∙ is.left)) ∙ d.stands in
-        let resume : step.operation ≡ o.Resume = resumes next outs set settle n (behind n) (here n) node step stands in
+        let resume : step.operation ≡ o.Resume = resumes next outs counts set settle n (behind n) (here n) node step stands in
         let joined = joint_fits n h a step d place (Waiting first parts) e (λ same_one. cc) in
         let together = resume_together step.operation resume in
         joint_moves n h step.operation changes together (leaf_ready p n old inv.sound (resume_ready n step.operation resume joined))
         (joins_all n step.operation changes together joined) g in_g
     move_by n h lt place a step d changes (Some (Asynchronous alone)) e node is g in_g =
         let q = after_locals next set d.count a.runner in
-        let lone = lone_many next outs set settle (within n) (ahead_of next outs n (behind n) (here n)) d.count a.runner is in
-        let together = lone_joint next outs (within n) (ahead_of next outs n (behind n) (here n)) q.left lone step d.stands changes in
+        let lone = lone_many next outs counts set settle (within n) (ahead_of next outs counts n (behind n) (here n)) (here n).numbers (AtNode next outs counts (behind n) (here n)) d.count a.runner is in
+        let together = lone_joint next outs counts (within n) (ahead_of next outs counts n (behind n) (here n)) (here n).numbers (AtNode next outs counts (behind n) (here n)) q lone step d.stands changes in
         let joined = joint_fits n h a step d place (Asynchronous alone) e (λ same_one. cc) in
         joint_moves n h step.operation changes together (leaf_by p n (Asynchronous alone) old inv.sound (idle-asynchronous alone) e)
         (joins_all n step.operation changes together joined) g in_g

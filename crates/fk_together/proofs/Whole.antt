@@ -22,13 +22,14 @@ use Rattle.fk_run.specs.Round.{Step, Runner, Fault, State, Round, Acting, lowest
 use Rattle.fk_run.specs.Schedule.{Schedule, beginners, opening, run, ArePossible}
 use Rattle.fk_run.proofs.Stopped.{stopped_faults}
 use Rattle.fk_lockstep.proofs.Rounds.{settled_at}
+use Rattle.fk_together.specs.Counts.{Counts, IsCounted}
 use Rattle.fk_together.specs.Course.{InGroup, ByItself, Does, FollowsFor, Follows}
 use Rattle.fk_together.specs.OneProgram.{groups_of, HaveOneProgram, WaitersHaveOneProgram, GroupsHaveOneProgram}
-use Rattle.fk_together.proofs.Acting.{untrue, Here, HasValue, Is, without, Grouped, Parted, Loner, Apart, does_so, is_changing}
+use Rattle.fk_together.proofs.Acting.{untrue, Here, Out, told, bare, lefts_bare, HasValue, Is, without, Grouped, Parted, Apart, does_so, is_changing}
 use Rattle.fk_together.proofs.Trees.{IsThere, NodeIs, ThereAt, Inv, leaf_place}
 use Rattle.fk_together.proofs.Round.{first_is, some_at, at_below, lowest_member, actings as actings_of, phases as phases_of, settle as settle_of, settled_length, Ordered, number_at, groups_at, acting_length, no_fault}
 use Rattle.fk_together.proofs.Kept.{Sized, new_sizes, new_sized, new_groups}
-use Rattle.fk_together.proofs.Changes.{mids, last_stage}
+use Rattle.fk_together.proofs.Changes.{no_length, ends_none, mids, last_stage}
 
 -- steps of the tree leave a processor its number
 divided_number : (by : Split) (size : ℕ) (p : Processor) (o' : Option ℕ) → (divided by size p o').number ≡ p.number
@@ -68,13 +69,13 @@ does_number o.Shrink highest size p =
 does_number o.End highest size p = outer_number p p.outer
 does_number op highest size p = refl
 
-module _ {W : Type 0} (next : W → Option (Step W)) (outs : W → List W) where
-  abbrev Sound : (p : ℕ) → State W → (here : ℕ → Here W) (behind : ℕ → List W) → Type 0
-  Sound p s here behind = Inv (λ (x : Here W). x.left) (Grouped next outs) (Parted next outs) (Apart next outs) Is p s.tree (λ h. slice_get s.runners h) here behind
+module _ {W : Type 0} (next : W → Option (Step W)) (outs : W → List W) (counts : Counts W) where
+  abbrev Sound : (p : ℕ) → State W → (here : ℕ → Here W) (behind : ℕ → List (Out W)) → Type 0
+  Sound p s here behind = Inv (told {W = W}) (Grouped next outs counts) (Parted next outs counts) (Apart next outs counts) (Is next outs counts) p s.tree (λ h. slice_get s.runners h) here behind
 
   record Good (p : ℕ) (s : State W) : Type 0 where
     here : ℕ → Here W
-    behind : ℕ → List W
+    behind : ℕ → List (Out W)
     inv : Sound p s here behind
     many : length s.runners ≡ p
     numbers : (h : ℕ) (r : Runner W) → slice_get s.runners h ≡ Some r → r.has.number ≡ h
@@ -87,16 +88,16 @@ module _ {W : Type 0} (next : W → Option (Step W)) (outs : W → List W) where
   good_together p s good n g h r q locked in_g in_h r_is q_is =
       let inv = good.inv in
       let leaf = leaf_by p n Lockstep s.tree inv.sound idle-lockstep locked in
-      let is_there : (k : ℕ) → Has s.tree n k → (u : Runner W) → slice_get s.runners k ≡ Some u → Is (good.here n) u
+      let is_there : (k : ℕ) → Has s.tree n k → (u : Runner W) → slice_get s.runners k ≡ Some u → (Is next outs counts) (good.here n) u
       = λ k in_k u u_is.
-      let place = leaf_place (λ (x : Here W). x.left) (Grouped next outs) (Parted next outs) (Apart next outs) Is p s.tree (λ j. slice_get s.runners j) good.here good.behind inv n leaf k in_k in
-      subst (λ (o' : Option Kind). IsThere (λ (x : Here W). x.left) (Grouped next outs) (Parted next outs) (Apart next outs) Is p n o' (good.behind n) (good.here n) u) locked
-      (subst (λ (m : ℕ). ThereAt (λ (x : Here W). x.left) (Grouped next outs) (Parted next outs) (Apart next outs) Is p s.tree good.here good.behind m u) place
+      let place = leaf_place (told {W = W}) (Grouped next outs counts) (Parted next outs counts) (Apart next outs counts) (Is next outs counts) p s.tree (λ j. slice_get s.runners j) good.here good.behind inv n leaf k in_k in
+      subst (λ (o' : Option Kind). IsThere (told {W = W}) (Grouped next outs counts) (Parted next outs counts) (Apart next outs counts) (Is next outs counts) p n o' (good.behind n) (good.here n) u) locked
+      (subst (λ (m : ℕ). ThereAt (told {W = W}) (Grouped next outs counts) (Parted next outs counts) (Apart next outs counts) (Is next outs counts) p s.tree good.here good.behind m u) place
       (inv.there k u (inv.sound.within n k in_k) u_is)) in
-      let grouped : Grouped next outs (good.behind n) (good.here n)
-      = subst (λ (o' : Option Kind). NodeIs (λ (x : Here W). x.left) (Grouped next outs) (Parted next outs) (Apart next outs) Is p n o' (good.behind n) (good.here n)) locked (inv.node n) in
+      let grouped : Grouped next outs counts (good.behind n) (good.here n)
+      = subst (λ (o' : Option Kind). NodeIs (told {W = W}) (Grouped next outs counts) (Parted next outs counts) (Apart next outs counts) (Is next outs counts) p n o' (good.behind n) (good.here n)) locked (inv.node n) in
       let place_at : (k : ℕ) → Has s.tree n k → s.tree.places k ≡ n
-      = leaf_place (λ (x : Here W). x.left) (Grouped next outs) (Parted next outs) (Apart next outs) Is p s.tree (λ j. slice_get s.runners j) good.here good.behind inv n leaf in
+      = leaf_place (told {W = W}) (Grouped next outs counts) (Parted next outs counts) (Apart next outs counts) (Is next outs counts) p s.tree (λ j. slice_get s.runners j) good.here good.behind inv n leaf in
       let r_groups : groups_of r.has ≡ good.sizes n = good.groups g r r_is ∙ ap good.sizes (place_at g in_g) in
       let q_groups : groups_of q.has ≡ good.sizes n = good.groups h q q_is ∙ ap good.sizes (place_at h in_h) in
       let lower : n ≢ 0 = λ e. inv.sound.free (sym (ap (kind s.tree) e) ∙ locked) in
@@ -106,7 +107,7 @@ module _ {W : Type 0} (next : W → Option (Step W)) (outs : W → List W) where
       record {
         left = first.left ∙ sym second.left;
         branch = λ step onward stands branch.
-            let so = does_so next outs (InGroup (is_some (good.here n).agreed)) (good.here n).left step grouped.follows (ap next (sym first.left) ∙ stands) 0 in
+            let so = does_so next outs counts (InGroup (is_some (good.here n).agreed)) (good.here n).left step grouped.follows (ap next (sym first.left) ∙ stands) 0 in
             let agreed = (subst (λ (op : Operation). Does next outs (FollowsFor next outs 0) (InGroup (is_some (good.here n).agreed)) op (good.here n).left step.rest) branch so).0 in
             same_value (good.here n).agreed agreed r q first.value second.value;
         groups = r_groups ∙ sym q_groups;
@@ -123,36 +124,36 @@ module _ {W : Type 0} (next : W → Option (Step W)) (outs : W → List W) where
 
   good_waiters : (p : ℕ) (s : State W) → Good p s → WaitersHaveOneProgram next s
   good_waiters p s good g h first parts r q one waits r_is q_is =
-      let is_there : (k : ℕ) → s.tree.places g ≡ s.tree.places k → (u : Runner W) → slice_get s.runners k ≡ Some u → Is (good.here (s.tree.places g)) u
+      let is_there : (k : ℕ) → s.tree.places g ≡ s.tree.places k → (u : Runner W) → slice_get s.runners k ≡ Some u → (Is next outs counts) (good.here (s.tree.places g)) u
       = λ k same u u_is.
       let size = good.many in
       let lt = at_below s.runners k u u_is in
       let lt' : k < p = omega (arith, size, lt) in
-      subst (λ (o' : Option Kind). IsThere (λ (x : Here W). x.left) (Grouped next outs) (Parted next outs) (Apart next outs) Is p (s.tree.places g) o' (good.behind (s.tree.places g)) (good.here (s.tree.places g)) u) waits
-      (subst (λ (m : ℕ). ThereAt (λ (x : Here W). x.left) (Grouped next outs) (Parted next outs) (Apart next outs) Is p s.tree good.here good.behind m u) (sym same)
+      subst (λ (o' : Option Kind). IsThere (told {W = W}) (Grouped next outs counts) (Parted next outs counts) (Apart next outs counts) (Is next outs counts) p (s.tree.places g) o' (good.behind (s.tree.places g)) (good.here (s.tree.places g)) u) waits
+      (subst (λ (m : ℕ). ThereAt (told {W = W}) (Grouped next outs counts) (Parted next outs counts) (Apart next outs counts) (Is next outs counts) p s.tree good.here good.behind m u) (sym same)
       (good.inv.there k u lt' u_is)) in (
         (is_there g refl r r_is).left ∙ sym (is_there h one q q_is).left,
         good.groups g r r_is ∙ ap good.sizes one ∙ sym (good.groups h q q_is),
       )
 
   module _ (set : Setting) (round : Round) (s : State W) (p : ℕ) (good : Good p s) (possible : is_possible next set round s ≡ true) where
-    ordered : Ordered next outs set round s p
+    ordered : Ordered next outs counts set round s p
     ordered = record { many = good.many; numbers = good.numbers }
 
     abbrev actings : List (Acting W)
-    actings = actings_of next outs set round s
+    actings = actings_of next outs counts set round s
 
     abbrev settle : Runner W → Option (Step W) → Runner W
-    settle r due = settle_of next outs set round s r due
+    settle r due = settle_of next outs counts set round s r due
 
-    result_is : result next set round s ≡ tree_phase s.tree (phases_of next outs set round s).store actings None
-    result_is = ap (λ (fault : Option Fault). tree_phase s.tree (phases_of next outs set round s).store actings fault) (no_fault next outs set round s p good.here good.behind good.inv ordered possible)
+    result_is : result next set round s ≡ tree_phase s.tree (phases_of next outs counts set round s).store actings None
+    result_is = ap (λ (fault : Option Fault). tree_phase s.tree (phases_of next outs counts set round s).store actings fault) (no_fault next outs counts set round s p good.here good.behind good.inv ordered possible)
 
     abbrev after : State W
-    after = tree_phase s.tree (phases_of next outs set round s).store actings None
+    after = tree_phase s.tree (phases_of next outs counts set round s).store actings None
 
     many : length actings ≡ p
-    many = acting_length next outs set round s p good.here good.behind good.inv ordered possible
+    many = acting_length next outs counts set round s p good.here good.behind good.inv ordered possible
 
     abbrev low : ℕ → ℕ
     low h = lowest (members s.tree (s.tree.places h))
@@ -167,7 +168,7 @@ module _ {W : Type 0} (next : W → Option (Step W)) (outs : W → List W) where
         by true = refl
         by false = refl
 
-    same_has : (h : ℕ) → h < p → slice_get after.runners h ≡ mids next outs set round s p good.here good.behind good.inv ordered possible p h
+    same_has : (h : ℕ) → h < p → slice_get after.runners h ≡ mids next outs counts set round s p good.here good.behind good.inv ordered possible p h
     same_has h lt =
         let b = some_at actings h (omega (arith, many)) in
         let in_low = lowest_member h (members s.tree (s.tree.places h)) (good.inv.sound.placed h lt).member in
@@ -185,11 +186,11 @@ module _ {W : Type 0} (next : W → Option (Step W)) (outs : W → List W) where
     sizes_are h b at lt =
         let size = good.many in
         let r = some_at s.runners h (omega (arith, size, lt)) in
-        groups_at next outs set round s p good.here good.behind good.inv ordered possible h b r.0 at r.1 ∙ good.groups h r.0 r.1
+        groups_at next outs counts set round s p good.here good.behind good.inv ordered possible h b r.0 at r.1 ∙ good.groups h r.0 r.1
 
     good_after : Good p after
     good_after =
-        let st = last_stage next outs set round s p good.here good.behind good.inv ordered possible in
+        let st = last_stage next outs counts set round s p good.here good.behind good.inv ordered possible in
         record {
           here = st.here;
           behind = st.behind;
@@ -205,9 +206,9 @@ module _ {W : Type 0} (next : W → Option (Step W)) (outs : W → List W) where
               let lt = at_below after.runners h r e in
               let b = some_at actings h (omega (arith, size, lt)) in
               let same : r ≡ settle b.0.runner b.0.due = first_is r (settle b.0.runner b.0.due) (sym e ∙ settled_is h b.0 b.1) in
-              ap (λ (u : Runner W). u.has.number) same ∙ settled_number b.0.runner b.0.due ∙ number_at next outs set round s p good.here good.behind good.inv ordered possible h b.0 b.1;
-          sizes = new_sizes next outs set round s p good.here good.behind good.inv ordered possible good.sizes good.sized sizes_are;
-          sized = new_sized next outs set round s p good.here good.behind good.inv ordered possible good.sizes good.sized sizes_are;
+              ap (λ (u : Runner W). u.has.number) same ∙ settled_number b.0.runner b.0.due ∙ number_at next outs counts set round s p good.here good.behind good.inv ordered possible h b.0 b.1;
+          sizes = new_sizes next outs counts set round s p good.here good.behind good.inv ordered possible good.sizes good.sized sizes_are;
+          sized = new_sized next outs counts set round s p good.here good.behind good.inv ordered possible good.sizes good.sized sizes_are;
           groups = λ h r e.
               let size = settled_length actings s.tree after.tree actings in
               let lt = at_below after.runners h r e in
@@ -215,7 +216,7 @@ module _ {W : Type 0} (next : W → Option (Step W)) (outs : W → List W) where
               let b = some_at actings h (omega (arith, size, lt)) in
               let same : r ≡ settle b.0.runner b.0.due = first_is r (settle b.0.runner b.0.due) (sym e ∙ settled_is h b.0 b.1) in
               ap (λ (u : Runner W). groups_of u.has) same
-              ∙ new_groups next outs set round s p good.here good.behind good.inv ordered possible good.sizes good.sized sizes_are h lt' b.0 b.1;
+              ∙ new_groups next outs counts set round s p good.here good.behind good.inv ordered possible good.sizes good.sized sizes_are h lt' b.0 b.1;
         }
 
     good_round : Good p (result next set round s)
@@ -252,15 +253,15 @@ module _ {W : Type 0} (next : W → Option (Step W)) (outs : W → List W) where
   beginners_length set firsts program h zero = refl
   beginners_length set firsts program h (suc count) = ap (λ (n : ℕ). suc n) (beginners_length set firsts program (suc h) count)
 
-  module _ (program : W) (follows : Follows next outs (ByItself false) program) (processors : ℕ) (globals input : List ℕ) (firsts : Memory) (some : 1 ≤ processors) where
+  module _ (program : W) (follows : Follows next outs (ByItself false) program) (none : counts.pending program ≡ 0) (counted : IsCounted next outs counts program) (processors : ℕ) (globals input : List ℕ) (firsts : Memory) (some : 1 ≤ processors) where
     abbrev start : State W
     start = opening processors globals input firsts program
 
     abbrev at_start : ℕ → Here W
-    at_start n = without program
+    at_start n = without program []
 
-    abbrev ahead_at_start : ℕ → List W
-    ahead_at_start n = outs program
+    abbrev ahead_at_start : ℕ → List (Out W)
+    ahead_at_start n = bare (outs program)
 
     only_root : (n : ℕ) → n ≢ 0 → (root processors).nodes n ≡ None
     only_root n ne = with_other 0 (node_of (below processors []) 0 (Asynchronous false)) (λ i. None) n ne
@@ -282,32 +283,42 @@ module _ {W : Type 0} (next : W → Option (Step W)) (outs : W → List W) where
         chain = λ m ne is. absurd (is (only_root m ne));
         node = λ n. node_at n;
         there = λ h r lt e.
-            subst (λ (o' : Option Kind). IsThere (λ (x : Here W). x.left) (Grouped next outs) (Parted next outs) (Apart next outs) Is processors 0 o' (outs program) (without program) r) (sym root_kind)
+            subst (λ (o' : Option Kind). IsThere (told {W = W}) (Grouped next outs counts) (Parted next outs counts) (Apart next outs counts) (Is next outs counts) processors 0 o' (bare (outs program)) (without program []) r) (sym root_kind)
             (let left = (beginner_at (setting_of processors globals input) firsts program 0 processors h r e).left in
-            inr (subst (Loner next outs false (outs program)) (sym left) (record { outs_are = refl; follows = follows })));
+            inr (record {
+              outs_are = ap outs left ∙ sym (lefts_bare (outs program));
+              follows = subst (Follows next outs (ByItself false)) (sym left) follows;
+              more = [];
+              numbers = none_at r.left r.has (ap counts.pending left ∙ none);
+              counted = subst (IsCounted next outs counts) (sym left) counted;
+              holds = record { many = sym none; ends = ends_none (outs program) };
+            }));
       };
       many = beginners_length (setting_of processors globals input) firsts program 0 processors;
       numbers = λ h r e. (beginner_at (setting_of processors globals input) firsts program 0 processors h r e).number ∙ zero_less h;
       sizes = λ n. (0, processors) ∷ [];
-      sized = record { root = refl; chain = λ m ne is. absurd (is (only_root m ne)) };
+      sized = record { root = refl; number = λ m. 0; chain = λ m ne is. absurd (is (only_root m ne)) };
       groups = λ h r e. (beginner_at (setting_of processors globals input) firsts program 0 processors h r e).groups;
     }
       where
+        none_at : (w : W) (p : Processor) → counts.pending w ≡ 0 → counts.numbers w p ≡ []
+        none_at w p e = no_length (counts.numbers w p) (counts.many w p ∙ e)
+
         zero_less : (h : ℕ) → 0 + h ≡ h
         zero_less h = omega arith
 
-        node_at : (n : ℕ) → NodeIs (λ (x : Here W). x.left) (Grouped next outs) (Parted next outs) (Apart next outs) Is processors n (kind (root processors) n) (outs program) (without program)
-        node_at zero = subst (λ (o' : Option Kind). NodeIs (λ (x : Here W). x.left) (Grouped next outs) (Parted next outs) (Apart next outs) Is processors 0 o' (outs program) (without program)) (sym root_kind) tt
+        node_at : (n : ℕ) → NodeIs (told {W = W}) (Grouped next outs counts) (Parted next outs counts) (Apart next outs counts) (Is next outs counts) processors n (kind (root processors) n) (bare (outs program)) (without program [])
+        node_at zero = subst (λ (o' : Option Kind). NodeIs (told {W = W}) (Grouped next outs counts) (Parted next outs counts) (Apart next outs counts) (Is next outs counts) processors 0 o' (bare (outs program)) (without program [])) (sym root_kind) tt
         node_at (suc n) =
-            subst (λ (o' : Option t.Node). NodeIs (λ (x : Here W). x.left) (Grouped next outs) (Parted next outs) (Apart next outs) Is processors (suc n) (t.kind_of o') (outs program) (without program))
+            subst (λ (o' : Option t.Node). NodeIs (told {W = W}) (Grouped next outs counts) (Parted next outs counts) (Apart next outs counts) (Is next outs counts) processors (suc n) (t.kind_of o') (bare (outs program)) (without program []))
             (sym (only_root (suc n) (λ same_one. omega (arith, same_one)))) tt
 
 pub groups_have_one_program : (W : Type 0) → GroupsHaveOneProgram W
-groups_have_one_program W next outs program follows set schedule processors globals input firsts some lawful none =
+groups_have_one_program W next outs program follows counts nothing counted set schedule processors globals input firsts some lawful none =
     let last = run next set schedule (opening processors globals input firsts program) in
-    let good = good_run next outs set schedule processors (opening processors globals input firsts program) (good_start next outs program follows processors globals input firsts some) lawful.possible none in
+    let good = good_run next outs counts set schedule processors (opening processors globals input firsts program) (good_start next outs counts program follows nothing counted processors globals input firsts some) lawful.possible none in
     record {
-      members = good_together next outs processors last good;
-      waiters = good_waiters next outs processors last good;
+      members = good_together next outs counts processors last good;
+      waiters = good_waiters next outs counts processors last good;
       tree = good.inv.sound;
     }

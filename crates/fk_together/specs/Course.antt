@@ -3,7 +3,7 @@ use Rattle.std.specs.Prelude.{◌≡◌, ℕ, zero, suc, Bool, true, false, List
 use Rattle.fk_operation.specs.declared.operation.Operation.{Operation}
 use Rattle.fk_operation.specs.declared.operation.Operation.TheVariants as o
 use Rattle.fk_operation.specs.declared.operation.Split.{Split}
-use Rattle.fk_operation.specs.declared.operation.Split.TheVariants.{IfElse, Fork}
+use Rattle.fk_operation.specs.declared.operation.Split.TheVariants.{IfElse}
 use Rattle.fk_run.specs.Round.{Step}
 
 -- where a processor stands: in a group in lockstep, directly behind an agree or not; where it waits for parts, within a
@@ -29,7 +29,6 @@ module _ {W : Type 0} (next : W → Option (Step W)) (outs : W → List W) where
     -- behind parts there is where the others wait
     abbrev pub Parts : Split → (here : W) → (rest : Bool → W) → (outs_of_part : List W) → Type 0
     Parts by here rest [] = ⊥
-    Parts Fork here rest (parent ∷ behind) = ⊥
     Parts IfElse here rest (parent ∷ behind) =
         (behind ≡ outs here) × (outs parent ≡ outs here) × Follows (Waits true) parent
         × Follows (InGroup false) (rest true) × Follows (InGroup false) (rest false) × (outs (rest false) ≡ parent ∷ behind)

@@ -1,2 +1,3 @@
 pub mod Course
+pub mod Counts
 pub mod OneProgram

@@ -10,6 +10,7 @@ use Rattle.fk_run.specs.Processor.{Processor, Setting, values, last}
 use Rattle.fk_run.specs.Round.{Step, Runner, State}
 use Rattle.fk_run.specs.Schedule.{Schedule, opening, run, IsLawful}
 use Rattle.fk_together.specs.Course.{ByItself, Follows}
+use Rattle.fk_together.specs.Counts.{Counts, IsCounted}
 
 -- `@` and the size of a processor's group, and of each group round it
 abbrev pub groups_of : Processor → List (ℕ × ℕ)
@@ -49,6 +50,7 @@ module _ {W : Type 0} (next : W → Option (Step W)) where
 abbrev pub GroupsHaveOneProgram : (W : Type 0) → Type 0
 GroupsHaveOneProgram W =
     (next : W → Option (Step W)) (outs : W → List W) (program : W) → Follows next outs (ByItself false) program
+    → (counts : Counts W) → counts.pending program ≡ 0 → IsCounted next outs counts program
     → (setting : Setting) (schedule : Schedule) (processors : ℕ) (globals input : List ℕ) (firsts : Memory) → 1 ≤ processors
     → IsLawful next setting schedule (opening processors globals input firsts program)
     → (run next setting schedule (opening processors globals input firsts program)).fault ≡ None

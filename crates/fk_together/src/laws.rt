@@ -9,8 +9,8 @@ ghost use Rattle.fk_together.specs.OneProgram.{GroupsHaveOneProgram};
 /// exactly one node.
 ///
 /// This is so in every form `W` in which it is kept what is left to do, of each program by which a
-/// processor goes through its groups, parts and bodies in their order, and in which there is no
-/// `fork`.
+/// processor goes through its groups, parts and bodies in their order, and in which a `fork` takes
+/// the number of parts on which its group has agreed.
 pub fn groups_have_one_program<W>()
     ensures { GroupsHaveOneProgram W }
 {}

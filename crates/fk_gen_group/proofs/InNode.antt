@@ -1,0 +1,256 @@
+-- Blocks that keep the words of frames keep their harts in their nodes.
+use Rattle.std.proofs.Common.{◌≡◌, ℕ, zero, suc, ◌+◌, ◌-◌, ◌*◌, ◌<◌, ◌≤◌, List, [], ◌∷◌, length, Bool, true, false, Option, sym, ap, subst, ◌∙◌, arith, refl, inl, inr, ⊎_elim}
+use Rattle.std.specs.Prelude.{◌==◌, nat_lt, if◌then◌else◌}
+use Rattle.fk_operation.specs.Kinds.{class_of}
+use Rattle.fk_operation.specs.declared.kinds.Class.{Class}
+use Rattle.fk_operation.specs.declared.kinds.Class.TheVariants.{Local, Request, Tree}
+use Rattle.fk_operation.specs.declared.operation.Operation.{Operation}
+use Rattle.fk_operation.specs.declared.operation.Operation.TheVariants.{Push, Set, Branch, Take, Leave, Enter, Halt, End}
+use Rattle.fk_operation.specs.declared.operation.Variable.TheVariants.{Private, OfFile}
+use Rattle.fk_store.specs.Store.{private_words, private_address}
+use Rattle.fk_store.specs.Serve.{Answer, Served, Faults as Refused, serve, words_of}
+use Rattle.fk_run.specs.Processor.{Processor, Setting, values, last, in_place}
+use Rattle.fk_run.specs.Local.{local, is_onward}
+use Rattle.fk_run.specs.Request.{request, with_answer}
+use Rattle.fk_run.specs.Round.{answered}
+use Rattle.fk_core.specs.declared.op.CoreOp.{CoreOp}
+use Rattle.fk_core.specs.Next.{Position, position, follows}
+use Rattle.fk_image.specs.declared.Image.{Image}
+use Rattle.fk_machine.specs.Hart.{Hart, Setting as MachineSetting}
+use Rattle.fk_nodes.specs.Node.{Member}
+use Rattle.fk_nodes.specs.Source.{Part, Passes, Breaks}
+use Rattle.fk_nodes.specs.OneHart.{OneDoes}
+use Rattle.fk_block_law.specs.Owner.{Commons, Owner, Doing, number_of, owner_of, found, as_part, part, core_source}
+use Rattle.fk_block_law.specs.Stands.{Places, HasFrame, frame_start}
+use Rattle.fk_block_law.specs.Next.{StandsOp, step_at}
+use Rattle.fk_block_law.specs.Ready.{is_alone}
+use Rattle.fk_block_law.specs.Suits.{writes}
+use Rattle.fk_block_law.specs.Block.{Enters, member_of}
+use Rattle.fk_gen.specs.Keeps.{Keeps, DoesAnd, peak}
+use Rattle.fk_gen.specs.Lines.{label_of}
+use Rattle.fk_gen.proofs.Jumps.{jumps, jal_private}
+use Rattle.fk_gen.proofs.Does.{local_part, asks}
+use Rattle.fk_group_law.specs.Node.{Nestings, StandsInNode, HasOuter, saved_at, first_word, control_address}
+use Rattle.fk_group_law.specs.Lockstep.{IsMember}
+use Rattle.fk_group_law.specs.Law.{HasDoneInNode, way_by, way_of}
+use Rattle.fk_gen_group.specs.InNode.{stays_in_call, HasLevels, BlocksStayInNode, JumpsStayInNode}
+use Rattle.fk_gen_group.proofs.Levels.{starts_behind, lies_below, outer_by, many_callers}
+use Rattle.fk_gen_group.proofs.Behind.{body_kept}
+
+-- ---- what an operation leaves of its processor
+
+record SameGroup (p q : Processor) : Type 0 where
+  pub number : q.number ≡ p.number
+  pub level : q.level ≡ p.level
+  pub outer : q.outer ≡ p.outer
+
+taken_same : (p : Processor) (none few : Bool) (words : ℕ)
+    → SameGroup p (if none then in_place 0 p else if few then in_place 0 p else in_place (private_address p.top) (record p { top = p.top + words }))
+taken_same p true few words = record { number = refl; level = refl; outer = refl }
+taken_same p false true words = record { number = refl; level = refl; outer = refl }
+taken_same p false false words = record { number = refl; level = refl; outer = refl }
+
+local_same : (setting : Setting) (operation : Operation) (p : Processor) → stays_in_call operation ≡ true → SameGroup p (local setting operation p)
+local_same setting (Set (Private i)) p e = record { number = refl; level = refl; outer = refl }
+local_same setting (Set (OfFile i)) p e = record { number = refl; level = refl; outer = refl }
+local_same setting Take p e = let words = words_of (last (values p)) in taken_same p (words == 0) (nat_lt (private_words - p.top) words) words
+local_same setting (Leave gives framed) p e = absurd (cc)
+local_same setting operation p e = record { number = refl; level = refl; outer = refl }
+
+answer_same : (operation : Operation) (answer : ℕ) (p : Processor) → stays_in_call operation ≡ true → SameGroup p (with_answer operation answer p)
+answer_same (Enter n) answer p e = absurd (cc)
+answer_same operation answer p e = record { number = refl; level = refl; outer = refl }
+
+-- it goes on in the same call
+stays_at : (core : List CoreOp) (operation : Operation) (i target : ℕ) (callers : List ℕ) (onward : Bool) → is_alone operation ≡ true → stays_in_call operation ≡ true
+    → follows core operation i target callers onward ≡ position (follows core operation i target [] onward).at callers
+stays_at core (Leave gives framed) i target callers onward alone e = absurd (cc)
+stays_at core (Enter n) i target callers onward alone e = absurd (cc)
+stays_at core Halt i target callers onward alone e = absurd (cc)
+stays_at core End i target callers onward alone e = absurd (cc)
+stays_at core operation i target callers true alone e = refl
+stays_at core operation i target callers false alone e = refl
+
+onward_of_request : (operation : Operation) (p : Processor) → class_of operation ≡ Request → is_onward operation p ≡ true
+onward_of_request (Branch onward) p e = absurd (cc)
+onward_of_request operation p e = refl
+
+abbrev member_with : (number : ℕ) → Hart → Member
+member_with number h = record { number = number; hart = h }
+
+never_tree : (operation : Operation) → is_alone operation ≡ true → class_of operation ≡ Tree → ⊥
+never_tree (Push n) alone e = cc
+never_tree operation alone e = cc
+
+way_is : (operation : Operation) (p : Processor) → is_alone operation ≡ true → is_onward operation p ≡ way_of operation p
+way_is operation p alone = by (class_of operation) refl
+  where
+    by : (c : Class) → class_of operation ≡ c → is_onward operation p ≡ way_of operation p
+    by Local e = sym (ap (λ c. way_by c operation p) e)
+    by Request e = onward_of_request operation p e ∙ sym (ap (λ c. way_by c operation p) e)
+    by Tree e = absurd (never_tree operation alone e)
+
+-- ---- a block
+
+module _ (core : List CoreOp) (image : Image) (places : Places) (nestings : Nestings) (i : ℕ) (op : CoreOp) (operation : Operation) (stands : StandsOp core i op operation)
+    (alone : is_alone operation ≡ true) (stays : stays_in_call operation ≡ true) (levels : HasLevels core places nestings i op operation) (setting : Setting) (p : Owner) where
+  -- what has become of a processor is in the same group and call
+  record IsSame (d : Doing) : Type 0 where
+    pub onward : Bool
+    pub group : SameGroup p.runner.has (owner_of d).runner.has
+    pub left : (owner_of d).runner.left ≡ position (follows core operation i op.target [] onward).at p.runner.left.callers
+
+  abbrev done_of : Part Commons Doing → Doing → Doing
+  done_of (Passes s d) e = d
+  done_of (Breaks site) e = e
+
+  by_answer : (d : Doing) (s s' : Commons) (o : Answer) → as_part (number_of p) (answered (step_at core i op operation p.runner.left.callers) p.runner.has o) ≡ Passes s' d → IsSame d
+  by_answer d s s' (Served store answer) e =
+      let same = ap (λ y. done_of y d) e in
+      subst IsSame same (record {
+        onward = true;
+        group = answer_same operation answer p.runner.has stays;
+        left = stays_at core operation i op.target p.runner.left.callers true alone stays;
+      })
+  by_answer d s s' (Refused kind) e = absurd (cc)
+
+  did : (d : Doing) (s s' : Commons) → p.runner.left.at ≡ i → part core setting 1 s p ≡ Passes s' d → IsSame d
+  did d s s' at e = by (class_of operation) refl
+    where
+      by : (c : Class) → class_of operation ≡ c → IsSame d
+      by Local kind =
+          let same = ap (λ y. done_of y d) (sym (local_part core image places setting i op operation s p stands kind at) ∙ e) in
+          subst IsSame same (record {
+            onward = is_onward operation p.runner.has;
+            group = local_same setting operation p.runner.has stays;
+            left = stays_at core operation i op.target p.runner.left.callers (is_onward operation p.runner.has) alone stays;
+          })
+      by Request kind = by_answer d s s' (serve (request operation p.runner.has) (found s p.heap) (number_of p)) (sym (asks core image places setting i op operation s p stands kind at) ∙ e)
+      by Tree kind = absurd (never_tree operation alone kind)
+
+  -- behind the block its hart is in the node
+  in_node : (t : MachineSetting) (runs : Option ℕ) (first : ℕ) (m : Member) (h' : Hart) (d : Doing) → Enters core image places setting t i op operation p m.hart
+      → IsMember places nestings setting runs first m p → Keeps places (length p.runner.has.callers) (peak operation op.depth) (writes operation) m.hart h' → IsSame d
+      → StandsInNode places nestings setting runs (owner_of d) h'
+  in_node t runs first m h' d en member keeps same =
+      let n = length p.runner.has.callers in
+      let callers = p.runner.left.callers in
+      let group = same.group in
+      let j = (follows core operation i op.target [] same.onward).at in
+      let outer = member.node.outer in
+      let few = levels.few in
+      let many = many_callers places nestings m.hart.local callers p.runner.has.callers en.at.stands.waiting in
+      let home = ap places.frames.is_main (sym en.index) ∙ en.at.stands.running.home in
+      let below = lies_below places nestings n i (peak operation op.depth) home levels.room in
+      let header = levels.room.room in
+      let on =
+      outer_by places nestings setting.processors (number_of p) m.hart.local h'.local i j callers p.runner.has.outer few (levels.stay same.onward)
+      (λ x from lt. keeps.words x from (omega arith) (λ word w e. let start = starts n word in omega arith))
+      (λ x from lt.
+      let from' = subst (λ k. saved_at places nestings k i ≤ x) many from in
+      let lt' = subst (λ k. x < saved_at places nestings k i + 4 * nestings.levels i) many lt in
+      let start = starts_behind places nestings n i few in
+      keeps.words x (omega arith) (omega arith) (λ word w e. let apart = levels.apart word w in omega arith))
+      (subst (λ a. HasOuter places nestings setting.processors (number_of p) m.hart.local (a ∷ callers) p.runner.has.outer) en.index outer) in
+      record {
+        node =
+            keeps.node ∙ member.node.node
+            ∙ sym (ap (λ l. control_address (first_word l (owner_of d).runner.has.outer)) group.level ∙ ap (λ o. control_address (first_word p.runner.has.level o)) group.outer);
+        body = body_kept runs (m.hart.registers 11) (h'.registers 11) keeps.body member.node.body;
+        outer =
+            subst (λ k. HasOuter places nestings setting.processors k h'.local ((owner_of d).runner.left.at ∷ (owner_of d).runner.left.callers) (owner_of d).runner.has.outer) (sym group.number)
+            (subst (λ o. HasOuter places nestings setting.processors (number_of p) h'.local ((owner_of d).runner.left.at ∷ (owner_of d).runner.left.callers) o) (sym group.outer)
+            (subst (λ (l : Position). HasOuter places nestings setting.processors (number_of p) h'.local (l.at ∷ l.callers) p.runner.has.outer) (sym same.left) on));
+      }
+    where
+      starts : (n word : ℕ) → 64 * n + 8 + word ≤ frame_start places n + 8 + word
+      starts zero word = omega arith
+      starts (suc n) word = omega arith
+
+  stays_in_node : (t : MachineSetting) (runs : Option ℕ) (first before behind : ℕ) (m : Member) → Enters core image places setting t i op operation p m.hart
+      → IsMember places nestings setting runs first m p → DoesAnd core image places setting t p m.hart before behind (Keeps places (length p.runner.has.callers) (peak operation op.depth) (writes operation) m.hart)
+      → OneDoes (core_source core setting) image t 1 before behind (member_of p m.hart) p (λ h d. HasDoneInNode core image places nestings setting runs d h)
+  stays_in_node t runs first before behind m en member does =
+      let one = does.does in
+      record {
+        committing = one.committing;
+        runs = one.runs;
+        commits = record {
+          live = one.commits.live;
+          counted = one.commits.counted;
+          does = λ s.
+              ⊎_elim
+              (λ v. inl (record {
+                hart = v.hart;
+                store = v.store;
+                done = v.done;
+                part = v.part;
+                goes = v.goes;
+                follows = (
+                  v.follows.0,
+                  v.follows.1,
+                  record {
+                    done = v.follows.2.0;
+                    node = in_node t runs first m v.follows.0 v.done en member v.follows.2.1 (did v.done s v.store en.index v.part);
+                  },
+                );
+              }))
+              inr
+              (one.commits.does s);
+        };
+      }
+
+pub blocks_stay_in_node : BlocksStayInNode
+blocks_stay_in_node core image places nestings cycles i op operation stands alone stays levels does setting t runs first m p en member =
+    let one = stays_in_node core image places nestings i op operation stands alone stays levels setting p t runs first (cycles.before i) (cycles.behind i (is_onward operation p.runner.has)) m en member (does setting t p m.hart en) in
+    let way = way_is operation p.runner.has alone in
+    let same = ap (λ n. member_with n m.hart) (sym member.number) in
+    subst (λ x. OneDoes (core_source core setting) image t 1 (cycles.before i) (cycles.behind i (way_of operation p.runner.has)) x p (λ h d. HasDoneInNode core image places nestings setting runs d h)) same
+    (subst (λ w. OneDoes (core_source core setting) image t 1 (cycles.before i) (cycles.behind i w) (member_of p m.hart) p (λ h d. HasDoneInNode core image places nestings setting runs d h)) way one)
+
+pub jumps_stay_in_node : JumpsStayInNode
+jumps_stay_in_node core image bound places nestings i op block flows few stay setting t runs first m p holds at member =
+    let h = m.hart in
+    let s = member.at.stands in
+    let n = length p.runner.has.callers in
+    let callers = p.runner.left.callers in
+    let pc : h.pc ≡ 4 * places.block i = member.at.at ∙ ap (λ j. 4 * places.block j) at in
+    let running = subst (λ a. HasFrame places h.local n a p.runner.has.call) at s.running in
+    record {
+      hart = jumps h 0 (4 * bound (label_of op.target));
+      private = jal_private image bound t m.number (places.block i) 0 (label_of op.target) h holds block.lines.0 (block.labels.within (label_of op.target)) pc member.at.live;
+      at = record {
+        live = member.at.live;
+        at = ap (λ k. 4 * k) (block.labels.blocks op.target);
+        stands = record {
+          nought = s.nought;
+          frame = s.frame;
+          behind = s.behind;
+          number = s.number;
+          rank = s.rank;
+          size = s.size;
+          top = s.top;
+          local = s.local;
+          shared_data = s.shared_data;
+          private_heap = s.private_heap;
+          shared_mask = s.shared_mask;
+          devices = s.devices;
+          heap_mask = s.heap_mask;
+          running = record {
+            home = flows.main ∙ running.home;
+            values = running.values;
+            privates = λ x kept. running.privates x (flows.kept x kept refl);
+          };
+          waiting = s.waiting;
+          own = s.own;
+          heap = s.heap;
+        };
+      };
+      node = record {
+        node = member.node.node;
+        body = member.node.body;
+        outer =
+            outer_by places nestings setting.processors (number_of p) h.local h.local i op.target callers p.runner.has.outer few stay (λ x le lt. refl) (λ x le lt. refl)
+            (subst (λ a. HasOuter places nestings setting.processors (number_of p) h.local (a ∷ callers) p.runner.has.outer) at member.node.outer);
+      };
+    }

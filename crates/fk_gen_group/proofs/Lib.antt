@@ -1,0 +1,36 @@
+-- what instructions come to
+pub mod Performs
+-- the turns of a hart that meets
+pub mod Steps
+-- all who meet
+pub mod Turns
+-- some meet while others go on
+pub mod Chains
+-- members at one place, each with its processor
+pub mod Members
+-- the levels round a processor
+pub mod Levels
+-- a hart behind a block that leaves its memory
+pub mod Behind
+-- where the last value stands
+pub mod Last
+-- agreeing
+pub mod Agree
+-- the blocks that lead to a meeting
+pub mod Meets
+-- that they are in phases there
+pub mod Phases
+-- all members begin to run a body
+pub mod Farms
+-- one member runs a body
+pub mod Seqs
+-- the end of the group of `start`
+pub mod Ends
+-- the size of the group of `start`
+pub mod Sizes
+-- the beginning of `start`
+pub mod Starts
+-- blocks that keep the words of frames
+pub mod InNode
+-- evaluated examples
+pub mod Examples

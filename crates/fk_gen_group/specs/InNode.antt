@@ -1,0 +1,47 @@
+-- Blocks of operations that processors do by themselves, in a node.
+use Rattle.std.specs.Prelude.{◌≡◌, ℕ, ◌<◌, ◌≤◌, List, [], ◌∷◌, Bool, true, false}
+use Rattle.fk_operation.specs.declared.operation.Operation.{Operation}
+use Rattle.fk_operation.specs.declared.operation.Operation.TheVariants.{Leave, Enter}
+use Rattle.fk_core.specs.declared.op.CoreOp.{CoreOp}
+use Rattle.fk_core.specs.Next.{follows}
+use Rattle.fk_image.specs.declared.Image.{Image}
+use Rattle.fk_block_law.specs.Stands.{Places}
+use Rattle.fk_block_law.specs.Next.{StandsOp}
+use Rattle.fk_block_law.specs.Ready.{is_alone}
+use Rattle.fk_block_law.specs.Suits.{Flows, nothing, writes}
+use Rattle.fk_isa.specs.declared.instruction.Instruction.TheVariants.{Jal}
+use Rattle.fk_gen.specs.Registers.{zero_register}
+use Rattle.fk_gen.specs.Lines.{goes_to, label_of}
+use Rattle.fk_gen.specs.InPlace.{HasBlock}
+use Rattle.fk_gen.specs.Keeps.{BlockDoesBy, peak}
+use Rattle.fk_group_law.specs.Node.{Nestings, HasLevelRoom}
+use Rattle.fk_group_law.specs.Lockstep.{LevelsStay}
+use Rattle.fk_group_law.specs.Law.{Cycles, BlockDoesInNode, BlockJumpsInNode}
+
+-- operations that make no call, and end none
+abbrev pub stays_in_call : Operation → Bool
+stays_in_call (Leave gives framed) = false
+stays_in_call (Enter arguments) = false
+stays_in_call operation = true
+
+-- the levels of the running call have room beside the values of an operation and the private words that it writes, and the call
+-- goes on with them
+pub record HasLevels (core : List CoreOp) (places : Places) (nestings : Nestings) (i : ℕ) (op : CoreOp) (operation : Operation) : Type 0 where
+  pub few : places.frames.of_file ≤ 56
+  pub room : HasLevelRoom places.frames nestings i (peak operation op.depth)
+  pub apart : (word : ℕ) → writes operation word ≡ true → word < nestings.behind i
+  pub stay : (onward : Bool) → LevelsStay nestings i (follows core operation i op.target [] onward).at
+
+-- a block that keeps the words of frames keeps its hart in its node, in as many cycles
+abbrev pub BlocksStayInNode : Type 0
+BlocksStayInNode =
+    (core : List CoreOp) (image : Image) (places : Places) (nestings : Nestings) (cycles : Cycles) (i : ℕ) (op : CoreOp) (operation : Operation)
+    → StandsOp core i op operation → is_alone operation ≡ true → stays_in_call operation ≡ true → HasLevels core places nestings i op operation
+    → BlockDoesBy core image places (cycles.before i) (cycles.behind i) i op operation → BlockDoesInNode core image places nestings cycles i op operation
+
+-- and so does a jump, where the call goes on with the same levels
+abbrev pub JumpsStayInNode : Type 0
+JumpsStayInNode =
+    (core : List CoreOp) (image : Image) (bound : ℕ → ℕ) (places : Places) (nestings : Nestings) (i : ℕ) (op : CoreOp)
+    → HasBlock image bound places i (goes_to (Jal zero_register 0) (label_of op.target) ∷ []) → Flows core places.frames nothing i op.target
+    → places.frames.of_file ≤ 56 → LevelsStay nestings i op.target → BlockJumpsInNode core image places nestings i op

@@ -1,0 +1,7 @@
+pub mod Meeting
+pub mod Together
+pub mod Chains
+pub mod Blocks
+pub mod Meet
+pub mod Laws
+pub mod InNode

@@ -1,0 +1,42 @@
+-- A hart at the block of an operation that several do together by meeting, on its way in lines of a meeting.
+use Rattle.std.specs.Prelude.{◌≡◌, ℕ, suc, ◌+◌, ◌≤◌, List, false, Option}
+use Rattle.fk_operation.specs.declared.operation.Operation.{Operation}
+use Rattle.fk_operation.specs.declared.operation.Operation.TheVariants.{Meet}
+use Rattle.fk_run.specs.Processor.{Setting}
+use Rattle.fk_core.specs.declared.op.CoreOp.{CoreOp}
+use Rattle.fk_image.specs.declared.Image.{Image}
+use Rattle.fk_machine.specs.Hart.{Hart, Setting as MachineSetting}
+use Rattle.fk_nodes.specs.Node.{Member, Words}
+use Rattle.fk_meeting.specs.Phase.{Coming}
+use Rattle.fk_block_law.specs.Owner.{Owner}
+use Rattle.fk_block_law.specs.Stands.{Places, StandsAt, size_register}
+use Rattle.fk_block_law.specs.Block.{Enters, gone_to}
+use Rattle.fk_group_law.specs.Node.{Nestings, StandsInNode, OwnsHeader, body_register}
+use Rattle.fk_gen_group.specs.Meeting.{Meeting, HasLeft}
+use Rattle.fk_gen_group.specs.Together.{Comer, Stands}
+use Rattle.fk_group_law.specs.Lockstep.{IsMember}
+use Rattle.fk_group_law.specs.Joint.{word_of, AreSoMany}
+use Rattle.fk_gen_group.specs.Blocks.{meeting_of}
+
+-- at a `barrier` those who run the body meet, else all members of the node. Which register has their number
+abbrev pub counted_by : Operation → ℕ
+counted_by (Meet false) = body_register
+counted_by operation = size_register
+
+module _ (core : List CoreOp) (image : Image) (bound : ℕ → ℕ) (places : Places) (nestings : Nestings) (i : ℕ) (op : CoreOp) (operation : Operation) where
+  -- a hart is on its way to an arrival word, which it reaches in so many cycles. When it has left it stands for its
+  -- processor behind the operation
+  pub record ComesToMeet (g : Meeting) (word : ℕ) (setting : Setting) (t : MachineSetting) (runs : Option ℕ) (n : ℕ) (m : Member) (p : Owner) : Type 0 where
+    pub comer : Comer
+    pub steps : ℕ
+    pub few : steps ≤ 7
+    pub comes : comer.phase ≡ Coming steps
+    pub stands : Stands g image bound word n t comer m
+    pub leaves : (h : Hart) → HasLeft g image comer.lines n comer.first h
+        → StandsAt places (gone_to (suc i) p) h × StandsInNode places nestings setting runs (gone_to (suc i) p) h
+
+  abbrev pub BlockComesToMeet : Type 0
+  BlockComesToMeet =
+      (setting : Setting) (t : MachineSetting) (mine : Words) (runs : Option ℕ) (first n : ℕ) (m : Member) (p : Owner)
+      → OwnsHeader mine first → Enters core image places setting t i op operation p m.hart → IsMember places nestings setting runs first m p
+      → AreSoMany operation runs p n → ComesToMeet (meeting_of (counted_by operation)) (first + word_of operation) setting t runs n m p

@@ -1,0 +1,185 @@
+//! The blocks of steps of groups.
+
+ghost use Rattle.std.specs.Prelude.{◌≡◌, ◌+◌, ◌^◌, ◌<◌, ◌≤◌, All, OnOk, OnErr, length};
+ghost use Rattle.fk_asm.specs.Assembly.{AreFollowed};
+ghost use Rattle.fk_asm.specs.Block.{GoesToMade, HasBegun, with_block};
+ghost use Rattle.fk_gen_group.specs.Blocks.{meet_block, begin_block, agree_block, farm_block, seq_block, end_block};
+
+use crate::registers::{BODY, NODE};
+use crate::start::START_LABEL;
+use fk_asm::{Assembler, Blocks};
+use fk_gen::numbers::at_value;
+use fk_gen::registers::{END, NUMBER, RA, RANK, SIZE, T0, T1, T2, T3, ZERO};
+use fk_gen::{BlockLine, Placed, emit_lines};
+use fk_isa::Instruction;
+use fk_operation::Operation;
+use std::alloc::AllocError;
+
+/// The label of the block of the first operation.
+const FIRST_LABEL: u32 = 128;
+/// The upper 20 bits of the addresses of devices.
+const DEVICES: u32 = 0x30000;
+/// How far from there on the device stands that tells how many cycles are finished.
+const CYCLE_DEVICE: u32 = 16;
+/// The one that tells the number of the hart.
+const NUMBER_DEVICE: u32 = 20;
+/// The one that tells how many harts there are.
+const HARTS_DEVICE: u32 = 24;
+/// The upper 20 bits of the address of the root's control words.
+const ROOT_WORDS: u32 = 0x18400;
+/// The control word of a node that counts those at a `barrier`.
+const BARRIER_WORD: u32 = 0;
+/// The one that counts those at the end of a body or a part.
+const CLOSING_WORD: u32 = 1;
+/// How far from its first control word on that of what is agreed stands.
+const AGREED: u32 = 8;
+
+/// The blocks of barriers, of the ends of bodies and parts, of `farm`, `seq`, the beginning and the end of `start`, and of what a group
+/// agrees on.
+#[derive(Clone, Copy, Drop)]
+pub struct GroupBlocks;
+
+impl Blocks<Placed> for GroupBlocks {
+    ghost use Rattle.fk_core.specs.Numbers.{operation_of};
+    ghost use Rattle.fk_gen_group.specs.Blocks.{HasGroupStep, block_of};
+
+    ghost has_block = { HasGroupStep };
+
+    ghost block = { λ placed. block_of (operation_of placed.op.kind placed.op.number) placed.op.depth placed.op.target };
+
+    fn emit_op(&self, op: &Placed, into: &mut Assembler) -> Result<(), AllocError> {
+        match op.op.operation() {
+            Some(Operation::Begin) => begin(into, op.op.depth, op.op.target),
+            Some(Operation::Agree) => agree(into, op.op.depth),
+            Some(Operation::Farm) => farm(into),
+            Some(Operation::Seq) => seq(into, op.op.target),
+            Some(Operation::End) => end(into, op.op.target),
+            Some(Operation::Resume) => meet(into, CLOSING_WORD, SIZE),
+            Some(Operation::Meet(true)) => meet(into, CLOSING_WORD, SIZE),
+            Some(Operation::Meet(false)) => meet(into, BARRIER_WORD, BODY),
+            _ => Ok(()),
+        }
+    }
+}
+
+// A meeting at a control word of the node, of as many as a register says. Arrivals come in even cycles, polls in odd ones.
+fn meet(into: &mut Assembler, word: u32, size: u8) -> Result<(), AllocError>
+    requires word { word < 8 }
+    requires size { size < 32 }
+    requires room { length into.old.lines + 11 < 2 ^ 30 }
+    requires free { AreFollowed into.old }
+    ensures added { OnOk result (into.new ≡ with_block into.old (meet_block word size)) }
+    ensures begun { OnErr result (HasBegun (meet_block word size) into.old into.new) }
+{
+    emit_lines(
+        into,
+        &[
+            BlockLine::quiet(Instruction::Addi(T2, NODE, 4 * word)),
+            BlockLine::quiet(Instruction::Lui(T0, DEVICES)),
+            BlockLine::quiet(Instruction::Lw(T0, T0, CYCLE_DEVICE)),
+            BlockLine::quiet(Instruction::Andi(T0, T0, 1)),
+            BlockLine::quiet(Instruction::Addi(T1, ZERO, 1)),
+            BlockLine::quiet(Instruction::Beq(T0, ZERO, 8)),
+            BlockLine::quiet(Instruction::Addi(ZERO, ZERO, 0)),
+            BlockLine::quiet(Instruction::AmoAddW(ZERO, T2, T1, false, false)),
+            BlockLine::quiet(Instruction::Lw(T0, T2, 0)),
+            BlockLine::quiet(Instruction::Bne(T0, size, 0xffff_fffc)),
+            BlockLine::commits(Instruction::Sw(T2, ZERO, 0)),
+        ],
+    )
+}
+
+// The beginning of `start`, most of whose code all share.
+fn begin(into: &mut Assembler, depth: u32, target: u32) -> Result<(), AllocError>
+    requires depth { depth ≤ 56 }
+    requires near { target < 2 ^ 31 }
+    requires labels { All (GoesToMade into.old.bound) (begin_block depth target) }
+    requires room { length into.old.lines + 3 < 2 ^ 30 }
+    requires free { AreFollowed into.old }
+    ensures added { OnOk result (into.new ≡ with_block into.old (begin_block depth target)) }
+    ensures begun { OnErr result (HasBegun (begin_block depth target) into.old into.new) }
+{
+    emit_lines(
+        into,
+        &[
+            BlockLine::quiet(Instruction::Lw(T3, END, at_value(depth))),
+            BlockLine::goes_to(Instruction::Jal(RA, 0), START_LABEL),
+            BlockLine::goes_to(Instruction::Jal(ZERO, 0), FIRST_LABEL + target),
+        ],
+    )
+}
+
+fn agree(into: &mut Assembler, depth: u32) -> Result<(), AllocError>
+    requires depth { depth ≤ 56 }
+    requires room { length into.old.lines + 4 < 2 ^ 30 }
+    requires free { AreFollowed into.old }
+    ensures added { OnOk result (into.new ≡ with_block into.old (agree_block depth)) }
+    ensures begun { OnErr result (HasBegun (agree_block depth) into.old into.new) }
+{
+    emit_lines(
+        into,
+        &[
+            BlockLine::quiet(Instruction::Lw(T0, END, at_value(depth))),
+            BlockLine::quiet(Instruction::Sw(NODE, T0, AGREED)),
+            BlockLine::commits(Instruction::Lw(T0, NODE, AGREED)),
+            BlockLine::quiet(Instruction::Sw(END, T0, at_value(depth))),
+        ],
+    )
+}
+
+fn farm(into: &mut Assembler) -> Result<(), AllocError>
+    requires room { length into.old.lines + 1 < 2 ^ 30 }
+    requires free { AreFollowed into.old }
+    ensures added { OnOk result (into.new ≡ with_block into.old farm_block) }
+    ensures begun { OnErr result (HasBegun farm_block into.old into.new) }
+{
+    emit_lines(
+        into,
+        &[BlockLine::commits(Instruction::Addi(BODY, SIZE, 0))],
+    )
+}
+
+fn seq(into: &mut Assembler, target: u32) -> Result<(), AllocError>
+    requires near { target < 2 ^ 31 }
+    requires labels { All (GoesToMade into.old.bound) (seq_block target) }
+    requires room { length into.old.lines + 7 < 2 ^ 30 }
+    requires free { AreFollowed into.old }
+    ensures added { OnOk result (into.new ≡ with_block into.old (seq_block target)) }
+    ensures begun { OnErr result (HasBegun (seq_block target) into.old into.new) }
+{
+    emit_lines(
+        into,
+        &[
+            BlockLine::quiet(Instruction::Addi(T2, NODE, AGREED)),
+            BlockLine::quiet(Instruction::Addi(T1, ZERO, 1)),
+            BlockLine::quiet(Instruction::Sw(T2, ZERO, 0)),
+            BlockLine::commits(Instruction::AmoAddW(T0, T2, T1, false, false)),
+            BlockLine::quiet(Instruction::Beq(T0, ZERO, 8)),
+            BlockLine::goes_to(Instruction::Jal(ZERO, 0), FIRST_LABEL + target),
+            BlockLine::quiet(Instruction::Addi(BODY, ZERO, 1)),
+        ],
+    )
+}
+
+// The end of the group of `start`.
+fn end(into: &mut Assembler, target: u32) -> Result<(), AllocError>
+    requires near { target < 2 ^ 31 }
+    requires labels { All (GoesToMade into.old.bound) (end_block target) }
+    requires room { length into.old.lines + 7 < 2 ^ 30 }
+    requires free { AreFollowed into.old }
+    ensures added { OnOk result (into.new ≡ with_block into.old (end_block target)) }
+    ensures begun { OnErr result (HasBegun (end_block target) into.old into.new) }
+{
+    emit_lines(
+        into,
+        &[
+            BlockLine::commits(Instruction::Addi(NUMBER, ZERO, 0)),
+            BlockLine::quiet(Instruction::Lui(T0, DEVICES)),
+            BlockLine::quiet(Instruction::Lw(RANK, T0, NUMBER_DEVICE)),
+            BlockLine::quiet(Instruction::Lw(SIZE, T0, HARTS_DEVICE)),
+            BlockLine::quiet(Instruction::Addi(BODY, SIZE, 0)),
+            BlockLine::quiet(Instruction::Lui(NODE, ROOT_WORDS)),
+            BlockLine::goes_to(Instruction::Jal(ZERO, 0), FIRST_LABEL + target),
+        ],
+    )
+}

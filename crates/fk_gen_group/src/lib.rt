@@ -1,0 +1,12 @@
+//! The blocks of groups: how members meet, agree, and go into bodies and out of them.
+#![tactic(auto)]
+
+mod blocks;
+pub mod laws;
+pub mod registers;
+mod start;
+#[cfg(test)]
+mod tests;
+
+pub use blocks::GroupBlocks;
+pub use start::{START_LABEL, emit_start};

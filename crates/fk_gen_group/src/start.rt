@@ -1,0 +1,123 @@
+//! The code that all beginnings of `start` share.
+
+ghost use Rattle.std.specs.Prelude.{◌≡◌, ◌+◌, ◌^◌, ◌<◌, ◌≤◌, OnOk, length};
+ghost use Rattle.fk_asm.specs.Assembly.{AreFollowed};
+ghost use Rattle.fk_asm.specs.Block.{with_block};
+ghost use Rattle.fk_gen_group.specs.Blocks.{meet_lines, telling_lines, size_lines, parting_lines, start_lines};
+
+use crate::registers::NODE;
+use fk_asm::Assembler;
+use fk_gen::numbers::{high_part, low_part};
+use fk_gen::registers::{DEVICES, RA, RANK, SIZE, T0, T1, T2, T3, ZERO};
+use fk_gen::{BlockLine, emit_lines};
+use fk_isa::Instruction;
+use std::alloc::AllocError;
+
+/// The label where this code is entered.
+pub const START_LABEL: u32 = 57;
+/// The address of the first control word.
+const CONTROL: u32 = 0x1800_0000;
+/// How far from its first control word on the one stands that counts those at the end of a body or a part.
+const CLOSING: u32 = 4;
+/// And that of what is agreed.
+const AGREED: u32 = 8;
+/// How far from the first device on the one stands that tells how many input numbers there are.
+const INPUTS_DEVICE: u32 = 28;
+
+/// Adds the code that all beginnings of `start` share, for an image with so many words of globals. All processors meet, agree on the
+/// value of the highest, and go each to its part. It stands at `START_LABEL`.
+pub fn emit_start(into: &mut Assembler, globals: u32) -> Result<(), AllocError>
+    requires few { globals ≤ 2 ^ 19 }
+    requires room { length into.old.lines + 30 < 2 ^ 30 }
+    requires free { AreFollowed into.old }
+    ensures added { OnOk result (into.new ≡ with_block into.old (start_lines globals)) }
+{
+    emit_meeting(into)?;
+    emit_telling(into)?;
+    emit_size(into)?;
+    emit_parting(into, globals)
+}
+
+// All meet in the root. Leaving is no operation.
+fn emit_meeting(into: &mut Assembler) -> Result<(), AllocError>
+    requires room { length into.old.lines + 11 < 2 ^ 30 }
+    requires free { AreFollowed into.old }
+    ensures added { OnOk result (into.new ≡ with_block into.old meet_lines) }
+{
+    emit_lines(
+        into,
+        &[
+            BlockLine::quiet(Instruction::Addi(T2, NODE, CLOSING)),
+            BlockLine::quiet(Instruction::Lui(T0, 0x30000)),
+            BlockLine::quiet(Instruction::Lw(T0, T0, 16)),
+            BlockLine::quiet(Instruction::Andi(T0, T0, 1)),
+            BlockLine::quiet(Instruction::Addi(T1, ZERO, 1)),
+            BlockLine::quiet(Instruction::Beq(T0, ZERO, 8)),
+            BlockLine::quiet(Instruction::Addi(ZERO, ZERO, 0)),
+            BlockLine::quiet(Instruction::AmoAddW(ZERO, T2, T1, false, false)),
+            BlockLine::quiet(Instruction::Lw(T0, T2, 0)),
+            BlockLine::quiet(Instruction::Bne(T0, SIZE, 0xffff_fffc)),
+            BlockLine::quiet(Instruction::Sw(T2, ZERO, 0)),
+        ],
+    )
+}
+
+// All store their values in one cycle, so that the highest member's stays, and load it in the next.
+fn emit_telling(into: &mut Assembler) -> Result<(), AllocError>
+    requires room { length into.old.lines + 2 < 2 ^ 30 }
+    requires free { AreFollowed into.old }
+    ensures added { OnOk result (into.new ≡ with_block into.old telling_lines) }
+{
+    emit_lines(
+        into,
+        &[
+            BlockLine::quiet(Instruction::Sw(NODE, T3, AGREED)),
+            BlockLine::commits(Instruction::Lw(T3, NODE, AGREED)),
+        ],
+    )
+}
+
+// The value becomes the size of the group: 0 for a negative one, and at most the number of processors.
+fn emit_size(into: &mut Assembler) -> Result<(), AllocError>
+    requires room { length into.old.lines + 8 < 2 ^ 30 }
+    requires free { AreFollowed into.old }
+    ensures added { OnOk result (into.new ≡ with_block into.old size_lines) }
+{
+    emit_lines(
+        into,
+        &[
+            BlockLine::quiet(Instruction::Srli(T1, T3, 31)),
+            BlockLine::quiet(Instruction::Sltiu(T1, T1, 1)),
+            BlockLine::quiet(Instruction::Mul(T3, T3, T1)),
+            BlockLine::quiet(Instruction::Sltu(T1, T3, SIZE)),
+            BlockLine::quiet(Instruction::Mul(T3, T3, T1)),
+            BlockLine::quiet(Instruction::Sltiu(T1, T1, 1)),
+            BlockLine::quiet(Instruction::Mul(T1, SIZE, T1)),
+            BlockLine::quiet(Instruction::Add(T3, T3, T1)),
+        ],
+    )
+}
+
+// Who is not below the size goes back to wait; the others have the size of their group, and its control words.
+fn emit_parting(into: &mut Assembler, globals: u32) -> Result<(), AllocError>
+    requires few { globals ≤ 2 ^ 19 }
+    requires room { length into.old.lines + 9 < 2 ^ 30 }
+    requires free { AreFollowed into.old }
+    ensures added { OnOk result (into.new ≡ with_block into.old (parting_lines globals)) }
+{
+    let words = CONTROL + 4 * globals;
+    emit_lines(
+        into,
+        &[
+            BlockLine::quiet(Instruction::Bltu(RANK, T3, 8)),
+            BlockLine::quiet(Instruction::Jalr(ZERO, RA, 0)),
+            BlockLine::quiet(Instruction::Addi(SIZE, T3, 0)),
+            BlockLine::quiet(Instruction::Lw(T0, DEVICES, INPUTS_DEVICE)),
+            BlockLine::quiet(Instruction::Slli(T0, T0, 2)),
+            BlockLine::quiet(Instruction::Lui(T1, high_part(words))),
+            BlockLine::quiet(Instruction::Addi(T1, T1, low_part(words))),
+            BlockLine::quiet(Instruction::Add(NODE, T0, T1)),
+            BlockLine::quiet(Instruction::Jalr(ZERO, RA, 4)),
+        ],
+    )
+}

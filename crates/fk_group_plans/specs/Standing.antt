@@ -1,0 +1,85 @@
+-- Who stands at the beginning of a block is at a stage.
+use Rattle.std.specs.Prelude.{◌≡◌, ℕ, ◌+◌, ◌≤◌, List, map, Bool, true, None}
+use Rattle.fk_num.specs.Word.{Memory}
+use Rattle.fk_operation.specs.declared.operation.Operation.{Operation}
+use Rattle.fk_operation.specs.declared.operation.Operation.TheVariants.{End, Halt}
+use Rattle.fk_run.specs.Processor.{Setting}
+use Rattle.fk_core.specs.declared.op.CoreOp.{CoreOp}
+use Rattle.fk_image.specs.declared.Image.{Image}
+use Rattle.fk_machine.specs.Hart.{Setting as MachineSetting}
+use Rattle.fk_nodes.specs.Node.{Member}
+use Rattle.fk_meeting.specs.Phase.{Coming}
+use Rattle.fk_plans.specs.Stage.{Stage, Acts, Meets}
+use Rattle.fk_plans.specs.Plan.{Plan, IsOpen, StandsAt, InLockstep}
+use Rattle.fk_plans.specs.Change.{IsFresh}
+use Rattle.fk_block_law.specs.Owner.{Owner, number_of, core_source}
+use Rattle.fk_block_law.specs.Stands.{Places}
+use Rattle.fk_block_law.specs.Next.{StandsOp}
+use Rattle.fk_block_law.specs.Ready.{is_alone}
+use Rattle.fk_block_law.specs.Block.{most_before, Enters}
+use Rattle.fk_group_law.specs.Node.{Nestings, OwnsHeader, IsAtRest}
+use Rattle.fk_group_law.specs.Lockstep.{IsMember, AllEnter, AreInStart}
+use Rattle.fk_group_law.specs.Joint.{is_meeting, word_of, AreSoMany}
+use Rattle.fk_group_law.specs.Law.{Cycles, GroupLaw, is_shared_step, IsAskedOf}
+use Rattle.fk_group_law.specs.Laws.{AllGo}
+use Rattle.fk_group_plans.specs.Behind.{runs_of, blocks_of}
+
+-- all are at one distance
+abbrev pub all_act : (d : ℕ) → List Member → List Stage
+all_act d ms = map (λ m. Acts d) ms
+
+-- by itself, at a local operation or a request
+abbrev pub MembersStandAtStages : Type 0
+MembersStandAtStages =
+    (core : List CoreOp) (image : Image) (places : Places) (nestings : Nestings) (cycles : Cycles) (firsts : List ℕ) (main : ℕ) (setting : Setting) (plan : Plan) (first : ℕ → ℕ)
+    (t : MachineSetting) (g i : ℕ) (op : CoreOp) (operation : Operation) (m : Member) (p : Owner)
+    → GroupLaw core image places nestings cycles firsts main → StandsOp core i op operation → is_alone operation ≡ true
+    → Enters core image places setting t i op operation p m.hart → IsMember places nestings setting (runs_of plan (first g) m.number) (first g) m p
+    → StandsAt (core_source core setting) image plan (blocks_of core image places nestings setting plan first) t g (Acts (cycles.before i)) m p
+
+-- at the end of `main`
+abbrev pub MembersHaltAtStages : Type 0
+MembersHaltAtStages =
+    (core : List CoreOp) (image : Image) (places : Places) (nestings : Nestings) (cycles : Cycles) (firsts : List ℕ) (main : ℕ) (setting : Setting) (plan : Plan) (first : ℕ → ℕ)
+    (t : MachineSetting) (g i : ℕ) (op : CoreOp) (m : Member) (p : Owner)
+    → GroupLaw core image places nestings cycles firsts main → StandsOp core i op Halt → Enters core image places setting t i op Halt p m.hart → m.number ≡ number_of p
+    → (d : ℕ) × (d ≤ most_before) × StandsAt (core_source core setting) image plan (blocks_of core image places nestings setting plan first) t g (Acts d) m p
+
+-- at an operation by meeting it is on its way
+abbrev pub MeetersSetOut : Type 0
+MeetersSetOut =
+    (core : List CoreOp) (image : Image) (places : Places) (nestings : Nestings) (cycles : Cycles) (firsts : List ℕ) (main : ℕ) (setting : Setting) (plan : Plan) (first : ℕ → ℕ)
+    (t : MachineSetting) (g i w : ℕ) (op : CoreOp) (operation : Operation) (m : Member) (p : Owner)
+    → GroupLaw core image places nestings cycles firsts main → StandsOp core i op operation → is_meeting operation ≡ true
+    → Enters core image places setting t i op operation p m.hart → IsMember places nestings setting (runs_of plan (first g) m.number) (first g) m p
+    → OwnsHeader (plan.words g) (first g) → w ≡ first g + word_of operation → IsOpen plan g w → plan.member w m.number ≡ true → AreSoMany operation (runs_of plan (first g) m.number) p (plan.size w)
+    → (d : ℕ) × (d ≤ most_before) × IsFresh t (Meets w (Coming d))
+    × StandsAt (core_source core setting) image plan (blocks_of core image places nestings setting plan first) t g (Meets w (Coming d)) m p
+
+-- members in lockstep at a local operation or a request, with nobody at the words of their node
+abbrev pub GroupsActTogether : Type 0
+GroupsActTogether =
+    (core : List CoreOp) (image : Image) (places : Places) (nestings : Nestings) (cycles : Cycles) (firsts : List ℕ) (main : ℕ) (setting : Setting) (plan : Plan) (first : ℕ → ℕ)
+    (t : MachineSetting) (g i : ℕ) (op : CoreOp) (operation : Operation) (onward : Bool) (ms : List Member) (ps : List Owner) (own : Memory)
+    → GroupLaw core image places nestings cycles firsts main → StandsOp core i op operation → is_alone operation ≡ true
+    → AllEnter core image places nestings i op operation setting t None (first g) ms ps → AllGo operation onward ps → IsAtRest (first g) own
+    → InLockstep (core_source core setting) image plan (blocks_of core image places nestings setting plan first) t g (all_act (cycles.before i) ms) ms ps own
+
+-- at a step of the tree in which they keep their node
+abbrev pub GroupsStepTogether : Type 0
+GroupsStepTogether =
+    (core : List CoreOp) (image : Image) (places : Places) (nestings : Nestings) (cycles : Cycles) (firsts : List ℕ) (main : ℕ) (setting : Setting) (plan : Plan) (first : ℕ → ℕ)
+    (t : MachineSetting) (g i : ℕ) (op : CoreOp) (operation : Operation) (lowest size : ℕ) (ms : List Member) (ps : List Owner) (own : Memory)
+    → GroupLaw core image places nestings cycles firsts main → StandsOp core i op operation → is_shared_step operation ≡ true
+    → OwnsHeader (plan.words g) (first g) → AllEnter core image places nestings i op operation setting t None (first g) ms ps
+    → IsAskedOf operation lowest size ps → IsAtRest (first g) own
+    → InLockstep (core_source core setting) image plan (blocks_of core image places nestings setting plan first) t g (all_act (cycles.before i) ms) ms ps own
+
+-- and at the end of the group of `start`
+abbrev pub GroupsEndTogether : Type 0
+GroupsEndTogether =
+    (core : List CoreOp) (image : Image) (places : Places) (nestings : Nestings) (cycles : Cycles) (firsts : List ℕ) (main : ℕ) (setting : Setting) (plan : Plan) (first : ℕ → ℕ)
+    (t : MachineSetting) (g i : ℕ) (op : CoreOp) (ms : List Member) (ps : List Owner) (own : Memory)
+    → GroupLaw core image places nestings cycles firsts main → StandsOp core i op End → AllEnter core image places nestings i op End setting t None (first g) ms ps
+    → AreInStart nestings ps
+    → InLockstep (core_source core setting) image plan (blocks_of core image places nestings setting plan first) t g (all_act 0 ms) ms ps own

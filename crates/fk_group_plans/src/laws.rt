@@ -1,0 +1,66 @@
+//! Laws of the definitions.
+
+ghost use Rattle.fk_group_plans.specs.Rounds.{RoundsAreAllowed};
+ghost use Rattle.fk_group_plans.specs.Standing.{MembersStandAtStages, MembersHaltAtStages, MeetersSetOut, GroupsActTogether, GroupsStepTogether, GroupsEndTogether};
+ghost use Rattle.fk_group_plans.specs.Laws.{OneGroupHasSpace, NodesOwnApart, WordsTellMeeters, MeetersTurn, CyclesAreRounds};
+
+/// While the root has one group at most, the spaces of all groups are apart.
+pub fn one_group_has_space()
+    ensures { OneGroupHasSpace }
+{}
+
+/// No control word is the own word of two nodes.
+pub fn nodes_own_apart()
+    ensures { NodesOwnApart }
+{}
+
+/// So the plan of a tree tells of each arrival word of a node who meets there, and how many they are.
+pub fn words_tell_meeters()
+    ensures { WordsTellMeeters }
+{}
+
+/// The turn of a member that meets is that of its phase: who leaves commits its operation.
+pub fn meeters_turn()
+    ensures { MeetersTurn }
+{}
+
+/// Where the plan of a tree binds all harts, a cycle is a round of core runs, up to its first fault, of those whose
+/// stages commit.
+pub fn cycles_are_rounds()
+    ensures { CyclesAreRounds }
+{}
+
+/// That round is allowed: a group in lockstep acts whole, and where one of those who meet commits, all do, the same operation.
+pub fn rounds_are_allowed()
+    ensures { RoundsAreAllowed }
+{}
+
+/// A member that stands at the block of a local operation or a request is at the distance of its commit.
+pub fn members_stand_at_stages()
+    ensures { MembersStandAtStages }
+{}
+
+/// So is one that stands at that of a halt.
+pub fn members_halt_at_stages()
+    ensures { MembersHaltAtStages }
+{}
+
+/// One that stands at the block of an operation by meeting is on its way to its arrival word.
+pub fn meeters_set_out()
+    ensures { MeetersSetOut }
+{}
+
+/// A group that stands at the block of a local operation or a request, and goes one way, is in lockstep.
+pub fn groups_act_together()
+    ensures { GroupsActTogether }
+{}
+
+/// So it is at a step of the tree in which its members keep their node.
+pub fn groups_step_together()
+    ensures { GroupsStepTogether }
+{}
+
+/// And at the end of the group of `start`.
+pub fn groups_end_together()
+    ensures { GroupsEndTogether }
+{}

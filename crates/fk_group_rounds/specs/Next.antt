@@ -1,0 +1,97 @@
+-- What is known of processors that are about to do their next operations, in the nodes where they stand.
+use Rattle.std.specs.Prelude.{◌≡◌, ℕ, suc, List, [], ◌∷◌, length, slice_get, Bool, true, false, Some, map, ◌⊎◌}
+use Rattle.fk_space.specs.Space.{Space}
+use Rattle.fk_tree.specs.Tree as trees
+use Rattle.fk_tree.specs.Tree.{Tree, is_member}
+use Rattle.fk_operation.specs.Kinds.{joint_of}
+use Rattle.fk_operation.specs.declared.operation.Operation.{Operation}
+use Rattle.fk_operation.specs.declared.operation.Operation.TheVariants.{End, Halt}
+use Rattle.fk_core.specs.declared.op.CoreOp.{CoreOp}
+use Rattle.fk_core.specs.Next.{is_jump, landing}
+use Rattle.fk_core.specs.WellFormed.{IsOperation}
+use Rattle.fk_block_law.specs.Owner.{Owner, number_of}
+use Rattle.fk_block_law.specs.Next.{StandsOp}
+use Rattle.fk_block_law.specs.Ready.{is_alone, IsReady}
+use Rattle.fk_block_law.specs.Block.{gone_to}
+use Rattle.fk_group_law.specs.Node.{Nestings, first_word}
+use Rattle.fk_group_law.specs.Lockstep.{AreInStart}
+use Rattle.fk_group_law.specs.Joint.{is_meeting, word_of}
+use Rattle.fk_group_law.specs.Law.{is_shared_step, IsAskedOf}
+use Rattle.fk_group_law.specs.Laws.{AllGo}
+use Rattle.fk_group_plans.specs.Nodes.{first_of, meeters_at, is_lockstep}
+use Rattle.fk_group_plans.specs.Rounds.{joint_at_word}
+
+-- a jump leads to an operation
+abbrev pub JumpsLead : List CoreOp → Type 0
+JumpsLead core = (i : ℕ) (op : CoreOp) → slice_get core i ≡ Some op → is_jump op ≡ true → IsOperation core op.target
+
+-- a processor at the index of the operation to which jumps lead it. Jumps are no operations, so it is in the same run
+abbrev pub landed : List CoreOp → Owner → Owner
+landed core p = gone_to (landing core p.runner.left.at) p
+
+abbrev pub all_landed : List CoreOp → List Owner → List Owner
+all_landed core ps = map (landed core) ps
+
+-- ---- in its node
+
+-- what a processor has of its group is that of the node where it stands
+pub record IsHome (tree : Tree) (spaces : ℕ → Space) (number : ℕ) (p : Owner) : Type 0 where
+  pub number_is : number_of p ≡ number
+  pub words : first_word p.runner.has.level p.runner.has.outer ≡ first_of spaces (tree.places number)
+  pub size : p.runner.has.level.size ≡ length (trees.members tree (tree.places number))
+
+-- one by itself meets others at a word of its node
+pub record MayMeet (tree : Tree) (g number : ℕ) (operation : Operation) : Type 0 where
+  pub meeting : is_meeting operation ≡ true
+  pub joint : joint_of operation ≡ joint_at_word (trees.kind tree g) (word_of operation)
+  pub member : is_member number (meeters_at tree g (word_of operation)) ≡ true
+
+-- or does an operation alone, or ends
+abbrev pub MayByItself : Tree → (g number : ℕ) → Operation → Type 0
+MayByItself tree g number operation = (is_alone operation ≡ true) ⊎ ((operation ≡ Halt) ⊎ MayMeet tree g number operation)
+
+-- a processor is about to do this
+pub record HasNext (core : List CoreOp) (tree : Tree) (number : ℕ) (p : Owner) : Type 0 where
+  pub op : CoreOp
+  pub operation : Operation
+  pub stands : StandsOp core p.runner.left.at op operation
+  pub ready : IsReady op operation p.runner
+  pub may : is_lockstep (trees.kind tree (tree.places number)) ≡ false → MayByItself tree (tree.places number) number operation
+
+-- ---- in a group
+
+-- all are at one index
+abbrev pub AllAt : (i : ℕ) → List Owner → Type 0
+AllAt i [] = Unit {0}
+AllAt i (p ∷ ps) = (p.runner.left.at ≡ i) × AllAt i ps
+
+-- all are about to do the same operation
+abbrev pub AllAbout : (i : ℕ) → CoreOp → Operation → List Owner → Type 0
+AllAbout i op operation [] = Unit {0}
+AllAbout i op operation (p ∷ ps) = (p.runner.left.at ≡ i) × IsReady op operation p.runner × AllAbout i op operation ps
+
+-- a local operation or a request by which all go one way, a step of the tree in which they stay in their node, or the end of
+-- the group of `start`
+pub record ActsAlike (operation : Operation) (ps : List Owner) : Type 0 where
+  pub alone : is_alone operation ≡ true
+  pub onward : Bool
+  pub go : AllGo operation onward ps
+
+pub record StepsAlike (operation : Operation) (ps : List Owner) : Type 0 where
+  pub shared : is_shared_step operation ≡ true
+  pub lowest : ℕ
+  pub size : ℕ
+  pub asked : IsAskedOf operation lowest size ps
+
+abbrev pub MayInGroup : Nestings → Operation → List Owner → Type 0
+MayInGroup nestings operation ps = ActsAlike operation ps ⊎ (StepsAlike operation ps ⊎ ((operation ≡ End) × AreInStart nestings ps))
+
+-- the members of a group, all of which have come to one index, are about to do this
+pub record HaveNext (core : List CoreOp) (nestings : Nestings) (ps : List Owner) : Type 0 where
+  pub at : ℕ
+  pub all_at : AllAt at ps
+  pub op : CoreOp
+  pub operation : Operation
+  pub stands : StandsOp core (landing core at) op operation
+  pub about : AllAbout (landing core at) op operation (all_landed core ps)
+  pub may : MayInGroup nestings operation (all_landed core ps)

@@ -1,0 +1,5 @@
+pub mod Stage
+pub mod Plan
+pub mod Cycle
+pub mod Pace
+pub mod Change
