@@ -93,7 +93,7 @@ impl<'p, 'a> Outline<'p, 'a> {
         let mut outline = Outline {
             marks: Vec::new(alloc),
         };
-        outline.add_items(items)?;
+        Self::add_items(items, &mut outline)?;
         Ok(outline)
     }
 
@@ -104,16 +104,17 @@ impl<'p, 'a> Outline<'p, 'a> {
         &self.marks
     }
 
-    fn add(&mut self, mark: Mark<'p, 'a>) -> Result<(), AllocError>
-        ensures { OnOk result (marks_in self.new ≡ marks_in self.old ++ mark_of mark.entry ∷ []) }
+    // What is read stands before what it is added to: such calls have shorter proofs than methods.
+    fn add(mark: Mark<'p, 'a>, kept: &mut Self) -> Result<(), AllocError>
+        ensures { OnOk result (marks_in kept.new ≡ marks_in kept.old ++ mark_of mark.entry ∷ []) }
     {
-        self.marks.push(mark)?;
+        kept.marks.push(mark)?;
         Ok(())
     }
 
     #[cycle(expression)]
-    fn add_expression(&mut self, expression: &Expr<'a>) -> Result<(), AllocError>
-        ensures { OnOk result (marks_in self.new ≡ marks_in self.old ++ tree_marks (tree_of expression.now)) }
+    fn add_expression(expression: &Expr<'a>, kept: &mut Self) -> Result<(), AllocError>
+        ensures { OnOk result (marks_in kept.new ≡ marks_in kept.old ++ tree_marks (tree_of expression.now)) }
     {
         match expression {
             Expr::Number(_, _, _)
@@ -121,50 +122,50 @@ impl<'p, 'a> Outline<'p, 'a> {
             | Expr::Sizeof(_, _)
             | Expr::GroupNumber(_)
             | Expr::GroupRank(_) => Ok(()),
-            Expr::Named(name) => self.add(Mark::Uses(*name)),
+            Expr::Named(name) => Self::add(Mark::Uses(*name), kept),
             Expr::Prefix(_, _, operand) | Expr::Cast(_, _, operand) => {
-                self.add_expression(operand)
+                Self::add_expression(operand, kept)
             }
             Expr::Chain(first, links) => {
-                self.add_expression(first)?;
-                self.add_links(links)
+                Self::add_expression(first, kept)?;
+                Self::add_links(links, kept)
             }
             Expr::Postfix(whole, suffixes) => {
-                self.add_expression(whole)?;
-                self.add_suffixes(suffixes)
+                Self::add_expression(whole, kept)?;
+                Self::add_suffixes(suffixes, kept)
             }
             Expr::Assign(_, _, target, value) => {
-                self.add_expression(target)?;
-                self.add_expression(value)
+                Self::add_expression(target, kept)?;
+                Self::add_expression(value, kept)
             }
             Expr::Choose(_, condition, first, second) => {
-                self.add_expression(condition)?;
-                self.add_expression(first)?;
-                self.add_expression(second)
+                Self::add_expression(condition, kept)?;
+                Self::add_expression(first, kept)?;
+                Self::add_expression(second, kept)
             }
         }
     }
 
     #[cycle(expression)]
-    fn add_links(&mut self, links: &[Link<'a>]) -> Result<(), AllocError>
-        ensures { OnOk result (marks_in self.new
-            ≡ marks_in self.old ++ links_marks (links_of (map link_of links.now))) }
+    fn add_links(links: &[Link<'a>], kept: &mut Self) -> Result<(), AllocError>
+        ensures { OnOk result (marks_in kept.new
+            ≡ marks_in kept.old ++ links_marks (links_of (map link_of links.now))) }
     {
         for link in links {
-            self.add_expression(&link.right)?;
+            Self::add_expression(&link.right, kept)?;
         }
         Ok(())
     }
 
     #[cycle(expression)]
-    fn add_suffixes(&mut self, suffixes: &[Suffix<'a>]) -> Result<(), AllocError>
-        ensures { OnOk result (marks_in self.new
-            ≡ marks_in self.old ++ suffixes_marks (suffixes_of (map suffix_of suffixes.now))) }
+    fn add_suffixes(suffixes: &[Suffix<'a>], kept: &mut Self) -> Result<(), AllocError>
+        ensures { OnOk result (marks_in kept.new
+            ≡ marks_in kept.old ++ suffixes_marks (suffixes_of (map suffix_of suffixes.now))) }
     {
         for suffix in suffixes {
             match suffix {
-                Suffix::Index(_, by) => self.add_expression(by)?,
-                Suffix::Call(_, arguments) => self.add_expressions(arguments)?,
+                Suffix::Index(_, by) => Self::add_expression(by, kept)?,
+                Suffix::Call(_, arguments) => Self::add_expressions(arguments, kept)?,
                 Suffix::Dot(_, _) | Suffix::Arrow(_, _) | Suffix::Up(_) | Suffix::Down(_) => {}
             }
         }
@@ -172,258 +173,270 @@ impl<'p, 'a> Outline<'p, 'a> {
     }
 
     #[cycle(expression)]
-    fn add_expressions(&mut self, expressions: &[Expr<'a>]) -> Result<(), AllocError>
-        ensures { OnOk result (marks_in self.new
-            ≡ marks_in self.old ++ trees_marks (trees_of (map tree_of expressions.now))) }
+    fn add_expressions(expressions: &[Expr<'a>], kept: &mut Self) -> Result<(), AllocError>
+        ensures { OnOk result (marks_in kept.new
+            ≡ marks_in kept.old ++ trees_marks (trees_of (map tree_of expressions.now))) }
     {
         for expression in expressions {
-            self.add_expression(expression)?;
+            Self::add_expression(expression, kept)?;
         }
         Ok(())
     }
 
-    fn add_optional(&mut self, expression: &Option<Expr<'a>>) -> Result<(), AllocError>
-        ensures { OnOk result (marks_in self.new
-            ≡ marks_in self.old ++ optional_marks (option_map tree_of expression.now)) }
+    fn add_optional(expression: &Option<Expr<'a>>, kept: &mut Self) -> Result<(), AllocError>
+        ensures { OnOk result (marks_in kept.new
+            ≡ marks_in kept.old ++ optional_marks (option_map tree_of expression.now)) }
     {
         match expression {
-            Some(expression) => self.add_expression(expression),
+            Some(expression) => Self::add_expression(expression, kept),
             None => Ok(()),
         }
     }
 
-    fn add_variable(&mut self, variable: &'p Declared<'a>) -> Result<(), AllocError>
-        ensures { OnOk result (marks_in self.new
-            ≡ marks_in self.old ++ variable_marks (declared_of variable.now)) }
+    fn add_variable(variable: &'p Declared<'a>, kept: &mut Self) -> Result<(), AllocError>
+        ensures { OnOk result (marks_in kept.new
+            ≡ marks_in kept.old ++ variable_marks (declared_of variable.now)) }
     {
-        self.add(Mark::Declares(Declaration::Variable(variable)))?;
-        self.add_optional(&variable.first)
+        Self::add(Mark::Declares(Declaration::Variable(variable)), kept)?;
+        Self::add_optional(&variable.first, kept)
     }
 
-    fn add_variables(&mut self, variables: &'p [Declared<'a>]) -> Result<(), AllocError>
-        ensures { OnOk result (marks_in self.new
-            ≡ marks_in self.old ++ variables_marks (map declared_of variables.now)) }
+    fn add_variables(variables: &'p [Declared<'a>], kept: &mut Self) -> Result<(), AllocError>
+        ensures { OnOk result (marks_in kept.new
+            ≡ marks_in kept.old ++ variables_marks (map declared_of variables.now)) }
     {
         for variable in variables {
-            self.add_variable(variable)?;
+            Self::add_variable(variable, kept)?;
         }
         Ok(())
     }
 
     // The three expressions of a `for`.
     fn add_head(
-        &mut self,
         before: &Option<Expr<'a>>,
         condition: &Option<Expr<'a>>,
         after: &Option<Expr<'a>>,
+        kept: &mut Self,
     ) -> Result<(), AllocError>
-        ensures { OnOk result (marks_in self.new ≡ marks_in self.old
+        ensures { OnOk result (marks_in kept.new ≡ marks_in kept.old
             ++ (optional_marks (option_map tree_of before.now)
             ++ optional_marks (option_map tree_of condition.now)
             ++ optional_marks (option_map tree_of after.now))) }
     {
-        self.add_optional(before)?;
-        self.add_optional(condition)?;
-        self.add_optional(after)
+        Self::add_optional(before, kept)?;
+        Self::add_optional(condition, kept)?;
+        Self::add_optional(after, kept)
     }
 
     // The three expressions of a `fork`.
     fn add_parts(
-        &mut self,
         parts: &Expr<'a>,
         part: &Expr<'a>,
         rank: &Option<Expr<'a>>,
+        kept: &mut Self,
     ) -> Result<(), AllocError>
-        ensures { OnOk result (marks_in self.new ≡ marks_in self.old
+        ensures { OnOk result (marks_in kept.new ≡ marks_in kept.old
             ++ (tree_marks (tree_of parts.now)
             ++ tree_marks (tree_of part.now)
             ++ optional_marks (option_map tree_of rank.now))) }
     {
-        self.add_expression(parts)?;
-        self.add_expression(part)?;
-        self.add_optional(rank)
+        Self::add_expression(parts, kept)?;
+        Self::add_expression(part, kept)?;
+        Self::add_optional(rank, kept)
     }
 
     #[cycle(statement)]
-    fn add_statement(&mut self, statement: &'p Stmt<'a>) -> Result<(), AllocError>
-        ensures { OnOk result (marks_in self.new
-            ≡ marks_in self.old ++ statement_marks (statement_of statement.now)) }
+    fn add_statement(statement: &'p Stmt<'a>, kept: &mut Self) -> Result<(), AllocError>
+        ensures { OnOk result (marks_in kept.new
+            ≡ marks_in kept.old ++ statement_marks (statement_of statement.now)) }
     {
         match statement {
             Stmt::Empty | Stmt::Barrier(_) | Stmt::Break(_) | Stmt::Continue(_) => Ok(()),
-            Stmt::Expression(value) => self.add_expression(value),
-            Stmt::Block(statements) => self.add_block(statements),
-            Stmt::Declare(variables) => self.add_variables(variables),
+            Stmt::Expression(value) => Self::add_expression(value, kept),
+            Stmt::Block(statements) => Self::add_block(statements, kept),
+            Stmt::Declare(variables) => Self::add_variables(variables, kept),
             Stmt::If(_, condition, then, otherwise) => {
-                self.add_expression(condition)?;
-                self.add_body(then)?;
+                Self::add_expression(condition, kept)?;
+                Self::add_body(then, kept)?;
                 match otherwise {
-                    Some(otherwise) => self.add_body(otherwise),
+                    Some(otherwise) => Self::add_body(otherwise, kept),
                     None => Ok(()),
                 }
             }
-            Stmt::While(_, condition, body) => self.add_while(body, condition),
-            Stmt::DoWhile(_, body, condition) => self.add_do_while(body, condition),
+            Stmt::While(_, condition, body) => Self::add_while(body, condition, kept),
+            Stmt::DoWhile(_, body, condition) => Self::add_do_while(body, condition, kept),
             Stmt::For(_, before, condition, after, body) => {
-                self.add_for(before, condition, after, body)
+                Self::add_for(body, before, condition, after, kept)
             }
-            Stmt::Start(_, count, body) => self.add_start(count, body),
-            Stmt::Farm(_, body) | Stmt::Seq(_, body) => self.add_body(body),
-            Stmt::Fork(_, parts, part, rank, body) => self.add_fork(body, parts, part, rank),
-            Stmt::Return(_, value) => self.add_optional(value),
+            Stmt::Start(_, count, body) => Self::add_start(body, count, kept),
+            Stmt::Farm(_, body) | Stmt::Seq(_, body) => Self::add_body(body, kept),
+            Stmt::Fork(_, parts, part, rank, body) => Self::add_fork(body, parts, part, rank, kept),
+            Stmt::Return(_, value) => Self::add_optional(value, kept),
         }
     }
 
     // A body behind its condition.
     #[cycle(statement)]
-    fn add_while(&mut self, body: &'p Stmt<'a>, condition: &Expr<'a>) -> Result<(), AllocError>
-        ensures { OnOk result (marks_in self.new ≡ marks_in self.old
+    fn add_while(
+        body: &'p Stmt<'a>,
+        condition: &Expr<'a>,
+        kept: &mut Self,
+    ) -> Result<(), AllocError>
+        ensures { OnOk result (marks_in kept.new ≡ marks_in kept.old
             ++ (tree_marks (tree_of condition.now)
             ++ scope (statement_marks (statement_of body.now)))) }
     {
-        self.add_expression(condition)?;
-        self.add_body(body)
+        Self::add_expression(condition, kept)?;
+        Self::add_body(body, kept)
     }
 
     // A body before its condition.
     #[cycle(statement)]
-    fn add_do_while(&mut self, body: &'p Stmt<'a>, condition: &Expr<'a>) -> Result<(), AllocError>
-        ensures { OnOk result (marks_in self.new ≡ marks_in self.old
+    fn add_do_while(
+        body: &'p Stmt<'a>,
+        condition: &Expr<'a>,
+        kept: &mut Self,
+    ) -> Result<(), AllocError>
+        ensures { OnOk result (marks_in kept.new ≡ marks_in kept.old
             ++ (scope (statement_marks (statement_of body.now))
             ++ tree_marks (tree_of condition.now))) }
     {
-        self.add_body(body)?;
-        self.add_expression(condition)
+        Self::add_body(body, kept)?;
+        Self::add_expression(condition, kept)
     }
 
     // The body of a `for` behind its three expressions.
     #[cycle(statement)]
     fn add_for(
-        &mut self,
+        body: &'p Stmt<'a>,
         before: &Option<Expr<'a>>,
         condition: &Option<Expr<'a>>,
         after: &Option<Expr<'a>>,
-        body: &'p Stmt<'a>,
+        kept: &mut Self,
     ) -> Result<(), AllocError>
-        ensures { OnOk result (marks_in self.new ≡ marks_in self.old
+        ensures { OnOk result (marks_in kept.new ≡ marks_in kept.old
             ++ (optional_marks (option_map tree_of before.now)
             ++ optional_marks (option_map tree_of condition.now)
             ++ optional_marks (option_map tree_of after.now)
             ++ scope (statement_marks (statement_of body.now)))) }
     {
-        self.add_head(before, condition, after)?;
-        self.add_body(body)
+        Self::add_head(before, condition, after, kept)?;
+        Self::add_body(body, kept)
     }
 
     // The body of a `start` behind its count.
     #[cycle(statement)]
-    fn add_start(&mut self, count: &Option<Expr<'a>>, body: &'p Stmt<'a>) -> Result<(), AllocError>
-        ensures { OnOk result (marks_in self.new ≡ marks_in self.old
+    fn add_start(
+        body: &'p Stmt<'a>,
+        count: &Option<Expr<'a>>,
+        kept: &mut Self,
+    ) -> Result<(), AllocError>
+        ensures { OnOk result (marks_in kept.new ≡ marks_in kept.old
             ++ (optional_marks (option_map tree_of count.now)
             ++ scope (statement_marks (statement_of body.now)))) }
     {
-        self.add_optional(count)?;
-        self.add_body(body)
+        Self::add_optional(count, kept)?;
+        Self::add_body(body, kept)
     }
 
     // The body of a `fork` behind its three expressions.
     #[cycle(statement)]
     fn add_fork(
-        &mut self,
         body: &'p Stmt<'a>,
         parts: &Expr<'a>,
         part: &Expr<'a>,
         rank: &Option<Expr<'a>>,
+        kept: &mut Self,
     ) -> Result<(), AllocError>
-        ensures { OnOk result (marks_in self.new ≡ marks_in self.old
+        ensures { OnOk result (marks_in kept.new ≡ marks_in kept.old
             ++ (tree_marks (tree_of parts.now)
             ++ tree_marks (tree_of part.now)
             ++ optional_marks (option_map tree_of rank.now)
             ++ scope (statement_marks (statement_of body.now)))) }
     {
-        self.add_parts(parts, part, rank)?;
-        self.add_body(body)
+        Self::add_parts(parts, part, rank, kept)?;
+        Self::add_body(body, kept)
     }
 
     // A statement that is the body of another.
     #[cycle(statement)]
-    fn add_body(&mut self, body: &'p Stmt<'a>) -> Result<(), AllocError>
-        ensures { OnOk result (marks_in self.new
-            ≡ marks_in self.old ++ scope (statement_marks (statement_of body.now))) }
+    fn add_body(body: &'p Stmt<'a>, kept: &mut Self) -> Result<(), AllocError>
+        ensures { OnOk result (marks_in kept.new
+            ≡ marks_in kept.old ++ scope (statement_marks (statement_of body.now))) }
     {
-        self.add(Mark::Opens)?;
-        self.add_statement(body)?;
-        self.add(Mark::Closes)
+        Self::add(Mark::Opens, kept)?;
+        Self::add_statement(body, kept)?;
+        Self::add(Mark::Closes, kept)
     }
 
     #[cycle(statement)]
-    fn add_block(&mut self, statements: &'p [Stmt<'a>]) -> Result<(), AllocError>
-        ensures { OnOk result (marks_in self.new ≡ marks_in self.old
+    fn add_block(statements: &'p [Stmt<'a>], kept: &mut Self) -> Result<(), AllocError>
+        ensures { OnOk result (marks_in kept.new ≡ marks_in kept.old
             ++ scope (statements_marks (statements_of (map statement_of statements.now)))) }
     {
-        self.add(Mark::Opens)?;
-        self.add_statements(statements)?;
-        self.add(Mark::Closes)
+        Self::add(Mark::Opens, kept)?;
+        Self::add_statements(statements, kept)?;
+        Self::add(Mark::Closes, kept)
     }
 
     #[cycle(statement)]
-    fn add_statements(&mut self, statements: &'p [Stmt<'a>]) -> Result<(), AllocError>
-        ensures { OnOk result (marks_in self.new ≡ marks_in self.old
+    fn add_statements(statements: &'p [Stmt<'a>], kept: &mut Self) -> Result<(), AllocError>
+        ensures { OnOk result (marks_in kept.new ≡ marks_in kept.old
             ++ statements_marks (statements_of (map statement_of statements.now))) }
     {
         for statement in statements {
-            self.add_statement(statement)?;
+            Self::add_statement(statement, kept)?;
         }
         Ok(())
     }
 
-    fn add_function(&mut self, function: &'p Function<'a>) -> Result<(), AllocError>
-        ensures { OnOk result (marks_in self.new
-            ≡ marks_in self.old ++ function_marks (function_of function.now)) }
+    fn add_function(function: &'p Function<'a>, kept: &mut Self) -> Result<(), AllocError>
+        ensures { OnOk result (marks_in kept.new
+            ≡ marks_in kept.old ++ function_marks (function_of function.now)) }
     {
-        self.add(Mark::Declares(Declaration::Function(function)))?;
-        self.add_scope(function)
+        Self::add(Mark::Declares(Declaration::Function(function)), kept)?;
+        Self::add_scope(function, kept)
     }
 
     // The scope of a function.
-    fn add_scope(&mut self, function: &'p Function<'a>) -> Result<(), AllocError>
-        ensures { OnOk result (marks_in self.new ≡ marks_in self.old
+    fn add_scope(function: &'p Function<'a>, kept: &mut Self) -> Result<(), AllocError>
+        ensures { OnOk result (marks_in kept.new ≡ marks_in kept.old
             ++ scope (variables_marks (function_of function.now).parameters
             ++ body_marks (function_of function.now).body)) }
     {
-        self.add(Mark::Opens)?;
-        self.add_inside(function)?;
-        self.add(Mark::Closes)
+        Self::add(Mark::Opens, kept)?;
+        Self::add_inside(function, kept)?;
+        Self::add(Mark::Closes, kept)
     }
 
     // The parameters of a function, and its body where it has one.
-    fn add_inside(&mut self, function: &'p Function<'a>) -> Result<(), AllocError>
-        ensures { OnOk result (marks_in self.new ≡ marks_in self.old
+    fn add_inside(function: &'p Function<'a>, kept: &mut Self) -> Result<(), AllocError>
+        ensures { OnOk result (marks_in kept.new ≡ marks_in kept.old
             ++ (variables_marks (function_of function.now).parameters
             ++ body_marks (function_of function.now).body)) }
     {
-        self.add_variables(&function.params)?;
+        Self::add_variables(&function.params, kept)?;
         match &function.body {
-            Some(body) => self.add_statements(body),
+            Some(body) => Self::add_statements(body, kept),
             None => Ok(()),
         }
     }
 
-    fn add_item(&mut self, item: &'p Item<'a>) -> Result<(), AllocError>
-        ensures { OnOk result (marks_in self.new ≡ marks_in self.old ++ item_marks (item_of item.now)) }
+    fn add_item(item: &'p Item<'a>, kept: &mut Self) -> Result<(), AllocError>
+        ensures { OnOk result (marks_in kept.new ≡ marks_in kept.old ++ item_marks (item_of item.now)) }
     {
         match item {
             Item::Struct(_, _) => Ok(()),
-            Item::Variables(variables) => self.add_variables(variables),
-            Item::Function(function) => self.add_function(function),
+            Item::Variables(variables) => Self::add_variables(variables, kept),
+            Item::Function(function) => Self::add_function(function, kept),
         }
     }
 
-    fn add_items(&mut self, items: &'p [Item<'a>]) -> Result<(), AllocError>
-        ensures { OnOk result (marks_in self.new ≡ marks_in self.old ++ items_marks (map item_of items.now)) }
+    fn add_items(items: &'p [Item<'a>], kept: &mut Self) -> Result<(), AllocError>
+        ensures { OnOk result (marks_in kept.new ≡ marks_in kept.old ++ items_marks (map item_of items.now)) }
     {
         for item in items {
-            self.add_item(item)?;
+            Self::add_item(item, kept)?;
         }
         Ok(())
     }

@@ -31,8 +31,8 @@ pub(crate) fn depths(alloc: Global, marks: &[Mark]) -> Result<Vec<usize>, AllocE
 
 // Adds what a mark declares.
 fn add_declared<'p, 'a>(
-    declarations: &mut Vec<Declaration<'p, 'a>>,
     mark: &Mark<'p, 'a>,
+    declarations: &mut Vec<Declaration<'p, 'a>>,
 ) -> Result<(), AllocError>
     ensures { OnOk result (map declaration_of declarations.new.items
         ≡ map declaration_of declarations.old.items ++ declared_by (mark_of mark.now)) }
@@ -54,13 +54,13 @@ pub(crate) fn declarations<'p, 'a>(
 {
     let mut declarations = Vec::new(alloc);
     for mark in marks {
-        add_declared(&mut declarations, mark)?;
+        add_declared(mark, &mut declarations)?;
     }
     Ok(declarations)
 }
 
 // The number after a mark.
-fn number_after(number: u32, mark: &Mark) -> Result<u32, AllocError>
+fn number_after(mark: &Mark, number: u32) -> Result<u32, AllocError>
     ensures { IfOk result (λ next. next ≡ number + length (declared_by (mark_of mark.now))) }
 {
     match mark {
@@ -80,7 +80,7 @@ pub(crate) fn numbers(alloc: Global, marks: &[Mark]) -> Result<Vec<u32>, AllocEr
     let mut number = 0u32;
     for mark in marks {
         numbers.push(number)?;
-        number = number_after(number, mark)?;
+        number = number_after(mark, number)?;
     }
     Ok(numbers)
 }

@@ -51,7 +51,7 @@ pub fn sharing_by(
         (λ fault. IsRefusal (program_of program.now) fault) }
     ensures refused { OnErr result (facts.new ≡ facts.old) }
 {
-    let Ok(tokens) = Tokens::of(alloc, names, &program.items) else {
+    let Ok(tokens) = Tokens::of(alloc, &program.items, names) else {
         return Err(CheckFault::Memory);
     };
     match first_fault(&tokens) {

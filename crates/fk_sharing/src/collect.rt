@@ -34,17 +34,18 @@ pub(crate) struct Tokens {
 
 impl Tokens {
     /// Those of a program. Fails only for want of memory.
-    pub(crate) fn of(alloc: Global, names: &Names, items: &[Item]) -> Result<Vec<Token>, AllocError>
+    pub(crate) fn of(alloc: Global, items: &[Item], names: &Names) -> Result<Vec<Token>, AllocError>
         ensures { IfOk result (λ tokens. map seen tokens.items
             ≡ items_tokens (thing_in names.now) within outside (map item_of items.now)) }
     {
         let mut tokens = Tokens {
             list: Vec::new(alloc),
         };
-        tokens.add_items(names, items)?;
+        Self::add_items(items, names, &mut tokens)?;
         Ok(tokens.list)
     }
 
+    // What is read stands before what it is added to: such calls have shorter proofs than methods.
     fn add(
         &mut self,
         around: Around,
@@ -85,59 +86,60 @@ impl Tokens {
     // The tokens of an expression, and whether it is shared.
     #[cycle(expression)]
     fn add_expression(
-        &mut self,
+        expression: &Expr,
         names: &Names,
         around: Around,
-        expression: &Expr,
+        kept: &mut Self,
     ) -> Result<bool, AllocError>
-        ensures tokens { OnOk result (seen_in self.new ≡ seen_in self.old
+        ensures tokens { OnOk result (seen_in kept.new ≡ seen_in kept.old
             ++ tree_tokens (thing_in names.now) around (tree_of expression.now)) }
         ensures class { IfOk result
             (λ is. is ≡ is_shared (thing_in names.now) (tree_of expression.now)) }
     {
         match expression {
             Expr::Number(spot, _, _) | Expr::Sizeof(spot, _) | Expr::GroupNumber(spot) => {
-                self.add_plain(around, *spot, true)
+                kept.add_plain(around, *spot, true)
             }
-            Expr::Puts(spot, _) | Expr::GroupRank(spot) => self.add_plain(around, *spot, false),
+            Expr::Puts(spot, _) | Expr::GroupRank(spot) => kept.add_plain(around, *spot, false),
             Expr::Named(name) => {
                 let shared = is_name_shared(thing_at(names, name.at), name.bytes);
-                self.add_plain(around, spot_of(name), shared)
+                kept.add_plain(around, spot_of(name), shared)
             }
             Expr::Prefix(spot, sign, operand) => {
-                let shared = self.add_expression(names, around, operand)?;
-                let word = Word::Prefix(*sign, named_thing(names, operand));
-                self.add(around, *spot, shared, word)?;
+                let shared = Self::add_expression(operand, names, around, kept)?;
+                let word = Word::Prefix(*sign, named_thing(operand, names));
+                kept.add(around, *spot, shared, word)?;
                 Ok(shared)
             }
             Expr::Cast(spot, _, operand) => {
-                let shared = self.add_expression(names, around, operand)?;
-                self.add_plain(around, *spot, shared)
+                let shared = Self::add_expression(operand, names, around, kept)?;
+                kept.add_plain(around, *spot, shared)
             }
             Expr::Chain(first, links) => {
-                let first = self.add_expression(names, around, first)?;
-                self.add_links(names, around, first, links)
+                let first = Self::add_expression(first, names, around, kept)?;
+                Self::add_links(links, names, around, first, kept)
             }
             Expr::Postfix(whole, suffixes) => {
-                let before = self.add_expression(names, around, whole)?;
-                self.add_suffixes(
+                let before = Self::add_expression(whole, names, around, kept)?;
+                Self::add_suffixes(
+                    suffixes,
                     names,
                     around,
                     before,
                     is_call_shared(names, whole),
-                    suffixes,
+                    kept,
                 )
             }
             Expr::Assign(spot, sign, target, value) => {
-                let target = self.add_expression(names, around, target)?;
-                let value = self.add_expression(names, around, value)?;
-                self.add_plain(around, *spot, is_assigned_shared(*sign, target, value))
+                let target = Self::add_expression(target, names, around, kept)?;
+                let value = Self::add_expression(value, names, around, kept)?;
+                kept.add_plain(around, *spot, is_assigned_shared(*sign, target, value))
             }
             Expr::Choose(spot, condition, first, second) => {
-                let condition = self.add_expression(names, around, condition)?;
-                let first = self.add_expression(names, around, first)?;
-                let second = self.add_expression(names, around, second)?;
-                self.add_choice(around, *spot, condition, condition && first && second)
+                let condition = Self::add_expression(condition, names, around, kept)?;
+                let first = Self::add_expression(first, names, around, kept)?;
+                let second = Self::add_expression(second, names, around, kept)?;
+                kept.add_choice(around, *spot, condition, condition && first && second)
             }
         }
     }
@@ -181,21 +183,21 @@ impl Tokens {
     // The links of a chain, by whether its first operand is shared; and whether the chain is.
     #[cycle(expression)]
     fn add_links(
-        &mut self,
+        links: &[Link],
         names: &Names,
         around: Around,
         first: bool,
-        links: &[Link],
+        kept: &mut Self,
     ) -> Result<bool, AllocError>
-        ensures tokens { OnOk result (seen_in self.new ≡ seen_in self.old
+        ensures tokens { OnOk result (seen_in kept.new ≡ seen_in kept.old
             ++ links_tokens (thing_in names.now) around first (links_of (map link_of links.now))) }
         ensures class { IfOk result (λ is. is
             ≡ is_chain_shared (thing_in names.now) first (links_of (map link_of links.now))) }
     {
         let mut shared = first;
         for link in links {
-            let right = self.add_expression(names, around, &link.right)?;
-            shared = self.add_sign(around, link.spot, link.sign, shared, right)?;
+            let right = Self::add_expression(&link.right, names, around, kept)?;
+            shared = kept.add_sign(around, link.spot, link.sign, shared, right)?;
         }
         Ok(shared)
     }
@@ -204,14 +206,14 @@ impl Tokens {
     // whether it is with them.
     #[cycle(expression)]
     fn add_suffixes(
-        &mut self,
+        suffixes: &[Suffix],
         names: &Names,
         around: Around,
         whole: bool,
         call: bool,
-        suffixes: &[Suffix],
+        kept: &mut Self,
     ) -> Result<bool, AllocError>
-        ensures tokens { OnOk result (seen_in self.new ≡ seen_in self.old
+        ensures tokens { OnOk result (seen_in kept.new ≡ seen_in kept.old
             ++ suffixes_tokens (thing_in names.now) around whole call
             (suffixes_of (map suffix_of suffixes.now))) }
         ensures class { IfOk result (λ is. is ≡ is_postfix_shared (thing_in names.now) whole call
@@ -222,17 +224,17 @@ impl Tokens {
         for suffix in suffixes {
             match suffix {
                 Suffix::Index(spot, by) => {
-                    let by = self.add_expression(names, around, by)?;
-                    shared = self.add_plain(around, *spot, shared && by)?;
+                    let by = Self::add_expression(by, names, around, kept)?;
+                    shared = kept.add_plain(around, *spot, shared && by)?;
                 }
                 Suffix::Call(spot, arguments) => {
-                    self.add_expressions(names, around, arguments)?;
-                    shared = self.add_plain(around, *spot, called)?;
+                    Self::add_expressions(arguments, names, around, kept)?;
+                    shared = kept.add_plain(around, *spot, called)?;
                 }
                 Suffix::Dot(spot, _)
                 | Suffix::Arrow(spot, _)
                 | Suffix::Up(spot)
-                | Suffix::Down(spot) => shared = self.add_plain(around, *spot, shared)?,
+                | Suffix::Down(spot) => shared = kept.add_plain(around, *spot, shared)?,
             }
             called = false;
         }
@@ -241,149 +243,149 @@ impl Tokens {
 
     #[cycle(expression)]
     fn add_expressions(
-        &mut self,
+        expressions: &[Expr],
         names: &Names,
         around: Around,
-        expressions: &[Expr],
+        kept: &mut Self,
     ) -> Result<(), AllocError>
-        ensures { OnOk result (seen_in self.new ≡ seen_in self.old
+        ensures { OnOk result (seen_in kept.new ≡ seen_in kept.old
             ++ trees_tokens (thing_in names.now) around
             (trees_of (map tree_of expressions.now))) }
     {
         for expression in expressions {
-            let _shared = self.add_expression(names, around, expression)?;
+            let _shared = Self::add_expression(expression, names, around, kept)?;
         }
         Ok(())
     }
 
     // An expression that may be absent, and whether it is shared. An absent one is.
     fn add_optional(
-        &mut self,
+        value: &Option<Expr>,
         names: &Names,
         around: Around,
-        value: &Option<Expr>,
+        kept: &mut Self,
     ) -> Result<bool, AllocError>
-        ensures tokens { OnOk result (seen_in self.new ≡ seen_in self.old
+        ensures tokens { OnOk result (seen_in kept.new ≡ seen_in kept.old
             ++ optional_tokens (thing_in names.now) around (option_map tree_of value.now)) }
         ensures class { IfOk result (λ is. is
             ≡ is_condition_shared (thing_in names.now) (option_map tree_of value.now)) }
     {
         match value {
-            Some(value) => self.add_expression(names, around, value),
+            Some(value) => Self::add_expression(value, names, around, kept),
             None => Ok(true),
         }
     }
 
     fn add_variable(
-        &mut self,
+        variable: &Declared,
         names: &Names,
         around: Around,
-        variable: &Declared,
+        kept: &mut Self,
     ) -> Result<(), AllocError>
-        ensures { OnOk result (seen_in self.new ≡ seen_in self.old
+        ensures { OnOk result (seen_in kept.new ≡ seen_in kept.old
             ++ variable_tokens (thing_in names.now) around (declared_of variable.now)) }
     {
-        let _shared = self.add_optional(names, around, &variable.first)?;
+        let _shared = Self::add_optional(&variable.first, names, around, kept)?;
         let word = Word::Variable(variable.shared, form_of(variable));
-        self.add_bare(around, spot_of(&variable.name), word)
+        kept.add_bare(around, spot_of(&variable.name), word)
     }
 
     fn add_variables(
-        &mut self,
+        variables: &[Declared],
         names: &Names,
         around: Around,
-        variables: &[Declared],
+        kept: &mut Self,
     ) -> Result<(), AllocError>
-        ensures { OnOk result (seen_in self.new ≡ seen_in self.old
+        ensures { OnOk result (seen_in kept.new ≡ seen_in kept.old
             ++ variables_tokens (thing_in names.now) around (map declared_of variables.now)) }
     {
         for variable in variables {
-            self.add_variable(names, around, variable)?;
+            Self::add_variable(variable, names, around, kept)?;
         }
         Ok(())
     }
 
     // A condition and the keyword that decides by it; and whether it is shared.
     fn add_condition(
-        &mut self,
+        condition: &Expr,
         names: &Names,
         around: Around,
         spot: Spot,
-        condition: &Expr,
+        kept: &mut Self,
     ) -> Result<bool, AllocError>
-        ensures tokens { OnOk result (seen_in self.new ≡ seen_in self.old
+        ensures tokens { OnOk result (seen_in kept.new ≡ seen_in kept.old
             ++ condition_tokens (thing_in names.now) around spot (tree_of condition.now)) }
         ensures class { IfOk result
             (λ is. is ≡ is_shared (thing_in names.now) (tree_of condition.now)) }
     {
-        let shared = self.add_expression(names, around, condition)?;
-        self.add_bare(around, spot, Word::Decides(shared))?;
+        let shared = Self::add_expression(condition, names, around, kept)?;
+        kept.add_bare(around, spot, Word::Decides(shared))?;
         Ok(shared)
     }
 
     // The keyword and the three expressions of a `for`; and whether its condition is shared.
-    fn add_head(
-        &mut self,
+    fn add_head<'t, 'a>(
+        before: &'t Option<Expr<'a>>,
+        condition: &'t Option<Expr<'a>>,
+        after: &'t Option<Expr<'a>>,
         names: &Names,
         around: Around,
         spot: Spot,
-        before: &Option<Expr>,
-        condition: &Option<Expr>,
-        after: &Option<Expr>,
+        kept: &mut Self,
     ) -> Result<bool, AllocError>
-        ensures tokens { OnOk result (seen_in self.new ≡ seen_in self.old
+        ensures tokens { OnOk result (seen_in kept.new ≡ seen_in kept.old
             ++ head_tokens (thing_in names.now) around spot (option_map tree_of before.now)
             (option_map tree_of condition.now) (option_map tree_of after.now)) }
         ensures class { IfOk result (λ is. is
             ≡ is_condition_shared (thing_in names.now) (option_map tree_of condition.now)) }
     {
-        let _before = self.add_optional(names, around, before)?;
-        let shared = self.add_optional(names, around, condition)?;
-        let _after = self.add_optional(names, around, after)?;
-        self.add_bare(around, spot, Word::Decides(shared))?;
+        let _before = Self::add_optional(before, names, around, kept)?;
+        let shared = Self::add_optional(condition, names, around, kept)?;
+        let _after = Self::add_optional(after, names, around, kept)?;
+        kept.add_bare(around, spot, Word::Decides(shared))?;
         Ok(shared)
     }
 
     // The three expressions of a `fork`.
-    fn add_parts(
-        &mut self,
+    fn add_parts<'t, 'a>(
+        parts: &'t Expr<'a>,
+        part: &'t Expr<'a>,
+        rank: &'t Option<Expr<'a>>,
         names: &Names,
         around: Around,
-        parts: &Expr,
-        part: &Expr,
-        rank: &Option<Expr>,
+        kept: &mut Self,
     ) -> Result<(), AllocError>
-        ensures { OnOk result (seen_in self.new ≡ seen_in self.old
+        ensures { OnOk result (seen_in kept.new ≡ seen_in kept.old
             ++ parts_tokens (thing_in names.now) around (tree_of parts.now) (tree_of part.now)
             (option_map tree_of rank.now)) }
     {
-        let _parts = self.add_expression(names, around, parts)?;
-        let _part = self.add_expression(names, around, part)?;
-        let _rank = self.add_optional(names, around, rank)?;
+        let _parts = Self::add_expression(parts, names, around, kept)?;
+        let _part = Self::add_expression(part, names, around, kept)?;
+        let _rank = Self::add_optional(rank, names, around, kept)?;
         Ok(())
     }
 
     // A statement that holds no other.
     fn add_simple(
-        &mut self,
+        statement: &Stmt,
         names: &Names,
         around: Around,
-        statement: &Stmt,
+        kept: &mut Self,
     ) -> Result<(), AllocError>
-        ensures { OnOk result (seen_in self.new ≡ seen_in self.old
+        ensures { OnOk result (seen_in kept.new ≡ seen_in kept.old
             ++ simple_tokens (thing_in names.now) around (statement_of statement.now)) }
     {
         match statement {
             Stmt::Expression(value) => {
-                let _shared = self.add_expression(names, around, value)?;
+                let _shared = Self::add_expression(value, names, around, kept)?;
                 Ok(())
             }
-            Stmt::Declare(variables) => self.add_variables(names, around, variables),
-            Stmt::Break(spot) => self.add_bare(around, *spot, Word::Break),
-            Stmt::Continue(spot) => self.add_bare(around, *spot, Word::Continue),
+            Stmt::Declare(variables) => Self::add_variables(variables, names, around, kept),
+            Stmt::Break(spot) => kept.add_bare(around, *spot, Word::Break),
+            Stmt::Continue(spot) => kept.add_bare(around, *spot, Word::Continue),
             Stmt::Return(spot, value) => {
-                let _shared = self.add_optional(names, around, value)?;
-                self.add_bare(around, *spot, Word::Return)
+                let _shared = Self::add_optional(value, names, around, kept)?;
+                kept.add_bare(around, *spot, Word::Return)
             }
             Stmt::Empty
             | Stmt::Barrier(_)
@@ -401,43 +403,43 @@ impl Tokens {
 
     #[cycle(statement)]
     fn add_statement(
-        &mut self,
+        statement: &Stmt,
         names: &Names,
         around: Around,
-        statement: &Stmt,
+        kept: &mut Self,
     ) -> Result<(), AllocError>
-        ensures { OnOk result (seen_in self.new ≡ seen_in self.old
+        ensures { OnOk result (seen_in kept.new ≡ seen_in kept.old
             ++ statement_tokens (thing_in names.now) within around (statement_of statement.now)) }
     {
         match statement {
-            Stmt::Block(statements) => self.add_statements(names, around, statements),
+            Stmt::Block(statements) => Self::add_statements(statements, names, around, kept),
             Stmt::If(spot, condition, then, otherwise) => {
-                let shared = self.add_condition(names, around, *spot, condition)?;
+                let shared = Self::add_condition(condition, names, around, *spot, kept)?;
                 let inside = around.within(Holder::Branch(shared));
-                self.add_statement(names, inside, then)?;
+                Self::add_statement(then, names, inside, kept)?;
                 match otherwise {
-                    Some(otherwise) => self.add_statement(names, inside, otherwise),
+                    Some(otherwise) => Self::add_statement(otherwise, names, inside, kept),
                     None => Ok(()),
                 }
             }
             Stmt::While(spot, condition, body) | Stmt::DoWhile(spot, body, condition) => {
-                let shared = self.add_condition(names, around, *spot, condition)?;
-                self.add_statement(names, around.within(Holder::Loop(shared)), body)
+                let shared = Self::add_condition(condition, names, around, *spot, kept)?;
+                Self::add_statement(body, names, around.within(Holder::Loop(shared)), kept)
             }
             Stmt::For(spot, before, condition, after, body) => {
-                let shared = self.add_head(names, around, *spot, before, condition, after)?;
-                self.add_statement(names, around.within(Holder::Loop(shared)), body)
+                let shared = Self::add_head(before, condition, after, names, around, *spot, kept)?;
+                Self::add_statement(body, names, around.within(Holder::Loop(shared)), kept)
             }
             Stmt::Start(_, count, body) => {
-                let _count = self.add_optional(names, around, count)?;
-                self.add_statement(names, around.within(SYNCHRONOUS), body)
+                let _count = Self::add_optional(count, names, around, kept)?;
+                Self::add_statement(body, names, around.within(SYNCHRONOUS), kept)
             }
             Stmt::Fork(_, parts, part, rank, body) => {
-                self.add_parts(names, around, parts, part, rank)?;
-                self.add_statement(names, around.within(SYNCHRONOUS), body)
+                Self::add_parts(parts, part, rank, names, around, kept)?;
+                Self::add_statement(body, names, around.within(SYNCHRONOUS), kept)
             }
             Stmt::Farm(_, body) | Stmt::Seq(_, body) => {
-                self.add_statement(names, around.within(ASYNCHRONOUS), body)
+                Self::add_statement(body, names, around.within(ASYNCHRONOUS), kept)
             }
             Stmt::Empty
             | Stmt::Expression(_)
@@ -445,75 +447,80 @@ impl Tokens {
             | Stmt::Barrier(_)
             | Stmt::Break(_)
             | Stmt::Continue(_)
-            | Stmt::Return(_, _) => self.add_simple(names, around, statement),
+            | Stmt::Return(_, _) => Self::add_simple(statement, names, around, kept),
         }
     }
 
     #[cycle(statement)]
     fn add_statements(
-        &mut self,
+        statements: &[Stmt],
         names: &Names,
         around: Around,
-        statements: &[Stmt],
+        kept: &mut Self,
     ) -> Result<(), AllocError>
-        ensures { OnOk result (seen_in self.new ≡ seen_in self.old
+        ensures { OnOk result (seen_in kept.new ≡ seen_in kept.old
             ++ statements_tokens (thing_in names.now) within around
             (statements_of (map statement_of statements.now))) }
     {
         for statement in statements {
-            self.add_statement(names, around, statement)?;
+            Self::add_statement(statement, names, around, kept)?;
         }
         Ok(())
     }
 
     fn add_parameters(
-        &mut self,
+        parameters: &[Declared],
         around: Around,
         mode: Mode,
-        parameters: &[Declared],
+        kept: &mut Self,
     ) -> Result<(), AllocError>
-        ensures { OnOk result (seen_in self.new ≡ seen_in self.old
+        ensures { OnOk result (seen_in kept.new ≡ seen_in kept.old
             ++ parameters_tokens around mode (map declared_of parameters.now)) }
     {
         for parameter in parameters {
             let word = Word::Parameter(parameter.shared, mode);
-            self.add_bare(around, spot_of(&parameter.name), word)?;
+            kept.add_bare(around, spot_of(&parameter.name), word)?;
         }
         Ok(())
     }
 
-    fn add_function(&mut self, names: &Names, function: &Function) -> Result<(), AllocError>
-        ensures { OnOk result (seen_in self.new ≡ seen_in self.old
+    fn add_function(function: &Function, names: &Names, kept: &mut Self) -> Result<(), AllocError>
+        ensures { OnOk result (seen_in kept.new ≡ seen_in kept.old
             ++ function_tokens (thing_in names.now) within outside (function_of function.now)) }
     {
         let outside = Around::outside();
-        self.add_parameters(outside, function.mode, &function.params)?;
+        Self::add_parameters(&function.params, outside, function.mode, kept)?;
         match &function.body {
             Some(body) => {
                 let inside = outside.within(Holder::Body(region_of(function.mode)));
-                self.add_statements(names, inside, body)
+                Self::add_statements(body, names, inside, kept)
             }
             None => Ok(()),
         }
     }
 
-    fn add_item(&mut self, names: &Names, item: &Item) -> Result<(), AllocError>
-        ensures { OnOk result (seen_in self.new ≡ seen_in self.old
+    fn add_item(item: &Item, names: &Names, kept: &mut Self) -> Result<(), AllocError>
+        ensures { OnOk result (seen_in kept.new ≡ seen_in kept.old
             ++ item_tokens (thing_in names.now) within outside (item_of item.now)) }
     {
         match item {
             Item::Struct(_, _) => Ok(()),
-            Item::Variables(variables) => self.add_variables(names, Around::outside(), variables),
-            Item::Function(function) => self.add_function(names, function),
+            Item::Variables(variables) => Self::add_variables(
+                variables,
+                names,
+                Around::outside(),
+                kept,
+            ),
+            Item::Function(function) => Self::add_function(function, names, kept),
         }
     }
 
-    fn add_items(&mut self, names: &Names, items: &[Item]) -> Result<(), AllocError>
-        ensures { OnOk result (seen_in self.new ≡ seen_in self.old
+    fn add_items(items: &[Item], names: &Names, kept: &mut Self) -> Result<(), AllocError>
+        ensures { OnOk result (seen_in kept.new ≡ seen_in kept.old
             ++ items_tokens (thing_in names.now) within outside (map item_of items.now)) }
     {
         for item in items {
-            self.add_item(names, item)?;
+            Self::add_item(item, names, kept)?;
         }
         Ok(())
     }

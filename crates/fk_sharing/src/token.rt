@@ -81,7 +81,7 @@ pub(crate) fn form_of(variable: &Declared) -> Form
 }
 
 /// What an expression is, where it is a name.
-pub(crate) fn named_thing(names: &Names, expression: &Expr) -> Option<Thing>
+pub(crate) fn named_thing(expression: &Expr, names: &Names) -> Option<Thing>
     ensures { result ≡ named_thing (thing_in names.now) (tree_of expression.now) }
 {
     match expression {

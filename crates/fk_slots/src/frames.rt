@@ -33,8 +33,8 @@ impl Frames {
     /// Those of a text. Fails only for want of memory.
     pub(crate) fn of(
         alloc: Global,
-        known: &Known,
         items: &[Item],
+        known: &Known,
     ) -> Result<Vec<Region>, AllocError>
         ensures { IfOk result (λ list. list.items
             ≡ regions_of (told_by known.now) (map item_of items.now)) }
@@ -42,7 +42,7 @@ impl Frames {
         let mut frames = Frames {
             list: Vec::new(alloc),
         };
-        frames.add_items(known, items)?;
+        Self::add_items(items, known, &mut frames)?;
         Ok(frames.list)
     }
 
@@ -64,55 +64,58 @@ impl Frames {
     }
 
     // The frame of a body.
+    //
+    // Here and below what is read stands before what it is added to: such calls have shorter proofs
+    // than methods.
     fn add_body_frame(
-        &mut self,
+        body: &Stmt,
         known: &Known,
         at: u32,
         part: u32,
         level: u32,
-        body: &Stmt,
+        kept: &mut Self,
     ) -> Result<(), AllocError>
-        ensures { OnOk result (self.new.list.items ≡ self.old.list.items
+        ensures { OnOk result (kept.new.list.items ≡ kept.old.list.items
             ++ body_frame (told_by known.now) at part level (statement_of body.now)) }
     {
-        self.add(at, part, level, statement_words(known, 0, body))
+        kept.add(at, part, level, statement_words(body, known, 0))
     }
 
     // The frames that begin in a statement that stands so deep in a function.
     #[cycle(statement)]
     fn add_statement(
-        &mut self,
+        statement: &Stmt,
         known: &Known,
         level: u32,
-        statement: &Stmt,
+        kept: &mut Self,
     ) -> Result<(), AllocError>
-        ensures { OnOk result (self.new.list.items ≡ self.old.list.items
+        ensures { OnOk result (kept.new.list.items ≡ kept.old.list.items
             ++ frames_in (told_by known.now) level (statement_of statement.now)) }
     {
         match statement {
-            Stmt::Block(list) => self.add_statements(known, level, list),
+            Stmt::Block(list) => Self::add_statements(list, known, level, kept),
             Stmt::If(spot, _, first, otherwise) => match otherwise {
                 Some(second) => {
                     if known.splits(spot.at) {
                         let inner = deeper(level);
-                        self.add_body_frame(known, spot.at, 0, inner, first)?;
-                        self.add_body_frame(known, spot.at, 1, inner, second)?;
-                        self.add_statement(known, inner, first)?;
-                        return self.add_statement(known, inner, second);
+                        Self::add_body_frame(first, known, spot.at, 0, inner, kept)?;
+                        Self::add_body_frame(second, known, spot.at, 1, inner, kept)?;
+                        Self::add_statement(first, known, inner, kept)?;
+                        return Self::add_statement(second, known, inner, kept);
                     }
-                    self.add_statement(known, level, first)?;
-                    self.add_statement(known, level, second)
+                    Self::add_statement(first, known, level, kept)?;
+                    Self::add_statement(second, known, level, kept)
                 }
-                None => self.add_split(known, spot.at, level, first),
+                None => Self::add_split(first, known, spot.at, level, kept),
             },
             Stmt::While(spot, _, body)
             | Stmt::DoWhile(spot, body, _)
-            | Stmt::For(spot, _, _, _, body) => self.add_split(known, spot.at, level, body),
+            | Stmt::For(spot, _, _, _, body) => Self::add_split(body, known, spot.at, level, kept),
             Stmt::Start(spot, _, body) | Stmt::Fork(spot, _, _, _, body) => {
-                self.add_framed(known, spot.at, level, body)
+                Self::add_framed(body, known, spot.at, level, kept)
             }
             Stmt::Farm(_, body) | Stmt::Seq(_, body) => {
-                self.add_statement(known, deeper(level), body)
+                Self::add_statement(body, known, deeper(level), kept)
             }
             Stmt::Empty
             | Stmt::Expression(_)
@@ -127,87 +130,87 @@ impl Frames {
     // Those of a body that has a frame where the group splits.
     #[cycle(statement)]
     fn add_split(
-        &mut self,
+        body: &Stmt,
         known: &Known,
         at: u32,
         level: u32,
-        body: &Stmt,
+        kept: &mut Self,
     ) -> Result<(), AllocError>
-        ensures { OnOk result (self.new.list.items ≡ self.old.list.items
+        ensures { OnOk result (kept.new.list.items ≡ kept.old.list.items
             ++ split_frames (told_by known.now) at level (statement_of body.now)) }
     {
         if known.splits(at) {
-            self.add_framed(known, at, level, body)
+            Self::add_framed(body, known, at, level, kept)
         } else {
-            self.add_statement(known, level, body)
+            Self::add_statement(body, known, level, kept)
         }
     }
 
     // Those of a body that has a frame: its own, and those within.
     #[cycle(statement)]
     fn add_framed(
-        &mut self,
+        body: &Stmt,
         known: &Known,
         at: u32,
         level: u32,
-        body: &Stmt,
+        kept: &mut Self,
     ) -> Result<(), AllocError>
-        ensures { OnOk result (self.new.list.items ≡ self.old.list.items
+        ensures { OnOk result (kept.new.list.items ≡ kept.old.list.items
             ++ framed_frames (told_by known.now) at level (statement_of body.now)) }
     {
         let inner = deeper(level);
-        self.add_body_frame(known, at, 0, inner, body)?;
-        self.add_statement(known, inner, body)
+        Self::add_body_frame(body, known, at, 0, inner, kept)?;
+        Self::add_statement(body, known, inner, kept)
     }
 
     #[cycle(statement)]
     fn add_statements(
-        &mut self,
+        statements: &[Stmt],
         known: &Known,
         level: u32,
-        statements: &[Stmt],
+        kept: &mut Self,
     ) -> Result<(), AllocError>
-        ensures { OnOk result (self.new.list.items ≡ self.old.list.items
+        ensures { OnOk result (kept.new.list.items ≡ kept.old.list.items
             ++ all_frames_in (told_by known.now) level
             (statements_of (map statement_of statements.now))) }
     {
         for statement in statements {
-            self.add_statement(known, level, statement)?;
+            Self::add_statement(statement, known, level, kept)?;
         }
         Ok(())
     }
 
-    fn add_function(&mut self, known: &Known, function: &Function) -> Result<(), AllocError>
-        ensures { OnOk result (self.new.list.items ≡ self.old.list.items
+    fn add_function(function: &Function, known: &Known, kept: &mut Self) -> Result<(), AllocError>
+        ensures { OnOk result (kept.new.list.items ≡ kept.old.list.items
             ++ body_frames (told_by known.now) (function_of function.now).name.at
             (function_of function.now).parameters (function_of function.now).body) }
     {
         match &function.body {
             Some(body) => {
-                let words = own_words(known, &function.params, body);
-                self.add(function.name.at, 0, 0, words)?;
-                self.add_statements(known, 0, body)
+                let words = own_words(&function.params, body, known);
+                kept.add(function.name.at, 0, 0, words)?;
+                Self::add_statements(body, known, 0, kept)
             }
             None => Ok(()),
         }
     }
 
-    fn add_item(&mut self, known: &Known, item: &Item) -> Result<(), AllocError>
-        ensures { OnOk result (self.new.list.items ≡ self.old.list.items
+    fn add_item(item: &Item, known: &Known, kept: &mut Self) -> Result<(), AllocError>
+        ensures { OnOk result (kept.new.list.items ≡ kept.old.list.items
             ++ item_frames (told_by known.now) (item_of item.now)) }
     {
         match item {
             Item::Struct(_, _) | Item::Variables(_) => Ok(()),
-            Item::Function(function) => self.add_function(known, function),
+            Item::Function(function) => Self::add_function(function, known, kept),
         }
     }
 
-    fn add_items(&mut self, known: &Known, items: &[Item]) -> Result<(), AllocError>
-        ensures { OnOk result (self.new.list.items ≡ self.old.list.items
+    fn add_items(items: &[Item], known: &Known, kept: &mut Self) -> Result<(), AllocError>
+        ensures { OnOk result (kept.new.list.items ≡ kept.old.list.items
             ++ regions_of (told_by known.now) (map item_of items.now)) }
     {
         for item in items {
-            self.add_item(known, item)?;
+            Self::add_item(item, known, kept)?;
         }
         Ok(())
     }

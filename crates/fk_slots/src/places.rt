@@ -26,7 +26,7 @@ const NO_SLOT: Slot = Slot {
 // The place of a variable or parameter of a function, whose `sh` ones stand in the group frame of
 // a number.
 #[tactic(auto, unfolding(crate::specs::Places::slot_in))]
-fn slot_in(frame: u32, taken: Taken, variable: &Declared) -> Slot
+fn slot_in(variable: &Declared, frame: u32, taken: Taken) -> Slot
     ensures { result ≡ g.slot_in frame taken (declared_of variable.now) }
 {
     if variable.shared {
@@ -44,7 +44,7 @@ fn slot_in(frame: u32, taken: Taken, variable: &Declared) -> Slot
 
 // The place of a variable of file scope.
 #[tactic(auto, unfolding(crate::specs::Places::file_slot))]
-fn file_slot(taken: Taken, variable: &Declared) -> Slot
+fn file_slot(variable: &Declared, taken: Taken) -> Slot
     ensures { result ≡ g.file_slot taken (declared_of variable.now) }
 {
     if variable.shared {
@@ -62,7 +62,7 @@ fn file_slot(taken: Taken, variable: &Declared) -> Slot
 
 // What is taken behind a variable.
 #[tactic(auto, unfolding(crate::specs::Places::behind_variable, crate::specs::Places::behind_words))]
-fn behind_variable(known: &Known, taken: Taken, variable: &Declared) -> Taken
+fn behind_variable(variable: &Declared, known: &Known, taken: Taken) -> Taken
     ensures { result ≡ g.behind_variable (told_by known.now) taken (declared_of variable.now) }
 {
     if variable.shared {
@@ -74,7 +74,7 @@ fn behind_variable(known: &Known, taken: Taken, variable: &Declared) -> Taken
 
 // What is taken behind a parameter.
 #[tactic(auto, unfolding(crate::specs::Places::behind_parameter, crate::specs::Places::behind_words))]
-fn behind_parameter(known: &Known, taken: Taken, parameter: &Declared) -> Taken
+fn behind_parameter(parameter: &Declared, known: &Known, taken: Taken) -> Taken
     ensures { result ≡ g.behind_parameter (told_by known.now) taken (declared_of parameter.now) }
 {
     if parameter.shared {
@@ -86,18 +86,23 @@ fn behind_parameter(known: &Known, taken: Taken, parameter: &Declared) -> Taken
 }
 
 // What is taken behind the frame of a body.
-fn behind_body_frame(known: &Known, taken: Taken, body: &Stmt) -> Taken
+fn behind_body_frame(body: &Stmt, known: &Known, taken: Taken) -> Taken
     ensures { result ≡ s.behind_body_frame (told_by known.now) taken (statement_of body.now) }
 {
-    taken.behind_frame(statement_words(known, 0, body))
+    taken.behind_frame(statement_words(body, known, 0))
 }
 
 // What a function begins with.
-fn opening(known: &Known, file: Taken, parameters: &[Declared], body: &[Stmt]) -> Taken
+fn opening<'t, 'a>(
+    parameters: &'t [Declared<'a>],
+    body: &'t [Stmt<'a>],
+    known: &Known,
+    file: Taken,
+) -> Taken
     ensures { result ≡ s.opening (told_by known.now) file (map declared_of parameters.now)
         (statements_of (map statement_of body.now)) }
 {
-    let behind = file.behind_frame(own_words(known, parameters, body));
+    let behind = file.behind_frame(own_words(parameters, body, known));
     Taken {
         privates: 0,
         words: 0,
@@ -106,7 +111,12 @@ fn opening(known: &Known, file: Taken, parameters: &[Declared], body: &[Stmt]) -
 }
 
 // How much a function takes by itself, where this is taken at its end.
-fn own_by(known: &Known, last: Taken, parameters: &[Declared], body: &[Stmt]) -> Own
+fn own_by<'t, 'a>(
+    parameters: &'t [Declared<'a>],
+    body: &'t [Stmt<'a>],
+    known: &Known,
+    last: Taken,
+) -> Own
     requires { last.privates
         ≡ (s.own_in (told_by known.now) (map declared_of parameters.now)
         (Some (statements_of (map statement_of body.now)))).privates }
@@ -115,7 +125,7 @@ fn own_by(known: &Known, last: Taken, parameters: &[Declared], body: &[Stmt]) ->
 {
     Own {
         privates: last.privates,
-        words: own_words(known, parameters, body).min(LAST_WORD + 1),
+        words: own_words(parameters, body, known).min(LAST_WORD + 1),
     }
 }
 
@@ -129,8 +139,8 @@ impl Places {
     /// Those of a text, and how much each function takes by itself. Fails only for want of memory.
     pub(crate) fn of(
         alloc: Global,
-        known: &Known,
         items: &[Item],
+        known: &Known,
     ) -> Result<(Vec<Slot>, Vec<Own>), AllocError>
         ensures slots { IfOk result (λ both. both.0.items
             ≡ s.slots_of (told_by known.now) (map item_of items.now)) }
@@ -141,40 +151,43 @@ impl Places {
             list: Vec::new(alloc),
         };
         let mut owns = Vec::new(alloc);
-        places.add_items(known, &mut owns, items)?;
+        Self::add_items(items, known, &mut owns, &mut places)?;
         Ok((places.list, owns))
     }
 
     // Those of variables of a function that stand side by side. Answers what is taken behind them.
+    //
+    // Here and below what is read stands before what it is added to: such calls have shorter proofs
+    // than methods.
     fn add_variables(
-        &mut self,
+        variables: &[Declared],
         known: &Known,
         frame: u32,
         taken: Taken,
-        variables: &[Declared],
+        kept: &mut Self,
     ) -> Result<Taken, AllocError>
-        ensures slots { OnOk result (self.new.list.items ≡ self.old.list.items
+        ensures slots { OnOk result (kept.new.list.items ≡ kept.old.list.items
             ++ g.variables_slots (told_by known.now) frame taken (map declared_of variables.now)) }
         ensures taken { IfOk result (λ behind. behind
             ≡ g.behind_variables (told_by known.now) taken (map declared_of variables.now)) }
     {
         let mut behind = taken;
         for variable in variables {
-            self.list.push(slot_in(frame, behind, variable))?;
-            behind = behind_variable(known, behind, variable);
+            kept.list.push(slot_in(variable, frame, behind))?;
+            behind = behind_variable(variable, known, behind);
         }
         Ok(behind)
     }
 
     // Those of the parameters of a function.
     fn add_parameters(
-        &mut self,
+        parameters: &[Declared],
         known: &Known,
         frame: u32,
         taken: Taken,
-        parameters: &[Declared],
+        kept: &mut Self,
     ) -> Result<Taken, AllocError>
-        ensures slots { OnOk result (self.new.list.items ≡ self.old.list.items
+        ensures slots { OnOk result (kept.new.list.items ≡ kept.old.list.items
             ++ g.parameters_slots (told_by known.now) frame taken
             (map declared_of parameters.now)) }
         ensures taken { IfOk result (λ behind. behind
@@ -182,39 +195,39 @@ impl Places {
     {
         let mut behind = taken;
         for parameter in parameters {
-            self.list.push(slot_in(frame, behind, parameter))?;
-            behind = behind_parameter(known, behind, parameter);
+            kept.list.push(slot_in(parameter, frame, behind))?;
+            behind = behind_parameter(parameter, known, behind);
         }
         Ok(behind)
     }
 
     // Those of parameters that have no word.
-    fn add_none(&mut self, parameters: &[Declared]) -> Result<(), AllocError>
-        ensures { OnOk result (self.new.list.items ≡ self.old.list.items
+    fn add_none(parameters: &[Declared], kept: &mut Self) -> Result<(), AllocError>
+        ensures { OnOk result (kept.new.list.items ≡ kept.old.list.items
             ++ g.no_slots (map declared_of parameters.now)) }
     {
         for _parameter in parameters {
-            self.list.push(NO_SLOT)?;
+            kept.list.push(NO_SLOT)?;
         }
         Ok(())
     }
 
     // Those of variables of file scope.
     fn add_file(
-        &mut self,
+        variables: &[Declared],
         known: &Known,
         taken: Taken,
-        variables: &[Declared],
+        kept: &mut Self,
     ) -> Result<Taken, AllocError>
-        ensures slots { OnOk result (self.new.list.items ≡ self.old.list.items
+        ensures slots { OnOk result (kept.new.list.items ≡ kept.old.list.items
             ++ g.file_slots (told_by known.now) taken (map declared_of variables.now)) }
         ensures taken { IfOk result (λ behind. behind
             ≡ g.behind_variables (told_by known.now) taken (map declared_of variables.now)) }
     {
         let mut behind = taken;
         for variable in variables {
-            self.list.push(file_slot(behind, variable))?;
-            behind = behind_variable(known, behind, variable);
+            kept.list.push(file_slot(variable, behind))?;
+            behind = behind_variable(variable, known, behind);
         }
         Ok(behind)
     }
@@ -223,45 +236,45 @@ impl Places {
     // taken behind it.
     #[cycle(statement)]
     fn add_statement(
-        &mut self,
+        statement: &Stmt,
         known: &Known,
         frame: u32,
         taken: Taken,
-        statement: &Stmt,
+        kept: &mut Self,
     ) -> Result<Taken, AllocError>
-        ensures slots { OnOk result (self.new.list.items ≡ self.old.list.items
+        ensures slots { OnOk result (kept.new.list.items ≡ kept.old.list.items
             ++ s.slots_in (told_by known.now) frame taken (statement_of statement.now)) }
         ensures taken { IfOk result (λ behind. behind
             ≡ s.behind (told_by known.now) taken (statement_of statement.now)) }
     {
         match statement {
-            Stmt::Block(list) => self.add_statements(known, frame, taken, list),
-            Stmt::Declare(variables) => self.add_variables(known, frame, taken, variables),
+            Stmt::Block(list) => Self::add_statements(list, known, frame, taken, kept),
+            Stmt::Declare(variables) => Self::add_variables(variables, known, frame, taken, kept),
             Stmt::If(spot, _, first, otherwise) => match otherwise {
                 Some(second) => {
                     if known.splits(spot.at) {
-                        let one = behind_body_frame(known, taken, first);
-                        let begun = behind_body_frame(known, one, second).within();
-                        let behind = self.add_statement(known, taken.frames, begun, first)?;
+                        let one = behind_body_frame(first, known, taken);
+                        let begun = behind_body_frame(second, known, one).within();
+                        let behind = Self::add_statement(first, known, taken.frames, begun, kept)?;
                         let next = behind.within();
-                        let last = self.add_statement(known, one.frames, next, second)?;
+                        let last = Self::add_statement(second, known, one.frames, next, kept)?;
                         return Ok(last.outside(taken));
                     }
-                    let behind = self.add_statement(known, frame, taken, first)?;
-                    self.add_statement(known, frame, behind, second)
+                    let behind = Self::add_statement(first, known, frame, taken, kept)?;
+                    Self::add_statement(second, known, frame, behind, kept)
                 }
-                None => self.add_split(known, spot.at, frame, taken, first),
+                None => Self::add_split(first, known, spot.at, frame, taken, kept),
             },
             Stmt::While(spot, _, body)
             | Stmt::DoWhile(spot, body, _)
             | Stmt::For(spot, _, _, _, body) => {
-                self.add_split(known, spot.at, frame, taken, body)
+                Self::add_split(body, known, spot.at, frame, taken, kept)
             }
             Stmt::Start(_, _, body) | Stmt::Fork(_, _, _, _, body) => {
-                self.add_framed(known, taken, body)
+                Self::add_framed(body, known, taken, kept)
             }
             Stmt::Farm(_, body) | Stmt::Seq(_, body) => {
-                self.add_statement(known, frame, taken, body)
+                Self::add_statement(body, known, frame, taken, kept)
             }
             Stmt::Empty
             | Stmt::Expression(_)
@@ -275,47 +288,52 @@ impl Places {
     // Those of a body that has a frame where the group splits.
     #[cycle(statement)]
     fn add_split(
-        &mut self,
+        body: &Stmt,
         known: &Known,
         at: u32,
         frame: u32,
         taken: Taken,
-        body: &Stmt,
+        kept: &mut Self,
     ) -> Result<Taken, AllocError>
-        ensures slots { OnOk result (self.new.list.items ≡ self.old.list.items
+        ensures slots { OnOk result (kept.new.list.items ≡ kept.old.list.items
             ++ b.split_slots (told_by known.now) at frame taken (statement_of body.now)) }
         ensures taken { IfOk result (λ behind. behind
             ≡ b.behind_split (told_by known.now) at taken (statement_of body.now)) }
     {
         if known.splits(at) {
-            self.add_framed(known, taken, body)
+            Self::add_framed(body, known, taken, kept)
         } else {
-            self.add_statement(known, frame, taken, body)
+            Self::add_statement(body, known, frame, taken, kept)
         }
     }
 
     // Those of a body that has a frame, which gets the next number.
     #[cycle(statement)]
-    fn add_framed(&mut self, known: &Known, taken: Taken, body: &Stmt) -> Result<Taken, AllocError>
-        ensures slots { OnOk result (self.new.list.items ≡ self.old.list.items
+    fn add_framed(
+        body: &Stmt,
+        known: &Known,
+        taken: Taken,
+        kept: &mut Self,
+    ) -> Result<Taken, AllocError>
+        ensures slots { OnOk result (kept.new.list.items ≡ kept.old.list.items
             ++ b.framed_slots (told_by known.now) taken (statement_of body.now)) }
         ensures taken { IfOk result (λ behind. behind
             ≡ b.behind_framed (told_by known.now) taken (statement_of body.now)) }
     {
-        let begun = behind_body_frame(known, taken, body).within();
-        let behind = self.add_statement(known, taken.frames, begun, body)?;
+        let begun = behind_body_frame(body, known, taken).within();
+        let behind = Self::add_statement(body, known, taken.frames, begun, kept)?;
         Ok(behind.outside(taken))
     }
 
     #[cycle(statement)]
     fn add_statements(
-        &mut self,
+        statements: &[Stmt],
         known: &Known,
         frame: u32,
         taken: Taken,
-        statements: &[Stmt],
+        kept: &mut Self,
     ) -> Result<Taken, AllocError>
-        ensures slots { OnOk result (self.new.list.items ≡ self.old.list.items
+        ensures slots { OnOk result (kept.new.list.items ≡ kept.old.list.items
             ++ s.all_slots_in (told_by known.now) frame taken
             (statements_of (map statement_of statements.now))) }
         ensures taken { IfOk result (λ behind. behind
@@ -324,21 +342,21 @@ impl Places {
     {
         let mut behind = taken;
         for statement in statements {
-            behind = self.add_statement(known, frame, behind, statement)?;
+            behind = Self::add_statement(statement, known, frame, behind, kept)?;
         }
         Ok(behind)
     }
 
     // Those of a function's parameters and variables. Answers what is taken at its end.
     #[tactic(auto, using(crate::proofs::Alike::same_privates))]
-    fn add_body(
-        &mut self,
+    fn add_body<'t, 'a>(
+        parameters: &'t [Declared<'a>],
+        body: &'t [Stmt<'a>],
         known: &Known,
         file: Taken,
-        parameters: &[Declared],
-        body: &[Stmt],
+        kept: &mut Self,
     ) -> Result<Taken, AllocError>
-        ensures slots { OnOk result (self.new.list.items ≡ self.old.list.items
+        ensures slots { OnOk result (kept.new.list.items ≡ kept.old.list.items
             ++ s.body_slots (told_by known.now) file (map declared_of parameters.now)
             (Some (statements_of (map statement_of body.now)))) }
         ensures frames { IfOk result (λ last. last.frames
@@ -348,22 +366,22 @@ impl Places {
             ≡ (s.own_in (told_by known.now) (map declared_of parameters.now)
             (Some (statements_of (map statement_of body.now)))).privates) }
     {
-        let opening = opening(known, file, parameters, body);
-        let behind = self.add_parameters(known, file.frames, opening, parameters)?;
-        let last = self.add_statements(known, file.frames, behind, body)?;
+        let opening = opening(parameters, body, known, file);
+        let behind = Self::add_parameters(parameters, known, file.frames, opening, kept)?;
+        let last = Self::add_statements(body, known, file.frames, behind, kept)?;
         Ok(last)
     }
 
     // Those of a function: its name has no word. What one with a body takes by itself comes to the
     // list of these.
     fn add_function(
-        &mut self,
+        function: &Function,
         known: &Known,
         owns: &mut Vec<Own>,
         file: Taken,
-        function: &Function,
+        kept: &mut Self,
     ) -> Result<Taken, AllocError>
-        ensures slots { OnOk result (self.new.list.items ≡ self.old.list.items
+        ensures slots { OnOk result (kept.new.list.items ≡ kept.old.list.items
             ++ s.item_slots (told_by known.now) file (p.FunctionItem (function_of function.now))) }
         ensures taken { IfOk result (λ behind. behind
             ≡ s.behind_item (told_by known.now) file
@@ -371,31 +389,31 @@ impl Places {
         ensures owns { OnOk result (owns.new.items ≡ owns.old.items
             ++ s.owns_of (told_by known.now) (p.FunctionItem (function_of function.now) ∷ [])) }
     {
-        self.list.push(NO_SLOT)?;
+        kept.list.push(NO_SLOT)?;
         match &function.body {
             Some(body) => {
-                let last = self.add_body(known, file, &function.params, body)?;
-                owns.push(own_by(known, last, &function.params, body))?;
+                let last = Self::add_body(&function.params, body, known, file, kept)?;
+                owns.push(own_by(&function.params, body, known, last))?;
                 Ok(Taken {
                     frames: last.frames,
                     ..file
                 })
             }
             None => {
-                self.add_none(&function.params)?;
+                Self::add_none(&function.params, kept)?;
                 Ok(file)
             }
         }
     }
 
     fn add_item(
-        &mut self,
+        item: &Item,
         known: &Known,
         owns: &mut Vec<Own>,
         file: Taken,
-        item: &Item,
+        kept: &mut Self,
     ) -> Result<Taken, AllocError>
-        ensures slots { OnOk result (self.new.list.items ≡ self.old.list.items
+        ensures slots { OnOk result (kept.new.list.items ≡ kept.old.list.items
             ++ s.item_slots (told_by known.now) file (item_of item.now)) }
         ensures taken { IfOk result (λ behind. behind
             ≡ s.behind_item (told_by known.now) file (item_of item.now)) }
@@ -404,26 +422,26 @@ impl Places {
     {
         match item {
             Item::Struct(_, _) => Ok(file),
-            Item::Variables(variables) => self.add_file(known, file, variables),
-            Item::Function(function) => self.add_function(known, owns, file, function),
+            Item::Variables(variables) => Self::add_file(variables, known, file, kept),
+            Item::Function(function) => Self::add_function(function, known, owns, file, kept),
         }
     }
 
     #[tactic(auto, using(crate::proofs::Alike::owns_of_more))]
     fn add_items(
-        &mut self,
+        items: &[Item],
         known: &Known,
         owns: &mut Vec<Own>,
-        items: &[Item],
+        kept: &mut Self,
     ) -> Result<(), AllocError>
-        ensures slots { OnOk result (self.new.list.items ≡ self.old.list.items
+        ensures slots { OnOk result (kept.new.list.items ≡ kept.old.list.items
             ++ s.slots_of (told_by known.now) (map item_of items.now)) }
         ensures owns { OnOk result (owns.new.items ≡ owns.old.items
             ++ s.owns_of (told_by known.now) (map item_of items.now)) }
     {
         let mut behind = Taken::none();
         for item in items {
-            behind = self.add_item(known, owns, behind, item)?;
+            behind = Self::add_item(item, known, owns, behind, kept)?;
         }
         Ok(())
     }

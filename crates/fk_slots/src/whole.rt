@@ -28,8 +28,8 @@ pub fn slots(
         ≡ owns_of (record { notes = notes.now; kinds = kinds.now }) (map item_of items.now)) }
 {
     let known = Known { notes, kinds };
-    let regions = Frames::of(alloc, &known, items)?;
-    let (slots, owns) = Places::of(alloc, &known, items)?;
+    let regions = Frames::of(alloc, items, &known)?;
+    let (slots, owns) = Places::of(alloc, items, &known)?;
     Ok(Slots {
         slots,
         regions,

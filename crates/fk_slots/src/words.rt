@@ -10,7 +10,7 @@ use crate::known::Known;
 use fk_syntax::{Declared, Stmt};
 
 // The words that are taken behind a variable or parameter.
-fn declared_words(known: &Known, taken: u32, variable: &Declared) -> u32
+fn declared_words(variable: &Declared, known: &Known, taken: u32) -> u32
     ensures { result ≡ w.declared_words (told_by known.now) taken (declared_of variable.now) }
 {
     if variable.shared {
@@ -21,13 +21,13 @@ fn declared_words(known: &Known, taken: u32, variable: &Declared) -> u32
 }
 
 // The words that are taken behind variables or parameters.
-fn variables_words(known: &Known, taken: u32, variables: &[Declared]) -> u32
+fn variables_words(variables: &[Declared], known: &Known, taken: u32) -> u32
     ensures { result
         ≡ w.variables_words (told_by known.now) taken (map declared_of variables.now) }
 {
     let mut behind = taken;
     for variable in variables {
-        behind = declared_words(known, behind, variable);
+        behind = declared_words(variable, known, behind);
     }
     behind
 }
@@ -35,20 +35,20 @@ fn variables_words(known: &Known, taken: u32, variables: &[Declared]) -> u32
 /// The words of the frame round a statement that are taken behind it, where so many are taken
 /// before it.
 #[cycle(statement)]
-pub(crate) fn statement_words(known: &Known, taken: u32, statement: &Stmt) -> u32
+pub(crate) fn statement_words(statement: &Stmt, known: &Known, taken: u32) -> u32
     ensures { result
         ≡ w.statement_words (told_by known.now) taken (statement_of statement.now) }
 {
     match statement {
-        Stmt::Block(list) => statements_words(known, taken, list),
-        Stmt::Declare(variables) => variables_words(known, taken, variables),
+        Stmt::Block(list) => statements_words(list, known, taken),
+        Stmt::Declare(variables) => variables_words(variables, known, taken),
         Stmt::If(spot, _, first, otherwise) => {
             if known.splits(spot.at) {
                 return taken;
             }
-            let behind = statement_words(known, taken, first);
+            let behind = statement_words(first, known, taken);
             match otherwise {
-                Some(second) => statement_words(known, behind, second),
+                Some(second) => statement_words(second, known, behind),
                 None => behind,
             }
         }
@@ -58,10 +58,10 @@ pub(crate) fn statement_words(known: &Known, taken: u32, statement: &Stmt) -> u3
             if known.splits(spot.at) {
                 taken
             } else {
-                statement_words(known, taken, body)
+                statement_words(body, known, taken)
             }
         }
-        Stmt::Farm(_, body) | Stmt::Seq(_, body) => statement_words(known, taken, body),
+        Stmt::Farm(_, body) | Stmt::Seq(_, body) => statement_words(body, known, taken),
         Stmt::Empty
         | Stmt::Expression(_)
         | Stmt::Start(_, _, _)
@@ -74,21 +74,25 @@ pub(crate) fn statement_words(known: &Known, taken: u32, statement: &Stmt) -> u3
 }
 
 #[cycle(statement)]
-fn statements_words(known: &Known, taken: u32, statements: &[Stmt]) -> u32
+fn statements_words(statements: &[Stmt], known: &Known, taken: u32) -> u32
     ensures { result ≡ w.statements_words (told_by known.now) taken
         (statements_of (map statement_of statements.now)) }
 {
     let mut behind = taken;
     for statement in statements {
-        behind = statement_words(known, behind, statement);
+        behind = statement_words(statement, known, behind);
     }
     behind
 }
 
 /// The words of the frame of a function's own.
-pub(crate) fn own_words(known: &Known, parameters: &[Declared], body: &[Stmt]) -> u32
+pub(crate) fn own_words<'t, 'a>(
+    parameters: &'t [Declared<'a>],
+    body: &'t [Stmt<'a>],
+    known: &Known,
+) -> u32
     ensures { result ≡ w.own_words (told_by known.now) (map declared_of parameters.now)
         (statements_of (map statement_of body.now)) }
 {
-    statements_words(known, variables_words(known, 0, parameters), body)
+    statements_words(body, known, variables_words(parameters, known, 0))
 }

@@ -6,3 +6,4 @@ pub mod StatementShapes
 pub mod Statements
 pub mod Headers
 pub mod Blocks
+pub mod Completing

@@ -5,6 +5,7 @@
 //! there.
 #![tactic(auto)]
 
+mod boxes;
 pub mod kinds;
 pub mod statement;
 pub mod told;

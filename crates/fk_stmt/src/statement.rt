@@ -17,6 +17,7 @@ ghost use Rattle.fk_stmt.specs.Reading.{statements_with, read_block, read_if, re
 ghost use Rattle.fk_stmt.specs.Parts.{read_nested, read_otherwise};
 ghost use Rattle.fk_stmt.specs.Parts.{read_headed, read_any};
 
+use crate::boxes::{completed, in_box, put};
 use crate::told::{open_statement, statement_is_next};
 use fk_declarations::expressions::{condition, do_condition};
 use fk_declarations::header::any_header;
@@ -43,7 +44,7 @@ pub fn block<'a>(
     cursor.expect(TokenKind::OpenBrace)?;
     let mut statements = Vec::new(alloc);
     while statement_is_next(cursor) {
-        statements.push(nested(alloc, cursor, left)?)?;
+        put(&mut statements, nested(alloc, cursor, left)?)?;
     }
     cursor.expect(TokenKind::CloseBrace)?;
     Ok(statements)
@@ -75,7 +76,7 @@ fn boxed<'a>(
     ensures shorter { IfOk result (λ _. Shortens cursor.old cursor.new) }
 {
     let statement = nested(alloc, cursor, left)?;
-    Ok(Box::new(alloc, statement)?)
+    Ok(in_box(alloc, statement)?)
 }
 
 /// A statement, with so many levels left inside.
@@ -171,6 +172,6 @@ fn headed<'a>(
     ensures shorter { IfOk result (λ _. Shortens cursor.old cursor.new) }
 {
     let header = any_header(alloc, cursor, left)?;
-    let body = boxed(alloc, cursor, left)?;
-    Ok(header.complete(body))
+    let body = boxed(alloc, cursor, left);
+    completed(header, body)
 }

@@ -5,6 +5,9 @@ use Rattle.fk_reading.proofs.Repeats.{going_end, items_more}
 use Rattle.fk_reading.proofs.Halting.{halts_going}
 use Rattle.fk_reading.specs.Gives.{Gives}
 use Rattle.fk_stmt.proofs.Headers.{nested_reads}
+use Rattle.fk_declarations.specs.Headers.{headed, read_header}
+use Rattle.fk_stmt.specs.Parts.{read_nested}
+use Rattle.fk_stmt.proofs.Completing.{both_give, both_shorten}
 use Rattle.fk_stmt.proofs.Blocks.{block_reads, block_stops, block_open}
 use Rattle.fk_stmt.proofs.statement.+statement.Goals as goal
 
@@ -17,7 +20,7 @@ block-returns-in_err-nested-clause-read t c =
 pub block-loop-alloc-preserved : goal.block-loop-alloc-preserved
 block-loop-alloc-preserved t c =
     items_more _ _ _ _ _ statement_of _ _ c.in_ok-nested.field-0 (sym c.statement_is_next.ensures ∙ c.loop-alloc-test.true) c.in_ok-nested.ensures.read
-    (omega (arith, c.in_ok-nested.ensures.shorter)) c.in_ok-push.ensures.items c.loop-alloc.invariant
+    (omega (arith, c.in_ok-nested.ensures.shorter)) c.in_ok-put.ensures.items c.loop-alloc.invariant
 
 pub block-returns-in_err-expect-2-clause-read : goal.block-returns-in_err-expect-2-clause-read
 block-returns-in_err-expect-2-clause-read t c =
@@ -35,3 +38,12 @@ nested-returns-clause-read t c =
     subst (λ a. Gives statement_of c.statement.result c.statement.new.cursor a)
     (sym (nested_reads c.args.left c.in_ok-inside.inside c.args.cursor.now c.in_ok-inside.ensures.read.0 c.in_ok-inside.ensures.less))
     c.statement.ensures.read
+
+pub headed-returns-clause-read : goal.headed-returns-clause-read
+headed-returns-clause-read t c =
+    c.completed.ensures.read _ _
+    (both_give (λ (header, body). headed header body) (read_header c.args.left) (read_nested c.args.left) _ _ _ _ _ _ c.in_ok-header.ensures.read c.boxed-body.ensures.read)
+
+pub headed-returns-clause-shorter : goal.headed-returns-clause-shorter
+headed-returns-clause-shorter t c =
+    both_shorten _ _ _ _ _ c.in_ok-header.ensures.shorter c.boxed-body.ensures.shorter c.completed.ensures.both

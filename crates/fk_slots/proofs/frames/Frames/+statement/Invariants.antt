@@ -7,4 +7,4 @@ use Rattle.fk_slots.specs.Frames.{all_frames_in}
 use Rattle.fk_slots.proofs.frames.Frames.+statement.Given as goal
 
 abbrev pub invariant-add_statements-loop-statement : goal.invariant-add_statements-loop-statement
-invariant-add_statements-loop-statement l = l.self.list.items ++ all_frames_in (told_by l.known) l.level (statements_of (map statement_of (drop l.statement-index l.statements))) ≡ l.fn.self.list.items ++ all_frames_in (told_by l.known) l.level (statements_of (map statement_of l.statements))
+invariant-add_statements-loop-statement l = l.kept.list.items ++ all_frames_in (told_by l.known) l.level (statements_of (map statement_of (drop l.statement-index l.statements))) ≡ l.fn.kept.list.items ++ all_frames_in (told_by l.known) l.level (statements_of (map statement_of l.statements))
