@@ -34,8 +34,8 @@ HARTS = (1, 64, 1024)
 # how many hart-instructions a run of the image has
 LOOPED = 2**26
 HEADER_WORDS = 6
-# sw zero, 12(t0), with the address of the devices in t0: the hart ends
-HALT = 0x0002A623
+# sw zero, 12(s10), with the address of the devices in s10: the hart ends
+HALT = 0x000D2623
 
 
 def least_times(commands, runs):
@@ -260,4 +260,5 @@ def main():
         print_programs(folder, runs)
 
 
-main()
+if __name__ == "__main__":
+    main()

@@ -48,6 +48,7 @@ void main(void) {
   for ( ; ; ) break;
   do ; while (0);
 }""", b"124567\n8\n124564\n12\n20\n0\n"),
+    "a hundred loops in one another": (1, b"", b"void main(void) { int a = 3, b = 0; while (a--) " + b"while (b) " * 99 + b"b = 0; putint(a); }", b"-1\n"),
     "recursion": (1, b"", b"""int fib(int n) { return n < 2 ? n : fib(n - 1) + fib(n - 2); }
 int even(int n);
 int odd(int n) { return n == 0 ? 0 : even(n - 1); }
@@ -109,6 +110,10 @@ void main(void) {
     "the highest writes last": (5, b"", b"sh int x;\nvoid main(void) { x = __PROC_NR__; putint(x); }", b"4\n4\n4\n4\n4\n"),
     "each its own": (4, b"", b"int own = 5;\nint *make(int v) { int *p = (int *)malloc(8); p[1] = v; return p; }\n"
         b"void main(void) { int *p = make(__PROC_NR__ + 10); own += __PROC_NR__; putint(p[1] + own); }", b"15\n17\n19\n21\n"),
+    "in its own initial value": (1, b"", b"""int f(void) { int x = x; x += 7; return x - 7; }
+int g(int a, int b) { int c = c, d = 5; c += a * b + d; return c; }
+int deep(int n) { int a = 1, b = 2, c = 3; return n ? deep(n - 1) + a + b + c : 9; }
+void main(void) { putint(f()); putint(deep(3)); putint(f()); putint(g(2, 3)); putint(f()); putint(g(1, 1)); }""", b"0\n27\n0\n11\n0\n6\n"),
 }
 
 FAULTS_OF_RUNS = {
