@@ -1,22 +1,29 @@
 -- A block behind others, and the sites of what is shown.
-use Rattle.std.proofs.Common.{◌≡◌, ℕ, suc, ◌+◌, ◌-◌, true, false, cond, List, [], ◌∷◌, ◌++◌, map, replicate, refl, ◌∙◌, sym, ap, ap₂, arith}
+use Rattle.std.proofs.Common.{◌≡◌, ℕ, suc, ◌+◌, ◌-◌, ◌*◌, ◌^◌, ◌<◌, true, false, cond, List, [], ◌∷◌, ◌++◌, length, get_or, map, drop, replicate, Option, Some, None, refl, ◌∙◌, sym, ap, ap₂, subst, arith}
 use Rattle.std.specs.List.{count_by}
+use Rattle.std.proofs.Math.Seq.{drop-cons}
 use Rattle.std.proofs.lemmas.List.{append_assoc, map-append, replicate_more}
 use Rattle.std.proofs.lemmas.List.Sums.{sum_by-append}
-use Rattle.fk_syntax.specs.Program.{FunctionTree}
+use Rattle.fk_syntax.specs.declared.place.Place.{Place}
+use Rattle.fk_syntax.specs.declared.program.Item.{Item}
+use Rattle.fk_syntax.specs.Program.{Statements, FunctionTree, ItemTree, StructItem, VariablesItem, FunctionItem}
+use Rattle.fk_syntax.specs.ProgramView.{item_of}
 use Rattle.fk_forms.specs.Code as c
 use Rattle.fk_forms.specs.Code.{Code, size, numbered}
-use Rattle.fk_forms.specs.Program.{binding_of}
+use Rattle.fk_forms.specs.Program.{with_body, functions_of, binding_of}
 use Rattle.fk_walk.specs.declared.known.Known.{Known}
 use Rattle.fk_walk.specs.Known.{tables_of}
 use Rattle.fk_walk_statements.specs.Texts.{code_in}
 use Rattle.fk_lower.specs.Building as b
 use Rattle.fk_lower.specs.Building.{Event, has_site, events_of, IsUnbegun}
 use Rattle.fk_lower.specs.declared.block.Block.{Block}
+use Rattle.fk_lower.specs.declared.fault.LowerFault.{LowerFault}
+use Rattle.fk_lower.specs.declared.fault.LowerFault.TheVariants as v
 use Rattle.fk_lower.specs.View.{part_of}
 use Rattle.fk_lower.specs.BuilderView.{block_code, IsBlockMeasured}
 use Rattle.fk_lower.specs.Lowered.{AreMeasured}
-use Rattle.fk_lower_text.specs.Laid.{codes_of, laid}
+use Rattle.fk_lower.specs.Faults.{IsBuildFault}
+use Rattle.fk_lower_text.specs.Laid.{codes_of, laid, GoUp, CanBeLaid}
 
 pub codes_more : (blocks : List Block) (block : Block) → codes_of (blocks ++ block ∷ []) ≡ codes_of blocks ++ block_code block ∷ []
 codes_more blocks block = map-append block_code blocks (block ∷ [])
@@ -49,6 +56,39 @@ one_laid known f fs old mid new count site mid_site binding last behind h e s g 
     ∙ ap (λ (l : List (Code ℕ)). l ++ own ∷ rest) before
     ∙ sym (append_assoc mid (own ∷ []) rest)
     ∙ ap₂ (λ (l r : List (Code ℕ)). l ++ r) whole (ap₂ (λ a z. laid known a z fs) k i)
+
+-- where functions can be laid, so can the first one alone, and those behind it
+module _ (known : Known) where
+  pub first_laid : (f : FunctionTree) (fs : List FunctionTree) (count site : ℕ) → CanBeLaid known count site (f ∷ fs) → CanBeLaid known count site (f ∷ [])
+  first_laid f fs count site can = let few = can.few in record { up = (can.up.0, tt); plain = (can.plain.0, tt); few = omega (arith, few) }
+
+  pub rest_laid : (f : FunctionTree) (fs : List FunctionTree) (count site last behind : ℕ) → last ≡ suc (binding_of (tables_of known) f)
+      → behind ≡ site + size (code_in known f) → CanBeLaid known count site (f ∷ fs) → CanBeLaid known last behind fs
+  rest_laid f fs count site last behind e s can =
+      let few = can.few in
+      record { up = subst (λ k. GoUp known k fs) (sym e) can.up.1; plain = can.plain.1; few = omega (arith, few, s) }
+
+  none_laid : (fs : List FunctionTree) (count site : ℕ) → CanBeLaid known count site fs → CanBeLaid known count site []
+  none_laid fs count site can = let few = can.few in record { up = tt; plain = tt; few = omega (arith, few) }
+
+  pub item_laid : (x : ItemTree) (others : List ItemTree) (count site : ℕ) → CanBeLaid known count site (functions_of (x ∷ others))
+      → CanBeLaid known count site (functions_of (x ∷ []))
+  item_laid (StructItem name members) others count site can = none_laid (functions_of others) count site can
+  item_laid (VariablesItem variables) others count site can = none_laid (functions_of others) count site can
+  item_laid (FunctionItem f) others count site can = by f.body can
+    where
+      by : (body : Option Statements) → CanBeLaid known count site (with_body f body (functions_of others)) → CanBeLaid known count site (with_body f body [])
+      by None can' = none_laid (functions_of others) count site can'
+      by (Some body) can' = first_laid f (functions_of others) count site can'
+
+-- the items that are left, one after the other
+pub one_left : (items : List Item) (i : ℕ) (x : Item) → i < length items → x ≡ get_or items i x
+    → map item_of (drop i items) ≡ item_of x ∷ map item_of (drop (i + 1) items)
+one_left items i x less is =
+    let n : suc i ≡ i + 1 = omega arith in
+    ap (λ (l : List Item). map item_of l) (drop-cons items i x less)
+    ∙ ap (λ n. item_of (get_or items i x) ∷ map item_of (drop n items)) n
+    ∙ ap (λ (y : Item). item_of y ∷ map item_of (drop (i + 1) items)) (sym is)
 
 -- as many sites as the code has operations
 abbrev many : List Event → ℕ
@@ -108,3 +148,11 @@ sized (c.call t op f opening rest) u =
     both (b.Call op f ∷ events_of opening) (b.Returned ∷ events_of rest) (suc (size opening)) (size rest) (suc (size opening + size rest))
     (one (b.Call op f) (events_of opening) (size opening) refl (sized opening u.0)) (none b.Returned (events_of rest) (size rest) refl (sized rest u.1)) (omega arith)
 sized (c.ends t op rest) u = one (b.Ends op) (events_of rest) (size rest) refl (sized rest u)
+
+-- what is shown of code that is so short is built, or memory is refused
+pub only_memory : (code : Code Place) → IsUnbegun code → (site : ℕ) (events : List Event) → events ≡ events_of code → 3 * (site + size code) < 2 ^ 32
+    → (fault : LowerFault) → IsBuildFault site events fault → fault ≡ v.Memory
+only_memory code u site events are few v.TooLong long = absurd (omega (arith, few, long, ap many are, sized code u))
+only_memory code u site events are few v.Misplaced none = absurd (none code u (sym are))
+only_memory code u site events are few v.OutOfRange none = absurd none
+only_memory code u site events are few v.Memory is = refl

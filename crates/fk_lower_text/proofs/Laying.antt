@@ -38,10 +38,10 @@ past_none (suc k) j zero codes e = absurd (omega arith)
 past_none (suc k) j (suc b) codes e = past_none k j b codes (omega arith)
 
 -- a test of two bindings
-same : {A : Type 0} (a b : ℕ) (x y : A) → a ≡ b → (if a == b then x else y) ≡ x
+pub same : {A : Type 0} (a b : ℕ) (x y : A) → a ≡ b → (if a == b then x else y) ≡ x
 same a b x y e = ap (λ t. if t then x else y) (eq-eqb a b e)
 
-other : {A : Type 0} (a b : ℕ) (x y : A) → (a ≡ b → ⊥) → (if a == b then x else y) ≡ y
+pub other : {A : Type 0} (a b : ℕ) (x y : A) → (a ≡ b → ⊥) → (if a == b then x else y) ≡ y
 other a b x y n = ap (λ t. if t then x else y) (ne_eqb a b n)
 
 module _ (known : Known) where
@@ -52,7 +52,7 @@ module _ (known : Known) where
   body site fs b = body_in (tables_of known) (functions_in known) site fs b
 
   -- below the bindings of functions there is none
-  none_below : (fs : List FunctionTree) (count site b : ℕ) → GoUp known count fs → b < count → body site fs b ≡ done
+  pub none_below : (fs : List FunctionTree) (count site b : ℕ) → GoUp known count fs → b < count → body site fs b ≡ done
   none_below [] count site b up low = refl
   none_below (f ∷ fs) count site b up low =
       let ne : binding f ≡ b → ⊥ = λ e. (let up' = up.0 in absurd (omega (arith, e, up'))) in
@@ -91,7 +91,7 @@ in_parts (block ∷ blocks) zero = refl
 in_parts (block ∷ blocks) (suc b) = in_parts blocks b
 
 -- code that is whole has no loop under way
-unbegun : {A : Type 0} (code : Code A) → IsWhole code → IsUnbegun code
+pub unbegun : {A : Type 0} (code : Code A) → IsWhole code → IsUnbegun code
 unbegun c.done whole = tt
 unbegun (c.perform t op rest) whole = unbegun rest whole.1
 unbegun (c.choose t op x y rest) whole = (unbegun x whole.1, unbegun y whole.2, unbegun rest whole.3)
@@ -106,7 +106,7 @@ unbegun (c.call t op f opening rest) whole = (unbegun opening whole.1, unbegun r
 unbegun (c.ends t op rest) whole = unbegun rest whole.1
 
 module _ (known : Known) where
-  all_plain : (fs : List FunctionTree) → AreWhole known fs → ArePlain known fs
+  pub all_plain : (fs : List FunctionTree) → AreWhole known fs → ArePlain known fs
   all_plain [] whole = tt
   all_plain (f ∷ fs) whole = ((unbegun (code_in known f) whole.0, whole.0), all_plain fs whole.1)
 
@@ -119,13 +119,10 @@ module _ (known : Known) where
         ap (λ (items : List ItemTree). body_in (tables_of known) (functions_of items) 0 (functions_of items) b) lowerable.items
         ∙ sym (laid_at known (functions_in known) 0 0 b b up (omega arith))
 
-    pub plain : ArePlain known (functions_in known)
-    plain = all_plain (functions_in known) lowerable.whole
-
-    module _ (blocks : List Block) (are : ArePlain known (functions_in known) → codes_of blocks ≡ codes) where
+    module _ (blocks : List Block) (are : codes_of blocks ≡ codes) where
       -- the functions of the blocks are those of the program
       in_blocks : (b : ℕ) → bodies_in (map part_of blocks) b ≡ bodies_of (tables_of known) program b
-      in_blocks b = in_parts blocks b ∙ ap (λ xs. code_at xs b) (are plain) ∙ sym (bodies_are b)
+      in_blocks b = in_parts blocks b ∙ ap (λ xs. code_at xs b) are ∙ sym (bodies_are b)
 
       pub shaped_in_blocks : AreShaped (bodies_in (map part_of blocks))
       shaped_in_blocks = subst (λ (bodies : ℕ → Code ℕ). AreShaped bodies) (λ i. λ b. sym (in_blocks b) i) lowerable.shaped

@@ -3,3 +3,4 @@ pub mod Noted
 pub mod Keeping
 pub mod Laying
 pub mod Listed
+pub mod Refused

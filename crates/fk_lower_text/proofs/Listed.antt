@@ -1,6 +1,6 @@
 -- The operations of a text in its flat list, and how many jumps there are.
 use Rattle.std.proofs.Common.{◌≡◌, ℕ, zero, suc, ◌+◌, ◌-◌, ◌≤◌, Bool, false, List, [], ◌∷◌, ◌++◌, map, length, replicate, None, refl, ◌∙◌, ap, ap₂, subst, arith, length-append}
-use Rattle.fk_syntax.specs.Program.{FunctionTree, ProgramTree}
+use Rattle.fk_syntax.specs.Program.{FunctionTree}
 use Rattle.fk_forms.specs.Code.{Code, done, size, sites, numbered}
 use Rattle.fk_forms.specs.Ranks.{ranked}
 use Rattle.fk_forms.specs.Program.{binding_of, sites_in}
@@ -17,10 +17,9 @@ use Rattle.fk_flat.proofs.Counts.{acts_both, jumps_both, calls_both, acts_are, j
 use Rattle.fk_lower.specs.declared.block.Block.{Block}
 use Rattle.fk_lower.specs.View.{part_of}
 use Rattle.fk_lower.specs.Lowered.{bodies_in, all_flat, IsListOf}
-use Rattle.fk_lower_text.specs.Whole.{ArePlain}
-use Rattle.fk_lower_text.specs.Laid.{codes_of, laid, GoUp}
-use Rattle.fk_lower_text.specs.Lowered.{IsLowerable, HasSites}
-use Rattle.fk_lower_text.proofs.Laying.{code_at, in_parts, plain}
+use Rattle.fk_lower_text.specs.Laid.{codes_of, laid}
+use Rattle.fk_lower_text.specs.Lowered.{HasSites}
+use Rattle.fk_lower_text.proofs.Laying.{code_at, in_parts}
 
 -- the operations of all code
 abbrev joined : List (Code ℕ) → List (ℕ × ℕ)
@@ -79,16 +78,15 @@ module _ (known : Known) where
       ∙ ap₂ (λ xs ys. xs ++ ys) (sites_are_ranks _ site code) (laid_sites fs (suc binding) (site + size code))
       ∙ ranked_both site (site + size code) (sites code) more (omega (arith, n))
 
-  pub has_sites : (program : ProgramTree) → IsLowerable known program → GoUp known 0 (functions_in known) → (blocks : List Block)
-      → (ArePlain known (functions_in known) → codes_of blocks ≡ laid known 0 0 (functions_in known))
+  pub has_sites : (blocks : List Block) → codes_of blocks ≡ laid known 0 0 (functions_in known)
       → (core : List CoreOp) (entry : ℕ → ℕ) (end : ℕ) → AreShaped (bodies_in (map part_of blocks))
       → IsListOf core (all_flat entry 0 end (map part_of blocks)) → HasSites known core
-  has_sites program lowerable up blocks are core entry end shape list =
+  has_sites blocks are core entry end shape list =
       let has_body : ℕ → Bool = λ f. is_closed (bodies_in (map part_of blocks) f) in
       let all : AllShaped entry end has_body blocks = λ i. subst (λ (code : Code ℕ). IsShaped has_body false code) (in_parts blocks i) (shape i).0 in
       record {
         items = all_flat entry 0 end (map part_of blocks);
         are = list;
-        sites = acts_all entry end has_body blocks 0 all ∙ ap joined (are (plain known program lowerable up)) ∙ laid_sites (functions_in known) 0 0;
+        sites = acts_all entry end has_body blocks 0 all ∙ ap joined are ∙ laid_sites (functions_in known) 0 0;
         few = few_all entry end has_body blocks 0 all;
       }

@@ -1,5 +1,5 @@
 -- The code of functions, each at its binding.
-use Rattle.std.specs.Prelude.{ℕ, suc, ◌+◌, ◌-◌, ◌≤◌, List, [], ◌∷◌, ◌++◌, map, replicate}
+use Rattle.std.specs.Prelude.{ℕ, suc, ◌+◌, ◌-◌, ◌*◌, ◌^◌, ◌<◌, ◌≤◌, List, [], ◌∷◌, ◌++◌, map, replicate}
 use Rattle.fk_syntax.specs.Program.{FunctionTree}
 use Rattle.fk_forms.specs.Code.{Code, done, size, numbered}
 use Rattle.fk_forms.specs.Program.{binding_of}
@@ -8,6 +8,7 @@ use Rattle.fk_walk.specs.Known.{tables_of}
 use Rattle.fk_walk_statements.specs.Texts.{code_in}
 use Rattle.fk_lower.specs.declared.block.Block.{Block}
 use Rattle.fk_lower.specs.BuilderView.{block_code}
+use Rattle.fk_lower_text.specs.Whole.{ArePlain}
 
 abbrev pub codes_of : List Block → List (Code ℕ)
 codes_of blocks = map block_code blocks
@@ -24,3 +25,15 @@ module _ (known : Known) where
   abbrev pub GoUp : (count : ℕ) → List FunctionTree → Type 0
   GoUp count [] = Unit {0}
   GoUp count (f ∷ fs) = (count ≤ binding_of (tables_of known) f) × GoUp (suc (binding_of (tables_of known) f)) fs
+
+  -- how many operations their code has
+  abbrev pub sizes : List FunctionTree → ℕ
+  sizes [] = 0
+  sizes (f ∷ fs) = size (code_in known f) + sizes fs
+
+  -- functions whose code can be shown, each at its binding, so many bindings and operations behind the first ones: their bindings
+  -- go up, and three entries of a list for each of their operations have indices
+  pub record CanBeLaid (count site : ℕ) (fs : List FunctionTree) : Type 0 where
+    pub up : GoUp count fs
+    pub plain : ArePlain known fs
+    pub few : 3 * (site + sizes fs) < 2 ^ 32

@@ -15,8 +15,10 @@ use Rattle.fk_core.specs.Next.{next, opening}
 use Rattle.fk_core.specs.KeepsRuns.{HasCodeOf}
 use Rattle.fk_flat.specs.Items.{Item, acts, jumps, calls}
 use Rattle.fk_flat.specs.Laws.{AreShaped, IsFlat}
+use Rattle.fk_lower.specs.declared.fault.LowerFault.{LowerFault}
+use Rattle.fk_lower.specs.declared.fault.LowerFault.TheVariants.{TooLong, OutOfRange, Misplaced, Memory}
 use Rattle.fk_lower.specs.Lowered.{IsListOf}
-use Rattle.fk_lower_text.specs.Whole.{AreWhole}
+use Rattle.fk_lower_text.specs.Whole.{AreWhole, AreNumbered}
 
 -- a program of these items, of whose code is asked that it has the shape of flat lists, and that each number of its operations has
 -- room in a word
@@ -46,3 +48,11 @@ pub record HasSites (known : Known) (core : List CoreOp) : Type 0 where
   pub are : IsListOf core items
   pub sites : acts items ≡ ranked 0 (sites_of_text known)
   pub few : jumps items ≤ length (acts items) + calls items
+
+-- Why functions that can be laid have no list: an operation has no number; it wasn't found that depths go with operations; or memory
+-- is refused, which no clause can say
+abbrev pub IsTextFault : Known → LowerFault → Type 0
+IsTextFault known TooLong = ⊥
+IsTextFault known OutOfRange = AreNumbered known (functions_in known) → ⊥
+IsTextFault known Misplaced = Unit {0}
+IsTextFault known Memory = Unit {0}

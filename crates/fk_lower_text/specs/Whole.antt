@@ -7,6 +7,7 @@ use Rattle.fk_walk.specs.declared.known.Known.{Known}
 use Rattle.fk_walk.specs.Shown.{shown}
 use Rattle.fk_walk_statements.specs.Texts.{code_in}
 use Rattle.fk_lower.specs.Building.{IsUnbegun}
+use Rattle.fk_lower.specs.Faults.{HaveNumbers}
 
 -- each of its numbers has room in a word
 abbrev pub HasRoom : Operation → Type 0
@@ -38,3 +39,8 @@ AreWhole known (f ∷ fs) = IsWhole (code_in known f) × AreWhole known fs
 abbrev pub ArePlain : Known → List FunctionTree → Type 0
 ArePlain known [] = Unit {0}
 ArePlain known (f ∷ fs) = IsPlain (code_in known f) × ArePlain known fs
+
+-- each operation of the code of functions has a number
+abbrev pub AreNumbered : Known → List FunctionTree → Type 0
+AreNumbered known [] = Unit {0}
+AreNumbered known (f ∷ fs) = HaveNumbers (code_in known f) × AreNumbered known fs

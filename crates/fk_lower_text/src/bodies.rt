@@ -1,6 +1,6 @@
 //! The blocks of the functions of a text.
 
-ghost use Rattle.std.specs.Prelude.{◌≡◌, ◌+◌, ◌-◌, ◌≤◌, ◌∷◌, ◌++◌, [], List, IfOk, OnOk, length, map, replicate};
+ghost use Rattle.std.specs.Prelude.{◌≡◌, ◌+◌, ◌-◌, ◌*◌, ◌^◌, ◌<◌, ◌≤◌, ◌∷◌, ◌++◌, [], List, IfOk, IfErr, OnOk, length, map, replicate};
 ghost use Rattle.std.specs.List.{count_by};
 ghost use Rattle.fk_syntax.specs.Program.{FunctionTree, ItemTree};
 ghost use Rattle.fk_syntax.specs.ProgramView.{function_of, item_of};
@@ -13,8 +13,8 @@ ghost use Rattle.fk_lower.specs.Building.{has_site};
 ghost use Rattle.fk_lower.specs.View.{part_of};
 ghost use Rattle.fk_lower.specs.BuilderView.{event_of, block_code, IsBlockMeasured};
 ghost use Rattle.fk_lower.specs.Lowered.{AreMeasured};
-ghost use Rattle.fk_lower_text.specs.Whole.{IsPlain, ArePlain};
-ghost use Rattle.fk_lower_text.specs.Laid.{codes_of, laid, GoUp};
+ghost use Rattle.fk_lower_text.specs.Whole.{IsPlain};
+ghost use Rattle.fk_lower_text.specs.Laid.{codes_of, laid, CanBeLaid};
 
 use crate::main_entry::binding_of;
 use crate::noting::events_of;
@@ -46,17 +46,17 @@ fn has_site(event: CodeEvent) -> bool
 }
 
 // The site behind what is shown from one on.
-fn site_behind(site: u32, events: &[CodeEvent]) -> Result<u32, LowerFault>
-    ensures { IfOk result
-        (λ behind. behind ≡ site + count_by has_site (map event_of events.now)) }
+fn site_behind(site: u32, events: &[CodeEvent]) -> u32
+    requires { site + count_by has_site (map event_of events.now) < 2 ^ 32 }
+    ensures { result ≡ site + count_by has_site (map event_of events.now) }
 {
     let mut behind = site;
     for event in events {
         if has_site(*event) {
-            behind = behind.checked_add(1).ok_or(LowerFault::TooLong)?;
+            behind += 1;
         }
     }
-    Ok(behind)
+    behind
 }
 
 impl Bodies {
@@ -71,6 +71,7 @@ impl Bodies {
             ≡ codes_of self.old.blocks.items ++ block_code block ∷ []) }
         ensures site { self.new.site ≡ self.old.site }
         ensures measured { AreMeasured (map part_of self.new.blocks.items) }
+        ensures refused { IfErr result (λ fault. fault ≡ LowerFault.Memory) }
     {
         match self.blocks.push(block) {
             Ok(()) => Ok(()),
@@ -87,6 +88,7 @@ impl Bodies {
             (codes_of self.new.blocks.items ≡ codes_of self.old.blocks.items ++ c.done ∷ []) }
         ensures site { self.new.site ≡ self.old.site }
         ensures measured { AreMeasured (map part_of self.new.blocks.items) }
+        ensures refused { IfErr result (λ fault. fault ≡ LowerFault.Memory) }
     {
         let empty = Block::of(Vec::new(self.alloc));
         self.keep(empty)
@@ -94,41 +96,39 @@ impl Bodies {
 
     // Empty blocks up to a binding. Those of the bindings there are stay.
     fn reach(&mut self, binding: u32) -> Result<(), LowerFault>
-        requires { AreMeasured (map part_of self.now.blocks.items) }
-        ensures up { OnOk result (length self.old.blocks.items ≤ binding) }
+        requires measured { AreMeasured (map part_of self.now.blocks.items) }
+        requires up { length self.now.blocks.items ≤ binding }
         ensures count { OnOk result (length self.new.blocks.items ≡ binding) }
         ensures codes { OnOk result (codes_of self.new.blocks.items ≡ codes_of self.old.blocks.items
             ++ replicate (binding - length self.old.blocks.items) c.done) }
         ensures site { self.new.site ≡ self.old.site }
         ensures measured { AreMeasured (map part_of self.new.blocks.items) }
+        ensures refused { IfErr result (λ fault. fault ≡ LowerFault.Memory) }
     {
         while self.blocks.len() < binding as usize {
             self.skip()?;
         }
-        if self.blocks.len() == binding as usize {
-            Ok(())
-        } else {
-            Err(LowerFault::Misplaced)
-        }
+        Ok(())
     }
 
     // The block of a function behind those there are.
     fn push(&mut self, known: &Known, whole: &Function) -> Result<(), LowerFault>
         requires sound { IsSound known.now }
         requires measured { AreMeasured (map part_of self.now.blocks.items) }
+        requires plain { IsPlain (code_in known.now (function_of whole.now)) }
+        requires few { 3 * (self.now.site + size (code_in known.now (function_of whole.now))) < 2 ^ 32 }
         ensures count { OnOk result
             (length self.new.blocks.items ≡ length self.old.blocks.items + 1) }
-        ensures codes { IsPlain (code_in known.now (function_of whole.now))
-            → OnOk result (codes_of self.new.blocks.items ≡ codes_of self.old.blocks.items
+        ensures codes { OnOk result (codes_of self.new.blocks.items ≡ codes_of self.old.blocks.items
             ++ numbered self.old.site (code_in known.now (function_of whole.now)) ∷ []) }
-        ensures site { IsPlain (code_in known.now (function_of whole.now))
-            → OnOk result (self.new.site
+        ensures site { OnOk result (self.new.site
             ≡ self.old.site + size (code_in known.now (function_of whole.now))) }
         ensures measured { AreMeasured (map part_of self.new.blocks.items) }
+        ensures refused { IfErr result (λ fault. fault ≡ LowerFault.Memory) }
     {
         let events = events_of(self.alloc, known, whole)?;
         let block = build(self.alloc, self.site, &events)?;
-        let site = site_behind(self.site, &events)?;
+        let site = site_behind(self.site, &events);
         self.keep(block)?;
         self.site = site;
         Ok(())
@@ -138,15 +138,17 @@ impl Bodies {
     fn add(&mut self, known: &Known, whole: &Function) -> Result<(), LowerFault>
         requires sound { IsSound known.now }
         requires measured { AreMeasured (map part_of self.now.blocks.items) }
-        ensures up { OnOk result ((fs : List FunctionTree)
-            → GoUp known.now (length self.new.blocks.items) fs
-            → GoUp known.now (length self.old.blocks.items) (function_of whole.now ∷ fs)) }
-        ensures codes { IsPlain (code_in known.now (function_of whole.now))
-            → OnOk result ((fs : List FunctionTree) → codes_of self.old.blocks.items
+        requires laid { CanBeLaid known.now (length self.now.blocks.items) self.now.site
+            (function_of whole.now ∷ []) }
+        ensures next { OnOk result ((fs : List FunctionTree)
+            → CanBeLaid known.now (length self.old.blocks.items) self.old.site (function_of whole.now ∷ fs)
+            → CanBeLaid known.now (length self.new.blocks.items) self.new.site fs) }
+        ensures codes { OnOk result ((fs : List FunctionTree) → codes_of self.old.blocks.items
             ++ laid known.now (length self.old.blocks.items) self.old.site (function_of whole.now ∷ fs)
             ≡ codes_of self.new.blocks.items
             ++ laid known.now (length self.new.blocks.items) self.new.site fs) }
         ensures measured { AreMeasured (map part_of self.new.blocks.items) }
+        ensures refused { IfErr result (λ fault. fault ≡ LowerFault.Memory) }
     {
         self.reach(binding_of(known, whole))?;
         self.push(known, whole)?;
@@ -157,21 +159,20 @@ impl Bodies {
     fn item(&mut self, known: &Known, whole: &Item) -> Result<(), LowerFault>
         requires sound { IsSound known.now }
         requires measured { AreMeasured (map part_of self.now.blocks.items) }
-        ensures up { OnOk result ((others : List ItemTree)
-            → GoUp known.now (length self.new.blocks.items) (functions_of others)
-            → GoUp known.now (length self.old.blocks.items)
-            (functions_of (item_of whole.now ∷ others))) }
-        ensures plain { (others : List ItemTree)
-            → ArePlain known.now (functions_of (item_of whole.now ∷ others))
-            → ArePlain known.now (functions_of others) }
+        requires laid { CanBeLaid known.now (length self.now.blocks.items) self.now.site
+            (functions_of (item_of whole.now ∷ [])) }
+        ensures next { OnOk result ((others : List ItemTree)
+            → CanBeLaid known.now (length self.old.blocks.items) self.old.site
+            (functions_of (item_of whole.now ∷ others))
+            → CanBeLaid known.now (length self.new.blocks.items) self.new.site (functions_of others)) }
         ensures codes { OnOk result ((others : List ItemTree)
-            → ArePlain known.now (functions_of (item_of whole.now ∷ others))
             → codes_of self.old.blocks.items
             ++ laid known.now (length self.old.blocks.items) self.old.site
             (functions_of (item_of whole.now ∷ others))
             ≡ codes_of self.new.blocks.items
             ++ laid known.now (length self.new.blocks.items) self.new.site (functions_of others)) }
         ensures measured { AreMeasured (map part_of self.new.blocks.items) }
+        ensures refused { IfErr result (λ fault. fault ≡ LowerFault.Memory) }
     {
         match whole {
             Item::Function(whole) => match &whole.body {
@@ -186,13 +187,14 @@ impl Bodies {
     /// a function.
     ///
     /// # Errors
-    /// `Misplaced` where the bindings of functions don't go up; else as `fk_lower::build`.
+    /// `Memory`.
     pub(crate) fn of(alloc: Global, known: &Known) -> Result<Bodies, LowerFault>
-        requires { IsSound known.now }
-        ensures up { OnOk result (GoUp known.now 0 (functions_in known.now)) }
-        ensures codes { ArePlain known.now (functions_in known.now) → IfOk result (λ bodies.
+        requires sound { IsSound known.now }
+        requires laid { CanBeLaid known.now 0 0 (functions_in known.now) }
+        ensures codes { IfOk result (λ bodies.
             codes_of bodies.blocks.items ≡ laid known.now 0 0 (functions_in known.now)) }
         ensures measured { IfOk result (λ bodies. AreMeasured (map part_of bodies.blocks.items)) }
+        ensures refused { IfErr result (λ fault. fault ≡ LowerFault.Memory) }
     {
         let mut bodies = Bodies {
             alloc,

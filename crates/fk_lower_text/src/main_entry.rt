@@ -1,6 +1,6 @@
 //! `main`, and whether the depths of a list go with each other.
 
-ghost use Rattle.std.specs.Prelude.{◌≡◌, ◌∷◌, List, OnOk, unwrap_or};
+ghost use Rattle.std.specs.Prelude.{◌≡◌, ◌∷◌, List, OnOk, IfErr, unwrap_or};
 ghost use Rattle.fk_syntax.specs.Program.{ItemTree};
 ghost use Rattle.fk_syntax.specs.ProgramView.{function_of, item_of};
 ghost use Rattle.fk_forms.specs.Program as f;
@@ -9,6 +9,7 @@ ghost use Rattle.fk_walk.specs.Known.{tables_of};
 ghost use Rattle.fk_walk_statements.specs.Texts.{functions_in};
 ghost use Rattle.fk_lower.specs.Written.{entry_of};
 ghost use Rattle.fk_depths.specs.Local.{HasLocalDepths};
+ghost use Rattle.fk_lower_text.specs.Lowered.{IsTextFault};
 
 use fk_depths::has_local_depths;
 use fk_lower::{LowerFault, Lowered};
@@ -89,9 +90,10 @@ pub(crate) fn check_depths(
     known: &Known,
     lowered: &Lowered,
 ) -> Result<(), LowerFault>
-    ensures { OnOk result (HasLocalDepths lowered.now.ops.items
+    ensures depths { OnOk result (HasLocalDepths lowered.now.ops.items
         (entry_of lowered.now.entries.of_bindings.items lowered.now.entries.end
         (main_in (tables_of known.now) (functions_in known.now)))) }
+    ensures refused { IfErr result (IsTextFault known.now) }
 {
     let main = entry_of_main(known, lowered);
     let Ok(fits) = has_local_depths(alloc, &lowered.ops, main) else {

@@ -1,6 +1,6 @@
 //! The code of a function, as it is shown to a builder.
 
-ghost use Rattle.std.specs.Prelude.{◌≡◌, IfOk, map};
+ghost use Rattle.std.specs.Prelude.{◌≡◌, IfErr, IfOk, map};
 ghost use Rattle.fk_syntax.specs.ProgramView.{function_of};
 ghost use Rattle.fk_walk.specs.Known.{IsSound};
 ghost use Rattle.fk_walk_statements.specs.Texts.{code_in};
@@ -93,8 +93,9 @@ pub(crate) fn events_of(
     whole: &Function,
 ) -> Result<Vec<CodeEvent>, LowerFault>
     requires { IsSound known.now }
-    ensures { IsPlain (code_in known.now (function_of whole.now)) → IfOk result (λ events.
+    ensures events { IsPlain (code_in known.now (function_of whole.now)) → IfOk result (λ events.
         map event_of events.items ≡ b.events_of (code_in known.now (function_of whole.now))) }
+    ensures refused { IfErr result (λ fault. fault ≡ LowerFault.Memory) }
 {
     let mut count = Count { events: 0 };
     function(known, &mut count, whole);

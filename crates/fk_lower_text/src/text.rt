@@ -1,14 +1,14 @@
 //! From a text to its flat list.
 
-ghost use Rattle.std.specs.Prelude.{◌≡◌, IfOk, OnOk};
+ghost use Rattle.std.specs.Prelude.{◌≡◌, IfOk, IfErr};
 ghost use Rattle.fk_syntax.specs.Program.{ProgramTree};
 ghost use Rattle.fk_forms.specs.Program.{main_of};
 ghost use Rattle.fk_walk.specs.Known.{tables_of, items_in, IsSound};
 ghost use Rattle.fk_walk_statements.specs.Texts.{functions_in};
 ghost use Rattle.fk_core.specs.WellFormed.{HasDepths};
 ghost use Rattle.fk_lower.specs.Written.{entry_of};
-ghost use Rattle.fk_lower_text.specs.Laid.{GoUp};
-ghost use Rattle.fk_lower_text.specs.Lowered.{IsLowerable, HasProgram, HasItsRuns, HasSites};
+ghost use Rattle.fk_lower_text.specs.Laid.{CanBeLaid};
+ghost use Rattle.fk_lower_text.specs.Lowered.{IsLowerable, HasProgram, HasItsRuns, HasSites, IsTextFault};
 
 use crate::bodies::Bodies;
 use crate::main_entry::check_depths;
@@ -22,14 +22,12 @@ use std::alloc::Global;
 /// of a function.
 ///
 /// # Errors
-/// `Misplaced` where the bindings of the functions don't go up in the order of the text, or where the
-/// ways of a choice or a loop, or those behind a call, don't come together with as many values;
-/// `TooLong` where the list would have more than
-/// 2^32 - 1 operations and jumps; `OutOfRange` where a constant of an operation is too large for its
-/// number; and `Memory`.
+/// `OutOfRange` where a constant of an operation is too large for its number; `Misplaced` where the
+/// ways of a choice or a loop, or those behind a call, don't come together with as many values; and
+/// `Memory`.
 pub fn lower_text(alloc: Global, known: &Known) -> Result<Lowered, LowerFault>
-    requires { IsSound known.now }
-    ensures up { OnOk result (GoUp known.now 0 (functions_in known.now)) }
+    requires sound { IsSound known.now }
+    requires laid { CanBeLaid known.now 0 0 (functions_in known.now) }
     ensures program { (program : ProgramTree) → IsLowerable known.now program
         → IfOk result (λ lowered. HasProgram known.now program lowered.ops.items
         (entry_of lowered.entries.of_bindings.items lowered.entries.end)) }
@@ -42,6 +40,7 @@ pub fn lower_text(alloc: Global, known: &Known) -> Result<Lowered, LowerFault>
         → IfOk result (λ lowered. HasDepths lowered.ops.items
         (entry_of lowered.entries.of_bindings.items lowered.entries.end
         (main_of (tables_of known.now) program))) }
+    ensures refused { IfErr result (IsTextFault known.now) }
 {
     let bodies = Bodies::of(alloc, known)?;
     let blocks: &[Block] = &bodies.blocks;

@@ -7,8 +7,8 @@ use Rattle.fk_lower.specs.Written.{entry_of}
 use Rattle.fk_depths.specs.Local.{HasLocalDepths}
 use Rattle.fk_lower_text.proofs.main_entry.check_depths.Goals as goal
 
-pub returns-then-fits : goal.returns-then-fits
-returns-then-fits c =
+pub returns-then-fits-clause-depths : goal.returns-then-fits-clause-depths
+returns-then-fits-clause-depths c =
     let lowered = c.args.lowered.now in
     let entry = entry_of lowered.entries.of_bindings.items lowered.entries.end in
     let main = c.entry_of_main-main.ensures in

@@ -7,8 +7,8 @@ use Rattle.fk_lower_text.proofs.Counted.{exactly}
 use Rattle.fk_lower_text.proofs.Noted.{all_noted}
 use Rattle.fk_lower_text.proofs.noting.events_of.Goals as goal
 
-pub returns : goal.returns
-returns c plain =
+pub returns-clause-events : goal.returns-clause-events
+returns-clause-events c plain =
     let known = c.args.known.now in
     let code = code_in known (function_of c.args.whole.now) in
     let count = c.function.new.visitor in

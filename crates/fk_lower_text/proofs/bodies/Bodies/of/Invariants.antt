@@ -5,17 +5,13 @@ use Rattle.fk_forms.specs.Program.{functions_of}
 use Rattle.fk_walk_statements.specs.Texts.{functions_in}
 use Rattle.fk_lower.specs.View.{part_of}
 use Rattle.fk_lower.specs.Lowered.{AreMeasured}
-use Rattle.fk_lower_text.specs.Whole.{ArePlain}
-use Rattle.fk_lower_text.specs.Laid.{codes_of, laid, GoUp}
+use Rattle.fk_lower_text.specs.Laid.{codes_of, laid, CanBeLaid}
 use Rattle.fk_lower_text.proofs.bodies.Bodies.of.Given as goal
 
 abbrev pub invariant-loop-item : goal.invariant-loop-item
 invariant-loop-item l = record {
-  up : GoUp l.known (length l.bodies.blocks.items) (functions_of (map item_of (drop l.item-index l.known.items.now)))
-      → GoUp l.known 0 (functions_in l.known);
-  plain : ArePlain l.known (functions_in l.known) → ArePlain l.known (functions_of (map item_of (drop l.item-index l.known.items.now)));
-  codes : ArePlain l.known (functions_in l.known)
-      → codes_of l.bodies.blocks.items
+  next : CanBeLaid l.known (length l.bodies.blocks.items) l.bodies.site (functions_of (map item_of (drop l.item-index l.known.items.now)));
+  codes : codes_of l.bodies.blocks.items
       ++ laid l.known (length l.bodies.blocks.items) l.bodies.site (functions_of (map item_of (drop l.item-index l.known.items.now)))
       ≡ laid l.known 0 0 (functions_in l.known);
   measured : AreMeasured (map part_of l.bodies.blocks.items);

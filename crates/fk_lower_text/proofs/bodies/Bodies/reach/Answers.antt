@@ -12,6 +12,7 @@ loop-self-preserved c =
     let more = c.in_ok-skip.ensures.count in
     record {
       count = omega (arith, low, more);
+      up = omega (arith, more);
       codes = one_skipped (codes_of first) (codes_of now) (codes_of new) (length now - length first) (length new - length first)
           c.loop-self.invariant.codes c.in_ok-skip.ensures.codes (omega (arith, low, more));
       site = c.skip.ensures.site ∙ c.loop-self.invariant.site;
