@@ -9,3 +9,4 @@ mod Shown
 mod Closing
 pub mod Room
 mod Numbered
+mod Told

@@ -1,5 +1,5 @@
 -- Events in their places, and how many operations there are behind each.
-use Rattle.std.proofs.Common.{◌≡◌, ℕ, suc, ◌+◌, ◌*◌, ◌^◌, ◌<◌, ◌≤◌, Bool, true, false, List, [], ◌∷◌, ◌++◌, length, map, drop, get_or, ap, ◌∙◌, sym, refl, arith}
+use Rattle.std.proofs.Common.{◌≡◌, ℕ, suc, ◌+◌, ◌*◌, ◌^◌, ◌<◌, ◌≤◌, Bool, true, List, [], ◌∷◌, ◌++◌, length, map, drop, get_or, ap, ◌∙◌, refl, arith}
 use Rattle.std.proofs.Math.Seq.{drop-cons}
 use Rattle.fk_lower.specs.declared.event.CodeEvent.{CodeEvent}
 use Rattle.fk_lower.specs.BuilderView.{event_of}
@@ -12,7 +12,7 @@ use Rattle.fk_forms.specs.Code.{Code, append, size}
 use Rattle.fk_lower.specs.declared.fault.LowerFault.{LowerFault}
 use Rattle.fk_lower.specs.declared.fault.LowerFault.TheVariants as v
 use Rattle.fk_lower.specs.Building.{Event, Perform, Choose, Aside, Joined, Quit, Call, Returned, Ends, While, Until, Part, Behind, Break, Continue, has_site, events_of, IsUnbegun, IsPlaced, Open, OnwardWay, AsideWay, Test, Body, Step, FirstBody, LastTest, Opening, Building, building, after}
-use Rattle.fk_lower.specs.Faults.{ShowsNoCode, IsBuildFault, IsEventFault, size_of_outer, size_of_building, IsFew}
+use Rattle.fk_lower.specs.Faults.{IsBuildFault, IsEventFault, size_of_outer, IsFew}
 
 -- all of them are in their places, from what is built on
 abbrev pub AllPlaced : Building → List Event → Type 0

@@ -1,5 +1,5 @@
 -- The lists of code from a piece on have room where that of the whole code has, and code begins within its list.
-use Rattle.std.proofs.Common.{◌≡◌, ℕ, zero, suc, ◌+◌, ◌*◌, ◌^◌, ◌<◌, ◌≤◌, Bool, true, false, List, [], ◌∷◌, length, get_or, map, drop, ap, ◌∙◌, sym, refl, arith}
+use Rattle.std.proofs.Common.{◌≡◌, ℕ, zero, suc, ◌+◌, ◌*◌, ◌^◌, ◌<◌, ◌≤◌, Bool, true, false, List, [], ◌∷◌, length, get_or, ap, ◌∙◌, sym, refl, arith}
 use Rattle.std.specs.Prelude.{◌==◌, ◌&&◌, ◌||◌}
 use Rattle.fk_forms.specs.Code.{Code, done, perform, choose, while, until, turn, again, quit, break, continue, call, ends, size}
 use Rattle.fk_flat.specs.Items.{way_of, goes_away}
@@ -9,8 +9,8 @@ use Rattle.fk_lower.specs.declared.span.Start.{Start}
 use Rattle.fk_lower.specs.declared.span.Start.TheVariants as s
 use Rattle.fk_lower.specs.declared.span.Span.{Span}
 use Rattle.fk_lower.specs.declared.span.Spans.{Spans}
-use Rattle.fk_lower.specs.Spans.{round, moved, offset, start_of, span_of, spans_of, span_in, IsWithin}
-use Rattle.fk_lower.specs.Tree.{PieceTree, Perform, Choose, While, Until, Quit, Break, Continue, Call, Ends, Pieces, no_pieces, piece, Part, pieces_of, code_of, IsMeasured, IsPartMeasured}
+use Rattle.fk_lower.specs.Spans.{round, offset, start_of, span_in, IsWithin}
+use Rattle.fk_lower.specs.Tree.{PieceTree, Perform, Choose, While, Until, Quit, Break, Continue, Call, Ends, Pieces, Part, code_of, IsMeasured, IsPartMeasured}
 use Rattle.fk_lower.specs.View.{piece_of}
 use Rattle.fk_lower.specs.Measures.{before, measured}
 use Rattle.fk_lower.specs.Written.{behind_of}

@@ -14,16 +14,15 @@ use Rattle.fk_lower.specs.View.{piece_of, part_of}
 use Rattle.fk_lower.specs.Building as b
 use Rattle.fk_lower.specs.Building.{Event, Open, Building}
 
--- depths are left out
 abbrev pub event_of : CodeEvent → Event
-event_of (e.Perform op depth) = b.Perform op
-event_of (e.Choose op depth) = b.Choose op
+event_of (e.Perform op) = b.Perform op
+event_of (e.Choose op) = b.Choose op
 event_of e.Aside = b.Aside
 event_of e.Joined = b.Joined
-event_of (e.Quit op depth) = b.Quit op
-event_of (e.Call op depth function) = b.Call op function
+event_of (e.Quit op) = b.Quit op
+event_of (e.Call op function) = b.Call op function
 event_of e.Returned = b.Returned
-event_of (e.Ends op depth) = b.Ends op
+event_of (e.Ends op) = b.Ends op
 event_of e.While = b.While
 event_of e.Until = b.Until
 event_of e.Part = b.Part

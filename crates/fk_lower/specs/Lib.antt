@@ -7,3 +7,4 @@ pub mod Lowered
 pub mod Building
 pub mod BuilderView
 pub mod Faults
+pub mod Depths

@@ -12,8 +12,6 @@ pub struct Act {
     /// The number of its site.
     pub site: u32,
     pub operation: Operation,
-    /// How many values the running call has before it.
-    pub depth: u32,
 }
 
 /// What code consists of, one behind the other.

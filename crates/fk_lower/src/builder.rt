@@ -63,7 +63,7 @@ impl Builder {
         }
     }
 
-    fn act(&mut self, operation: Operation, depth: u32) -> Result<Act, LowerFault>
+    fn act(&mut self, operation: Operation) -> Result<Act, LowerFault>
         ensures act { IfOk result (λ act. act.site ≡ self.old.site) }
         ensures operation { IfOk result (λ act. act.operation ≡ operation) }
         ensures site { OnOk result (self.new.site ≡ suc self.old.site) }
@@ -78,11 +78,7 @@ impl Builder {
             return Err(LowerFault::TooLong);
         }
         self.site = site + 1;
-        Ok(Act {
-            site,
-            operation,
-            depth,
-        })
+        Ok(Act { site, operation })
     }
 
     #[tactic(auto, using(crate::proofs::Shown::shown_more, crate::proofs::Shown::pieces_measured))]
@@ -142,7 +138,7 @@ impl Builder {
         Ok((Block::of(pieces), frame.opened))
     }
 
-    fn perform(&mut self, operation: Operation, depth: u32) -> Result<(), LowerFault>
+    fn perform(&mut self, operation: Operation) -> Result<(), LowerFault>
         requires { IsBuilderMeasured self.now }
         ensures built { OnOk result
             (building_of self.new ≡ after (building_of self.old) (b.Perform operation)) }
@@ -150,11 +146,11 @@ impl Builder {
         ensures low { OnOk result (3 * (self.old.site + 1) < 2 ^ 32) }
         ensures refused { IfErr result (IsEventFault (building_of self.old) (b.Perform operation)) }
     {
-        let act = self.act(operation, depth)?;
+        let act = self.act(operation)?;
         self.add(Piece::Perform(act))
     }
 
-    fn choose(&mut self, operation: Operation, depth: u32) -> Result<(), LowerFault>
+    fn choose(&mut self, operation: Operation) -> Result<(), LowerFault>
         requires { IsBuilderMeasured self.now }
         ensures built { OnOk result
             (building_of self.new ≡ after (building_of self.old) (b.Choose operation)) }
@@ -162,7 +158,7 @@ impl Builder {
         ensures low { OnOk result (3 * (self.old.site + 1) < 2 ^ 32) }
         ensures refused { IfErr result (IsEventFault (building_of self.old) (b.Choose operation)) }
     {
-        let act = self.act(operation, depth)?;
+        let act = self.act(operation)?;
         self.open(Opened::Onward(act))
     }
 
@@ -194,7 +190,7 @@ impl Builder {
         }
     }
 
-    fn quit(&mut self, operation: Operation, depth: u32) -> Result<(), LowerFault>
+    fn quit(&mut self, operation: Operation) -> Result<(), LowerFault>
         requires { IsBuilderMeasured self.now }
         ensures built { OnOk result
             (building_of self.new ≡ after (building_of self.old) (b.Quit operation)) }
@@ -202,11 +198,11 @@ impl Builder {
         ensures low { OnOk result (3 * (self.old.site + 1) < 2 ^ 32) }
         ensures refused { IfErr result (IsEventFault (building_of self.old) (b.Quit operation)) }
     {
-        let act = self.act(operation, depth)?;
+        let act = self.act(operation)?;
         self.add(Piece::Quit(act))
     }
 
-    fn call(&mut self, operation: Operation, depth: u32, function: u32) -> Result<(), LowerFault>
+    fn call(&mut self, operation: Operation, function: u32) -> Result<(), LowerFault>
         requires { IsBuilderMeasured self.now }
         ensures built { OnOk result
             (building_of self.new ≡ after (building_of self.old) (b.Call operation function)) }
@@ -214,7 +210,7 @@ impl Builder {
         ensures low { OnOk result (3 * (self.old.site + 1) < 2 ^ 32) }
         ensures refused { IfErr result (IsEventFault (building_of self.old) (b.Call operation function)) }
     {
-        let act = self.act(operation, depth)?;
+        let act = self.act(operation)?;
         self.open(Opened::Opening(act, function))
     }
 
@@ -234,7 +230,7 @@ impl Builder {
         }
     }
 
-    fn end(&mut self, operation: Operation, depth: u32) -> Result<(), LowerFault>
+    fn end(&mut self, operation: Operation) -> Result<(), LowerFault>
         requires { IsBuilderMeasured self.now }
         ensures built { OnOk result
             (building_of self.new ≡ after (building_of self.old) (b.Ends operation)) }
@@ -242,7 +238,7 @@ impl Builder {
         ensures low { OnOk result (3 * (self.old.site + 1) < 2 ^ 32) }
         ensures refused { IfErr result (IsEventFault (building_of self.old) (b.Ends operation)) }
     {
-        let act = self.act(operation, depth)?;
+        let act = self.act(operation)?;
         self.add(Piece::Ends(act))
     }
 
@@ -287,18 +283,14 @@ impl Builder {
         ensures refused { IfErr result (IsEventFault (building_of self.old) (event_of event)) }
     {
         match event {
-            CodeEvent::Perform { operation, depth } => self.perform(operation, depth),
-            CodeEvent::Choose { operation, depth } => self.choose(operation, depth),
+            CodeEvent::Perform(operation) => self.perform(operation),
+            CodeEvent::Choose(operation) => self.choose(operation),
             CodeEvent::Aside => self.aside(),
             CodeEvent::Joined => self.joined(),
-            CodeEvent::Quit { operation, depth } => self.quit(operation, depth),
-            CodeEvent::Call {
-                operation,
-                depth,
-                function,
-            } => self.call(operation, depth, function),
+            CodeEvent::Quit(operation) => self.quit(operation),
+            CodeEvent::Call(operation, function) => self.call(operation, function),
             CodeEvent::Returned => self.returned(),
-            CodeEvent::Ends { operation, depth } => self.end(operation, depth),
+            CodeEvent::Ends(operation) => self.end(operation),
             CodeEvent::While => self.open(Opened::Test),
             CodeEvent::Until => self.open(Opened::FirstBody),
             CodeEvent::Part => self.part(),

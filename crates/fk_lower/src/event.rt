@@ -2,41 +2,24 @@
 
 use fk_operation::Operation;
 
-/// What is shown of code, from its beginning. An operation comes with how many values the running
-/// call has before it.
+/// What is shown of code, from its beginning.
 #[derive(Clone, Copy, PartialEq, Eq, Debug)]
 pub enum CodeEvent {
-    Perform {
-        operation: Operation,
-        depth: u32,
-    },
+    Perform(Operation),
     /// An operation that goes one of two ways. Its first way comes next.
-    Choose {
-        operation: Operation,
-        depth: u32,
-    },
+    Choose(Operation),
     /// The second way of a choice comes next.
     Aside,
     /// The ways of a choice are joined.
     Joined,
     /// An operation that goes on in the loop round it, or leaves it.
-    Quit {
-        operation: Operation,
-        depth: u32,
-    },
+    Quit(Operation),
     /// A call of the function of a binding. What is done at its beginning for this call comes next.
-    Call {
-        operation: Operation,
-        depth: u32,
-        function: u32,
-    },
+    Call(Operation, u32),
     /// That has ended.
     Returned,
     /// An operation that ends the function.
-    Ends {
-        operation: Operation,
-        depth: u32,
-    },
+    Ends(Operation),
     /// A loop that begins with its test; then come its body and its step.
     While,
     /// A loop that begins with its body; then comes its test.

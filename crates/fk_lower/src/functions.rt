@@ -4,10 +4,12 @@ ghost use Rattle.std.specs.Prelude.{◌≡◌, ◌++◌, ◌+◌, ◌^◌, ◌<�
 ghost use Rattle.fk_flat.specs.Laws.{IsFlat};
 ghost use Rattle.fk_lower.specs.View.{part_of};
 ghost use Rattle.fk_lower.specs.Written.{items_of, entry_of};
+ghost use Rattle.fk_lower.specs.Depths.{AreTold};
 ghost use Rattle.fk_lower.specs.Faults.{AllNumbered, IsListFault, IsWriteFault};
 ghost use Rattle.fk_lower.specs.Lowered.{bodies_in, AreMeasured, total, entries_from, written_from, all_flat, IsListOf};
 
 use crate::block::Block;
+use crate::depths::tell;
 use crate::fault::{LowerFault, further};
 use crate::write::{Entries, Place, Writer};
 use fk_core::CoreOp;
@@ -94,13 +96,13 @@ fn in_writing(fault: LowerFault) -> LowerFault
 }
 
 /// The flat list of functions, given by their bindings and one behind the other in that order. One
-/// without a body has an empty block, and its entry at the end of the list. It takes time linear in
-/// the blocks.
+/// without a body has an empty block, and its entry at the end of the list. The depth of each
+/// operation is that of its site. It takes time linear in the blocks.
 ///
 /// # Errors
 /// `TooLong` where the list would have more than 2^32 - 1 operations and jumps, `OutOfRange` where
 /// a constant of an operation is too large for its number, and `Memory`.
-pub fn lower(alloc: Global, bodies: &[Block]) -> Result<Lowered, LowerFault>
+pub fn lower(alloc: Global, bodies: &[Block], depths: &[u32]) -> Result<Lowered, LowerFault>
     requires { AreMeasured (map part_of bodies.now) }
     ensures flat { IfOk result (λ lowered.
         IsFlat (bodies_in (map part_of bodies.now)) lowered.ops.items
@@ -109,6 +111,7 @@ pub fn lower(alloc: Global, bodies: &[Block]) -> Result<Lowered, LowerFault>
         IsListOf lowered.ops.items (all_flat
         (entry_of lowered.entries.of_bindings.items lowered.entries.end)
         0 lowered.entries.end (map part_of bodies.now))) }
+    ensures told { IfOk result (λ lowered. AreTold depths.now lowered.ops.items) }
     ensures refused { IfErr result (λ fault. IsListFault (map part_of bodies.now) fault) }
 {
     let end = total(bodies)?;
@@ -118,10 +121,11 @@ pub fn lower(alloc: Global, bodies: &[Block]) -> Result<Lowered, LowerFault>
     };
     let mut writer = Writer::new(alloc);
     match write_all(&mut writer, &entries, bodies) {
-        Ok(()) => Ok(Lowered {
-            ops: writer.ops,
-            entries,
-        }),
+        Ok(()) => {
+            let mut ops = writer.ops;
+            tell(&mut ops, depths);
+            Ok(Lowered { ops, entries })
+        }
         Err(fault) => Err(in_writing(fault)),
     }
 }

@@ -6,6 +6,7 @@
 
 mod block;
 mod builder;
+mod depths;
 mod event;
 mod fault;
 mod functions;

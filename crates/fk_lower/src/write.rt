@@ -120,7 +120,7 @@ fn has_room(piece: &Piece, rest: Span, at: u32)
     ensures room { at + (before (piece_of piece.now) rest).extent < 2 ^ 32 }
 {}
 
-/// A flat list that is being written.
+/// A flat list that is being written. Its depths aren't told yet.
 #[derive(Drop)]
 pub struct Writer {
     alloc: Global,
@@ -174,7 +174,7 @@ impl Writer {
         if !has_number(act.operation) {
             return Err(LowerFault::OutOfRange);
         }
-        self.add(CoreOp::of(act.operation, act.site, target, act.depth))
+        self.add(CoreOp::of(act.operation, act.site, target, 0))
     }
 
     fn jump(&mut self, target: u32) -> Result<(), LowerFault>

@@ -1,4 +1,4 @@
-use Rattle.std.proofs.Common.{rules, arith, ◌≡◌, ◌+◌, ◌≤◌, [], List, map, length, fold, drop, get_or, sym, ap, subst, ◌∙◌}
+use Rattle.std.proofs.Common.{rules, arith, ◌+◌, ◌≤◌, [], List, map, length, fold, drop, get_or, sym, ap, subst, ◌∙◌}
 use Rattle.std.proofs.lemmas.Result.{err_from_is_err_and}
 use Rattle.fk_operation.specs.declared.operation.Operation.TheVariants as o
 use Rattle.fk_lower.specs.declared.event.CodeEvent.{CodeEvent}
@@ -46,7 +46,7 @@ loop-event-init c =
 
 -- what is read behind the end of the events
 abbrev first : CodeEvent
-first = e.Perform (o.Push 0) 0
+first = e.Perform (o.Push 0)
 
 pub returns-in_err-take-clause-refused : goal.returns-in_err-take-clause-refused
 returns-in_err-take-clause-refused c =
