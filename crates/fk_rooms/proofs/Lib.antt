@@ -8,3 +8,5 @@ pub mod Outer
 pub mod Referring
 pub mod Names
 pub mod Own
+mod Unnamed
+pub mod Room

@@ -10,7 +10,7 @@ use Rattle.fk_layout.specs.Layout.{tables_by}
 use Rattle.fk_layout.specs.Refusal.{Fits}
 use Rattle.fk_kept.specs.declared.places.Place.{Place}
 use Rattle.fk_text.specs.Built.{AreBuilt}
-use Rattle.fk_suits.specs.Rooms.{HasWords}
+use Rattle.fk_suits.specs.Rooms.{HasWords, HaveRoom}
 use Rattle.fk_parsed.specs.Trim.{ProgramIsTrim}
 use Rattle.fk_fitting.specs.Correct.{IsCorrect}
 use Rattle.fk_typed_code.specs.Words.{ahead_in}
@@ -44,3 +44,12 @@ NamesHaveWords =
     → let tables = tables_by program facts in
     Fits tables program.items → AreBuilt tables program
     → (binding : ℕ) → HasWords (file_privates program.items) (words_of tables program binding) (bodies_of tables program binding)
+
+-- So the words of each function and its values have room, and a result behind each of its calls, where there are at most 55 private
+-- variables of file scope. With 56 the frame of `main` is full without a value, and has no room behind a call
+abbrev pub CorrectProgramsHaveRoom : Type 0
+CorrectProgramsHaveRoom =
+    (program : ProgramTree) (facts : Facts) → IsCorrect program facts → ProgramIsTrim program → ProgramIsProper program
+    → let tables = tables_by program facts in
+    Fits tables program.items → AreBuilt tables program → file_privates program.items ≤ 55
+    → HaveRoom (bodies_of tables program) (place_of tables program) (file_privates program.items)

@@ -18,7 +18,7 @@ use Rattle.fk_forms.specs.Program.{functions_of, binding_of, signature_in, is_ma
 use Rattle.fk_nesting.proofs.Kept.{IsKept, Keeps, either, agrees, values_kept, uses, uses_or, gives_or, declares, part_frames}
 use Rattle.fk_core.specs.Stands.{is_first}
 use Rattle.fk_flat.specs.Shape.{is_done, is_closed, IsShaped}
-use Rattle.fk_shapes.specs.Fitting.{is_defined, Takes, OptionFits, OptionConditionFits, StatementFits, StatementsFit, BodyFits, FunctionsFit, FormsAreShaped}
+use Rattle.fk_shapes.specs.Fitting.{is_defined, Takes, OptionFits, OptionConditionFits, StatementFits, StatementsFit, BodyFits, FunctionsFit, FormsAreShaped, FunctionsAreClosed}
 use Rattle.fk_shapes.proofs.Ok.{Want, at, inner, Ok, on, branch, ended, end, left, left_last, broken, continued, quits, looped, looped_first}
 use Rattle.fk_shapes.proofs.Forms.{kept}
 
@@ -261,3 +261,7 @@ forms_are_shaped tables program fits binding =
         → (is_done code ≡ true) ⊎ (is_closed code ≡ true)
     by true code closes empty = inr (closes refl)
     by false code closes empty = inl (empty refl)
+
+pub functions_are_closed : FunctionsAreClosed
+functions_are_closed tables program fits binding defined =
+    let fs = functions_of program.items in (bodies tables fs (is_defined tables fs) fs 0 binding fits).closes defined

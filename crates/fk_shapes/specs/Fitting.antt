@@ -11,6 +11,7 @@ use Rattle.fk_forms.specs.Program.{functions_of, binding_of, signature_in, bodie
 use Rattle.fk_nesting.specs.Calls as c
 use Rattle.fk_nesting.specs.Calls.{TakesEnough}
 use Rattle.fk_core.specs.Stands.{is_first}
+use Rattle.fk_flat.specs.Shape.{is_closed}
 use Rattle.fk_flat.specs.Laws.{AreShaped}
 
 -- a binding means a function with a body
@@ -84,3 +85,9 @@ ProgramFits tables program =
 -- such programs come to code of this shape
 abbrev pub FormsAreShaped : Type 0
 FormsAreShaped = (tables : Tables) (program : ProgramTree) → ProgramFits tables program → AreShaped (bodies_of tables program)
+
+-- and the code of each function with a body ends where that does
+abbrev pub FunctionsAreClosed : Type 0
+FunctionsAreClosed =
+    (tables : Tables) (program : ProgramTree) → ProgramFits tables program
+    → (binding : ℕ) → is_defined tables (functions_of program.items) binding ≡ true → is_closed (bodies_of tables program binding) ≡ true

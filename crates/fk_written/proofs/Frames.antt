@@ -1,4 +1,4 @@
--- Programs fit frames.
+-- Where frames have room, the private words and the values of functions have.
 use Rattle.std.proofs.Common.{◌≡◌, ℕ, suc, ◌+◌, ◌*◌, ◌≤◌, max, Bool, true, false, List, [], ◌∷◌, length, Option, Some, None, refl, sym, ap, ◌∙◌, arith}
 use Rattle.std.specs.Prelude.{◌==◌, not, if◌then◌else◌}
 use Rattle.fk_syntax.specs.Program.{FunctionTree, ItemTree, ProgramTree}
@@ -14,29 +14,17 @@ use Rattle.fk_kept.specs.declared.places.Place.TheVariants.{Main, Called}
 use Rattle.fk_text.specs.Built.{operations, operations_in, operations_of}
 use Rattle.fk_typed_code.specs.Values.{State}
 use Rattle.fk_typed_code.specs.Typed.{Typed}
-use Rattle.fk_typed_code.specs.Words.{ahead_in, FitFrames}
+use Rattle.fk_typed_code.specs.Words.{ahead_in}
 use Rattle.fk_typed_forms.specs.Ways.{place_gives}
 use Rattle.fk_typed_forms.specs.Asked.{place_by, place_in, place_of}
 use Rattle.fk_typed_forms.proofs.Built.{AreAllBuilt, each_of, front, back, built}
 use Rattle.fk_shapes.proofs.Programs.{forms_are_shaped}
-use Rattle.fk_written.specs.Scopes.{FunctionsScoped, words_in}
-use Rattle.fk_written.specs.Laws.{parameters_of}
-use Rattle.fk_written.specs.Room.{HasFew, own_words, HaveRoom, FormsFitFrames}
-use Rattle.fk_written.proofs.Low.{low, counted, lows, one_more}
-use Rattle.fk_written.proofs.Programs.{forms_write_first}
-
-few_in : (tables : Tables) (words : FunctionTree → ℕ) (firsts : ℕ) (fs : List FunctionTree) → FunctionsScoped tables words firsts fs → (b : ℕ)
-    → length (signature_in tables fs b).parameters ≤ words_in tables words fs b
-few_in tables words firsts [] asks b = omega arith
-few_in tables words firsts (f ∷ fs) asks b = by (binding_of tables f == b) (few_in tables words firsts fs asks.1 b)
-  where
-    by : (is : Bool) → length (signature_in tables fs b).parameters ≤ words_in tables words fs b
-        → length (if is then signature_of f else signature_in tables fs b).parameters ≤ (if is then words f else words_in tables words fs b)
-    by true more = asks.0.few
-    by false more = more
+use Rattle.fk_written.specs.Scopes.{words_in}
+use Rattle.fk_written.specs.Room.{HasFew, own_words, HaveRoom}
+use Rattle.fk_written.proofs.Low.{low, counted, lows}
 
 -- what is told of a function that is called agrees with its header
-agree_in : (tables : Tables) (fs : List FunctionTree) (b : ℕ) (gives : Bool) → place_in tables fs b ≡ Called gives → gives ≡ not (signature_in tables fs b).void
+pub agree_in : (tables : Tables) (fs : List FunctionTree) (b : ℕ) (gives : Bool) → place_in tables fs b ≡ Called gives → gives ≡ not (signature_in tables fs b).void
 agree_in tables [] b gives is = sym (ap place_gives is)
 agree_in tables (f ∷ fs) b gives is = by (binding_of tables f == b) (agree_in tables fs b gives) is
   where
@@ -110,21 +98,3 @@ module _ (tables : Tables) (items : List ItemTree) where
         by true more shaped' typed' =
             function_few f first l s e shaped' typed' (front (operations (code_of tables everyone f)) (operations_in tables everyone fs) all)
         by false more shaped' typed' = more shaped' typed'
-
-pub forms_fit_frames : FormsFitFrames
-forms_fit_frames tables program fits all typed asks room =
-    let items = program.items in
-    let fs = functions_of items in
-    record {
-      parameters = parameters_of tables program;
-      words = words_in tables (own_words tables items) fs;
-      most = λ b. suc (words_in tables (values_of tables items) fs b);
-      few = λ b. few_in tables (own_words tables items) (file_privates items) fs asks b;
-      room = λ b. (let a = rooms tables items 63 (omega arith) fs b room in omega (arith, a));
-      written = λ b. forms_write_first tables program (file_privates items) (own_words tables items) fits all asks b;
-      low = λ b.
-          let shaped = forms_are_shaped tables program fits b in
-          let own = typed b in
-          one_more (place_of tables program) (words_in tables (values_of tables items) fs b) (bodies_of tables program b) 0
-          (bodies_few tables items _ fs 0 b None _ own.0 (each_of (operations_of tables program) all) shaped.0 own.1);
-    }

@@ -4,3 +4,6 @@ pub mod Statements
 pub mod Programs
 pub mod Low
 pub mod Frames
+pub mod Roomy
+mod RoomyForms
+pub mod RoomyStatements

@@ -19,7 +19,6 @@ use Rattle.fk_typed_code.specs.Values.{State}
 use Rattle.fk_typed_code.specs.Values as w
 use Rattle.fk_typed_code.specs.Typed.{Typed}
 use Rattle.fk_typed_code.specs.Heights.{raised, results_of, height}
-use Rattle.fk_typed_code.specs.Words.{IsLow}
 use Rattle.fk_typed_forms.proofs.Built.{AllBuilt}
 use Rattle.fk_written.specs.Room.{HasFew}
 
@@ -229,29 +228,3 @@ module _ (functions : (binding : ℕ) → Signature) (place_of : (binding : ℕ)
     )
     lows (ends t op rest) p n c h =
         (h.0, from (numbered (suc n) rest) (raised_so op true c.0 p) (lows rest (behind_operation p op) (suc n) c.1 h.1))
-
--- so there is room for a result behind each call, with room for one value more
-module _ (place_of : (binding : ℕ) → Place) (most : ℕ) where
-  pub one_more : (code : Code ℕ) (h : ℕ) → HasFew place_of most h code → IsLow place_of (suc most) h code
-  one_more done h few = omega (arith, few)
-  one_more (perform n op rest) h few = (omega (arith, few.0), one_more rest (raised h op true) few.1)
-  one_more (choose n op x y rest) h few = (
-    omega (arith, few.0),
-    one_more x (raised h op true) few.1,
-    one_more y (raised h op false) few.2,
-    one_more rest (height place_of (raised h op true) x) few.3,
-  )
-  one_more (while test body step rest) h few =
-      let b = height place_of h test in
-      let s = height place_of b body in
-      (one_more test h few.0, one_more body b few.1, one_more step s few.2, one_more rest (height place_of s step) few.3)
-  one_more (until body test rest) h few =
-      let t = height place_of h body in (one_more body h few.0, one_more test t few.1, one_more rest (height place_of t test) few.2)
-  one_more (turn test body step rest) h few = absurd few
-  one_more (again test body step rest) h few = absurd few
-  one_more (quit n op rest) h few = (omega (arith, few.0), one_more rest (raised h op true) few.1)
-  one_more (break rest) h few = one_more rest h few
-  one_more (continue rest) h few = one_more rest h few
-  one_more (call n op f opening rest) h few =
-      (omega (arith, few.0), omega (arith, few.0), one_more rest (h - takes op + results_of (place_of f)) few.1)
-  one_more (ends n op rest) h few = (omega (arith, few.0), one_more rest (raised h op true) few.1)

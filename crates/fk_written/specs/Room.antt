@@ -1,21 +1,16 @@
--- Frames that have room for the private words and the values of functions, and for one value more. A call has room for a result
--- also where the function that is called has none.
-use Rattle.std.specs.Prelude.{◌≡◌, ℕ, ◌+◌, ◌-◌, ◌≤◌, true, false, List, [], ◌∷◌}
+-- Frames that have room for the private words and the values of functions, and for a result behind each call.
+use Rattle.std.specs.Prelude.{ℕ, ◌+◌, ◌-◌, ◌<◌, ◌≤◌, true, false, List, [], ◌∷◌}
 use Rattle.fk_syntax.specs.Program.{FunctionTree, ItemTree, ProgramTree}
 use Rattle.fk_sizes.specs.Operations.{takes}
 use Rattle.fk_forms.specs.Code.{Code, done, perform, choose, while, until, quit, break, continue, call, ends}
 use Rattle.fk_forms.specs.Tables.{Tables}
-use Rattle.fk_forms.specs.Program.{functions_of, bodies_of}
+use Rattle.fk_forms.specs.Program.{bodies_of}
 use Rattle.fk_slots.specs.Slots.{own_of}
-use Rattle.fk_layout.specs.Frames.{told_in, file_privates, private_words}
-use Rattle.fk_shapes.specs.Fitting.{ProgramFits}
+use Rattle.fk_layout.specs.Frames.{told_in, private_words}
 use Rattle.fk_kept.specs.declared.places.Place.{Place}
-use Rattle.fk_text.specs.Built.{AreBuilt}
 use Rattle.fk_typed_code.specs.Heights.{raised, results_of, height}
-use Rattle.fk_typed_code.specs.Typed.{AreTyped}
-use Rattle.fk_typed_code.specs.Words.{FitFrames}
-use Rattle.fk_typed_forms.specs.Asked.{place_of}
-use Rattle.fk_written.specs.Scopes.{ProgramScoped}
+use Rattle.fk_typed_code.specs.Words.{IsLow}
+use Rattle.fk_typed_forms.specs.Asked.{place_of, ProgramAsked}
 
 -- code with at most so many values at each of its places, counted as in `height`
 module _ (place_of : (binding : ℕ) → Place) (most : ℕ) where
@@ -47,11 +42,10 @@ module _ (tables : Tables) (items : List ItemTree) where
   HaveRoom most [] = Unit {0}
   HaveRoom most (f ∷ fs) = (private_words tables items f ≤ most) × HaveRoom most fs
 
--- So programs fit frames whose code is well typed, and writes first
-abbrev pub FormsFitFrames : Type 0
-FormsFitFrames =
-    (tables : Tables) (program : ProgramTree)
-    → ProgramFits tables program → AreBuilt tables program → AreTyped (place_of tables program) (bodies_of tables program)
-    → ProgramScoped tables (own_words tables program.items) (file_privates program.items) program
-    → HaveRoom tables program.items 63 (functions_of program.items)
-    → FitFrames (bodies_of tables program) (place_of tables program) (file_privates program.items)
+-- So the code of programs has room for a result behind each call, also of a function that gives none, where it has few values: what
+-- stands behind such a call pushes a value, or there are none before it
+abbrev pub CallsHaveRoom : Type 0
+CallsHaveRoom =
+    (tables : Tables) (program : ProgramTree) → ProgramAsked tables program → (most : ℕ) → 0 < most → (binding : ℕ)
+    → HasFew (place_of tables program) most 0 (bodies_of tables program binding)
+    → IsLow (place_of tables program) most 0 (bodies_of tables program binding)

@@ -1,0 +1,62 @@
+-- What is asked of the list of a program follows from the text.
+use Rattle.std.proofs.Common.{◌≡◌, ℕ, ◌≤◌, Bool, true, false, List, [], ◌∷◌, refl, sym, subst}
+use Rattle.std.specs.Prelude.{◌==◌, ◌||◌, if◌then◌else◌}
+use Rattle.std.proofs.lemmas.List.{length-map}
+use Rattle.fk_syntax.specs.Program.{FunctionTree}
+use Rattle.fk_forms.specs.Tables.{Tables}
+use Rattle.fk_forms.specs.Program.{functions_of, binding_of, bodies_of, main_of}
+use Rattle.fk_globals.specs.Constants.{told}
+use Rattle.fk_globals.specs.Rows.{first_of}
+use Rattle.fk_globals.specs.Variables.{variables_of}
+use Rattle.fk_flat.specs.Shape.{is_closed}
+use Rattle.fk_layout.specs.Frames.{file_privates}
+use Rattle.fk_layout.specs.Layout.{tables_by}
+use Rattle.fk_kept.specs.declared.places.Place.{Place}
+use Rattle.fk_kept.specs.declared.places.Place.TheVariants.{Main, Called}
+use Rattle.fk_kept.specs.Live.{words_in}
+use Rattle.fk_known.proofs.Enough.{knowledge_is_enough}
+use Rattle.fk_shapes.specs.Fitting.{is_defined}
+use Rattle.fk_shapes.proofs.Programs.{forms_are_shaped, functions_are_closed}
+use Rattle.fk_fitting.proofs.Programs.{correct_programs_fit}
+use Rattle.fk_typed_code.proofs.Knowing.{typed_lists_know}
+use Rattle.fk_typed_forms.specs.Asked.{place_by, place_in, place_of}
+use Rattle.fk_asked.proofs.Programs.{correct_programs_are_asked, mains_have_their_place}
+use Rattle.fk_suits.proofs.Free.{lone, typed_list, lists_are_free}
+use Rattle.fk_suits.proofs.Suiting.{live_words_suit}
+use Rattle.fk_rooms.proofs.Room.{correct_programs_have_room}
+use Rattle.fk_certain.specs.Laws.{CorrectListsAreCertain}
+
+-- what has the place of `main` is defined
+is_there : (tables : Tables) (fs : List FunctionTree) (b : ℕ) → place_in tables fs b ≡ Main → is_defined tables fs b ≡ true
+is_there tables [] b is = absurd (cc)
+is_there tables (f ∷ fs) b is = by (binding_of tables f == b) (is_there tables fs b) is
+  where
+    by : (here : Bool) → (place_in tables fs b ≡ Main → is_defined tables fs b ≡ true) → (if here then place_by f else place_in tables fs b) ≡ Main
+        → (here || is_defined tables fs b) ≡ true
+    by true others is = refl
+    by false others is = others is
+
+pub correct_lists_are_certain : CorrectListsAreCertain
+correct_lists_are_certain program facts valid trim proper fits built small core entry kept lowered =
+    let tables = tables_by program facts in
+    let main = main_of tables program in
+    let asked = correct_programs_are_asked program facts valid trim proper fits in
+    let fitting = correct_programs_fit program facts valid trim in
+    let shaped = forms_are_shaped tables program fitting in
+    let place = (mains_have_their_place program facts valid).0 in
+    let closed = functions_are_closed tables program fitting main (is_there tables (functions_of program.items) main place) in
+    let within = lists_are_free tables program core entry asked built shaped lowered.flat closed in
+    let typed = typed_list tables program core entry asked built shaped lowered.flat in
+    let knowledge = typed_lists_know (bodies_of tables program) core entry (place_of tables program) typed (lone tables program core entry built lowered.flat) main place in
+    let count = length-map (variables_of false program.items) (first_of (told facts.notes.items facts.kinds.items)) in
+    let suits = live_words_suit (bodies_of tables program) core entry (place_of tables program) (file_privates program.items) typed lowered.tall
+    (correct_programs_have_room program facts valid trim proper fits built (subst (λ n. n ≤ 55) count small)) (words_in kept) lowered.live lowered.least main place in
+    record {
+      begins = within.begins;
+      free = within.free;
+      may = knowledge_is_enough core (entry main) knowledge;
+      frames = record { keeps = words_in kept; is_main = suits.0; of_file = file_privates program.items };
+      of_file = sym count;
+      suits = suits.1;
+      keeps = λ index word held. held;
+    }

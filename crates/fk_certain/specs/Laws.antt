@@ -1,0 +1,41 @@
+-- The lists of programs that keep all rules and have a layout.
+use Rattle.std.specs.Prelude.{◌≡◌, ℕ, ◌≤◌, List, length}
+use Rattle.fk_syntax.specs.declared.facts.Facts.{Facts}
+use Rattle.fk_syntax.specs.Program.{ProgramTree}
+use Rattle.fk_forms.specs.Tables.{Tables}
+use Rattle.fk_forms.specs.Program.{bodies_of, main_of}
+use Rattle.fk_globals.specs.Constants.{told}
+use Rattle.fk_globals.specs.Rows.{firsts}
+use Rattle.fk_core.specs.declared.op.CoreOp.{CoreOp}
+use Rattle.fk_flat.specs.Laws.{IsFlat}
+use Rattle.fk_layout.specs.Layout.{tables_by}
+use Rattle.fk_layout.specs.Refusal.{Fits}
+use Rattle.fk_kept.specs.declared.set.Set.{Set}
+use Rattle.fk_kept.specs.Live.{IsLive, IsLeast, words_in}
+use Rattle.fk_text.specs.Built.{AreBuilt}
+use Rattle.fk_parsed.specs.Trim.{ProgramIsTrim}
+use Rattle.fk_fitting.specs.Correct.{IsCorrect}
+use Rattle.fk_typed_code.specs.Laws.{HasHeightsOf}
+use Rattle.fk_typed_forms.specs.Asked.{place_of}
+use Rattle.fk_asked.specs.Proper.{ProgramIsProper}
+use Rattle.fk_certain.specs.Certain.{IsCertain}
+
+-- the code of each function stands at its entry in a list, with its depths, and these words are those that are live in it
+pub record IsLowered (tables : Tables) (program : ProgramTree) (core : List CoreOp) (entry : (binding : ℕ) → ℕ) (kept : List Set) : Type 0 where
+  pub flat : IsFlat (bodies_of tables program) core entry
+  pub tall : HasHeightsOf (bodies_of tables program) core (place_of tables program)
+  pub live : IsLive core (words_in kept)
+  pub least : IsLeast core (words_in kept)
+
+-- how many private variables of file scope a text has
+abbrev pub count_of_file : ProgramTree → Facts → ℕ
+count_of_file program facts = length (firsts (told facts.notes.items facts.kinds.items) program.items)
+
+-- With 56 private variables of file scope the frame of `main` is full without a value, and has no room for a result behind a call
+abbrev pub CorrectListsAreCertain : Type 0
+CorrectListsAreCertain =
+    (program : ProgramTree) (facts : Facts) → IsCorrect program facts → ProgramIsTrim program → ProgramIsProper program
+    → let tables = tables_by program facts in
+    Fits tables program.items → AreBuilt tables program → count_of_file program facts ≤ 55
+    → (core : List CoreOp) (entry : (binding : ℕ) → ℕ) (kept : List Set) → IsLowered tables program core entry kept
+    → IsCertain core kept (entry (main_of tables program)) (count_of_file program facts)

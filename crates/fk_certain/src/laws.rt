@@ -1,0 +1,11 @@
+//! Laws of the lists of programs.
+
+ghost use Rattle.fk_certain.specs.Laws.{CorrectListsAreCertain};
+
+/// A flat list of a program that keeps all rules, as a text spells it, and has a layout, with the
+/// depths of its code and its live words, has operations without groups alone, may do each of them in
+/// every run, and suits frames that hold the live words, where all operations are built and there are
+/// at most 55 private variables of file scope.
+pub fn correct_lists_are_certain()
+    ensures { CorrectListsAreCertain }
+{}
