@@ -7,6 +7,7 @@ use Rattle.fk_core.specs.declared.op.CoreOp.{CoreOp}
 use Rattle.fk_image.specs.declared.Image.{Image}
 use Rattle.fk_block_law.specs.Stands.{Places}
 use Rattle.fk_block_law.specs.Next.{StandsOp}
+use Rattle.fk_block_law.specs.Suits.{Suits}
 use Rattle.fk_block_law.specs.Block.{most_before}
 use Rattle.fk_kept.specs.declared.set.Set.{Set}
 use Rattle.fk_group_law.specs.Node.{Nestings}
@@ -15,6 +16,7 @@ use Rattle.fk_group_law.specs.Joint.{is_meeting, BlockMeets}
 use Rattle.fk_group_law.specs.Start.{BlockStarts}
 use Rattle.fk_group_law.specs.Law.{IsAskedOf, sets_apart, runs_behind}
 use Rattle.fk_gen_group.specs.Blocks.{is_group_step}
+use Rattle.fk_gen_group.specs.Laws.{IsInPlace}
 use Rattle.fk_gen_group.proofs.Agree.{groups_agree}
 use Rattle.fk_gen_group.proofs.Farms.{groups_set_free}
 use Rattle.fk_gen_group.proofs.Seqs.{groups_send_one}
@@ -22,7 +24,7 @@ use Rattle.fk_gen_group.proofs.Ends.{groups_end}
 use Rattle.fk_gen_group.proofs.Phases.{blocks_meet}
 use Rattle.fk_gen_group.proofs.Starts.{groups_start}
 use Rattle.fk_group_code.specs.Cycles.{before_at, behind_at}
-use Rattle.fk_group_code.specs.Laws.{HasGroupCode, ListsHaveTheLaw}
+use Rattle.fk_group_code.specs.Laws.{HasGroupCode, StepsHaveValues, HaveStepLevels, ListsHaveTheLaw}
 use Rattle.fk_group_code.proofs.Law.{lists_do_alone}
 use Rattle.fk_group_code.proofs.At.{before_is, behind_is}
 
@@ -31,7 +33,19 @@ meeting_is_step (Meet closing) e = refl
 meeting_is_step Resume e = refl
 meeting_is_step operation e = absurd (cc)
 
-module _ (core : List CoreOp) (image : Image) (bound : ℕ → ℕ) (places : Places) (nestings : Nestings) (kept : List Set) (code : HasGroupCode core image bound places nestings) where
+module _ (core : List CoreOp) (image : Image) (bound : ℕ → ℕ) (places : Places) (nestings : Nestings) (kept : List Set) (main : ℕ) (suits : Suits core places.frames main)
+    (code : HasGroupCode core image bound places) (looks : StepsHaveValues core) (levels : HaveStepLevels core places nestings) where
+  in_place : (i : ℕ) (op : CoreOp) (operation : Operation) → StandsOp core i op operation → is_group_step (Some operation) ≡ true → IsInPlace core image bound places nestings i op operation
+  in_place i op operation stands step = record {
+    stands = stands;
+    block = code.blocks i op operation stands step;
+    fits = suits.fits i op operation stands;
+    few = suits.few;
+    values = looks i op operation stands step;
+    levels = levels.room i op operation stands step;
+    stay = levels.stay i op operation stands step;
+  }
+
   abbrev globals : ℕ
   globals = length image.globals.items
 
@@ -46,7 +60,7 @@ module _ (core : List CoreOp) (image : Image) (bound : ℕ → ℕ) (places : Pl
   agrees i op lowest size stands =
       subst (λ c. StepTogether core image places nestings i op Agree (λ ps. Unit {0}) c (behind i true) None (λ p. None) lowest size) (sym (before_is core globals kept i op Agree stands))
       (subst (λ (f : Bool → ℕ). StepTogether core image places nestings i op Agree (λ ps. Unit {0}) 2 (f true) None (λ p. None) lowest size) (sym (behind_is core globals kept i op Agree stands))
-      (groups_agree core image bound places nestings i op lowest size (code.steps i op Agree stands refl)))
+      (groups_agree core image bound places nestings i op lowest size (in_place i op Agree stands refl)))
 
   -- by what the law of its block tells
   parts_in : (i : ℕ) (op : CoreOp) (operation : Operation) (c d lowest size : ℕ) → StandsOp core i op operation → c ≡ before i → d ≡ behind i true
@@ -59,7 +73,7 @@ module _ (core : List CoreOp) (image : Image) (bound : ℕ → ℕ) (places : Pl
   at_once : (i : ℕ) (op : CoreOp) (lowest size : ℕ) → StandsOp core i op Farm
       → PartTogether core image places nestings i op Farm (IsAskedOf Farm lowest size) 0 0 None (runs_behind Farm lowest size) lowest size
   at_once i op lowest size stands setting t mine first ms ps own owns enter asked =
-      groups_set_free core image bound places nestings i op lowest size asked.0 (code.steps i op Farm stands refl) setting t mine first ms ps own owns enter asked.1
+      groups_set_free core image bound places nestings i op lowest size asked.0 (in_place i op Farm stands refl) setting t mine first ms ps own owns enter asked.1
 
   parts : (i : ℕ) (op : CoreOp) (operation : Operation) (lowest size : ℕ) → StandsOp core i op operation → sets_apart operation ≡ true
       → PartTogether core image places nestings i op operation (IsAskedOf operation lowest size) (before i) (behind i true) None (runs_behind operation lowest size) lowest size
@@ -69,22 +83,22 @@ module _ (core : List CoreOp) (image : Image) (bound : ℕ → ℕ) (places : Pl
   parts i op Seq lowest size stands e =
       parts_in i op Seq 3 2 lowest size stands (sym (before_is core globals kept i op Seq stands))
       (sym (ap (λ (f : Bool → ℕ). f true) (behind_is core globals kept i op Seq stands)))
-      (groups_send_one core image bound places nestings i op lowest size (code.steps i op Seq stands refl) (code.leads i op Seq stands refl))
+      (groups_send_one core image bound places nestings i op lowest size (in_place i op Seq stands refl) (levels.leads i op Seq stands refl))
   parts i op operation lowest size stands e = absurd (cc)
 
   ends : (i : ℕ) (op : CoreOp) (lowest size : ℕ) → StandsOp core i op End → EndTogether core image places nestings i op (behind i true) lowest size
   ends i op lowest size stands =
       subst (λ (f : Bool → ℕ). EndTogether core image places nestings i op (f true) lowest size) (sym (behind_is core globals kept i op End stands))
-      (groups_end core image bound places nestings i op lowest size (code.steps i op End stands refl) (code.leads i op End stands refl))
+      (groups_end core image bound places nestings i op lowest size (in_place i op End stands refl) (levels.leads i op End stands refl))
 
   meets : (i : ℕ) (op : CoreOp) (operation : Operation) → StandsOp core i op operation → is_meeting operation ≡ true → BlockMeets core image places nestings i op operation most_before
   meets i op operation stands meeting setting t mine runs first n m p owns en member many =
-      let met = blocks_meet core image bound places nestings i op operation meeting (code.steps i op operation stands (meeting_is_step operation meeting)) setting t mine runs first n m p owns en member many in
+      let met = blocks_meet core image bound places nestings i op operation meeting (in_place i op operation stands (meeting_is_step operation meeting)) setting t mine runs first n m p owns en member many in
       (met.0, omega (arith, met.1), met.2)
 
   starts : (i : ℕ) (op : CoreOp) → StandsOp core i op Begin → BlockStarts core image places nestings i op most_before (before i) (behind i)
   starts i op stands =
-      let block = groups_start core image bound places nestings i op code.start (code.steps i op Begin stands refl) (code.leads i op Begin stands refl) in
+      let block = groups_start core image bound places nestings i op code.start (in_place i op Begin stands refl) (levels.leads i op Begin stands refl) in
       let begun : BlockStarts core image places nestings i op most_before 1 (λ onward. if onward then 16 else 11) = record {
         there = block.there;
         coming = block.coming;
@@ -97,7 +111,7 @@ module _ (core : List CoreOp) (image : Image) (bound : ℕ → ℕ) (places : Pl
       (subst (λ f. BlockStarts core image places nestings i op most_before 1 f) (sym (behind_is core globals kept i op Begin stands)) begun)
 
 pub lists_have_the_law : ListsHaveTheLaw
-lists_have_the_law core kept image bound places nestings firsts main suits are ranges lone levels code begins =
+lists_have_the_law core kept image bound places nestings firsts main suits are ranges lone levels code looks steps begins =
     let alone = lists_do_alone core kept image bound places nestings main suits are ranges lone levels in
     record {
       few_before = alone.few_before;
@@ -106,9 +120,9 @@ lists_have_the_law core kept image bound places nestings firsts main suits are r
       jumps = alone.jumps;
       halts = alone.halts;
       begins = begins;
-      agrees = agrees core image bound places nestings kept code;
-      parts = parts core image bound places nestings kept code;
-      ends = ends core image bound places nestings kept code;
-      meets = meets core image bound places nestings kept code;
-      starts = starts core image bound places nestings kept code;
+      agrees = agrees core image bound places nestings kept main suits code looks steps;
+      parts = parts core image bound places nestings kept main suits code looks steps;
+      ends = ends core image bound places nestings kept main suits code looks steps;
+      meets = meets core image bound places nestings kept main suits code looks steps;
+      starts = starts core image bound places nestings kept main suits code looks steps;
     }

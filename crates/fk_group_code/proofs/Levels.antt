@@ -42,7 +42,14 @@ module _ (core : List CoreOp) (places : Places) (few : places.frames.of_file ≤
   fit operation fits = levels_of operation op.depth (room_of places.frames i op.depth fits.room) refl
 
 pub levels_need_no_room : LevelsNeedNoRoom
-levels_need_no_room core places main suits = record {
-  operations = λ i op operation stands alone. fit core places suits.few i op operation (suits.fits i op operation stands);
-  jumps = λ i op at jump. record { levels = refl; behind = refl };
-}
+levels_need_no_room core places main suits = (
+  record {
+    operations = λ i op operation stands alone. fit core places suits.few i op operation (suits.fits i op operation stands);
+    jumps = λ i op at jump. record { levels = refl; behind = refl };
+  },
+  record {
+    room = λ i op operation stands step. room_of places.frames i op.depth (suits.fits i op operation stands).room;
+    stay = λ i op operation stands step. record { levels = refl; behind = refl };
+    leads = λ i op operation stands away. record { levels = refl; behind = refl };
+  },
+)

@@ -1,5 +1,5 @@
 -- What the code of a list does for processors by themselves.
-use Rattle.std.specs.Prelude.{◌≡◌, ℕ, ◌<◌, ◌≤◌, ◌^◌, List, length, Bool, true, false, Some, slice_get, slice_index}
+use Rattle.std.specs.Prelude.{◌≡◌, ℕ, suc, ◌<◌, ◌≤◌, ◌^◌, List, length, Bool, true, false, Some, slice_get, slice_index}
 use Rattle.fk_operation.specs.declared.operation.Operation.{Operation}
 use Rattle.fk_operation.specs.declared.operation.Operation.TheVariants.{Begin, Seq, End, Halt}
 use Rattle.fk_run.specs.Processor.{Setting}
@@ -19,11 +19,10 @@ use Rattle.fk_gen_flow.specs.Laws.{JumpsStand}
 use Rattle.fk_generate.specs.Kinds.{block_in}
 use Rattle.fk_generate.specs.Layout.{placed}
 use Rattle.fk_generate.specs.Generable.{AreKept}
-use Rattle.fk_group_law.specs.Node.{Nestings}
-use Rattle.fk_group_law.specs.Lockstep.{LevelsStay}
+use Rattle.fk_group_law.specs.Node.{Nestings, HasLevelRoom}
+use Rattle.fk_group_law.specs.Lockstep.{LevelsStay, values_of_step}
 use Rattle.fk_group_law.specs.Law.{Cycles, GroupLaw, BlockDoesInNode, BlockJumpsInNode, BeginsInNode}
-use Rattle.fk_gen_group.specs.Blocks.{HasStart, is_group_step}
-use Rattle.fk_gen_group.specs.Laws.{IsInPlace}
+use Rattle.fk_gen_group.specs.Blocks.{HasStart, block_of, is_group_step}
 use Rattle.fk_gen_group.specs.InNode.{LevelsFit}
 use Rattle.fk_group_code.specs.Cycles.{lone_kind, cycles_of}
 
@@ -67,14 +66,6 @@ ListsDoAlone =
     → Suits core places.frames main → AreKept places.frames kept → AreInRange core image → HasLoneCode core kept image bound places
     → HaveLevels core places nestings → DoesAlone core image places nestings (cycles_of core (length image.globals.items) kept)
 
--- no level stands in a frame
-abbrev pub none_saved : Nestings
-none_saved = record { levels = λ index. 0; behind = λ index. 0 }
-
--- these fit each list that suits frames
-abbrev pub LevelsNeedNoRoom : Type 0
-LevelsNeedNoRoom = (core : List CoreOp) (places : Places) (main : ℕ) → Suits core places.frames main → HaveLevels core places none_saved
-
 -- ---- with steps of groups
 
 -- steps behind which some go on at the target
@@ -84,13 +75,24 @@ leads_away Seq = true
 leads_away End = true
 leads_away operation = false
 
--- the block of each step stands at its index, in a list whose values and levels have room, and so does the code that beginnings of
--- `start` share
-pub record HasGroupCode (core : List CoreOp) (image : Image) (bound : ℕ → ℕ) (places : Places) (nestings : Nestings) : Type 0 where
-  pub steps : (i : ℕ) (op : CoreOp) (operation : Operation) → StandsOp core i op operation → is_group_step (Some operation) ≡ true
-      → IsInPlace core image bound places nestings i op operation
-  pub leads : (i : ℕ) (op : CoreOp) (operation : Operation) → StandsOp core i op operation → leads_away operation ≡ true → LevelsStay nestings i op.target
+-- the block of each step stands at its index, and so does the code that beginnings of `start` share
+pub record HasGroupCode (core : List CoreOp) (image : Image) (bound : ℕ → ℕ) (places : Places) : Type 0 where
+  pub blocks : (i : ℕ) (op : CoreOp) (operation : Operation) → StandsOp core i op operation → is_group_step (Some operation) ≡ true
+      → HasBlock image bound places i (block_of (Some operation) op.depth op.target)
   pub start : HasStart image bound
+
+-- a step finds the value that it looks at
+abbrev pub StepsHaveValues : List CoreOp → Type 0
+StepsHaveValues core =
+    (i : ℕ) (op : CoreOp) (operation : Operation) → StandsOp core i op operation → is_group_step (Some operation) ≡ true → values_of_step operation ≤ op.depth
+
+-- the levels round a processor have room where it comes to one, and stay where it goes on
+pub record HaveStepLevels (core : List CoreOp) (places : Places) (nestings : Nestings) : Type 0 where
+  pub room : (i : ℕ) (op : CoreOp) (operation : Operation) → StandsOp core i op operation → is_group_step (Some operation) ≡ true
+      → HasLevelRoom places.frames nestings i op.depth
+  pub stay : (i : ℕ) (op : CoreOp) (operation : Operation) → StandsOp core i op operation → is_group_step (Some operation) ≡ true
+      → LevelsStay nestings i (suc i)
+  pub leads : (i : ℕ) (op : CoreOp) (operation : Operation) → StandsOp core i op operation → leads_away operation ≡ true → LevelsStay nestings i op.target
 
 -- each hart comes from the opening to the block where `main` begins, in the root
 abbrev pub HartsBeginInNode : (core : List CoreOp) → Image → Places → Nestings → (firsts : List ℕ) → (main : ℕ) → Type 0
@@ -103,5 +105,18 @@ abbrev pub ListsHaveTheLaw : Type 0
 ListsHaveTheLaw =
     (core : List CoreOp) (kept : List Set) (image : Image) (bound : ℕ → ℕ) (places : Places) (nestings : Nestings) (firsts : List ℕ) (main : ℕ)
     → Suits core places.frames main → AreKept places.frames kept → AreInRange core image → HasLoneCode core kept image bound places
-    → HaveLevels core places nestings → HasGroupCode core image bound places nestings → HartsBeginInNode core image places nestings firsts main
+    → HaveLevels core places nestings → HasGroupCode core image bound places → StepsHaveValues core → HaveStepLevels core places nestings
+    → HartsBeginInNode core image places nestings firsts main
     → GroupLaw core image places nestings (cycles_of core (length image.globals.items) kept) firsts main
+
+-- ---- without levels
+
+-- no level stands in a frame
+abbrev pub none_saved : Nestings
+none_saved = record { levels = λ index. 0; behind = λ index. 0 }
+
+-- these fit each list that suits frames
+abbrev pub LevelsNeedNoRoom : Type 0
+LevelsNeedNoRoom =
+    (core : List CoreOp) (places : Places) (main : ℕ) → Suits core places.frames main
+    → HaveLevels core places none_saved × HaveStepLevels core places none_saved
