@@ -1,6 +1,6 @@
 -- A block that begins with its commit, a load of a local word; and blocks of jumps, branches and halts.
 use Rattle.std.proofs.Common.{◌≡◌, ℕ, suc, ◌-◌, ◌*◌, ◌%◌, ◌<◌, ◌≤◌, List, length, Bool, Some, true, false, not, ap, subst, sym, ◌∙◌, arith, refl, inl, eq-eqb}
-use Rattle.std.specs.Prelude.{◌==◌}
+use Rattle.std.specs.Prelude.{◌==◌, if◌then◌else◌}
 use Rattle.fk_num.specs.Word.{word_sum}
 use Rattle.fk_operation.specs.declared.operation.Operation.TheVariants.{Branch, Halt}
 use Rattle.fk_run.specs.Processor.{Setting, values, drop_last, last}
@@ -21,26 +21,26 @@ use Rattle.fk_nodes.proofs.InPlace.{step_at}
 use Rattle.fk_block_law.specs.Owner.{Commons, Owner, Doing, owner_of, number_of, part}
 use Rattle.fk_block_law.specs.Stands.{Places, StandsAt, StandsFor, HasFrame, frame_end}
 use Rattle.fk_block_law.specs.Next.{StandsOp, step_at as step_of}
-use Rattle.fk_block_law.specs.Suits.{Fits, Flows, nothing}
-use Rattle.fk_block_law.specs.Block.{Does, HasDone, BlockDoes, BlockJumps, BlockHalts, most_behind}
+use Rattle.fk_block_law.specs.Suits.{Fits, Flows, nothing, writes as changes}
+use Rattle.fk_block_law.specs.Block.{HasDone, BlockJumps, BlockHalts, most_behind}
 use Rattle.fk_block_law.proofs.Standing.{operations_are_next}
 use Rattle.fk_gen.specs.Lines.{label_of}
 use Rattle.fk_gen.specs.InPlace.{HasBlock, HasLabels}
+use Rattle.fk_gen.specs.Keeps.{Keeps, DoesAnd}
 use Rattle.fk_gen.proofs.Values.{values_before}
 use Rattle.fk_gen.proofs.Walk.{private}
 use Rattle.fk_gen.proofs.Jumps.{jumps}
+use Rattle.fk_gen_flow.specs.Keeps.{BlockKeeps}
 use Rattle.fk_gen_flow.specs.Flow.{jump_block, branch_block, halt_block, passes}
 use Rattle.fk_gen_flow.proofs.Walk.{Comes, IsAbout, IsLocal, there, first, writing, next_word, value_word, jal_goes}
 use Rattle.fk_gen_flow.proofs.Frames.{flows_on, last_value}
 
-pub lw_does : (core : List CoreOp) (image : Image) (places : Places) (setting : Setting) (t : MachineSetting) (p : Owner) (h : Hart) (d : Doing) (k rd rs imm w behind : ℕ)
+pub lw_does : (core : List CoreOp) (image : Image) (places : Places) (setting : Setting) (t : MachineSetting) (p : Owner) (h : Hart) (d : Doing) (Also : Hart → Type 0) (k rd rs imm w behind : ℕ)
     → IsAbout image t k h → IsAt image k (Lw rd rs imm) 1 → IsLocal (word_sum (h.registers rs) imm) w → behind ≤ most_behind
     → ((s : Commons) → part core setting 1 s p ≡ Passes s d)
-    → Comes image (later t) (number_of p) behind (writes h rd (h.local w)) (HasDone core image places d)
-    → Does core image places setting t p h
-lw_does core image places setting t p h d k rd rs imm w behind about at is few part_is rest = record {
-  before = 0;
-  behind = behind;
+    → Comes image (later t) (number_of p) behind (writes h rd (h.local w)) (λ h'. HasDone core image places d h' × Also h')
+    → DoesAnd core image places setting t p h 0 behind Also
+lw_does core image places setting t p h d Also k rd rs imm w behind about at is few part_is rest = record {
   few_before = omega arith;
   few_behind = few;
   does = record {
@@ -165,10 +165,18 @@ module _ (core : List CoreOp) (image : Image) (bound : ℕ → ℕ) (places : Pl
         heap = stands.heap;
       }
 
+  -- it has branched, and keeps what a block keeps that makes no call
+  abbrev HasBranched : Owner → (way : Bool) → (h h' : Hart) → Type 0
+  HasBranched p way h h' =
+      HasDone core image places (branched p way) h' × Keeps places (length p.runner.has.callers) op.depth (changes (Branch onward)) h h'
+
+  kept : (p : Owner) (h : Hart) (v pc : ℕ) → Keeps places (length p.runner.has.callers) op.depth (changes (Branch onward)) h (record (writes h 5 v) { pc = pc })
+  kept p h v pc = record { node = refl; body = refl; words = λ j from lt apart. refl }
+
   branch_way : HasBlock image bound places i (branch_block onward op.depth op.target) → StandsOp core i op (Branch onward) → Fits core places.frames i op (Branch onward)
       → (setting : Setting) (t : MachineSetting) (p : Owner) (h : Hart) → Holds image t → p.runner.left.at ≡ i → length (values p.runner.has) ≡ op.depth → length p.runner.has.callers < 256
       → StandsAt places p h → (way : Bool) → is_onward (Branch onward) p.runner.has ≡ way
-      → Does core image places setting t p h
+      → DoesAnd core image places setting t p h 0 (if way then 1 else 2) (Keeps places (length p.runner.has.callers) op.depth (changes (Branch onward)) h)
   branch_way block stands_op fits setting t p h holds e depth waiting at true on =
       let number = number_of p in
       let n = length p.runner.has.callers in
@@ -184,18 +192,21 @@ module _ (core : List CoreOp) (image : Image) (bound : ℕ → ℕ) (places : Pl
       let about1 = writing image t k h 5 (h.local (frame_end n - op.depth)) about l0.within in
       let goes : goes_on onward (h.local (frame_end n - op.depth)) ≡ true = ap (goes_on onward) value ∙ sym (is_goes_on onward p) ∙ on in
       let here : word_sum h1.pc 8 ≡ 4 * places.block (suc i) = let a = about1.at in let b = l1.within in omega (arith, block.next) in
-      lw_does core image places setting t p h (branched p true) k 5 9 _ _ 1 about l0 is (omega arith)
+      lw_does core image places setting t p h (branched p true) (Keeps places n op.depth (changes (Branch onward)) h) k 5 9 _ _ 1 about l0 is (omega arith)
       (λ s. operations_are_next core i op (Branch onward) setting s p stands_op e ∙ ap (λ w. Passes s (branched p w)) on)
-      (first image (later t) number 0 (suc k) _ h1 (record h1 { pc = word_sum h1.pc 8 }) _ about1 l1
+      (first image (later t) number 0 (suc k) _ h1 (record h1 { pc = word_sum h1.pc 8 }) (HasBranched p true h) about1 l1
       (λ s. (s.reserved, passed onward (later t) number h1 s at.stands.nought goes (omega (arith, here))))
-      (there image _ number _ _ (record {
-        done = refl;
-        at = record {
-          live = at.live;
-          at = here;
-          stands = branch_stands p h (h.local (frame_end n - op.depth)) (suc i) (word_sum h1.pc 8) e at.stands (fits.goes_on true) true refl refl;
-        };
-      })))
+      (there image _ number _ (HasBranched p true h) (
+        record {
+          done = refl;
+          at = record {
+            live = at.live;
+            at = here;
+            stands = branch_stands p h (h.local (frame_end n - op.depth)) (suc i) (word_sum h1.pc 8) e at.stands (fits.goes_on true) true refl refl;
+          };
+        },
+        kept p h (h.local (frame_end n - op.depth)) (word_sum h1.pc 8),
+      )))
   branch_way block stands_op fits setting t p h holds e depth waiting at false on =
       let number = number_of p in
       let n = length p.runner.has.callers in
@@ -213,24 +224,27 @@ module _ (core : List CoreOp) (image : Image) (bound : ℕ → ℕ) (places : Pl
       let goes : goes_on onward (h.local (frame_end n - op.depth)) ≡ false = ap (goes_on onward) value ∙ sym (is_goes_on onward p) ∙ on in
       let about2 : IsAbout image (later (later t)) (suc (suc k)) (moves h1) = record { code = holds; live = at.live; at = next_word h1.pc (suc k) about1.at l1.within } in
       let target = bound (label_of op.target) in
-      lw_does core image places setting t p h (branched p false) k 5 9 _ _ 2 about l0 is (omega arith)
+      lw_does core image places setting t p h (branched p false) (Keeps places n op.depth (changes (Branch onward)) h) k 5 9 _ _ 2 about l0 is (omega arith)
       (λ s. operations_are_next core i op (Branch onward) setting s p stands_op e ∙ ap (λ w. Passes s (branched p w)) on)
-      (first image (later t) number 1 (suc k) _ h1 (moves h1) _ about1 l1
+      (first image (later t) number 1 (suc k) _ h1 (moves h1) (HasBranched p false h) about1 l1
       (λ s. (s.reserved, not_passed onward (later t) number h1 s at.stands.nought goes))
-      (first image (later (later t)) number 0 (suc (suc k)) _ (moves h1) (jumps (moves h1) 0 (4 * target)) _ about2 l2
+      (first image (later (later t)) number 0 (suc (suc k)) _ (moves h1) (jumps (moves h1) 0 (4 * target)) (HasBranched p false h) about2 l2
       (jal_goes (later (later t)) number 0 0 (suc (suc k)) target (moves h1) about2.at l2.within (block.labels.within (label_of op.target)))
-      (there image _ number _ _ (record {
-        done = refl;
-        at = record {
-          live = at.live;
-          at = ap (λ k. 4 * k) (block.labels.blocks op.target);
-          stands = branch_stands p h (h.local (frame_end n - op.depth)) op.target (4 * target) e at.stands (fits.goes_on false) false refl refl;
-        };
-      }))))
+      (there image _ number _ (HasBranched p false h) (
+        record {
+          done = refl;
+          at = record {
+            live = at.live;
+            at = ap (λ k. 4 * k) (block.labels.blocks op.target);
+            stands = branch_stands p h (h.local (frame_end n - op.depth)) op.target (4 * target) e at.stands (fits.goes_on false) false refl refl;
+          };
+        },
+        kept p h (h.local (frame_end n - op.depth)) (4 * target),
+      ))))
 
-  pub branch_does : HasBlock image bound places i (branch_block onward op.depth op.target) → StandsOp core i op (Branch onward) → Fits core places.frames i op (Branch onward)
-      → BlockDoes core image places i op (Branch onward)
-  branch_does block stands_op fits setting t p h enters =
+  pub branch_keeps : HasBlock image bound places i (branch_block onward op.depth op.target) → StandsOp core i op (Branch onward) → Fits core places.frames i op (Branch onward)
+      → BlockKeeps core image places 0 (λ way. if way then 1 else 2) i op (Branch onward)
+  branch_keeps block stands_op fits setting t p h enters =
       branch_way block stands_op fits setting t p h enters.running.code enters.index enters.ready.depth enters.ready.in_range.waiting enters.at _ refl
 
 -- ---- halts

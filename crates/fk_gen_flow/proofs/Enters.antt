@@ -27,15 +27,17 @@ use Rattle.fk_block_law.specs.Owner.{Commons, Owner, Doing, number_of, part, as_
 use Rattle.fk_block_law.specs.Stands.{Places, StandsAt, HasFrame, HasRoom, frame_end, frame_start, local_address}
 use Rattle.fk_block_law.specs.Next.{StandsOp, step_at as step_of}
 use Rattle.fk_block_law.specs.Suits.{Fits, nothing}
-use Rattle.fk_block_law.specs.Block.{Enters, Does, HasDone, BlockDoes}
+use Rattle.fk_block_law.specs.Block.{Enters, HasDone}
 use Rattle.fk_block_law.proofs.Standing.{operations_are_next}
 use Rattle.fk_gen.specs.Lines.{at_value, high_part, low_part, copy_label, clear_label}
 use Rattle.fk_gen.specs.InPlace.{HasBlock, LinesAt}
+use Rattle.fk_gen.specs.Keeps.{DoesAnd}
 use Rattle.fk_gen.proofs.Values.{same_word, other_word, values_before, length_before}
 use Rattle.fk_gen.proofs.Standing.{frame_kept, waiting_kept}
 use Rattle.fk_gen.proofs.Walk.{private, lines_split}
 use Rattle.fk_gen.proofs.Jumps.{jumps, goes_to_pc, bne_taken, bne_on}
 use Rattle.fk_gen_flow.specs.Calls.{enter_block, own_copies, copies_by, clears_by, word_lines, frame_lines, most_privates, HasShared}
+use Rattle.fk_gen_flow.specs.Keeps.{KeepsBelow, BlockKeeps, copying_takes, clearing_takes, call_takes}
 use Rattle.fk_gen_flow.specs.Laws.{ClearsEnough}
 use Rattle.fk_gen_flow.proofs.Walk.{Comes, IsAbout, first, writing, storing, next_word, words_back, near_word, sw_goes, jal_goes, jalr_goes}
 use Rattle.fk_gen_flow.proofs.Frames.{room_below, flows_on}
@@ -46,7 +48,7 @@ use Rattle.fk_gen_flow.proofs.Clears.{arguments_end, clears_come, clear_cycles, 
 
 -- ---- where a call returns
 
-behind_here : (core : List CoreOp) (i : ℕ) (op : CoreOp) → slice_get core i ≡ Some op → is_jump op ≡ true → behind_jump core i ≡ suc i
+pub behind_here : (core : List CoreOp) (i : ℕ) (op : CoreOp) → slice_get core i ≡ Some op → is_jump op ≡ true → behind_jump core i ≡ suc i
 behind_here [] i op e f = absurd (cc)
 behind_here (o ∷ core) zero op e f =
     let same : o ≡ op = cc in
@@ -165,18 +167,28 @@ abbrev clearing_cycles : (clears : Bool) (n rest : ℕ) → ℕ
 clearing_cycles true n rest = suc (clear_cycles (most_privates - n) (suc rest))
 clearing_cycles false n rest = rest
 
-few_arguments_take : (few : Bool) (n rest : ℕ) → argument_cycles few n rest ≤ 2 * n + 2 + rest
-few_arguments_take true n rest = let e = few_copies n rest in omega arith
-few_arguments_take false n rest = let e = few_copies n (suc rest) in omega arith
+arguments_take : (own : Bool) (n rest : ℕ) → argument_cycles own n rest ≡ copying_takes own n + rest
+arguments_take true n rest = let e = few_copies n rest in omega arith
+arguments_take false n rest = let e = few_copies n (suc rest) in omega arith
 
-few_clears_take : (clears : Bool) (n rest : ℕ) → n ≤ 56 → clearing_cycles clears n rest ≤ 58 - n + rest
-few_clears_take true n rest le = let e = few_clears (most_privates - n) (suc rest) in omega arith
-few_clears_take false n rest le = omega arith
+clears_take : (clears : Bool) (n rest : ℕ) → clearing_cycles clears n rest ≡ clearing_takes clears n + rest
+clears_take true n rest = let e = few_clears (most_privates - n) (suc rest) in omega arith
+clears_take false n rest = omega arith
 
-few_rest : (few clears : Bool) (n : ℕ) → n ≤ 56 → argument_cycles few n (clearing_cycles clears n 4) ≤ 150
-few_rest few clears n le =
-    let e = few_arguments_take few n (clearing_cycles clears n 4) in
-    let f = few_clears_take clears n 4 le in
+few_by : (own clears : Bool) (n : ℕ) → n ≤ 56 → copying_takes own n + clearing_takes clears n + 4 ≤ 183
+few_by true true n le = omega arith
+few_by true false n le = omega arith
+few_by false true n le = omega arith
+few_by false false n le = omega arith
+
+pub few_take : (clears : Bool) (n : ℕ) → n ≤ 56 → call_takes clears n ≤ 183
+few_take clears n le = few_by (nat_le n 1) clears n le
+
+-- from the commit on
+all_take : (clears : Bool) (n : ℕ) → argument_cycles (nat_le n 1) n (clearing_cycles clears n 4) ≡ call_takes clears n
+all_take clears n =
+    let e = arguments_take (nat_le n 1) n (clearing_cycles clears n 4) in
+    let f = clears_take clears n 4 in
     omega arith
 
 module _ (core : List CoreOp) (image : Image) (bound : ℕ → ℕ) (places : Places) (i : ℕ) (op : CoreOp) (n : ℕ) (clears : Bool)
@@ -211,7 +223,7 @@ module _ (core : List CoreOp) (image : Image) (bound : ℕ → ℕ) (places : Pl
     s = end - (op.depth - n)
 
     abbrev Goal : Hart → Type 0
-    Goal = HasDone core image places (entering core image bound places i op n clears p (suc (suc i)))
+    Goal h' = HasDone core image places (entering core image bound places i op n clears p (suc (suc i))) h' × KeepsBelow end h h'
 
     record HasStored : Type 0 where
       pub first : h4.registers 7 ≡ local_address (s - 1)
@@ -237,18 +249,25 @@ module _ (core : List CoreOp) (image : Image) (bound : ℕ → ℕ) (places : Pl
         let few_arguments = calls.few in
         let code = framed.code in
         let old : (j : ℕ) → (j ≡ end → ⊥) → hf.local j ≡ hx.local j = framed.others in
-        entered_stands core image bound places i op n clears p h hf s index depth at fits enough few waiting refl
-        (record {
-          code = omega (arith, code, next, behind);
-          frame = old (end + 1) (λ f. omega arith) ∙ words.others (end + 1) (inl (omega arith)) ∙ stored.frame ∙ stands.frame;
-          result = old (end + 2) (λ f. omega arith) ∙ words.others (end + 2) (inl (omega arith)) ∙ stored.result;
-          copies = λ a lt. old (end + 8 + a) (λ f. omega arith) ∙ words.copies a lt ∙ stored.others (s - suc a) (inl (omega arith));
-          zeros = λ does a le lt. old (end + 8 + a) (λ f. omega arith) ∙ words.zeros does a le lt;
-          below = λ j lt. old j (λ f. omega arith) ∙ words.others j (inl (omega arith)) ∙ stored.others j (inl lt);
-          above = λ j le. old j (λ f. omega arith) ∙ words.others j (inr le) ∙ stored.others j (inr (omega arith));
-        })
-        framed.live (framed.at ∙ ap (λ k. 4 * k) (sym next))
-        (λ r a1 a5 a6 a7 a8 a9. framed.same r a1 a8 a9 ∙ same r a5 a6 ∙ stored.same r a7) framed.start framed.behind
+        let below : (j : ℕ) → j < end → hf.local j ≡ h.local j = λ j lt. old j (λ f. omega arith) ∙ words.others j (inl (omega arith)) ∙ stored.others j (inl lt) in (
+          entered_stands core image bound places i op n clears p h hf s index depth at fits enough few waiting refl
+              (record {
+                code = omega (arith, code, next, behind);
+                frame = old (end + 1) (λ f. omega arith) ∙ words.others (end + 1) (inl (omega arith)) ∙ stored.frame ∙ stands.frame;
+                result = old (end + 2) (λ f. omega arith) ∙ words.others (end + 2) (inl (omega arith)) ∙ stored.result;
+                copies = λ a lt. old (end + 8 + a) (λ f. omega arith) ∙ words.copies a lt ∙ stored.others (s - suc a) (inl (omega arith));
+                zeros = λ does a le lt. old (end + 8 + a) (λ f. omega arith) ∙ words.zeros does a le lt;
+                below = below;
+                above = λ j le. old j (λ f. omega arith) ∙ words.others j (inr le) ∙ stored.others j (inr (omega arith));
+              })
+              framed.live (framed.at ∙ ap (λ k. 4 * k) (sym next))
+              (λ r a1 a5 a6 a7 a8 a9. framed.same r a1 a8 a9 ∙ same r a5 a6 ∙ stored.same r a7) framed.start framed.behind,
+          record {
+            node = framed.same 10 refl refl refl ∙ same 10 refl refl ∙ stored.same 10 refl;
+            body = framed.same 11 refl refl refl ∙ same 11 refl refl ∙ stored.same 11 refl;
+            words = below;
+          },
+        )
 
     -- the new frame
     frame_begins : (t : MachineSetting) (k : ℕ) (hx : Hart) → IsAbout image t k hx → HasStored → LinesAt image bound k frame_lines
@@ -363,7 +382,7 @@ module _ (core : List CoreOp) (image : Image) (bound : ℕ → ℕ) (places : Pl
 
   -- 255 calls wait already
   faults : (setting : Setting) (t : MachineSetting) (p : Owner) (h : Hart) → Enters core image places setting t i op (Enter n) p h → 255 ≤ length p.runner.has.callers
-      → Does core image places setting t p h
+      → DoesAnd core image places setting t p h 3 (call_takes clears n) (KeepsBelow (frame_end (length p.runner.has.callers)) h)
   faults setting t p h enters le =
       let number = number_of p in
       let stands = enters.at.stands in
@@ -389,10 +408,8 @@ module _ (core : List CoreOp) (image : Image) (bound : ℕ → ℕ) (places : Pl
       let last = no_more w (h.registers 9) (h.registers 24) (omega arith) stands.behind stands.private_heap in
       let device : h3.registers 26 ≡ 0x30000000 = stands.devices in
       record {
-        before = 3;
-        behind = 0;
         few_before = omega arith;
-        few_behind = omega arith;
+        few_behind = few_take clears n fits.goes_on.few;
         does = record {
           committing = h3;
           runs = (
@@ -421,7 +438,7 @@ module _ (core : List CoreOp) (image : Image) (bound : ℕ → ℕ) (places : Pl
 
   -- else there is room
   begins : (setting : Setting) (t : MachineSetting) (p : Owner) (h : Hart) → Enters core image places setting t i op (Enter n) p h → length p.runner.has.callers < 255
-      → Does core image places setting t p h
+      → DoesAnd core image places setting t p h 3 (argument_cycles (nat_le n 1) n (clearing_cycles clears n 4)) (KeepsBelow (frame_end (length p.runner.has.callers)) h)
   begins setting t p h enters lt =
       let number = number_of p in
       let stands = enters.at.stands in
@@ -458,13 +475,12 @@ module _ (core : List CoreOp) (image : Image) (bound : ℕ → ℕ) (places : Pl
       let about4 = storing image t3 (suc (suc k4)) h3 m2 about3 l6.within in
       let wait = may_wait w (h.registers 9) (h.registers 24) lt stands.behind stands.private_heap in
       let second = near_word e 2 (e + 2) (h3.registers 9) 8 stands.behind refl (omega arith) (omega arith) in
-      let short = few_rest (nat_le n 1) clears n few_arguments in
+      let short = few_take clears n few_arguments in
+      let all = all_take clears n in
       let words = word_lines clears n in
       let total = length-append words frame_lines in
       let next = block.next in
       record {
-        before = 3;
-        behind = argument_cycles (nat_le n 1) n (clearing_cycles clears n 4);
         few_before = omega arith;
         few_behind = omega arith;
         does = record {
@@ -509,8 +525,8 @@ module _ (core : List CoreOp) (image : Image) (bound : ℕ → ℕ) (places : Pl
         };
       }
 
-  pub enter_does : BlockDoes core image places i op (Enter n)
-  enter_does setting t p h enters = elim (cases_lt (length p.runner.has.callers) 255) [
-    | inl lt ↦ begins setting t p h enters lt
+  pub enter_keeps : BlockKeeps core image places 3 (λ way. call_takes clears n) i op (Enter n)
+  enter_keeps setting t p h enters = elim (cases_lt (length p.runner.has.callers) 255) [
+    | inl lt ↦ subst (λ c. DoesAnd core image places setting t p h 3 c (KeepsBelow (frame_end (length p.runner.has.callers)) h)) (all_take clears n) (begins setting t p h enters lt)
     | inr le ↦ faults setting t p h enters le
   ]

@@ -11,15 +11,16 @@ use Rattle.fk_block_law.specs.Stands.{Places}
 use Rattle.fk_block_law.specs.Next.{StandsOp}
 use Rattle.fk_block_law.specs.Ready.{is_alone}
 use Rattle.fk_block_law.specs.Suits.{Fits}
-use Rattle.fk_block_law.specs.Block.{BlockDoes}
 use Rattle.fk_gen.specs.InPlace.{HasBlock}
+use Rattle.fk_gen.proofs.Does.{does_of}
 use Rattle.fk_gen_flow.specs.Flow.{jump_block}
 use Rattle.fk_gen_flow.specs.Calls.{HasShared}
 use Rattle.fk_gen_flow.specs.Blocks.{is_flow, flow_block, block_by}
-use Rattle.fk_gen_flow.specs.Laws.{JumpsGo, FlowBlocksDo, HaltsEnd, HartsBegin, JumpsStand, ClearsEnough}
-use Rattle.fk_gen_flow.proofs.Does.{jump_goes, branch_does, halt_does}
-use Rattle.fk_gen_flow.proofs.Leaves.{leave_does}
-use Rattle.fk_gen_flow.proofs.Enters.{enter_does}
+use Rattle.fk_gen_flow.specs.Keeps.{BlockKeeps, before_commit, behind_commit}
+use Rattle.fk_gen_flow.specs.Laws.{JumpsGo, FlowBlocksDo, FlowBlocksKeep, HaltsEnd, HartsBegin, JumpsStand, ClearsEnough}
+use Rattle.fk_gen_flow.proofs.Does.{jump_goes, branch_keeps, halt_does}
+use Rattle.fk_gen_flow.proofs.Leaves.{leave_keeps}
+use Rattle.fk_gen_flow.proofs.Enters.{enter_keeps}
 use Rattle.fk_gen_flow.proofs.Begins.{opening_begins}
 
 never : {A : Type 0} → false ≡ true → A
@@ -50,21 +51,25 @@ behind_jump image bound places i op stands =
     let next = stands.next in
     omega arith
 
-does : (core : List CoreOp) (image : Image) (places : Places) (bound : ℕ → ℕ) (i : ℕ) (op : CoreOp) (operation : Operation) (clears : Bool)
+keeps : (core : List CoreOp) (image : Image) (places : Places) (bound : ℕ → ℕ) (i : ℕ) (op : CoreOp) (operation : Operation) (clears : Bool)
     → StandsOp core i op operation → is_alone operation ≡ true → is_flow operation ≡ true → op.site < 2 ^ 32
     → HasBlock image bound places i (block_by clears op (Some operation)) → HasShared image bound → JumpsStand core image bound places
     → places.frames.of_file ≤ 56 → Fits core places.frames i op operation → ClearsEnough places.frames i clears operation
-    → BlockDoes core image places i op operation
-does core image places bound i op (Branch onward) clears at alone flow small block shared jumps few fits enough = branch_does core image bound places i op onward block at fits
-does core image places bound i op (Leave gives false) clears at alone flow small block shared jumps few fits enough = leave_does core image bound places i op gives few block at fits
-does core image places bound i op (Leave gives true) clears at alone flow small block shared jumps few fits enough = never alone
-does core image places bound i op (Enter arguments) clears at alone flow small block shared jumps few fits enough =
+    → BlockKeeps core image places (before_commit operation) (behind_commit clears operation) i op operation
+keeps core image places bound i op (Branch onward) clears at alone flow small block shared jumps few fits enough = branch_keeps core image bound places i op onward block at fits
+keeps core image places bound i op (Leave gives false) clears at alone flow small block shared jumps few fits enough = leave_keeps core image bound places i op gives few block at fits
+keeps core image places bound i op (Leave gives true) clears at alone flow small block shared jumps few fits enough = never alone
+keeps core image places bound i op (Enter arguments) clears at alone flow small block shared jumps few fits enough =
     let calls = fits.goes_on in
-    enter_does core image bound places i op arguments clears few small shared block
+    enter_keeps core image bound places i op arguments clears few small shared block
     (behind_jump image bound places (suc i) calls.entry (jumps (suc i) calls.entry calls.stands calls.leads)) at fits enough
-does core image places bound i op Halt clears at alone flow small block shared jumps few fits enough = never alone
-does core image places bound i op operation clears at alone flow small block shared jumps few fits enough = never flow
+keeps core image places bound i op Halt clears at alone flow small block shared jumps few fits enough = never alone
+keeps core image places bound i op operation clears at alone flow small block shared jumps few fits enough = never flow
+
+pub flow_blocks_keep : FlowBlocksKeep
+flow_blocks_keep core image places bound i op operation clears at alone flow small block shared jumps few fits enough =
+    keeps core image places bound i op operation clears at alone flow small (subst (HasBlock image bound places i) (block_of_operation core i op operation clears at) block) shared jumps few fits enough
 
 pub flow_blocks_do : FlowBlocksDo
-flow_blocks_do core image places bound i op operation clears at alone flow small block shared jumps few fits enough =
-    does core image places bound i op operation clears at alone flow small (subst (HasBlock image bound places i) (block_of_operation core i op operation clears at) block) shared jumps few fits enough
+flow_blocks_do core image places bound i op operation clears at alone flow small block shared jumps few fits enough setting t p h enters =
+    does_of core image places setting t p h _ _ _ (flow_blocks_keep core image places bound i op operation clears at alone flow small block shared jumps few fits enough setting t p h enters)

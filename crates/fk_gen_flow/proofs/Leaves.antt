@@ -1,6 +1,6 @@
 -- The end of a call.
 use Rattle.std.proofs.Common.{◌≡◌, ℕ, zero, suc, ◌+◌, ◌-◌, ◌*◌, ◌<◌, ◌≤◌, List, length, Bool, None, true, false, ap, sym, ◌∙◌, arith, refl}
-use Rattle.std.specs.Prelude.{◌==◌}
+use Rattle.std.specs.Prelude.{◌==◌, if◌then◌else◌}
 use Rattle.fk_num.specs.Word.{Memory, put, word_sum}
 use Rattle.fk_operation.specs.declared.operation.Operation.TheVariants.{Leave}
 use Rattle.fk_run.specs.Processor.{Processor, Setting, values, last}
@@ -16,13 +16,14 @@ use Rattle.fk_block_law.specs.Owner.{Commons, Owner, Doing, number_of, part}
 use Rattle.fk_block_law.specs.Stands.{Places, StandsAt, HasRoom, HasValues, frame_end, frame_start, local_address}
 use Rattle.fk_block_law.specs.Next.{StandsOp}
 use Rattle.fk_block_law.specs.Suits.{Fits}
-use Rattle.fk_block_law.specs.Block.{HasDone, BlockDoes}
+use Rattle.fk_block_law.specs.Block.{HasDone}
 use Rattle.fk_block_law.proofs.Standing.{operations_are_next}
 use Rattle.fk_gen.specs.InPlace.{HasBlock, LinesAt}
 use Rattle.fk_gen.proofs.Values.{same_word, other_word, values_kept}
 use Rattle.fk_gen.proofs.Standing.{waiting_kept}
 use Rattle.fk_gen.proofs.Jumps.{jumps}
 use Rattle.fk_gen_flow.specs.Flow.{leave_block, returning}
+use Rattle.fk_gen_flow.specs.Keeps.{KeepsBelow, BlockKeeps, result_word}
 use Rattle.fk_gen_flow.proofs.Walk.{Comes, IsAbout, IsLocal, there, first, writing, storing, value_word, near_word, lw_goes, sw_goes, jalr_goes}
 use Rattle.fk_gen_flow.proofs.Frames.{Last, last_of, last_value, start_of}
 use Rattle.fk_gen_flow.proofs.Does.{lw_does, about_block, block_within}
@@ -145,7 +146,8 @@ module _ (core : List CoreOp) (image : Image) (bound : ℕ → ℕ) (places : Pl
 
 module _ (core : List CoreOp) (image : Image) (bound : ℕ → ℕ) (places : Places) (i : ℕ) (op : CoreOp) (few : places.frames.of_file ≤ 56) where
   -- without a value
-  leave_without : HasBlock image bound places i (leave_block false op.depth) → StandsOp core i op (Leave false false) → BlockDoes core image places i op (Leave false false)
+  leave_without : HasBlock image bound places i (leave_block false op.depth) → StandsOp core i op (Leave false false)
+      → BlockKeeps core image places 0 (λ way. 3) i op (Leave false false)
   leave_without block stands_op setting t p h enters =
       let number = number_of p in
       let at = enters.at in
@@ -162,15 +164,19 @@ module _ (core : List CoreOp) (image : Image) (bound : ℕ → ℕ) (places : Pl
       let h1 = writes h 6 (h.local w) in
       let about1 = writing image t k h 6 (h.local w) about block.lines.0.within in
       let target = places.block l.back in
-      lw_does core image places setting t p h (ended core image bound places i op false p h.local l) k 6 8 0 w 3 about block.lines.0 (near_word (64 * suc m) 0 w (h.registers 8) 0 start refl (omega arith) (omega arith)) (omega arith)
+      let Goal : Hart → Type 0 = λ h'. HasDone core image places (ended core image bound places i op false p h.local l) h' × KeepsBelow (result_word p.runner.has.callers) h h' in
+      lw_does core image places setting t p h (ended core image bound places i op false p h.local l) (KeepsBelow (result_word p.runner.has.callers) h) k 6 8 0 w 3 about block.lines.0 (near_word (64 * suc m) 0 w (h.registers 8) 0 start refl (omega arith) (omega arith)) (omega arith)
       (ended_part core image bound places i op false setting p h.local l stands_op enters.index)
-      (returning_comes image bound (later t) number (suc k) (w + 1) target h1 _ about1 block.lines.1 (near_word (64 * suc m) 1 (w + 1) (h.registers 8) 4 start refl (omega arith) (omega arith)) l.returns.code (block_within bound places l.back block.labels)
-      (ended_stands core image bound places i op false p h (back_to h1 (w + 1) target) l r at
-      (record { live = refl; same = λ r' a b c d e. rw (d, e, b) })
-      few waiting refl (λ j ne. refl) l.frame.values refl refl l.returns.frame (omega (arith, start))))
+      (returning_comes image bound (later t) number (suc k) (w + 1) target h1 Goal about1 block.lines.1 (near_word (64 * suc m) 1 (w + 1) (h.registers 8) 4 start refl (omega arith) (omega arith)) l.returns.code (block_within bound places l.back block.labels) (
+        ended_stands core image bound places i op false p h (back_to h1 (w + 1) target) l r at
+            (record { live = refl; same = λ r' a b c d e. rw (d, e, b) })
+            few waiting refl (λ j ne. refl) l.frame.values refl refl l.returns.frame (omega (arith, start)),
+        record { node = refl; body = refl; words = λ j lt. refl },
+      ))
 
   -- with one
-  leave_with : HasBlock image bound places i (leave_block true op.depth) → StandsOp core i op (Leave true false) → Fits core places.frames i op (Leave true false) → BlockDoes core image places i op (Leave true false)
+  leave_with : HasBlock image bound places i (leave_block true op.depth) → StandsOp core i op (Leave true false) → Fits core places.frames i op (Leave true false)
+      → BlockKeeps core image places 0 (λ way. 6) i op (Leave true false)
   leave_with block stands_op fits setting t p h enters =
       let number = number_of p in
       let at = enters.at in
@@ -206,23 +212,26 @@ module _ (core : List CoreOp) (image : Image) (bound : ℕ → ℕ) (places : Pl
       let about3 = writing image (later (later t)) (suc (suc k)) h2 7 (h.local (w + 2)) about2 l2.within in
       let about4 = storing image (later (later (later t))) (suc (suc (suc k))) h3 m' about3 l3.within in
       let target = places.block l.back in
-      let Goal = HasDone core image places (ended core image bound places i op true p h.local l) in
+      let here : result_word p.runner.has.callers ≡ r = ap result_word l.are_calls in
+      let Goal : Hart → Type 0 = λ h'. HasDone core image places (ended core image bound places i op true p h.local l) h' × KeepsBelow (result_word p.runner.has.callers) h h' in
       let stored : m' r ≡ last (values p.runner.has) = same_word h.local r v ∙ value in
       let others : (j : ℕ) → (j ≡ r → ⊥) → m' j ≡ h.local j = λ j ne. other_word h.local r v j ne in
-      lw_does core image places setting t p h (ended core image bound places i op true p h.local l) k 5 9 _ taken 6 about block.lines.0 (value_word (frame_end n) op.depth (h.registers 9) stands.behind (omega arith) (omega arith) (omega arith)) (omega arith)
+      lw_does core image places setting t p h (ended core image bound places i op true p h.local l) (KeepsBelow (result_word p.runner.has.callers) h) k 5 9 _ taken 6 about block.lines.0 (value_word (frame_end n) op.depth (h.registers 9) stands.behind (omega arith) (omega arith) (omega arith)) (omega arith)
       (ended_part core image bound places i op true setting p h.local l stands_op enters.index)
       (first image (later t) number 5 (suc k) _ h1 h2 Goal about1 l1 (lw_goes (later t) number 6 8 0 w h1 (near_word (64 * suc m) 0 w (h.registers 8) 0 start refl (omega arith) (omega arith)))
       (first image (later (later t)) number 4 (suc (suc k)) _ h2 h3 Goal about2 l2 (lw_goes (later (later t)) number 7 8 8 (w + 2) h2 (near_word (64 * suc m) 2 (w + 2) (h.registers 8) 8 start refl (omega arith) (omega arith)))
       (first image (later (later (later t))) number 3 (suc (suc (suc k))) _ h3 h4 Goal about3 l3 (sw_goes (later (later (later t))) number 7 5 0 r h3 (near_word r 0 r (h3.registers 7) 0 l.returns.result refl (omega arith) (omega arith)))
-      (returning_comes image bound (later (later (later (later t)))) number (suc (suc (suc (suc k)))) (w + 1) target h4 Goal about4 block.lines.1.1.1.1 (near_word (64 * suc m) 1 (w + 1) (h.registers 8) 4 start refl (omega arith) (omega arith)) l.returns.code (block_within bound places l.back block.labels)
-      (ended_stands core image bound places i op true p h (back_to h4 (w + 1) target) l r at
-      (record { live = refl; same = λ r' a b c d e. rw (d, e, c, b, a) })
-      few waiting refl others
-      (stored, values_kept h.local m' (frame_end m) l.call.values (omega arith) (λ j a b. others j (λ f. omega arith)) l.frame.values)
-      refl refl (others (w + 1) (λ f. omega arith) ∙ l.returns.frame) (omega (arith, start)))))))
+      (returning_comes image bound (later (later (later (later t)))) number (suc (suc (suc (suc k)))) (w + 1) target h4 Goal about4 block.lines.1.1.1.1 (near_word (64 * suc m) 1 (w + 1) (h.registers 8) 4 start refl (omega arith) (omega arith)) l.returns.code (block_within bound places l.back block.labels) (
+        ended_stands core image bound places i op true p h (back_to h4 (w + 1) target) l r at
+            (record { live = refl; same = λ r' a b c d e. rw (d, e, c, b, a) })
+            few waiting refl others
+            (stored, values_kept h.local m' (frame_end m) l.call.values (omega arith) (λ j a b. others j (λ f. omega arith)) l.frame.values)
+            refl refl (others (w + 1) (λ f. omega arith) ∙ l.returns.frame) (omega (arith, start)),
+        record { node = refl; body = refl; words = λ j lt. others j (λ f. omega arith) },
+      )))))
 
-pub leave_does : (core : List CoreOp) (image : Image) (bound : ℕ → ℕ) (places : Places) (i : ℕ) (op : CoreOp) (gives : Bool) → places.frames.of_file ≤ 56
+pub leave_keeps : (core : List CoreOp) (image : Image) (bound : ℕ → ℕ) (places : Places) (i : ℕ) (op : CoreOp) (gives : Bool) → places.frames.of_file ≤ 56
     → HasBlock image bound places i (leave_block gives op.depth) → StandsOp core i op (Leave gives false) → Fits core places.frames i op (Leave gives false)
-    → BlockDoes core image places i op (Leave gives false)
-leave_does core image bound places i op true few block stands_op fits = leave_with core image bound places i op few block stands_op fits
-leave_does core image bound places i op false few block stands_op fits = leave_without core image bound places i op few block stands_op
+    → BlockKeeps core image places 0 (λ way. if gives then 6 else 3) i op (Leave gives false)
+leave_keeps core image bound places i op true few block stands_op fits = leave_with core image bound places i op few block stands_op fits
+leave_keeps core image bound places i op false few block stands_op fits = leave_without core image bound places i op few block stands_op

@@ -17,6 +17,7 @@ use Rattle.fk_gen_flow.specs.Flow.{jump_block}
 use Rattle.fk_gen_flow.specs.Calls.{HasShared}
 use Rattle.fk_gen_flow.specs.Opening.{AreFirsts, HasOpening}
 use Rattle.fk_gen_flow.specs.Blocks.{is_flow, flow_block}
+use Rattle.fk_gen_flow.specs.Keeps.{BlockKeeps, before_commit, behind_commit}
 
 -- the block of a jump leads to that of its target
 abbrev pub JumpsGo : Type 0
@@ -42,6 +43,15 @@ FlowBlocksDo =
     → HasBlock image bound places i (flow_block clears op) → HasShared image bound → JumpsStand core image bound places
     → places.frames.of_file ≤ 56 → Fits core places.frames i op operation → ClearsEnough places.frames i clears operation
     → BlockDoes core image places i op operation
+
+-- they take so many cycles, and keep what is to be kept
+abbrev pub FlowBlocksKeep : Type 0
+FlowBlocksKeep =
+    (core : List CoreOp) (image : Image) (places : Places) (bound : ℕ → ℕ) (i : ℕ) (op : CoreOp) (operation : Operation) (clears : Bool)
+    → StandsOp core i op operation → is_alone operation ≡ true → is_flow operation ≡ true → op.site < 2 ^ 32
+    → HasBlock image bound places i (flow_block clears op) → HasShared image bound → JumpsStand core image bound places
+    → places.frames.of_file ≤ 56 → Fits core places.frames i op operation → ClearsEnough places.frames i clears operation
+    → BlockKeeps core image places (before_commit operation) (behind_commit clears operation) i op operation
 
 -- that of a halt ends its hart
 abbrev pub HaltsEnd : Type 0

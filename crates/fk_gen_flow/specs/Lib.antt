@@ -2,4 +2,5 @@ pub mod Flow
 pub mod Calls
 pub mod Opening
 pub mod Blocks
+pub mod Keeps
 pub mod Laws

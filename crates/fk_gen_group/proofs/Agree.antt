@@ -194,7 +194,7 @@ module _ (core : List CoreOp) (image : Image) (bound : ℕ → ℕ) (places : Pl
       (subst (λ k. below_values places nestings k i op.depth) (sym many) below)
       (λ x lt. other_word first_hart.local (frame_end n - op.depth) v x (λ e. omega arith))
       (omega arith)
-      (subst (λ a. HasOuter places nestings setting.processors (number_of p) first_hart.local (a ∷ callers) p.runner.has.outer) here member.node.outer) in
+      (subst (λ a. HasOuter places nestings setting.processors (number_of p) first_hart.local (a ∷ callers) p.runner.has.outer) here member.node.outer.0) in
       let keeps : (r : ℕ) → r ≢ 5 → m.hart.registers r ≡ first_hart.registers r = has.near.others in
       record {
         is = record {
@@ -222,7 +222,7 @@ module _ (core : List CoreOp) (image : Image) (bound : ℕ → ℕ) (places : Pl
           node = record {
             node = keeps 10 (λ e. omega arith) ∙ member.node.node;
             body = tt;
-            outer = subst (λ l. HasOuter places nestings setting.processors (number_of p) l (suc i ∷ callers) p.runner.has.outer) (sym local) outer;
+            outer = (subst (λ l. HasOuter places nestings setting.processors (number_of p) l (suc i ∷ callers) p.runner.has.outer) (sym local) outer, member.node.outer.1);
           };
           words = member.words;
         };

@@ -12,7 +12,7 @@ use Rattle.fk_block_law.specs.Stands.{Places, HasValues, StandsAt, frame_end}
 use Rattle.fk_block_law.specs.Suits.{Flows, nothing}
 use Rattle.fk_block_law.specs.Block.{Enters, gone_to}
 use Rattle.fk_gen.proofs.Standing.{InMemory, SameRegisters, in_memory, stands_with, with_list, nothing_written}
-use Rattle.fk_group_law.specs.Node.{Nestings, HasOuter}
+use Rattle.fk_group_law.specs.Node.{Nestings, HasOuter, HasNestings}
 use Rattle.fk_group_law.specs.Lockstep.{IsMember, LevelsStay}
 use Rattle.fk_gen_group.specs.Laws.{IsInPlace}
 use Rattle.fk_gen_group.proofs.Levels.{below_values, lies_below, outer_on, many_callers}
@@ -53,7 +53,8 @@ module _ (core : List CoreOp) (image : Image) (bound : ℕ → ℕ) (places : Pl
   pub goes_behind_with : (setting : Setting) (t : MachineSetting) (runs : Option ℕ) (begin : ℕ) (vs : List ℕ) (m : Member) (p : Owner) (h : Hart) → Enters core image places setting t i op operation p m.hart
       → IsMember places nestings setting runs begin m p → HasValues m.hart.local (frame_end (length p.runner.has.callers)) vs → h.ended ≡ false → h.local ≡ m.hart.local → SameRegisters m.hart h
       → h.registers 21 ≡ m.hart.registers 21 → h.pc ≡ 4 * places.block j
-      → StandsAt places (with_list core places j vs p) h × HasOuter places nestings setting.processors (number_of p) h.local (j ∷ p.runner.left.callers) p.runner.has.outer
+      → StandsAt places (with_list core places j vs p) h
+      × HasNestings places nestings setting.processors (number_of p) h.local j p.runner.left.callers p.runner.has.callers p.runner.has.outer
   goes_behind_with setting t runs begin vs m p h en member held live local same top pc =
       let first = m.hart in
       let stands = en.at.stands in
@@ -69,7 +70,7 @@ module _ (core : List CoreOp) (image : Image) (bound : ℕ → ℕ) (places : Pl
       let outer =
       outer_on places nestings setting.processors (number_of p) first.local first.local i j op.depth callers p.runner.has.outer place.few stay
       (subst (λ k. below_values places nestings k i op.depth) (sym many) below) (λ x lt. refl) (omega arith)
-      (subst (λ a. HasOuter places nestings setting.processors (number_of p) first.local (a ∷ callers) p.runner.has.outer) here member.node.outer) in (
+      (subst (λ a. HasOuter places nestings setting.processors (number_of p) first.local (a ∷ callers) p.runner.has.outer) here member.node.outer.0) in (
         record {
           live = live;
           at = pc;
@@ -77,12 +78,13 @@ module _ (core : List CoreOp) (image : Image) (bound : ℕ → ℕ) (places : Pl
               stands_with places p (with_list core places j vs p) first h stands same refl refl (top ∙ stands.top)
               (subst (λ l. InMemory places l (with_list core places j vs p)) (sym local) memory);
         },
-        subst (λ l. HasOuter places nestings setting.processors (number_of p) l (j ∷ callers) p.runner.has.outer) (sym local) outer,
+        (subst (λ l. HasOuter places nestings setting.processors (number_of p) l (j ∷ callers) p.runner.has.outer) (sym local) outer, member.node.outer.1),
       )
 
   pub goes_behind : (setting : Setting) (t : MachineSetting) (runs : Option ℕ) (begin : ℕ) (m : Member) (p : Owner) (h : Hart) → Enters core image places setting t i op operation p m.hart
       → IsMember places nestings setting runs begin m p → h.ended ≡ false → h.local ≡ m.hart.local → SameRegisters m.hart h → h.registers 21 ≡ m.hart.registers 21
       → h.pc ≡ 4 * places.block j
-      → StandsAt places (gone_to j p) h × HasOuter places nestings setting.processors (number_of p) h.local (j ∷ p.runner.left.callers) p.runner.has.outer
+      → StandsAt places (gone_to j p) h
+      × HasNestings places nestings setting.processors (number_of p) h.local j p.runner.left.callers p.runner.has.callers p.runner.has.outer
   goes_behind setting t runs begin m p h en member live local same top pc =
       goes_behind_with setting t runs begin (values p.runner.has) m p h en member en.at.stands.running.values live local same top pc

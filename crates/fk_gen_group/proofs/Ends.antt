@@ -106,7 +106,7 @@ module _ (core : List CoreOp) (image : Image) (bound : ℕ → ℕ) (places : Pl
       let next = goes_behind core image bound places nestings i op End place op.target (place.fits.goes_on true) leads setting t0 None first (record m { hart = first_hart }) p hx en member en.at.live refl
       (refl, refl, refl, refl, refl, refl, refl, refl, refl, refl, refl, refl) refl refl in
       let s = next.0.stands in
-      let held = subst (λ o. HasOuter places nestings setting.processors (number_of p) first_hart.local (op.target ∷ callers) o) start.outer next.1 in
+      let held = subst (λ o. HasOuter places nestings setting.processors (number_of p) first_hart.local (op.target ∷ callers) o) start.outer next.1.0 in
       let none : NoneSaved nestings (op.target ∷ callers) = (leads.levels ∙ ap nestings.levels (sym en.index) ∙ start.none.0, start.none.1) in
       let root = root_of places nestings setting.processors (number_of p) first_hart.local (op.target ∷ callers) l none held in
       let c = committed (record m { hart = first_hart }) in
@@ -144,7 +144,7 @@ module _ (core : List CoreOp) (image : Image) (bound : ℕ → ℕ) (places : Pl
         node = record {
           node = refl;
           body = omega arith;
-          outer = at_root places nestings setting.processors (number_of p) first_hart.local (op.target ∷ callers) l none held;
+          outer = (at_root places nestings setting.processors (number_of p) first_hart.local (op.target ∷ callers) l none held, next.1.1);
         };
         words = refl;
       } in

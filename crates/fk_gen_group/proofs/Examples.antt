@@ -112,7 +112,7 @@ unfolding in_root in_level hart registers places frames setting nestings levels_
 is_in_root = record {
   number = refl;
   at = stands 0 (first_level setting 2) [] 0x18400000 4;
-  node = record { node = refl; body = refl; outer = (omega arith, tt, tt) };
+  node = record { node = refl; body = refl; outer = ((omega arith, tt, tt), tt) };
   words = refl;
 }
 
@@ -121,7 +121,7 @@ unfolding in_start in_level group hart registers places frames setting nestings 
 is_in_start = record {
   number = refl;
   at = stands 3 group (first_level setting 2 ∷ []) 0x18000000 7;
-  node = record { node = refl; body = tt; outer = (omega arith, tt, record { number = refl; rank = refl; size = refl }) };
+  node = record { node = refl; body = tt; outer = ((omega arith, tt, record { number = refl; rank = refl; size = refl }), tt) };
   words = refl;
 }
 
@@ -134,9 +134,8 @@ is_in_part = record {
     node = refl;
     body = tt;
     outer = (
-      omega arith,
-      (record { number = refl; rank = refl; size = refl; node = refl }, tt),
-      record { number = refl; rank = refl; size = refl },
+      (omega arith, (record { number = refl; rank = refl; size = refl; node = refl }, tt), record { number = refl; rank = refl; size = refl }),
+      tt,
     );
   };
   words = refl;
@@ -144,4 +143,4 @@ is_in_part = record {
 
 has_room : HasLevelRoom frames nestings 9 50
 unfolding frames nestings levels_at
-has_room = record { room = omega arith; apart = λ word e. absurd (cc) }
+has_room = record { room = omega arith; apart = λ some word e. absurd (cc) }

@@ -25,152 +25,46 @@ use Rattle.fk_block_law.specs.Stands.{Places, HasFrame, frame_start}
 use Rattle.fk_block_law.specs.Next.{StandsOp, step_at}
 use Rattle.fk_block_law.specs.Ready.{is_alone}
 use Rattle.fk_block_law.specs.Suits.{writes}
-use Rattle.fk_block_law.specs.Block.{Enters, member_of}
+use Rattle.fk_block_law.specs.Block.{Enters, HasDone, member_of}
 use Rattle.fk_gen.specs.Keeps.{Keeps, DoesAnd, peak}
 use Rattle.fk_gen.specs.Lines.{label_of}
 use Rattle.fk_gen.proofs.Jumps.{jumps, jal_private}
 use Rattle.fk_gen.proofs.Does.{local_part, asks}
-use Rattle.fk_group_law.specs.Node.{Nestings, StandsInNode, HasOuter, saved_at, first_word, control_address}
+use Rattle.fk_group_law.specs.Node.{Nestings, StandsInNode, HasOuter, HasNestings, LieBelow, saved_at, first_word, control_address}
 use Rattle.fk_group_law.specs.Lockstep.{IsMember}
-use Rattle.fk_group_law.specs.Law.{HasDoneInNode, way_by, way_of}
+use Rattle.fk_group_law.specs.Law.{Cycles, HasDoneInNode, way_by, way_of}
 use Rattle.fk_gen_group.specs.InNode.{stays_in_call, HasLevels, BlocksStayInNode, JumpsStayInNode}
 use Rattle.fk_gen_group.proofs.Levels.{starts_behind, lies_below, outer_by, many_callers}
 use Rattle.fk_gen_group.proofs.Behind.{body_kept}
 
--- ---- what an operation leaves of its processor
+-- ---- a hart behind a block
 
-record SameGroup (p q : Processor) : Type 0 where
+pub record SameGroup (p q : Processor) : Type 0 where
   pub number : q.number ≡ p.number
   pub level : q.level ≡ p.level
   pub outer : q.outer ≡ p.outer
 
-taken_same : (p : Processor) (none few : Bool) (words : ℕ)
-    → SameGroup p (if none then in_place 0 p else if few then in_place 0 p else in_place (private_address p.top) (record p { top = p.top + words }))
-taken_same p true few words = record { number = refl; level = refl; outer = refl }
-taken_same p false true words = record { number = refl; level = refl; outer = refl }
-taken_same p false false words = record { number = refl; level = refl; outer = refl }
+-- one that keeps a0 and a1, and finds the levels round its processor, which is in the same group
+pub stands_in_node : (places : Places) (nestings : Nestings) (setting : Setting) (runs : Option ℕ) (first : ℕ) (m : Member) (p q : Owner) (h' : Hart)
+    → IsMember places nestings setting runs first m p → h'.registers 10 ≡ m.hart.registers 10 → h'.registers 11 ≡ m.hart.registers 11 → SameGroup p.runner.has q.runner.has
+    → HasNestings places nestings setting.processors (number_of p) h'.local q.runner.left.at q.runner.left.callers q.runner.has.callers p.runner.has.outer
+    → StandsInNode places nestings setting runs q h'
+stands_in_node places nestings setting runs first m p q h' member node body group held = record {
+  node =
+      node ∙ member.node.node
+      ∙ sym (ap (λ l. control_address (first_word l q.runner.has.outer)) group.level ∙ ap (λ o. control_address (first_word p.runner.has.level o)) group.outer);
+  body = body_kept runs (m.hart.registers 11) (h'.registers 11) body member.node.body;
+  outer =
+      subst (λ k. HasNestings places nestings setting.processors k h'.local q.runner.left.at q.runner.left.callers q.runner.has.callers q.runner.has.outer) (sym group.number)
+      (subst (λ o. HasNestings places nestings setting.processors (number_of p) h'.local q.runner.left.at q.runner.left.callers q.runner.has.callers o) (sym group.outer) held);
+}
 
-local_same : (setting : Setting) (operation : Operation) (p : Processor) → stays_in_call operation ≡ true → SameGroup p (local setting operation p)
-local_same setting (Set (Private i)) p e = record { number = refl; level = refl; outer = refl }
-local_same setting (Set (OfFile i)) p e = record { number = refl; level = refl; outer = refl }
-local_same setting Take p e = let words = words_of (last (values p)) in taken_same p (words == 0) (nat_lt (private_words - p.top) words) words
-local_same setting (Leave gives framed) p e = absurd (cc)
-local_same setting operation p e = record { number = refl; level = refl; outer = refl }
-
-answer_same : (operation : Operation) (answer : ℕ) (p : Processor) → stays_in_call operation ≡ true → SameGroup p (with_answer operation answer p)
-answer_same (Enter n) answer p e = absurd (cc)
-answer_same operation answer p e = record { number = refl; level = refl; outer = refl }
-
--- it goes on in the same call
-stays_at : (core : List CoreOp) (operation : Operation) (i target : ℕ) (callers : List ℕ) (onward : Bool) → is_alone operation ≡ true → stays_in_call operation ≡ true
-    → follows core operation i target callers onward ≡ position (follows core operation i target [] onward).at callers
-stays_at core (Leave gives framed) i target callers onward alone e = absurd (cc)
-stays_at core (Enter n) i target callers onward alone e = absurd (cc)
-stays_at core Halt i target callers onward alone e = absurd (cc)
-stays_at core End i target callers onward alone e = absurd (cc)
-stays_at core operation i target callers true alone e = refl
-stays_at core operation i target callers false alone e = refl
-
-onward_of_request : (operation : Operation) (p : Processor) → class_of operation ≡ Request → is_onward operation p ≡ true
-onward_of_request (Branch onward) p e = absurd (cc)
-onward_of_request operation p e = refl
-
-abbrev member_with : (number : ℕ) → Hart → Member
-member_with number h = record { number = number; hart = h }
-
-never_tree : (operation : Operation) → is_alone operation ≡ true → class_of operation ≡ Tree → ⊥
-never_tree (Push n) alone e = cc
-never_tree operation alone e = cc
-
-way_is : (operation : Operation) (p : Processor) → is_alone operation ≡ true → is_onward operation p ≡ way_of operation p
-way_is operation p alone = by (class_of operation) refl
-  where
-    by : (c : Class) → class_of operation ≡ c → is_onward operation p ≡ way_of operation p
-    by Local e = sym (ap (λ c. way_by c operation p) e)
-    by Request e = onward_of_request operation p e ∙ sym (ap (λ c. way_by c operation p) e)
-    by Tree e = absurd (never_tree operation alone e)
-
--- ---- a block
-
-module _ (core : List CoreOp) (image : Image) (places : Places) (nestings : Nestings) (i : ℕ) (op : CoreOp) (operation : Operation) (stands : StandsOp core i op operation)
-    (alone : is_alone operation ≡ true) (stays : stays_in_call operation ≡ true) (levels : HasLevels core places nestings i op operation) (setting : Setting) (p : Owner) where
-  -- what has become of a processor is in the same group and call
-  record IsSame (d : Doing) : Type 0 where
-    pub onward : Bool
-    pub group : SameGroup p.runner.has (owner_of d).runner.has
-    pub left : (owner_of d).runner.left ≡ position (follows core operation i op.target [] onward).at p.runner.left.callers
-
-  abbrev done_of : Part Commons Doing → Doing → Doing
-  done_of (Passes s d) e = d
-  done_of (Breaks site) e = e
-
-  by_answer : (d : Doing) (s s' : Commons) (o : Answer) → as_part (number_of p) (answered (step_at core i op operation p.runner.left.callers) p.runner.has o) ≡ Passes s' d → IsSame d
-  by_answer d s s' (Served store answer) e =
-      let same = ap (λ y. done_of y d) e in
-      subst IsSame same (record {
-        onward = true;
-        group = answer_same operation answer p.runner.has stays;
-        left = stays_at core operation i op.target p.runner.left.callers true alone stays;
-      })
-  by_answer d s s' (Refused kind) e = absurd (cc)
-
-  did : (d : Doing) (s s' : Commons) → p.runner.left.at ≡ i → part core setting 1 s p ≡ Passes s' d → IsSame d
-  did d s s' at e = by (class_of operation) refl
-    where
-      by : (c : Class) → class_of operation ≡ c → IsSame d
-      by Local kind =
-          let same = ap (λ y. done_of y d) (sym (local_part core image places setting i op operation s p stands kind at) ∙ e) in
-          subst IsSame same (record {
-            onward = is_onward operation p.runner.has;
-            group = local_same setting operation p.runner.has stays;
-            left = stays_at core operation i op.target p.runner.left.callers (is_onward operation p.runner.has) alone stays;
-          })
-      by Request kind = by_answer d s s' (serve (request operation p.runner.has) (found s p.heap) (number_of p)) (sym (asks core image places setting i op operation s p stands kind at) ∙ e)
-      by Tree kind = absurd (never_tree operation alone kind)
-
-  -- behind the block its hart is in the node
-  in_node : (t : MachineSetting) (runs : Option ℕ) (first : ℕ) (m : Member) (h' : Hart) (d : Doing) → Enters core image places setting t i op operation p m.hart
-      → IsMember places nestings setting runs first m p → Keeps places (length p.runner.has.callers) (peak operation op.depth) (writes operation) m.hart h' → IsSame d
-      → StandsInNode places nestings setting runs (owner_of d) h'
-  in_node t runs first m h' d en member keeps same =
-      let n = length p.runner.has.callers in
-      let callers = p.runner.left.callers in
-      let group = same.group in
-      let j = (follows core operation i op.target [] same.onward).at in
-      let outer = member.node.outer in
-      let few = levels.few in
-      let many = many_callers places nestings m.hart.local callers p.runner.has.callers en.at.stands.waiting in
-      let home = ap places.frames.is_main (sym en.index) ∙ en.at.stands.running.home in
-      let below = lies_below places nestings n i (peak operation op.depth) home levels.room in
-      let header = levels.room.room in
-      let on =
-      outer_by places nestings setting.processors (number_of p) m.hart.local h'.local i j callers p.runner.has.outer few (levels.stay same.onward)
-      (λ x from lt. keeps.words x from (omega arith) (λ word w e. let start = starts n word in omega arith))
-      (λ x from lt.
-      let from' = subst (λ k. saved_at places nestings k i ≤ x) many from in
-      let lt' = subst (λ k. x < saved_at places nestings k i + 4 * nestings.levels i) many lt in
-      let start = starts_behind places nestings n i few in
-      keeps.words x (omega arith) (omega arith) (λ word w e. let apart = levels.apart word w in omega arith))
-      (subst (λ a. HasOuter places nestings setting.processors (number_of p) m.hart.local (a ∷ callers) p.runner.has.outer) en.index outer) in
-      record {
-        node =
-            keeps.node ∙ member.node.node
-            ∙ sym (ap (λ l. control_address (first_word l (owner_of d).runner.has.outer)) group.level ∙ ap (λ o. control_address (first_word p.runner.has.level o)) group.outer);
-        body = body_kept runs (m.hart.registers 11) (h'.registers 11) keeps.body member.node.body;
-        outer =
-            subst (λ k. HasOuter places nestings setting.processors k h'.local ((owner_of d).runner.left.at ∷ (owner_of d).runner.left.callers) (owner_of d).runner.has.outer) (sym group.number)
-            (subst (λ o. HasOuter places nestings setting.processors (number_of p) h'.local ((owner_of d).runner.left.at ∷ (owner_of d).runner.left.callers) o) (sym group.outer)
-            (subst (λ (l : Position). HasOuter places nestings setting.processors (number_of p) h'.local (l.at ∷ l.callers) p.runner.has.outer) (sym same.left) on));
-      }
-    where
-      starts : (n word : ℕ) → 64 * n + 8 + word ≤ frame_start places n + 8 + word
-      starts zero word = omega arith
-      starts (suc n) word = omega arith
-
-  stays_in_node : (t : MachineSetting) (runs : Option ℕ) (first before behind : ℕ) (m : Member) → Enters core image places setting t i op operation p m.hart
-      → IsMember places nestings setting runs first m p → DoesAnd core image places setting t p m.hart before behind (Keeps places (length p.runner.has.callers) (peak operation op.depth) (writes operation) m.hart)
+module _ (core : List CoreOp) (image : Image) (places : Places) (nestings : Nestings) (setting : Setting) (p : Owner) where
+  -- a block whose hart is in its node whatever its processor has done
+  pub does_in_node : (t : MachineSetting) (runs : Option ℕ) (before behind : ℕ) (m : Member) (Also : Hart → Type 0) → DoesAnd core image places setting t p m.hart before behind Also
+      → ((h' : Hart) (d : Doing) (s s' : Commons) → part core setting 1 s p ≡ Passes s' d → HasDone core image places d h' → Also h' → StandsInNode places nestings setting runs (owner_of d) h')
       → OneDoes (core_source core setting) image t 1 before behind (member_of p m.hart) p (λ h d. HasDoneInNode core image places nestings setting runs d h)
-  stays_in_node t runs first before behind m en member does =
+  does_in_node t runs before behind m Also does in_node =
       let one = does.does in
       record {
         committing = one.committing;
@@ -189,10 +83,7 @@ module _ (core : List CoreOp) (image : Image) (places : Places) (nestings : Nest
                 follows = (
                   v.follows.0,
                   v.follows.1,
-                  record {
-                    done = v.follows.2.0;
-                    node = in_node t runs first m v.follows.0 v.done en member v.follows.2.1 (did v.done s v.store en.index v.part);
-                  },
+                  record { done = v.follows.2.0; node = in_node v.follows.0 v.done s v.store v.part v.follows.2.0 v.follows.2.1 },
                 );
               }))
               inr
@@ -200,13 +91,149 @@ module _ (core : List CoreOp) (image : Image) (places : Places) (nestings : Nest
         };
       }
 
-pub blocks_stay_in_node : BlocksStayInNode
-blocks_stay_in_node core image places nestings cycles i op operation stands alone stays levels does setting t runs first m p en member =
-    let one = stays_in_node core image places nestings i op operation stands alone stays levels setting p t runs first (cycles.before i) (cycles.behind i (is_onward operation p.runner.has)) m en member (does setting t p m.hart en) in
+abbrev member_with : (number : ℕ) → Hart → Member
+member_with number h = record { number = number; hart = h }
+
+-- ---- what an operation leaves of its processor
+
+-- one that makes no call and ends none
+pub record SameCalls (p q : Processor) : Type 0 where
+  pub group : SameGroup p q
+  pub callers : q.callers ≡ p.callers
+
+taken_same : (p : Processor) (none few : Bool) (words : ℕ)
+    → SameCalls p (if none then in_place 0 p else if few then in_place 0 p else in_place (private_address p.top) (record p { top = p.top + words }))
+taken_same p true few words = record { group = record { number = refl; level = refl; outer = refl }; callers = refl }
+taken_same p false true words = record { group = record { number = refl; level = refl; outer = refl }; callers = refl }
+taken_same p false false words = record { group = record { number = refl; level = refl; outer = refl }; callers = refl }
+
+local_same : (setting : Setting) (operation : Operation) (p : Processor) → stays_in_call operation ≡ true → SameCalls p (local setting operation p)
+local_same setting (Set (Private i)) p e = record { group = record { number = refl; level = refl; outer = refl }; callers = refl }
+local_same setting (Set (OfFile i)) p e = record { group = record { number = refl; level = refl; outer = refl }; callers = refl }
+local_same setting Take p e = let words = words_of (last (values p)) in taken_same p (words == 0) (nat_lt (private_words - p.top) words) words
+local_same setting (Leave gives framed) p e = absurd (cc)
+local_same setting operation p e = record { group = record { number = refl; level = refl; outer = refl }; callers = refl }
+
+answer_same : (operation : Operation) (answer : ℕ) (p : Processor) → stays_in_call operation ≡ true → SameCalls p (with_answer operation answer p)
+answer_same (Enter n) answer p e = absurd (cc)
+answer_same operation answer p e = record { group = record { number = refl; level = refl; outer = refl }; callers = refl }
+
+-- it goes on in the same call
+stays_at : (core : List CoreOp) (operation : Operation) (i target : ℕ) (callers : List ℕ) (onward : Bool) → is_alone operation ≡ true → stays_in_call operation ≡ true
+    → follows core operation i target callers onward ≡ position (follows core operation i target [] onward).at callers
+stays_at core (Leave gives framed) i target callers onward alone e = absurd (cc)
+stays_at core (Enter n) i target callers onward alone e = absurd (cc)
+stays_at core Halt i target callers onward alone e = absurd (cc)
+stays_at core End i target callers onward alone e = absurd (cc)
+stays_at core operation i target callers true alone e = refl
+stays_at core operation i target callers false alone e = refl
+
+onward_of_request : (operation : Operation) (p : Processor) → class_of operation ≡ Request → is_onward operation p ≡ true
+onward_of_request (Branch onward) p e = absurd (cc)
+onward_of_request operation p e = refl
+
+pub never_tree : (operation : Operation) → is_alone operation ≡ true → class_of operation ≡ Tree → ⊥
+never_tree (Push n) alone e = cc
+never_tree operation alone e = cc
+
+pub way_is : (operation : Operation) (p : Processor) → is_alone operation ≡ true → is_onward operation p ≡ way_of operation p
+way_is operation p alone = by (class_of operation) refl
+  where
+    by : (c : Class) → class_of operation ≡ c → is_onward operation p ≡ way_of operation p
+    by Local e = sym (ap (λ c. way_by c operation p) e)
+    by Request e = onward_of_request operation p e ∙ sym (ap (λ c. way_by c operation p) e)
+    by Tree e = absurd (never_tree operation alone e)
+
+-- what is done in a part, where it passes
+abbrev pub done_of : Part Commons Doing → Doing → Doing
+done_of (Passes s d) e = d
+done_of (Breaks site) e = e
+
+-- ---- a block
+
+module _ (core : List CoreOp) (image : Image) (places : Places) (nestings : Nestings) (i : ℕ) (op : CoreOp) (operation : Operation) (stands : StandsOp core i op operation)
+    (alone : is_alone operation ≡ true) (stays : stays_in_call operation ≡ true) (levels : HasLevels core places nestings i op operation) (setting : Setting) (p : Owner) where
+  -- what has become of a processor is in the same group and call
+  record IsSame (d : Doing) : Type 0 where
+    pub onward : Bool
+    pub same : SameCalls p.runner.has (owner_of d).runner.has
+    pub left : (owner_of d).runner.left ≡ position (follows core operation i op.target [] onward).at p.runner.left.callers
+
+  by_answer : (d : Doing) (s s' : Commons) (o : Answer) → as_part (number_of p) (answered (step_at core i op operation p.runner.left.callers) p.runner.has o) ≡ Passes s' d → IsSame d
+  by_answer d s s' (Served store answer) e =
+      let same = ap (λ y. done_of y d) e in
+      subst IsSame same (record {
+        onward = true;
+        same = answer_same operation answer p.runner.has stays;
+        left = stays_at core operation i op.target p.runner.left.callers true alone stays;
+      })
+  by_answer d s s' (Refused kind) e = absurd (cc)
+
+  did : (d : Doing) (s s' : Commons) → p.runner.left.at ≡ i → part core setting 1 s p ≡ Passes s' d → IsSame d
+  did d s s' at e = by (class_of operation) refl
+    where
+      by : (c : Class) → class_of operation ≡ c → IsSame d
+      by Local kind =
+          let same = ap (λ y. done_of y d) (sym (local_part core image places setting i op operation s p stands kind at) ∙ e) in
+          subst IsSame same (record {
+            onward = is_onward operation p.runner.has;
+            same = local_same setting operation p.runner.has stays;
+            left = stays_at core operation i op.target p.runner.left.callers (is_onward operation p.runner.has) alone stays;
+          })
+      by Request kind = by_answer d s s' (serve (request operation p.runner.has) (found s p.heap) (number_of p)) (sym (asks core image places setting i op operation s p stands kind at) ∙ e)
+      by Tree kind = absurd (never_tree operation alone kind)
+
+  -- behind the block its hart is in the node
+  in_node : (t : MachineSetting) (runs : Option ℕ) (first : ℕ) (m : Member) (h' : Hart) (d : Doing) → Enters core image places setting t i op operation p m.hart
+      → IsMember places nestings setting runs first m p → Keeps places (length p.runner.has.callers) (peak operation op.depth) (writes operation) m.hart h' → IsSame d
+      → StandsInNode places nestings setting runs (owner_of d) h'
+  in_node t runs first m h' d en member keeps same =
+      let n = length p.runner.has.callers in
+      let callers = p.runner.left.callers in
+      let j = (follows core operation i op.target [] same.onward).at in
+      let outer = member.node.outer.0 in
+      let few = levels.few in
+      let many = many_callers places nestings m.hart.local callers p.runner.has.callers en.at.stands.waiting in
+      let home = ap places.frames.is_main (sym en.index) ∙ en.at.stands.running.home in
+      let below = lies_below places nestings n i (peak operation op.depth) home levels.room in
+      let header = levels.room.room in
+      let on =
+      outer_by places nestings setting.processors (number_of p) m.hart.local h'.local i j callers p.runner.has.outer few (levels.stay same.onward)
+      (λ x from lt. keeps.words x from (omega arith) (λ word w e. let start = starts n word in omega arith))
+      (λ x from lt.
+      let from' = subst (λ k. saved_at places nestings k i ≤ x) many from in
+      let lt' = subst (λ k. x < saved_at places nestings k i + 4 * nestings.levels i) many lt in
+      let start = starts_behind places nestings n i few in
+      keeps.words x (omega arith) (omega arith) (λ word w e. let apart = levels.apart (omega arith) word w in omega arith))
+      (subst (λ a. HasOuter places nestings setting.processors (number_of p) m.hart.local (a ∷ callers) p.runner.has.outer) en.index outer) in
+      stands_in_node places nestings setting runs first m p (owner_of d) h' member keeps.node keeps.body same.same.group
+      (subst (λ (l : Position). HasNestings places nestings setting.processors (number_of p) h'.local l.at l.callers (owner_of d).runner.has.callers p.runner.has.outer) (sym same.left)
+      (on, subst (LieBelow places nestings callers) (sym same.same.callers) member.node.outer.1))
+    where
+      starts : (n word : ℕ) → 64 * n + 8 + word ≤ frame_start places n + 8 + word
+      starts zero word = omega arith
+      starts (suc n) word = omega arith
+
+-- ---- in as many cycles as are told
+
+pub in_cycles_of : (core : List CoreOp) (image : Image) (places : Places) (nestings : Nestings) (cycles : Cycles) (setting : Setting) (t : MachineSetting) (i : ℕ) (operation : Operation) (runs : Option ℕ)
+    (first : ℕ) (m : Member) (p : Owner) → is_alone operation ≡ true → IsMember places nestings setting runs first m p
+    → OneDoes (core_source core setting) image t 1 (cycles.before i) (cycles.behind i (is_onward operation p.runner.has)) (member_of p m.hart) p (λ h d. HasDoneInNode core image places nestings setting runs d h)
+    → OneDoes (core_source core setting) image t 1 (cycles.before i) (cycles.behind i (way_of operation p.runner.has)) m p (λ h d. HasDoneInNode core image places nestings setting runs d h)
+in_cycles_of core image places nestings cycles setting t i operation runs first m p alone member one =
     let way = way_is operation p.runner.has alone in
     let same = ap (λ n. member_with n m.hart) (sym member.number) in
     subst (λ x. OneDoes (core_source core setting) image t 1 (cycles.before i) (cycles.behind i (way_of operation p.runner.has)) x p (λ h d. HasDoneInNode core image places nestings setting runs d h)) same
     (subst (λ w. OneDoes (core_source core setting) image t 1 (cycles.before i) (cycles.behind i w) (member_of p m.hart) p (λ h d. HasDoneInNode core image places nestings setting runs d h)) way one)
+
+pub blocks_stay_in_node : BlocksStayInNode
+blocks_stay_in_node core image places nestings cycles i op operation stands alone stays levels does setting t runs first m p en member =
+    in_cycles_of core image places nestings cycles setting t i operation runs first m p alone member
+    (does_in_node core image places nestings setting p t runs (cycles.before i) (cycles.behind i (is_onward operation p.runner.has)) m
+    (Keeps places (length p.runner.has.callers) (peak operation op.depth) (writes operation) m.hart) (does setting t p m.hart en)
+    (λ h' d s s' e done keeps.
+    in_node core image places nestings i op operation stands alone stays levels setting p t runs first m h' d en member keeps
+    (did core image places nestings i op operation stands alone stays levels setting p d s s' en.index e)))
 
 pub jumps_stay_in_node : JumpsStayInNode
 jumps_stay_in_node core image bound places nestings i op block flows few stay setting t runs first m p holds at member =
@@ -249,8 +276,10 @@ jumps_stay_in_node core image bound places nestings i op block flows few stay se
       node = record {
         node = member.node.node;
         body = member.node.body;
-        outer =
-            outer_by places nestings setting.processors (number_of p) h.local h.local i op.target callers p.runner.has.outer few stay (λ x le lt. refl) (λ x le lt. refl)
-            (subst (λ a. HasOuter places nestings setting.processors (number_of p) h.local (a ∷ callers) p.runner.has.outer) at member.node.outer);
+        outer = (
+          outer_by places nestings setting.processors (number_of p) h.local h.local i op.target callers p.runner.has.outer few stay (λ x le lt. refl) (λ x le lt. refl)
+              (subst (λ a. HasOuter places nestings setting.processors (number_of p) h.local (a ∷ callers) p.runner.has.outer) at member.node.outer.0),
+          member.node.outer.1,
+        );
       };
     }

@@ -5,7 +5,7 @@ use Rattle.std.proofs.lemmas.Bool.{ne_eqb}
 use Rattle.fk_num.specs.Word.{Memory}
 use Rattle.fk_run.specs.Processor.{Level, Call}
 use Rattle.fk_block_law.specs.Stands.{Places, HasWaiting, ahead, frame_start, frame_end}
-use Rattle.fk_group_law.specs.Node.{Nestings, HasLevelRoom, HasSaved, HasOuter, past_levels, saved_at}
+use Rattle.fk_group_law.specs.Node.{Nestings, HasLevelRoom, HasSaved, HasOuter, LieBelow, past_levels, saved_at}
 use Rattle.fk_group_law.specs.Lockstep.{LevelsStay}
 
 pub saved_kept : (m m' : Memory) (at count : ℕ) (levels : List Level) → ((j : ℕ) → at ≤ j → j < at + 4 * count → m' j ≡ m j) → HasSaved m at count levels → HasSaved m' at count levels
@@ -84,3 +84,37 @@ module _ (places : Places) (nestings : Nestings) where
   many_callers m [] [] held = refl
   many_callers m (b ∷ backs) (c ∷ calls) held = ap (λ k. suc k) (many_callers m backs calls held.2)
   many_callers m backs calls held = absurd (assumption held)
+
+  starts_above : (n : ℕ) → 64 * n ≤ frame_start places n
+  starts_above zero = omega arith
+  starts_above (suc n) = omega arith
+
+  -- a call begins, whose frame has no levels: all below it is as it was
+  pub outer_of_call : (processors number : ℕ) (m m' : Memory) (i back entry : ℕ) (callers : List ℕ) (levels : List Level) → places.frames.of_file ≤ 56 → LevelsStay nestings i back
+      → nestings.levels entry ≡ 0 → nestings.behind entry ≤ 56 → ((x : ℕ) → x < frame_end (length callers) → m' x ≡ m x)
+      → HasOuter places nestings processors number m (i ∷ callers) levels → HasOuter places nestings processors number m' (entry ∷ back ∷ callers) levels
+  outer_of_call processors number m m' i back entry callers levels few stay none low same held =
+      let room = held.0 in
+      let on = outer_by processors number m m' i back callers levels few stay (λ x from lt. same x (omega arith)) (λ x from lt. same x (omega arith)) held in (
+        omega arith,
+        subst (λ c. HasSaved m' (saved_at places nestings (suc (length callers)) entry) c levels) (sym none) tt,
+        subst (λ c. HasOuter places nestings processors number m' (back ∷ callers) (past_levels c levels)) (sym none) on,
+      )
+
+  -- one ends, whose frame has no levels: all below the word that takes its result is as it was
+  pub outer_of_caller : (processors number : ℕ) (m m' : Memory) (i b : ℕ) (c : Call) (callers : List ℕ) (calls : List Call) (levels : List Level) → places.frames.of_file ≤ 56
+      → nestings.levels i ≡ 0 → LieBelow places nestings (b ∷ callers) (c ∷ calls) → length callers ≡ length calls
+      → ((x : ℕ) → x < frame_end (length calls) - suc (length c.values) → m' x ≡ m x)
+      → HasOuter places nestings processors number m (i ∷ b ∷ callers) levels → HasOuter places nestings processors number m' (b ∷ callers) levels
+  outer_of_caller processors number m m' i b c callers calls levels few none below many same held =
+      let room = below.0 in
+      let start = starts_above (length calls) in
+      let starts = ap (frame_start places) many in
+      outer_by processors number m m' b b callers levels few (record { levels = refl; behind = refl })
+      (λ x from lt. same x (omega arith))
+      (λ x from lt. same x (omega arith))
+      (subst (λ k. HasOuter places nestings processors number m (b ∷ callers) (past_levels k levels)) none held.2)
+
+  -- as many values more have room behind the levels
+  pub values_behind : (waiting index values : ℕ) → below_values waiting index values → saved_at places nestings waiting index + 4 * nestings.levels index + values ≤ frame_end waiting
+  values_behind waiting index values below = omega arith

@@ -32,5 +32,9 @@ pub mod Sizes
 pub mod Starts
 -- blocks that keep the words of frames
 pub mod InNode
+-- calls and their ends
+pub mod Calls
+-- all that processors do alone
+pub mod Alone
 -- evaluated examples
 pub mod Examples

@@ -31,7 +31,7 @@ use Rattle.fk_gen.proofs.Values.{values_before, number_of_parts}
 use Rattle.fk_gen.proofs.Standing.{SameRegisters, with_list}
 use Rattle.fk_gen.proofs.Walk.{Quiets, Plain, LocalAt, TellsInputs, quiet_lines, walk, told_of, walked, lines_split, runs_join, private, can_run_goes}
 use Rattle.fk_gen.proofs.Jumps.{jumps, goes_to_pc, jal_private, jalr_goes}
-use Rattle.fk_group_law.specs.Node.{Nestings, IsRoot, HasOuter, HasSaved, OwnsHeader, past_levels, saved_at, first_word, root_words, closing_word, agreed_word, control_address}
+use Rattle.fk_group_law.specs.Node.{Nestings, IsRoot, HasOuter, HasNestings, HasSaved, OwnsHeader, past_levels, saved_at, first_word, root_words, closing_word, agreed_word, control_address}
 use Rattle.fk_group_law.specs.Lockstep.{IsMember, LevelsStay, NoneSaved, highest_value, is_due}
 use Rattle.fk_group_law.specs.Joint.{Polling, Polls}
 use Rattle.fk_group_law.specs.Start.{IsInRoot, MeetsUntil, HasMet, AllHaveMet, ComesToPart, AllComeToParts, HaveStarted, size_of_start, runs_behind_start}
@@ -309,7 +309,7 @@ module _ (core : List CoreOp) (image : Image) (bound : ℕ → ℕ) (places : Pl
       -- where its processor, which has dropped its last value, goes on at an index
       behind_at : (j : ℕ) → LevelsStay nestings i j → (onward : Bool) → (follows core Begin i op.target [] onward).at ≡ j
           → StandsAt places (with_list core places j others_values p) (goes_to_pc sized_hart (4 * places.block j))
-          × HasOuter places nestings setting.processors (number_of p) knows.hart.local (j ∷ p.runner.left.callers) p.runner.has.outer
+          × HasNestings places nestings setting.processors (number_of p) knows.hart.local j p.runner.left.callers p.runner.has.callers p.runner.has.outer
       behind_at j stay onward e =
           let flows = subst (λ a. Flows core places.frames nothing i a) e (place.fits.goes_on onward) in
           goes_behind_with core image bound places nestings i op Begin place j flows stay setting met.cycle (Some setting.processors) root_words others_values (record m { hart = met.first }) p
@@ -441,7 +441,7 @@ module _ (core : List CoreOp) (image : Image) (bound : ℕ → ℕ) (places : Pl
           let least = min-le_right (not_negative v) setting.processors in
           let indices = suc i ∷ p.runner.left.callers in
           let none : NoneSaved nestings indices = (place.stay.levels ∙ ap nestings.levels (sym met.enters.index) ∙ met.root.none.0, met.root.none.1) in
-          let outer = subst (λ o. HasOuter places nestings setting.processors (number_of p) knows.hart.local indices o) met.root.outer next.1 in
+          let outer = subst (λ o. HasOuter places nestings setting.processors (number_of p) knows.hart.local indices o) met.root.outer next.1.0 in
           record {
             number = met.member.number;
             at = record {
@@ -470,9 +470,11 @@ module _ (core : List CoreOp) (image : Image) (bound : ℕ → ℕ) (places : Pl
             node = record {
               node = group_words_is;
               body = tt;
-              outer =
-                  subst (λ o. HasOuter places nestings setting.processors (number_of p) knows.hart.local indices (p.runner.has.level ∷ o)) (sym met.root.outer)
-                  (under_root places nestings setting.processors (number_of p) knows.hart.local indices p.runner.has.level met.root.level none outer);
+              outer = (
+                subst (λ o. HasOuter places nestings setting.processors (number_of p) knows.hart.local indices (p.runner.has.level ∷ o)) (sym met.root.outer)
+                    (under_root places nestings setting.processors (number_of p) knows.hart.local indices p.runner.has.level met.root.level none outer),
+                next.1.1,
+              );
             };
             words = refl;
           }

@@ -1,9 +1,9 @@
 -- Blocks of operations that processors do by themselves, in a node.
-use Rattle.std.specs.Prelude.{◌≡◌, ℕ, ◌<◌, ◌≤◌, List, [], ◌∷◌, Bool, true, false}
+use Rattle.std.specs.Prelude.{◌≡◌, ℕ, suc, ◌-◌, ◌<◌, ◌≤◌, List, [], ◌∷◌, Bool, true, false}
 use Rattle.fk_operation.specs.declared.operation.Operation.{Operation}
 use Rattle.fk_operation.specs.declared.operation.Operation.TheVariants.{Leave, Enter}
 use Rattle.fk_core.specs.declared.op.CoreOp.{CoreOp}
-use Rattle.fk_core.specs.Next.{follows}
+use Rattle.fk_core.specs.Next.{follows, behind_jump}
 use Rattle.fk_image.specs.declared.Image.{Image}
 use Rattle.fk_block_law.specs.Stands.{Places}
 use Rattle.fk_block_law.specs.Next.{StandsOp}
@@ -14,6 +14,7 @@ use Rattle.fk_gen.specs.Registers.{zero_register}
 use Rattle.fk_gen.specs.Lines.{goes_to, label_of}
 use Rattle.fk_gen.specs.InPlace.{HasBlock}
 use Rattle.fk_gen.specs.Keeps.{BlockDoesBy, peak}
+use Rattle.fk_gen_flow.specs.Keeps.{BlockKeeps}
 use Rattle.fk_group_law.specs.Node.{Nestings, HasLevelRoom}
 use Rattle.fk_group_law.specs.Lockstep.{LevelsStay}
 use Rattle.fk_group_law.specs.Law.{Cycles, BlockDoesInNode, BlockJumpsInNode}
@@ -29,7 +30,7 @@ stays_in_call operation = true
 pub record HasLevels (core : List CoreOp) (places : Places) (nestings : Nestings) (i : ℕ) (op : CoreOp) (operation : Operation) : Type 0 where
   pub few : places.frames.of_file ≤ 56
   pub room : HasLevelRoom places.frames nestings i (peak operation op.depth)
-  pub apart : (word : ℕ) → writes operation word ≡ true → word < nestings.behind i
+  pub apart : 0 < nestings.levels i → (word : ℕ) → writes operation word ≡ true → word < nestings.behind i
   pub stay : (onward : Bool) → LevelsStay nestings i (follows core operation i op.target [] onward).at
 
 -- a block that keeps the words of frames keeps its hart in its node, in as many cycles
@@ -38,6 +39,33 @@ BlocksStayInNode =
     (core : List CoreOp) (image : Image) (places : Places) (nestings : Nestings) (cycles : Cycles) (i : ℕ) (op : CoreOp) (operation : Operation)
     → StandsOp core i op operation → is_alone operation ≡ true → stays_in_call operation ≡ true → HasLevels core places nestings i op operation
     → BlockDoesBy core image places (cycles.before i) (cycles.behind i) i op operation → BlockDoesInNode core image places nestings cycles i op operation
+
+-- a call goes on behind the jump that follows it, with the same levels, which have room beside the values that are left and a
+-- result. None stand in the new frame
+pub record GivesLevels (core : List CoreOp) (places : Places) (nestings : Nestings) (i depth arguments : ℕ) : Type 0 where
+  pub few : places.frames.of_file ≤ 56
+  pub stay : LevelsStay nestings i (behind_jump core (suc i))
+  pub room : HasLevelRoom places.frames nestings (behind_jump core (suc i)) (suc (depth - arguments))
+  pub none : nestings.levels (suc i) ≡ 0
+  pub entry : HasLevelRoom places.frames nestings (suc i) 0
+
+-- none stand in the frame of a call that ends
+pub record HasNoLevels (places : Places) (nestings : Nestings) (i : ℕ) : Type 0 where
+  pub few : places.frames.of_file ≤ 56
+  pub none : nestings.levels i ≡ 0
+
+-- what is asked of the levels of the running call, by an operation
+abbrev pub LevelsFit : (core : List CoreOp) → Places → Nestings → (i : ℕ) → CoreOp → Operation → Type 0
+LevelsFit core places nestings i op (Enter arguments) = GivesLevels core places nestings i op.depth arguments
+LevelsFit core places nestings i op (Leave gives framed) = HasNoLevels places nestings i
+LevelsFit core places nestings i op operation = HasLevels core places nestings i op operation
+
+-- so each block of an operation that processors do alone keeps its hart in its node, calls and their ends too
+abbrev pub LoneBlocksStayInNode : Type 0
+LoneBlocksStayInNode =
+    (core : List CoreOp) (image : Image) (places : Places) (nestings : Nestings) (cycles : Cycles) (i : ℕ) (op : CoreOp) (operation : Operation)
+    → StandsOp core i op operation → is_alone operation ≡ true → LevelsFit core places nestings i op operation
+    → BlockKeeps core image places (cycles.before i) (cycles.behind i) i op operation → BlockDoesInNode core image places nestings cycles i op operation
 
 -- and so does a jump, where the call goes on with the same levels
 abbrev pub JumpsStayInNode : Type 0

@@ -3,7 +3,7 @@
 ghost use Rattle.fk_gen_group.specs.Meeting.{HartsArrive, HartsMove};
 ghost use Rattle.fk_gen_group.specs.Together.{TurnsAreMoves, MembersLeaveTogether, MembersLeaveInTen};
 ghost use Rattle.fk_gen_group.specs.Chains.{MeetersHaveChains};
-ghost use Rattle.fk_gen_group.specs.InNode.{BlocksStayInNode, JumpsStayInNode};
+ghost use Rattle.fk_gen_group.specs.InNode.{BlocksStayInNode, LoneBlocksStayInNode, JumpsStayInNode};
 ghost use Rattle.fk_gen_group.specs.Laws.{BlocksMeet, GroupsAgree, GroupsEnd, GroupsSendOne, GroupsSetFree, GroupsStart};
 
 /// A hart that comes to the lines of a meeting, in whatever cycle, arrives after 5 cycles or 6, in an even one.
@@ -70,6 +70,12 @@ pub fn groups_start()
 /// the levels in the frame of its call have room beside these.
 pub fn blocks_stay_in_node()
     ensures { BlocksStayInNode }
+{}
+
+/// So do the blocks of all operations that processors do alone: that of a call where none of the levels round it stand in the new
+/// frame, and that of its end where none stand in the frame that is given up.
+pub fn lone_blocks_stay_in_node()
+    ensures { LoneBlocksStayInNode }
 {}
 
 /// So does the block of a jump.

@@ -147,7 +147,7 @@ begins image code setting t number running =
           };
         };
       };
-      node = record { node = refl; body = omega (arith, e, few); outer = (omega arith, tt, tt) };
+      node = record { node = refl; body = omega (arith, e, few); outer = ((omega arith, tt, tt), tt) };
     }
 
 values_before : (m : Memory) (behind : ℕ) (vs : List ℕ) → HasValues m behind vs → HasValues m behind (before 1 vs)

@@ -1,7 +1,7 @@
 -- Where a hart finds the control words of its node, and what it keeps of the groups round it.
 use Rattle.std.specs.Prelude.{◌≡◌, ℕ, zero, suc, ◌+◌, ◌*◌, ◌^◌, ◌<◌, ◌≤◌, List, [], ◌∷◌, length, true, Option, IfSome}
 use Rattle.fk_num.specs.Word.{Memory}
-use Rattle.fk_run.specs.Processor.{Level, Setting}
+use Rattle.fk_run.specs.Processor.{Call, Level, Setting}
 use Rattle.fk_machine.specs.Hart.{Hart}
 use Rattle.fk_nodes.specs.Node.{Words}
 use Rattle.fk_block_law.specs.Owner.{Owner, number_of}
@@ -59,10 +59,10 @@ pub record Nestings : Type 0 where
   -- the word behind the header of that frame where the first of them begins
   pub behind : (index : ℕ) → ℕ
 
--- the levels of a call have room in its frame, beside its private words and so many values
+-- the levels of a call have room in its frame, behind its private words and beside so many values
 pub record HasLevelRoom (frames : Frames) (nestings : Nestings) (index values : ℕ) : Type 0 where
   pub room : ahead frames (frames.is_main index) + 8 + nestings.behind index + 4 * nestings.levels index + values ≤ 64
-  pub apart : (word : ℕ) → frames.keeps index word ≡ true → word < nestings.behind index
+  pub apart : 0 < nestings.levels index → (word : ℕ) → frames.keeps index word ≡ true → word < nestings.behind index
 
 -- the root's level: `@` is 0, and `$` the number of the processor
 pub record IsRoot (processors processor : ℕ) (level : Level) : Type 0 where
@@ -106,8 +106,19 @@ module _ (places : Places) (nestings : Nestings) where
       × HasSaved memory (saved_at (length indices) i) (nestings.levels i) levels
       × HasOuter processors number memory indices (past_levels (nestings.levels i) levels)
 
+  -- the levels in the frame of a call that waits lie below its values and the word that takes its result
+  abbrev pub LieBelow : (indices : List ℕ) → List Call → Type 0
+  LieBelow [] [] = Unit {0}
+  LieBelow (i ∷ indices) (c ∷ calls) =
+      (saved_at (length calls) i + 4 * nestings.levels i + suc (length c.values) ≤ frame_end (length calls)) × LieBelow indices calls
+  LieBelow indices calls = ⊥
+
+  -- so the levels round a processor stand in the frames of its calls, where the running one goes on at an index and these wait
+  abbrev pub HasNestings : (processors number : ℕ) → Memory → (at : ℕ) → (callers : List ℕ) → List Call → List Level → Type 0
+  HasNestings processors number memory at callers calls levels = HasOuter processors number memory (at ∷ callers) levels × LieBelow callers calls
+
   -- A hart stands in the node of its processor. Where that runs the body of an asynchronous node, it is one of so many
   pub record StandsInNode (setting : Setting) (runs : Option ℕ) (p : Owner) (h : Hart) : Type 0 where
     pub node : h.registers node_register ≡ control_address (first_word p.runner.has.level p.runner.has.outer)
     pub body : IfSome runs (λ n. h.registers body_register ≡ n)
-    pub outer : HasOuter setting.processors (number_of p) h.local (p.runner.left.at ∷ p.runner.left.callers) p.runner.has.outer
+    pub outer : HasNestings setting.processors (number_of p) h.local p.runner.left.at p.runner.left.callers p.runner.has.callers p.runner.has.outer

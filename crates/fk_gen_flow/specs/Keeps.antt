@@ -1,0 +1,68 @@
+-- What the blocks of control flow tell beside that they do their operations: how many cycles they take, and what they leave of their
+-- harts.
+use Rattle.std.specs.Prelude.{◌≡◌, ℕ, suc, ◌+◌, ◌-◌, ◌*◌, ◌<◌, nat_le, List, [], ◌∷◌, length, Bool, if◌then◌else◌}
+use Rattle.fk_operation.specs.declared.operation.Operation.{Operation}
+use Rattle.fk_operation.specs.declared.operation.Operation.TheVariants.{Branch, Leave, Enter}
+use Rattle.fk_run.specs.Processor.{Call, Processor, Setting}
+use Rattle.fk_run.specs.Local.{is_onward}
+use Rattle.fk_core.specs.declared.op.CoreOp.{CoreOp}
+use Rattle.fk_image.specs.declared.Image.{Image}
+use Rattle.fk_machine.specs.Hart.{Hart, Setting as MachineSetting}
+use Rattle.fk_block_law.specs.Owner.{Owner}
+use Rattle.fk_block_law.specs.Stands.{Places, frame_end}
+use Rattle.fk_block_law.specs.Suits.{writes}
+use Rattle.fk_block_law.specs.Block.{Enters}
+use Rattle.fk_gen.specs.Registers.{a0, a1}
+use Rattle.fk_gen.specs.Keeps.{Keeps, DoesAnd, peak}
+use Rattle.fk_gen_flow.specs.Calls.{most_privates}
+
+-- ---- cycles
+
+-- a call looks at the depth, and stores where its caller goes on, before it commits
+abbrev pub before_commit : Operation → ℕ
+before_commit (Enter arguments) = 3
+before_commit operation = 0
+
+-- behind that a call takes two cycles for each argument, and two more where the code that all calls share copies them; one for
+-- each word that it clears, and two more; and four for the new frame
+abbrev pub copying_takes : (own : Bool) (arguments : ℕ) → ℕ
+copying_takes own arguments = 2 * arguments + (if own then 0 else 2)
+
+abbrev pub clearing_takes : (clears : Bool) (arguments : ℕ) → ℕ
+clearing_takes clears arguments = if clears then most_privates - arguments + 2 else 0
+
+abbrev pub call_takes : (clears : Bool) (arguments : ℕ) → ℕ
+call_takes clears arguments = copying_takes (nat_le arguments 1) arguments + clearing_takes clears arguments + 4
+
+-- how many cycles follow a commit, by the way that the operation goes
+abbrev pub behind_commit : (clears : Bool) → Operation → (onward : Bool) → ℕ
+behind_commit clears (Branch turned) onward = if onward then 1 else 2
+behind_commit clears (Leave gives framed) onward = if gives then 6 else 3
+behind_commit clears (Enter arguments) onward = call_takes clears arguments
+behind_commit clears operation onward = 0
+
+-- ---- what stays
+
+-- the word where the call that waits last takes its result
+abbrev pub result_word : List Call → ℕ
+result_word [] = 0
+result_word (c ∷ calls) = frame_end (length calls) - suc (length c.values)
+
+-- a hart keeps a0 and a1, and all words below one
+pub record KeepsBelow (word : ℕ) (h h' : Hart) : Type 0 where
+  pub node : h'.registers a0 ≡ h.registers a0
+  pub body : h'.registers a1 ≡ h.registers a1
+  pub words : (j : ℕ) → j < word → h'.local j ≡ h.local j
+
+-- a call keeps all words below its own frame, and the end of a call those below the result. Other operations keep what blocks
+-- do that make no call
+abbrev pub KeepsFor : Places → Operation → (depth : ℕ) → Processor → (h h' : Hart) → Type 0
+KeepsFor places (Enter arguments) depth p h h' = KeepsBelow (frame_end (length p.callers)) h h'
+KeepsFor places (Leave gives framed) depth p h h' = KeepsBelow (result_word p.callers) h h'
+KeepsFor places operation depth p h h' = Keeps places (length p.callers) (peak operation depth) (writes operation) h h'
+
+-- the block of an operation does it in so many cycles, and keeps what is to be kept
+abbrev pub BlockKeeps : (core : List CoreOp) → Image → Places → (before : ℕ) → (behind : (onward : Bool) → ℕ) → (i : ℕ) → CoreOp → Operation → Type 0
+BlockKeeps core image places before behind i op operation =
+    (setting : Setting) (t : MachineSetting) (p : Owner) (h : Hart) → Enters core image places setting t i op operation p h
+    → DoesAnd core image places setting t p h before (behind (is_onward operation p.runner.has)) (λ h'. KeepsFor places operation op.depth p.runner.has h h')

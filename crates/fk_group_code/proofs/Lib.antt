@@ -1,0 +1,10 @@
+-- how many cycles blocks take at most
+mod Few
+-- lists in whose frames no level stands
+pub mod Levels
+-- what processors do alone
+pub mod Law
+-- the cycles of an operation at its index
+mod At
+-- steps of groups, and the whole law
+pub mod Groups

@@ -1,0 +1,7 @@
+//! The code of a list does what the law of blocks of groups asks of all that processors do alone: local operations, requests, calls
+//! and their ends, jumps and halts.
+//!
+//! The definitions stand in `specs/`, and what is proved of them in `laws`.
+#![tactic(auto)]
+
+pub mod laws;
