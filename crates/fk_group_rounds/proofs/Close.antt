@@ -45,7 +45,8 @@ use Rattle.fk_group_rounds.proofs.Comes.{groups_come_to_commits}
 use Rattle.fk_group_rounds.proofs.Keep.{AllAtHome, settled_below, met_settles}
 use Rattle.fk_group_rounds.proofs.Harts.{LockLeft, steps_into_group}
 use Rattle.fk_group_rounds.proofs.Groups.{at_home, many_length}
-use Rattle.fk_group_rounds.proofs.Changed.{Steps, Nothing, nothing_here, running, At, near, AnyGoes, bound}
+use Rattle.fk_group_rounds.proofs.Changed.{Steps, Nothing, nothing_here, running, At, near, AnyGoes, bound_at}
+use Rattle.fk_group_rounds.proofs.Moved.{TreeMoves, one_node, only}
 use Rattle.fk_group_rounds.proofs.Resume.{kind_there, is_busy, step_is_brought}
 
 -- all of them do this
@@ -130,12 +131,15 @@ module _ (core : List CoreOp) (image : Image) (places : Places) (nestings : Nest
   lock : plan'.in_lockstep g ≡ true
   lock = ap is_lockstep kind'
 
+  move : TreeMoves old (trees.meet g old) setting.processors g nodes nodes (λ k. k == g)
+  move = one_node old (trees.meet g old) setting.processors g nodes others (λ h. refl) before.stand
+
   -- ---- its members
 
   abbrev run : IsRunning image setting (later t)
   run =
-      running core image places nestings cycles firsts main setting old (trees.meet g old) spaces nodes t stages hs ps ds own own' control the_law leads before left has behind.sound behind.spaced g
-      (Meet true) steps others (λ h. refl) before.stand on next
+      running core image places nestings cycles firsts main setting old (trees.meet g old) spaces nodes nodes t stages hs ps ds own own' control the_law leads before left has behind.sound behind.spaced g
+      (Meet true) steps (λ k. k == g) move on next
 
   abbrev Home : List Member → List Doing → Type 0
   Home ms xs =
@@ -211,13 +215,12 @@ module _ (core : List CoreOp) (image : Image) (places : Places) (nestings : Nest
   home : Home (of_node g nodes (numbered 0 hs)) (of_node g nodes ds)
   home =
       let many = before.many in
-      at_home core image places nestings cycles firsts main setting old (trees.meet g old) spaces nodes the_law leads behind.spaced behind.sound (later t) run ds g 0 nodes hs left.afters ds before.stand
-      before.stand (omega (arith, many)) left.as_many left.done_as_many on
+      at_home core image places nestings cycles firsts main setting old (trees.meet g old) spaces nodes nodes the_law leads behind.spaced behind.sound (later t) run ds g 0 nodes hs left.afters ds before.stand (λ h lt at. at) (omega (arith, many)) left.as_many left.done_as_many on
 
   abbrev AtGroup : Type 0
   AtGroup =
-      At core image places nestings cycles firsts main setting old (trees.meet g old) spaces nodes t stages hs ps ds own own' control the_law leads before left has behind.sound behind.spaced g
-      (Meet true) steps others (λ h. refl) before.stand on next g
+      At core image places nestings cycles firsts main setting old (trees.meet g old) spaces nodes nodes t stages hs ps ds own own' control the_law leads before left has behind.sound behind.spaced g
+      (Meet true) steps (λ k. k == g) move on next g
 
   at_group : plan'.in_lockstep g ≡ true → AtGroup
   at_group locked =
@@ -244,8 +247,17 @@ module _ (core : List CoreOp) (image : Image) (places : Places) (nestings : Nest
         );
       }
 
-  lock_group : plan.in_lockstep g ≡ true → LockLeft (of_node g nodes left.afters) (of_node g nodes ps) (of_node g nodes ds)
-  lock_group locked = absurd (false≢true (sym free ∙ locked))
+  at_groups : (k : ℕ) → (k == g) ≡ true → plan'.in_lockstep k ≡ true
+      → At core image places nestings cycles firsts main setting old (trees.meet g old) spaces nodes nodes t stages hs ps ds own own' control the_law leads before left has behind.sound behind.spaced g
+      (Meet true) steps (λ k. k == g) move on next k
+  at_groups =
+      only g
+      (λ k. plan'.in_lockstep k ≡ true
+      → At core image places nestings cycles firsts main setting old (trees.meet g old) spaces nodes nodes t stages hs ps ds own own' control the_law leads before left has behind.sound behind.spaced g
+      (Meet true) steps (λ k. k == g) move on next k) at_group
+
+  lock_groups : (k : ℕ) → (k == g) ≡ true → plan.in_lockstep k ≡ true → LockLeft (of_node k nodes left.afters) (of_node k nodes ps) (of_node k nodes ds)
+  lock_groups k is locked = absurd (false≢true (sym (ap (λ j. plan.in_lockstep j) (eqb-true k g is) ∙ free) ∙ locked))
 
   no_halt_here : (d : Doing) → DoesStep (Meet true) d.acting.due → halts d.acting.due ≡ false
   no_halt_here d does = halts_by d.acting.due does
@@ -254,21 +266,21 @@ module _ (core : List CoreOp) (image : Image) (places : Places) (nestings : Nest
       halts_by None does = absurd does
       halts_by (Some step) does = ap is_halt does
 
-  each_member : AnyGoes core image places nestings cycles firsts main setting old (trees.meet g old) spaces nodes t stages hs ps ds own own' control the_law leads before left has behind.sound
-      behind.spaced g (Meet true) steps others (λ h. refl) before.stand on next at_group lock_group (Steps old g (Meet true) Nothing)
+  each_member : AnyGoes core image places nestings cycles firsts main setting old (trees.meet g old) spaces nodes nodes t stages hs ps ds own own' control the_law leads before left has behind.sound
+      behind.spaced g (Meet true) steps (λ k. k == g) move on next at_groups lock_groups (Steps old g (Meet true) Nothing)
   each_member m p d known lt land home' s0 a locks alone' due remains on' =
       steps_into_group core image places nestings cycles firsts main setting old (trees.meet g old) spaces nodes nodes the_law leads behind.spaced behind.sound (later t) run (actings ds)
-      (λ k. (near core image places nestings cycles firsts main setting old (trees.meet g old) spaces nodes t stages hs ps ds own own' control the_law leads before left has behind.sound behind.spaced g
-      (Meet true) steps others (λ h. refl) before.stand on next at_group lock_group k).distance)
-      (λ k. (near core image places nestings cycles firsts main setting old (trees.meet g old) spaces nodes t stages hs ps ds own own' control the_law leads before left has behind.sound behind.spaced g
-      (Meet true) steps others (λ h. refl) before.stand on next at_group lock_group k).soon)
+      (λ k. (near core image places nestings cycles firsts main setting old (trees.meet g old) spaces nodes nodes t stages hs ps ds own own' control the_law leads before left has behind.sound behind.spaced g
+      (Meet true) steps (λ k. k == g) move on next at_groups lock_groups k).distance)
+      (λ k. (near core image places nestings cycles firsts main setting old (trees.meet g old) spaces nodes nodes t stages hs ps ds own own' control the_law leads before left has behind.sound behind.spaced g
+      (Meet true) steps (λ k. k == g) move on next at_groups lock_groups k).soon)
       m p d (is_busy (Meet true) d p known.1) a (ap (λ k. plan'.in_lockstep k) known.0 ∙ lock) (alone' (ap (λ k. plan.in_lockstep k) known.0 ∙ free))
       (λ none. on' none (no_halt_here d known.1))
 
   closed : BindsAgain core image places nestings setting old spaces nodes (trees.meet g old) spaces nodes t hs left.afters ps (all_landed core (owners_after old (trees.meet g old) ds)) control
   closed =
-      bound core image places nestings cycles firsts main setting old (trees.meet g old) spaces nodes t stages hs ps ds own own' control the_law leads before left has behind.sound behind.spaced g
-      (Meet true) steps others (λ h. refl) before.stand on next at_group lock_group Nothing (nothing_here old g 0 hs ds) each_member (λ w free' is_open. absurd (false≢true (sym free' ∙ lock)))
+      bound_at core image places nestings cycles firsts main setting old (trees.meet g old) spaces nodes nodes t stages hs ps ds own own' control the_law leads before left has behind.sound behind.spaced g
+      (Meet true) steps (λ k. k == g) move on next at_groups lock_groups Nothing (nothing_here old g 0 hs ds) each_member (λ k is. eqb-true k g is) (λ w free' is_open. absurd (false≢true (sym free' ∙ lock)))
 
 pub rounds_close : RoundsClose
 rounds_close core image places nestings cycles firsts main setting tree spaces nodes t stages earlier hs ps ds own own' control g alone the_law leads before few binds left has kind stand steps behind on next =

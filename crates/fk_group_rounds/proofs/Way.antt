@@ -24,7 +24,7 @@ no_operation : (number : ℕ) → operation_of 0 number ≡ None
 no_operation number = refl
 
 -- what has an operation is no jump
-no_jump : (op : CoreOp) (operation : Operation) → operation_of op.kind op.number ≡ Some operation → is_jump op ≡ false
+pub no_jump : (op : CoreOp) (operation : Operation) → operation_of op.kind op.number ≡ Some operation → is_jump op ≡ false
 no_jump op operation e =
     ⊎_elim (λ f. absurd (let g = sym (ap (λ k. operation_of k op.number) (eqb-true op.kind 0 f) ∙ no_operation op.number) ∙ e in cc)) (λ f. f) (cases_Bool (is_jump op))
 

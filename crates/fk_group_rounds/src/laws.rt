@@ -3,7 +3,7 @@
 ghost use Rattle.fk_group_rounds.specs.Comes.{MembersComeToStages, GroupsComeToCommits};
 ghost use Rattle.fk_group_rounds.specs.Cycle.{CyclesBindAgain};
 ghost use Rattle.fk_group_rounds.specs.Program.{GroupsHaveNext};
-ghost use Rattle.fk_group_rounds.specs.Rounds.{RoundsKeepTrees, RoundsResume, RoundsClose, RoundsSetFree, RoundsSendOne, RoundsBindAgain};
+ghost use Rattle.fk_group_rounds.specs.Rounds.{RoundsKeepTrees, RoundsResume, RoundsClose, RoundsSetFree, RoundsSendOne, RoundsEnd, RoundsBindAgain};
 
 /// A member by itself that has committed comes to the stage of its next operation, by a jump or straight: at a distance of at
 /// most 254 from its commit, or on its way to the word where it meets others.
@@ -45,6 +45,11 @@ pub fn rounds_set_free()
 /// So they are after the round in which it comes to a `seq`: its lowest member runs the body, and the others wait for it.
 pub fn rounds_send_one()
     ensures { RoundsSendOne }
+{}
+
+/// And after the round in which the group of `start` ends: its members are back in the root, each by itself.
+pub fn rounds_end()
+    ensures { RoundsEnd }
 {}
 
 /// Where the plan of a tree binds all harts before a cycle that is one of these rounds, that of the next tree binds them behind it.

@@ -101,7 +101,7 @@ idle_at t w false member s fresh = idle_absent t.finished member
 
 -- ---- lists by node
 
-same_of : {A : Type 0} (g : ℕ) (ns ns' : List ℕ) (xs : List A) → HasSame g ns ns' → of_node g ns' xs ≡ of_node g ns xs
+pub same_of : {A : Type 0} (g : ℕ) (ns ns' : List ℕ) (xs : List A) → HasSame g ns ns' → of_node g ns' xs ≡ of_node g ns xs
 same_of g [] [] xs same = refl
 same_of g (n ∷ ns) (n' ∷ ns') [] same = refl
 same_of g (n ∷ ns) (n' ∷ ns') (x ∷ xs) same =
