@@ -5,7 +5,7 @@ mod Parts
 -- requests on a whole store
 mod Stores
 -- the turns of processors are a round
-mod Rounds
+pub mod Rounds
 -- from commit to commit
 mod Linked
 -- a cycle of all harts, as members of one node without words
