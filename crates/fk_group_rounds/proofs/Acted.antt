@@ -5,7 +5,7 @@ use Rattle.std.proofs.lemmas.Bool.{false≢true}
 use Rattle.fk_num.specs.Word.{Memory}
 use Rattle.fk_tree.specs.Tree.{Tree}
 use Rattle.fk_operation.specs.declared.operation.Operation.{Operation}
-use Rattle.fk_operation.specs.declared.operation.Operation.TheVariants.{Agree, End}
+use Rattle.fk_operation.specs.declared.operation.Operation.TheVariants.{Begin, Agree, End}
 use Rattle.fk_run.specs.Processor.{Setting}
 use Rattle.fk_core.specs.declared.op.CoreOp.{CoreOp}
 use Rattle.fk_image.specs.declared.Image.{Image}
@@ -20,7 +20,7 @@ use Rattle.fk_block_law.specs.Stands.{Places}
 use Rattle.fk_block_law.specs.Block.{most_behind}
 use Rattle.fk_group_law.specs.Node.{Nestings}
 use Rattle.fk_group_law.specs.Lockstep.{is_due}
-use Rattle.fk_group_plans.specs.Behind.{HaveParted, HaveEnded, AllHaveGone, IsGroupBehind, blocks_of}
+use Rattle.fk_group_plans.specs.Behind.{HaveParted, HaveEnded, HaveBegun, AllHaveGone, IsGroupBehind, blocks_of}
 use Rattle.fk_group_rounds.specs.After.{DoesStep, ArePlaces}
 use Rattle.fk_group_rounds.proofs.Lists.{run_end}
 use Rattle.fk_group_rounds.proofs.Harts.{AllAre}
@@ -69,13 +69,14 @@ module _ (core : List CoreOp) (image : Image) (places : Places) (nestings : Nest
   abbrev blocks : Blocks Owner Doing
   blocks = blocks_of core image places nestings setting plan first
 
-  -- each goes on in the node, or the group has ended
+  -- each goes on in the node, the group has ended, or one has begun
   pub record Acted : Type 0 where
     pub committed : AllHaveCommitted afters
     pub cycles_behind : ℕ
     pub few : cycles_behind ≤ most_behind
     pub how : ((x : HaveParted core image places nestings setting (first g) t cycles_behind ds ms own) × (x.operation ≡ operation))
-        ⊎ (HaveEnded core image places nestings setting t cycles_behind ds ms × (End ≡ operation))
+        ⊎ ((HaveEnded core image places nestings setting t cycles_behind ds ms × (End ≡ operation))
+        ⊎ (HaveBegun core image places nestings setting t ds ms own × (Begin ≡ operation)))
 
   does_it : (i : ℕ) (op : CoreOp) (done : Operation) (xs : List Owner) → ds ≡ map (is_due core i op done) xs → done ≡ operation
   does_it i op done xs e = first_does core i op operation done xs (subst (AllDo operation) e all_step) (λ none. some (ap (λ l. length l) e ∙ none))
@@ -101,6 +102,10 @@ module _ (core : List CoreOp) (image : Image) (places : Places) (nestings : Nest
         committed = x.0;
         cycles_behind = x.1.0;
         few = x.1.1;
-        how = ⊎_elim (λ apart. inl (apart, does_it apart.i apart.op apart.operation apart.ps apart.due)) (λ ended. inr (ended, does_it ended.i ended.op End ended.ps ended.due)) other;
+        how = ⊎_elim (λ apart. inl (apart, does_it apart.i apart.op apart.operation apart.ps apart.due))
+            (λ another.
+            inr
+            (⊎_elim (λ ended. inl (ended, does_it ended.i ended.op End ended.ps ended.due)) (λ begun. inr (begun, does_it begun.i begun.op Begin begun.ps begun.due)) another))
+            other;
       })
       x.1.2

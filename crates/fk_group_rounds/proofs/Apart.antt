@@ -12,7 +12,7 @@ use Rattle.fk_tree.specs.Sound.{is_below_all, is_ascending, IsSound}
 use Rattle.fk_tree.proofs.Lists.{below_all-member}
 use Rattle.fk_tree.proofs.Shapes.{with_other, kind_members, kind_same, some-given, from_parts}
 use Rattle.fk_operation.specs.declared.operation.Operation.{Operation}
-use Rattle.fk_operation.specs.declared.operation.Operation.TheVariants.{Agree, Farm, Seq, End}
+use Rattle.fk_operation.specs.declared.operation.Operation.TheVariants.{Begin, Farm, Seq, End}
 use Rattle.fk_run.specs.Processor.{Setting}
 use Rattle.fk_run.specs.Round.{Step, lowest, body_of}
 use Rattle.fk_core.specs.declared.op.CoreOp.{CoreOp}
@@ -201,6 +201,9 @@ module _ (core : List CoreOp) (image : Image) (places : Places) (nestings : Nest
   no_end : End ≡ operation → ⊥
   no_end e = let f : None ≡ Some alone = ap runs_alone e ∙ is in absurd (cc)
 
+  no_begin : Begin ≡ operation → ⊥
+  no_begin e = let f : None ≡ Some alone = ap runs_alone e ∙ is in absurd (cc)
+
   changes_by : (operation : Operation) → runs_alone operation ≡ Some alone → changes_tree operation ≡ true
   changes_by Farm is' = refl
   changes_by Seq is' = refl
@@ -214,7 +217,7 @@ module _ (core : List CoreOp) (image : Image) (places : Places) (nestings : Nest
   all_parted =
       let x = acted core image places nestings setting plan (first_of spaces) (later t) g (of_node g nodes left.afters) the_members (of_node g nodes ps) doings (own' g) operation all_step some_doings
       (changes_by operation is) as_group in
-      ⊎_elim (λ apart. record { committed = x.committed; cycles_behind = x.cycles_behind; few = x.few; parted = apart.0; same = apart.1 }) (λ ended. absurd (no_end ended.1)) x.how
+      ⊎_elim (λ apart. record { committed = x.committed; cycles_behind = x.cycles_behind; few = x.few; parted = apart.0; same = apart.1 }) (λ other. absurd (⊎_elim (λ ended. no_end ended.1) (λ begun. no_begin begun.1) other)) x.how
 
   -- ---- each by itself
 
@@ -426,7 +429,7 @@ module _ (core : List CoreOp) (image : Image) (places : Places) (nestings : Nest
         empty = word_is_zero offset lt arrival;
         size =
             phases_count plan' g w 0 nodes everybody.stages (meeters_at new g offset) tell.member
-            (all_fine (core_source core setting) image plan blocks plan' blocks' (later t) g 0 hs nodes left.afters everybody.stages ps (all_landed core (owners_after old new ds)) free
+            (all_fine (core_source core setting) image plan blocks plan' blocks' (later t) g 0 hs nodes nodes left.afters everybody.stages ps (all_landed core (owners_after old new ds)) free
             all_parted.committed everybody.changes)
             ∙ count_is 0 nodes (meeters_at new g offset) (meeters_up offset)
             (λ h member. let below = behind.sound.within g h (meeters_among offset h member) in (omega arith, omega (arith, below, many)))

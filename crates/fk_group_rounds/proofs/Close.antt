@@ -21,7 +21,7 @@ use Rattle.fk_nodes.specs.Alone.{later, in_cycles, RunsPrivately}
 use Rattle.fk_nodes.specs.Together.{Together}
 use Rattle.fk_meeting.specs.Phase.{arrived, and_arrived}
 use Rattle.fk_plans.specs.Stage.{Stage, absent, phase_of}
-use Rattle.fk_plans.specs.Plan.{Plan, Blocks, phase_at, phases_from, HasCommitted, IsBound}
+use Rattle.fk_plans.specs.Plan.{Plan, Blocks, phase_at, phases_from, HasCommitted, HasUnited, IsBound}
 use Rattle.fk_plans.specs.Cycle.{AllHaveCommitted, AllAreLeft, IsLeft}
 use Rattle.fk_plans.proofs.Left.{meeting_is_kept}
 use Rattle.fk_plans.proofs.Changes.{left_alone}
@@ -183,11 +183,18 @@ module _ (core : List CoreOp) (image : Image) (places : Places) (nestings : Nest
       other.1)
       x.3
 
+  -- nobody has united with others
+  committed : (m : Member) (q : Owner) (d : Doing)
+      → HasCommitted (core_source core setting) image plan blocks (later t) g m q d ⊎ HasUnited (core_source core setting) image plan blocks (later t) g m q d
+      → HasCommitted (core_source core setting) image plan blocks (later t) g m q d
+  committed m q d (inl x) = x
+  committed m q d (inr x) = absurd x.1
+
   met_members : (afters : List (Option Stage)) (ms : List Member) (qs : List Owner) (xs : List Doing) → AllAreLeft (core_source core setting) image plan blocks (later t) g afters ms qs xs
       → AllDo (Meet true) xs → Home ms xs → AreMembers places nestings setting (λ p. None) (first_of spaces g) ms (map settle xs)
   met_members [] [] [] [] left' do' home = tt
   met_members (None ∷ afters) (m ∷ ms) (q ∷ qs) (x ∷ xs) left' do' home =
-      (met_member m q x home.0.0 home.0.1 home.0.3 do'.0 left'.0, met_members afters ms qs xs left'.1 do'.1 home.1)
+      (met_member m q x home.0.0 home.0.1 home.0.3 do'.0 (committed m q x left'.0), met_members afters ms qs xs left'.1 do'.1 home.1)
   met_members (Some s ∷ afters) (m ∷ ms) (q ∷ qs) (x ∷ xs) left' do' home = absurd (is_busy (Meet true) x q do'.0 left'.0.0)
   met_members afters ms qs xs left' do' home = absurd (assumption left')
 

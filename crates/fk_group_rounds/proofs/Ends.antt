@@ -11,7 +11,7 @@ use Rattle.fk_tree.specs.Tree.{Tree, Node, kind_of, node_of, left_by, is_member}
 use Rattle.fk_tree.specs.Sound.{awaits, IsSound}
 use Rattle.fk_tree.proofs.Begins.{length-root}
 use Rattle.fk_tree.proofs.Shapes.{with_same, with_other, has_some, some-given}
-use Rattle.fk_operation.specs.declared.operation.Operation.TheVariants.{End}
+use Rattle.fk_operation.specs.declared.operation.Operation.TheVariants.{Begin, End}
 use Rattle.fk_run.specs.Processor.{Setting}
 use Rattle.fk_run.specs.Round.{Step, body_of}
 use Rattle.fk_core.specs.declared.op.CoreOp.{CoreOp}
@@ -64,6 +64,9 @@ nobody_left (Some node) = ap (λ ms. node_of ms node.parent node.kind) (filter_n
 waiting_body : (k : Option Kind) (m : ℕ) (ms : List ℕ) → awaits k m ≡ true → body_of k ms ≡ ms
 waiting_body (Some (Waiting first parts)) m ms is = refl
 waiting_body k m ms is = absurd (false≢true is)
+
+begin_or_end : Begin ≡ End → ⊥
+begin_or_end e = absurd (cc)
 
 no_parts : (k : Option Kind) (m : ℕ) → k ≡ Some Lockstep → awaits k m ≡ true → ⊥
 no_parts k m e is = absurd (false≢true (sym (ap (λ x. awaits x m) e) ∙ is))
@@ -223,7 +226,10 @@ module _ (core : List CoreOp) (image : Image) (places : Places) (nestings : Nest
   go_home : Both GoesHome the_members doings
   go_home =
       ⊎_elim (λ apart. absurd (let parts = subst (λ o. sets_apart o ≡ true) apart.1 apart.0.parts in false≢true parts))
-      (λ x. let y = x.0 in subst (Both GoesHome the_members) (sym y.due) (all_home y.i y.op has_acted.cycles_behind the_members y.ps has_acted.few y.come)) has_acted.how
+      (λ other.
+      ⊎_elim (λ x. let y = x.0 in subst (Both GoesHome the_members) (sym y.due) (all_home y.i y.op has_acted.cycles_behind the_members y.ps has_acted.few y.come))
+      (λ begun. absurd (begin_or_end begun.1)) other)
+      has_acted.how
 
   -- ---- all of it
 

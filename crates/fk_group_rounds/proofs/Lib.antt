@@ -35,6 +35,10 @@ pub mod Acted
 pub mod Apart
 -- at the end of the group of `start`
 pub mod Ends
+-- where the group of `start` begins
+pub mod Starts
+-- and before it
+pub mod Nearer
 -- each known round
 pub mod Sum
 -- one program in a group

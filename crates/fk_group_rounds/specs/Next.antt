@@ -43,7 +43,7 @@ pub record IsHome (tree : Tree) (spaces : ℕ → Space) (number : ℕ) (p : Own
 -- one by itself meets others at a word of its node
 pub record MayMeet (tree : Tree) (g number : ℕ) (operation : Operation) : Type 0 where
   pub meeting : is_meeting operation ≡ true
-  pub joint : joint_of operation ≡ joint_at_word (trees.kind tree g) (word_of operation)
+  pub joint : joint_of operation ≡ joint_at_word g (trees.kind tree g) (word_of operation)
   pub member : is_member number (meeters_at tree g (word_of operation)) ≡ true
 
 -- or does an operation alone, or ends
