@@ -43,8 +43,9 @@ use Rattle.fk_group_plans.proofs.Standing.{members_stand_at_stages, members_halt
 use Rattle.fk_group_plans.specs.Rounds.{ending_of}
 use Rattle.fk_group_rounds.specs.Next.{JumpsLead, landed, all_landed, IsHome, MayMeet, HasNext, AllAt, AllAbout, ActsAlike, StepsAlike, HaveNext}
 use Rattle.fk_group_rounds.specs.Comes.{most_between, AllBelow, IsNode, ComesTo, ComeTo, MembersComeToStages, GroupsComeToCommits}
-use Rattle.fk_group_rounds.proofs.Cycles.{finished_in, in_cycles_join, runs_join, runs_later}
-use Rattle.fk_group_rounds.proofs.Way.{IsWay, alone_joint, way}
+use Rattle.fk_simulation.proofs.Linked.{in_cycles_join, runs_join, runs_later, alone_joint}
+use Rattle.fk_group_rounds.proofs.Cycles.{finished_in}
+use Rattle.fk_group_rounds.proofs.Way.{IsWay, way}
 
 -- ---- words by which members meet
 
