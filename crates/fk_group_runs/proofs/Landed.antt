@@ -2,8 +2,8 @@
 use Rattle.std.proofs.Common.{◌≡◌, ℕ, List, [], ◌∷◌, length, Option, Some, None, Bool, true, sym, ap, ◌∙◌, refl, ◌⊎◌, inl, inr, ⊎_elim}
 use Rattle.std.specs.Prelude.{map, option_map, slice_get}
 use Rattle.fk_run.specs.Processor.{Setting}
-use Rattle.fk_run.specs.Round.{Step, Runner, State, Round, result}
-use Rattle.fk_run.proofs.Natural.{step_by, runner_by, state_by, results}
+use Rattle.fk_run.specs.Round.{Step, Runner, State, Round, result, is_allowed}
+use Rattle.fk_run.proofs.Natural.{step_by, runner_by, state_by, results, allowed_alike}
 use Rattle.fk_core.specs.declared.op.CoreOp.{CoreOp}
 use Rattle.fk_core.specs.Next.{Position, position, is_jump, landing, step_of, next}
 use Rattle.fk_block_law.proofs.Standing.{landing_here}
@@ -13,7 +13,7 @@ use Rattle.fk_group_rounds.proofs.Way.{way}
 use Rattle.fk_group_runs.specs.Beside.{landed_runner, landed_state, LandedRunsAreRuns}
 
 module _ (core : List CoreOp) (leads : JumpsLead core) where
-  landing_twice : (i : ℕ) → landing core (landing core i) ≡ landing core i
+  pub landing_twice : (i : ℕ) → landing core (landing core i) ≡ landing core i
   landing_twice i =
       ⊎_elim (λ here. ap (landing core) (sym here))
       (λ jumps.
@@ -52,6 +52,11 @@ module _ (core : List CoreOp) (leads : JumpsLead core) where
       → landed_state core (result (next core) set round (landed_state core s)) ≡ landed_state core (result (next core) set round s)
   results_land set round s =
       sym (results (next core) land_next set land natural round (state_by land s)) ∙ ap (result land_next set round) (state_twice s) ∙ results (next core) land_next set land natural round s
+
+  pub allowed_land : (set : Setting) (round : Round) (s : State Position) → is_allowed (next core) set round (landed_state core s) ≡ is_allowed (next core) set round s
+  allowed_land set round s =
+      sym (allowed_alike (next core) land_next set land natural round (state_by land s)) ∙ ap (is_allowed land_next set round) (state_twice s)
+      ∙ allowed_alike (next core) land_next set land natural round s
 
 pub landed_runs_are_runs : LandedRunsAreRuns
 landed_runs_are_runs core setting round s leads = results_land core leads setting round s

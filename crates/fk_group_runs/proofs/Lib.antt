@@ -2,3 +2,5 @@
 pub mod Landed
 -- rounds of a run, and what a cycle leaves
 pub mod Results
+-- from one cycle to the next
+pub mod Follow
