@@ -17,7 +17,7 @@ use Rattle.fk_nodes.proofs.Runs.{run_map}
 use Rattle.fk_meeting.specs.Phase.{Coming}
 use Rattle.fk_plans.specs.Plan.{Plan, AllAct, InLockstep}
 use Rattle.fk_plans.proofs.Changes.{together_map}
-use Rattle.fk_block_law.specs.Owner.{Commons, Owner, Doing, number_of, commons_of, found, part, core_source}
+use Rattle.fk_block_law.specs.Owner.{Commons, Owner, Doing, commons_of, found, part, core_source}
 use Rattle.fk_block_law.specs.Stands.{Places}
 use Rattle.fk_block_law.specs.Next.{StandsOp, step_at}
 use Rattle.fk_block_law.specs.Ready.{MayDo, is_alone}

@@ -1,14 +1,13 @@
 -- What a group agrees on is the last value of the highest of those who stand in its node.
-use Rattle.std.proofs.Common.{◌≡◌, ℕ, zero, suc, ◌+◌, ◌<◌, ◌≤◌, ◌==◌, List, [], ◌∷◌, length, Some, Bool, true, false, sym, ap, subst, ◌∙◌, refl, arith, ⊎_elim}
-use Rattle.std.specs.Prelude.{map, slice_get, ◌&&◌, ◌||◌, nat_lt}
-use Rattle.std.proofs.lemmas.Bool.{cases_eq, cases_lt, and_parts, or_cases, or_left, or_right, eq-eqb, eqb-true, false≢true, ltb-true}
+use Rattle.std.proofs.Common.{◌≡◌, ℕ, zero, suc, ◌+◌, ◌<◌, ◌≤◌, ◌==◌, List, [], ◌∷◌, length, Some, true, false, sym, ap, subst, ◌∙◌, refl, arith, ⊎_elim}
+use Rattle.std.specs.Prelude.{map, slice_get, nat_lt}
+use Rattle.std.proofs.lemmas.Bool.{and_parts, or_cases, or_left, or_right, eq-eqb, eqb-true, false≢true, ltb-true}
 use Rattle.fk_tree.specs.declared.node.Kind.TheVariants.{Lockstep}
 use Rattle.fk_tree.specs.Tree as trees
 use Rattle.fk_tree.specs.Tree.{Tree, is_member}
 use Rattle.fk_tree.specs.Sound.{Has, is_below_all, is_ascending, IsSound}
 use Rattle.fk_run.specs.Processor.{values, last}
-use Rattle.fk_run.specs.Round.{Acting, highest, who, agreed}
-use Rattle.fk_core.specs.Next.{Position}
+use Rattle.fk_run.specs.Round.{highest, who, agreed}
 use Rattle.fk_nodes.specs.Node.{of_node}
 use Rattle.fk_nodes.specs.OnePlace.{last_or}
 use Rattle.fk_block_law.specs.Owner.{Doing}

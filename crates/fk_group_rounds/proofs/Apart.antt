@@ -1,6 +1,6 @@
 -- After the round in which a group comes to a body, where each goes on by itself, all are bound again.
-use Rattle.std.proofs.Common.{◌≡◌, ◌≢◌, ℕ, zero, suc, ◌+◌, ◌-◌, ◌≤◌, ◌<◌, List, [], ◌∷◌, length, Option, Some, None, Bool, true, false, sym, ap, subst, ◌∙◌, refl, arith, ◌⊎◌, inl, inr, ⊎_elim, eq-eqb}
-use Rattle.std.specs.Prelude.{◌==◌, ◌||◌, ◌&&◌, map, is_some, slice_get, nat_lt, if◌then◌else◌}
+use Rattle.std.proofs.Common.{◌≡◌, ◌≢◌, ℕ, zero, suc, ◌+◌, ◌-◌, ◌≤◌, ◌<◌, List, [], ◌∷◌, length, Option, Some, None, Bool, true, false, sym, ap, subst, ◌∙◌, refl, arith, inr, ⊎_elim, eq-eqb}
+use Rattle.std.specs.Prelude.{◌==◌, ◌||◌, map, is_some, slice_get, if◌then◌else◌}
 use Rattle.std.proofs.lemmas.Bool.{ne_eqb, eqb-true, false≢true, and_parts, or_cases, or_left}
 use Rattle.std.proofs.lemmas.List.{length-map}
 use Rattle.fk_num.specs.Word.{Memory}
@@ -19,7 +19,7 @@ use Rattle.fk_core.specs.declared.op.CoreOp.{CoreOp}
 use Rattle.fk_core.specs.Next.{Position}
 use Rattle.fk_image.specs.declared.Image.{Image}
 use Rattle.fk_machine.specs.Hart.{Hart, Setting as MachineSetting}
-use Rattle.fk_nodes.specs.Node.{Member, numbered, add, of_node, AreAsMany, Has}
+use Rattle.fk_nodes.specs.Node.{Member, numbered, add, of_node, Has}
 use Rattle.fk_nodes.specs.Alone.{later, RunsPrivately}
 use Rattle.fk_plans.specs.Stage.{Stage}
 use Rattle.fk_plans.specs.Plan.{Plan, Blocks, IsOpen}
@@ -30,17 +30,16 @@ use Rattle.fk_block_law.specs.Owner.{Owner, Doing, number_of, core_source}
 use Rattle.fk_block_law.specs.Stands as law
 use Rattle.fk_block_law.specs.Stands.{Places}
 use Rattle.fk_block_law.specs.Block.{most_behind, IsRunning}
-use Rattle.fk_group_law.specs.Node.{Nestings, StandsInNode, IsAtRest}
+use Rattle.fk_group_law.specs.Node.{Nestings, StandsInNode}
 use Rattle.fk_group_law.specs.Lockstep.{is_due, stepped, highest_value, ComesAlone, AllComeAlone, AreOfSize, IsLowest, one_runs}
-use Rattle.fk_group_law.specs.Law.{Cycles, GroupLaw, sets_apart, runs_behind, IsAskedOf}
+use Rattle.fk_group_law.specs.Law.{Cycles, GroupLaw, runs_behind, IsAskedOf}
 use Rattle.fk_group_plans.specs.Nodes.{first_of, is_arrival, is_lockstep, meeters_at, plan_of}
-use Rattle.fk_group_plans.specs.Behind.{runs_of, HaveParted, AllHaveGone, IsGroupBehind, blocks_of}
+use Rattle.fk_group_plans.specs.Behind.{runs_of, HaveParted, blocks_of}
 use Rattle.fk_group_plans.proofs.Nodes.{tells}
 use Rattle.fk_group_plans.proofs.Rounds.{not_none, leaf_place}
-use Rattle.fk_group_rounds.specs.Next.{JumpsLead, all_landed, IsHome}
-use Rattle.fk_group_rounds.specs.After.{actings, tree_after, owner_after, owners_after, halts, is_halt, DoesStep, StepsAt, ArePlaces, AllGoOn, GroupsGoOn, BindsAgain}
+use Rattle.fk_group_rounds.specs.Next.{JumpsLead, all_landed}
+use Rattle.fk_group_rounds.specs.After.{actings, tree_after, owner_after, owners_after, halts, is_halt, DoesStep, StepsAt, AllGoOn, GroupsGoOn, BindsAgain}
 use Rattle.fk_group_rounds.specs.Rounds.{IsBefore, IsTree, AllStandIn, RoundsSetFree, RoundsSendOne}
-use Rattle.fk_group_rounds.proofs.Lists.{run_end}
 use Rattle.fk_group_rounds.proofs.Agreed.{member_place, place_member}
 use Rattle.fk_group_rounds.proofs.Keep.{AllOn, AllAtHome}
 use Rattle.fk_group_rounds.proofs.Harts.{AllAre, LockLeft, HartsGo, steps_apart}

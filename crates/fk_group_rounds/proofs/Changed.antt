@@ -1,27 +1,24 @@
 -- After a round in which the members of one node do a step all are bound again.
-use Rattle.std.proofs.Common.{◌≡◌, ◌≢◌, ℕ, zero, suc, ◌+◌, ◌≤◌, ◌<◌, List, [], ◌∷◌, length, Option, Some, None, Bool, true, false, sym, ap, subst, ◌∙◌, refl, arith, ◌⊎◌, inl, inr, ⊎_elim}
-use Rattle.std.specs.Prelude.{◌==◌, map, is_some}
+use Rattle.std.proofs.Common.{◌≡◌, ◌≢◌, ℕ, suc, ◌≤◌, ◌<◌, List, [], ◌∷◌, Bool, true, false, sym, ap, subst, ◌∙◌, refl, arith, ◌⊎◌, inl, inr, ⊎_elim}
+use Rattle.std.specs.Prelude.{◌==◌, is_some}
 use Rattle.std.proofs.lemmas.Bool.{cases_Bool, cases_eq, eqb-true, false≢true}
 use Rattle.fk_num.specs.Word.{Memory}
 use Rattle.fk_space.specs.Space.{Space}
-use Rattle.fk_tree.specs.declared.node.Kind.TheVariants.{Lockstep}
 use Rattle.fk_tree.specs.Tree as trees
 use Rattle.fk_tree.specs.Tree.{Tree, Node, kind_of}
 use Rattle.fk_tree.specs.Sound.{IsSound}
 use Rattle.fk_tree.proofs.Shapes.{has_some, some-given}
 use Rattle.fk_operation.specs.declared.operation.Operation.{Operation}
 use Rattle.fk_run.specs.Processor.{Setting}
-use Rattle.fk_run.specs.Round.{Acting}
 use Rattle.fk_core.specs.declared.op.CoreOp.{CoreOp}
-use Rattle.fk_core.specs.Next.{Position}
 use Rattle.fk_image.specs.declared.Image.{Image}
 use Rattle.fk_machine.specs.Hart.{Hart, Setting as MachineSetting}
-use Rattle.fk_nodes.specs.Node.{Member, numbered, add, of_node, AreAsMany, Has}
+use Rattle.fk_nodes.specs.Node.{Member, numbered, add, of_node, Has}
 use Rattle.fk_nodes.specs.Alone.{later}
 use Rattle.fk_plans.specs.Stage.{Stage}
 use Rattle.fk_plans.specs.Plan.{Plan, Blocks, IsOpen, AllAct, InLockstep}
-use Rattle.fk_plans.specs.Cycle.{AllHaveCommitted, AllAreLeft, IsLeft}
-use Rattle.fk_plans.specs.Change.{MeetingStays, MeetingOpens, GroupStays}
+use Rattle.fk_plans.specs.Cycle.{IsLeft}
+use Rattle.fk_plans.specs.Change.{MeetingStays, MeetingOpens}
 use Rattle.fk_plans.proofs.Changes.{left_alone}
 use Rattle.fk_block_law.specs.Owner.{Owner, Doing, core_source}
 use Rattle.fk_block_law.specs.Stands.{Places}
@@ -31,13 +28,13 @@ use Rattle.fk_group_law.specs.Law.{Cycles, GroupLaw}
 use Rattle.fk_group_plans.specs.Nodes.{first_of, HaveSpaces, is_lockstep, plan_of}
 use Rattle.fk_group_plans.specs.Behind.{blocks_of}
 use Rattle.fk_group_plans.proofs.Rounds.{not_none, lockstep_kind}
-use Rattle.fk_group_rounds.specs.Next.{JumpsLead, landed, all_landed, HaveNext}
+use Rattle.fk_group_rounds.specs.Next.{JumpsLead, all_landed}
 use Rattle.fk_group_rounds.specs.Comes.{most_between}
 use Rattle.fk_group_rounds.specs.After.{actings, owner_after, owners_after, Keeps, AllKeep, DoesStep, StepsAt, ArePlaces, AllGoOn, GroupsGoOn, BindsAgain}
 use Rattle.fk_group_rounds.specs.Rounds.{IsBefore}
 use Rattle.fk_simulation.proofs.Linked.{runs_later}
 use Rattle.fk_group_rounds.proofs.Same.{SameNode, same_node, own_there, opened_before, member_still, size_still}
-use Rattle.fk_group_rounds.proofs.Harts.{AllAre, LockLeft, HartGoes, HartsGo, EachGoes, hart_goes, harts_go}
+use Rattle.fk_group_rounds.proofs.Harts.{AllAre, LockLeft, HartsGo, EachGoes, hart_goes, harts_go}
 use Rattle.fk_group_rounds.proofs.Groups.{GroupAt, group_at, lock_left}
 use Rattle.fk_group_rounds.proofs.Trees.{many_become, many_landed, some_kind, some_there}
 use Rattle.fk_group_rounds.proofs.Moved.{TreeMoves, many_moved, many_nodes}

@@ -1,5 +1,5 @@
 -- After the round in which those of a group meet at the end of its body all are bound again.
-use Rattle.std.proofs.Common.{◌≡◌, ◌≢◌, ℕ, zero, suc, ◌+◌, ◌^◌, ◌≤◌, ◌<◌, List, [], ◌∷◌, length, Option, Some, None, Bool, true, false, sym, ap, subst, ◌∙◌, refl, arith, ◌⊎◌, inl, inr, ⊎_elim, eq-eqb}
+use Rattle.std.proofs.Common.{◌≡◌, ◌≢◌, ℕ, suc, ◌+◌, ◌^◌, ◌<◌, List, [], ◌∷◌, length, Option, Some, None, Bool, true, false, sym, ap, subst, ◌∙◌, refl, arith, ◌⊎◌, inl, inr, ⊎_elim}
 use Rattle.std.specs.Prelude.{◌==◌, map, is_some}
 use Rattle.std.proofs.lemmas.Bool.{eqb-true, false≢true}
 use Rattle.fk_num.specs.Word.{Memory}
@@ -25,7 +25,7 @@ use Rattle.fk_plans.specs.Plan.{Plan, Blocks, phase_at, phases_from, HasCommitte
 use Rattle.fk_plans.specs.Cycle.{AllHaveCommitted, AllAreLeft, IsLeft}
 use Rattle.fk_plans.proofs.Left.{meeting_is_kept}
 use Rattle.fk_plans.proofs.Changes.{left_alone}
-use Rattle.fk_block_law.specs.Owner.{Owner, Doing, idle, core_source}
+use Rattle.fk_block_law.specs.Owner.{Owner, Doing, core_source}
 use Rattle.fk_block_law.specs.Stands as law
 use Rattle.fk_block_law.specs.Stands.{Places}
 use Rattle.fk_block_law.specs.Block.{IsRunning, gone_to}
@@ -39,7 +39,7 @@ use Rattle.fk_group_plans.proofs.Rounds.{not_none}
 use Rattle.fk_group_rounds.specs.Next.{JumpsLead, landed, all_landed, IsHome, HaveNext}
 use Rattle.fk_group_rounds.specs.Comes.{IsNode}
 use Rattle.fk_group_rounds.specs.After.{actings, tree_after, owner_after, owners_after, is_halt, halts, DoesStep, StepsAt, ArePlaces, AllGoOn, GroupsGoOn, BindsAgain}
-use Rattle.fk_group_rounds.specs.Rounds.{IsBefore, IsTree, AllStandIn, RoundsClose}
+use Rattle.fk_group_rounds.specs.Rounds.{IsBefore, IsTree, RoundsClose}
 use Rattle.fk_group_rounds.proofs.Lists.{of_map}
 use Rattle.fk_group_rounds.proofs.Comes.{groups_come_to_commits}
 use Rattle.fk_group_rounds.proofs.Keep.{AllAtHome, settled_below, met_settles}

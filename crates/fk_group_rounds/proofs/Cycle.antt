@@ -1,5 +1,5 @@
 -- From one cycle of the machine to the next.
-use Rattle.std.proofs.Common.{◌≡◌, ℕ, ◌^◌, ◌<◌, List, length, ◌⊎◌, inl, inr, ⊎_elim}
+use Rattle.std.proofs.Common.{inl, inr, ⊎_elim}
 use Rattle.fk_machine.specs.Cycle.{turns}
 use Rattle.fk_nodes.specs.Node.{AreAsMany}
 use Rattle.fk_plans.proofs.Left.{first_alike, second_alike, both_alike, what_is_left}

@@ -1,5 +1,5 @@
 -- After the round in which the group of `start` ends all are bound again: its members are back in the root, each by itself.
-use Rattle.std.proofs.Common.{◌≡◌, ◌≢◌, ℕ, zero, suc, ◌+◌, ◌*◌, ◌^◌, ◌≤◌, ◌<◌, List, [], ◌∷◌, length, Option, Some, None, Bool, true, false, sym, ap, subst, ◌∙◌, refl, arith, ◌⊎◌, inl, inr, ⊎_elim, eq-eqb, filter}
+use Rattle.std.proofs.Common.{◌≡◌, ◌≢◌, ℕ, zero, suc, ◌+◌, ◌≤◌, ◌<◌, List, [], ◌∷◌, length, Option, Some, None, true, false, sym, ap, subst, ◌∙◌, refl, arith, inr, ⊎_elim, eq-eqb, filter}
 use Rattle.std.specs.Prelude.{◌==◌, ◌&&◌, map, is_some, if◌then◌else◌}
 use Rattle.std.proofs.lemmas.Bool.{cases_Bool, cases_eq, ne_eqb, eqb-true, false≢true}
 use Rattle.fk_num.specs.Word.{Memory}
@@ -8,7 +8,7 @@ use Rattle.fk_tree.specs.declared.node.Kind.{Kind}
 use Rattle.fk_tree.specs.declared.node.Kind.TheVariants.{Lockstep, Waiting}
 use Rattle.fk_tree.specs.Tree as trees
 use Rattle.fk_tree.specs.Tree.{Tree, Node, kind_of, node_of, left_by, is_member}
-use Rattle.fk_tree.specs.Sound.{awaits, IsSound}
+use Rattle.fk_tree.specs.Sound.{awaits}
 use Rattle.fk_tree.proofs.Begins.{length-root}
 use Rattle.fk_tree.proofs.Shapes.{with_same, with_other, has_some, some-given}
 use Rattle.fk_operation.specs.declared.operation.Operation.TheVariants.{Begin, End}
@@ -20,28 +20,27 @@ use Rattle.fk_image.specs.declared.Image.{Image}
 use Rattle.fk_machine.specs.Hart.{Hart, Setting as MachineSetting}
 use Rattle.fk_nodes.specs.Node.{Member, numbered, of_node, Has}
 use Rattle.fk_nodes.specs.Alone.{later, RunsPrivately}
-use Rattle.fk_plans.specs.Plan.{Plan, Blocks, IsOpen}
+use Rattle.fk_plans.specs.Plan.{Plan, Blocks}
 use Rattle.fk_plans.specs.Stage.{Stage}
-use Rattle.fk_plans.specs.Cycle.{NodeIsLeft, GroupIsLeft, IsLeft}
-use Rattle.fk_plans.specs.Change.{HasSame}
+use Rattle.fk_plans.specs.Cycle.{NodeIsLeft, IsLeft}
 use Rattle.fk_block_law.specs.Owner.{Owner, Doing, core_source}
 use Rattle.fk_block_law.specs.Stands as law
 use Rattle.fk_block_law.specs.Stands.{Places}
-use Rattle.fk_block_law.specs.Block.{most_behind, IsRunning}
+use Rattle.fk_block_law.specs.Block.{most_behind}
 use Rattle.fk_group_law.specs.Node.{Nestings, StandsInNode, first_word, root_words}
 use Rattle.fk_group_law.specs.Lockstep.{is_due, stepped, AllComeAlone}
 use Rattle.fk_group_law.specs.Law.{Cycles, GroupLaw, sets_apart}
 use Rattle.fk_group_plans.specs.Nodes.{first_of, is_lockstep, meeters_at, plan_of}
-use Rattle.fk_group_plans.specs.Behind.{runs_of, HaveEnded, blocks_of}
+use Rattle.fk_group_plans.specs.Behind.{runs_of, blocks_of}
 use Rattle.fk_group_plans.proofs.Nodes.{tells}
 use Rattle.fk_group_plans.proofs.Rounds.{not_none, leaf_place, lockstep_kind}
 use Rattle.fk_group_rounds.specs.Next.{JumpsLead, all_landed}
 use Rattle.fk_group_rounds.specs.After.{actings, tree_after, owner_after, owners_after, halts, is_halt, DoesStep, StepsAt, ArePlaces, AllGoOn, GroupsGoOn, BindsAgain}
-use Rattle.fk_group_rounds.specs.Rounds.{IsBefore, IsTree, AllStandIn, RoundsEnd}
+use Rattle.fk_group_rounds.specs.Rounds.{IsBefore, IsTree, RoundsEnd}
 use Rattle.fk_group_rounds.proofs.Same.{own_there}
 use Rattle.fk_group_rounds.proofs.Keep.{AllOn}
 use Rattle.fk_group_rounds.proofs.Harts.{AllAre, LockLeft, steps_apart}
-use Rattle.fk_group_rounds.proofs.Groups.{Stands, somebody, there_are, many_length}
+use Rattle.fk_group_rounds.proofs.Groups.{somebody, there_are, many_length}
 use Rattle.fk_group_rounds.proofs.Moved.{TreeMoves, has_same, only}
 use Rattle.fk_group_rounds.proofs.Changed.{Here, Steps, running, At, near, AnyGoes, bound_at}
 use Rattle.fk_group_rounds.proofs.Trees.{some_there}

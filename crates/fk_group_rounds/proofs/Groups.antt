@@ -1,7 +1,7 @@
 -- A group in lockstep whose node a round leaves as it was.
-use Rattle.std.proofs.Common.{◌≡◌, ◌≢◌, ℕ, zero, suc, ◌+◌, ◌≤◌, ◌<◌, List, [], ◌∷◌, length, Option, Some, None, Bool, true, false, sym, ap, subst, ◌∙◌, refl, arith, ◌⊎◌, inl, inr, ⊎_elim, eq-eqb}
+use Rattle.std.proofs.Common.{◌≡◌, ℕ, suc, ◌+◌, ◌≤◌, ◌<◌, List, [], ◌∷◌, length, Option, Some, None, Bool, true, false, sym, ap, subst, ◌∙◌, refl, arith, ◌⊎◌, inl, inr, ⊎_elim, eq-eqb}
 use Rattle.std.specs.Prelude.{◌==◌, ◌&&◌, map, is_some, slice_get}
-use Rattle.std.proofs.lemmas.Bool.{eqb-true, or_left, false≢true}
+use Rattle.std.proofs.lemmas.Bool.{eqb-true, or_left}
 use Rattle.fk_num.specs.Word.{Memory}
 use Rattle.fk_space.specs.Space.{Space}
 use Rattle.fk_tree.specs.declared.node.Kind.TheVariants.{Lockstep}
@@ -14,7 +14,7 @@ use Rattle.fk_core.specs.declared.op.CoreOp.{CoreOp}
 use Rattle.fk_image.specs.declared.Image.{Image}
 use Rattle.fk_machine.specs.Hart.{Hart, Setting as MachineSetting}
 use Rattle.fk_nodes.specs.Node.{Member, numbered, add, of_node, AreAsMany, Has}
-use Rattle.fk_nodes.specs.Alone.{later, in_cycles, NodeRun}
+use Rattle.fk_nodes.specs.Alone.{later, in_cycles}
 use Rattle.fk_nodes.specs.OnePlace.{last_or}
 use Rattle.fk_nodes.specs.Together.{Together}
 use Rattle.fk_plans.specs.Stage.{Stage, Acts}
@@ -36,7 +36,7 @@ use Rattle.fk_group_rounds.specs.After.{actings, owner_after, AllKeep, ArePlaces
 use Rattle.fk_group_rounds.proofs.Lists.{of_map, some_of}
 use Rattle.fk_group_rounds.proofs.Agreed.{some_elem, member_place, agreed_is}
 use Rattle.fk_group_rounds.proofs.Same.{SameNode}
-use Rattle.fk_group_rounds.proofs.Keep.{AllOn, AllAtHome, group_comes, nobody_halts}
+use Rattle.fk_group_rounds.proofs.Keep.{AllAtHome, group_comes, nobody_halts}
 use Rattle.fk_group_rounds.proofs.Harts.{LockLeft}
 
 pub same_all : (g : ℕ) (ns : List ℕ) → HasSame g ns ns

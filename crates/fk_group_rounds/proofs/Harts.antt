@@ -1,13 +1,10 @@
 -- All harts behind a round.
-use Rattle.std.proofs.Common.{◌≡◌, ℕ, zero, suc, ◌+◌, ◌≤◌, ◌<◌, List, [], ◌∷◌, length, Option, Some, None, Bool, true, false, sym, ap, subst, ◌∙◌, refl, arith, ◌⊎◌, inl, inr, ⊎_elim, eq-eqb}
-use Rattle.std.specs.Prelude.{◌==◌, map, is_some, slice_get}
+use Rattle.std.proofs.Common.{◌≡◌, ℕ, suc, ◌+◌, ◌≤◌, ◌<◌, List, [], ◌∷◌, length, Option, Some, None, Bool, true, false, sym, ap, subst, ◌∙◌, refl, arith, ◌⊎◌, inl, inr, ⊎_elim, eq-eqb}
+use Rattle.std.specs.Prelude.{◌==◌, map}
 use Rattle.std.proofs.lemmas.Bool.{cases_Bool, eqb-true, false≢true}
-use Rattle.fk_num.specs.Word.{Memory}
 use Rattle.fk_space.specs.Space.{Space}
-use Rattle.fk_tree.specs.declared.node.Kind.TheVariants.{Lockstep}
 use Rattle.fk_tree.specs.Tree as trees
 use Rattle.fk_tree.specs.Tree.{Tree, kind_of, members_of}
-use Rattle.fk_tree.specs.Sound as sounds
 use Rattle.fk_tree.specs.Sound.{IsSound}
 use Rattle.fk_run.specs.Processor.{Setting}
 use Rattle.fk_run.specs.Round.{Runner, Acting}
@@ -15,14 +12,13 @@ use Rattle.fk_core.specs.declared.op.CoreOp.{CoreOp}
 use Rattle.fk_core.specs.Next.{Position, landing}
 use Rattle.fk_image.specs.declared.Image.{Image}
 use Rattle.fk_machine.specs.Hart.{Hart, Setting as MachineSetting}
-use Rattle.fk_nodes.specs.Node.{Member, numbered, add, of_node, AreAsMany, Has}
-use Rattle.fk_nodes.specs.Alone.{later, in_cycles, RunsPrivately}
-use Rattle.fk_nodes.specs.Together.{Together}
+use Rattle.fk_nodes.specs.Node.{Member, numbered, add, of_node, AreAsMany}
+use Rattle.fk_nodes.specs.Alone.{RunsPrivately}
 use Rattle.fk_plans.specs.Stage.{Stage, Ended, Acts, Meets, Pairwise, SameKind, Remains}
 use Rattle.fk_plans.specs.Plan.{Plan, Blocks, IsInside, StandsAt, AllAct}
-use Rattle.fk_plans.specs.Cycle.{AllHaveCommitted, AllKeep as AllStay, Went, AllAreLeft, NodeIsLeft}
-use Rattle.fk_plans.specs.Change.{HasSame, StaysMember, StaysOpen, Changes, AllChange, GroupStays}
-use Rattle.fk_plans.proofs.Changes.{left_first, left_rest, together_on}
+use Rattle.fk_plans.specs.Cycle.{AllHaveCommitted, AllKeep as AllStay, Went, AllAreLeft}
+use Rattle.fk_plans.specs.Change.{StaysMember, StaysOpen, Changes, AllChange}
+use Rattle.fk_plans.proofs.Changes.{left_first, left_rest}
 use Rattle.fk_block_law.specs.Owner.{Owner, Doing, idle, core_source}
 use Rattle.fk_block_law.specs.Stands as law
 use Rattle.fk_block_law.specs.Stands.{Places}
@@ -36,7 +32,7 @@ use Rattle.fk_group_plans.specs.Behind.{runs_of, StandsByEnding, IsBehind, block
 use Rattle.fk_group_plans.specs.Rounds.{joint_at_word, ending_of, IsDueAt, AllDue}
 use Rattle.fk_group_rounds.specs.Next.{JumpsLead, landed, all_landed, IsHome, HasNext}
 use Rattle.fk_group_rounds.specs.Comes.{most_between, IsSoon}
-use Rattle.fk_group_rounds.specs.After.{runners_of, owner_after, Keeps, AllKeep, halts, ArePlaces, AllLanded, AllGoOn, AllSoon}
+use Rattle.fk_group_rounds.specs.After.{runners_of, owner_after, halts, ArePlaces, AllLanded, AllGoOn, AllSoon}
 use Rattle.fk_group_rounds.proofs.Same.{SameNode, runs_same, opens_still, member_still, size_still}
 use Rattle.fk_group_rounds.proofs.Comes.{comes}
 use Rattle.fk_group_rounds.proofs.Keep.{AllOn, node_is_there, member_comes}

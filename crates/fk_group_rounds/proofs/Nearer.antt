@@ -1,6 +1,6 @@
 -- Those who have met at the beginning of `start` come nearer to their commit.
-use Rattle.std.proofs.Common.{◌≡◌, ◌≢◌, ℕ, zero, suc, ◌+◌, ◌^◌, ◌≤◌, ◌<◌, List, [], ◌∷◌, length, Option, Some, None, Bool, true, false, sym, ap, subst, ◌∙◌, refl, arith, ◌⊎◌, inl, inr, ⊎_elim, eq-eqb}
-use Rattle.std.specs.Prelude.{◌==◌, ◌||◌, map}
+use Rattle.std.proofs.Common.{◌≡◌, ℕ, suc, ◌+◌, ◌^◌, ◌≤◌, ◌<◌, List, [], ◌∷◌, length, Option, true, sym, ap, subst, ◌∙◌, refl, arith, ◌⊎◌, inl, inr, ⊎_elim, eq-eqb}
+use Rattle.std.specs.Prelude.{◌||◌, map}
 use Rattle.std.proofs.lemmas.Bool.{cases_eq, ne_eqb, false≢true}
 use Rattle.fk_num.specs.Word.{Memory}
 use Rattle.fk_space.specs.Space.{Space}
@@ -9,18 +9,18 @@ use Rattle.fk_tree.specs.Tree.{Tree}
 use Rattle.fk_run.specs.Processor.{Setting}
 use Rattle.fk_core.specs.declared.op.CoreOp.{CoreOp}
 use Rattle.fk_image.specs.declared.Image.{Image}
-use Rattle.fk_machine.specs.Hart.{Hart, Shared, Setting as MachineSetting}
+use Rattle.fk_machine.specs.Hart.{Hart, Setting as MachineSetting}
 use Rattle.fk_machine.specs.Cycle.{turns}
 use Rattle.fk_nodes.specs.Node.{Member, numbered, of_node, AreAsMany, Has}
 use Rattle.fk_nodes.specs.Alone.{later}
 use Rattle.fk_plans.specs.Stage.{Stage, Acts, AllNear}
-use Rattle.fk_plans.specs.Plan.{Plan, Blocks, IsOpen, IsBound}
+use Rattle.fk_plans.specs.Plan.{Plan, Blocks, IsBound}
 use Rattle.fk_plans.specs.Cycle.{AllHaveCommitted, AllKeep, IsLeft}
-use Rattle.fk_plans.specs.Change.{Changes, AllChange, GroupStays, TreeChanges}
+use Rattle.fk_plans.specs.Change.{Changes, AllChange, TreeChanges}
 use Rattle.fk_plans.proofs.Changes.{plan_goes_on}
 use Rattle.fk_plans.proofs.Cycles.{cycle_is_planned}
 use Rattle.fk_plans.proofs.Left.{first_alike, second_alike, both_alike, what_is_left}
-use Rattle.fk_block_law.specs.Owner.{Commons, Owner, Doing, idle, core_source}
+use Rattle.fk_block_law.specs.Owner.{Owner, Doing, idle, core_source}
 use Rattle.fk_block_law.specs.Stands.{Places}
 use Rattle.fk_group_law.specs.Node.{Nestings}
 use Rattle.fk_group_plans.specs.Nodes.{first_of, is_lockstep, plan_of, united}
@@ -29,9 +29,9 @@ use Rattle.fk_group_plans.proofs.Nodes.{own_apart}
 use Rattle.fk_group_plans.proofs.Rounds.{lockstep_kind}
 use Rattle.fk_group_plans.proofs.Meeters.{is_idle, meeters_turn}
 use Rattle.fk_group_rounds.specs.After.{ArePlaces}
-use Rattle.fk_group_rounds.specs.Start.{IsBeforeStart, ComeNearer, CyclesComeToStart}
+use Rattle.fk_group_rounds.specs.Start.{IsBeforeStart, CyclesComeToStart}
 use Rattle.fk_group_rounds.proofs.Groups.{same_all, many_length}
-use Rattle.fk_group_rounds.proofs.Starts.{of_all, many_numbered, no_groups}
+use Rattle.fk_group_rounds.proofs.Starts.{of_all, no_groups}
 
 -- all keep one stage
 abbrev all_at : Stage → List (Option Stage) → List Stage

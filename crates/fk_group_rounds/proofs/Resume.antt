@@ -1,6 +1,6 @@
 -- After the round in which all processors come back from the group of `start` all are bound again.
-use Rattle.std.proofs.Common.{◌≡◌, ◌≢◌, ℕ, zero, suc, ◌+◌, ◌≤◌, ◌<◌, List, [], ◌∷◌, length, Option, Some, None, Bool, true, false, sym, ap, subst, ◌∙◌, refl, arith, ◌⊎◌, inl, inr, ⊎_elim, eq-eqb}
-use Rattle.std.specs.Prelude.{◌==◌, map, is_some}
+use Rattle.std.proofs.Common.{◌≡◌, ◌≢◌, ℕ, zero, suc, List, [], ◌∷◌, length, Option, Some, None, true, false, sym, ap, subst, ◌∙◌, refl, arith, inl, eq-eqb}
+use Rattle.std.specs.Prelude.{◌==◌, is_some}
 use Rattle.std.proofs.lemmas.Bool.{or_left, eqb-true, false≢true}
 use Rattle.fk_num.specs.Word.{Memory}
 use Rattle.fk_space.specs.Space.{Space}
@@ -21,13 +21,13 @@ use Rattle.fk_machine.specs.Hart.{Hart, Setting as MachineSetting}
 use Rattle.fk_nodes.specs.Node.{of_node, Has}
 use Rattle.fk_nodes.specs.Alone.{later}
 use Rattle.fk_plans.specs.Stage.{Stage}
-use Rattle.fk_plans.specs.Plan.{Plan, Blocks}
+use Rattle.fk_plans.specs.Plan.{Plan}
 use Rattle.fk_plans.specs.Cycle.{IsLeft}
 use Rattle.fk_block_law.specs.Owner.{Owner, Doing, idle, core_source}
 use Rattle.fk_block_law.specs.Stands.{Places}
 use Rattle.fk_group_law.specs.Node.{Nestings}
 use Rattle.fk_group_law.specs.Law.{Cycles, GroupLaw}
-use Rattle.fk_group_plans.specs.Nodes.{first_of, HaveSpaces, is_lockstep, meeters_at, plan_of}
+use Rattle.fk_group_plans.specs.Nodes.{first_of, is_lockstep, meeters_at, plan_of}
 use Rattle.fk_group_plans.specs.Behind.{runs_of, blocks_of}
 use Rattle.fk_group_plans.proofs.Rounds.{not_none}
 use Rattle.fk_group_rounds.specs.Next.{JumpsLead, all_landed}

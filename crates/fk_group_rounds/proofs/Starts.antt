@@ -1,11 +1,10 @@
 -- After the round in which the group of `start` begins all are bound again.
-use Rattle.std.proofs.Common.{◌≡◌, ◌≢◌, ℕ, zero, suc, ◌+◌, ◌-◌, ◌*◌, ◌^◌, ◌≤◌, ◌<◌, List, [], ◌∷◌, length, Option, Some, None, Bool, true, false, sym, ap, subst, ◌∙◌, refl, arith, ◌⊎◌, inl, inr, ⊎_elim, eq-eqb, filter}
-use Rattle.std.specs.Prelude.{◌==◌, ◌&&◌, ◌||◌, map, min, is_some, nat_lt, if◌then◌else◌}
+use Rattle.std.proofs.Common.{◌≡◌, ◌≢◌, ℕ, zero, suc, ◌+◌, ◌-◌, ◌^◌, ◌≤◌, ◌<◌, List, [], ◌∷◌, length, Option, Some, None, Bool, true, false, sym, ap, subst, ◌∙◌, refl, arith, ◌⊎◌, inl, inr, ⊎_elim, eq-eqb, filter}
+use Rattle.std.specs.Prelude.{◌==◌, ◌||◌, map, min, is_some, nat_lt, if◌then◌else◌}
 use Rattle.std.proofs.Math.Nat.{min-le_right}
 use Rattle.std.proofs.lemmas.Bool.{cases_Bool, cases_eq, cases_lt, cond-true, cond-false, ne_eqb, eqb-true, and_parts, lt-ltb, le-ltb, false≢true}
 use Rattle.fk_num.specs.Word.{Memory}
 use Rattle.fk_space.specs.Space.{Space}
-use Rattle.fk_tree.specs.declared.node.Kind.{Kind}
 use Rattle.fk_tree.specs.declared.node.Kind.TheVariants.{Lockstep, Waiting, Asynchronous}
 use Rattle.fk_tree.specs.Tree as trees
 use Rattle.fk_tree.specs.Tree.{Tree, Node, kind_of, members_of, node_of, below, with_kind, with_node, turned, is_member, is_in, is_from, place_in, first_part}
@@ -15,33 +14,32 @@ use Rattle.fk_tree.proofs.Begins.{length-root, root_some}
 use Rattle.fk_tree.proofs.Shapes.{with_same, with_other, members-node_of, kind-node_of, members-turned, kind-turned, has_some, some-given, from_parts, from_within, from_below, from_above}
 use Rattle.fk_operation.specs.declared.operation.Operation.{Operation}
 use Rattle.fk_operation.specs.declared.operation.Operation.TheVariants.{Begin, End}
-use Rattle.fk_run.specs.Processor.{Processor, Setting, values, last, drop_last, enter_level}
-use Rattle.fk_run.specs.Group.{not_negative, is_taken, start_level, does, goes_onward}
+use Rattle.fk_run.specs.Processor.{Processor, Setting, values, last}
+use Rattle.fk_run.specs.Group.{not_negative, is_taken, does, goes_onward}
 use Rattle.fk_run.specs.Round.{Step, lowest, agreed, body_of}
 use Rattle.fk_core.specs.declared.op.CoreOp.{CoreOp}
 use Rattle.fk_core.specs.Next.{Position, follows}
 use Rattle.fk_image.specs.declared.Image.{Image}
 use Rattle.fk_machine.specs.Hart.{Hart, Setting as MachineSetting}
 use Rattle.fk_nodes.specs.Node.{Member, numbered, add, of_node, AreAsMany, Has}
-use Rattle.fk_nodes.specs.Alone.{later, in_cycles, RunsPrivately, AllRunPrivately, with_harts, NodeRun}
+use Rattle.fk_nodes.specs.Alone.{later, in_cycles, RunsPrivately, AllRunPrivately, with_harts}
 use Rattle.fk_nodes.specs.Together.{Together}
 use Rattle.fk_nodes.specs.OnePlace.{last_or}
 use Rattle.fk_nodes.proofs.Runs.{private_run}
 use Rattle.fk_plans.specs.Stage.{Stage, Acts}
 use Rattle.fk_plans.specs.Plan.{Plan, Blocks, IsOpen, StandsAt, AllAct, InLockstep, IsBound}
-use Rattle.fk_plans.specs.Cycle.{AllHaveCommitted, NodeIsLeft, GroupIsLeft, IsLeft}
+use Rattle.fk_plans.specs.Cycle.{AllHaveCommitted, IsLeft}
 use Rattle.fk_plans.specs.Change.{IsFresh, AllChange, MeetingStays, MeetingOpens, TreeChanges}
 use Rattle.fk_plans.proofs.Changes.{plan_goes_on}
-use Rattle.fk_lockstep.specs.Untouched.{changes_tree}
 use Rattle.fk_together.proofs.Changes.{first_same}
 use Rattle.fk_block_law.specs.Owner.{Owner, Doing, number_of, core_source}
 use Rattle.fk_block_law.specs.Stands as law
 use Rattle.fk_block_law.specs.Stands.{Places}
 use Rattle.fk_block_law.specs.Next.{step_at}
-use Rattle.fk_block_law.specs.Block.{most_behind, IsRunning}
+use Rattle.fk_block_law.specs.Block.{IsRunning}
 use Rattle.fk_block_law.proofs.Standing.{next_here}
-use Rattle.fk_group_law.specs.Node.{Nestings, StandsInNode, IsAtRest, first_word, root_words}
-use Rattle.fk_group_law.specs.Lockstep.{is_due, stepped, highest_value, IsMember, AreMembers}
+use Rattle.fk_group_law.specs.Node.{Nestings, StandsInNode, IsAtRest}
+use Rattle.fk_group_law.specs.Lockstep.{is_due, stepped, highest_value, AreMembers}
 use Rattle.fk_group_law.specs.Start.{size_of_start, runs_behind_start, ComesToPart, AllComeToParts}
 use Rattle.fk_group_law.specs.Law.{Cycles, GroupLaw, sets_apart}
 use Rattle.fk_group_plans.specs.Nodes.{first_of, is_arrival, is_lockstep, meeters_at, plan_of, united}
@@ -58,9 +56,9 @@ use Rattle.fk_simulation.proofs.Linked.{runs_later}
 use Rattle.fk_group_rounds.proofs.Lists.{of_map, map_map}
 use Rattle.fk_group_rounds.proofs.Agreed.{agreed_at}
 use Rattle.fk_group_rounds.proofs.Comes.{comes, groups_come_to_commits}
-use Rattle.fk_group_rounds.proofs.Same.{SameNode, same_node, own_there, opened_before, member_still, size_still}
+use Rattle.fk_group_rounds.proofs.Same.{same_node, own_there, opened_before, member_still, size_still}
 use Rattle.fk_group_rounds.proofs.Groups.{many_length}
-use Rattle.fk_group_rounds.proofs.Moved.{many_moved, many_nodes}
+use Rattle.fk_group_rounds.proofs.Moved.{many_moved}
 use Rattle.fk_group_rounds.proofs.Trees.{many_become, many_landed, some_there}
 use Rattle.fk_group_rounds.proofs.Resume.{kind_there, step_is_brought}
 use Rattle.fk_group_rounds.proofs.Close.{AllDo, all_do}

@@ -1,5 +1,5 @@
 -- After each known round all are bound again.
-use Rattle.std.proofs.Common.{◌≡◌, ◌≢◌, ℕ, zero, suc, ◌+◌, ◌^◌, ◌<◌, List, [], ◌∷◌, length, Option, Some, None, Bool, true, false, sym, ap, subst, ◌∙◌, refl, ◌⊎◌, inl, inr, ⊎_elim}
+use Rattle.std.proofs.Common.{◌≡◌, ℕ, suc, List, [], ◌∷◌, length, Option, Some, None, Bool, true, false, sym, ap, subst, ◌∙◌, refl, ⊎_elim}
 use Rattle.std.specs.Prelude.{◌==◌, if◌then◌else◌}
 use Rattle.std.proofs.lemmas.Bool.{cases_eq}
 use Rattle.fk_tree.specs.Tree as trees
@@ -10,7 +10,6 @@ use Rattle.fk_run.specs.Processor.{Processor}
 use Rattle.fk_run.specs.Group.{changes}
 use Rattle.fk_run.specs.Round.{Step, Acting, lowest, who, agreed, change_by, all_changes}
 use Rattle.fk_core.specs.Next.{Position}
-use Rattle.fk_plans.specs.Plan.{Plan}
 use Rattle.fk_plans.proofs.Changes.{plan_goes_on}
 use Rattle.fk_lockstep.specs.Untouched.{changes_tree}
 use Rattle.fk_block_law.specs.Owner.{Doing, core_source}
@@ -28,7 +27,7 @@ use Rattle.fk_group_rounds.proofs.Ends.{rounds_end}
 
 -- ---- steps by which nobody moves to another node
 
-abbrev stays_put : Operation → Bool
+abbrev pub stays_put : Operation → Bool
 stays_put o.Begin = false
 stays_put (o.Divide by) = false
 stays_put o.Shrink = false
@@ -53,15 +52,15 @@ keeps_put o.Shrink e = absurd (cc)
 keeps_put o.End e = absurd (cc)
 keeps_put operation e = refl
 
-abbrev Stays : Option (Step Position) → Type 0
+abbrev pub Stays : Option (Step Position) → Type 0
 Stays None = Unit {0}
 Stays (Some step) = stays_put step.operation ≡ true
 
-abbrev AllStay : List Doing → Type 0
+abbrev pub AllStay : List Doing → Type 0
 AllStay [] = Unit {0}
 AllStay (d ∷ ds) = Stays d.acting.due × AllStay ds
 
-keeps_stay : (due : Option (Step Position)) → Keeps due → Stays due
+pub keeps_stay : (due : Option (Step Position)) → Keeps due → Stays due
 keeps_stay None keeps = tt
 keeps_stay (Some step) keeps = keeps_put step.operation keeps
 
@@ -69,11 +68,11 @@ does_stay : (operation : Operation) (due : Option (Step Position)) → stays_put
 does_stay operation None put does = tt
 does_stay operation (Some step) put does = ap stays_put does ∙ put
 
-all_keep_stay : (ds : List Doing) → AllKeep ds → AllStay ds
+pub all_keep_stay : (ds : List Doing) → AllKeep ds → AllStay ds
 all_keep_stay [] keep = tt
 all_keep_stay (d ∷ ds) keep = (keeps_stay d.acting.due keep.0, all_keep_stay ds keep.1)
 
-steps_stay : (old : Tree) (g number : ℕ) (operation : Operation) (ds : List Doing) → stays_put operation ≡ true → StepsAt old g number operation ds → AllStay ds
+pub steps_stay : (old : Tree) (g number : ℕ) (operation : Operation) (ds : List Doing) → stays_put operation ≡ true → StepsAt old g number operation ds → AllStay ds
 steps_stay old g number operation [] put steps = tt
 steps_stay old g number operation (d ∷ ds) put steps = (
   ⊎_elim (λ e. does_stay operation d.acting.due put (steps.1 e)) (λ ne. keeps_stay d.acting.due (steps.2 ne)) (cases_eq (old.places number) g),
@@ -92,7 +91,7 @@ change_places actors old h (Some step) tree stay =
     either_places true x y e = e
     either_places false x y e = refl
 
-all_places : (actors : List (Acting Position)) (old : Tree) (ds : List Doing) (tree : Tree) → AllStay ds → (all_changes actors old (actings ds) tree).places ≡ tree.places
+pub all_places : (actors : List (Acting Position)) (old : Tree) (ds : List Doing) (tree : Tree) → AllStay ds → (all_changes actors old (actings ds) tree).places ≡ tree.places
 all_places actors old [] tree stay = refl
 all_places actors old (d ∷ ds) tree stay =
     all_places actors old ds (change_by actors old d.acting.runner.has.number d.acting.due tree) stay.1 ∙ change_places actors old d.acting.runner.has.number d.acting.due tree stay.0

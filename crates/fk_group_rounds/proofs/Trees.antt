@@ -1,5 +1,5 @@
 -- After a round in which no step changes the tree all are bound again.
-use Rattle.std.proofs.Common.{◌≡◌, ◌≢◌, ℕ, zero, suc, ◌+◌, ◌≤◌, List, [], ◌∷◌, length, Option, Some, None, Bool, true, false, sym, ap, subst, ◌∙◌, refl, arith, ◌⊎◌, inl, inr, ⊎_elim}
+use Rattle.std.proofs.Common.{◌≡◌, ◌≢◌, ℕ, suc, ◌≤◌, List, [], ◌∷◌, Option, Some, None, Bool, true, false, sym, ap, subst, ◌∙◌, refl, arith, ◌⊎◌, inl, inr, ⊎_elim}
 use Rattle.std.specs.Prelude.{◌==◌, map, is_some, if◌then◌else◌}
 use Rattle.std.proofs.lemmas.Bool.{cases_Bool, false≢true}
 use Rattle.fk_num.specs.Word.{Memory}
@@ -21,7 +21,7 @@ use Rattle.fk_nodes.specs.Node.{Member, numbered, add, of_node, AreAsMany, Has}
 use Rattle.fk_nodes.specs.Alone.{later}
 use Rattle.fk_plans.specs.Stage.{Stage}
 use Rattle.fk_plans.specs.Plan.{Plan, Blocks, AllAct, InLockstep}
-use Rattle.fk_plans.specs.Cycle.{AllHaveCommitted, AllAreLeft, IsLeft}
+use Rattle.fk_plans.specs.Cycle.{IsLeft}
 use Rattle.fk_plans.proofs.Changes.{left_alone}
 use Rattle.fk_lockstep.specs.Untouched.{changes_tree}
 use Rattle.fk_block_law.specs.Owner.{Owner, Doing, core_source}
@@ -29,16 +29,16 @@ use Rattle.fk_block_law.specs.Stands.{Places}
 use Rattle.fk_block_law.specs.Block.{IsRunning}
 use Rattle.fk_group_law.specs.Node.{Nestings}
 use Rattle.fk_group_law.specs.Law.{Cycles, GroupLaw}
-use Rattle.fk_group_plans.specs.Nodes.{first_of, is_lockstep, plan_of}
+use Rattle.fk_group_plans.specs.Nodes.{first_of, plan_of}
 use Rattle.fk_group_plans.specs.Behind.{blocks_of}
 use Rattle.fk_group_plans.proofs.Rounds.{not_none, lockstep_kind}
-use Rattle.fk_group_rounds.specs.Next.{JumpsLead, landed, all_landed}
+use Rattle.fk_group_rounds.specs.Next.{JumpsLead, all_landed}
 use Rattle.fk_group_rounds.specs.Comes.{most_between}
-use Rattle.fk_group_rounds.specs.After.{actings, tree_after, owner_after, owners_after, Keeps, AllKeep, AllGoOn, GroupsGoOn, BindsAgain}
+use Rattle.fk_group_rounds.specs.After.{actings, owner_after, owners_after, Keeps, AllKeep, AllGoOn, GroupsGoOn, BindsAgain}
 use Rattle.fk_group_rounds.specs.Rounds.{IsBefore, RoundsKeepTrees}
 use Rattle.fk_simulation.proofs.Linked.{runs_later}
 use Rattle.fk_group_rounds.proofs.Same.{SameNode, same_node}
-use Rattle.fk_group_rounds.proofs.Harts.{AllAre, LockLeft, HartsGo, EachGoes, hart_goes, harts_go}
+use Rattle.fk_group_rounds.proofs.Harts.{AllAre, HartsGo, EachGoes, hart_goes, harts_go}
 use Rattle.fk_group_rounds.proofs.Groups.{same_all, GroupAt, group_at, lock_left}
 use Rattle.fk_group_rounds.proofs.Moved.{many_nodes}
 
