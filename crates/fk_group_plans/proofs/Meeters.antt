@@ -15,6 +15,7 @@ use Rattle.fk_nodes.specs.Source.{Passes}
 use Rattle.fk_nodes.specs.Alone.{later}
 use Rattle.fk_nodes.proofs.Runs.{private_stays}
 use Rattle.fk_meeting.specs.Phase.{Phase, Outside, Away, Coming, Waiting, Leaving, polled}
+use Rattle.fk_plans.specs.Stage.{Commits, Unites}
 use Rattle.fk_plans.specs.Plan.{Plan, IsInside, IsOpen, IsIdle, Turn}
 use Rattle.fk_plans.proofs.Cycles.{cycle_is_planned}
 use Rattle.fk_block_law.specs.Owner.{Commons, Owner, number_of, idle, as_part, phases, part, core_source}
@@ -45,7 +46,7 @@ module _ (core : List CoreOp) (image : Image) (places : Places) (nestings : Nest
   Standing g w t f m p = StandsInMeeting core image places nestings setting (runs_of plan (first g) m.number) w (plan.size w) t f m p
 
   abbrev HasTurn : MachineSetting → (g w : ℕ) → Phase → Member → Owner → Memory → Type 0
-  HasTurn t g w f m p own = Turn (core_source core setting) image plan (blocks_of core image places nestings setting plan first) t g w f m p own
+  HasTurn t g w f m p own = Turn (core_source core setting) image plan (blocks_of core image places nestings setting plan first) t g Commits w f m p own
 
   takes : (g w : ℕ) (t : MachineSetting) (f : Phase) (m : Member) (p : Owner) (s : Commons) → (x : Standing g w t f m p) → part core setting 1 s p ≡ Passes s (is_due core x.i x.op x.operation p)
   takes g w t f m p s x =
@@ -224,7 +225,8 @@ module _ (core : List CoreOp) (image : Image) (places : Places) (nestings : Nest
     turns (Leaving (suc (suc d))) inside x = absurd (x.meets.stands)
 
 pub meeters_turn : MeetersTurn
-meeters_turn core image places nestings setting plan first t g w f m p own inside is_open x =
+meeters_turn core image places nestings setting plan first t g Unites w f m p own inside is_open x = absurd x
+meeters_turn core image places nestings setting plan first t g Commits w f m p own inside is_open x =
     turns core image places nestings setting plan first t g w m p own is_open f inside x
 
 pub cycles_are_rounds : CyclesAreRounds

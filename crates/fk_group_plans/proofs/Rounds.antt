@@ -21,14 +21,14 @@ use Rattle.fk_image.specs.declared.Image.{Image}
 use Rattle.fk_machine.specs.Hart.{Hart, Setting as MachineSetting}
 use Rattle.fk_nodes.specs.Node.{Member, numbered, of_node, add}
 use Rattle.fk_meeting.specs.Phase.{Phase, Outside, Away, Coming, Waiting as Polls, Leaving, Each, Stays, Leaves}
-use Rattle.fk_plans.specs.Stage.{Stage, Ended, Acts, Meets, count_of_stage, counts_for, kept, absent, phase_of}
+use Rattle.fk_plans.specs.Stage.{Ending, Commits, Unites, Stage, Ended, Acts, Meets, count_of_stage, counts_for, kept, absent, phase_of}
 use Rattle.fk_plans.specs.Plan.{Plan, IsOpen, phase_at, phases_from, phases, Binds, InLockstep, AllAct, IsInside, IsBound}
 use Rattle.fk_block_law.specs.Owner.{Owner, core_source}
 use Rattle.fk_block_law.specs.Stands.{Places}
 use Rattle.fk_group_law.specs.Node.{Nestings}
 use Rattle.fk_group_plans.specs.Nodes.{first_of, HaveSpaces, meeters_at, is_arrival, is_lockstep, nodes_of, plan_of}
 use Rattle.fk_group_plans.specs.Behind.{blocks_of}
-use Rattle.fk_group_plans.specs.Rounds.{closing_joint, joint_at_word, IsDue, MeetsAtWord, IsDueAt, AllDue, owners_of, RoundsAreAllowed}
+use Rattle.fk_group_plans.specs.Rounds.{closing_joint, joint_at_word, ending_of, IsDue, MeetsAtWord, IsDueAt, AllDue, owners_of, RoundsAreAllowed}
 use Rattle.fk_group_plans.proofs.Nodes.{tells}
 
 -- ---- lists by hart
@@ -94,8 +94,8 @@ leaves_at : (w : ℕ) (here : Bool) (f : Phase) → Leaves 0 (phase_at here true
 leaves_at w true f leaves = (refl, leaves)
 leaves_at w false f leaves = absurd (assumption leaves)
 
-leaving_is : (v w : ℕ) (f : Phase) → IsInside f → Leaves 0 (cond (v == w) f Away) → Meets v f ≡ Meets w (Leaving 0)
-leaving_is v w f inside leaves =
+leaving_is : (e : Ending) (v w : ℕ) (f : Phase) → IsInside f → Leaves 0 (cond (v == w) f Away) → Meets e v f ≡ Meets e w (Leaving 0)
+leaving_is ending v w f inside leaves =
     ⊎_elim (λ e. this (subst (λ b. Leaves 0 (cond b f Away)) (eq-eqb v w e) leaves) e) (λ ne. absurd (subst (λ b. Leaves 0 (cond b f Away)) (ne_eqb v w ne) leaves)) (cases_eq v w)
   where
     phase_is : (f : Phase) → IsInside f → Leaves 0 f → f ≡ Leaving 0
@@ -105,8 +105,8 @@ leaving_is v w f inside leaves =
     phase_is Polls inside leaves = absurd (assumption leaves)
     phase_is (Leaving d) inside leaves = ap (λ k. Leaving k) leaves
 
-    this : Leaves 0 f → v ≡ w → Meets v f ≡ Meets w (Leaving 0)
-    this leaves e = ap (λ g. Meets v g) (phase_is f inside leaves) ∙ ap (λ k. Meets k (Leaving 0)) e
+    this : Leaves 0 f → v ≡ w → Meets ending v f ≡ Meets ending w (Leaving 0)
+    this leaves e = ap (λ g. Meets ending v g) (phase_is f inside leaves) ∙ ap (λ k. Meets ending k (Leaving 0)) e
 
 -- ---- trees
 
@@ -167,12 +167,14 @@ module _ (core : List CoreOp) (setting : Setting) (tree : Tree) (spaces : ℕ �
   may_one g Ended r due = refl
   may_one g (Acts zero) r due = ap is_some due.next_is
   may_one g (Acts (suc d)) r due = refl
-  may_one g (Meets w Outside) r due = refl
-  may_one g (Meets w Away) r due = refl
-  may_one g (Meets w (Coming d)) r due = refl
-  may_one g (Meets w Polls) r due = refl
-  may_one g (Meets w (Leaving zero)) r due = ap is_some due.1.next_is
-  may_one g (Meets w (Leaving (suc d))) r due = refl
+  may_one g (Meets e w Outside) r due = refl
+  may_one g (Meets e w Away) r due = refl
+  may_one g (Meets e w (Coming d)) r due = refl
+  may_one g (Meets e w Polls) r due = refl
+  may_one g (Meets Commits w (Leaving zero)) r due = ap is_some due.1.next_is
+  may_one g (Meets Unites w (Leaving zero)) r due = refl
+  may_one g (Meets Commits w (Leaving (suc d))) r due = refl
+  may_one g (Meets Unites w (Leaving (suc d))) r due = refl
 
   may_all : (number : ℕ) (stages : List Stage) (rs : List (Runner Position)) → AllDue core tree spaces number stages rs → all_may_act (next core) setting (counts_for stages) rs ≡ true
   may_all number [] [] all = refl
@@ -329,7 +331,7 @@ module _ (core : List CoreOp) (image : Image) (places : Places) (nestings : Nest
 
   -- ---- by meeting
 
-  module _ (h w : ℕ) (lt : h < p) (x : Here h) (leaves : x.stage ≡ Meets w (Leaving 0)) (meets : MeetsAtWord core tree spaces (tree.places h) w x.runner) where
+  module _ (h w : ℕ) (lt : h < p) (x : Here h) (leaves : x.stage ≡ Meets Commits w (Leaving 0)) (meets : MeetsAtWord core tree spaces Commits (tree.places h) w x.runner) where
     abbrev n : ℕ
     n = tree.places h
 
@@ -349,38 +351,46 @@ module _ (core : List CoreOp) (image : Image) (places : Places) (nestings : Nest
         let few = few_arrivals meets.offset meets.arrival in
         let told = tells tree spaces spaced nodes n meets.offset lives (given p tree sound n lives) few in
         let is_open : IsOpen plan n w = (subst (λ k. plan.words n k ≡ true) (sym meets.word_is) told.own, subst (λ k. plan.arrivals k ≡ true) (sym meets.word_is) (told.arrival ∙ meets.arrival)) in
-        let at : slice_get stages h ≡ Some (Meets w (Leaving 0)) = x.at ∙ ap (λ y. Some y) leaves in
+        let at : slice_get stages h ≡ Some (Meets Commits w (Leaving 0)) = x.at ∙ ap (λ y. Some y) leaves in
         ⊎_elim
-        (λ stay. absurd (this (λ f. Stays f) (each_at Stays plan n w 0 nodes stages h h n (Meets w (Leaving 0)) (omega arith) stay x.node at)))
+        (λ stay. absurd (this (λ f. Stays f) (each_at Stays plan n w 0 nodes stages h h n (Meets Commits w (Leaving 0)) (omega arith) stay x.node at)))
         (λ gone.
-        let e : 0 ≡ gone.0 = this (λ f. Leaves gone.0 f) (each_at (λ f. Leaves gone.0 f) plan n w 0 nodes stages h h n (Meets w (Leaving 0)) (omega arith) gone.1 x.node at) in
+        let e : 0 ≡ gone.0 = this (λ f. Leaves gone.0 f) (each_at (λ f. Leaves gone.0 f) plan n w 0 nodes stages h h n (Meets Commits w (Leaving 0)) (omega arith) gone.1 x.node at) in
         subst (λ k. Each (Leaves k) (phases plan n w (kept stages))) (sym e) gone.1)
         (bound.counts n w free is_open).together
       where
         -- of its own phase
-        this : (P : Phase → Type 0) → P (phase_at (n == n) (plan.member w h) (phase_of w (plan.member w h) (Some (Meets w (Leaving 0))))) → P (Leaving 0)
+        this : (P : Phase → Type 0) → P (phase_at (n == n) (plan.member w h) (phase_of w (plan.member w h) (Some (Meets Commits w (Leaving 0))))) → P (Leaving 0)
         this P q =
             subst (λ b. P (cond b (Leaving 0) (absent (plan.member w h)))) (eq-eqb w w refl)
-            (subst (λ b. P (phase_at b (plan.member w h) (phase_of w (plan.member w h) (Some (Meets w (Leaving 0)))))) (eq-eqb n n refl) q)
+            (subst (λ b. P (phase_at b (plan.member w h) (phase_of w (plan.member w h) (Some (Meets Commits w (Leaving 0)))))) (eq-eqb n n refl) q)
 
     -- each of them stands in the node, commits, and does the same
     record Joins (m : ℕ) : Type 0 where
       place : tree.places m ≡ n
       count : slice_index round m ≡ 1
-      joint : does m ≡ joint_at_word (t.kind tree n) meets.offset
+      joint : does m ≡ joint_at_word n (t.kind tree n) meets.offset
 
-    stands_so : (m : ℕ) (y : Here m) → Leaves 0 (phase_at (tree.places m == n) true (phase_of w true (Some y.stage))) → (tree.places m ≡ n) × (y.stage ≡ Meets w (Leaving 0))
+    stands_so : (m : ℕ) (y : Here m) → Leaves 0 (phase_at (tree.places m == n) true (phase_of w true (Some y.stage))) → (tree.places m ≡ n) × (y.stage ≡ Meets Commits w (Leaving 0))
     stands_so m y q =
         let there = leaves_at w (tree.places m == n) (phase_of w true (Some y.stage)) q in
-        (eqb_same (tree.places m) n there.0, stage_is y.stage y.is_due there.1)
+        let place = eqb_same (tree.places m) n there.0 in
+        let is = stage_is y.stage y.is_due there.1 in
+        let at : IsInside (Leaving 0) × MeetsAtWord core tree spaces is.0 n w y.runner
+        = subst (λ k. IsInside (Leaving 0) × MeetsAtWord core tree spaces is.0 k w y.runner) place (subst (λ z. IsDueAt core tree spaces (tree.places m) z y.runner) is.1 y.is_due) in
+        let word = meets.word_is in
+        let word' = at.1.word_is in
+        let same : at.1.offset ≡ meets.offset = omega (arith, word, word') in
+        let ending : is.0 ≡ Commits = at.1.ends ∙ ap (λ o. ending_of (joint_at_word n (t.kind tree n) o)) same ∙ sym meets.ends in
+        (place, is.1 ∙ ap (λ e. Meets e w (Leaving 0)) ending)
       where
         eqb_same : (a b : ℕ) → (a == b) ≡ true → a ≡ b
         eqb_same a b e = ⊎_elim (λ same. same) (λ ne. absurd (false≢true (sym (ne_eqb a b ne) ∙ e))) (cases_eq a b)
 
-        stage_is : (z : Stage) → IsDueAt core tree spaces (tree.places m) z y.runner → Leaves 0 (phase_of w true (Some z)) → z ≡ Meets w (Leaving 0)
+        stage_is : (z : Stage) → IsDueAt core tree spaces (tree.places m) z y.runner → Leaves 0 (phase_of w true (Some z)) → (e : Ending) × (z ≡ Meets e w (Leaving 0))
         stage_is Ended d l = absurd (assumption l)
         stage_is (Acts k) d l = absurd (assumption l)
-        stage_is (Meets v f) d l = leaving_is v w f d.0 l
+        stage_is (Meets e v f) d l = (e, leaving_is e v w f d.0 l)
 
     joins_so : (m : ℕ) → is_member m (meeters_at tree n meets.offset) ≡ true → m < p → Joins m
     joins_so m is lt' =
@@ -390,8 +400,8 @@ module _ (core : List CoreOp) (image : Image) (places : Places) (nestings : Nest
         let member : plan.member w m ≡ true = subst (λ k. plan.member k m ≡ true) (sym meets.word_is) (told.member m ∙ is) in
         let phase = each_at (λ f. Leaves 0 f) plan n w 0 nodes stages m m (tree.places m) y.stage (omega arith) all_leave y.node y.at in
         let so = stands_so m y (subst (λ b. Leaves 0 (phase_at (tree.places m == n) b (phase_of w b (Some y.stage)))) member phase) in
-        let meets' : IsInside (Leaving 0) × MeetsAtWord core tree spaces n w y.runner
-        = subst (λ k. IsInside (Leaving 0) × MeetsAtWord core tree spaces k w y.runner) so.0 (subst (λ z. IsDueAt core tree spaces (tree.places m) z y.runner) so.1 y.is_due) in
+        let meets' : IsInside (Leaving 0) × MeetsAtWord core tree spaces Commits n w y.runner
+        = subst (λ k. IsInside (Leaving 0) × MeetsAtWord core tree spaces Commits k w y.runner) so.0 (subst (λ z. IsDueAt core tree spaces (tree.places m) z y.runner) so.1 y.is_due) in
         let word = meets.word_is in
         let word' = meets'.1.word_is in
         let same : meets'.1.offset ≡ meets.offset = omega (arith, word, word') in
@@ -402,12 +412,12 @@ module _ (core : List CoreOp) (image : Image) (places : Places) (nestings : Nest
               ∙ ap (λ z. joint_due (begin (next core) setting (count_of_stage z) y.runner).due) so.1
               ∙ ap joint_due meets'.1.next_is
               ∙ meets'.1.joint
-              ∙ ap (λ o. joint_at_word (t.kind tree n) o) same;
+              ∙ ap (λ o. joint_at_word n (t.kind tree n) o) same;
         }
 
-    all_do_so : (ms : List ℕ) → ((m : ℕ) → is_member m ms ≡ true → Joins m) → all_do round does (joint_at_word (t.kind tree n) meets.offset) ms ≡ true
+    all_do_so : (ms : List ℕ) → ((m : ℕ) → is_member m ms ≡ true → Joins m) → all_do round does (joint_at_word n (t.kind tree n) meets.offset) ms ≡ true
     all_do_so ms joins =
-        let j = joint_at_word (t.kind tree n) meets.offset in
+        let j = joint_at_word n (t.kind tree n) meets.offset in
         all_true (λ m. slice_index round m == 1 && same_joint j (does m)) ms
         (λ m is.
         let so = joins m is in
@@ -426,31 +436,37 @@ module _ (core : List CoreOp) (image : Image) (places : Places) (nestings : Nest
     members_join : meets.offset ≡ 1 → (m : ℕ) → Has tree n m → Joins m
     members_join e m has = joins_so m (subst (λ o. is_member m (meeters_at tree n o) ≡ true) (sym e) has) (sound.within n m has)
 
-    members_do : (k : Option Kind) → t.kind tree n ≡ k → meets.offset ≡ 1 → all_do round does (closing_joint k) (t.members tree n) ≡ true
+    members_do : (k : Option Kind) → t.kind tree n ≡ k → meets.offset ≡ 1 → all_do round does (closing_joint n k) (t.members tree n) ≡ true
     members_do k kind e =
-        subst (λ a. all_do round does (closing_joint a) (t.members tree n) ≡ true) kind
-        (subst (λ o. all_do round does (joint_at_word (t.kind tree n) o) (t.members tree n) ≡ true) e (all_do_so (t.members tree n) (members_join e)))
+        subst (λ a. all_do round does (closing_joint n a) (t.members tree n) ≡ true) kind
+        (subst (λ o. all_do round does (joint_at_word n (t.kind tree n) o) (t.members tree n) ≡ true) e (all_do_so (t.members tree n) (members_join e)))
 
-    closing_joins : (k : Option Kind) → t.kind tree n ≡ k → meets.offset ≡ 1 → joins round does tree n (closing_joint k) ≡ true
+    -- of the root, or of another body
+    body_joins : (alone : Bool) (g : ℕ) → all_do round does (closing_joint g (Some (Asynchronous alone))) (t.members tree n) ≡ true
+        → joins round does tree n (closing_joint g (Some (Asynchronous alone))) ≡ true
+    body_joins alone zero all = all
+    body_joins alone (suc g) all = all
+
+    closing_joins : (k : Option Kind) → t.kind tree n ≡ k → meets.offset ≡ 1 → joins round does tree n (closing_joint n k) ≡ true
     closing_joins None kind e = refl
     closing_joins (Some Lockstep) kind e = refl
-    closing_joins (Some (Asynchronous alone)) kind e = members_do (Some (Asynchronous alone)) kind e
+    closing_joins (Some (Asynchronous alone)) kind e = body_joins alone n (members_do (Some (Asynchronous alone)) kind e)
     closing_joins (Some (Waiting first parts)) kind e =
         let ready : t.ready tree n ≡ true
         = ap (λ a. t.is_ready tree a) kind
         ∙ ended_to p tree sound first parts parts (omega arith) (parts_ended p tree sound n first parts kind (λ m has. (members_join e m has).place)) in
         and_from (t.ready tree n) (all_do round does Resuming (t.members tree n)) ready (members_do (Some (Waiting first parts)) kind e)
 
-    joins_by : (o : ℕ) → meets.offset ≡ o → joins round does tree n (joint_at_word (t.kind tree n) o) ≡ true
+    joins_by : (o : ℕ) → meets.offset ≡ o → joins round does tree n (joint_at_word n (t.kind tree n) o) ≡ true
     joins_by zero e =
-        subst (λ o. all_do round does (joint_at_word (t.kind tree n) o) (meeters_at tree n 0) ≡ true) e
+        subst (λ o. all_do round does (joint_at_word n (t.kind tree n) o) (meeters_at tree n 0) ≡ true) e
         (all_do_so (meeters_at tree n 0)
         (λ m is.
         joins_so m (subst (λ o. is_member m (meeters_at tree n o) ≡ true) (sym e) is) (sound.within n m (within_body (t.kind tree n) (t.members tree n) m is))))
     joins_by (suc zero) e = closing_joins (t.kind tree n) refl e
     joins_by (suc (suc o)) e = absurd (false≢true (subst (λ k. is_arrival k ≡ true) e meets.arrival))
 
-    joint_so : does h ≡ joint_at_word (t.kind tree n) meets.offset
+    joint_so : does h ≡ joint_at_word n (t.kind tree n) meets.offset
     joint_so = x.joint ∙ ap (λ z. joint_due (begin (next core) setting (count_of_stage z) x.runner).due) leaves ∙ ap joint_due meets.next_is ∙ meets.joint
 
     fits_meeting : fits_kind round does tree h n (t.kind tree n) ≡ true
@@ -476,12 +492,14 @@ module _ (core : List CoreOp) (image : Image) (places : Places) (nestings : Nest
   fits_by h lt x Ended e is_due = refl
   fits_by h lt x (Acts zero) e is_due = fits_alone h lt x e is_due
   fits_by h lt x (Acts (suc d)) e is_due = refl
-  fits_by h lt x (Meets w Outside) e is_due = refl
-  fits_by h lt x (Meets w Away) e is_due = refl
-  fits_by h lt x (Meets w (Coming d)) e is_due = refl
-  fits_by h lt x (Meets w Polls) e is_due = refl
-  fits_by h lt x (Meets w (Leaving zero)) e is_due = fits_meeting h w lt x e is_due.1
-  fits_by h lt x (Meets w (Leaving (suc d))) e is_due = refl
+  fits_by h lt x (Meets ending w Outside) e is_due = refl
+  fits_by h lt x (Meets ending w Away) e is_due = refl
+  fits_by h lt x (Meets ending w (Coming d)) e is_due = refl
+  fits_by h lt x (Meets ending w Polls) e is_due = refl
+  fits_by h lt x (Meets Commits w (Leaving zero)) e is_due = fits_meeting h w lt x e is_due.1
+  fits_by h lt x (Meets Unites w (Leaving zero)) e is_due = refl
+  fits_by h lt x (Meets Commits w (Leaving (suc d))) e is_due = refl
+  fits_by h lt x (Meets Unites w (Leaving (suc d))) e is_due = refl
 
   fits_one : (h : ℕ) → h < p → fits round does tree h (slice_index round h) ≡ true
   fits_one h lt = let x = here h lt in subst (λ c. fits round does tree h c ≡ true) (sym x.count) (fits_by h lt x x.stage refl x.is_due)

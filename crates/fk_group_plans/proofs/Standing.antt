@@ -2,7 +2,7 @@
 use Rattle.std.proofs.Common.{◌≡◌, ℕ, suc, ◌+◌, ◌≤◌, List, [], ◌∷◌, length, map, Bool, true, Some, None, sym, ap, subst, ◌∙◌, refl, arith, inl, inr, ⊎_elim}
 use Rattle.fk_num.specs.Word.{Memory}
 use Rattle.fk_operation.specs.declared.operation.Operation.{Operation}
-use Rattle.fk_operation.specs.declared.operation.Operation.TheVariants.{Agree, Farm, Seq, End, Halt}
+use Rattle.fk_operation.specs.declared.operation.Operation.TheVariants.{Begin, Agree, Farm, Seq, End, Halt}
 use Rattle.fk_run.specs.Processor.{Setting}
 use Rattle.fk_core.specs.declared.op.CoreOp.{CoreOp}
 use Rattle.fk_core.specs.Next.{next, position, follows, returned}
@@ -17,20 +17,21 @@ use Rattle.fk_nodes.proofs.Runs.{run_map}
 use Rattle.fk_meeting.specs.Phase.{Coming}
 use Rattle.fk_plans.specs.Plan.{Plan, AllAct, InLockstep}
 use Rattle.fk_plans.proofs.Changes.{together_map}
-use Rattle.fk_block_law.specs.Owner.{Commons, Owner, Doing, number_of, commons_of, found, part, core_source}
+use Rattle.fk_block_law.specs.Owner.{Commons, Owner, Doing, commons_of, found, part, core_source}
 use Rattle.fk_block_law.specs.Stands.{Places}
 use Rattle.fk_block_law.specs.Next.{StandsOp, step_at}
 use Rattle.fk_block_law.specs.Ready.{MayDo, is_alone}
-use Rattle.fk_block_law.specs.Block.{most_behind, member_of}
+use Rattle.fk_block_law.specs.Block.{most_behind, IsRunning, member_of}
 use Rattle.fk_block_law.proofs.Standing.{next_here, operations_are_next}
 use Rattle.fk_group_law.specs.Node.{Nestings, OwnsHeader, IsAtRest, agreed_word, root_words}
 use Rattle.fk_group_law.specs.Lockstep.{is_due, stepped, highest_value, AllComeAlone, AllEnter, HaveStepped, HaveParted, AreInStart}
-use Rattle.fk_group_law.specs.Joint.{word_of, MeetsAt}
+use Rattle.fk_group_law.specs.Joint.{word_of, Polling, MeetsAt}
+use Rattle.fk_group_law.specs.Start.{AllHaveMet, HaveStarted}
 use Rattle.fk_group_law.specs.Law.{Cycles, GroupLaw, HasDoneInNode, way_of, runs_behind, is_shared_step, sets_apart, IsAskedOf}
 use Rattle.fk_group_law.specs.Laws.{AllGo}
 use Rattle.fk_group_law.proofs.Together.{members_do_together}
 use Rattle.fk_group_plans.specs.Behind.{IsBehind, AllHaveGone, IsGroupBehind, HaveActed, runs_of, blocks_of}
-use Rattle.fk_group_plans.specs.Standing.{all_act, MembersStandAtStages, MembersHaltAtStages, MeetersSetOut, GroupsActTogether, GroupsStepTogether, GroupsEndTogether}
+use Rattle.fk_group_plans.specs.Standing.{all_act, MembersStandAtStages, MembersHaltAtStages, MeetersSetOut, GroupsActTogether, GroupsStepTogether, GroupsEndTogether, GroupsStartTogether}
 
 -- ---- by itself
 
@@ -292,8 +293,50 @@ module _ (core : List CoreOp) (image : Image) (places : Places) (nestings : Nest
         AllComeAlone places nestings setting image u a (λ p. Some setting.processors) root_words ms' (map (stepped core i op End (highest_value ps) 0 0) ps) in
         together_map (core_source core setting) image mine t 1 0 ms ps own (λ ms' ds own'. (ds ≡ map (is_due core i op End) ps) × (InRoot ms' × (own' ≡ own)))
         (Behind u g)
-        (λ ms' ds own' x. (a, law.few_behind i true, inr (inr (record { i = i; op = op; ps = ps; stands = stands; due = x.0; come = x.1.0 }))))
+        (λ ms' ds own' x. (a, law.few_behind i true, inr (inr (inl (record { i = i; op = op; ps = ps; stands = stands; due = x.0; come = x.1.0 })))))
         (law.ends i op 0 0 stands setting t mine (first g) ms ps own all start)
+
+-- all have met in the root
+module _ (core : List CoreOp) (image : Image) (places : Places) (nestings : Nestings) (setting : Setting) (plan : Plan) (first : ℕ → ℕ) where
+  have_met : (i : ℕ) (op : CoreOp) (there : Polling) (coming : Hart → Hart) (ms : List Member) (ps : List Owner) → AllHaveMet core image places nestings i op there coming setting ms ps → length ms ≡ length ps
+  have_met i op there coming [] [] all = refl
+  have_met i op there coming (m ∷ ms) (p ∷ ps) all = ap suc (have_met i op there coming ms ps all.1)
+  have_met i op there coming ms ps all = absurd (assumption all)
+
+  root_at_rest : (own own' : Memory) → ((j : ℕ) → (j ≡ root_words + agreed_word → ⊥) → own' j ≡ own j) → IsAtRest root_words own → IsAtRest root_words own'
+  root_at_rest own own' others rest = record {
+    barrier = others _ (λ e. omega (arith, e)) ∙ rest.barrier;
+    closing = others _ (λ e. omega (arith, e)) ∙ rest.closing;
+  }
+
+  pub start_together : (cycles : Cycles) (firsts : List ℕ) (main : ℕ) (t : MachineSetting) (i : ℕ) (op : CoreOp) (law : GroupLaw core image places nestings cycles firsts main) (ms : List Member) (ps : List Owner) (own : Memory)
+      → (stands : StandsOp core i op Begin) → OwnsHeader (plan.words 0) root_words → IsRunning image setting t
+      → AllHaveMet core image places nestings i op (law.starts i op stands).there (law.starts i op stands).coming setting ms ps → IsAtRest root_words own
+      → InLockstep (core_source core setting) image plan (blocks_of core image places nestings setting plan first) t 0 (all_act (cycles.before i) ms) ms ps own
+  start_together cycles firsts main t i op law ms ps own stands owns running met rest =
+      let start = law.starts i op stands in
+      let b = cycles.before i in
+      let u = later (in_cycles b t) in
+      in_lockstep core image places nestings setting plan first t 0 b ms ps own (have_met i op start.there start.coming ms ps met)
+      (together_map (core_source core setting) image (plan.words 0) t 1 b ms ps own
+      (λ ms' ds own'. (ds ≡ map (is_due core i op Begin) ps) × HaveStarted core image places nestings i op setting u (cycles.behind i) 0 ps own ms' own')
+      (Behind core image places nestings setting plan first u 0)
+      (λ ms' ds own' x. (
+        0,
+        omega arith,
+        inr (inr (inr (record {
+          i = i;
+          op = op;
+          ps = ps;
+          behind = cycles.behind i;
+          few = law.few_behind i;
+          stands = stands;
+          due = x.0;
+          rest = root_at_rest own own' (λ j ne. x.1.others j ne) rest;
+          parts = x.1.parts;
+        }))),
+      ))
+      (start.starts setting t (plan.words 0) 0 ms ps own owns running met))
 
 pub groups_act_together : GroupsActTogether
 groups_act_together core image places nestings cycles firsts main setting plan first t g i op operation onward ms ps own law stands alone all go rest =
@@ -309,3 +352,7 @@ pub groups_end_together : GroupsEndTogether
 groups_end_together core image places nestings cycles firsts main setting plan first t g i op ms ps own law stands all start =
     in_lockstep core image places nestings setting plan first t g 0 ms ps own (as_many core image places nestings setting plan first i op End t g ms ps all)
     (end_together core image places nestings setting plan first cycles firsts main t g i op law ms ps own stands all start)
+
+pub groups_start_together : GroupsStartTogether
+groups_start_together core image places nestings cycles firsts main setting plan first t i op ms ps own law stands owns running met rest =
+    start_together core image places nestings setting plan first cycles firsts main t i op law ms ps own stands owns running met rest

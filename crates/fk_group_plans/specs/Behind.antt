@@ -1,8 +1,8 @@
 -- What is known of a member that meets, and of members behind their commits.
-use Rattle.std.specs.Prelude.{◌≡◌, ℕ, ◌+◌, ◌≤◌, List, [], ◌∷◌, length, map, true, Option, Some, None, if◌then◌else◌, ◌⊎◌}
+use Rattle.std.specs.Prelude.{◌≡◌, ℕ, ◌+◌, ◌≤◌, List, [], ◌∷◌, length, map, Bool, true, Option, Some, None, if◌then◌else◌, ◌⊎◌}
 use Rattle.fk_num.specs.Word.{Memory}
 use Rattle.fk_operation.specs.declared.operation.Operation.{Operation}
-use Rattle.fk_operation.specs.declared.operation.Operation.TheVariants.{Agree, Halt, End}
+use Rattle.fk_operation.specs.declared.operation.Operation.TheVariants.{Agree, Halt, Begin, End}
 use Rattle.fk_run.specs.Processor.{Setting}
 use Rattle.fk_run.specs.Round.{Step}
 use Rattle.fk_core.specs.declared.op.CoreOp.{CoreOp}
@@ -12,6 +12,7 @@ use Rattle.fk_machine.specs.Hart.{Setting as MachineSetting}
 use Rattle.fk_nodes.specs.Node.{Member, Words}
 use Rattle.fk_nodes.specs.Alone.{NodeRun}
 use Rattle.fk_meeting.specs.Phase.{Phase}
+use Rattle.fk_plans.specs.Stage.{Ending, Commits, Unites}
 use Rattle.fk_plans.specs.Plan.{Plan, Blocks}
 use Rattle.fk_block_law.specs.Owner.{Owner, Doing, idle}
 use Rattle.fk_block_law.specs.Stands.{Places}
@@ -20,6 +21,7 @@ use Rattle.fk_block_law.specs.Block.{most_behind}
 use Rattle.fk_group_law.specs.Node.{Nestings, IsAtRest, first_word, root_words, barrier_word}
 use Rattle.fk_group_law.specs.Lockstep.{is_due, stepped, highest_value, AreMembers, AllComeAlone}
 use Rattle.fk_group_law.specs.Joint.{is_meeting, word_of, lead, MeetsAt, StandsBehind}
+use Rattle.fk_group_law.specs.Start.{AllComeToParts}
 use Rattle.fk_group_law.specs.Law.{HasDoneInNode, sets_apart, IsAskedOf, runs_behind}
 
 -- how many run the body of a node beside a member that does: those who meet at the node's first word
@@ -39,6 +41,11 @@ module _ (core : List CoreOp) (image : Image) (places : Places) (nestings : Nest
     pub next_is : next core p.runner.left ≡ Some (step_at core i op operation p.runner.left.callers)
     pub word_is : word ≡ first_word p.runner.has.level p.runner.has.outer + word_of operation
     pub meets : MeetsAt image places nestings setting runs i word n t f m p
+
+  -- nobody unites yet: the beginning of `start` is still to come
+  abbrev pub StandsByEnding : Ending → (runs : Option ℕ) → (word n : ℕ) → MachineSetting → Phase → Member → Owner → Type 0
+  StandsByEnding Commits runs word n t f m p = StandsInMeeting runs word n t f m p
+  StandsByEnding Unites runs word n t f m p = ⊥
 
   -- its commit has ended it, and its processor's run is to end
   pub record HasEnded (m : Member) (d : Doing) : Type 0 where
@@ -111,10 +118,22 @@ module _ (core : List CoreOp) (image : Image) (places : Places) (nestings : Nest
     pub due : ds ≡ map (is_due core i op End) ps
     pub come : AllComeAlone places nestings setting image t behind (λ p. Some setting.processors) root_words ms (map (stepped core i op End 0 0 0) ps)
 
+  -- the group of `start` begins: all are in the root, at whose words nobody has arrived, and each comes to its part
+  pub record HaveBegun (t : MachineSetting) (ds : List Doing) (ms : List Member) (own : Memory) : Type 0 where
+    pub i : ℕ
+    pub op : CoreOp
+    pub ps : List Owner
+    pub behind : (onward : Bool) → ℕ
+    pub few : (onward : Bool) → behind onward ≤ most_behind
+    pub stands : StandsOp core i op Begin
+    pub due : ds ≡ map (is_due core i op Begin) ps
+    pub rest : IsAtRest root_words own
+    pub parts : AllComeToParts core image places nestings i op setting t behind (highest_value ps) 0 ms ps
+
   -- in this cycle their common commit lies behind them: a run of their node leads them on in lockstep, or each goes on by itself
   abbrev pub HaveActed : Words → (first : ℕ) → MachineSetting → (behind : ℕ) → List Doing → List Member → Memory → Type 0
   HaveActed mine first t behind ds ms own =
-      NodeRun image mine t behind ms own (λ ms' own'. IsGroupBehind first ds ms' own') ⊎ (HaveParted first t behind ds ms own ⊎ HaveEnded t behind ds ms)
+      NodeRun image mine t behind ms own (λ ms' own'. IsGroupBehind first ds ms' own') ⊎ (HaveParted first t behind ds ms own ⊎ (HaveEnded t behind ds ms ⊎ HaveBegun t ds ms own))
 
   -- what the law of blocks says of members of the nodes of a plan
   abbrev pub blocks_of : Plan → (first : ℕ → ℕ) → Blocks Owner Doing
@@ -123,5 +142,6 @@ module _ (core : List CoreOp) (image : Image) (places : Places) (nestings : Nest
     idle = idle;
     AfterAll = λ t g ms ds own. (behind : ℕ) × (behind ≤ most_behind) × HaveActed (plan.words g) (first g) t behind ds ms own;
     AfterOne = λ g behind m p d. IsBehind (runs_of plan (first g) m.number) behind m p d;
-    StandsIn = λ g t w f m p. StandsInMeeting (runs_of plan (first g) m.number) w (plan.size w) t f m p;
+    StandsIn = λ g t e w f m p. StandsByEnding e (runs_of plan (first g) m.number) w (plan.size w) t f m p;
+    Joins = λ t g m p. ⊥;
   }

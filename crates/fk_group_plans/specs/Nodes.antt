@@ -1,5 +1,5 @@
 -- The tree of a core run as a plan: where each processor stands, which control words are a node's own, and who meets there.
-use Rattle.std.specs.Prelude.{◌≡◌, ◌≢◌, ℕ, zero, suc, ◌+◌, ◌-◌, ◌≤◌, ◌&&◌, Bool, true, false, List, [], length, map, Option, Some, None, is_some, if◌then◌else◌, ◌⊎◌}
+use Rattle.std.specs.Prelude.{◌≡◌, ◌≢◌, ℕ, zero, suc, ◌+◌, ◌-◌, ◌≤◌, ◌==◌, ◌&&◌, ◌||◌, Bool, true, false, List, [], length, map, Option, Some, None, is_some, if◌then◌else◌, ◌⊎◌}
 use Rattle.fk_space.specs.Space.{Space}
 use Rattle.fk_tree.specs.declared.node.Kind.{Kind}
 use Rattle.fk_tree.specs.declared.node.Kind.TheVariants.{Lockstep}
@@ -73,3 +73,7 @@ plan_of tree spaces nodes = record {
   size = λ w. length (meeters tree spaces w);
   member = λ w h. is_member h (meeters tree spaces w);
 }
+
+-- those in the root have met at the beginning of `start`, and are in lockstep till its commit
+abbrev pub united : Plan → Plan
+united plan = record plan { in_lockstep = λ g. (g == 0) || plan.in_lockstep g }

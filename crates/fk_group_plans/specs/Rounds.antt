@@ -9,14 +9,14 @@ use Rattle.fk_tree.specs.Tree.{Tree}
 use Rattle.fk_tree.specs.Sound.{IsSound}
 use Rattle.fk_operation.specs.Kinds.{joint_of}
 use Rattle.fk_operation.specs.declared.kinds.Joint.{Joint}
-use Rattle.fk_operation.specs.declared.kinds.Joint.TheVariants.{Alone, AtBarrier, Closing, Resuming}
+use Rattle.fk_operation.specs.declared.kinds.Joint.TheVariants.{Alone, Starting, AtBarrier, Closing, Resuming}
 use Rattle.fk_run.specs.Processor.{Setting}
 use Rattle.fk_run.specs.Round.{Step, Runner, State, is_allowed}
 use Rattle.fk_core.specs.declared.op.CoreOp.{CoreOp}
 use Rattle.fk_core.specs.Next.{Position, next}
 use Rattle.fk_image.specs.declared.Image.{Image}
 use Rattle.fk_machine.specs.Hart.{Hart, Setting as MachineSetting}
-use Rattle.fk_plans.specs.Stage.{Stage, Ended, Acts, Meets, counts_for}
+use Rattle.fk_plans.specs.Stage.{Ending, Commits, Unites, Stage, Ended, Acts, Meets, counts_for}
 use Rattle.fk_plans.specs.Plan.{IsInside, IsBound}
 use Rattle.fk_block_law.specs.Owner.{Owner, core_source}
 use Rattle.fk_block_law.specs.Stands.{Places}
@@ -25,15 +25,21 @@ use Rattle.fk_group_plans.specs.Nodes.{first_of, HaveSpaces, is_arrival, is_lock
 use Rattle.fk_group_plans.specs.Behind.{blocks_of}
 
 -- what those who meet at a word of a node do together
-abbrev pub closing_joint : Option Kind → Joint
-closing_joint (Some (Waiting first parts)) = Resuming
-closing_joint (Some (Asynchronous alone)) = Closing
-closing_joint kind = Alone
+abbrev pub closing_joint : (g : ℕ) → Option Kind → Joint
+closing_joint g (Some (Waiting first parts)) = Resuming
+closing_joint zero (Some (Asynchronous alone)) = Starting
+closing_joint (suc g) (Some (Asynchronous alone)) = Closing
+closing_joint g kind = Alone
 
-abbrev pub joint_at_word : Option Kind → (offset : ℕ) → Joint
-joint_at_word kind zero = AtBarrier
-joint_at_word kind (suc zero) = closing_joint kind
-joint_at_word kind (suc (suc i)) = Alone
+abbrev pub joint_at_word : (g : ℕ) → Option Kind → (offset : ℕ) → Joint
+joint_at_word g kind zero = AtBarrier
+joint_at_word g kind (suc zero) = closing_joint g kind
+joint_at_word g kind (suc (suc i)) = Alone
+
+-- all but the beginning of `start` are committed by leaving
+abbrev pub ending_of : Joint → Ending
+ending_of Starting = Unites
+ending_of joint = Commits
 
 module _ (core : List CoreOp) (tree : Tree) (spaces : ℕ → Space) where
   -- a processor is about to do something by itself, or with its group in lockstep
@@ -43,18 +49,19 @@ module _ (core : List CoreOp) (tree : Tree) (spaces : ℕ → Space) where
     pub joint : is_lockstep (t.kind tree g) ≡ false → joint_of step.operation ≡ Alone
 
   -- or with those who meet at this word of its node
-  pub record MeetsAtWord (g w : ℕ) (r : Runner Position) : Type 0 where
+  pub record MeetsAtWord (ending : Ending) (g w : ℕ) (r : Runner Position) : Type 0 where
     pub offset : ℕ
     pub step : Step Position
     pub next_is : next core r.left ≡ Some step
     pub word_is : w ≡ first_of spaces g + offset
     pub arrival : is_arrival offset ≡ true
-    pub joint : joint_of step.operation ≡ joint_at_word (t.kind tree g) offset
+    pub joint : joint_of step.operation ≡ joint_at_word g (t.kind tree g) offset
+    pub ends : ending ≡ ending_of (joint_at_word g (t.kind tree g) offset)
 
   abbrev pub IsDueAt : (g : ℕ) → Stage → Runner Position → Type 0
   IsDueAt g Ended r = next core r.left ≡ None
   IsDueAt g (Acts d) r = IsDue g r
-  IsDueAt g (Meets w f) r = IsInside f × MeetsAtWord g w r
+  IsDueAt g (Meets e w f) r = IsInside f × MeetsAtWord e g w r
 
   -- so it is with all processors from a number on, at the nodes where they stand
   abbrev pub AllDue : (number : ℕ) → List Stage → List (Runner Position) → Type 0

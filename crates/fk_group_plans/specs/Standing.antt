@@ -2,24 +2,25 @@
 use Rattle.std.specs.Prelude.{◌≡◌, ℕ, ◌+◌, ◌≤◌, List, map, Bool, true, None}
 use Rattle.fk_num.specs.Word.{Memory}
 use Rattle.fk_operation.specs.declared.operation.Operation.{Operation}
-use Rattle.fk_operation.specs.declared.operation.Operation.TheVariants.{End, Halt}
+use Rattle.fk_operation.specs.declared.operation.Operation.TheVariants.{Begin, End, Halt}
 use Rattle.fk_run.specs.Processor.{Setting}
 use Rattle.fk_core.specs.declared.op.CoreOp.{CoreOp}
 use Rattle.fk_image.specs.declared.Image.{Image}
 use Rattle.fk_machine.specs.Hart.{Setting as MachineSetting}
 use Rattle.fk_nodes.specs.Node.{Member}
 use Rattle.fk_meeting.specs.Phase.{Coming}
-use Rattle.fk_plans.specs.Stage.{Stage, Acts, Meets}
+use Rattle.fk_plans.specs.Stage.{Commits, Stage, Acts, Meets}
 use Rattle.fk_plans.specs.Plan.{Plan, IsOpen, StandsAt, InLockstep}
 use Rattle.fk_plans.specs.Change.{IsFresh}
 use Rattle.fk_block_law.specs.Owner.{Owner, number_of, core_source}
 use Rattle.fk_block_law.specs.Stands.{Places}
 use Rattle.fk_block_law.specs.Next.{StandsOp}
 use Rattle.fk_block_law.specs.Ready.{is_alone}
-use Rattle.fk_block_law.specs.Block.{most_before, Enters}
-use Rattle.fk_group_law.specs.Node.{Nestings, OwnsHeader, IsAtRest}
+use Rattle.fk_block_law.specs.Block.{most_before, IsRunning, Enters}
+use Rattle.fk_group_law.specs.Node.{Nestings, OwnsHeader, IsAtRest, root_words}
 use Rattle.fk_group_law.specs.Lockstep.{IsMember, AllEnter, AreInStart}
 use Rattle.fk_group_law.specs.Joint.{is_meeting, word_of, AreSoMany}
+use Rattle.fk_group_law.specs.Start.{AllHaveMet}
 use Rattle.fk_group_law.specs.Law.{Cycles, GroupLaw, is_shared_step, IsAskedOf}
 use Rattle.fk_group_law.specs.Laws.{AllGo}
 use Rattle.fk_group_plans.specs.Behind.{runs_of, blocks_of}
@@ -53,8 +54,8 @@ MeetersSetOut =
     → GroupLaw core image places nestings cycles firsts main → StandsOp core i op operation → is_meeting operation ≡ true
     → Enters core image places setting t i op operation p m.hart → IsMember places nestings setting (runs_of plan (first g) m.number) (first g) m p
     → OwnsHeader (plan.words g) (first g) → w ≡ first g + word_of operation → IsOpen plan g w → plan.member w m.number ≡ true → AreSoMany operation (runs_of plan (first g) m.number) p (plan.size w)
-    → (d : ℕ) × (d ≤ most_before) × IsFresh t (Meets w (Coming d))
-    × StandsAt (core_source core setting) image plan (blocks_of core image places nestings setting plan first) t g (Meets w (Coming d)) m p
+    → (d : ℕ) × (d ≤ most_before) × IsFresh t (Meets Commits w (Coming d))
+    × StandsAt (core_source core setting) image plan (blocks_of core image places nestings setting plan first) t g (Meets Commits w (Coming d)) m p
 
 -- members in lockstep at a local operation or a request, with nobody at the words of their node
 abbrev pub GroupsActTogether : Type 0
@@ -83,3 +84,12 @@ GroupsEndTogether =
     → GroupLaw core image places nestings cycles firsts main → StandsOp core i op End → AllEnter core image places nestings i op End setting t None (first g) ms ps
     → AreInStart nestings ps
     → InLockstep (core_source core setting) image plan (blocks_of core image places nestings setting plan first) t g (all_act 0 ms) ms ps own
+
+-- and at the beginning of it, where all who are in the root have met
+abbrev pub GroupsStartTogether : Type 0
+GroupsStartTogether =
+    (core : List CoreOp) (image : Image) (places : Places) (nestings : Nestings) (cycles : Cycles) (firsts : List ℕ) (main : ℕ) (setting : Setting) (plan : Plan) (first : ℕ → ℕ)
+    (t : MachineSetting) (i : ℕ) (op : CoreOp) (ms : List Member) (ps : List Owner) (own : Memory)
+    → (law : GroupLaw core image places nestings cycles firsts main) → (stands : StandsOp core i op Begin) → OwnsHeader (plan.words 0) root_words → IsRunning image setting t
+    → AllHaveMet core image places nestings i op (law.starts i op stands).there (law.starts i op stands).coming setting ms ps → IsAtRest root_words own
+    → InLockstep (core_source core setting) image plan (blocks_of core image places nestings setting plan first) t 0 (all_act (cycles.before i) ms) ms ps own

@@ -1,7 +1,7 @@
 //! Laws of the definitions.
 
 ghost use Rattle.fk_group_plans.specs.Rounds.{RoundsAreAllowed};
-ghost use Rattle.fk_group_plans.specs.Standing.{MembersStandAtStages, MembersHaltAtStages, MeetersSetOut, GroupsActTogether, GroupsStepTogether, GroupsEndTogether};
+ghost use Rattle.fk_group_plans.specs.Standing.{MembersStandAtStages, MembersHaltAtStages, MeetersSetOut, GroupsActTogether, GroupsStepTogether, GroupsEndTogether, GroupsStartTogether};
 ghost use Rattle.fk_group_plans.specs.Laws.{OneGroupHasSpace, NodesOwnApart, WordsTellMeeters, MeetersTurn, CyclesAreRounds};
 
 /// While the root has one group at most, the spaces of all groups are apart.
@@ -63,4 +63,9 @@ pub fn groups_step_together()
 /// And at the end of the group of `start`.
 pub fn groups_end_together()
     ensures { GroupsEndTogether }
+{}
+
+/// All who have met in the root at the beginning of `start` are in lockstep, to its commit.
+pub fn groups_start_together()
+    ensures { GroupsStartTogether }
 {}

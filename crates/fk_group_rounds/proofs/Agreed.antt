@@ -1,14 +1,13 @@
 -- What a group agrees on is the last value of the highest of those who stand in its node.
-use Rattle.std.proofs.Common.{◌≡◌, ℕ, zero, suc, ◌+◌, ◌<◌, ◌≤◌, ◌==◌, List, [], ◌∷◌, length, Some, Bool, true, false, sym, ap, subst, ◌∙◌, refl, arith, ⊎_elim}
-use Rattle.std.specs.Prelude.{map, slice_get, ◌&&◌, ◌||◌, nat_lt}
-use Rattle.std.proofs.lemmas.Bool.{cases_eq, cases_lt, and_parts, or_cases, or_left, or_right, eq-eqb, eqb-true, false≢true, ltb-true}
+use Rattle.std.proofs.Common.{◌≡◌, ℕ, zero, suc, ◌+◌, ◌<◌, ◌≤◌, ◌==◌, List, [], ◌∷◌, length, Some, true, false, sym, ap, subst, ◌∙◌, refl, arith, ⊎_elim}
+use Rattle.std.specs.Prelude.{map, slice_get, nat_lt}
+use Rattle.std.proofs.lemmas.Bool.{and_parts, or_cases, or_left, or_right, eq-eqb, eqb-true, false≢true, ltb-true}
 use Rattle.fk_tree.specs.declared.node.Kind.TheVariants.{Lockstep}
 use Rattle.fk_tree.specs.Tree as trees
 use Rattle.fk_tree.specs.Tree.{Tree, is_member}
 use Rattle.fk_tree.specs.Sound.{Has, is_below_all, is_ascending, IsSound}
 use Rattle.fk_run.specs.Processor.{values, last}
-use Rattle.fk_run.specs.Round.{Acting, highest, who, agreed}
-use Rattle.fk_core.specs.Next.{Position}
+use Rattle.fk_run.specs.Round.{highest, who, agreed}
 use Rattle.fk_nodes.specs.Node.{of_node}
 use Rattle.fk_nodes.specs.OnePlace.{last_or}
 use Rattle.fk_block_law.specs.Owner.{Doing}
@@ -68,10 +67,13 @@ who_is (x ∷ ds) (suc h) d at = who_is ds h d at
 
 module _ (p : ℕ) (tree : Tree) (sound : IsSound p tree) (ns : List ℕ) (places : ArePlaces tree 0 ns) (many : length ns ≡ p) where
   -- who stands in a group's node, and who is a member of it
-  pub member_place : (g h : ℕ) → trees.kind tree g ≡ Some Lockstep → Has tree g h → slice_get ns h ≡ Some g
-  member_place g h kind has =
+  pub member_stands : (g h : ℕ) → ((m : ℕ) → Has tree g m → tree.places m ≡ g) → Has tree g h → slice_get ns h ≡ Some g
+  member_stands g h stand has =
       let lt = sound.within g h has in
-      place_at tree 0 h ns places (omega (arith, lt, many)) ∙ ap (λ k. Some k) (ap tree.places (let e : 0 + h ≡ h = omega arith in e) ∙ leaf_place p tree sound g h kind has)
+      place_at tree 0 h ns places (omega (arith, lt, many)) ∙ ap (λ k. Some k) (ap tree.places (let e : 0 + h ≡ h = omega arith in e) ∙ stand h has)
+
+  pub member_place : (g h : ℕ) → trees.kind tree g ≡ Some Lockstep → Has tree g h → slice_get ns h ≡ Some g
+  member_place g h kind has = member_stands g h (λ m is. leaf_place p tree sound g m kind is) has
 
   pub place_member : (g h : ℕ) → slice_get ns h ≡ Some g → Has tree g h
   place_member g h at =
@@ -82,13 +84,13 @@ module _ (p : ℕ) (tree : Tree) (sound : IsSound p tree) (ns : List ℕ) (place
       let same' : tree.places h ≡ g = ap tree.places (sym e) ∙ same in
       subst (λ k. Has tree k h) same' (sound.placed h (omega (arith, lt, many))).member
 
-  agreed_by : (g : ℕ) (ds : List Doing) (ms : List ℕ) → trees.members tree g ≡ ms → (ms ≡ [] → ⊥) → trees.kind tree g ≡ Some Lockstep → length ds ≡ p
+  agreed_by : (g : ℕ) (ds : List Doing) (ms : List ℕ) → trees.members tree g ≡ ms → (ms ≡ [] → ⊥) → ((m : ℕ) → Has tree g m → tree.places m ≡ g) → length ds ≡ p
       → agreed (actings ds) ms ≡ last_or 0 (map (λ d. last (values d.acting.runner.has)) (of_node g ns ds))
-  agreed_by g ds [] e some kind as_many = absurd (some refl)
-  agreed_by g ds (m ∷ ms) e some kind as_many =
+  agreed_by g ds [] e some stand as_many = absurd (some refl)
+  agreed_by g ds (m ∷ ms) e some stand as_many =
       let h = highest (m ∷ ms) in
       let has : Has tree g h = subst (λ l. is_member h l ≡ true) (sym e) (highest_there m ms) in
-      let here = member_place g h kind has in
+      let here = member_stands g h stand has in
       let lt = sound.within g h has in
       let d = some_elem ds h (omega (arith, lt, as_many)) in
       let up : is_ascending (m ∷ ms) ≡ true = subst (λ l. is_ascending l ≡ true) e (sound.ascending g) in
@@ -98,6 +100,11 @@ module _ (p : ℕ) (tree : Tree) (sound : IsSound p tree) (ns : List ℕ) (place
       let le = highest_above m i ms up (subst (λ l. is_member i l ≡ true) e (place_member g i there)) in
       omega (arith, le, above)))
 
+  -- those of a node in which all its members stand
+  pub agreed_at : (g : ℕ) (ds : List Doing) → (trees.members tree g ≡ [] → ⊥) → ((m : ℕ) → Has tree g m → tree.places m ≡ g) → length ds ≡ p
+      → agreed (actings ds) (trees.members tree g) ≡ last_or 0 (map (λ d. last (values d.acting.runner.has)) (of_node g ns ds))
+  agreed_at g ds some stand as_many = agreed_by g ds (trees.members tree g) refl some stand as_many
+
   pub agreed_is : (g : ℕ) (ds : List Doing) → (trees.members tree g ≡ [] → ⊥) → trees.kind tree g ≡ Some Lockstep → length ds ≡ p
       → agreed (actings ds) (trees.members tree g) ≡ last_or 0 (map (λ d. last (values d.acting.runner.has)) (of_node g ns ds))
-  agreed_is g ds some kind as_many = agreed_by g ds (trees.members tree g) refl some kind as_many
+  agreed_is g ds some kind as_many = agreed_at g ds some (λ m is. leaf_place p tree sound g m kind is) as_many

@@ -1,6 +1,6 @@
 -- After the round in which a group comes to a body, where each goes on by itself, all are bound again.
-use Rattle.std.proofs.Common.{◌≡◌, ◌≢◌, ℕ, zero, suc, ◌+◌, ◌-◌, ◌≤◌, ◌<◌, List, [], ◌∷◌, length, Option, Some, None, Bool, true, false, sym, ap, subst, ◌∙◌, refl, arith, ◌⊎◌, inl, inr, ⊎_elim, eq-eqb}
-use Rattle.std.specs.Prelude.{◌==◌, ◌||◌, ◌&&◌, map, is_some, slice_get, nat_lt, if◌then◌else◌}
+use Rattle.std.proofs.Common.{◌≡◌, ◌≢◌, ℕ, zero, suc, ◌+◌, ◌-◌, ◌≤◌, ◌<◌, List, [], ◌∷◌, length, Option, Some, None, Bool, true, false, sym, ap, subst, ◌∙◌, refl, arith, inr, ⊎_elim, eq-eqb}
+use Rattle.std.specs.Prelude.{◌==◌, ◌||◌, map, is_some, slice_get, if◌then◌else◌}
 use Rattle.std.proofs.lemmas.Bool.{ne_eqb, eqb-true, false≢true, and_parts, or_cases, or_left}
 use Rattle.std.proofs.lemmas.List.{length-map}
 use Rattle.fk_num.specs.Word.{Memory}
@@ -12,75 +12,44 @@ use Rattle.fk_tree.specs.Sound.{is_below_all, is_ascending, IsSound}
 use Rattle.fk_tree.proofs.Lists.{below_all-member}
 use Rattle.fk_tree.proofs.Shapes.{with_other, kind_members, kind_same, some-given, from_parts}
 use Rattle.fk_operation.specs.declared.operation.Operation.{Operation}
-use Rattle.fk_operation.specs.declared.operation.Operation.TheVariants.{Agree, Farm, Seq, End}
+use Rattle.fk_operation.specs.declared.operation.Operation.TheVariants.{Begin, Farm, Seq, End}
 use Rattle.fk_run.specs.Processor.{Setting}
 use Rattle.fk_run.specs.Round.{Step, lowest, body_of}
 use Rattle.fk_core.specs.declared.op.CoreOp.{CoreOp}
 use Rattle.fk_core.specs.Next.{Position}
 use Rattle.fk_image.specs.declared.Image.{Image}
 use Rattle.fk_machine.specs.Hart.{Hart, Setting as MachineSetting}
-use Rattle.fk_nodes.specs.Node.{Member, numbered, add, of_node, AreAsMany, Has}
+use Rattle.fk_nodes.specs.Node.{Member, numbered, add, of_node, Has}
 use Rattle.fk_nodes.specs.Alone.{later, RunsPrivately}
 use Rattle.fk_plans.specs.Stage.{Stage}
 use Rattle.fk_plans.specs.Plan.{Plan, Blocks, IsOpen}
 use Rattle.fk_plans.specs.Cycle.{AllHaveCommitted, NodeIsLeft, GroupIsLeft, IsLeft}
 use Rattle.fk_plans.specs.Change.{MeetingOpens}
-use Rattle.fk_block_law.specs.Owner.{Owner, Doing, number_of, idle, core_source}
+use Rattle.fk_lockstep.specs.Untouched.{changes_tree}
+use Rattle.fk_block_law.specs.Owner.{Owner, Doing, number_of, core_source}
 use Rattle.fk_block_law.specs.Stands as law
 use Rattle.fk_block_law.specs.Stands.{Places}
 use Rattle.fk_block_law.specs.Block.{most_behind, IsRunning}
-use Rattle.fk_group_law.specs.Node.{Nestings, StandsInNode, IsAtRest}
+use Rattle.fk_group_law.specs.Node.{Nestings, StandsInNode}
 use Rattle.fk_group_law.specs.Lockstep.{is_due, stepped, highest_value, ComesAlone, AllComeAlone, AreOfSize, IsLowest, one_runs}
-use Rattle.fk_group_law.specs.Law.{Cycles, GroupLaw, sets_apart, runs_behind, IsAskedOf}
+use Rattle.fk_group_law.specs.Law.{Cycles, GroupLaw, runs_behind, IsAskedOf}
 use Rattle.fk_group_plans.specs.Nodes.{first_of, is_arrival, is_lockstep, meeters_at, plan_of}
-use Rattle.fk_group_plans.specs.Behind.{runs_of, HaveParted, AllHaveGone, IsGroupBehind, blocks_of}
+use Rattle.fk_group_plans.specs.Behind.{runs_of, HaveParted, blocks_of}
 use Rattle.fk_group_plans.proofs.Nodes.{tells}
 use Rattle.fk_group_plans.proofs.Rounds.{not_none, leaf_place}
-use Rattle.fk_group_rounds.specs.Next.{JumpsLead, all_landed, IsHome}
-use Rattle.fk_group_rounds.specs.After.{actings, tree_after, owner_after, owners_after, halts, is_halt, DoesStep, StepsAt, ArePlaces, AllGoOn, GroupsGoOn, BindsAgain}
+use Rattle.fk_group_rounds.specs.Next.{JumpsLead, all_landed}
+use Rattle.fk_group_rounds.specs.After.{actings, tree_after, owner_after, owners_after, halts, is_halt, DoesStep, StepsAt, AllGoOn, GroupsGoOn, BindsAgain}
 use Rattle.fk_group_rounds.specs.Rounds.{IsBefore, IsTree, AllStandIn, RoundsSetFree, RoundsSendOne}
-use Rattle.fk_group_rounds.proofs.Lists.{run_end}
 use Rattle.fk_group_rounds.proofs.Agreed.{member_place, place_member}
 use Rattle.fk_group_rounds.proofs.Keep.{AllOn, AllAtHome}
 use Rattle.fk_group_rounds.proofs.Harts.{AllAre, LockLeft, HartsGo, steps_apart}
 use Rattle.fk_group_rounds.proofs.Groups.{Stands, somebody, there_are, at_home, many_length}
-use Rattle.fk_group_rounds.proofs.Changed.{Here, Steps, running, At, near, AnyGoes, all, bound}
+use Rattle.fk_group_rounds.proofs.Changed.{Here, Steps, running, At, near, AnyGoes, all, bound_at}
+use Rattle.fk_group_rounds.proofs.Moved.{TreeMoves, one_node, only}
 use Rattle.fk_group_rounds.proofs.Resume.{kind_there, lowest_there, is_busy, step_is_brought}
 use Rattle.fk_group_rounds.proofs.Close.{AllDo, all_do}
+use Rattle.fk_group_rounds.proofs.Acted.{Both, spread, acted}
 use Rattle.fk_group_rounds.proofs.Counts.{count_is, phases_count, all_new, all_fine}
-
--- what two lists say, element by element
-abbrev Both : (Member → Doing → Type 0) → List Member → List Doing → Type 0
-Both Own [] [] = Unit {0}
-Both Own (m ∷ ms) (d ∷ ds) = Own m d × Both Own ms ds
-Both Own ms ds = ⊥
-
-both_parts : (Own : Member → Doing → Type 0) (b : Bool) (m : Member) (ms : List Member) (d : Doing) (ds : List Doing) → Both Own (add b m ms) (add b d ds)
-    → (b ≡ true → Own m d) × Both Own ms ds
-both_parts Own true m ms d ds all = (λ e. all.0, all.1)
-both_parts Own false m ms d ds all = (λ e. absurd (false≢true e), all)
-
--- what is so of those of a node is so of each hart that stands there
-spread : (old : Tree) (Own : Member → Doing → Type 0) (g number : ℕ) (ns : List ℕ) (hs : List Hart) (ds : List Doing) → ArePlaces old number ns → AreAsMany ns hs ds
-    → Both Own (of_node g ns (numbered number hs)) (of_node g ns ds) → AllAre (Here old g Own) number hs ds
-spread old Own g number [] [] [] places many all = tt
-spread old Own g number (n ∷ ns) (h ∷ hs) (d ∷ ds) places many all =
-    let m : Member = record { number = number; hart = h } in
-    let parts = both_parts Own (n == g) m (of_node g ns (numbered (suc number) hs)) d (of_node g ns ds) all in
-    (λ e. parts.0 (eq-eqb n g (places.0 ∙ e)), spread old Own g (suc number) ns hs ds places.1 many parts.1)
-spread old Own g number ns hs ds places many all = absurd (assumption many)
-
--- none of them does nothing, or something else
-not_idle : (operation : Operation) (ps : List Owner) (ds : List Doing) → AllDo operation ds → ds ≡ map idle ps → length ds ≡ 0
-not_idle operation ps [] do' e = refl
-not_idle operation [] (d ∷ ds) do' e = absurd (cc)
-not_idle operation (p ∷ ps) (d ∷ ds) do' e =
-    let same : d ≡ idle p = cc in absurd (subst (λ x. DoesStep operation x.acting.due) same do'.0)
-
-first_does : (core : List CoreOp) (i : ℕ) (op : CoreOp) (operation done : Operation) (ps : List Owner) → AllDo operation (map (is_due core i op done) ps) → (length (map (is_due core i op done) ps) ≡ 0 → ⊥)
-    → done ≡ operation
-first_does core i op operation done [] do' some = absurd (some refl)
-first_does core i op operation done (p ∷ ps) do' some = do'.0
 
 -- ---- the lowest of a node
 
@@ -185,10 +154,13 @@ module _ (core : List CoreOp) (image : Image) (places : Places) (nestings : Nest
   free : plan'.in_lockstep g ≡ false
   free = ap is_lockstep kind'
 
+  move : TreeMoves old (with_kind g (Asynchronous alone) old) setting.processors g nodes nodes (λ k. k == g)
+  move = one_node old (with_kind g (Asynchronous alone) old) setting.processors g nodes others (λ h. refl) before.stand
+
   abbrev run : IsRunning image setting (later t)
   run =
-      running core image places nestings cycles firsts main setting old (with_kind g (Asynchronous alone) old) spaces nodes t stages hs ps ds own own' control the_law leads before left has behind.sound
-      behind.spaced g operation steps others (λ h. refl) before.stand on next
+      running core image places nestings cycles firsts main setting old (with_kind g (Asynchronous alone) old) spaces nodes nodes t stages hs ps ds own own' control the_law leads before left has behind.sound
+      behind.spaced g operation steps (λ k. k == g) move on next
 
   -- ---- its members
 
@@ -205,8 +177,8 @@ module _ (core : List CoreOp) (image : Image) (places : Places) (nestings : Nest
   home : Home the_members doings
   home =
       let many = before.many in
-      at_home core image places nestings cycles firsts main setting old (with_kind g (Asynchronous alone) old) spaces nodes the_law leads behind.spaced behind.sound (later t) run ds g 0 nodes hs left.afters
-      ds before.stand before.stand (omega (arith, many)) left.as_many left.done_as_many on
+      at_home core image places nestings cycles firsts main setting old (with_kind g (Asynchronous alone) old) spaces nodes nodes the_law leads behind.spaced behind.sound (later t) run ds g 0 nodes hs left.afters
+      ds before.stand (λ h lt at. at) (omega (arith, many)) left.as_many left.done_as_many on
 
   stands : Stands nodes g
   stands = somebody setting.processors old before.sound nodes before.stand before.many g kind
@@ -225,40 +197,26 @@ module _ (core : List CoreOp) (image : Image) (places : Places) (nestings : Nest
     parted : HaveParted core image places nestings setting (first_of spaces g) (later t) cycles_behind doings the_members (own' g)
     same : parted.operation ≡ operation
 
-  does_it : (i : ℕ) (op : CoreOp) (done : Operation) (xs : List Owner) → doings ≡ map (is_due core i op done) xs → done ≡ operation
-  does_it i op done xs e =
-      first_does core i op operation done xs (subst (AllDo operation) e all_step) (λ none. some_doings (ap (λ l. length l) e ∙ none))
+  no_end : End ≡ operation → ⊥
+  no_end e = let f : None ≡ Some alone = ap runs_alone e ∙ is in absurd (cc)
 
-  no_other : (done : Operation) → runs_alone done ≡ None → done ≡ operation → ⊥
-  no_other done none e = let f : None ≡ Some alone = sym none ∙ ap runs_alone e ∙ is in absurd (cc)
+  no_begin : Begin ≡ operation → ⊥
+  no_begin e = let f : None ≡ Some alone = ap runs_alone e ∙ is in absurd (cc)
 
-  -- they have not gone on alone
-  none_gone : (ms : List Member) (xs : List Doing) → AllDo operation xs → (length xs ≡ 0 → ⊥) → AllHaveGone core image places nestings setting ms xs → ⊥
-  none_gone [] [] do' some gone = some refl
-  none_gone (m ∷ ms) (d ∷ xs) do' some gone = subst (DoesStep operation) gone.0.done.done.done do'.0
-  none_gone ms xs do' some gone = absurd (assumption gone)
+  changes_by : (operation : Operation) → runs_alone operation ≡ Some alone → changes_tree operation ≡ true
+  changes_by Farm is' = refl
+  changes_by Seq is' = refl
+  changes_by operation is' = absurd (cc)
 
   as_group : GroupIsLeft (core_source core setting) image plan blocks (later t) g (of_node g nodes left.afters) the_members (of_node g nodes ps) doings (own' g)
   as_group =
       subst (λ b. NodeIsLeft (core_source core setting) image plan blocks b (later t) g (of_node g nodes left.afters) the_members (of_node g nodes ps) doings (own' g)) lock (left.nodes g)
 
-  parted_by : GroupIsLeft (core_source core setting) image plan blocks (later t) g (of_node g nodes left.afters) the_members (of_node g nodes ps) doings (own' g) → Parted
-  parted_by (inr x) = absurd (some_doings (not_idle operation (of_node g nodes ps) doings all_step x.2))
-  parted_by (inl x) =
-      ⊎_elim
-      (λ led.
-      let end = run_end image (plan.words g) (later t) x.1.0 the_members (own' g) (λ ms' own''. IsGroupBehind core image places nestings setting (first_of spaces g) doings ms' own'') led in
-      absurd
-      (⊎_elim (λ gone. none_gone end.0 doings all_step some_doings gone) (λ agreed. no_other Agree refl (does_it agreed.i agreed.op Agree agreed.ps agreed.due)) end.2.1))
-      (λ other.
-      ⊎_elim
-      (λ apart.
-      record { committed = x.0; cycles_behind = x.1.0; few = x.1.1; parted = apart; same = does_it apart.i apart.op apart.operation apart.ps apart.due })
-      (λ ended. absurd (no_other End refl (does_it ended.i ended.op End ended.ps ended.due))) other)
-      x.1.2
-
   all_parted : Parted
-  all_parted = parted_by as_group
+  all_parted =
+      let x = acted core image places nestings setting plan (first_of spaces) (later t) g (of_node g nodes left.afters) the_members (of_node g nodes ps) doings (own' g) operation all_step some_doings
+      (changes_by operation is) as_group in
+      ⊎_elim (λ apart. record { committed = x.committed; cycles_behind = x.cycles_behind; few = x.few; parted = apart.0; same = apart.1 }) (λ other. absurd (⊎_elim (λ ended. no_end ended.1) (λ begun. no_begin begun.1) other)) x.how
 
   -- ---- each by itself
 
@@ -413,10 +371,10 @@ module _ (core : List CoreOp) (image : Image) (places : Places) (nestings : Nest
   own_here : AllAre (Here old g GoesApart) 0 hs ds
   own_here = spread old GoesApart g 0 nodes hs ds before.stand left.done_as_many (all_apart operation is all_parted all_parted.same)
 
-  at_group : plan'.in_lockstep g ≡ true
-      → At core image places nestings cycles firsts main setting old (with_kind g (Asynchronous alone) old) spaces nodes t stages hs ps ds own own' control the_law leads before left has behind.sound
-      behind.spaced g operation steps others (λ h. refl) before.stand on next g
-  at_group locked = absurd (false≢true (sym free ∙ locked))
+  at_group : (k : ℕ) → (k == g) ≡ true → plan'.in_lockstep k ≡ true
+      → At core image places nestings cycles firsts main setting old (with_kind g (Asynchronous alone) old) spaces nodes nodes t stages hs ps ds own own' control the_law leads before left has behind.sound
+      behind.spaced g operation steps (λ k. k == g) move on next k
+  at_group k is' locked = absurd (false≢true (sym (ap (λ j. plan'.in_lockstep j) (eqb-true k g is') ∙ free) ∙ locked))
 
   on_by : (operation : Operation) (due : Option (Step Position)) → runs_alone operation ≡ Some alone → DoesStep operation due → halts due ≡ false
   on_by operation None is' does = absurd does
@@ -431,30 +389,32 @@ module _ (core : List CoreOp) (image : Image) (places : Places) (nestings : Nest
   on_all [] do' = tt
   on_all (d ∷ xs) do' = (on_by operation d.acting.due is do'.0, on_all xs do'.1)
 
-  lock_group : plan.in_lockstep g ≡ true → LockLeft (of_node g nodes left.afters) (of_node g nodes ps) (of_node g nodes ds)
-  lock_group locked = inr (all_parted.committed, on_all doings all_step)
+  lock_group : (k : ℕ) → (k == g) ≡ true → plan.in_lockstep k ≡ true → LockLeft (of_node k nodes left.afters) (of_node k nodes ps) (of_node k nodes ds)
+  lock_group =
+      only g (λ k. plan.in_lockstep k ≡ true → LockLeft (of_node k nodes left.afters) (of_node k nodes ps) (of_node k nodes ds))
+      (λ locked. inr (all_parted.committed, on_all doings all_step))
 
-  each_member : AnyGoes core image places nestings cycles firsts main setting old (with_kind g (Asynchronous alone) old) spaces nodes t stages hs ps ds own own' control the_law leads before left has
-      behind.sound behind.spaced g operation steps others (λ h. refl) before.stand on next at_group lock_group (Steps old g operation GoesApart)
+  each_member : AnyGoes core image places nestings cycles firsts main setting old (with_kind g (Asynchronous alone) old) spaces nodes nodes t stages hs ps ds own own' control the_law leads before left has
+      behind.sound behind.spaced g operation steps (λ k. k == g) move on next at_group lock_group (Steps old g operation GoesApart)
   each_member m p d known lt land home' s0 a locks alone' due remains on' =
       let apart = known.2 in
       steps_apart core image places nestings cycles firsts main setting old (with_kind g (Asynchronous alone) old) spaces nodes nodes the_law leads behind.spaced behind.sound (later t) run (actings ds)
-      (λ k. (near core image places nestings cycles firsts main setting old (with_kind g (Asynchronous alone) old) spaces nodes t stages hs ps ds own own' control the_law leads before left has
-      behind.sound behind.spaced g operation steps others (λ h. refl) before.stand on next at_group lock_group k).distance)
-      (λ k. (near core image places nestings cycles firsts main setting old (with_kind g (Asynchronous alone) old) spaces nodes t stages hs ps ds own own' control the_law leads before left has
-      behind.sound behind.spaced g operation steps others (λ h. refl) before.stand on next at_group lock_group k).soon)
+      (λ k. (near core image places nestings cycles firsts main setting old (with_kind g (Asynchronous alone) old) spaces nodes nodes t stages hs ps ds own own' control the_law leads before left has
+      behind.sound behind.spaced g operation steps (λ k. k == g) move on next at_group lock_group k).distance)
+      (λ k. (near core image places nestings cycles firsts main setting old (with_kind g (Asynchronous alone) old) spaces nodes nodes t stages hs ps ds own own' control the_law leads before left has
+      behind.sound behind.spaced g operation steps (λ k. k == g) move on next at_group lock_group k).soon)
       m p d lt home' (is_busy operation d p known.1) a (ap (λ k. plan'.in_lockstep k) known.0 ∙ free) (locks (ap (λ k. plan.in_lockstep k) known.0 ∙ lock)) apart.cycles_behind apart.hart apart.few apart.private
       apart.at (subst (λ k. StandsInNode places nestings setting (runs_of plan' (first_of spaces k) m.number) (settle d) apart.hart) (sym known.0) apart.node) on'
 
   abbrev everybody : HartsGo core image places nestings cycles firsts main setting old (with_kind g (Asynchronous alone) old) spaces nodes nodes the_law leads behind.spaced behind.sound (later t) run (actings ds)
-      (λ k. (near core image places nestings cycles firsts main setting old (with_kind g (Asynchronous alone) old) spaces nodes t stages hs ps ds own own' control the_law leads before left has
-      behind.sound behind.spaced g operation steps others (λ h. refl) before.stand on next at_group lock_group k).distance)
-      (λ k. (near core image places nestings cycles firsts main setting old (with_kind g (Asynchronous alone) old) spaces nodes t stages hs ps ds own own' control the_law leads before left has
-      behind.sound behind.spaced g operation steps others (λ h. refl) before.stand on next at_group lock_group k).soon)
+      (λ k. (near core image places nestings cycles firsts main setting old (with_kind g (Asynchronous alone) old) spaces nodes nodes t stages hs ps ds own own' control the_law leads before left has
+      behind.sound behind.spaced g operation steps (λ k. k == g) move on next at_group lock_group k).distance)
+      (λ k. (near core image places nestings cycles firsts main setting old (with_kind g (Asynchronous alone) old) spaces nodes nodes t stages hs ps ds own own' control the_law leads before left has
+      behind.sound behind.spaced g operation steps (λ k. k == g) move on next at_group lock_group k).soon)
       0 nodes nodes left.afters hs ps ds
   everybody =
-      all core image places nestings cycles firsts main setting old (with_kind g (Asynchronous alone) old) spaces nodes t stages hs ps ds own own' control the_law leads before left has behind.sound
-      behind.spaced g operation steps others (λ h. refl) before.stand on next at_group lock_group GoesApart own_here each_member
+      all core image places nestings cycles firsts main setting old (with_kind g (Asynchronous alone) old) spaces nodes nodes t stages hs ps ds own own' control the_law leads before left has behind.sound
+      behind.spaced g operation steps (λ k. k == g) move on next at_group lock_group GoesApart own_here each_member
 
   abbrev Opens : ℕ → Type 0
   Opens w = MeetingOpens (core_source core setting) image plan blocks plan' blocks' g w left.afters everybody.stages control
@@ -468,7 +428,7 @@ module _ (core : List CoreOp) (image : Image) (places : Places) (nestings : Nest
         empty = word_is_zero offset lt arrival;
         size =
             phases_count plan' g w 0 nodes everybody.stages (meeters_at new g offset) tell.member
-            (all_fine (core_source core setting) image plan blocks plan' blocks' (later t) g 0 hs nodes left.afters everybody.stages ps (all_landed core (owners_after old new ds)) free
+            (all_fine (core_source core setting) image plan blocks plan' blocks' (later t) g 0 hs nodes nodes left.afters everybody.stages ps (all_landed core (owners_after old new ds)) free
             all_parted.committed everybody.changes)
             ∙ count_is 0 nodes (meeters_at new g offset) (meeters_up offset)
             (λ h member. let below = behind.sound.within g h (meeters_among offset h member) in (omega arith, omega (arith, below, many)))
@@ -490,8 +450,8 @@ module _ (core : List CoreOp) (image : Image) (places : Places) (nestings : Nest
   pub apart : BindsAgain core image places nestings setting old spaces nodes (with_kind g (Asynchronous alone) old) spaces nodes t hs left.afters ps
       (all_landed core (owners_after old (with_kind g (Asynchronous alone) old) ds)) control
   apart =
-      bound core image places nestings cycles firsts main setting old (with_kind g (Asynchronous alone) old) spaces nodes t stages hs ps ds own own' control the_law leads before left has behind.sound
-      behind.spaced g operation steps others (λ h. refl) before.stand on next at_group lock_group GoesApart own_here each_member (λ w free' is_open. inr (opens w is_open))
+      bound_at core image places nestings cycles firsts main setting old (with_kind g (Asynchronous alone) old) spaces nodes nodes t stages hs ps ds own own' control the_law leads before left has behind.sound
+      behind.spaced g operation steps (λ k. k == g) move on next at_group lock_group GoesApart own_here each_member (λ k is'. eqb-true k g is') (λ w free' is_open. inr (opens w is_open))
 
 -- all members of a group stand in its node
 all_stand : (p : ℕ) (tree : Tree) → IsSound p tree → (g : ℕ) → trees.kind tree g ≡ Some Lockstep → AllStandIn tree g

@@ -1,5 +1,5 @@
 -- After the round in which those of a group meet at the end of its body all are bound again.
-use Rattle.std.proofs.Common.{◌≡◌, ◌≢◌, ℕ, zero, suc, ◌+◌, ◌^◌, ◌≤◌, ◌<◌, List, [], ◌∷◌, length, Option, Some, None, Bool, true, false, sym, ap, subst, ◌∙◌, refl, arith, ◌⊎◌, inl, inr, ⊎_elim, eq-eqb}
+use Rattle.std.proofs.Common.{◌≡◌, ◌≢◌, ℕ, suc, ◌+◌, ◌^◌, ◌<◌, List, [], ◌∷◌, length, Option, Some, None, Bool, true, false, sym, ap, subst, ◌∙◌, refl, arith, ◌⊎◌, inl, inr, ⊎_elim}
 use Rattle.std.specs.Prelude.{◌==◌, map, is_some}
 use Rattle.std.proofs.lemmas.Bool.{eqb-true, false≢true}
 use Rattle.fk_num.specs.Word.{Memory}
@@ -21,11 +21,11 @@ use Rattle.fk_nodes.specs.Alone.{later, in_cycles, RunsPrivately}
 use Rattle.fk_nodes.specs.Together.{Together}
 use Rattle.fk_meeting.specs.Phase.{arrived, and_arrived}
 use Rattle.fk_plans.specs.Stage.{Stage, absent, phase_of}
-use Rattle.fk_plans.specs.Plan.{Plan, Blocks, phase_at, phases_from, HasCommitted, IsBound}
+use Rattle.fk_plans.specs.Plan.{Plan, Blocks, phase_at, phases_from, HasCommitted, HasUnited, IsBound}
 use Rattle.fk_plans.specs.Cycle.{AllHaveCommitted, AllAreLeft, IsLeft}
 use Rattle.fk_plans.proofs.Left.{meeting_is_kept}
 use Rattle.fk_plans.proofs.Changes.{left_alone}
-use Rattle.fk_block_law.specs.Owner.{Owner, Doing, idle, core_source}
+use Rattle.fk_block_law.specs.Owner.{Owner, Doing, core_source}
 use Rattle.fk_block_law.specs.Stands as law
 use Rattle.fk_block_law.specs.Stands.{Places}
 use Rattle.fk_block_law.specs.Block.{IsRunning, gone_to}
@@ -39,13 +39,14 @@ use Rattle.fk_group_plans.proofs.Rounds.{not_none}
 use Rattle.fk_group_rounds.specs.Next.{JumpsLead, landed, all_landed, IsHome, HaveNext}
 use Rattle.fk_group_rounds.specs.Comes.{IsNode}
 use Rattle.fk_group_rounds.specs.After.{actings, tree_after, owner_after, owners_after, is_halt, halts, DoesStep, StepsAt, ArePlaces, AllGoOn, GroupsGoOn, BindsAgain}
-use Rattle.fk_group_rounds.specs.Rounds.{IsBefore, IsTree, AllStandIn, RoundsClose}
+use Rattle.fk_group_rounds.specs.Rounds.{IsBefore, IsTree, RoundsClose}
 use Rattle.fk_group_rounds.proofs.Lists.{of_map}
 use Rattle.fk_group_rounds.proofs.Comes.{groups_come_to_commits}
 use Rattle.fk_group_rounds.proofs.Keep.{AllAtHome, settled_below, met_settles}
 use Rattle.fk_group_rounds.proofs.Harts.{LockLeft, steps_into_group}
 use Rattle.fk_group_rounds.proofs.Groups.{at_home, many_length}
-use Rattle.fk_group_rounds.proofs.Changed.{Steps, Nothing, nothing_here, running, At, near, AnyGoes, bound}
+use Rattle.fk_group_rounds.proofs.Changed.{Steps, Nothing, nothing_here, running, At, near, AnyGoes, bound_at}
+use Rattle.fk_group_rounds.proofs.Moved.{TreeMoves, one_node, only}
 use Rattle.fk_group_rounds.proofs.Resume.{kind_there, is_busy, step_is_brought}
 
 -- all of them do this
@@ -130,12 +131,15 @@ module _ (core : List CoreOp) (image : Image) (places : Places) (nestings : Nest
   lock : plan'.in_lockstep g ≡ true
   lock = ap is_lockstep kind'
 
+  move : TreeMoves old (trees.meet g old) setting.processors g nodes nodes (λ k. k == g)
+  move = one_node old (trees.meet g old) setting.processors g nodes others (λ h. refl) before.stand
+
   -- ---- its members
 
   abbrev run : IsRunning image setting (later t)
   run =
-      running core image places nestings cycles firsts main setting old (trees.meet g old) spaces nodes t stages hs ps ds own own' control the_law leads before left has behind.sound behind.spaced g
-      (Meet true) steps others (λ h. refl) before.stand on next
+      running core image places nestings cycles firsts main setting old (trees.meet g old) spaces nodes nodes t stages hs ps ds own own' control the_law leads before left has behind.sound behind.spaced g
+      (Meet true) steps (λ k. k == g) move on next
 
   abbrev Home : List Member → List Doing → Type 0
   Home ms xs =
@@ -179,11 +183,18 @@ module _ (core : List CoreOp) (image : Image) (places : Places) (nestings : Nest
       other.1)
       x.3
 
+  -- nobody has united with others
+  committed : (m : Member) (q : Owner) (d : Doing)
+      → HasCommitted (core_source core setting) image plan blocks (later t) g m q d ⊎ HasUnited (core_source core setting) image plan blocks (later t) g m q d
+      → HasCommitted (core_source core setting) image plan blocks (later t) g m q d
+  committed m q d (inl x) = x
+  committed m q d (inr x) = absurd x.1
+
   met_members : (afters : List (Option Stage)) (ms : List Member) (qs : List Owner) (xs : List Doing) → AllAreLeft (core_source core setting) image plan blocks (later t) g afters ms qs xs
       → AllDo (Meet true) xs → Home ms xs → AreMembers places nestings setting (λ p. None) (first_of spaces g) ms (map settle xs)
   met_members [] [] [] [] left' do' home = tt
   met_members (None ∷ afters) (m ∷ ms) (q ∷ qs) (x ∷ xs) left' do' home =
-      (met_member m q x home.0.0 home.0.1 home.0.3 do'.0 left'.0, met_members afters ms qs xs left'.1 do'.1 home.1)
+      (met_member m q x home.0.0 home.0.1 home.0.3 do'.0 (committed m q x left'.0), met_members afters ms qs xs left'.1 do'.1 home.1)
   met_members (Some s ∷ afters) (m ∷ ms) (q ∷ qs) (x ∷ xs) left' do' home = absurd (is_busy (Meet true) x q do'.0 left'.0.0)
   met_members afters ms qs xs left' do' home = absurd (assumption left')
 
@@ -211,13 +222,12 @@ module _ (core : List CoreOp) (image : Image) (places : Places) (nestings : Nest
   home : Home (of_node g nodes (numbered 0 hs)) (of_node g nodes ds)
   home =
       let many = before.many in
-      at_home core image places nestings cycles firsts main setting old (trees.meet g old) spaces nodes the_law leads behind.spaced behind.sound (later t) run ds g 0 nodes hs left.afters ds before.stand
-      before.stand (omega (arith, many)) left.as_many left.done_as_many on
+      at_home core image places nestings cycles firsts main setting old (trees.meet g old) spaces nodes nodes the_law leads behind.spaced behind.sound (later t) run ds g 0 nodes hs left.afters ds before.stand (λ h lt at. at) (omega (arith, many)) left.as_many left.done_as_many on
 
   abbrev AtGroup : Type 0
   AtGroup =
-      At core image places nestings cycles firsts main setting old (trees.meet g old) spaces nodes t stages hs ps ds own own' control the_law leads before left has behind.sound behind.spaced g
-      (Meet true) steps others (λ h. refl) before.stand on next g
+      At core image places nestings cycles firsts main setting old (trees.meet g old) spaces nodes nodes t stages hs ps ds own own' control the_law leads before left has behind.sound behind.spaced g
+      (Meet true) steps (λ k. k == g) move on next g
 
   at_group : plan'.in_lockstep g ≡ true → AtGroup
   at_group locked =
@@ -244,8 +254,17 @@ module _ (core : List CoreOp) (image : Image) (places : Places) (nestings : Nest
         );
       }
 
-  lock_group : plan.in_lockstep g ≡ true → LockLeft (of_node g nodes left.afters) (of_node g nodes ps) (of_node g nodes ds)
-  lock_group locked = absurd (false≢true (sym free ∙ locked))
+  at_groups : (k : ℕ) → (k == g) ≡ true → plan'.in_lockstep k ≡ true
+      → At core image places nestings cycles firsts main setting old (trees.meet g old) spaces nodes nodes t stages hs ps ds own own' control the_law leads before left has behind.sound behind.spaced g
+      (Meet true) steps (λ k. k == g) move on next k
+  at_groups =
+      only g
+      (λ k. plan'.in_lockstep k ≡ true
+      → At core image places nestings cycles firsts main setting old (trees.meet g old) spaces nodes nodes t stages hs ps ds own own' control the_law leads before left has behind.sound behind.spaced g
+      (Meet true) steps (λ k. k == g) move on next k) at_group
+
+  lock_groups : (k : ℕ) → (k == g) ≡ true → plan.in_lockstep k ≡ true → LockLeft (of_node k nodes left.afters) (of_node k nodes ps) (of_node k nodes ds)
+  lock_groups k is locked = absurd (false≢true (sym (ap (λ j. plan.in_lockstep j) (eqb-true k g is) ∙ free) ∙ locked))
 
   no_halt_here : (d : Doing) → DoesStep (Meet true) d.acting.due → halts d.acting.due ≡ false
   no_halt_here d does = halts_by d.acting.due does
@@ -254,21 +273,21 @@ module _ (core : List CoreOp) (image : Image) (places : Places) (nestings : Nest
       halts_by None does = absurd does
       halts_by (Some step) does = ap is_halt does
 
-  each_member : AnyGoes core image places nestings cycles firsts main setting old (trees.meet g old) spaces nodes t stages hs ps ds own own' control the_law leads before left has behind.sound
-      behind.spaced g (Meet true) steps others (λ h. refl) before.stand on next at_group lock_group (Steps old g (Meet true) Nothing)
+  each_member : AnyGoes core image places nestings cycles firsts main setting old (trees.meet g old) spaces nodes nodes t stages hs ps ds own own' control the_law leads before left has behind.sound
+      behind.spaced g (Meet true) steps (λ k. k == g) move on next at_groups lock_groups (Steps old g (Meet true) Nothing)
   each_member m p d known lt land home' s0 a locks alone' due remains on' =
       steps_into_group core image places nestings cycles firsts main setting old (trees.meet g old) spaces nodes nodes the_law leads behind.spaced behind.sound (later t) run (actings ds)
-      (λ k. (near core image places nestings cycles firsts main setting old (trees.meet g old) spaces nodes t stages hs ps ds own own' control the_law leads before left has behind.sound behind.spaced g
-      (Meet true) steps others (λ h. refl) before.stand on next at_group lock_group k).distance)
-      (λ k. (near core image places nestings cycles firsts main setting old (trees.meet g old) spaces nodes t stages hs ps ds own own' control the_law leads before left has behind.sound behind.spaced g
-      (Meet true) steps others (λ h. refl) before.stand on next at_group lock_group k).soon)
+      (λ k. (near core image places nestings cycles firsts main setting old (trees.meet g old) spaces nodes nodes t stages hs ps ds own own' control the_law leads before left has behind.sound behind.spaced g
+      (Meet true) steps (λ k. k == g) move on next at_groups lock_groups k).distance)
+      (λ k. (near core image places nestings cycles firsts main setting old (trees.meet g old) spaces nodes nodes t stages hs ps ds own own' control the_law leads before left has behind.sound behind.spaced g
+      (Meet true) steps (λ k. k == g) move on next at_groups lock_groups k).soon)
       m p d (is_busy (Meet true) d p known.1) a (ap (λ k. plan'.in_lockstep k) known.0 ∙ lock) (alone' (ap (λ k. plan.in_lockstep k) known.0 ∙ free))
       (λ none. on' none (no_halt_here d known.1))
 
   closed : BindsAgain core image places nestings setting old spaces nodes (trees.meet g old) spaces nodes t hs left.afters ps (all_landed core (owners_after old (trees.meet g old) ds)) control
   closed =
-      bound core image places nestings cycles firsts main setting old (trees.meet g old) spaces nodes t stages hs ps ds own own' control the_law leads before left has behind.sound behind.spaced g
-      (Meet true) steps others (λ h. refl) before.stand on next at_group lock_group Nothing (nothing_here old g 0 hs ds) each_member (λ w free' is_open. absurd (false≢true (sym free' ∙ lock)))
+      bound_at core image places nestings cycles firsts main setting old (trees.meet g old) spaces nodes nodes t stages hs ps ds own own' control the_law leads before left has behind.sound behind.spaced g
+      (Meet true) steps (λ k. k == g) move on next at_groups lock_groups Nothing (nothing_here old g 0 hs ds) each_member (λ k is. eqb-true k g is) (λ w free' is_open. absurd (false≢true (sym free' ∙ lock)))
 
 pub rounds_close : RoundsClose
 rounds_close core image places nestings cycles firsts main setting tree spaces nodes t stages earlier hs ps ds own own' control g alone the_law leads before few binds left has kind stand steps behind on next =

@@ -1,5 +1,5 @@
 -- Who has committed comes to its next stage.
-use Rattle.std.proofs.Common.{◌≡◌, ℕ, zero, suc, ◌+◌, ◌%◌, ◌≤◌, ◌<◌, List, [], ◌∷◌, length, Bool, true, false, Some, None, sym, ap, subst, ◌∙◌, refl, arith, ◌⊎◌, inl, inr, ⊎_elim}
+use Rattle.std.proofs.Common.{◌≡◌, ℕ, zero, suc, ◌+◌, ◌≤◌, ◌<◌, List, [], ◌∷◌, length, true, false, Some, None, sym, ap, subst, ◌∙◌, refl, arith, inl, inr, ⊎_elim}
 use Rattle.std.specs.Prelude.{is_some, slice_get, Option}
 use Rattle.std.proofs.lemmas.Bool.{cond-true}
 use Rattle.fk_num.specs.Word.{Memory}
@@ -7,7 +7,6 @@ use Rattle.fk_space.specs.Space.{Space}
 use Rattle.fk_tree.specs.Tree as trees
 use Rattle.fk_tree.specs.Tree.{Tree}
 use Rattle.fk_operation.specs.Kinds.{joint_of}
-use Rattle.fk_operation.specs.declared.kinds.Joint.TheVariants.{Alone}
 use Rattle.fk_operation.specs.declared.operation.Operation.{Operation}
 use Rattle.fk_operation.specs.declared.operation.Operation.TheVariants.{End, Halt, Meet, Resume}
 use Rattle.fk_run.specs.Processor.{Setting}
@@ -21,10 +20,10 @@ use Rattle.fk_nodes.specs.Together.{Together}
 use Rattle.fk_nodes.proofs.Runs.{run_map, run_join, private_run}
 use Rattle.fk_nodes.proofs.Members.{run_leads}
 use Rattle.fk_meeting.specs.Phase.{Coming}
-use Rattle.fk_plans.specs.Stage.{Stage, Acts, Meets}
+use Rattle.fk_plans.specs.Stage.{Commits, Acts, Meets}
 use Rattle.fk_plans.specs.Plan.{Plan, Blocks, IsOpen, StandsAt}
 use Rattle.fk_plans.proofs.Changes.{does_later}
-use Rattle.fk_block_law.specs.Owner.{Owner, Doing, number_of, core_source}
+use Rattle.fk_block_law.specs.Owner.{Owner, Doing, core_source}
 use Rattle.fk_block_law.specs.Stands as law
 use Rattle.fk_block_law.specs.Stands.{Places}
 use Rattle.fk_block_law.specs.Next.{StandsOp, step_at}
@@ -37,15 +36,23 @@ use Rattle.fk_group_law.specs.Joint.{is_meeting, word_of, AreSoMany, IsArriving,
 use Rattle.fk_group_law.specs.Law.{Cycles, GroupLaw}
 use Rattle.fk_group_plans.specs.Nodes.{first_of, HaveSpaces, meeters_at, is_arrival, is_lockstep, plan_of}
 use Rattle.fk_group_plans.specs.Behind.{runs_of, blocks_of}
-use Rattle.fk_group_plans.specs.Laws.{TellsMeeters}
 use Rattle.fk_group_plans.proofs.Nodes.{tells}
 use Rattle.fk_group_plans.proofs.Standing.{members_stand_at_stages, members_halt_at_stages, meeters_set_out, act_together, step_together, end_together}
+use Rattle.fk_group_plans.specs.Rounds.{ending_of}
 use Rattle.fk_group_rounds.specs.Next.{JumpsLead, landed, all_landed, IsHome, MayMeet, HasNext, AllAt, AllAbout, ActsAlike, StepsAlike, HaveNext}
-use Rattle.fk_group_rounds.specs.Comes.{most_between, AllBelow, IsNode, ComesTo, ComeTo, MembersComeToStages, GroupsComeToCommits}
-use Rattle.fk_group_rounds.proofs.Cycles.{finished_in, in_cycles_join, runs_join, runs_later}
-use Rattle.fk_group_rounds.proofs.Way.{IsWay, alone_joint, way}
+use Rattle.fk_group_rounds.specs.Comes.{AllBelow, IsNode, ComesTo, ComeTo, MembersComeToStages, GroupsComeToCommits}
+use Rattle.fk_simulation.proofs.Linked.{in_cycles_join, runs_join, runs_later, alone_joint}
+use Rattle.fk_group_rounds.proofs.Cycles.{finished_in}
+use Rattle.fk_group_rounds.proofs.Way.{IsWay, way}
 
 -- ---- words by which members meet
+
+-- by leaving, each commits
+meeting_ends : (operation : Operation) → is_meeting operation ≡ true → ending_of (joint_of operation) ≡ Commits
+meeting_ends (Meet false) is = refl
+meeting_ends (Meet true) is = refl
+meeting_ends Resume is = refl
+meeting_ends operation is = absurd (cc)
 
 arrival_word : (operation : Operation) → is_arrival (word_of operation) ≡ true
 arrival_word (Meet false) = refl
@@ -129,8 +136,8 @@ module _ (core : List CoreOp) (image : Image) (places : Places) (nestings : Nest
       (stands.0, does_later (core_source core setting) image t 1 d stands.0 n m hart p (λ h x. blocks.AfterOne g stands.0 (record m { hart = h }) p x) private stands.1)
 
   meets_earlier : (t : MachineSetting) (g n d w : ℕ) (m : Member) (hart : Hart) (p : Owner) → IsRunning image setting t → RunsPrivately image t m.number n m.hart hart
-      → StandsAt (core_source core setting) image plan blocks (in_cycles n t) g (Meets w (Coming d)) (record m { hart = hart }) p
-      → StandsAt (core_source core setting) image plan blocks t g (Meets w (Coming (n + d))) m p
+      → StandsAt (core_source core setting) image plan blocks (in_cycles n t) g (Meets Commits w (Coming d)) (record m { hart = hart }) p
+      → StandsAt (core_source core setting) image plan blocks t g (Meets Commits w (Coming (n + d))) m p
   meets_earlier t g n d w m hart p running private stands =
       let x = stands.3 in
       let s = x.meets.stands in
@@ -240,7 +247,7 @@ module _ (core : List CoreOp) (image : Image) (places : Places) (nestings : Nest
         let even = sets.2 in
         let at = finished_in a.to_block t in
         record {
-          stage = Meets w (Coming (a.to_block + sets.0));
+          stage = Meets Commits w (Coming (a.to_block + sets.0));
           fresh = omega (arith, even, at);
           stands = meets_earlier t g a.to_block sets.0 w m a.hart p running a.private sets.3;
           due = (
@@ -252,6 +259,7 @@ module _ (core : List CoreOp) (image : Image) (places : Places) (nestings : Nest
               word_is = refl;
               arrival = arrival_word operation;
               joint = may.joint;
+              ends = sym (meeting_ends operation may.meeting) ∙ ap ending_of may.joint;
             },
           );
           soon = omega (arith, few, le);

@@ -1,6 +1,6 @@
 -- Those who may meet at a word are as many as the plan says, where each of them is at a fresh stage.
-use Rattle.std.proofs.Common.{◌≡◌, ℕ, zero, suc, ◌+◌, ◌≤◌, ◌<◌, List, [], ◌∷◌, length, Option, Some, None, Bool, true, false, sym, ap, subst, ◌∙◌, refl, arith, ⊎_elim, eq-eqb}
-use Rattle.std.specs.Prelude.{◌==◌, ◌&&◌, ◌||◌, cond, nat_lt}
+use Rattle.std.proofs.Common.{◌≡◌, ℕ, suc, ◌+◌, ◌≤◌, ◌<◌, List, [], ◌∷◌, length, Option, Some, None, Bool, true, false, sym, ap, subst, ◌∙◌, refl, arith, ⊎_elim, eq-eqb}
+use Rattle.std.specs.Prelude.{◌==◌, ◌||◌, cond}
 use Rattle.std.proofs.lemmas.Bool.{cases_Bool, cases_eq, ne_eqb, eqb-true, and_parts, or_cases, or_left, or_right, false≢true}
 use Rattle.fk_tree.specs.Tree.{is_member}
 use Rattle.fk_tree.specs.Sound.{is_below_all, is_ascending}
@@ -80,7 +80,7 @@ count_is number (n ∷ ns) (m ∷ ms) up from =
 
 -- who meets at a word is a member of those who do
 abbrev pub Fine : Plan → (number : ℕ) → Stage → Type 0
-Fine plan number (Meets v f) = IsInside f × (plan.member v number ≡ true)
+Fine plan number (Meets e v f) = IsInside f × (plan.member v number ≡ true)
 Fine plan number s = Unit {0}
 
 inside_counts : (f : Phase) (k : ℕ) → IsInside f → and_member f k ≡ suc k
@@ -104,7 +104,7 @@ stage_counts : (plan : Plan) (w number : ℕ) (s : Stage) (k : ℕ) → Fine pla
     → and_member (phase_of w (plan.member w number) (Some s)) k ≡ mark (plan.member w number) k
 stage_counts plan w number Ended k fine = absent_counts (plan.member w number) k
 stage_counts plan w number (Acts d) k fine = absent_counts (plan.member w number) k
-stage_counts plan w number (Meets v f) k fine = meets_counts plan w number v f k (v == w) refl fine.0 fine.1
+stage_counts plan w number (Meets e v f) k fine = meets_counts plan w number v f k (v == w) refl fine.0 fine.1
 
 phase_counts : (plan : Plan) (w number : ℕ) (here : Bool) (s : Stage) (k : ℕ) → (here ≡ true → Fine plan number s)
     → and_member (phase_at here (plan.member w number) (phase_of w (plan.member w number) (Some s))) k ≡ mark (plan.member w number) k
@@ -141,17 +141,17 @@ module _ {S P D : Type 0} (source : Source S P D) (image : Image) (plan : Plan) 
   stands_fine : (t : Setting) (g : ℕ) (s : Stage) (m : Member) (p : P) → StandsAt source image plan' blocks' t g s m p → Fine plan' m.number s
   stands_fine t g Ended m p stands = tt
   stands_fine t g (Acts d) m p stands = tt
-  stands_fine t g (Meets v f) m p stands = (stands.0, stands.2)
+  stands_fine t g (Meets e v f) m p stands = (stands.0, stands.2)
 
-  pub all_fine : (t : Setting) (g number : ℕ) (hs : List Hart) (ns : List ℕ) (afters : List (Option Stage)) (stages : List Stage) (ps ps' : List P) → plan'.in_lockstep g ≡ false
-      → AllHaveCommitted (of_node g ns afters) → AllChange source image plan blocks plan' blocks' t (numbered number hs) ns ns afters stages ps ps' → AllFine plan' g number ns stages
-  all_fine t g number [] [] [] [] [] [] free all change = tt
-  all_fine t g number (h ∷ hs) (n ∷ ns) (a ∷ afters) (s ∷ stages) (p ∷ ps) (p' ∷ ps') free all change =
-      let parts = committed_parts (n == g) a (of_node g ns afters) all in
+  pub all_fine : (t : Setting) (g number : ℕ) (hs : List Hart) (ns ns' : List ℕ) (afters : List (Option Stage)) (stages : List Stage) (ps ps' : List P) → plan'.in_lockstep g ≡ false
+      → AllHaveCommitted (of_node g ns' afters) → AllChange source image plan blocks plan' blocks' t (numbered number hs) ns ns' afters stages ps ps' → AllFine plan' g number ns' stages
+  all_fine t g number [] [] [] [] [] [] [] free all change = tt
+  all_fine t g number (h ∷ hs) (n ∷ ns) (n' ∷ ns') (a ∷ afters) (s ∷ stages) (p ∷ ps) (p' ∷ ps') free all change =
+      let parts = committed_parts (n' == g) a (of_node g ns' afters) all in
       let m : Member = record { number = number; hart = h } in (
         λ e.
-            let fresh = subst (λ c. Changes source image plan blocks plan' blocks' t m n n c s p p') (parts.0 e) change.0 in
-            stands_fine t n s m p' (fresh.1 (ap (λ k. plan'.in_lockstep k) (eqb-true n g e) ∙ free)),
-        all_fine t g (suc number) hs ns afters stages ps ps' free parts.1 change.1,
+            let fresh = subst (λ c. Changes source image plan blocks plan' blocks' t m n n' c s p p') (parts.0 e) change.0 in
+            stands_fine t n' s m p' (fresh.1 (ap (λ k. plan'.in_lockstep k) (eqb-true n' g e) ∙ free)),
+        all_fine t g (suc number) hs ns ns' afters stages ps ps' free parts.1 change.1,
       )
-  all_fine t g number hs ns afters stages ps ps' free all change = absurd (assumption change)
+  all_fine t g number hs ns ns' afters stages ps ps' free all change = absurd (assumption change)

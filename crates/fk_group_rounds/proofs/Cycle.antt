@@ -1,5 +1,5 @@
 -- From one cycle of the machine to the next.
-use Rattle.std.proofs.Common.{◌≡◌, ℕ, ◌^◌, ◌<◌, List, length, ◌⊎◌, inl, inr, ⊎_elim}
+use Rattle.std.proofs.Common.{inl, inr, ⊎_elim}
 use Rattle.fk_machine.specs.Cycle.{turns}
 use Rattle.fk_nodes.specs.Node.{AreAsMany}
 use Rattle.fk_plans.proofs.Left.{first_alike, second_alike, both_alike, what_is_left}
@@ -38,9 +38,9 @@ cycles_bind_again core image places nestings cycles firsts main setting tree spa
           inl (record {
             whole = whole;
             left = left;
-            again = λ known new on next.
-                rounds_bind_again core image places nestings cycles firsts main setting tree spaces nodes t stages hs done.harts ps whole.did own whole.own done.shared.control the_law leads behind few binds
-                left whole.has known new on next;
+            again = λ nodes' known new there many' on next.
+                rounds_bind_again core image places nestings cycles firsts main setting tree spaces nodes nodes' t stages hs done.harts ps whole.did own whole.own done.shared.control the_law leads behind few binds
+                left whole.has known new there many' on next;
           }))
           (λ cut. inr cut) planned.round,
     )

@@ -1,7 +1,7 @@
 -- A group in lockstep whose node a round leaves as it was.
-use Rattle.std.proofs.Common.{◌≡◌, ◌≢◌, ℕ, zero, suc, ◌+◌, ◌≤◌, ◌<◌, List, [], ◌∷◌, length, Option, Some, None, Bool, true, false, sym, ap, subst, ◌∙◌, refl, arith, ◌⊎◌, inl, inr, ⊎_elim, eq-eqb}
+use Rattle.std.proofs.Common.{◌≡◌, ℕ, suc, ◌+◌, ◌≤◌, ◌<◌, List, [], ◌∷◌, length, Option, Some, None, Bool, true, false, sym, ap, subst, ◌∙◌, refl, arith, ◌⊎◌, inl, inr, ⊎_elim, eq-eqb}
 use Rattle.std.specs.Prelude.{◌==◌, ◌&&◌, map, is_some, slice_get}
-use Rattle.std.proofs.lemmas.Bool.{eqb-true, or_left, false≢true}
+use Rattle.std.proofs.lemmas.Bool.{eqb-true, or_left}
 use Rattle.fk_num.specs.Word.{Memory}
 use Rattle.fk_space.specs.Space.{Space}
 use Rattle.fk_tree.specs.declared.node.Kind.TheVariants.{Lockstep}
@@ -14,14 +14,14 @@ use Rattle.fk_core.specs.declared.op.CoreOp.{CoreOp}
 use Rattle.fk_image.specs.declared.Image.{Image}
 use Rattle.fk_machine.specs.Hart.{Hart, Setting as MachineSetting}
 use Rattle.fk_nodes.specs.Node.{Member, numbered, add, of_node, AreAsMany, Has}
-use Rattle.fk_nodes.specs.Alone.{later, in_cycles, NodeRun}
+use Rattle.fk_nodes.specs.Alone.{later, in_cycles}
 use Rattle.fk_nodes.specs.OnePlace.{last_or}
 use Rattle.fk_nodes.specs.Together.{Together}
 use Rattle.fk_plans.specs.Stage.{Stage, Acts}
 use Rattle.fk_plans.specs.Plan.{Plan, Blocks}
 use Rattle.fk_plans.specs.Cycle.{AllHaveCommitted, AllKeep as AllStay, NodeIsLeft, GroupIsLeft}
 use Rattle.fk_plans.specs.Change.{HasSame, GroupStays}
-use Rattle.fk_plans.proofs.Changes.{together_on}
+use Rattle.fk_plans.proofs.Changes.{same_of, together_on}
 use Rattle.fk_block_law.specs.Owner.{Owner, Doing, core_source}
 use Rattle.fk_block_law.specs.Stands.{Places}
 use Rattle.fk_block_law.specs.Block.{IsRunning}
@@ -36,10 +36,10 @@ use Rattle.fk_group_rounds.specs.After.{actings, owner_after, AllKeep, ArePlaces
 use Rattle.fk_group_rounds.proofs.Lists.{of_map, some_of}
 use Rattle.fk_group_rounds.proofs.Agreed.{some_elem, member_place, agreed_is}
 use Rattle.fk_group_rounds.proofs.Same.{SameNode}
-use Rattle.fk_group_rounds.proofs.Keep.{AllOn, AllAtHome, group_comes, nobody_halts}
+use Rattle.fk_group_rounds.proofs.Keep.{AllAtHome, group_comes, nobody_halts}
 use Rattle.fk_group_rounds.proofs.Harts.{LockLeft}
 
-same_all : (g : ℕ) (ns : List ℕ) → HasSame g ns ns
+pub same_all : (g : ℕ) (ns : List ℕ) → HasSame g ns ns
 same_all g [] = tt
 same_all g (n ∷ ns) = (refl, same_all g ns)
 
@@ -82,7 +82,7 @@ there_are nodes g xs stands many =
     let x = some_elem xs stands.hart (omega (arith, below, many)) in
     some_of g nodes xs stands.hart x.is stands.at x.at
 
-module _ (core : List CoreOp) (image : Image) (places : Places) (nestings : Nestings) (cycles : Cycles) (firsts : List ℕ) (main : ℕ) (setting : Setting) (old tree : Tree) (spaces : ℕ → Space) (nodes : List ℕ)
+module _ (core : List CoreOp) (image : Image) (places : Places) (nestings : Nestings) (cycles : Cycles) (firsts : List ℕ) (main : ℕ) (setting : Setting) (old tree : Tree) (spaces : ℕ → Space) (nodes nodes' : List ℕ)
     (the_law : GroupLaw core image places nestings cycles firsts main) (leads : JumpsLead core) (spaced : HaveSpaces tree spaces) (sound : IsSound setting.processors tree)
     (t : MachineSetting) (running : IsRunning image setting t) (ds : List Doing) where
   abbrev plan : Plan
@@ -92,33 +92,33 @@ module _ (core : List CoreOp) (image : Image) (places : Places) (nestings : Nest
   blocks = blocks_of core image places nestings setting (plan_of old spaces nodes) (first_of spaces)
 
   abbrev plan' : Plan
-  plan' = plan_of tree spaces nodes
+  plan' = plan_of tree spaces nodes'
 
   abbrev blocks' : Blocks Owner Doing
-  blocks' = blocks_of core image places nestings setting (plan_of tree spaces nodes) (first_of spaces)
+  blocks' = blocks_of core image places nestings setting (plan_of tree spaces nodes') (first_of spaces)
 
   abbrev settle : Doing → Owner
   settle d = owner_after (actings ds) old tree d
 
   home_add : (g : ℕ) (b : Bool) (m : Member) (ms : List Member) (d : Doing) (xs : List Doing)
-      → (b ≡ true → AllAtHome core image places nestings cycles firsts main setting old tree spaces nodes nodes the_law leads spaced sound t running (actings ds) g (m ∷ []) (d ∷ []))
-      → AllAtHome core image places nestings cycles firsts main setting old tree spaces nodes nodes the_law leads spaced sound t running (actings ds) g ms xs
-      → AllAtHome core image places nestings cycles firsts main setting old tree spaces nodes nodes the_law leads spaced sound t running (actings ds) g (add b m ms) (add b d xs)
+      → (b ≡ true → AllAtHome core image places nestings cycles firsts main setting old tree spaces nodes nodes' the_law leads spaced sound t running (actings ds) g (m ∷ []) (d ∷ []))
+      → AllAtHome core image places nestings cycles firsts main setting old tree spaces nodes nodes' the_law leads spaced sound t running (actings ds) g ms xs
+      → AllAtHome core image places nestings cycles firsts main setting old tree spaces nodes nodes' the_law leads spaced sound t running (actings ds) g (add b m ms) (add b d xs)
   home_add g true m ms d xs one rest = ((one refl).0, rest)
   home_add g false m ms d xs one rest = rest
 
-  pub at_home : (g number : ℕ) (ns : List ℕ) (hs : List Hart) (afters : List (Option Stage)) (xs : List Doing) → ArePlaces old number ns → ArePlaces tree number ns → number + length ns ≡ setting.processors
+  pub at_home : (g number : ℕ) (ns : List ℕ) (hs : List Hart) (afters : List (Option Stage)) (xs : List Doing) → ArePlaces old number ns → ((h : ℕ) → h < setting.processors → old.places h ≡ g → tree.places h ≡ g) → number + length ns ≡ setting.processors
       → AreAsMany ns hs afters → AreAsMany ns hs xs → AllGoOn core tree spaces number afters xs (map settle xs)
-      → AllAtHome core image places nestings cycles firsts main setting old tree spaces nodes nodes the_law leads spaced sound t running (actings ds) g (of_node g ns (numbered number hs)) (of_node g ns xs)
-  at_home g number [] [] [] [] here there many as_a as_d on = tt
-  at_home g number (n ∷ ns) (h ∷ hs) (a ∷ afters) (d ∷ xs) here there many as_a as_d on =
+      → AllAtHome core image places nestings cycles firsts main setting old tree spaces nodes nodes' the_law leads spaced sound t running (actings ds) g (of_node g ns (numbered number hs)) (of_node g ns xs)
+  at_home g number [] [] [] [] here stay many as_a as_d on = tt
+  at_home g number (n ∷ ns) (h ∷ hs) (a ∷ afters) (d ∷ xs) here stay many as_a as_d on =
       home_add g (n == g) (record { number = number; hart = h }) (of_node g ns (numbered (suc number) hs)) d (of_node g ns xs)
-      (λ e. let same = eqb-true n g e in ((sym here.0 ∙ same, sym there.0 ∙ same, omega (arith, many), on.0), tt))
-      (at_home g (suc number) ns hs afters xs here.1 there.1 (omega (arith, many)) as_a as_d on.2)
-  at_home g number ns hs afters xs here there many as_a as_d on = absurd (assumption (as_a, as_d))
+      (λ e. let at = sym here.0 ∙ eqb-true n g e in let lt : number < setting.processors = omega (arith, many) in ((at, stay number lt at, lt, on.0), tt))
+      (at_home g (suc number) ns hs afters xs here.1 stay (omega (arith, many)) as_a as_d on.2)
+  at_home g number ns hs afters xs here stay many as_a as_d on = absurd (assumption (as_a, as_d))
 
   module _ (hs : List Hart) (ps : List Owner) (afters : List (Option Stage)) (own' : ℕ → Memory) (control : Memory)
-      (here : ArePlaces old 0 nodes) (there : ArePlaces tree 0 nodes) (many : length nodes ≡ setting.processors) (as_a : AreAsMany nodes hs afters) (as_d : AreAsMany nodes hs ds)
+      (here : ArePlaces old 0 nodes) (many : length nodes ≡ setting.processors) (as_a : AreAsMany nodes hs afters) (as_d : AreAsMany nodes hs ds)
       (on : AllGoOn core tree spaces 0 afters ds (map settle ds)) (has : (g : ℕ) → Has (plan.words g) control (own' g))
       (sound_old : IsSound setting.processors old)
       (is_left : (g : ℕ) → NodeIsLeft (core_source core setting) image plan blocks (plan.in_lockstep g) t g (of_node g nodes afters) (of_node g nodes (numbered 0 hs)) (of_node g nodes ps)
@@ -128,8 +128,8 @@ module _ (core : List CoreOp) (image : Image) (places : Places) (nestings : Nest
       pub distance : ℕ
       pub soon : distance ≤ most_between
       pub goes : GroupStays (core_source core setting) image plan blocks plan' blocks' g afters
-          ⊎ (AllHaveCommitted (of_node g nodes afters)
-          × Together (core_source core setting) image (plan'.words g) t 1 distance (of_node g nodes (numbered 0 hs)) (of_node g nodes (all_landed core (map settle ds))) control
+          ⊎ (AllHaveCommitted (of_node g nodes' afters)
+          × Together (core_source core setting) image (plan'.words g) t 1 distance (of_node g nodes' (numbered 0 hs)) (of_node g nodes' (all_landed core (map settle ds))) control
           (blocks'.AfterAll (later (in_cycles distance t)) g))
 
     as_group : (g : ℕ) → plan.in_lockstep g ≡ true → GroupIsLeft (core_source core setting) image plan blocks t g (of_node g nodes afters) (of_node g nodes (numbered 0 hs)) (of_node g nodes ps)
@@ -152,15 +152,16 @@ module _ (core : List CoreOp) (image : Image) (places : Places) (nestings : Nest
         (λ empty. none_kind (old.nodes g) (sound_old.living g empty) kind) kind (sym lengths.1 ∙ many)
 
     -- whose steps keep the tree
-    module _ (g : ℕ) (same : SameNode old tree spaces g) (lock : plan.in_lockstep g ≡ true) (keep : AllKeep (of_node g nodes ds)) where
+    module _ (g : ℕ) (same : SameNode old tree spaces g) (lock : plan.in_lockstep g ≡ true) (keep : AllKeep (of_node g nodes ds))
+        (stay : (h : ℕ) → h < setting.processors → old.places h ≡ g → tree.places h ≡ g) (alike : HasSame g nodes nodes') where
       kind : trees.kind old g ≡ Some Lockstep
       kind = lockstep_kind (trees.kind old g) lock
 
       stands : Stands nodes g
       stands = somebody setting.processors old sound_old nodes here many g kind
 
-      home : AllAtHome core image places nestings cycles firsts main setting old tree spaces nodes nodes the_law leads spaced sound t running (actings ds) g (of_node g nodes (numbered 0 hs)) (of_node g nodes ds)
-      home = at_home g 0 nodes hs afters ds here there (omega (arith, many)) as_a as_d on
+      home : AllAtHome core image places nestings cycles firsts main setting old tree spaces nodes nodes' the_law leads spaced sound t running (actings ds) g (of_node g nodes (numbered 0 hs)) (of_node g nodes ds)
+      home = at_home g 0 nodes hs afters ds here stay (omega (arith, many)) as_a as_d on
 
       node : IsNode tree spaces g
       node = record { spaced = spaced; there = same.words.there'; given = same.words.given' }
@@ -172,23 +173,32 @@ module _ (core : List CoreOp) (image : Image) (places : Places) (nestings : Nest
       after_same u ms xs own x =
           (x.0, x.1, subst (λ w. HaveActed core image places nestings setting w (first_of spaces g) u x.0 xs ms own) words x.2)
 
-      pub group_at : (AllHaveCommitted (of_node g nodes afters) → HaveNext core nestings (of_node g nodes (map settle ds))) → GroupAt g
+      -- its members are the same in both trees
+      now : {A : Type 0} (xs : List A) → of_node g nodes xs ≡ of_node g nodes' xs
+      now xs = sym (same_of g nodes nodes' xs alike)
+
+      pub group_at : (AllHaveCommitted (of_node g nodes' afters) → HaveNext core nestings (of_node g nodes' (map settle ds))) → GroupAt g
       group_at next =
           ⊎_elim
           (λ x.
           let are = of_map settle g nodes ds in
-          let come = group_comes core image places nestings cycles firsts main setting old tree spaces nodes nodes the_law leads spaced sound t running (actings ds) g (of_node g nodes (numbered 0 hs))
-          (of_node g nodes ds) home keep (members_there g stands) (agrees g kind) (own' g) node words (subst (HaveNext core nestings) are (next x.0)) x.1 in
+          let come = group_comes core image places nestings cycles firsts main setting old tree spaces nodes nodes' the_law leads spaced sound t running (actings ds) g (of_node g nodes (numbered 0 hs))
+          (of_node g nodes ds) home keep (members_there g stands) (agrees g kind) (own' g) node words
+          (subst (HaveNext core nestings) (sym (now (map settle ds)) ∙ are) (next (subst AllHaveCommitted (now afters) x.0))) x.1 in
+          let qs = all_landed core (map settle ds) in
           record {
             distance = come.distance;
             soon = come.soon;
             goes = inr (
-              x.0,
+              subst AllHaveCommitted (now afters) x.0,
               subst
+                  (λ l. Together (core_source core setting) image (plan'.words g) t 1 come.distance l (of_node g nodes' qs) control (blocks'.AfterAll (later (in_cycles come.distance t)) g))
+                  (now (numbered 0 hs))
+                  (subst
                   (λ l. Together (core_source core setting) image (plan'.words g) t 1 come.distance (of_node g nodes (numbered 0 hs)) l control (blocks'.AfterAll (later (in_cycles come.distance t)) g))
-                  (sym (of_map (landed core) g nodes (map settle ds) ∙ ap (all_landed core) are))
+                  (sym (of_map (landed core) g nodes (map settle ds) ∙ ap (all_landed core) are) ∙ now qs)
                   (together_on (core_source core setting) image (plan'.words g) t 1 come.distance (of_node g nodes (numbered 0 hs)) (all_landed core (map settle (of_node g nodes ds))) (own' g) control
-                  (blocks'.AfterAll (later (in_cycles come.distance t)) g) (members_there g stands) (λ i mine. sym (has g i (ap (λ w. w i) words ∙ mine))) come.together),
+                  (blocks'.AfterAll (later (in_cycles come.distance t)) g) (members_there g stands) (λ i mine. sym (has g i (ap (λ w. w i) words ∙ mine))) come.together)),
             );
           })
           (λ x.
@@ -198,7 +208,7 @@ module _ (core : List CoreOp) (image : Image) (places : Places) (nestings : Nest
             goes = inl (record {
               grouped = lock;
               busy = λ gone. let none = none_both (Acts x.0) (of_node g nodes afters) x.1 gone in there_are nodes g afters stands ((many_length nodes hs afters as_a).1) none;
-              same = same_all g nodes;
+              same = alike;
               words = sym words;
               after = λ u ms xs own y. after_same u ms xs own y;
             });
@@ -211,7 +221,7 @@ module _ (core : List CoreOp) (image : Image) (places : Places) (nestings : Nest
           ⊎_elim
           (λ x. inr (
             x.0,
-            nobody_halts core image places nestings cycles firsts main setting old tree spaces nodes nodes the_law leads spaced sound t running (actings ds) g (of_node g nodes (numbered 0 hs))
+            nobody_halts core image places nestings cycles firsts main setting old tree spaces nodes nodes' the_law leads spaced sound t running (actings ds) g (of_node g nodes (numbered 0 hs))
                 (of_node g nodes ds) home keep (members_there g stands) (agrees g kind) (own' g) x.1,
           ))
           (λ x. inl (x.0, x.1, x.2)) (as_group g lock)

@@ -1,13 +1,10 @@
 -- All harts behind a round.
-use Rattle.std.proofs.Common.{◌≡◌, ℕ, zero, suc, ◌+◌, ◌≤◌, ◌<◌, List, [], ◌∷◌, length, Option, Some, None, Bool, true, false, sym, ap, subst, ◌∙◌, refl, arith, ◌⊎◌, inl, inr, ⊎_elim, eq-eqb}
-use Rattle.std.specs.Prelude.{◌==◌, map, is_some, slice_get}
+use Rattle.std.proofs.Common.{◌≡◌, ℕ, suc, ◌+◌, ◌≤◌, ◌<◌, List, [], ◌∷◌, length, Option, Some, None, Bool, true, false, sym, ap, subst, ◌∙◌, refl, arith, ◌⊎◌, inl, inr, ⊎_elim, eq-eqb}
+use Rattle.std.specs.Prelude.{◌==◌, map}
 use Rattle.std.proofs.lemmas.Bool.{cases_Bool, eqb-true, false≢true}
-use Rattle.fk_num.specs.Word.{Memory}
 use Rattle.fk_space.specs.Space.{Space}
-use Rattle.fk_tree.specs.declared.node.Kind.TheVariants.{Lockstep}
 use Rattle.fk_tree.specs.Tree as trees
 use Rattle.fk_tree.specs.Tree.{Tree, kind_of, members_of}
-use Rattle.fk_tree.specs.Sound as sounds
 use Rattle.fk_tree.specs.Sound.{IsSound}
 use Rattle.fk_run.specs.Processor.{Setting}
 use Rattle.fk_run.specs.Round.{Runner, Acting}
@@ -15,14 +12,13 @@ use Rattle.fk_core.specs.declared.op.CoreOp.{CoreOp}
 use Rattle.fk_core.specs.Next.{Position, landing}
 use Rattle.fk_image.specs.declared.Image.{Image}
 use Rattle.fk_machine.specs.Hart.{Hart, Setting as MachineSetting}
-use Rattle.fk_nodes.specs.Node.{Member, numbered, add, of_node, AreAsMany, Has}
-use Rattle.fk_nodes.specs.Alone.{later, in_cycles, RunsPrivately}
-use Rattle.fk_nodes.specs.Together.{Together}
+use Rattle.fk_nodes.specs.Node.{Member, numbered, add, of_node, AreAsMany}
+use Rattle.fk_nodes.specs.Alone.{RunsPrivately}
 use Rattle.fk_plans.specs.Stage.{Stage, Ended, Acts, Meets, Pairwise, SameKind, Remains}
 use Rattle.fk_plans.specs.Plan.{Plan, Blocks, IsInside, StandsAt, AllAct}
-use Rattle.fk_plans.specs.Cycle.{AllHaveCommitted, AllKeep as AllStay, Went, AllAreLeft, NodeIsLeft}
-use Rattle.fk_plans.specs.Change.{HasSame, StaysMember, StaysOpen, Changes, AllChange, GroupStays}
-use Rattle.fk_plans.proofs.Changes.{left_first, left_rest, together_on}
+use Rattle.fk_plans.specs.Cycle.{AllHaveCommitted, AllKeep as AllStay, Went, AllAreLeft}
+use Rattle.fk_plans.specs.Change.{StaysMember, StaysOpen, Changes, AllChange}
+use Rattle.fk_plans.proofs.Changes.{left_first, left_rest}
 use Rattle.fk_block_law.specs.Owner.{Owner, Doing, idle, core_source}
 use Rattle.fk_block_law.specs.Stands as law
 use Rattle.fk_block_law.specs.Stands.{Places}
@@ -32,11 +28,11 @@ use Rattle.fk_block_law.proofs.Standing.{next_here}
 use Rattle.fk_group_law.specs.Node.{Nestings, StandsInNode}
 use Rattle.fk_group_law.specs.Law.{Cycles, GroupLaw}
 use Rattle.fk_group_plans.specs.Nodes.{first_of, HaveSpaces, is_lockstep, plan_of}
-use Rattle.fk_group_plans.specs.Behind.{runs_of, StandsInMeeting, IsBehind, blocks_of}
-use Rattle.fk_group_plans.specs.Rounds.{joint_at_word, IsDueAt, AllDue}
+use Rattle.fk_group_plans.specs.Behind.{runs_of, StandsByEnding, IsBehind, blocks_of}
+use Rattle.fk_group_plans.specs.Rounds.{joint_at_word, ending_of, IsDueAt, AllDue}
 use Rattle.fk_group_rounds.specs.Next.{JumpsLead, landed, all_landed, IsHome, HasNext}
 use Rattle.fk_group_rounds.specs.Comes.{most_between, IsSoon}
-use Rattle.fk_group_rounds.specs.After.{runners_of, owner_after, Keeps, AllKeep, halts, ArePlaces, AllLanded, AllGoOn, AllSoon}
+use Rattle.fk_group_rounds.specs.After.{runners_of, owner_after, halts, ArePlaces, AllLanded, AllGoOn, AllSoon}
 use Rattle.fk_group_rounds.proofs.Same.{SameNode, runs_same, opens_still, member_still, size_still}
 use Rattle.fk_group_rounds.proofs.Comes.{comes}
 use Rattle.fk_group_rounds.proofs.Keep.{AllOn, node_is_there, member_comes}
@@ -75,15 +71,25 @@ lock_rest false a afters p ps d ds x = x
 
 -- what stages say of phases
 abbrev Inside : Stage → Type 0
-Inside (Meets w f) = IsInside f
+Inside (Meets e w f) = IsInside f
 Inside s = Unit {0}
 
 module _ (core : List CoreOp) (tree : Tree) (spaces : ℕ → Space) where
   due_keeps : (g : ℕ) (s0 s : Stage) (r : Runner Position) → IsDueAt core tree spaces g s0 r → SameKind s0 s → Inside s → IsDueAt core tree spaces g s r
   due_keeps g Ended Ended r due same inside = due
   due_keeps g (Acts d) (Acts d') r due same inside = due
-  due_keeps g (Meets w f) (Meets v f') r due same inside =
-      (inside, record { offset = due.1.offset; step = due.1.step; next_is = due.1.next_is; word_is = same ∙ due.1.word_is; arrival = due.1.arrival; joint = due.1.joint })
+  due_keeps g (Meets e w f) (Meets e' v f') r due same inside = (
+    inside,
+    record {
+      offset = due.1.offset;
+      step = due.1.step;
+      next_is = due.1.next_is;
+      word_is = same.1 ∙ due.1.word_is;
+      arrival = due.1.arrival;
+      joint = due.1.joint;
+      ends = same.0 ∙ due.1.ends;
+    },
+  )
   due_keeps g s0 s r due same inside = absurd (assumption same)
 
 module _ (core : List CoreOp) (image : Image) (places : Places) (nestings : Nestings) (cycles : Cycles) (firsts : List ℕ) (main : ℕ) (setting : Setting) (old tree : Tree) (spaces : ℕ → Space) (nodes nodes' : List ℕ)
@@ -124,7 +130,7 @@ module _ (core : List CoreOp) (image : Image) (places : Places) (nestings : Nest
       → StaysMember plan' g m.number s × Inside s
   stays_member g Ended m p same stands = (tt, tt)
   stays_member g (Acts d) m p same stands = (tt, tt)
-  stays_member g (Meets w f) m p same stands =
+  stays_member g (Meets e w f) m p same stands =
       ((opens_still old tree spaces nodes nodes' g same.words w stands.1, member_still old tree spaces nodes nodes' g same.words w m.number stands.1 ∙ stands.2), stands.0)
 
   -- to those in it that do nothing a node is what it was
@@ -132,15 +138,15 @@ module _ (core : List CoreOp) (image : Image) (places : Places) (nestings : Nest
   stays_open g free same = record {
     alone = ap is_lockstep (sym same.kind) ∙ free;
     after = λ behind m p d x. subst (λ r. IsBehind core image places nestings setting r behind m p d) (runs_same old tree spaces nodes nodes' g same.words m.number) x;
-    stands = λ u w f m p is_open x.
-        subst (λ r. StandsInMeeting core image places nestings setting r w (plan'.size w) u f m p) (runs_same old tree spaces nodes nodes' g same.words m.number)
-        (subst (λ n. StandsInMeeting core image places nestings setting (runs_of plan (first_of spaces g) m.number) w n u f m p) (size_still old tree spaces nodes nodes' g same.words w is_open) x);
+    stands = λ u e w f m p is_open x.
+        subst (λ r. StandsByEnding core image places nestings setting e r w (plan'.size w) u f m p) (runs_same old tree spaces nodes nodes' g same.words m.number)
+        (subst (λ n. StandsByEnding core image places nestings setting e (runs_of plan (first_of spaces g) m.number) w n u f m p) (size_still old tree spaces nodes nodes' g same.words w is_open) x);
   }
 
   due_still : (g : ℕ) (s : Stage) (r : Runner Position) → trees.kind tree g ≡ trees.kind old g → IsDueAt core old spaces g s r → IsDueAt core tree spaces g s r
   due_still g Ended r same due = due
   due_still g (Acts d) r same due = record { step = due.step; next_is = due.next_is; joint = λ free. due.joint (ap is_lockstep (sym same) ∙ free) }
-  due_still g (Meets w f) r same due = (
+  due_still g (Meets e w f) r same due = (
     due.0,
     record {
       offset = due.1.offset;
@@ -148,7 +154,8 @@ module _ (core : List CoreOp) (image : Image) (places : Places) (nestings : Nest
       next_is = due.1.next_is;
       word_is = due.1.word_is;
       arrival = due.1.arrival;
-      joint = due.1.joint ∙ ap (λ k. joint_at_word k due.1.offset) (sym same);
+      joint = due.1.joint ∙ ap (λ k. joint_at_word g k due.1.offset) (sym same);
+      ends = due.1.ends ∙ ap (λ k. ending_of (joint_at_word g k due.1.offset)) (sym same);
     },
   )
 

@@ -1,33 +1,29 @@
 -- Who has committed by itself comes to its next stage, and so does a group that has done so in lockstep and stays in its node.
-use Rattle.std.proofs.Common.{◌≡◌, ◌≢◌, ℕ, zero, suc, ◌+◌, ◌≤◌, ◌<◌, List, [], ◌∷◌, length, Option, Some, None, Bool, true, false, sym, ap, subst, ◌∙◌, refl, arith, ◌⊎◌, inl, inr, ⊎_elim, eq-eqb}
-use Rattle.std.specs.Prelude.{◌==◌, map, is_some, slice_get}
-use Rattle.std.proofs.lemmas.Bool.{cases_Bool, eqb-true, false≢true}
+use Rattle.std.proofs.Common.{◌≡◌, ◌≢◌, ℕ, suc, ◌≤◌, ◌<◌, List, [], ◌∷◌, length, Option, Some, None, true, false, sym, ap, subst, ◌∙◌, refl, arith, ◌⊎◌, inl, inr, ⊎_elim}
+use Rattle.std.specs.Prelude.{map, is_some}
 use Rattle.fk_num.specs.Word.{Memory}
 use Rattle.fk_space.specs.Space.{Space}
-use Rattle.fk_tree.specs.declared.node.Kind.TheVariants.{Lockstep}
 use Rattle.fk_tree.specs.Tree as trees
 use Rattle.fk_tree.specs.Tree.{Tree, kind_of, members_of}
 use Rattle.fk_tree.specs.Sound.{IsSound}
 use Rattle.fk_tree.proofs.Shapes.{has_some, some-given}
-use Rattle.fk_operation.specs.Kinds.{joint_of}
 use Rattle.fk_operation.specs.declared.operation.Operation.{Operation}
-use Rattle.fk_operation.specs.declared.operation.Operation.TheVariants as o
-use Rattle.fk_operation.specs.declared.operation.Operation.TheVariants.{Agree, Meet, Resume, Halt, End, Farm, Seq}
+use Rattle.fk_operation.specs.declared.operation.Operation.TheVariants.{Begin, Agree, Meet, Resume, Halt, End, Farm, Seq}
 use Rattle.fk_run.specs.Processor.{Setting, values, last}
-use Rattle.fk_run.specs.Round.{Step, Runner, Acting, lowest, agreed, settled_by}
+use Rattle.fk_run.specs.Round.{Acting, lowest, agreed, settled_by}
 use Rattle.fk_run.specs.Group.{goes_onward}
 use Rattle.fk_core.specs.declared.op.CoreOp.{CoreOp}
 use Rattle.fk_core.specs.Next.{Position, position, landing, next}
 use Rattle.fk_image.specs.declared.Image.{Image}
 use Rattle.fk_machine.specs.Hart.{Hart, Setting as MachineSetting}
-use Rattle.fk_nodes.specs.Node.{Member, numbered, add, of_node, AreAsMany, Has}
-use Rattle.fk_nodes.specs.Alone.{later, in_cycles, RunsPrivately, NodeRun}
+use Rattle.fk_nodes.specs.Node.{Member}
+use Rattle.fk_nodes.specs.Alone.{RunsPrivately, NodeRun}
 use Rattle.fk_nodes.specs.OnePlace.{last_or}
 use Rattle.fk_nodes.proofs.Runs.{run_map}
 use Rattle.fk_plans.specs.Stage.{Ended}
-use Rattle.fk_plans.specs.Plan.{Plan, Blocks, StandsAt, HasCommitted}
+use Rattle.fk_plans.specs.Plan.{Plan, Blocks, HasCommitted, HasUnited}
 use Rattle.fk_lockstep.specs.Untouched.{changes_tree}
-use Rattle.fk_block_law.specs.Owner.{Owner, Doing, number_of, owner_of, idle, core_source}
+use Rattle.fk_block_law.specs.Owner.{Owner, Doing, number_of, owner_of, core_source}
 use Rattle.fk_block_law.specs.Stands as law
 use Rattle.fk_block_law.specs.Stands.{Places}
 use Rattle.fk_block_law.specs.Block.{most_behind, IsRunning, gone_to}
@@ -36,12 +32,12 @@ use Rattle.fk_group_law.specs.Lockstep.{is_due, stepped, highest_value, AreMembe
 use Rattle.fk_group_law.specs.Joint.{is_meeting}
 use Rattle.fk_group_law.specs.Law.{Cycles, GroupLaw, sets_apart}
 use Rattle.fk_group_plans.specs.Nodes.{first_of, HaveSpaces, is_lockstep, plan_of}
-use Rattle.fk_group_plans.specs.Behind.{runs_of, HasEnded, HasGone, HasMet, IsBehind, AllHaveGone, HaveAgreed, HaveParted, HaveEnded, IsGroupBehind, HaveActed, blocks_of}
-use Rattle.fk_group_plans.proofs.Rounds.{not_none}
+use Rattle.fk_group_plans.specs.Behind.{runs_of, HasEnded, HasGone, HasMet, AllHaveGone, HaveAgreed, HaveParted, HaveEnded, HaveBegun, IsGroupBehind, blocks_of}
 use Rattle.fk_group_rounds.specs.Next.{JumpsLead, landed, all_landed, IsHome, HasNext, HaveNext}
 use Rattle.fk_group_rounds.specs.Comes.{AllBelow, IsNode, ComesTo, ComeTo}
-use Rattle.fk_group_rounds.specs.After.{actings, owner_after, AllKeep, is_halt, halts}
-use Rattle.fk_group_rounds.proofs.Way.{landing_end, ended_next}
+use Rattle.fk_group_rounds.specs.After.{owner_after, AllKeep, is_halt, halts}
+use Rattle.fk_simulation.proofs.Linked.{ended_next}
+use Rattle.fk_group_rounds.proofs.Way.{landing_end}
 use Rattle.fk_group_rounds.proofs.Lists.{map_map, SameNumbers, run_numbers, run_end}
 use Rattle.fk_group_rounds.proofs.Comes.{comes, groups_come_to_commits}
 
@@ -148,12 +144,13 @@ module _ (core : List CoreOp) (image : Image) (places : Places) (nestings : Nest
           stands = ap (λ h. h.ended) here ∙ ended.ended;
           due =
               ap (λ w. next core (position (landing core w.at) w.callers)) left
-              ∙ ap (λ i. next core (position i [])) (landing_end core) ∙ ended_next core [];
+              ∙ ap (λ i. next core (position i [])) (landing_end core) ∙ ended_next core image places setting [];
           soon = tt;
         }
 
-    pub member_comes : HasCommitted (core_source core setting) image plan blocks t (old.places m.number) m p d → Comes
-    member_comes x =
+    pub member_comes : HasCommitted (core_source core setting) image plan blocks t (old.places m.number) m p d ⊎ HasUnited (core_source core setting) image plan blocks t (old.places m.number) m p d → Comes
+    member_comes (inr x) = absurd x.1
+    member_comes (inl x) =
         ⊎_elim (λ gone. come_gone x.0 x.1 gone.0 x.2 gone.1)
         (λ other. ⊎_elim (λ ended. come_ended x.0 x.1 other.0 x.2 ended) (λ met. come_met x.0 x.1 other.0 x.2 met) other.1) x.3
 
@@ -242,10 +239,13 @@ module _ (core : List CoreOp) (image : Image) (places : Places) (nestings : Nest
 
     -- no step sets them apart
     nobody_parts : (b : ℕ) (own : Memory)
-        → (HaveParted core image places nestings setting (first_of spaces g) t b ds ms own ⊎ HaveEnded core image places nestings setting t b ds ms) → ⊥
+        → (HaveParted core image places nestings setting (first_of spaces g) t b ds ms own
+        ⊎ (HaveEnded core image places nestings setting t b ds ms ⊎ HaveBegun core image places nestings setting t ds ms own)) → ⊥
     nobody_parts b own (inl x) =
         parts_change x.operation x.parts (first_due x.i x.op x.operation g ms x.ps (subst (AllAtHome g ms) x.due home) (subst AllKeep x.due keep) some)
-    nobody_parts b own (inr x) =
+    nobody_parts b own (inr (inr x)) =
+        absurd (let kept = first_due x.i x.op Begin g ms x.ps (subst (AllAtHome g ms) x.due home) (subst AllKeep x.due keep) some in cc)
+    nobody_parts b own (inr (inl x)) =
         absurd (let kept = first_due x.i x.op End g ms x.ps (subst (AllAtHome g ms) x.due home) (subst AllKeep x.due keep) some in cc)
 
     -- those of which nobody halts

@@ -20,7 +20,8 @@ pub mod Groups
 pub mod Trees
 -- the tree behind one step
 pub mod Steps
--- where one node changes its kind
+-- where the members of one node do a step
+pub mod Moved
 pub mod Changed
 -- back from the group of `start`
 pub mod Resume
@@ -28,8 +29,16 @@ pub mod Resume
 pub mod Close
 -- those who may meet at a word
 pub mod Counts
+-- behind a step, each by itself
+pub mod Acted
 -- at the beginning of a body
 pub mod Apart
+-- at the end of the group of `start`
+pub mod Ends
+-- where the group of `start` begins
+pub mod Starts
+-- and before it
+pub mod Nearer
 -- each known round
 pub mod Sum
 -- one program in a group

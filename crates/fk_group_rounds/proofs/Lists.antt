@@ -1,10 +1,10 @@
 -- Lists by hart, and by node; and the numbers of members in a run of their node.
-use Rattle.std.proofs.Common.{◌≡◌, ℕ, zero, suc, ◌+◌, ◌<◌, ◌≤◌, List, [], ◌∷◌, length, Option, Some, None, Bool, true, false, sym, ap, subst, ◌∙◌, refl, arith, ◌⊎◌, inl, inr, ⊎_elim, eq-eqb}
+use Rattle.std.proofs.Common.{◌≡◌, ℕ, zero, suc, ◌<◌, List, [], ◌∷◌, length, Some, Bool, true, false, sym, ap, ◌∙◌, refl, arith, eq-eqb}
 use Rattle.std.specs.Prelude.{◌==◌, map, slice_get}
-use Rattle.std.proofs.lemmas.Bool.{cases_eq, ne_eqb, eqb-true}
+use Rattle.std.proofs.lemmas.Bool.{ne_eqb}
 use Rattle.fk_num.specs.Word.{Memory}
 use Rattle.fk_image.specs.declared.Image.{Image}
-use Rattle.fk_machine.specs.Hart.{Hart, Setting}
+use Rattle.fk_machine.specs.Hart.{Setting}
 use Rattle.fk_nodes.specs.Node.{Member, Words, add, of_node}
 use Rattle.fk_nodes.specs.Alone.{NodeCycle, NodeRun, later}
 use Rattle.fk_nodes.specs.OnePlace.{last_or}

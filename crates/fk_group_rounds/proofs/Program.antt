@@ -1,6 +1,6 @@
 -- Members of a group that have one program are about to do one operation, and go one way.
-use Rattle.std.proofs.Common.{◌≡◌, ℕ, zero, suc, ◌+◌, ◌≤◌, ◌<◌, List, [], ◌∷◌, length, Option, Some, None, Bool, true, false, sym, ap, subst, ◌∙◌, refl, arith, ◌⊎◌, inl, inr, ⊎_elim, eq-eqb}
-use Rattle.std.specs.Prelude.{◌==◌, slice_get, not, map}
+use Rattle.std.proofs.Common.{◌≡◌, ℕ, zero, suc, ◌+◌, ◌≤◌, ◌<◌, List, [], ◌∷◌, length, Some, Bool, true, false, sym, ap, subst, ◌∙◌, refl, arith, inl, inr, ⊎_elim, eq-eqb}
+use Rattle.std.specs.Prelude.{◌==◌, slice_get, not}
 use Rattle.std.proofs.lemmas.Bool.{eqb-true, ne_eqb, false≢true}
 use Rattle.fk_tree.specs.declared.node.Kind.TheVariants.{Lockstep}
 use Rattle.fk_tree.specs.Tree as trees
@@ -13,7 +13,7 @@ use Rattle.fk_operation.specs.declared.operation.Multiprefix.{Multiprefix}
 use Rattle.fk_operation.specs.declared.operation.Operation.{Operation}
 use Rattle.fk_operation.specs.declared.operation.Operation.TheVariants as o
 use Rattle.fk_run.specs.Processor.{Processor, values, last}
-use Rattle.fk_run.specs.Round.{Step, Runner, State}
+use Rattle.fk_run.specs.Round.{State}
 use Rattle.fk_core.specs.declared.op.CoreOp.{CoreOp}
 use Rattle.fk_core.specs.Next.{Position, landing, step_by, step_of, next}
 use Rattle.fk_core.specs.Numbers.{operation_of}
@@ -26,9 +26,9 @@ use Rattle.fk_group_law.specs.Node.{Nestings}
 use Rattle.fk_group_law.specs.Lockstep.{IsInStart, AreInStart, AreOfSize, NoneIs, IsLowest}
 use Rattle.fk_group_law.specs.Law.{is_shared_step, IsAskedOf, way_by, way_of}
 use Rattle.fk_group_law.specs.Laws.{AllGo}
-use Rattle.fk_group_rounds.specs.Next.{landed, all_landed, AllAt, AllAbout, ActsAlike, StepsAlike, MayInGroup, HaveNext}
+use Rattle.fk_group_rounds.specs.Next.{landed, all_landed, AllAt, AllAbout, MayInGroup, HaveNext}
 use Rattle.fk_group_rounds.specs.After.{ArePlaces, runners_of}
-use Rattle.fk_group_rounds.specs.Program.{MayInStep, IsInStep, AllInStep, GroupsHaveNext}
+use Rattle.fk_group_rounds.specs.Program.{IsInStep, AllInStep, GroupsHaveNext}
 use Rattle.fk_group_rounds.proofs.Agreed.{place_member, some_elem}
 use Rattle.fk_group_rounds.proofs.Groups.{Stands, somebody, there_are}
 

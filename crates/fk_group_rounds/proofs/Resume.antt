@@ -1,7 +1,7 @@
 -- After the round in which all processors come back from the group of `start` all are bound again.
-use Rattle.std.proofs.Common.{◌≡◌, ◌≢◌, ℕ, zero, suc, ◌+◌, ◌≤◌, ◌<◌, List, [], ◌∷◌, length, Option, Some, None, Bool, true, false, sym, ap, subst, ◌∙◌, refl, arith, ◌⊎◌, inl, inr, ⊎_elim, eq-eqb}
-use Rattle.std.specs.Prelude.{◌==◌, map, is_some}
-use Rattle.std.proofs.lemmas.Bool.{or_left, false≢true}
+use Rattle.std.proofs.Common.{◌≡◌, ◌≢◌, ℕ, zero, suc, List, [], ◌∷◌, length, Option, Some, None, true, false, sym, ap, subst, ◌∙◌, refl, arith, inl, eq-eqb}
+use Rattle.std.specs.Prelude.{◌==◌, is_some}
+use Rattle.std.proofs.lemmas.Bool.{or_left, eqb-true, false≢true}
 use Rattle.fk_num.specs.Word.{Memory}
 use Rattle.fk_space.specs.Space.{Space}
 use Rattle.fk_tree.specs.declared.node.Kind.{Kind}
@@ -21,13 +21,13 @@ use Rattle.fk_machine.specs.Hart.{Hart, Setting as MachineSetting}
 use Rattle.fk_nodes.specs.Node.{of_node, Has}
 use Rattle.fk_nodes.specs.Alone.{later}
 use Rattle.fk_plans.specs.Stage.{Stage}
-use Rattle.fk_plans.specs.Plan.{Plan, Blocks}
+use Rattle.fk_plans.specs.Plan.{Plan}
 use Rattle.fk_plans.specs.Cycle.{IsLeft}
 use Rattle.fk_block_law.specs.Owner.{Owner, Doing, idle, core_source}
 use Rattle.fk_block_law.specs.Stands.{Places}
 use Rattle.fk_group_law.specs.Node.{Nestings}
 use Rattle.fk_group_law.specs.Law.{Cycles, GroupLaw}
-use Rattle.fk_group_plans.specs.Nodes.{first_of, HaveSpaces, is_lockstep, meeters_at, plan_of}
+use Rattle.fk_group_plans.specs.Nodes.{first_of, is_lockstep, meeters_at, plan_of}
 use Rattle.fk_group_plans.specs.Behind.{runs_of, blocks_of}
 use Rattle.fk_group_plans.proofs.Rounds.{not_none}
 use Rattle.fk_group_rounds.specs.Next.{JumpsLead, all_landed}
@@ -36,7 +36,8 @@ use Rattle.fk_group_rounds.specs.Rounds.{IsBefore, IsTree, AllStandIn, RoundsRes
 use Rattle.fk_group_rounds.proofs.Same.{SameWords, runs_same, opened_before, member_still, size_still}
 use Rattle.fk_group_rounds.proofs.Harts.{LockLeft, steps_alone}
 use Rattle.fk_group_rounds.proofs.Groups.{many_length}
-use Rattle.fk_group_rounds.proofs.Changed.{Steps, Nothing, nothing_here, running, At, near, AnyGoes, bound}
+use Rattle.fk_group_rounds.proofs.Changed.{Steps, Nothing, nothing_here, running, At, near, AnyGoes, bound_at}
+use Rattle.fk_group_rounds.proofs.Moved.{TreeMoves, one_node}
 use Rattle.fk_group_rounds.proofs.Steps.{one_changes}
 
 pub kind_there : (x : Option Node) (k : Kind) → kind_of x ≡ Some k → is_some x ≡ true
@@ -115,25 +116,28 @@ module _ (core : List CoreOp) (image : Image) (places : Places) (nestings : Nest
   free' : plan'.in_lockstep 0 ≡ false
   free' = ap is_lockstep kind'
 
-  at_root : plan'.in_lockstep 0 ≡ true
-      → At core image places nestings cycles firsts main setting old (trees.resume 0 old) spaces nodes t stages hs ps ds own own' control the_law leads before left has behind.sound behind.spaced 0 Resume
-      steps others (λ h. refl) before.stand on next 0
-  at_root lock = absurd (false≢true (sym free' ∙ lock))
+  move : TreeMoves old (trees.resume 0 old) setting.processors 0 nodes nodes (λ k. k == 0)
+  move = one_node old (trees.resume 0 old) setting.processors 0 nodes others (λ h. refl) before.stand
 
-  lock_root : plan.in_lockstep 0 ≡ true → LockLeft (of_node 0 nodes left.afters) (of_node 0 nodes ps) (of_node 0 nodes ds)
-  lock_root lock = absurd (false≢true (sym free ∙ lock))
+  at_root : (k : ℕ) → (k == 0) ≡ true → plan'.in_lockstep k ≡ true
+      → At core image places nestings cycles firsts main setting old (trees.resume 0 old) spaces nodes nodes t stages hs ps ds own own' control the_law leads before left has behind.sound behind.spaced 0 Resume
+      steps (λ k. k == 0) move on next k
+  at_root k is lock = absurd (false≢true (sym (ap (λ j. plan'.in_lockstep j) (eqb-true k 0 is) ∙ free') ∙ lock))
 
-  each_root : AnyGoes core image places nestings cycles firsts main setting old (trees.resume 0 old) spaces nodes t stages hs ps ds own own' control the_law leads before left has behind.sound
-      behind.spaced 0 Resume steps others (λ h. refl) before.stand on next at_root lock_root (Steps old 0 Resume Nothing)
+  lock_root : (k : ℕ) → (k == 0) ≡ true → plan.in_lockstep k ≡ true → LockLeft (of_node k nodes left.afters) (of_node k nodes ps) (of_node k nodes ds)
+  lock_root k is lock = absurd (false≢true (sym (ap (λ j. plan.in_lockstep j) (eqb-true k 0 is) ∙ free) ∙ lock))
+
+  each_root : AnyGoes core image places nestings cycles firsts main setting old (trees.resume 0 old) spaces nodes nodes t stages hs ps ds own own' control the_law leads before left has behind.sound
+      behind.spaced 0 Resume steps (λ k. k == 0) move on next at_root lock_root (Steps old 0 Resume Nothing)
   each_root m p d known lt land home s0 a lock alone due remains on' =
       steps_alone core image places nestings cycles firsts main setting old (trees.resume 0 old) spaces nodes nodes the_law leads behind.spaced behind.sound (later t)
-      (running core image places nestings cycles firsts main setting old (trees.resume 0 old) spaces nodes t stages hs ps ds own own' control the_law leads before left has behind.sound behind.spaced 0
-      Resume steps others (λ h. refl) before.stand on next)
+      (running core image places nestings cycles firsts main setting old (trees.resume 0 old) spaces nodes nodes t stages hs ps ds own own' control the_law leads before left has behind.sound behind.spaced 0
+      Resume steps (λ k. k == 0) move on next)
       (actings ds)
-      (λ g. (near core image places nestings cycles firsts main setting old (trees.resume 0 old) spaces nodes t stages hs ps ds own own' control the_law leads before left has behind.sound behind.spaced 0
-      Resume steps others (λ h. refl) before.stand on next at_root lock_root g).distance)
-      (λ g. (near core image places nestings cycles firsts main setting old (trees.resume 0 old) spaces nodes t stages hs ps ds own own' control the_law leads before left has behind.sound behind.spaced 0
-      Resume steps others (λ h. refl) before.stand on next at_root lock_root g).soon)
+      (λ g. (near core image places nestings cycles firsts main setting old (trees.resume 0 old) spaces nodes nodes t stages hs ps ds own own' control the_law leads before left has behind.sound behind.spaced 0
+      Resume steps (λ k. k == 0) move on next at_root lock_root g).distance)
+      (λ g. (near core image places nestings cycles firsts main setting old (trees.resume 0 old) spaces nodes nodes t stages hs ps ds own own' control the_law leads before left has behind.sound behind.spaced 0
+      Resume steps (λ k. k == 0) move on next at_root lock_root g).soon)
       m p d lt home (is_busy Resume d p known.1) a (ap (λ k. plan'.in_lockstep k) known.0 ∙ free')
       (ap (λ k. runs_of (plan_of old spaces nodes) (first_of spaces k) m.number) known.0 ∙ runs_same old (trees.resume 0 old) spaces nodes nodes 0 words m.number
       ∙ ap (λ k. runs_of (plan_of (trees.resume 0 old) spaces nodes) (first_of spaces k) m.number) (sym known.0))
@@ -141,8 +145,8 @@ module _ (core : List CoreOp) (image : Image) (places : Places) (nestings : Nest
 
   resumed : BindsAgain core image places nestings setting old spaces nodes (trees.resume 0 old) spaces nodes t hs left.afters ps (all_landed core (owners_after old (trees.resume 0 old) ds)) control
   resumed =
-      bound core image places nestings cycles firsts main setting old (trees.resume 0 old) spaces nodes t stages hs ps ds own own' control the_law leads before left has behind.sound behind.spaced 0
-      Resume steps others (λ h. refl) before.stand on next at_root lock_root Nothing (nothing_here old 0 0 hs ds) each_root
+      bound_at core image places nestings cycles firsts main setting old (trees.resume 0 old) spaces nodes nodes t stages hs ps ds own own' control the_law leads before left has behind.sound behind.spaced 0
+      Resume steps (λ k. k == 0) move on next at_root lock_root Nothing (nothing_here old 0 0 hs ds) each_root (λ k is. eqb-true k 0 is)
       (λ w lock is_open.
       let was = opened_before old (trees.resume 0 old) spaces nodes nodes 0 words w is_open in
       inl (record {

@@ -1,5 +1,5 @@
 -- A node that a round leaves as it was is the same in both plans.
-use Rattle.std.proofs.Common.{◌≡◌, ℕ, zero, suc, ◌+◌, ◌-◌, ◌≤◌, ◌<◌, List, length, Bool, true, false, Option, Some, None, sym, ap, subst, ◌∙◌, refl, arith}
+use Rattle.std.proofs.Common.{◌≡◌, ℕ, zero, suc, ◌+◌, ◌-◌, ◌<◌, List, length, Bool, true, Some, None, sym, ap, subst, ◌∙◌, refl, arith}
 use Rattle.std.specs.Prelude.{is_some, ◌&&◌, if◌then◌else◌}
 use Rattle.std.proofs.lemmas.Bool.{and_parts}
 use Rattle.fk_space.specs.Space.{Space}
@@ -7,11 +7,10 @@ use Rattle.fk_tree.specs.Tree as trees
 use Rattle.fk_tree.specs.Tree.{Tree, Node, kind_of, members_of, is_from, is_member}
 use Rattle.fk_tree.proofs.Shapes.{from_parts}
 use Rattle.fk_run.specs.Round.{body_of}
-use Rattle.fk_plans.specs.Plan.{Plan, IsOpen}
+use Rattle.fk_plans.specs.Plan.{IsOpen}
 use Rattle.fk_group_law.specs.Node.{barrier_word}
 use Rattle.fk_group_plans.specs.Nodes.{first_of, owns, HaveSpaces, meeters_at, plan_of}
 use Rattle.fk_group_plans.specs.Behind.{runs_of}
-use Rattle.fk_group_plans.specs.Laws.{TellsMeeters}
 use Rattle.fk_group_plans.proofs.Nodes.{tells}
 
 -- at a node that is there the same members meet at its words

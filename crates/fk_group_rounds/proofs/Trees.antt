@@ -1,5 +1,5 @@
 -- After a round in which no step changes the tree all are bound again.
-use Rattle.std.proofs.Common.{◌≡◌, ◌≢◌, ℕ, zero, suc, ◌+◌, ◌≤◌, List, [], ◌∷◌, length, Option, Some, None, Bool, true, false, sym, ap, subst, ◌∙◌, refl, arith, ◌⊎◌, inl, inr, ⊎_elim}
+use Rattle.std.proofs.Common.{◌≡◌, ◌≢◌, ℕ, suc, ◌≤◌, List, [], ◌∷◌, Option, Some, None, Bool, true, false, sym, ap, subst, ◌∙◌, refl, arith, ◌⊎◌, inl, inr, ⊎_elim}
 use Rattle.std.specs.Prelude.{◌==◌, map, is_some, if◌then◌else◌}
 use Rattle.std.proofs.lemmas.Bool.{cases_Bool, false≢true}
 use Rattle.fk_num.specs.Word.{Memory}
@@ -21,7 +21,7 @@ use Rattle.fk_nodes.specs.Node.{Member, numbered, add, of_node, AreAsMany, Has}
 use Rattle.fk_nodes.specs.Alone.{later}
 use Rattle.fk_plans.specs.Stage.{Stage}
 use Rattle.fk_plans.specs.Plan.{Plan, Blocks, AllAct, InLockstep}
-use Rattle.fk_plans.specs.Cycle.{AllHaveCommitted, AllAreLeft, IsLeft}
+use Rattle.fk_plans.specs.Cycle.{IsLeft}
 use Rattle.fk_plans.proofs.Changes.{left_alone}
 use Rattle.fk_lockstep.specs.Untouched.{changes_tree}
 use Rattle.fk_block_law.specs.Owner.{Owner, Doing, core_source}
@@ -29,17 +29,18 @@ use Rattle.fk_block_law.specs.Stands.{Places}
 use Rattle.fk_block_law.specs.Block.{IsRunning}
 use Rattle.fk_group_law.specs.Node.{Nestings}
 use Rattle.fk_group_law.specs.Law.{Cycles, GroupLaw}
-use Rattle.fk_group_plans.specs.Nodes.{first_of, is_lockstep, plan_of}
+use Rattle.fk_group_plans.specs.Nodes.{first_of, plan_of}
 use Rattle.fk_group_plans.specs.Behind.{blocks_of}
 use Rattle.fk_group_plans.proofs.Rounds.{not_none, lockstep_kind}
-use Rattle.fk_group_rounds.specs.Next.{JumpsLead, landed, all_landed}
+use Rattle.fk_group_rounds.specs.Next.{JumpsLead, all_landed}
 use Rattle.fk_group_rounds.specs.Comes.{most_between}
-use Rattle.fk_group_rounds.specs.After.{actings, tree_after, owner_after, owners_after, Keeps, AllKeep, AllGoOn, GroupsGoOn, BindsAgain}
+use Rattle.fk_group_rounds.specs.After.{actings, owner_after, owners_after, Keeps, AllKeep, AllGoOn, GroupsGoOn, BindsAgain}
 use Rattle.fk_group_rounds.specs.Rounds.{IsBefore, RoundsKeepTrees}
-use Rattle.fk_group_rounds.proofs.Cycles.{runs_later}
+use Rattle.fk_simulation.proofs.Linked.{runs_later}
 use Rattle.fk_group_rounds.proofs.Same.{SameNode, same_node}
-use Rattle.fk_group_rounds.proofs.Harts.{AllAre, LockLeft, HartsGo, EachGoes, hart_goes, harts_go}
-use Rattle.fk_group_rounds.proofs.Groups.{GroupAt, group_at, lock_left}
+use Rattle.fk_group_rounds.proofs.Harts.{AllAre, HartsGo, EachGoes, hart_goes, harts_go}
+use Rattle.fk_group_rounds.proofs.Groups.{same_all, GroupAt, group_at, lock_left}
+use Rattle.fk_group_rounds.proofs.Moved.{many_nodes}
 
 -- ---- the tree
 
@@ -100,11 +101,6 @@ many_landed core [] [] [] many = tt
 many_landed core (n ∷ ns) (h ∷ hs) (p ∷ ps) many = many_landed core ns hs ps many
 many_landed core ns hs ps many = absurd (assumption many)
 
-pub many_nodes : {A B : Type 0} (ns : List ℕ) (hs : List A) (xs : List B) → AreAsMany ns hs xs → AreAsMany ns hs ns
-many_nodes [] [] [] many = tt
-many_nodes (n ∷ ns) (h ∷ hs) (x ∷ xs) many = many_nodes ns hs xs many
-many_nodes ns hs xs many = absurd (assumption many)
-
 pub some_kind : (x : Option Node) → kind_of x ≡ Some Lockstep → is_some x ≡ true
 some_kind None e = absurd (cc)
 some_kind (Some node) e = refl
@@ -141,13 +137,11 @@ module _ (core : List CoreOp) (image : Image) (places : Places) (nestings : Nest
 
   abbrev At : ℕ → Type 0
   At g =
-      GroupAt core image places nestings cycles firsts main setting tree tree spaces nodes the_law leads before.spaced before.sound (later t) running ds hs ps left.afters own' control before.stand
-      before.stand before.many left.as_many left.done_as_many on has before.sound left.nodes g
+      GroupAt core image places nestings cycles firsts main setting tree tree spaces nodes nodes the_law leads before.spaced before.sound (later t) running ds hs ps left.afters own' control before.stand before.many left.as_many left.done_as_many on has before.sound left.nodes g
 
   group : (g : ℕ) → plan.in_lockstep g ≡ true → At g
   group g lock =
-      group_at core image places nestings cycles firsts main setting tree tree spaces nodes the_law leads before.spaced before.sound (later t) running ds hs ps left.afters own' control before.stand
-      before.stand before.many left.as_many left.done_as_many on has before.sound left.nodes g (lock_same g lock) lock (keep_of g nodes ds keep) (next g lock)
+      group_at core image places nestings cycles firsts main setting tree tree spaces nodes nodes the_law leads before.spaced before.sound (later t) running ds hs ps left.afters own' control before.stand before.many left.as_many left.done_as_many on has before.sound left.nodes g (lock_same g lock) lock (keep_of g nodes ds keep) (λ h lt at. at) (same_all g nodes) (next g lock)
 
   -- a distance for each node, told by its group
   record Near (g : ℕ) : Type 0 where
@@ -176,10 +170,10 @@ module _ (core : List CoreOp) (image : Image) (places : Places) (nestings : Nest
       0 nodes nodes left.afters hs ps ds
   all =
       harts_go core image places nestings cycles firsts main setting tree tree spaces nodes nodes the_law leads before.spaced before.sound (later t) running (actings ds) distances (λ g. (near g).soon)
-      Nothing each 0 nodes hs nodes left.afters stages ps ds (nothing_more 0 hs ds) before.stand before.stand (let many = before.many in omega (arith, many)) left.as_many before.as_many left.done_as_many (many_nodes nodes hs ps before.as_many) left.stay before.due
+      Nothing each 0 nodes hs nodes left.afters stages ps ds (nothing_more 0 hs ds) before.stand before.stand (let many = before.many in omega (arith, many)) left.as_many before.as_many left.done_as_many (many_nodes nodes nodes hs ps refl before.as_many) left.stay before.due
       before.landed on
-      (λ g lock. lock_left core image places nestings cycles firsts main setting tree tree spaces nodes the_law leads before.spaced before.sound (later t) running ds hs ps left.afters own' control
-      before.stand before.stand before.many left.as_many left.done_as_many on has before.sound left.nodes g (lock_same g lock) lock (keep_of g nodes ds keep))
+      (λ g lock. lock_left core image places nestings cycles firsts main setting tree tree spaces nodes nodes the_law leads before.spaced before.sound (later t) running ds hs ps left.afters own' control
+      before.stand before.many left.as_many left.done_as_many on has before.sound left.nodes g (lock_same g lock) lock (keep_of g nodes ds keep) (λ h lt at. at) (same_all g nodes))
       (λ g free. left_alone (core_source core setting) image plan blocks plan blocks (plan.in_lockstep g) (later t) g (of_node g nodes left.afters) (of_node g nodes (numbered 0 hs))
       (of_node g nodes ps) (of_node g nodes ds) (own' g) free (left.nodes g))
 

@@ -1,5 +1,5 @@
 -- What a round leaves of processors and of the tree, and what is known of both.
-use Rattle.std.specs.Prelude.{◌≡◌, ◌≢◌, ℕ, zero, suc, ◌≤◌, ◌<◌, List, [], ◌∷◌, length, map, Bool, true, false, Option, Some, None}
+use Rattle.std.specs.Prelude.{◌≡◌, ◌≢◌, ℕ, suc, List, [], ◌∷◌, map, Bool, true, false, Option, Some, None}
 use Rattle.fk_num.specs.Word.{Memory}
 use Rattle.fk_space.specs.Space.{Space}
 use Rattle.fk_tree.specs.Tree as trees
@@ -12,9 +12,9 @@ use Rattle.fk_core.specs.declared.op.CoreOp.{CoreOp}
 use Rattle.fk_core.specs.Next.{Position, landing}
 use Rattle.fk_image.specs.declared.Image.{Image}
 use Rattle.fk_machine.specs.Hart.{Hart, Setting as MachineSetting}
-use Rattle.fk_nodes.specs.Node.{of_node, AreAsMany, Has}
+use Rattle.fk_nodes.specs.Node.{of_node}
 use Rattle.fk_plans.specs.Stage.{Stage}
-use Rattle.fk_plans.specs.Cycle.{AllHaveCommitted, IsLeft}
+use Rattle.fk_plans.specs.Cycle.{AllHaveCommitted}
 use Rattle.fk_plans.specs.Change.{TreeChanges}
 use Rattle.fk_lockstep.specs.Untouched.{changes_tree}
 use Rattle.fk_block_law.specs.Owner.{Owner, Doing, core_source}
@@ -23,7 +23,7 @@ use Rattle.fk_group_law.specs.Node.{Nestings}
 use Rattle.fk_group_plans.specs.Nodes.{first_of, is_lockstep, plan_of}
 use Rattle.fk_group_plans.specs.Behind.{blocks_of}
 use Rattle.fk_group_plans.specs.Rounds.{AllDue}
-use Rattle.fk_group_rounds.specs.Next.{landed, all_landed, IsHome, HasNext, HaveNext}
+use Rattle.fk_group_rounds.specs.Next.{landed, IsHome, HasNext, HaveNext}
 use Rattle.fk_group_rounds.specs.Comes.{IsSoon}
 
 -- ---- behind the steps of the tree

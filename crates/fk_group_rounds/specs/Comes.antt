@@ -33,7 +33,7 @@ most_between = 254
 
 abbrev pub IsSoon : Stage → Type 0
 IsSoon (Acts d) = d ≤ most_between
-IsSoon (Meets w (Coming d)) = d ≤ most_between
+IsSoon (Meets e w (Coming d)) = d ≤ most_between
 IsSoon s = Unit {0}
 
 -- their numbers are those of processors

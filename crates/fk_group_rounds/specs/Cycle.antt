@@ -22,7 +22,7 @@ use Rattle.fk_group_law.specs.Law.{Cycles, GroupLaw}
 use Rattle.fk_group_plans.specs.Nodes.{first_of, plan_of}
 use Rattle.fk_group_plans.specs.Behind.{blocks_of}
 use Rattle.fk_group_rounds.specs.Next.{JumpsLead, all_landed}
-use Rattle.fk_group_rounds.specs.After.{tree_after, owners_after, AllGoOn, GroupsGoOn}
+use Rattle.fk_group_rounds.specs.After.{tree_after, owners_after, ArePlaces, AllGoOn, GroupsGoOn}
 use Rattle.fk_group_rounds.specs.Rounds.{IsBefore, IsTree, IsKnownRound, AreBoundAgain}
 
 module _ (core : List CoreOp) (image : Image) (places : Places) (nestings : Nestings) (setting : Setting) (tree : Tree) (spaces : ℕ → Space) (nodes : List ℕ) (t : MachineSetting) (earlier : List ℕ)
@@ -34,10 +34,11 @@ module _ (core : List CoreOp) (image : Image) (places : Places) (nestings : Nest
         nodes hs ps s (turns t 0 hs sh)
     pub left : IsLeft (core_source core setting) image (plan_of tree spaces nodes)
         (blocks_of core image places nestings setting (plan_of tree spaces nodes) (first_of spaces)) t stages (turns t 0 hs sh).harts ps whole.did own whole.own
-    pub again : IsKnownRound tree whole.did → IsTree setting (tree_after tree whole.did) spaces
+    pub again : (nodes' : List ℕ) → IsKnownRound tree whole.did → IsTree setting (tree_after tree whole.did) spaces
+        → ArePlaces (tree_after tree whole.did) 0 nodes' → length nodes' ≡ length nodes
         → AllGoOn core (tree_after tree whole.did) spaces 0 left.afters whole.did (owners_after tree (tree_after tree whole.did) whole.did)
-        → GroupsGoOn core nestings (tree_after tree whole.did) nodes left.afters (owners_after tree (tree_after tree whole.did) whole.did)
-        → AreBoundAgain core image places nestings setting (tree_after tree whole.did) spaces nodes (later t) stages (turns t 0 hs sh).harts left.afters
+        → GroupsGoOn core nestings (tree_after tree whole.did) nodes' left.afters (owners_after tree (tree_after tree whole.did) whole.did)
+        → AreBoundAgain core image places nestings setting (tree_after tree whole.did) spaces nodes' (later t) stages (turns t 0 hs sh).harts left.afters
         (all_landed core (owners_after tree (tree_after tree whole.did) whole.did)) (turns t 0 hs sh).shared.control
 
 -- where the plan binds all harts before a cycle, it is a round of the counts that the stages tell: a whole one, or one up to its

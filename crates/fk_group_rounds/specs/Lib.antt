@@ -2,5 +2,6 @@ pub mod Next
 pub mod Comes
 pub mod After
 pub mod Rounds
+pub mod Start
 pub mod Program
 pub mod Cycle

@@ -1,5 +1,5 @@
 -- What is known of processors that are about to do their next operations, in the nodes where they stand.
-use Rattle.std.specs.Prelude.{◌≡◌, ℕ, suc, List, [], ◌∷◌, length, slice_get, Bool, true, false, Some, map, ◌⊎◌}
+use Rattle.std.specs.Prelude.{◌≡◌, ℕ, List, [], ◌∷◌, length, slice_get, Bool, true, false, Some, map, ◌⊎◌}
 use Rattle.fk_space.specs.Space.{Space}
 use Rattle.fk_tree.specs.Tree as trees
 use Rattle.fk_tree.specs.Tree.{Tree, is_member}
@@ -43,7 +43,7 @@ pub record IsHome (tree : Tree) (spaces : ℕ → Space) (number : ℕ) (p : Own
 -- one by itself meets others at a word of its node
 pub record MayMeet (tree : Tree) (g number : ℕ) (operation : Operation) : Type 0 where
   pub meeting : is_meeting operation ≡ true
-  pub joint : joint_of operation ≡ joint_at_word (trees.kind tree g) (word_of operation)
+  pub joint : joint_of operation ≡ joint_at_word g (trees.kind tree g) (word_of operation)
   pub member : is_member number (meeters_at tree g (word_of operation)) ≡ true
 
 -- or does an operation alone, or ends

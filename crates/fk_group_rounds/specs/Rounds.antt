@@ -6,7 +6,7 @@ use Rattle.fk_tree.specs.declared.node.Kind.TheVariants.{Lockstep, Waiting, Asyn
 use Rattle.fk_tree.specs.Tree as trees
 use Rattle.fk_tree.specs.Tree.{Tree, is_member}
 use Rattle.fk_tree.specs.Sound.{IsSound}
-use Rattle.fk_operation.specs.declared.operation.Operation.TheVariants.{Farm, Seq, Meet, Resume}
+use Rattle.fk_operation.specs.declared.operation.Operation.TheVariants.{Farm, Seq, End, Meet, Resume}
 use Rattle.fk_run.specs.Processor.{Setting}
 use Rattle.fk_core.specs.declared.op.CoreOp.{CoreOp}
 use Rattle.fk_image.specs.declared.Image.{Image}
@@ -129,10 +129,26 @@ RoundsSendOne =
     → AllGoOn core next spaces 0 left.afters ds qs → GroupsGoOn core nestings next nodes left.afters qs
     → BindsAgain core image places nestings setting tree spaces nodes next spaces nodes t hs left.afters ps (all_landed core qs) control
 
+-- the group of `start` ends: its members come back to the root, in which nobody else moves
+abbrev pub RoundsEnd : Type 0
+RoundsEnd =
+    (core : List CoreOp) (image : Image) (places : Places) (nestings : Nestings) (cycles : Cycles) (firsts : List ℕ) (main : ℕ) (setting : Setting) (tree : Tree)
+    (spaces : ℕ → Space) (nodes nodes' : List ℕ) (t : MachineSetting) (stages : List Stage) (hs : List Hart) (ps : List Owner) (ds : List Doing) (own own' : ℕ → Memory) (control : Memory)
+    (g : ℕ)
+    → let plan = plan_of tree spaces nodes in
+    let blocks = blocks_of core image places nestings setting plan (first_of spaces) in
+    let next = tree_after tree ds in
+    let qs = owners_after tree next ds in
+    GroupLaw core image places nestings cycles firsts main → JumpsLead core → IsBefore core image setting tree spaces nodes t stages hs ps
+    → (left : IsLeft (core_source core setting) image plan blocks t stages hs ps ds own own') → ((k : ℕ) → Has (plan.words k) control (own' k))
+    → trees.kind tree g ≡ Some Lockstep → StepsAt tree g 0 End ds → IsTree setting next spaces → ArePlaces next 0 nodes' → length nodes' ≡ length nodes
+    → AllGoOn core next spaces 0 left.afters ds qs → GroupsGoOn core nestings next nodes' left.afters qs
+    → BindsAgain core image places nestings setting tree spaces nodes next spaces nodes' t hs left.afters ps (all_landed core qs) control
+
 -- ---- all of these
 
--- nobody changes the tree; all go on in the root; or a body begins or ends. Splits, the beginning of `start`, shrinks and ends of
--- groups are still to come
+-- nobody changes the tree; all go on in the root; a body begins or ends; or the group of `start` ends. Its beginning, splits and
+-- shrinks are still to come
 pub record Resumes (tree : Tree) (ds : List Doing) : Type 0 where
   pub first : ℕ
   pub parts : ℕ
@@ -157,8 +173,13 @@ pub record SendsOne (tree : Tree) (ds : List Doing) : Type 0 where
   pub kind : trees.kind tree group ≡ Some Lockstep
   pub steps : StepsAt tree group 0 Seq ds
 
+pub record EndsGroup (tree : Tree) (ds : List Doing) : Type 0 where
+  pub group : ℕ
+  pub kind : trees.kind tree group ≡ Some Lockstep
+  pub steps : StepsAt tree group 0 End ds
+
 abbrev pub IsKnownRound : Tree → List Doing → Type 0
-IsKnownRound tree ds = AllKeep ds ⊎ (Resumes tree ds ⊎ (Closes tree ds ⊎ (SetsFree tree ds ⊎ SendsOne tree ds)))
+IsKnownRound tree ds = AllKeep ds ⊎ (Resumes tree ds ⊎ (Closes tree ds ⊎ (SetsFree tree ds ⊎ (SendsOne tree ds ⊎ EndsGroup tree ds))))
 
 -- all are bound by the plan of the next tree, each is about to do what its stage tells, and who was at a distance is nearer
 pub record AreBoundAgain (core : List CoreOp) (image : Image) (places : Places) (nestings : Nestings) (setting : Setting) (tree : Tree) (spaces : ℕ → Space) (nodes : List ℕ) (t : MachineSetting) (stages : List Stage) (hs : List Hart) (afters : List (Option Stage)) (ps : List Owner) (control : Memory) : Type 0 where
@@ -171,7 +192,7 @@ pub record AreBoundAgain (core : List CoreOp) (image : Image) (places : Places) 
 abbrev pub RoundsBindAgain : Type 0
 RoundsBindAgain =
     (core : List CoreOp) (image : Image) (places : Places) (nestings : Nestings) (cycles : Cycles) (firsts : List ℕ) (main : ℕ) (setting : Setting) (tree : Tree)
-    (spaces : ℕ → Space) (nodes : List ℕ) (t : MachineSetting) (stages : List Stage) (before hs : List Hart) (ps : List Owner) (ds : List Doing) (own own' : ℕ → Memory) (control : Memory)
+    (spaces : ℕ → Space) (nodes nodes' : List ℕ) (t : MachineSetting) (stages : List Stage) (before hs : List Hart) (ps : List Owner) (ds : List Doing) (own own' : ℕ → Memory) (control : Memory)
     → let plan = plan_of tree spaces nodes in
     let blocks = blocks_of core image places nestings setting plan (first_of spaces) in
     let next = tree_after tree ds in
@@ -179,6 +200,6 @@ RoundsBindAgain =
     GroupLaw core image places nestings cycles firsts main → JumpsLead core → IsBefore core image setting tree spaces nodes t stages hs ps
     → length before < 2 ^ 31 → IsBound (core_source core setting) image plan blocks t stages before ps own
     → (left : IsLeft (core_source core setting) image plan blocks t stages hs ps ds own own') → ((k : ℕ) → Has (plan.words k) control (own' k))
-    → IsKnownRound tree ds → IsTree setting next spaces
-    → AllGoOn core next spaces 0 left.afters ds qs → GroupsGoOn core nestings next nodes left.afters qs
-    → AreBoundAgain core image places nestings setting next spaces nodes (later t) stages hs left.afters (all_landed core qs) control
+    → IsKnownRound tree ds → IsTree setting next spaces → ArePlaces next 0 nodes' → length nodes' ≡ length nodes
+    → AllGoOn core next spaces 0 left.afters ds qs → GroupsGoOn core nestings next nodes' left.afters qs
+    → AreBoundAgain core image places nestings setting next spaces nodes' (later t) stages hs left.afters (all_landed core qs) control

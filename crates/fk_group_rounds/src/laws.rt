@@ -3,7 +3,8 @@
 ghost use Rattle.fk_group_rounds.specs.Comes.{MembersComeToStages, GroupsComeToCommits};
 ghost use Rattle.fk_group_rounds.specs.Cycle.{CyclesBindAgain};
 ghost use Rattle.fk_group_rounds.specs.Program.{GroupsHaveNext};
-ghost use Rattle.fk_group_rounds.specs.Rounds.{RoundsKeepTrees, RoundsResume, RoundsClose, RoundsSetFree, RoundsSendOne, RoundsBindAgain};
+ghost use Rattle.fk_group_rounds.specs.Start.{CyclesComeToStart, RoundsStart};
+ghost use Rattle.fk_group_rounds.specs.Rounds.{RoundsKeepTrees, RoundsResume, RoundsClose, RoundsSetFree, RoundsSendOne, RoundsEnd, RoundsBindAgain};
 
 /// A member by itself that has committed comes to the stage of its next operation, by a jump or straight: at a distance of at
 /// most 254 from its commit, or on its way to the word where it meets others.
@@ -45,6 +46,22 @@ pub fn rounds_set_free()
 /// So they are after the round in which it comes to a `seq`: its lowest member runs the body, and the others wait for it.
 pub fn rounds_send_one()
     ensures { RoundsSendOne }
+{}
+
+/// And after the round in which the group of `start` ends: its members are back in the root, each by itself.
+pub fn rounds_end()
+    ensures { RoundsEnd }
+{}
+
+/// Where those who have met for a `start` in the root are bound in lockstep before a cycle, it is a round of the counts that the
+/// stages tell, up to its first fault: nobody is in it, and all are one cycle nearer to their commit, or all are.
+pub fn cycles_come_to_start()
+    ensures { CyclesComeToStart }
+{}
+
+/// After the round in which the group of `start` begins so all are bound again.
+pub fn rounds_start()
+    ensures { RoundsStart }
 {}
 
 /// Where the plan of a tree binds all harts before a cycle that is one of these rounds, that of the next tree binds them behind it.

@@ -14,7 +14,7 @@ use Rattle.fk_nodes.proofs.Runs.{cycle_map}
 use Rattle.fk_nodes.proofs.Members.{together_same}
 use Rattle.fk_meeting.specs.Phase.{Phase, Outside, Away, Coming, Waiting, Leaving, is_odd, word_after, polled, Moves, AllMove, Each, Settled, SetsOut, AllSetOut, IsIdle}
 use Rattle.fk_meeting.proofs.Between.{members_may_set_out, words_open_at_zero}
-use Rattle.fk_plans.specs.Stage.{Stage, Ended, Acts, Meets, distance, Nears, Pairwise, AllNear, Remains, kept, absent, phase_of}
+use Rattle.fk_plans.specs.Stage.{Commits, Unites, Stage, Ended, Acts, Meets, distance, IsOver, Nears, Pairwise, AllNear, Remains, kept, absent, phase_of}
 use Rattle.fk_plans.specs.Plan.{Plan, phase_at, phases_from, phases, Blocks, told_by, StandsAt, AllStandAt, AllAct, InLockstep, Binds, IsBound}
 use Rattle.fk_plans.specs.Cycle.{AllHaveCommitted, AllKeep, Went, AllAreLeft, NodeIsLeft, IsLeft}
 use Rattle.fk_plans.specs.Change.{IsFresh, HasSame, StaysMember, AllAreNew, StaysOpen, Changes, AllChange, GroupStays, MeetingStays, TreeChanges, GoesOn, PlansGoOn, RunsLeadToStages}
@@ -56,7 +56,7 @@ sets_same t (Leaving d) = refl
 
 -- who is at a word is a member of those who meet there
 abbrev IsMemberAt : (word : ℕ) → (member : Bool) → Stage → Type 0
-IsMemberAt w member (Meets v f) = v ≡ w → member ≡ true
+IsMemberAt w member (Meets ending v f) = v ≡ w → member ≡ true
 IsMemberAt w member s = Unit {0}
 
 coming_out : (t d v w : ℕ) (member : Bool) → (t + d) % 2 ≡ 0 → (v ≡ w → member ≡ true) → ((v ≡ w) ⊎ (v ≢ w)) → SetsOut t (absent member) (cond (v == w) (Coming d) (absent member))
@@ -70,8 +70,8 @@ coming_out t d v w member fresh is (inr ne) =
 fresh_out : (t : Setting) (w : ℕ) (member : Bool) (s : Stage) → IsFresh t s → IsMemberAt w member s → SetsOut t.finished (absent member) (phase_of w member (Some s))
 fresh_out t w member Ended fresh is = sets_same t.finished (absent member)
 fresh_out t w member (Acts d) fresh is = sets_same t.finished (absent member)
-fresh_out t w member (Meets v (Coming d)) fresh is = coming_out t.finished d v w member fresh is (cases_eq v w)
-fresh_out t w member (Meets v f) fresh is = absurd (assumption fresh)
+fresh_out t w member (Meets ending v (Coming d)) fresh is = coming_out t.finished d v w member fresh is (cases_eq v w)
+fresh_out t w member (Meets ending v f) fresh is = absurd (assumption fresh)
 
 idle_absent : (t : ℕ) (member : Bool) → IsIdle t (absent member)
 idle_absent t true = tt
@@ -84,8 +84,8 @@ idle_by t d false member fresh = idle_absent t member
 fresh_idle : (t : Setting) (w : ℕ) (member : Bool) (s : Stage) → IsFresh t s → IsIdle t.finished (phase_of w member (Some s))
 fresh_idle t w member Ended fresh = idle_absent t.finished member
 fresh_idle t w member (Acts d) fresh = idle_absent t.finished member
-fresh_idle t w member (Meets v (Coming d)) fresh = idle_by t.finished d (v == w) member fresh
-fresh_idle t w member (Meets v f) fresh = absurd (assumption fresh)
+fresh_idle t w member (Meets ending v (Coming d)) fresh = idle_by t.finished d (v == w) member fresh
+fresh_idle t w member (Meets ending v f) fresh = absurd (assumption fresh)
 
 -- who stands elsewhere is in no phase
 out_new : (t : Setting) (w : ℕ) (b b' member : Bool) (s' : Stage) → IsFresh t s' → (b' ≡ true → IsMemberAt w member s')
@@ -101,7 +101,7 @@ idle_at t w false member s fresh = idle_absent t.finished member
 
 -- ---- lists by node
 
-same_of : {A : Type 0} (g : ℕ) (ns ns' : List ℕ) (xs : List A) → HasSame g ns ns' → of_node g ns' xs ≡ of_node g ns xs
+pub same_of : {A : Type 0} (g : ℕ) (ns ns' : List ℕ) (xs : List A) → HasSame g ns ns' → of_node g ns' xs ≡ of_node g ns xs
 same_of g [] [] xs same = refl
 same_of g (n ∷ ns) (n' ∷ ns') [] same = refl
 same_of g (n ∷ ns) (n' ∷ ns') (x ∷ xs) same =
@@ -175,7 +175,7 @@ module _ {S P D : Type 0} (source : Source S P D) (image : Image) (plan : Plan) 
     does_map source image t 1 d x.0 m p (λ h y. blocks.AfterOne g x.0 (record m { hart = h }) p y) (λ h y. blocks'.AfterOne g x.0 (record m { hart = h }) p y)
         (λ h y z. stays.after x.0 (record m { hart = h }) p y z) x.1,
   )
-  stands_map t g (Meets w f) m p stays member x = (x.0, member.0, member.1, stays.stands t w f m p member.0 x.3)
+  stands_map t g (Meets ending w f) m p stays member x = (x.0, member.0, member.1, stays.stands t ending w f m p member.0 x.3)
 
   abbrev AllPlaced : Setting → List Member → List ℕ → List Stage → List P → Type 0
   AllPlaced t [] [] [] [] = Unit {0}
@@ -310,7 +310,7 @@ module _ {S P D : Type 0} (source : Source S P D) (image : Image) (plan : Plan) 
   at_member : (t : Setting) (w : ℕ) (m : Member) (g : ℕ) (s' : Stage) (p' : P) → StandsAt source image plan' blocks' t g s' m p' → IsMemberAt w (plan'.member w m.number) s'
   at_member t w m g Ended p' stands = tt
   at_member t w m g (Acts d) p' stands = tt
-  at_member t w m g (Meets v f) p' stands = λ e. subst (λ k. plan'.member k m.number ≡ true) e stands.2
+  at_member t w m g (Meets ending v f) p' stands = λ e. subst (λ k. plan'.member k m.number ≡ true) e stands.2
 
   out_one : (t : Setting) (g w : ℕ) (m : Member) (n n' : ℕ) (a : Option Stage) (s' : Stage) (p p' : P) → Changes source image plan blocks plan' blocks' t m n n' a s' p p'
       → plan'.in_lockstep g ≡ false → plan'.member w m.number ≡ plan.member w m.number
@@ -370,7 +370,13 @@ module _ {S P D : Type 0} (source : Source S P D) (image : Image) (plan : Plan) 
   all_keep t ms ns ns' afters stages' ps ps' change = absurd (assumption change)
 
   near_one : (s : Stage) (a : Option Stage) (s' : Stage) → Remains s a → Keeps a s' → Nears (distance s) (distance s')
-  near_one s None s' stays keeps = subst (λ d. Nears d (distance s')) (sym stays) tt
+  near_one s None s' stays keeps = over_near s (distance s') stays
+    where
+      over_near : (s : Stage) (d' : Option ℕ) → IsOver s → Nears (distance s) d'
+      over_near Ended d' over = tt
+      over_near (Acts d) d' over = subst (λ x. Nears x d') (sym over) tt
+      over_near (Meets Commits w f) d' over = subst (λ x. Nears x d') (sym over) tt
+      over_near (Meets Unites w f) d' over = subst (λ x. Nears (distance (Meets Unites w x)) d') (sym over) tt
   near_one s (Some s1) s' stays keeps = subst (λ x. Nears (distance s) (distance x)) (sym keeps) stays.1
 
   all_near : (stages : List Stage) (afters : List (Option Stage)) (stages' : List Stage) → Pairwise Remains stages afters → Pairwise Keeps afters stages' → AllNear stages stages'

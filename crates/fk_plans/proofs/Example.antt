@@ -51,7 +51,8 @@ blocks = record {
   idle = λ p. p;
   AfterAll = λ t g ms ds own. AllBegin ms;
   AfterOne = λ g behind m p d. m.hart ≡ hart_at 0;
-  StandsIn = λ g t w f m p. ⊥;
+  StandsIn = λ g t e w f m p. ⊥;
+  Joins = λ t g m p. ⊥;
 }
 
 idle : IsIdle counting blocks.idle
@@ -125,7 +126,7 @@ module _ (image : Image) (code : HasLoop image) where
   }
 
   nobody_meets : (plan : Plan) → JointBlocksTurn counting image plan blocks
-  nobody_meets plan t g w f m p own inside is_open stands = absurd stands
+  nobody_meets plan t g e w f m p own inside is_open stands = absurd stands
 
   free_at : (t : Setting) (p q g : ℕ) → Holds image t
       → AllStandAt counting image free blocks t g (of_node g two (Acts 1 ∷ Acts 0 ∷ [])) (of_node g two (numbered 0 (hart_at 0 ∷ hart_at 4 ∷ []))) (of_node g two (p ∷ q ∷ []))
@@ -140,12 +141,13 @@ module _ (image : Image) (code : HasLoop image) where
 
   next_stage : (t : Setting) (a : Option Stage) (m : Member) (p d : ℕ) → Went counting image free blocks t 0 a m p d → Stage
   next_stage t (Some s) m p d went = s
-  next_stage t None m p d went = Acts (suc went.0)
+  next_stage t None m p d (inl went) = Acts (suc went.0)
+  next_stage t None m p d (inr went) = absurd went.1
 
   still_member : (t : Setting) (s : Stage) (m : Member) (p : ℕ) → StandsAt counting image free blocks t 0 s m p → StaysMember free 0 m.number s
   still_member t Ended m p stands = tt
   still_member t (Acts d) m p stands = tt
-  still_member t (Meets w f) m p stands = (stands.1, stands.2)
+  still_member t (Meets e w f) m p stands = (stands.1, stands.2)
 
   free_changes : (t : Setting) (a : Option Stage) (m : Member) (p d : ℕ) → Holds image t → (went : Went counting image free blocks t 0 a m p d)
       → Changes counting image free blocks free blocks t m 0 0 a (next_stage t a m p d went) p d
@@ -155,9 +157,10 @@ module _ (image : Image) (code : HasLoop image) where
     refl,
     went.0,
     still_member t s m p went.1,
-    λ e. record { alone = refl; after = λ behind m p d x. x; stands = λ t w f m p is_open x. x },
+    λ e. record { alone = refl; after = λ behind m p d x. x; stands = λ t e w f m p is_open x. x },
   )
-  free_changes t None m p d holds went =
+  free_changes t None m p d holds (inr went) = absurd went.1
+  free_changes t None m p d holds (inl went) =
       let runs = subst (RunsPrivately image t m.number went.0 m.hart) went.3 went.2 in
       (tt, λ e. (0, does_at t m.number d (suc went.0) m.hart holds (one_more t m.number went.0 m.hart holds runs)))
 

@@ -11,7 +11,7 @@ use Rattle.fk_nodes.specs.Alone.{later}
 use Rattle.fk_meeting.specs.Phase.{Phase, word_after, AllMove}
 use Rattle.fk_meeting.specs.Meeting.{IsKept}
 use Rattle.fk_meeting.proofs.Leaving.{cycles_keep_arrivals}
-use Rattle.fk_plans.specs.Stage.{Stage, Acts, distance, count_of_stage, Nears, Pairwise, SameKind, Remains, kept, phase_of}
+use Rattle.fk_plans.specs.Stage.{Stage, Acts, distance, count_of_stage, IsOver, Nears, Pairwise, SameKind, Remains, kept, phase_of}
 use Rattle.fk_plans.specs.Plan.{Plan, IsOpen, phase_at, phases_from, phases, phases_of, Blocks, told_by, IsBound}
 use Rattle.fk_plans.specs.Cycle.{AllHaveCommitted, AllKeep, AllWent, AllActIn, GroupDone, Done, DoneIn, AllAreLeft, NodeIsLeft, IsLeft, CyclesLeave, MeetingsAreKept}
 
@@ -179,7 +179,7 @@ module _ {S P D : Type 0} (source : Source S P D) (image : Image) (plan : Plan) 
 
   stay_none : (stages : List Stage) → AllActIn source image plan blocks 0 stages → Pairwise Remains stages (all_are None stages)
   stay_none [] all = tt
-  stay_none (s ∷ stages) all = (ap distance all.0, stay_none stages all.1)
+  stay_none (s ∷ stages) all = (subst IsOver (sym all.0) refl, stay_none stages all.1)
 
   stay_some : (d : ℕ) (stages : List Stage) → AllActIn source image plan blocks (suc d) stages → Pairwise Remains stages (all_are (Some (Acts d)) stages)
   stay_some d [] all = tt

@@ -1,5 +1,5 @@
 -- The assumptions on those who meet, met by two harts at one word: each adds 1 to it in an even cycle, polls it in odd ones till
--- it finds 2 there, and commits by the store of 0. Then it commits in each cycle, by a jump to itself.
+-- it finds 2 there, and commits by the store of 0, or unites with the other by it. Then it commits in each cycle, by a jump to itself.
 use Rattle.std.proofs.Common.{◌≡◌, ◌≢◌, ℕ, zero, suc, ◌*◌, ◌/◌, ◌%◌, ◌<◌, ◌^◌, List, [], ◌∷◌, length, Option, Some, None, Bool, true, false, sym, ap, subst, ◌∙◌, refl, arith, ◌⊎◌, inl, inr, eq-eqb}
 use Rattle.std.proofs.lemmas.Bool.{cases_eq, ne_eqb, eqb-true}
 use Rattle.std.specs.Prelude.{◌==◌, if◌then◌else◌}
@@ -19,18 +19,20 @@ use Rattle.fk_nodes.specs.Alone.{Holds, IsAt, GoesWithin, Stays, RunsPrivately, 
 use Rattle.fk_nodes.specs.OneHart.{OneCommits, OneDoes}
 use Rattle.fk_nodes.proofs.InPlace.{step_at, amoadd-control}
 use Rattle.fk_meeting.specs.Phase.{Phase, Away, Coming, Waiting, Leaving, Settled}
-use Rattle.fk_plans.specs.Stage.{Stage, Ended, Acts, Meets, kept}
-use Rattle.fk_plans.specs.Plan.{Plan, Blocks, phases, IsInside, IsOpen, StandsAt, AllStandAt, IsBound, Turn, JointBlocksTurn}
+use Rattle.fk_plans.specs.Stage.{Ending, Commits, Unites, Stage, Ended, Acts, Meets, count_of_stage, kept}
+use Rattle.fk_nodes.specs.Source.{Passes}
+use Rattle.fk_plans.specs.Plan.{Plan, Blocks, phases, IsInside, IsOpen, HasLeft, StandsAt, AllStandAt, IsBound, Turn, JointBlocksTurn}
 use Rattle.fk_plans.specs.Cycle.{Went, AllAreLeft, IsLeft}
 use Rattle.fk_plans.specs.Change.{StaysMember, Changes, TreeChanges, GoesOn}
 use Rattle.fk_plans.proofs.Changes.{plan_goes_on}
-use Rattle.fk_plans.proofs.Example.{counting, lengths}
+use Rattle.fk_plans.proofs.Example.{Stored, counting, lengths}
 
-record HasLines (image : Image) : Type 0 where
+-- the store of 0 counts as the meeting ends
+record HasLines (ending : Ending) (image : Image) : Type 0 where
   at0 : IsAt image 0 (AmoAddW 0 7 6 false false) 0
   at1 : IsAt image 1 (Lw 5 7 0) 0
   at2 : IsAt image 2 (Bne 5 28 0xfffffffc) 0
-  at3 : IsAt image 3 (Sw 7 0 0) 1
+  at3 : IsAt image 3 (Sw 7 0 0) (count_of_stage (Meets ending 0 (Leaving 0)))
   at4 : IsAt image 4 (Jal 0 0) 1
 
 record IsReady (h : Hart) : Type 0 where
@@ -51,13 +53,14 @@ InPhase t f h = ⊥
 abbrev IsLooping : Hart → Type 0
 IsLooping h = (h.ended ≡ false) × (h.pc ≡ 16)
 
-abbrev blocks_of : Image → Blocks ℕ ℕ
-blocks_of image = record {
+abbrev blocks_of : Ending → Image → Blocks ℕ ℕ
+blocks_of ending image = record {
   lead = 1;
   idle = λ p. p;
   AfterAll = λ t g ms ds own. ⊥;
   AfterOne = λ g behind m p d. IsLooping m.hart;
-  StandsIn = λ g t w f m p. Holds image t × IsReady m.hart × InPhase t.finished f m.hart;
+  StandsIn = λ g t e w f m p. (e ≡ ending) × Holds image t × IsReady m.hart × InPhase t.finished f m.hart;
+  Joins = λ t g m p. IsLooping m.hart;
 }
 
 abbrev is_first : ℕ → ℕ → Bool
@@ -117,15 +120,29 @@ ready_moved h pc r = record { live = r.live; address = r.address; one = r.one; t
 ready_written : (h : Hart) (v : ℕ) → IsReady h → IsReady (writes h 5 v)
 ready_written h v r = record { live = r.live; address = r.address; one = r.one; two = r.two; nought = r.nought }
 
-module _ (image : Image) (code : HasLines image) where
+-- a processor counts its commits
+abbrev left_with : Ending → ℕ → ℕ
+left_with Commits p = suc p
+left_with Unites p = p
+
+-- a cycle before it leaves
+none_yet : (ending : Ending) → count_of_stage (Meets ending 0 (Leaving 1)) ≡ 0
+none_yet Commits = refl
+none_yet Unites = refl
+
+takes_by : (ending : Ending) (s : Stored) (p : ℕ) → counting.part (count_of_stage (Meets ending 0 (Leaving 0))) s p ≡ Passes s (left_with ending p)
+takes_by Commits s p = refl
+takes_by Unites s p = refl
+
+module _ (ending : Ending) (image : Image) (code : HasLines ending image) where
   abbrev blocks : Blocks ℕ ℕ
-  blocks = blocks_of image
+  blocks = blocks_of ending image
 
   counted : (h : Hart) (k c : ℕ) → h.pc ≡ 4 * k → count_in image.commits.items (4 * k) ≡ c → count_in image.commits.items h.pc ≡ c
   counted h k c e at = ap (count_in image.commits.items) e ∙ at
 
   abbrev TurnAt : Setting → (g : ℕ) → Phase → Member → ℕ → Memory → Type 0
-  TurnAt t g f m p own = Turn counting image meeting blocks t g 0 f m p own
+  TurnAt t g f m p own = Turn counting image meeting blocks t g ending 0 f m p own
 
   arrives : (t : Setting) (g : ℕ) (m : Member) (p : ℕ) (own : Memory) → is_first g 0 ≡ true → Holds image t → IsReady m.hart → InPhase t.finished (Coming zero) m.hart → TurnAt t g (Coming zero) m p own
   arrives t g m p own is holds r at = record {
@@ -146,7 +163,7 @@ module _ (image : Image) (code : HasLines image) where
     others = λ i ne. rw (ne_eqb i 0 ne) refl;
     moves = refl;
     takes = λ s. refl;
-    follows = (refl, (holds, ready_moved m.hart _ r, inl (let e = at.0 in omega arith, ap (λ a. word_sum a 4) at.1)));
+    follows = (refl, (refl, holds, ready_moved m.hart _ r, inl (let e = at.0 in omega arith, ap (λ a. word_sum a 4) at.1)));
   }
 
   -- what it finds
@@ -176,7 +193,7 @@ module _ (image : Image) (code : HasLines image) where
     others = λ i ne. refl;
     moves = rw (odd, eq-eqb (own 0) 2 e) refl;
     takes = λ s. refl;
-    follows = (refl, (holds, ready_written m.hart (own 0) r, (omega arith, ap (λ a. word_sum a 4) at, e)));
+    follows = (refl, (refl, holds, ready_written m.hart (own 0) r, (omega arith, ap (λ a. word_sum a 4) at, e)));
   }
   polled_now t g m p own is holds r odd at (inr ne) = record {
     hart = found m own;
@@ -188,7 +205,7 @@ module _ (image : Image) (code : HasLines image) where
     others = λ i ne'. refl;
     moves = rw (odd, ne_eqb (own 0) 2 ne) refl;
     takes = λ s. refl;
-    follows = (refl, (holds, ready_written m.hart (own 0) r, inr (omega arith, ap (λ a. word_sum a 4) at, ne)));
+    follows = (refl, (refl, holds, ready_written m.hart (own 0) r, inr (omega arith, ap (λ a. word_sum a 4) at, ne)));
   }
 
   tries_again : (t : Setting) (g : ℕ) (m : Member) (p : ℕ) (own : Memory) → Holds image t → IsReady m.hart → t.finished % 2 ≡ 0 → m.hart.pc ≡ 8 → m.hart.registers 5 ≢ 2 → TurnAt t g Waiting m p own
@@ -211,7 +228,7 @@ module _ (image : Image) (code : HasLines image) where
         others = λ i ne'. refl;
         moves = rw even refl;
         takes = λ s. refl;
-        follows = (refl, (holds, ready_moved m.hart _ r, inl (omega arith, target)));
+        follows = (refl, (refl, holds, ready_moved m.hart _ r, inl (omega arith, target)));
       }
 
   sees_all : (t : Setting) (g : ℕ) (m : Member) (p : ℕ) (own : Memory) → Holds image t → IsReady m.hart → InPhase t.finished (Leaving 1) m.hart → TurnAt t g (Leaving 1) m p own
@@ -222,7 +239,7 @@ module _ (image : Image) (code : HasLines image) where
     done = p;
     stays = record {
       live = r.live;
-      counted = counted m.hart 2 0 at.1 code.at2.counted;
+      counted = counted m.hart 2 0 at.1 code.at2.counted ∙ sym (none_yet ending);
       goes = λ sh has.
           same_within (is_first g) t m.number m.hart (moves m.hart) sh own has
           (step_at image 2 0 (Bne 5 28 0xfffffffc) code.at2 t holds m.number m.hart sh at.1 ∙ bne_passed t m.number m.hart sh (at.2 ∙ sym r.two));
@@ -230,29 +247,33 @@ module _ (image : Image) (code : HasLines image) where
     arrivals = refl;
     others = λ i ne. refl;
     moves = refl;
-    takes = λ s. refl;
-    follows = (refl, (holds, ready_moved m.hart _ r, (let e = at.0 in omega arith, ap (λ a. word_sum a 4) at.1)));
+    takes = λ s. ap (λ c. counting.part c s p) (none_yet ending);
+    follows = (refl, (refl, holds, ready_moved m.hart _ r, (let e = at.0 in omega arith, ap (λ a. word_sum a 4) at.1)));
   }
+
+  left_by : (ending' : Ending) (t : Setting) (g : ℕ) (m : Member) (p : ℕ) (h : Hart) → IsLooping h → HasLeft counting image meeting blocks ending' t g (record m { hart = h }) p (left_with ending' p)
+  left_by Commits t g m p h at = (0, h, refl, at)
+  left_by Unites t g m p h at = (refl, at)
 
   leaves : (t : Setting) (g : ℕ) (m : Member) (p : ℕ) (own : Memory) → is_first g 0 ≡ true → Holds image t → IsReady m.hart → InPhase t.finished (Leaving 0) m.hart → TurnAt t g (Leaving 0) m p own
   leaves t g m p own is holds r at = record {
     hart = moves m.hart;
     words = put own 0 0;
     phase = Away;
-    done = suc p;
+    done = left_with ending p;
     stays = record {
       live = r.live;
-      counted = counted m.hart 3 1 at.1 code.at3.counted;
+      counted = counted m.hart 3 (count_of_stage (Meets ending 0 (Leaving 0))) at.1 code.at3.counted;
       goes = λ sh has.
           put_within (is_first g) t m.number (m.hart.registers 0) 0 m.hart (moves m.hart) sh own (cleared sh.reserved (word_sum (m.hart.registers 7) 0 / 4 * 4)) is has r.nought
-          (step_at image 3 1 (Sw 7 0 0) code.at3 t holds m.number m.hart sh at.1
+          (step_at image 3 (count_of_stage (Meets ending 0 (Leaving 0))) (Sw 7 0 0) code.at3 t holds m.number m.hart sh at.1
           ∙ sw-control t m.number 7 0 0 0 m.hart sh (ap (λ a. a % 4) (at_sum m.hart r)) (at_sum_word m.hart r));
     };
     arrivals = refl;
     others = λ i ne. rw (ne_eqb i 0 ne) refl;
     moves = tt;
-    takes = λ s. refl;
-    follows = (refl, (0, moves m.hart, refl, (r.live, ap (λ a. word_sum a 4) at.1)));
+    takes = λ s. takes_by ending s p;
+    follows = (refl, left_by ending (later t) g m p (moves m.hart) (r.live, ap (λ a. word_sum a 4) at.1));
   }
 
   turn_at : (t : Setting) (g : ℕ) (f : Phase) (m : Member) (p : ℕ) (own : Memory) → IsInside f → is_first g 0 ≡ true → Holds image t → IsReady m.hart → InPhase t.finished f m.hart → TurnAt t g f m p own
@@ -264,10 +285,11 @@ module _ (image : Image) (code : HasLines image) where
   turn_at t g f m p own inside is holds r at = absurd (assumption (inside, at))
 
   turns : JointBlocksTurn counting image meeting blocks
-  turns t g w f m p own inside is_open stands =
+  turns t g end w f m p own inside is_open stands =
       let e : w ≡ 0 = eqb-true w 0 is_open.1 in
-      subst (λ k. Turn counting image meeting blocks t g k f m p own) (sym e)
-      (turn_at t g f m p own inside (subst (λ k. is_first g k ≡ true) e is_open.0) stands.0 stands.1 stands.2)
+      subst (λ x. Turn counting image meeting blocks t g x w f m p own) (sym stands.0)
+      (subst (λ k. Turn counting image meeting blocks t g ending k f m p own) (sym e)
+      (turn_at t g f m p own inside (subst (λ k. is_first g k ≡ true) e is_open.0) stands.1 stands.2 stands.3))
 
   -- ---- who has left commits in each cycle
 
@@ -304,25 +326,25 @@ module _ (image : Image) (code : HasLines image) where
   -- ---- both of them
 
   meets_at : (t : Setting) (p q : ℕ) (h k : Hart) (g : ℕ) → Holds image t → t.finished % 2 ≡ 0 → IsReady h → IsReady k → h.pc ≡ 0 → k.pc ≡ 0
-      → AllStandAt counting image meeting blocks t g (of_node g meeting.nodes (Meets 0 (Coming 0) ∷ Meets 0 (Coming 0) ∷ [])) (of_node g meeting.nodes (numbered 0 (h ∷ k ∷ []))) (of_node g meeting.nodes (p ∷ q ∷ []))
-  meets_at t p q h k zero holds even a b c d = ((tt, (refl, refl), refl, (holds, a, (even, c))), ((tt, (refl, refl), refl, (holds, b, (even, d))), tt))
+      → AllStandAt counting image meeting blocks t g (of_node g meeting.nodes (Meets ending 0 (Coming 0) ∷ Meets ending 0 (Coming 0) ∷ [])) (of_node g meeting.nodes (numbered 0 (h ∷ k ∷ []))) (of_node g meeting.nodes (p ∷ q ∷ []))
+  meets_at t p q h k zero holds even a b c d = ((tt, (refl, refl), refl, (refl, holds, a, (even, c))), ((tt, (refl, refl), refl, (refl, holds, b, (even, d))), tt))
   meets_at t p q h k (suc g) holds even a b c d = rw (ne_eqb 0 (suc g) (λ e. omega arith)) tt
 
   none_there : {A : Type 0} (g w : ℕ) → IsOpen meeting (suc g) w → A
   none_there g w is_open = absurd (let e = is_open.0 in cc)
 
   settled_at : (t : Setting) (g w : ℕ) (own : Memory) → t.finished % 2 ≡ 0 → own 0 ≡ 0 → IsOpen meeting g w
-      → Settled t.finished 2 (own w) (phases meeting g w (kept (Meets 0 (Coming 0) ∷ Meets 0 (Coming 0) ∷ [])))
+      → Settled t.finished 2 (own w) (phases meeting g w (kept (Meets ending 0 (Coming 0) ∷ Meets ending 0 (Coming 0) ∷ [])))
   settled_at t zero w own even empty is_open =
       let e : w ≡ 0 = eqb-true w 0 is_open.1 in
-      let fs = phases meeting 0 0 (kept (Meets 0 (Coming 0) ∷ Meets 0 (Coming 0) ∷ [])) in
+      let fs = phases meeting 0 0 (kept (Meets ending 0 (Coming 0) ∷ Meets ending 0 (Coming 0) ∷ [])) in
       let here : Settled t.finished 2 0 fs = record { size = refl; count = refl; in_step = (omega arith, (omega arith, tt)); together = inl (tt, (tt, tt)) } in
-      subst (λ v. Settled t.finished 2 (own v) (phases meeting 0 v (kept (Meets 0 (Coming 0) ∷ Meets 0 (Coming 0) ∷ [])))) (sym e)
+      subst (λ v. Settled t.finished 2 (own v) (phases meeting 0 v (kept (Meets ending 0 (Coming 0) ∷ Meets ending 0 (Coming 0) ∷ [])))) (sym e)
       (subst (λ v. Settled t.finished 2 v fs) (sym empty) here)
   settled_at t (suc g) w own even empty is_open = none_there g w is_open
 
   meets_bound : (t : Setting) (p q : ℕ) (h k : Hart) (own : ℕ → Memory) → Holds image t → t.finished % 2 ≡ 0 → IsReady h → IsReady k → h.pc ≡ 0 → k.pc ≡ 0
-      → ((g : ℕ) → own g 0 ≡ 0) → IsBound counting image meeting blocks t (Meets 0 (Coming 0) ∷ Meets 0 (Coming 0) ∷ []) (h ∷ k ∷ []) (p ∷ q ∷ []) own
+      → ((g : ℕ) → own g 0 ≡ 0) → IsBound counting image meeting blocks t (Meets ending 0 (Coming 0) ∷ Meets ending 0 (Coming 0) ∷ []) (h ∷ k ∷ []) (p ∷ q ∷ []) own
   meets_bound t p q h k own holds even a b c d empty = record {
     as_many = tt;
     stages_as_many = tt;
@@ -334,19 +356,21 @@ module _ (image : Image) (code : HasLines image) where
 
   next_stage : (t : Setting) (a : Option Stage) (m : Member) (p d : ℕ) → Went counting image meeting blocks t 0 a m p d → Stage
   next_stage t (Some s) m p d went = s
-  next_stage t None m p d went = Acts went.0
+  next_stage t None m p d (inl went) = Acts went.0
+  next_stage t None m p d (inr went) = Acts 0
 
   still_member : (t : Setting) (s : Stage) (m : Member) (p : ℕ) → StandsAt counting image meeting blocks t 0 s m p → StaysMember meeting 0 m.number s
   still_member t Ended m p stands = tt
   still_member t (Acts d) m p stands = tt
-  still_member t (Meets w f) m p stands = (stands.1, stands.2)
+  still_member t (Meets e w f) m p stands = (stands.1, stands.2)
 
   one_changes : (t : Setting) (a : Option Stage) (m : Member) (p d : ℕ) → Holds image t → (went : Went counting image meeting blocks t 0 a m p d)
       → Changes counting image meeting blocks meeting blocks t m 0 0 a (next_stage t a m p d went) p d
   unfolding next_stage
   one_changes t (Some s) m p d holds went =
-      (refl, refl, went.0, still_member t s m p went.1, λ e. record { alone = refl; after = λ behind m p d x. x; stands = λ t w f m p is_open x. x })
-  one_changes t None m p d holds went = (tt, λ e. (0, loops_after t m d went.0 went.1 holds went.2 went.3))
+      (refl, refl, went.0, still_member t s m p went.1, λ e. record { alone = refl; after = λ behind m p d x. x; stands = λ t e w f m p is_open x. x })
+  one_changes t None m p d holds (inl went) = (tt, λ e. (0, loops_after t m d went.0 went.1 holds went.2 went.3))
+  one_changes t None m p d holds (inr went) = (tt, λ e. (0, loops_after t m d 0 m.hart holds refl went.1))
 
   both_change : (t : Setting) (hs : List Hart) (afters : List (Option Stage)) (ps ds : List ℕ) (control : Memory) → Holds image t → length hs ≡ 2 → length afters ≡ 2 → length ps ≡ 2 → length ds ≡ 2
       → AllAreLeft counting image meeting blocks (later t) 0 (of_node 0 meeting.nodes afters) (of_node 0 meeting.nodes (numbered 0 hs)) (of_node 0 meeting.nodes ps) (of_node 0 meeting.nodes ds)

@@ -6,7 +6,7 @@ use Rattle.fk_meeting.specs.Phase.{Phase, Outside, Away, Leaving, AllMove, Each,
 use Rattle.fk_meeting.specs.Meeting.{IsKept}
 use Rattle.fk_meeting.proofs.Leaving.{leaves_all, cycles_keep_arrivals}
 use Rattle.fk_meeting.proofs.Runs.{same_length, some_known}
-use Rattle.fk_plans.specs.Stage.{Stage, Ended, Acts, Meets, distance, count_for, count_of_stage, counts_for, Nears, AllNear, kept, phase_of}
+use Rattle.fk_plans.specs.Stage.{Ending, Commits, Unites, Stage, Ended, Acts, Meets, distance, count_for, count_of_stage, counts_for, Nears, AllNear, kept, phase_of}
 use Rattle.fk_plans.specs.Plan.{Plan, phase_at, phases_from, phases}
 use Rattle.fk_plans.specs.Pace.{WhoIsNearActs, WhoMeetsActs}
 
@@ -93,22 +93,27 @@ all_leave fs n lead (suc k) t word few first moves due =
     (now.nearer k due))
     (some_known (fs 0))
 
--- a member that leaves now commits
-leaving_counts : (s : Stage) (w : ℕ) (b : Bool) → s ≢ Meets w Outside → Leaves 0 (phase_at b true (phase_of w true (Some s))) → count_of_stage s ≡ 1
+-- a member that leaves now commits, or unites
+leaving_counts : (s : Stage) (w : ℕ) (b : Bool) → ((e : Ending) → s ≢ Meets e w Outside) → Leaves 0 (phase_at b true (phase_of w true (Some s)))
+    → (count_of_stage s ≡ 1) ⊎ (s ≡ Meets Unites w (Leaving 0))
 leaving_counts s w false member leaves = absurd leaves
 leaving_counts Ended w true member leaves = absurd leaves
 leaving_counts (Acts d) w true member leaves = absurd leaves
-leaving_counts (Meets v f) w true member leaves = at_word v f w (cases_eq v w) member leaves
+leaving_counts (Meets ending v f) w true member leaves = at_word ending v f w (cases_eq v w) member leaves
   where
-    this_word : (v : ℕ) (f : Phase) → Meets v f ≢ Meets v Outside → Leaves 0 f → count_of_stage (Meets v f) ≡ 1
-    this_word v Outside member leaves = absurd (member refl)
-    this_word v (Leaving d) member leaves = ap (λ k. count_of_stage (Meets v (Leaving k))) leaves
-    this_word v f member leaves = absurd (assumption leaves)
+    this_word : (ending : Ending) (v : ℕ) (f : Phase) → ((e : Ending) → Meets ending v f ≢ Meets e v Outside) → Leaves 0 f
+        → (count_of_stage (Meets ending v f) ≡ 1) ⊎ (Meets ending v f ≡ Meets Unites v (Leaving 0))
+    this_word ending v Outside member leaves = absurd (member ending refl)
+    this_word Commits v (Leaving d) member leaves = inl (ap (λ k. count_of_stage (Meets Commits v (Leaving k))) leaves)
+    this_word Unites v (Leaving d) member leaves = inr (ap (λ k. Meets Unites v (Leaving k)) leaves)
+    this_word ending v f member leaves = absurd (assumption leaves)
 
-    at_word : (v : ℕ) (f : Phase) (w : ℕ) → ((v ≡ w) ⊎ (v ≢ w)) → Meets v f ≢ Meets w Outside → Leaves 0 (cond (v == w) f Away) → count_of_stage (Meets v f) ≡ 1
-    at_word v f w (inl e) member leaves =
-        this_word v f (λ same. member (same ∙ ap (λ k. Meets k Outside) e)) (subst (λ b. Leaves 0 (cond b f Away)) (eq-eqb v w e) leaves)
-    at_word v f w (inr ne) member leaves = absurd (subst (λ b. Leaves 0 (cond b f Away)) (ne_eqb v w ne) leaves)
+    at_word : (ending : Ending) (v : ℕ) (f : Phase) (w : ℕ) → ((v ≡ w) ⊎ (v ≢ w)) → ((e : Ending) → Meets ending v f ≢ Meets e w Outside) → Leaves 0 (cond (v == w) f Away)
+        → (count_of_stage (Meets ending v f) ≡ 1) ⊎ (Meets ending v f ≡ Meets Unites w (Leaving 0))
+    at_word ending v f w (inl e) member leaves =
+        subst (λ k. (count_of_stage (Meets ending v f) ≡ 1) ⊎ (Meets ending v f ≡ Meets Unites k (Leaving 0))) e
+        (this_word ending v f (λ x same. member x (same ∙ ap (λ k. Meets x k Outside) e)) (subst (λ b. Leaves 0 (cond b f Away)) (eq-eqb v w e) leaves))
+    at_word ending v f w (inr ne) member leaves = absurd (subst (λ b. Leaves 0 (cond b f Away)) (ne_eqb v w ne) leaves)
 
 at_hart : (plan : Plan) (g w number : ℕ) (ns : List ℕ) (stages : List Stage) (h n : ℕ) (s : Stage) → Each (Leaves 0) (phases_from plan g w number ns (kept stages))
     → slice_get ns h ≡ Some n → slice_get stages h ≡ Some s

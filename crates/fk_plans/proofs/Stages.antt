@@ -16,7 +16,7 @@ use Rattle.fk_nodes.proofs.Runs.{private_stays}
 use Rattle.fk_nodes.proofs.Members.{runs_at, stays_passing}
 use Rattle.fk_nodes.proofs.OneHart.{one_passes}
 use Rattle.fk_meeting.specs.Phase.{Phase, Outside, Away, Coming, Waiting, Leaving, is_odd, word_after, polled, Moves, AllMove}
-use Rattle.fk_plans.specs.Stage.{Stage, Ended, Acts, Meets, distance, count_of_stage, kept, absent, phase_of, Remains}
+use Rattle.fk_plans.specs.Stage.{Ending, Commits, Unites, Stage, Ended, Acts, Meets, distance, count_of_stage, kept, absent, phase_of, Remains}
 use Rattle.fk_plans.specs.Plan.{Plan, IsOpen, phases_of, Blocks, told_by, IsInside, IsIdle, StandsAt, AllStandAt, Turn, JointBlocksTurn}
 use Rattle.fk_plans.specs.Cycle.{Went, HaveMoved, StagesAreChains}
 
@@ -64,47 +64,47 @@ module _ {S P D : Type 0} (source : Source S P D) (image : Image) (plan : Plan) 
   }
 
   -- who is in a phase of a joint block
-  after_at : (v w : ℕ) (member : Bool) (f : Phase) → AtWord v w → (v ≡ w → member ≡ true) → (own words : Memory) → words v ≡ word_after f (own v)
-      → ((i : ℕ) → i ≢ v → words i ≡ own i) → words w ≡ word_after (phase_of w member (Some (Meets v f))) (own w)
-  after_at v w member f (inl e) is own words here others =
+  after_at : (ending : Ending) (v w : ℕ) (member : Bool) (f : Phase) → AtWord v w → (v ≡ w → member ≡ true) → (own words : Memory) → words v ≡ word_after f (own v)
+      → ((i : ℕ) → i ≢ v → words i ≡ own i) → words w ≡ word_after (phase_of w member (Some (Meets ending v f))) (own w)
+  after_at ending v w member f (inl e) is own words here others =
       ap words (sym e) ∙ here ∙ ap (λ k. word_after f (own k)) e ∙ ap (λ b. word_after (cond b f (absent member)) (own w)) (sym (eq-eqb v w e))
-  after_at v w member f (inr ne) is own words here others =
+  after_at ending v w member f (inr ne) is own words here others =
       others w (λ e. ne (sym e)) ∙ sym (absent_word member (own w)) ∙ ap (λ b. word_after (cond b f (absent member)) (own w)) (sym (ne_eqb v w ne))
 
   -- the phase after its turn, at its own word and at others
   abbrev IsAfter : ℕ → Option Stage → Phase → Type 0
   IsAfter v a f' = ((w : ℕ) (member : Bool) → (v ≡ w → member ≡ true) → v ≡ w → phase_of w member a ≡ f') × ((w : ℕ) (member : Bool) → v ≢ w → phase_of w member a ≡ absent member)
 
-  is_after_some : (v : ℕ) (f' : Phase) → IsAfter v (Some (Meets v f')) f'
-  is_after_some v f' =
+  is_after_some : (ending : Ending) (v : ℕ) (f' : Phase) → IsAfter v (Some (Meets ending v f')) f'
+  is_after_some ending v f' =
       (λ w member is e. ap (λ b. cond b f' (absent member)) (eq-eqb v w e), λ w member ne. ap (λ b. cond b f' (absent member)) (ne_eqb v w ne))
 
   is_after_none : (v : ℕ) → IsAfter v None Away
   is_after_none v = (λ w member is e. ap absent (is e), λ w member ne. refl)
 
-  moves_at : (t : Setting) (v w : ℕ) (member : Bool) (f f' : Phase) (a : Option Stage) (own : Memory) → AtWord v w → (v ≡ w → member ≡ true) → IsAfter v a f'
-      → Moves t.finished (plan.size v) blocks.lead (own v) f f' → Moves t.finished (plan.size w) blocks.lead (own w) (phase_of w member (Some (Meets v f))) (phase_of w member a)
-  moves_at t v w member f f' a own (inl e) is after moves =
-      subst (λ x. Moves t.finished (plan.size w) blocks.lead (own w) (phase_of w member (Some (Meets v f))) x) (sym (after.0 w member is e))
+  moves_at : (ending : Ending) (t : Setting) (v w : ℕ) (member : Bool) (f f' : Phase) (a : Option Stage) (own : Memory) → AtWord v w → (v ≡ w → member ≡ true) → IsAfter v a f'
+      → Moves t.finished (plan.size v) blocks.lead (own v) f f' → Moves t.finished (plan.size w) blocks.lead (own w) (phase_of w member (Some (Meets ending v f))) (phase_of w member a)
+  moves_at ending t v w member f f' a own (inl e) is after moves =
+      subst (λ x. Moves t.finished (plan.size w) blocks.lead (own w) (phase_of w member (Some (Meets ending v f))) x) (sym (after.0 w member is e))
       (subst (λ b. Moves t.finished (plan.size w) blocks.lead (own w) (cond b f (absent member)) f') (sym (eq-eqb v w e))
       (subst (λ k. Moves t.finished (plan.size k) blocks.lead (own k) f f') e moves))
-  moves_at t v w member f f' a own (inr ne) is after moves =
-      subst (λ x. Moves t.finished (plan.size w) blocks.lead (own w) (phase_of w member (Some (Meets v f))) x) (sym (after.1 w member ne))
+  moves_at ending t v w member f f' a own (inr ne) is after moves =
+      subst (λ x. Moves t.finished (plan.size w) blocks.lead (own w) (phase_of w member (Some (Meets ending v f))) x) (sym (after.1 w member ne))
       (subst (λ b. Moves t.finished (plan.size w) blocks.lead (own w) (cond b f (absent member)) (absent member)) (sym (ne_eqb v w ne))
       (absent_moves t.finished (plan.size w) blocks.lead (own w) member))
 
-  met_by : (t : Setting) (g v : ℕ) (f : Phase) (a : Option Stage) (m : Member) (p : P) (own : Memory) → IsOpen plan g v → plan.member v m.number ≡ true
-      → (took : Turn source image plan blocks t g v f m p own) → Remains (Meets v f) a → IsAfter v a took.phase
+  met_by : (t : Setting) (g : ℕ) (ending : Ending) (v : ℕ) (f : Phase) (a : Option Stage) (m : Member) (p : P) (own : Memory) → IsOpen plan g v → plan.member v m.number ≡ true
+      → (took : Turn source image plan blocks t g ending v f m p own) → Remains (Meets ending v f) a → IsAfter v a took.phase
       → Went source image plan blocks (later t) g a (record m { hart = took.hart }) p took.done
-      → One t g (Meets v f) p own (record m { hart = took.hart }) took.done took.words
-  met_by t g v f a m p own is_open member took stays after went =
+      → One t g (Meets ending v f) p own (record m { hart = took.hart }) took.done took.words
+  met_by t g ending v f a m p own is_open member took stays after went =
       let is : (w : ℕ) → v ≡ w → plan.member w m.number ≡ true = λ w e. subst (λ k. plan.member k m.number ≡ true) e member in
       record {
         after = a;
         stays = stays;
         went = went;
-        moves = λ w o. moves_at t v w (plan.member w m.number) f took.phase a own (cases_eq v w) (is w) after took.moves;
-        here = λ w. after_at v w (plan.member w m.number) f (cases_eq v w) (is w) own took.words took.arrivals took.others;
+        moves = λ w o. moves_at ending t v w (plan.member w m.number) f took.phase a own (cases_eq v w) (is w) after took.moves;
+        here = λ w. after_at ending v w (plan.member w m.number) f (cases_eq v w) (is w) own took.words took.arrivals took.others;
         others = λ i no_arrival. took.others i (λ e. let x : false ≡ true = sym no_arrival ∙ ap plan.arrivals e ∙ is_open.1 in cc);
       }
 
@@ -112,26 +112,32 @@ module _ {S P D : Type 0} (source : Source S P D) (image : Image) (plan : Plan) 
   inside_polled true = tt
   inside_polled false = tt
 
-  abbrev MetOne : Setting → (g v : ℕ) → Phase → Member → P → Memory → Type 0
-  MetOne t g v f m p own =
-      (took : Turn source image plan blocks t g v f m p own) → One t g (Meets v f) p own (record m { hart = took.hart }) took.done took.words
+  abbrev MetOne : Setting → (g : ℕ) → Ending → (v : ℕ) → Phase → Member → P → Memory → Type 0
+  MetOne t g ending v f m p own =
+      (took : Turn source image plan blocks t g ending v f m p own) → One t g (Meets ending v f) p own (record m { hart = took.hart }) took.done took.words
 
-  met : (t : Setting) (g v : ℕ) (f : Phase) (m : Member) (p : P) (own : Memory) → IsInside f → IsOpen plan g v → plan.member v m.number ≡ true → MetOne t g v f m p own
-  met t g v Outside m p own inside is_open member took = absurd inside
-  met t g v Away m p own inside is_open member took = absurd inside
-  met t g v (Coming zero) m p own inside is_open member took =
-      met_by t g v (Coming zero) (Some (Meets v took.phase)) m p own is_open member took (refl, tt, refl) (is_after_some v took.phase)
+  met : (t : Setting) (g : ℕ) (ending : Ending) (v : ℕ) (f : Phase) (m : Member) (p : P) (own : Memory) → IsInside f → IsOpen plan g v → plan.member v m.number ≡ true
+      → MetOne t g ending v f m p own
+  met t g ending v Outside m p own inside is_open member took = absurd inside
+  met t g ending v Away m p own inside is_open member took = absurd inside
+  met t g ending v (Coming zero) m p own inside is_open member took =
+      met_by t g ending v (Coming zero) (Some (Meets ending v took.phase)) m p own is_open member took (refl, tt, (refl, refl)) (is_after_some ending v took.phase)
       (took.follows.0, (subst IsInside (sym took.moves) tt, is_open, member, took.follows.1))
-  met t g v (Coming (suc d)) m p own inside is_open member took =
-      met_by t g v (Coming (suc d)) (Some (Meets v took.phase)) m p own is_open member took (refl, tt, refl) (is_after_some v took.phase)
+  met t g ending v (Coming (suc d)) m p own inside is_open member took =
+      met_by t g ending v (Coming (suc d)) (Some (Meets ending v took.phase)) m p own is_open member took (refl, tt, (refl, refl)) (is_after_some ending v took.phase)
       (took.follows.0, (subst IsInside (sym took.moves) tt, is_open, member, took.follows.1))
-  met t g v Waiting m p own inside is_open member took =
-      met_by t g v Waiting (Some (Meets v took.phase)) m p own is_open member took (refl, tt, refl) (is_after_some v took.phase)
+  met t g ending v Waiting m p own inside is_open member took =
+      met_by t g ending v Waiting (Some (Meets ending v took.phase)) m p own is_open member took (refl, tt, (refl, refl)) (is_after_some ending v took.phase)
       (took.follows.0, (subst IsInside (sym took.moves) (inside_polled (is_odd t.finished && own v == plan.size v)), is_open, member, took.follows.1))
-  met t g v (Leaving zero) m p own inside is_open member took =
-      met_by t g v (Leaving zero) None m p own is_open member took refl (subst (IsAfter v None) (sym took.follows.0) (is_after_none v)) took.follows.1
-  met t g v (Leaving (suc d)) m p own inside is_open member took =
-      met_by t g v (Leaving (suc d)) (Some (Meets v took.phase)) m p own is_open member took (refl, ap (λ f. distance (Meets v f)) took.moves, refl) (is_after_some v took.phase)
+  met t g Commits v (Leaving zero) m p own inside is_open member took =
+      met_by t g Commits v (Leaving zero) None m p own is_open member took refl (subst (IsAfter v None) (sym took.follows.0) (is_after_none v)) (inl took.follows.1)
+  met t g Unites v (Leaving zero) m p own inside is_open member took =
+      met_by t g Unites v (Leaving zero) None m p own is_open member took refl (subst (IsAfter v None) (sym took.follows.0) (is_after_none v)) (inr took.follows.1)
+  met t g Commits v (Leaving (suc d)) m p own inside is_open member took =
+      met_by t g Commits v (Leaving (suc d)) (Some (Meets Commits v took.phase)) m p own is_open member took (refl, ap (λ f. distance (Meets Commits v f)) took.moves, (refl, refl))
+      (is_after_some Commits v took.phase) (took.follows.0, (subst IsInside (sym took.moves) tt, is_open, member, took.follows.1))
+  met t g Unites v (Leaving (suc d)) m p own inside is_open member took =
+      met_by t g Unites v (Leaving (suc d)) (Some (Meets Unites v took.phase)) m p own is_open member took (refl, tt, (refl, refl)) (is_after_some Unites v took.phase)
       (took.follows.0, (subst IsInside (sym took.moves) tt, is_open, member, took.follows.1))
 
   one_turn : (t : Setting) (g : ℕ) (s : Stage) (m : Member) (p : P) (own : Memory) (earlier : List ℕ) (sh : Shared) (st : S) (Then : Hart → D → Memory → Type 0)
@@ -166,11 +172,11 @@ module _ {S P D : Type 0} (source : Source S P D) (image : Image) (plan : Plan) 
       let After : Hart → D → Type 0 = λ h x. (h' : Hart) × RunsPrivately image (later t) m.number stands.0 h h' × blocks.AfterOne g stands.0 (record m { hart = h' }) p x in
       let c = subst (λ h. OneCommits source image t 1 (record m { hart = h }) p After) (sym l.runs) l.commits in
       one_passes source image (plan.words g) t 1 m p own earlier sh st After Then apart shows has c
-      (λ h d x. follows h d own (free t g (Acts zero) None p own (record m { hart = h }) d (λ w b. refl) (λ w b. refl) refl (stands.0, x.0, x.1, x.2))) (c.does st)
-  one_turn t g (Meets v f) m p own earlier sh st Then idle joint apart stands shows has follows =
-      let took = joint t g v f m p own stands.0 stands.1 stands.3 in
-      inl (stays_passing source image (plan.words g) t (count_of_stage (Meets v f)) m p took.done own took.hart took.words earlier sh st Then apart shows has took.stays (took.takes st)
-      (follows took.hart took.done took.words (met t g v f m p own stands.0 stands.1 stands.2 took)))
+      (λ h d x. follows h d own (free t g (Acts zero) None p own (record m { hart = h }) d (λ w b. refl) (λ w b. refl) refl (inl (stands.0, x.0, x.1, x.2)))) (c.does st)
+  one_turn t g (Meets ending v f) m p own earlier sh st Then idle joint apart stands shows has follows =
+      let took = joint t g ending v f m p own stands.0 stands.1 stands.3 in
+      inl (stays_passing source image (plan.words g) t (count_of_stage (Meets ending v f)) m p took.done own took.hart took.words earlier sh st Then apart shows has took.stays (took.takes st)
+      (follows took.hart took.done took.words (met t g ending v f m p own stands.0 stands.1 stands.2 took)))
 
   -- ---- all members
 
@@ -217,8 +223,8 @@ module _ {S P D : Type 0} (source : Source S P D) (image : Image) (plan : Plan) 
       let After : Hart → D → Type 0 = λ h x. (h' : Hart) × RunsPrivately image (later t) m.number stands.0 h h' × blocks.AfterOne g stands.0 (record m { hart = h' }) p x in
       let c = subst (λ h. OneCommits source image t 1 (record m { hart = h }) p After) (sym l.runs) l.commits in
       ap (count_of image) (runs_at m.hart c.live) ∙ c.counted
-  stage_count t g (Meets v f) m p joint stands =
-      let took = joint t g v f m p (λ i. 0) stands.0 stands.1 stands.3 in
+  stage_count t g (Meets ending v f) m p joint stands =
+      let took = joint t g ending v f m p (λ i. 0) stands.0 stands.1 stands.3 in
       ap (count_of image) (runs_at m.hart took.stays.live) ∙ took.stays.counted
 
 pub stages_are_chains : (S P D : Type 0) → StagesAreChains S P D

@@ -7,7 +7,7 @@ use Rattle.fk_nodes.specs.Node.{Member, numbered, of_node, AreAsMany, Has}
 use Rattle.fk_nodes.specs.Source.{Source}
 use Rattle.fk_nodes.specs.Alone.{later, in_cycles, RunsPrivately}
 use Rattle.fk_meeting.specs.Phase.{Phase, Coming, AllMove, members}
-use Rattle.fk_plans.specs.Stage.{Stage, Ended, Acts, Meets, AllNear, kept}
+use Rattle.fk_plans.specs.Stage.{Ending, Stage, Ended, Acts, Meets, AllNear, kept}
 use Rattle.fk_plans.specs.Plan.{Plan, IsOpen, phases, Blocks, Tests, told_by, StandsAt, InLockstep, IsBound}
 use Rattle.fk_plans.specs.Cycle.{AllHaveCommitted, IsLeft}
 
@@ -15,8 +15,8 @@ use Rattle.fk_plans.specs.Cycle.{AllHaveCommitted, IsLeft}
 abbrev pub IsFresh : Setting → Stage → Type 0
 IsFresh t Ended = Unit {0}
 IsFresh t (Acts d) = Unit {0}
-IsFresh t (Meets w (Coming d)) = (t.finished + d) % 2 ≡ 0
-IsFresh t (Meets w f) = ⊥
+IsFresh t (Meets e w (Coming d)) = (t.finished + d) % 2 ≡ 0
+IsFresh t (Meets e w f) = ⊥
 
 -- a node has the same members
 abbrev pub HasSame : (g : ℕ) → (nodes nodes' : List ℕ) → Type 0
@@ -26,7 +26,7 @@ HasSame g ns ns' = ⊥
 
 -- where a hart in a joint block stands, it is still a member
 abbrev pub StaysMember : Plan → (g number : ℕ) → Stage → Type 0
-StaysMember plan' g number (Meets w f) = IsOpen plan' g w × (plan'.member w number ≡ true)
+StaysMember plan' g number (Meets e w f) = IsOpen plan' g w × (plan'.member w number ≡ true)
 StaysMember plan' g number s = Unit {0}
 
 -- whoever stands there now has just committed
@@ -41,10 +41,10 @@ module _ {S P D : Type 0} (source : Source S P D) (image : Image) (plan : Plan) 
   pub record StaysOpen (g : ℕ) : Type 0 where
     pub alone : plan.in_lockstep g ≡ false
     pub after : (behind : ℕ) (m : Member) (p : P) (d : D) → blocks.AfterOne g behind m p d → blocks'.AfterOne g behind m p d
-    pub stands : (t : Setting) (w : ℕ) (f : Phase) (m : Member) (p : P) → IsOpen plan' g w → blocks.StandsIn g t w f m p → blocks'.StandsIn g t w f m p
+    pub stands : (t : Setting) (e : Ending) (w : ℕ) (f : Phase) (m : Member) (p : P) → IsOpen plan' g w → blocks.StandsIn g t e w f m p → blocks'.StandsIn g t e w f m p
 
-  -- One hart: who has not committed stands where it stood, with its stage and its processor. Who has committed is at a fresh
-  -- stage, and if its node is no group, it stands there at that stage.
+  -- One hart: whose stage is not over stands where it stood, with its stage and its processor. Who has committed, or united with
+  -- others, is at a fresh stage, and if its node is no group, it stands there at that stage.
   abbrev pub Changes : Setting → Member → (node node' : ℕ) → Option Stage → Stage → P → P → Type 0
   Changes t m n n' (Some s) s' p p' = (n' ≡ n) × (s' ≡ s) × (p' ≡ p) × StaysMember plan' n' m.number s × (plan'.in_lockstep n' ≡ false → StaysOpen n')
   Changes t m n n' None s' p p' = IsFresh t s' × (plan'.in_lockstep n' ≡ false → StandsAt source image plan' blocks' t n' s' m p')

@@ -13,9 +13,9 @@ use Rattle.fk_nodes.specs.Whole.{planned, IsRound}
 use Rattle.fk_meeting.specs.Phase.{AllMove}
 use Rattle.fk_meeting.specs.Meeting.{IsKept}
 use Rattle.fk_plans.specs.Stage.{Stage, Acts, Pairwise, Remains, counts_for, kept}
-use Rattle.fk_plans.specs.Plan.{Plan, IsOpen, phases, phases_of, Blocks, Tests, told_by, IsIdle, HasCommitted, StandsAt, AllStandAt, JointBlocksTurn, IsBound}
+use Rattle.fk_plans.specs.Plan.{Plan, IsOpen, phases, phases_of, Blocks, Tests, told_by, IsIdle, HasCommitted, HasUnited, StandsAt, AllStandAt, JointBlocksTurn, IsBound}
 
--- all have committed, or all keep a stage
+-- the stages of all are over: all have committed, or united. Or all keep a stage
 abbrev pub AllHaveCommitted : List (Option Stage) → Type 0
 AllHaveCommitted [] = Unit {0}
 AllHaveCommitted (a ∷ afters) = (a ≡ None) × AllHaveCommitted afters
@@ -25,9 +25,10 @@ AllKeep s [] = Unit {0}
 AllKeep s (a ∷ afters) = (a ≡ Some s) × AllKeep s afters
 
 module _ {S P D : Type 0} (source : Source S P D) (image : Image) (plan : Plan) (blocks : Blocks P D) where
-  -- what becomes of a member by itself in a cycle: it has committed, or has done nothing and stands at a stage
+  -- what becomes of a member by itself in a cycle: it has committed, or united with others; or it has done nothing and stands at
+  -- a stage
   abbrev pub Went : Setting → (g : ℕ) → Option Stage → Member → P → D → Type 0
-  Went t g None m p d = HasCommitted source image plan blocks t g m p d
+  Went t g None m p d = HasCommitted source image plan blocks t g m p d ⊎ HasUnited source image plan blocks t g m p d
   Went t g (Some s) m p d = (d ≡ blocks.idle p) × StandsAt source image plan blocks t g s m p
 
   -- each member by itself

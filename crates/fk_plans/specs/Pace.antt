@@ -1,7 +1,7 @@
 -- The pace: how soon harts commit.
-use Rattle.std.specs.Prelude.{◌≡◌, ◌≢◌, ℕ, suc, ◌+◌, ◌^◌, ◌<◌, ◌≤◌, List, length, Some, true, slice_get, slice_index}
-use Rattle.fk_meeting.specs.Phase.{Outside, AllMove, SomeCommits, Settled, IsDue}
-use Rattle.fk_plans.specs.Stage.{Stage, Meets, distance, count_of_stage, counts_for, AllNear, kept}
+use Rattle.std.specs.Prelude.{◌≡◌, ◌≢◌, ℕ, suc, ◌+◌, ◌^◌, ◌<◌, ◌≤◌, List, length, Some, true, slice_get, slice_index, ◌⊎◌}
+use Rattle.fk_meeting.specs.Phase.{Outside, Leaving, AllMove, SomeCommits, Settled, IsDue}
+use Rattle.fk_plans.specs.Stage.{Ending, Unites, Stage, Meets, distance, count_of_stage, counts_for, AllNear, kept}
 use Rattle.fk_plans.specs.Plan.{Plan, phases}
 
 -- whoever commits in d cycles does so in the round d rounds later, whatever becomes of others
@@ -19,11 +19,11 @@ pub record MoveOn (plan : ℕ → Plan) (g w n lead t cycles : ℕ) (stages : �
   pub moves : (i : ℕ) → i < cycles → ((j : ℕ) → j ≤ i → SomeCommits (phases (plan j) g w (kept (stages j))) → ⊥)
       → AllMove (t + i) n lead (phases (plan i) g w (kept (stages i))) (word i) (phases (plan (suc i)) g w (kept (stages (suc i)))) (word (suc i))
 
--- in this round all members of those who meet at a word commit. One who stands there is not outside
+-- in this round all members of those who meet at a word commit, or unite. One who stands there is not outside
 abbrev pub AllActIn : Plan → (word : ℕ) → List Stage → Type 0
 AllActIn plan w stages =
-    (h n : ℕ) (s : Stage) → plan.member w h ≡ true → slice_get plan.nodes h ≡ Some n → slice_get stages h ≡ Some s → s ≢ Meets w Outside
-    → count_of_stage s ≡ 1
+    (h n : ℕ) (s : Stage) → plan.member w h ≡ true → slice_get plan.nodes h ≡ Some n → slice_get stages h ≡ Some s → ((e : Ending) → s ≢ Meets e w Outside)
+    → (count_of_stage s ≡ 1) ⊎ (s ≡ Meets Unites w (Leaving 0))
 
 -- once all members have entered a joint operation, and have time for it in k cycles, all are in one round of the next k + 1
 abbrev pub WhoMeetsActs : Type 0

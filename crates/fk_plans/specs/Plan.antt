@@ -9,7 +9,7 @@ use Rattle.fk_nodes.specs.Alone.{later, in_cycles, RunsPrivately, Stays}
 use Rattle.fk_nodes.specs.OneHart.{OneDoes}
 use Rattle.fk_nodes.specs.Together.{Together}
 use Rattle.fk_meeting.specs.Phase.{Phase, Outside, Away, Leaving, word_after, Moves, Settled}
-use Rattle.fk_plans.specs.Stage.{Stage, Ended, Acts, Meets, count_of_stage, kept, absent, phase_of}
+use Rattle.fk_plans.specs.Stage.{Ending, Commits, Unites, Stage, Ended, Acts, Meets, count_of_stage, kept, absent, phase_of}
 
 -- a tree of nodes at one time, as the machine knows it
 pub record Plan : Type 0 where
@@ -58,7 +58,9 @@ pub record Blocks (P D : Type 0) : Type 1 where
   -- of a member of a node, where so many private instructions have led it behind its commit by itself, or with those it met
   pub AfterOne : (g behind : ℕ) → Member → P → D → Type 0
   -- of a member of a node in a phase of a joint block, at an arrival word
-  pub StandsIn : (g : ℕ) → Setting → (word : ℕ) → Phase → Member → P → Type 0
+  pub StandsIn : (g : ℕ) → Setting → Ending → (word : ℕ) → Phase → Member → P → Type 0
+  -- of one before this cycle that has just left those with whom it unites
+  pub Joins : Setting → (g : ℕ) → Member → P → Type 0
 
 -- the same, by tests
 pub record Tests (P D : Type 0) : Type 0 where
@@ -66,7 +68,8 @@ pub record Tests (P D : Type 0) : Type 0 where
   pub idle : P → D
   pub after_all : Setting → (g : ℕ) → List Member → List D → Memory → Bool
   pub after_one : (g behind : ℕ) → Member → P → D → Bool
-  pub stands_in : (g : ℕ) → Setting → (word : ℕ) → Phase → Member → P → Bool
+  pub stands_in : (g : ℕ) → Setting → Ending → (word : ℕ) → Phase → Member → P → Bool
+  pub joins : Setting → (g : ℕ) → Member → P → Bool
 
 abbrev pub told_by : {P D : Type 0} → Tests P D → Blocks P D
 told_by tests = record {
@@ -74,7 +77,8 @@ told_by tests = record {
   idle = tests.idle;
   AfterAll = λ t g ms ds own. tests.after_all t g ms ds own ≡ true;
   AfterOne = λ g behind m p d. tests.after_one g behind m p d ≡ true;
-  StandsIn = λ g t w f m p. tests.stands_in g t w f m p ≡ true;
+  StandsIn = λ g t e w f m p. tests.stands_in g t e w f m p ≡ true;
+  Joins = λ t g m p. tests.joins t g m p ≡ true;
 }
 
 -- a phase of one who is on its way to an arrival word, or there
@@ -93,11 +97,19 @@ module _ {S P D : Type 0} (source : Source S P D) (image : Image) (plan : Plan) 
   HasCommitted t g m p d =
       (behind : ℕ) × (hart : Hart) × RunsPrivately image t m.number behind m.hart hart × blocks.AfterOne g behind (record m { hart = hart }) p d
 
+  -- or it has done nothing, and goes on together with those it met
+  abbrev pub HasUnited : Setting → (g : ℕ) → Member → P → D → Type 0
+  HasUnited t g m p d = (d ≡ blocks.idle p) × blocks.Joins t g m p
+
+  abbrev pub HasLeft : Ending → Setting → (g : ℕ) → Member → P → D → Type 0
+  HasLeft Commits t g m p d = HasCommitted t g m p d
+  HasLeft Unites t g m p d = HasUnited t g m p d
+
   -- a member of a node at its stage
   abbrev pub StandsAt : Setting → (g : ℕ) → Stage → Member → P → Type 0
   StandsAt t g Ended m p = m.hart.ended ≡ true
   StandsAt t g (Acts d) m p = (behind : ℕ) × OneDoes source image t 1 d behind m p (λ h x. blocks.AfterOne g behind (record m { hart = h }) p x)
-  StandsAt t g (Meets w f) m p = IsInside f × IsOpen plan g w × (plan.member w m.number ≡ true) × blocks.StandsIn g t w f m p
+  StandsAt t g (Meets e w f) m p = IsInside f × IsOpen plan g w × (plan.member w m.number ≡ true) × blocks.StandsIn g t e w f m p
 
   abbrev pub AllStandAt : Setting → (g : ℕ) → List Stage → List Member → List P → Type 0
   AllStandAt t g [] [] [] = Unit {0}
@@ -135,25 +147,25 @@ module _ {S P D : Type 0} (source : Source S P D) (image : Image) (plan : Plan) 
 
   -- ---- the law of joint blocks
 
-  -- what becomes of a member in a phase: who commits is away and has left, and the others stand in their next phase
-  abbrev pub Follows : Setting → (g word : ℕ) → Phase → Phase → Member → P → D → Type 0
-  Follows t g w (Leaving zero) f' m p d = (f' ≡ Away) × HasCommitted t g m p d
-  Follows t g w f f' m p d = (d ≡ blocks.idle p) × blocks.StandsIn g t w f' m p
+  -- what becomes of a member in a phase: who leaves is away, and the others stand in their next phase
+  abbrev pub Follows : Setting → (g : ℕ) → Ending → (word : ℕ) → Phase → Phase → Member → P → D → Type 0
+  Follows t g e w (Leaving zero) f' m p d = (f' ≡ Away) × HasLeft e t g m p d
+  Follows t g e w f f' m p d = (d ≡ blocks.idle p) × blocks.StandsIn g t e w f' m p
 
   -- the turn of a member in a phase, whatever its node's words are, is that of the phase, and touches the arrival word alone
-  pub record Turn (t : Setting) (g w : ℕ) (f : Phase) (m : Member) (p : P) (own : Memory) : Type 0 where
+  pub record Turn (t : Setting) (g : ℕ) (e : Ending) (w : ℕ) (f : Phase) (m : Member) (p : P) (own : Memory) : Type 0 where
     pub hart : Hart
     pub words : Memory
     pub phase : Phase
     pub done : D
-    pub stays : Stays image (plan.words g) t (count_of_stage (Meets w f)) m own hart words
+    pub stays : Stays image (plan.words g) t (count_of_stage (Meets e w f)) m own hart words
     pub arrivals : words w ≡ word_after f (own w)
     pub others : (i : ℕ) → i ≢ w → words i ≡ own i
     pub moves : Moves t.finished (plan.size w) blocks.lead (own w) f phase
-    pub takes : (s : S) → source.part (count_of_stage (Meets w f)) s p ≡ Passes s done
-    pub follows : Follows (later t) g w f phase (record m { hart = hart }) p done
+    pub takes : (s : S) → source.part (count_of_stage (Meets e w f)) s p ≡ Passes s done
+    pub follows : Follows (later t) g e w f phase (record m { hart = hart }) p done
 
   abbrev pub JointBlocksTurn : Type 0
   JointBlocksTurn =
-      (t : Setting) (g w : ℕ) (f : Phase) (m : Member) (p : P) (own : Memory) → IsInside f → IsOpen plan g w → blocks.StandsIn g t w f m p
-      → Turn t g w f m p own
+      (t : Setting) (g : ℕ) (e : Ending) (w : ℕ) (f : Phase) (m : Member) (p : P) (own : Memory) → IsInside f → IsOpen plan g w → blocks.StandsIn g t e w f m p
+      → Turn t g e w f m p own

@@ -2,19 +2,31 @@
 use Rattle.std.specs.Prelude.{◌==◌, Bool, true, false, cond, ◌≡◌, ℕ, zero, suc, List, [], ◌∷◌, Option, Some, None, map}
 use Rattle.fk_meeting.specs.Phase.{Phase, Outside, Away, Leaving}
 
+-- how those who meet leave: it is the commit of each; or they unite, and go on together to a commit behind it
+pub data Ending : Type 0 where
+  Commits : Ending
+  Unites : Ending
+
 -- a hart has ended; it commits in so many cycles, by itself or with its group; or it is in a phase of a joint block, at an
 -- arrival word
 pub data Stage : Type 0 where
   Ended : Stage
   Acts : (distance : ℕ) → Stage
-  Meets : (word : ℕ) (phase : Phase) → Stage
+  Meets : (ending : Ending) (word : ℕ) (phase : Phase) → Stage
 
--- in how many cycles it commits; none where it has ended, or waits for others
+-- in how many cycles it commits; none where it has ended, waits for others, or is to unite with them
+abbrev pub commits_in : Ending → (distance : ℕ) → Option ℕ
+commits_in Commits d = Some d
+commits_in Unites d = None
+
+abbrev pub distance_by : Ending → Phase → Option ℕ
+distance_by e (Leaving d) = commits_in e d
+distance_by e f = None
+
 abbrev pub distance : Stage → Option ℕ
 distance Ended = None
 distance (Acts d) = Some d
-distance (Meets w (Leaving d)) = Some d
-distance (Meets w f) = None
+distance (Meets e w f) = distance_by e f
 
 -- who commits now is in the round
 abbrev pub count_for : Option ℕ → ℕ
@@ -46,12 +58,17 @@ AllNear stages stages' = Pairwise (λ s s'. Nears (distance s) (distance s')) st
 abbrev pub SameKind : Stage → Stage → Type 0
 SameKind Ended Ended = Unit {0}
 SameKind (Acts d) (Acts d') = Unit {0}
-SameKind (Meets w f) (Meets v f') = v ≡ w
+SameKind (Meets e w f) (Meets e' v f') = (e' ≡ e) × (v ≡ w)
 SameKind s s' = ⊥
 
--- what a cycle leaves of a stage, none where the hart has committed
+-- it is over with this cycle: the hart commits, or has met all those with whom it unites
+abbrev pub IsOver : Stage → Type 0
+IsOver (Meets Unites w f) = f ≡ Leaving 0
+IsOver s = distance s ≡ Some 0
+
+-- what a cycle leaves of a stage, none where it is over
 abbrev pub Remains : Stage → Option Stage → Type 0
-Remains s None = distance s ≡ Some 0
+Remains s None = IsOver s
 Remains s (Some s') = (count_of_stage s ≡ 0) × Nears (distance s) (distance s') × SameKind s s'
 
 -- stages that all keep
@@ -65,5 +82,5 @@ absent false = Outside
 
 -- the phase of a hart at an arrival word
 abbrev pub phase_of : (word : ℕ) → (member : Bool) → Option Stage → Phase
-phase_of w member (Some (Meets v f)) = cond (v == w) f (absent member)
+phase_of w member (Some (Meets e v f)) = cond (v == w) f (absent member)
 phase_of w member a = absent member

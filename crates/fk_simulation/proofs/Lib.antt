@@ -1,13 +1,13 @@
 -- indices of a list, and the operations that they lead to
-mod Positions
+pub mod Positions
 -- a processor's part, and what becomes of it
 mod Parts
 -- requests on a whole store
 mod Stores
 -- the turns of processors are a round
-mod Rounds
+pub mod Rounds
 -- from commit to commit
-mod Linked
+pub mod Linked
 -- a cycle of all harts, as members of one node without words
 mod Cycles
 -- which rounds are allowed

@@ -1,0 +1,202 @@
+-- From one cycle to the next a machine follows a run.
+use Rattle.std.proofs.Common.{◌≡◌, ℕ, zero, suc, ◌+◌, ◌^◌, ◌<◌, List, [], ◌∷◌, ◌++◌, length, Option, Some, None, Bool, true, ◌&&◌, sym, ap, subst, ◌∙◌, refl, arith, ◌⊎◌, inl, inr, ⊎_elim}
+use Rattle.std.specs.Prelude.{map, is_none}
+use Rattle.std.proofs.lemmas.Bool.{and_from}
+use Rattle.std.proofs.lemmas.List.{append-nil, length-map}
+use Rattle.fk_num.specs.Word.{Memory}
+use Rattle.fk_space.specs.Space.{Space}
+use Rattle.fk_tree.specs.Tree.{Tree}
+use Rattle.fk_run.specs.Processor.{Setting}
+use Rattle.fk_run.specs.Round.{Runner, Fault, State, cut, result, is_allowed, is_possible}
+use Rattle.fk_core.specs.declared.op.CoreOp.{CoreOp}
+use Rattle.fk_core.specs.Next.{Position, landing, next}
+use Rattle.fk_image.specs.declared.Image.{Image}
+use Rattle.fk_machine.specs.declared.stand.Stand.TheVariants.{Faulted}
+use Rattle.fk_machine.specs.Hart.{Hart, Shared, Setting as MachineSetting}
+use Rattle.fk_machine.specs.Cycle.{turns, unprinted}
+use Rattle.fk_nodes.specs.Source.{Shows, AllPass, FaultsAfter}
+use Rattle.fk_nodes.specs.Alone.{later}
+use Rattle.fk_nodes.specs.Whole.{planned, counted, first_of}
+use Rattle.fk_plans.specs.Stage.{Stage, counts_for}
+use Rattle.fk_plans.specs.Plan.{Plan, IsBound}
+use Rattle.fk_block_law.specs.Owner.{Commons, Owner, core_source}
+use Rattle.fk_block_law.specs.Stands.{Places}
+use Rattle.fk_simulation.proofs.Linked.{runs_later}
+use Rattle.fk_simulation.proofs.Rounds.{first_cut}
+use Rattle.fk_group_law.specs.Node.{Nestings}
+use Rattle.fk_group_law.specs.Law.{Cycles, GroupLaw}
+use Rattle.fk_group_plans.specs.Nodes as plans
+use Rattle.fk_group_plans.specs.Nodes.{nodes_of, plan_of}
+use Rattle.fk_group_plans.specs.Behind.{blocks_of}
+use Rattle.fk_group_plans.specs.Rounds.{AllDue, owners_of}
+use Rattle.fk_group_plans.proofs.Rounds.{rounds_are_allowed}
+use Rattle.fk_group_rounds.specs.Next.{JumpsLead, landed, all_landed}
+use Rattle.fk_group_rounds.specs.After.{runners_of, tree_after, owners_after, ArePlaces, AllLanded}
+use Rattle.fk_group_rounds.specs.After.{AllGoOn, GroupsGoOn}
+use Rattle.fk_group_rounds.specs.Rounds.{IsTree, IsBefore}
+use Rattle.fk_group_rounds.proofs.Groups.{many_length}
+use Rattle.fk_group_rounds.proofs.Cycle.{cycles_bind_again}
+use Rattle.fk_group_runs.specs.Beside.{landed_runner, landed_state, HaveHeaps, AreInOrder, IsBeside}
+use Rattle.fk_group_runs.specs.Results.{IsAfter}
+use Rattle.fk_group_runs.specs.Follow.{IsFollowed, CyclesFollowRounds}
+use Rattle.fk_group_runs.proofs.Landed.{landing_twice, allowed_land}
+use Rattle.fk_group_runs.proofs.Results.{is_after, is_fault}
+
+-- ---- the landed state as the plan has it
+
+module _ (core : List CoreOp) where
+  nodes_are : (tree : Tree) (number : ℕ) (nodes : List ℕ) (rs : List (Runner Position)) → ArePlaces tree number nodes → AreInOrder number rs → length nodes ≡ length rs
+      → nodes_of tree (map (landed_runner core) rs) ≡ nodes
+  nodes_are tree number [] [] here order e = refl
+  nodes_are tree number (n ∷ nodes) (r ∷ rs) here order e =
+      ap (λ k. tree.places k ∷ nodes_of tree (map (landed_runner core) rs)) order.0 ∙ ap (λ k. k ∷ nodes_of tree (map (landed_runner core) rs)) (sym here.0)
+      ∙ ap (λ l. n ∷ l) (nodes_are tree (suc number) nodes rs here.1 order.1 (omega (arith, e)))
+  nodes_are tree number [] (r ∷ rs) here order e = absurd (omega (arith, e))
+  nodes_are tree number (n ∷ nodes) [] here order e = absurd (omega (arith, e))
+
+  owners_are : (number : ℕ) (heaps : ℕ → Memory) (ps : List Owner) (rs : List (Runner Position)) → AreInOrder number rs → runners_of ps ≡ map (landed_runner core) rs → HaveHeaps number heaps ps
+      → owners_of heaps (map (landed_runner core) rs) ≡ ps
+  owners_are number heaps [] [] order same own = refl
+  owners_are number heaps (p ∷ ps) (r ∷ rs) order same own =
+      let first : p.runner ≡ landed_runner core r = cc in
+      let others : runners_of ps ≡ map (landed_runner core) rs = cc in
+      ap (λ x. let q : Owner = record { runner = x; heap = heaps r.has.number } in q ∷ owners_of heaps (map (landed_runner core) rs)) (sym first)
+      ∙ ap (λ h. let q : Owner = record { runner = p.runner; heap = h } in q ∷ owners_of heaps (map (landed_runner core) rs)) (ap heaps order.0 ∙ own.0)
+      ∙ ap (λ l. p ∷ l) (owners_are (suc number) heaps ps rs order.1 others own.1)
+  owners_are number heaps [] (r ∷ rs) order same own = absurd (cc)
+  owners_are number heaps (p ∷ ps) [] order same own = absurd (cc)
+
+  many_runners : (number : ℕ) (tree : Tree) (spaces : ℕ → Space) (stages : List Stage) (rs : List (Runner Position)) → AllDue core tree spaces number stages rs → AreInOrder number rs
+  many_runners number tree spaces [] [] due = tt
+  many_runners number tree spaces (x ∷ stages) (r ∷ rs) due = (due.0, many_runners (suc number) tree spaces stages rs due.2)
+  many_runners number tree spaces stages rs due = absurd (assumption due)
+
+  -- numbers stay where runners land
+  in_order_back : (number : ℕ) (rs : List (Runner Position)) → AreInOrder number (map (landed_runner core) rs) → AreInOrder number rs
+  in_order_back number [] order = tt
+  in_order_back number (r ∷ rs) order = (order.0, in_order_back (suc number) rs order.1)
+
+  runners_length : (ps : List Owner) (rs : List (Runner Position)) → runners_of ps ≡ map (landed_runner core) rs → length rs ≡ length ps
+  runners_length [] [] same = refl
+  runners_length (p ∷ ps) (r ∷ rs) same = ap suc (runners_length ps rs (cc))
+  runners_length [] (r ∷ rs) same = absurd (cc)
+  runners_length (p ∷ ps) [] same = absurd (cc)
+
+  all_land : (leads : JumpsLead core) (ps : List Owner) → AllLanded core (all_landed core ps)
+  all_land leads [] = tt
+  all_land leads (p ∷ ps) = (landing_twice core leads p.runner.left.at, all_land leads ps)
+
+module _ (core : List CoreOp) (image : Image) (places : Places) (nestings : Nestings) (setting : Setting) (spaces : ℕ → Space) (s : State Position) (nodes : List ℕ) (t : MachineSetting) (printed : List ℕ)
+    (stages : List Stage) (hs : List Hart) (sh : Shared) (leads : JumpsLead core) (f : IsFollowed core image places nestings setting spaces s nodes t printed stages hs sh) where
+  abbrev rs : List (Runner Position)
+  rs = map (landed_runner core) s.runners
+
+  many : length nodes ≡ length f.ps
+  many = (many_length nodes hs f.ps f.before.as_many).1
+
+  long : length s.runners ≡ length f.ps
+  long = runners_length core f.ps s.runners f.beside.runners
+
+  -- the round of those whose stages commit is allowed
+  allowed : is_allowed (next core) setting (counts_for stages) s ≡ true
+  allowed =
+      let as_many = f.before.many in
+      let size : length nodes ≡ length s.runners = many ∙ sym long in
+      let here = nodes_are core s.tree 0 nodes s.runners f.before.stand f.order size in
+      let are = owners_are core 0 s.store.heaps f.ps s.runners f.order f.beside.runners f.beside.heaps in
+      sym (allowed_land core leads setting (counts_for stages) s)
+      ∙ rounds_are_allowed core image places nestings setting setting.processors spaces t stages hs (λ g. sh.control) (landed_state core s) f.before.spaced f.before.sound
+      (length-map s.runners (landed_runner core) ∙ sym size ∙ as_many)
+      (subst (AllDue core s.tree spaces 0 stages) f.beside.runners f.before.due)
+      (subst
+      (λ ns.
+      IsBound (core_source core setting) image (plan_of s.tree spaces ns) (blocks_of core image places nestings setting (plan_of s.tree spaces ns) (plans.first_of spaces)) t stages hs
+      (owners_of s.store.heaps rs) (λ g. sh.control)) (sym here)
+      (subst
+      (λ l.
+      IsBound (core_source core setting) image (plan_of s.tree spaces nodes) (blocks_of core image places nestings setting (plan_of s.tree spaces nodes) (plans.first_of spaces)) t stages hs l
+      (λ g. sh.control)) (sym are) f.bound))
+
+pub cycles_follow_rounds : CyclesFollowRounds
+cycles_follow_rounds core image places nestings cycles firsts main setting spaces s nodes t printed stages hs sh the_law leads few f =
+    let source = core_source core setting in
+    let done = turns t 0 hs sh in
+    let may = allowed core image places nestings setting spaces s nodes t printed stages hs sh leads f in
+    let cycle = cycles_bind_again core image places nestings cycles firsts main setting s.tree spaces nodes t printed stages hs f.ps (λ g. sh.control) sh f.shared the_law leads f.before few f.shows
+    (λ g i o. refl) f.bound in
+    let next_state = result (next core) setting (counts_for stages) s in (
+      cycle.0,
+      ⊎_elim
+          (λ r.
+          let whole = r.whole in
+          let new = tree_after s.tree whole.did in
+          let after = is_after core setting s f.ps f.shared leads f.order f.beside stages whole.did whole.store
+          (subst (λ c. AllPass source c f.ps f.shared whole.did whole.store) cycle.0 whole.parts) in
+          let e : next_state.tree ≡ new = after.tree in
+          inl
+          (record {
+            going = whole.going;
+            counts = whole.counts ∙ cycle.0;
+            possible =
+                and_from (is_none s.fault && is_allowed (next core) setting (counts_for stages) s) (is_none next_state.fault)
+                (and_from (is_none s.fault) (is_allowed (next core) setting (counts_for stages) s) (ap is_none f.beside.going) may) (ap is_none after.beside.going);
+            did = whole.did;
+            tree = e;
+            afters = r.left.afters;
+            again = λ nodes' known tree' there many' on goes.
+                let b = r.again nodes' known (subst (λ x. IsTree setting x spaces) e tree') (subst (λ x. ArePlaces x 0 nodes') e there) many'
+                (subst (λ x. AllGoOn core x spaces 0 r.left.afters whole.did (owners_after s.tree x whole.did)) e on)
+                (subst (λ x. GroupsGoOn core nestings x nodes' r.left.afters (owners_after s.tree x whole.did)) e goes) in
+                let ps' = all_landed core (owners_after s.tree new whole.did) in
+                let before : IsBefore core image setting next_state.tree spaces nodes' (later t) b.stages' done.harts ps'
+                = record {
+                  running = runs_later image setting 1 t f.before.running;
+                  sound = tree'.sound;
+                  spaced = tree'.spaced;
+                  stand = there;
+                  many = many' ∙ f.before.many;
+                  as_many = b.bound.as_many;
+                  landed = all_land core leads (owners_after s.tree new whole.did);
+                  due = subst (λ x. AllDue core x spaces 0 b.stages' (runners_of ps')) (sym e) b.due;
+                } in (
+                  b.stages',
+                  b.near,
+                  b.soon,
+                  record {
+                    ps = ps';
+                    shared = whole.store;
+                    before = before;
+                    order = in_order_back core 0 next_state.runners (subst (AreInOrder 0) after.beside.runners (many_runners core 0 new spaces b.stages' (runners_of ps') b.due));
+                    beside = after.beside;
+                    shows = record { words = whole.shows.words; output = append-nil (printed ++ done.shared.output) ∙ whole.shows.output; common = whole.shows.common };
+                    bound =
+                        subst
+                        (λ x.
+                        IsBound source image (plan_of x spaces nodes') (blocks_of core image places nestings setting (plan_of x spaces nodes') (plans.first_of spaces)) (later t) b.stages' done.harts ps'
+                        (λ g. done.shared.control)) (sym e) b.bound;
+                  },
+                );
+          }))
+          (λ c.
+          let zero_is : 0 + c.place ≡ c.place = omega arith in
+          let fault = is_fault core setting s f.ps f.shared leads f.order f.beside stages c.place c.site c.store (subst (λ x. FaultsAfter source c.place c.site x f.ps f.shared c.store) cycle.0 c.faults) in
+          inr
+          (record {
+            site = c.site;
+            place = c.place;
+            stops = c.stops ∙ ap (λ k. Some (Faulted c.site k)) zero_is;
+            counts = c.counts ∙ ap (first_of (suc c.place)) cycle.0 ∙ first_cut (suc c.place) (counts_for stages);
+            stopped = record {
+              running = f.beside.going;
+              whole = counts_for stages;
+              allowed = may;
+              fault = record { site = c.site; processor = c.place };
+              faults = fault.whole;
+              is_cut = refl;
+            };
+            shared = c.store;
+            shows = c.shows;
+            fault = fault;
+          }))
+          cycle.1,
+    )

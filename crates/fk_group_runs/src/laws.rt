@@ -1,0 +1,28 @@
+//! Laws of the definitions.
+
+ghost use Rattle.fk_group_runs.specs.Beside.{LandedRunsAreRuns};
+ghost use Rattle.fk_group_runs.specs.Results.{CyclesAreResults, CutsAreFaults};
+ghost use Rattle.fk_group_runs.specs.Follow.{CyclesFollowRounds};
+
+/// It doesn't matter whether processors are at jumps or at the operations that these lead to: a round leaves the same.
+pub fn landed_runs_are_runs()
+    ensures { LandedRunsAreRuns }
+{}
+
+/// Where all parts of a round pass, one after another, the state of the run after that round stands beside what they leave: it has
+/// their tree, their stores, and their processors behind the steps of the tree.
+pub fn cycles_are_results()
+    ensures { CyclesAreResults }
+{}
+
+/// Where one of them faults, that is the fault of the round, and of the round without the processors above it.
+pub fn cuts_are_faults()
+    ensures { CutsAreFaults }
+{}
+
+/// From one cycle to the next a machine follows a run: where the plan of a state's tree binds the harts of the processors that
+/// stand beside it, a cycle is the round of those whose stages commit, which is possible, or a stopped one. Where it is a round of
+/// `fk_group_rounds`, and processors go on as is told there, the state behind it is followed too.
+pub fn cycles_follow_rounds()
+    ensures { CyclesFollowRounds }
+{}
