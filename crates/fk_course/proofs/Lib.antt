@@ -1,3 +1,5 @@
+pub mod Counted
+pub mod Holding
 pub mod Pending
 pub mod Even
 pub mod Far
@@ -8,6 +10,7 @@ pub mod Walk
 pub mod Main
 pub mod Forms
 pub mod Texts
+pub mod Opening
 pub mod Valued
 pub mod Numbers
 pub mod Programs

@@ -1,14 +1,15 @@
 -- Programs whose text is in place: how they go on, and what is left of them.
-use Rattle.std.proofs.Common.{◌≡◌, ◌⊎◌, inl, inr, ℕ, suc, ◌+◌, Bool, true, false, List, [], ◌∷◌, Option, Some, None, slice_index, ap, ◌∙◌, sym, refl, subst}
+use Rattle.std.proofs.Common.{◌≡◌, ℕ, suc, ◌+◌, Bool, true, false, List, [], ◌∷◌, Option, Some, None, slice_index, ap, ◌∙◌, sym, refl, subst}
 use Rattle.std.proofs.lemmas.Bool.{eqb-true, eq-eqb}
-use Rattle.std.specs.Prelude.{◌==◌, ◌||◌, is_some, if◌then◌else◌}
+use Rattle.std.specs.Prelude.{◌==◌, ◌||◌, not, is_some, if◌then◌else◌}
+use Rattle.std.proofs.lemmas.Option.{same_Some}
 use Rattle.fk_syntax.specs.declared.program.Mode.{Mode}
 use Rattle.fk_syntax.specs.Tree.{Named, TypeTree}
 use Rattle.fk_syntax.specs.Program.{DeclaredTree, Statements, FunctionTree, ProgramTree}
 use Rattle.fk_forms.specs.Code.{Code, done, perform, choose, while, until, turn, again, quit, break, continue, call, ends, size, numbered}
 use Rattle.fk_forms.specs.Tables.{Tables, frame_at}
 use Rattle.fk_forms.specs.Statements.{Inside, is_nothing}
-use Rattle.fk_forms.specs.Program.{functions_of, binding_of, signature_in, is_main, code_of, body_in, bodies_of, main_of}
+use Rattle.fk_forms.specs.Program.{functions_of, binding_of, signature_of, signature_in, is_main, code_of, body_in, bodies_of, main_of}
 use Rattle.fk_source.specs.Next.{Work}
 use Rattle.fk_source.specs.Program.{next_in, main_work}
 use Rattle.fk_nesting.specs.Shape.{splits}
@@ -20,9 +21,14 @@ use Rattle.fk_course.specs.Placed.{Who, OfGroup, OfBody, OfMain, inner, callee_o
 use Rattle.fk_course.specs.Ahead.{all_outs, AreCourses}
 use Rattle.fk_course.specs.InPlace.{BodyInPlace, FunctionsInPlace, IsInPlace, ProgramsFollow, ProgramsHaveOneProgram}
 use Rattle.fk_nesting.proofs.Spine.{untrue}
-use Rattle.fk_together.specs.Counts.{IsCounted}
-use Rattle.fk_course.specs.Pending.{above, Idle, many_at, fork_counts}
-use Rattle.fk_course.proofs.Pending.{settled_idle, code_is_counted}
+use Rattle.fk_run.specs.Processor.{Processor}
+use Rattle.fk_together.specs.Counts.{ArePending, IsCounted}
+use Rattle.fk_course.specs.Pending.{has_number, is_none, above, Idle, fork_counts}
+use Rattle.fk_course.specs.Valued.{gives_value}
+use Rattle.fk_course.specs.Forks.{BodyValued, ForksAreValued}
+use Rattle.fk_course.specs.Returns.{StatementsReturn, BodyReturns, FunctionsReturn}
+use Rattle.fk_course.proofs.Counted.{settled_idle}
+use Rattle.fk_course.proofs.Pending.{code_is_counted}
 use Rattle.fk_course.proofs.Numbers.{anyone, body_idle, numbered_idle}
 use Rattle.fk_course.proofs.Main.{code_follows}
 use Rattle.fk_course.proofs.Texts.{body_in_place}
@@ -125,39 +131,67 @@ module _ (tables : Tables) (may_call : (in_group : Bool) → (function : ℕ) �
 
 -- what is pending in them
 module _ (tables : Tables) (may_call : (in_group : Bool) → (function : ℕ) → Bool) (everyone : List FunctionTree) where
-  function_idle : (main : Bool) (who : Who) (f : FunctionTree) → BodyInPlace tables may_call main who f.body → Idle (anyone may_call) (code_of tables everyone f)
-  function_idle main who f h = by f.body h
-    where
-      by : (body : Option Statements) → BodyInPlace tables may_call main who body
-          → let g : FunctionTree = record f { body = body } in Idle (anyone may_call) (code_of tables everyone g)
-      by None h' = (refl, tt)
-      by (Some statements) h' =
-          let inside : Inside = record { main = is_main f; framed = is_some (frame_at tables f.name.at 0) } in
-          body_idle may_call tables (signature_in tables everyone) main who inside (is_nothing f.result) statements h'
+  abbrev results : (function : ℕ) → Bool
+  results f = gives_value (signature_in tables everyone) f
 
-  bodies_idle : (main binding : ℕ) (fs : List FunctionTree) (first : ℕ) → (anyone may_call binding ≡ true) ⊎ (binding ≡ main) → FunctionsInPlace tables may_call main fs
-      → Idle (anyone may_call) (body_in tables everyone first fs binding)
-  bodies_idle main binding [] first may h = (refl, tt)
-  bodies_idle main binding (f ∷ fs) first may h =
-      by (binding_of tables f == binding) refl (bodies_idle main binding fs (first + size (code_of tables everyone f)) may h.3)
+  -- `main`, or a function that is called and gives a result or none
+  abbrev IsOne : (caller : Option Bool) → FunctionTree → Type 0
+  IsOne None f = Unit {0}
+  IsOne (Some g) f = (is_main f ≡ false) × (not (is_nothing f.result) ≡ g)
+
+  is_one : (caller : Option Bool) (f : FunctionTree) → IsOne caller f → (g : Bool) → caller ≡ Some g → (is_main f ≡ false) × (not (is_nothing f.result) ≡ g)
+  is_one None f h g e = absurd (cc)
+  is_one (Some g') f h g e = (h.0, h.1 ∙ same_Some g' g e)
+
+  function_idle : (caller : Option Bool) (main : Bool) (who : Who) (f : FunctionTree) → BodyInPlace tables may_call main who f.body → BodyValued tables (signature_in tables everyone) f.body
+      → (is_main f ≡ false → BodyReturns (not (is_nothing f.result)) f.body) → IsOne caller f → (w.is_main who ≡ true → caller ≡ None)
+      → Idle (anyone may_call) results caller (code_of tables everyone f)
+  function_idle caller main who f h v r one m = by f.body h v r
+    where
+      by : (body : Option Statements) → BodyInPlace tables may_call main who body → BodyValued tables (signature_in tables everyone) body → (is_main f ≡ false → BodyReturns (not (is_nothing f.result)) body)
+          → let g : FunctionTree = record f { body = body } in Idle (anyone may_call) results caller (code_of tables everyone g)
+      by None h' v' r' = (refl, tt)
+      by (Some statements) h' v' r' =
+          let inside : Inside = record { main = is_main f; framed = is_some (frame_at tables f.name.at 0) } in
+          body_idle may_call (signature_in tables everyone) caller tables main who inside (is_nothing f.result) statements h' v'
+          (λ g e. let o = is_one caller f one g e in (subst (λ (b : Bool). StatementsReturn b statements) o.1 (r' o.0), o.0, o.1)) m
+
+  -- `main`, or what somebody may call, with its result
+  abbrev MayBe : (caller : Option Bool) (main binding : ℕ) → List FunctionTree → Type 0
+  MayBe None main binding fs = binding ≡ main
+  MayBe (Some g) main binding fs = (anyone may_call binding ≡ true) × (gives_value (signature_in tables fs) binding ≡ g)
+
+  bodies_idle : (caller : Option Bool) (main binding : ℕ) (fs : List FunctionTree) (first : ℕ) → MayBe caller main binding fs → FunctionsInPlace tables may_call main fs
+      → ForksAreValued tables (signature_in tables everyone) fs → FunctionsReturn fs → Idle (anyone may_call) results caller (body_in tables everyone first fs binding)
+  bodies_idle caller main binding [] first may h v r = (refl, tt)
+  bodies_idle caller main binding (f ∷ fs) first may h v r =
+      by (binding_of tables f == binding) refl (λ may'. bodies_idle caller main binding fs (first + size (code_of tables everyone f)) may' h.3 v.1 r.1)
     where
       same : (binding_of tables f == binding) ≡ true → binding_of tables f ≡ binding
       same e = eqb-true (binding_of tables f) binding e
 
-      in_any : binding_of tables f ≡ binding → (a b : Bool) → may_call true binding ≡ a → may_call false binding ≡ b → (a || b) ≡ true → Idle (anyone may_call) (code_of tables everyone f)
-      in_any e true b is is' some = function_idle false OfGroup f (h.0 (ap (may_call true) e ∙ is)).1
-      in_any e false true is is' some = function_idle false OfBody f (h.1 (ap (may_call false) e ∙ is')).1
-      in_any e false false is is' some = untrue some
+      in_any : (g : Bool) → binding_of tables f ≡ binding → (a b : Bool) → may_call true binding ≡ a → may_call false binding ≡ b → (a || b) ≡ true → not (is_nothing f.result) ≡ g
+          → Idle (anyone may_call) results (Some g) (code_of tables everyone f)
+      in_any g e true b is is' some result = let k = h.0 (ap (may_call true) e ∙ is) in function_idle (Some g) false OfGroup f k.1 v.0 r.0 (k.0, result) (λ i. untrue i)
+      in_any g e false true is is' some result = let k = h.1 (ap (may_call false) e ∙ is') in function_idle (Some g) false OfBody f k.1 v.0 r.0 (k.0, result) (λ i. untrue i)
+      in_any g e false false is is' some result = untrue some
 
-      here : binding_of tables f ≡ binding → (anyone may_call binding ≡ true) ⊎ (binding ≡ main) → Idle (anyone may_call) (code_of tables everyone f)
-      here e (inl some) = in_any e (may_call true binding) (may_call false binding) refl refl some
-      here e (inr is) = function_idle true (OfMain true) f (h.2 (eq-eqb (binding_of tables f) main (e ∙ is))).1
+      here : (caller' : Option Bool) → (binding_of tables f == binding) ≡ true → MayBe caller' main binding (f ∷ fs) → Idle (anyone may_call) results caller' (code_of tables everyone f)
+      here (Some g) e may' =
+          in_any g (same e) (may_call true binding) (may_call false binding) refl refl may'.0
+          (sym (ap (λ (b : Bool). gives_value (λ binding'. if b then signature_of f else signature_in tables fs binding') binding) e) ∙ may'.1)
+      here None e may' =
+          function_idle None true (OfMain true) f (h.2 (eq-eqb (binding_of tables f) main (same e ∙ may'))).1 v.0 r.0 tt (λ i. refl)
+
+      other : (caller' : Option Bool) → (binding_of tables f == binding) ≡ false → MayBe caller' main binding (f ∷ fs) → MayBe caller' main binding fs
+      other None e may' = may'
+      other (Some g) e may' = (may'.0, sym (ap (λ (b : Bool). gives_value (λ binding'. if b then signature_of f else signature_in tables fs binding') binding) e) ∙ may'.1)
 
       by : (is : Bool) → (binding_of tables f == binding) ≡ is
-          → Idle (anyone may_call) (body_in tables everyone (first + size (code_of tables everyone f)) fs binding)
-          → Idle (anyone may_call) (if is then numbered first (code_of tables everyone f) else body_in tables everyone (first + size (code_of tables everyone f)) fs binding)
-      by true is others = numbered_idle (anyone may_call) (code_of tables everyone f) first (here (same is) may)
-      by false is others = others
+          → (MayBe caller main binding fs → Idle (anyone may_call) results caller (body_in tables everyone (first + size (code_of tables everyone f)) fs binding))
+          → Idle (anyone may_call) results caller (if is then numbered first (code_of tables everyone f) else body_in tables everyone (first + size (code_of tables everyone f)) fs binding)
+      by true is others = numbered_idle (anyone may_call) results caller (code_of tables everyone f) first (here caller is may)
+      by false is others = others (other caller is may)
 
 -- programs
 are_courses : (tables : Tables) (program : ProgramTree) (may_call : (in_group : Bool) → (function : ℕ) → Bool) → IsInPlace tables program may_call
@@ -177,19 +211,30 @@ pub programs_follow : ProgramsFollow
 programs_follow tables program may_call h =
     code_follows may_call (bodies_of tables program) (main_of tables program) (are_courses tables program may_call h)
 
-programs_are_counted : (tables : Tables) (program : ProgramTree) (may_call : (in_group : Bool) → (function : ℕ) → Bool) → IsInPlace tables program may_call
-    → (above None (main_work tables program).left ≡ None) × IsCounted (next_in tables program) all_outs fork_counts (main_work tables program)
-programs_are_counted tables program may_call h =
-    let fs = functions_of program.items in
-    let main = main_of tables program in
-    let first = bodies_idle tables may_call fs main main fs 0 (inr refl) h.in_place in (
-      (settled_idle (anyone may_call) (bodies_of tables program main) first).0,
-      code_is_counted (anyone may_call) (bodies_of tables program) (programs_are_nested tables program h.shaped) (λ f may. bodies_idle tables may_call fs main f fs 0 (inl may) h.in_place) main first,
-    )
+module _ (tables : Tables) (program : ProgramTree) (may_call : (in_group : Bool) → (function : ℕ) → Bool) (h : IsInPlace tables program may_call) where
+  abbrev all : List FunctionTree
+  all = functions_of program.items
+
+  abbrev gives_of : (function : ℕ) → Bool
+  gives_of f = gives_value (signature_in tables all) f
+
+  main_idle : Idle (anyone may_call) gives_of None (bodies_of tables program (main_of tables program))
+  main_idle = bodies_idle tables may_call all None (main_of tables program) (main_of tables program) all 0 refl h.in_place h.valued h.returning
+
+  programs_are_counted : IsCounted (next_in tables program) all_outs (fork_counts gives_of) (main_work tables program)
+  programs_are_counted =
+      code_is_counted (anyone may_call) gives_of (bodies_of tables program) (programs_are_nested tables program h.shaped)
+      (λ f may. bodies_idle tables may_call all (Some (gives_of f)) (main_of tables program) f all 0 (may, refl) h.in_place h.valued h.returning)
+      (main_of tables program) main_idle
+
+  -- at the beginning nothing is pending
+  none_pending : (p : Processor) → ArePending (next_in tables program) all_outs (fork_counts gives_of) (main_work tables program) p []
+  none_pending p =
+      subst (λ (x : Option ℕ). has_number x p.call.values (λ ns. is_none ns) [] ≡ true)
+      (sym (settled_idle (anyone may_call) gives_of None (bodies_of tables program (main_of tables program)) main_idle).0) refl
 
 pub programs_have_one_program : ProgramsHaveOneProgram
 programs_have_one_program tables program may_call h setting schedule words firsts input processors some lawful fine =
-    let counted = programs_are_counted tables program may_call h in
     groups_have_one_program Work (next_in tables program) all_outs (main_work tables program) (programs_follow tables program may_call h)
-    fork_counts (ap many_at counted.0) counted.1
+    (fork_counts (gives_of tables program may_call h)) (none_pending tables program may_call h) (programs_are_counted tables program may_call h)
     setting schedule processors words input (slice_index firsts) some lawful fine

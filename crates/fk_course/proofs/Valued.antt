@@ -1,5 +1,5 @@
 -- Expressions that give one value leave the number of parts of a `fork` where it stands, with one value more above it.
-use Rattle.std.proofs.Common.{◌≡◌, ℕ, zero, suc, ◌*◌, Bool, true, false, not, List, [], ◌∷◌, Option, Some, is_some, ap, ◌∙◌, sym, refl, subst}
+use Rattle.std.proofs.Common.{◌≡◌, ℕ, zero, suc, ◌*◌, Bool, true, false, not, List, [], ◌∷◌, length, Option, Some, None, is_some, ap, ◌∙◌, sym, refl, subst}
 use Rattle.std.specs.Prelude.{◌==◌, ◌||◌, codes, if◌then◌else◌}
 use Rattle.std.proofs.lemmas.Bool.{and_from}
 use Rattle.fk_syntax.specs.declared.place.Place.{Place}
@@ -8,6 +8,7 @@ use Rattle.fk_syntax.specs.declared.sign.Sign.{Sign}
 use Rattle.fk_syntax.specs.declared.sign.Sign.TheVariants as g
 use Rattle.fk_syntax.specs.Tree as t
 use Rattle.fk_syntax.specs.Tree.{Named, Tree, Links, Trees, Suffixes}
+use Rattle.fk_syntax.specs.Program.{DeclaredTree}
 use Rattle.fk_operation.specs.declared.operation.Operation.{Operation}
 use Rattle.fk_operation.specs.declared.operation.Operation.TheVariants as o
 use Rattle.fk_operation.specs.declared.operation.Variable.TheVariants as v
@@ -22,17 +23,21 @@ use Rattle.fk_forms.specs.declared.tables.Home.{Home}
 use Rattle.fk_forms.specs.declared.tables.Home.TheVariants as h
 use Rattle.fk_forms.specs.declared.signs.Move.{Move}
 use Rattle.fk_forms.specs.declared.signs.Move.TheVariants.{Forth, Back, NoMove}
-use Rattle.fk_forms.specs.Code.{done, perform, choose}
-use Rattle.fk_forms.specs.Tables.{Tables, no_binding, note, kind_at, is_array, is_void, is_unsigned, slot}
+use Rattle.fk_forms.specs.Code.{done, perform, choose, call}
+use Rattle.fk_forms.specs.Tables.{Tables, no_binding, note, kind_at, is_array, is_void, is_unsigned, slot, frame_at}
 use Rattle.fk_forms.specs.Signs.{operator_of, is_shift, move_of}
 use Rattle.fk_forms.specs.Texts.{text_of}
-use Rattle.fk_forms.specs.Expressions.{Coded, nowhere, plain, Standing, OnList, AtAddress, InWord, ToCall, Stands, token, spot_of, is_name, Signature, put_bytes, moved, agreed, checked, valued, addressed, fetched, assigned, value_of, dropped, predeclared, placed, variable, operate, updated, one, prefixed, truth, logical, chosen, joined, assignment, member, is_deep, indexed, dotted, pointed, step_back, raised, multiprefix, with_one, called_predeclared, called, calling, stands, linked, suffixed, all_stand, value}
+use Rattle.fk_forms.specs.Expressions.{Coded, nowhere, plain, Standing, OnList, AtAddress, InWord, ToCall, Stands, token, spot_of, is_name, Signature, put_bytes, moved, agreed, checked, valued, addressed, fetched, assigned, value_of, dropped, predeclared, placed, variable, operate, updated, one, prefixed, truth, logical, chosen, joined, assignment, member, is_deep, indexed, dotted, pointed, step_back, raised, arguments, framed, parameters, multiprefix, with_one, called_predeclared, called, calling, stands, linked, suffixed, all_stand, value}
 use Rattle.fk_nesting.specs.Calls.{takes_two, TakesEnough}
 use Rattle.fk_nesting.specs.Shape.{ends_part}
 use Rattle.fk_nesting.proofs.Spine.{untrue}
-use Rattle.fk_course.specs.Pending.{is_fork, above_before, before_it, above_choice, before_way, above, leads, MayStand, MayChoose, Counted, At}
+use Rattle.fk_lockstep.specs.Told as told
+use Rattle.fk_course.specs.Placed.{is_begin}
+use Rattle.fk_course.specs.Pending as pending
+use Rattle.fk_course.specs.Pending.{is_fork, stands_alone, more, above_before, before_it, above_choice, before_way, above_call, before_call, leads, MayStand, MayChoose, MayCall, MayBegin, Idle, Counted, At}
+use Rattle.fk_course.proofs.Opening.{opening_idle}
 use Rattle.fk_course.specs.Valued as w
-use Rattle.fk_course.specs.Valued.{Way, Valued, Absent, Placed, Word, Function, gives, result, predeclared_gives, predeclared_way, placed_way, prefix_way, joined_way, called_way, HasAddress, IsTarget, PrefixNeeds, named_way, chain_way, suffixed_way, JoinNeeds, CallNeeds, Evaluates, LinksEvaluate, SuffixesEvaluate, AllEvaluate, IsValued}
+use Rattle.fk_course.specs.Valued.{Way, Valued, Absent, Placed, Word, Function, gives, result, predeclared_gives, predeclared_way, placed_way, prefix_way, joined_way, HasAddress, IsTarget, PrefixNeeds, AreEnough, gives_value, named_way, call_gives, called_way, chain_way, suffixed_way, JoinNeeds, NameTakes, CallNeeds, Evaluates, LinksEvaluate, SuffixesEvaluate, AllEvaluate, IsValued}
 
 may_stand : (op : Operation) (m m' : ℕ) (l : Bool) → above_before op m ≡ Some m' → MayStand op (Some m) l
 may_stand o.Agree zero m' l e = absurd (cc)
@@ -54,17 +59,27 @@ up_of Valued m = suc m
 up_of Placed m = suc m
 up_of way m = m
 
-abbrev Fits : Way → Standing → Type 0
-Fits Valued OnList = Unit {0}
-Fits Absent OnList = Unit {0}
-Fits Placed (AtAddress deep spot) = Unit {0}
-Fits Word (InWord variable) = Unit {0}
-Fits (Function name) (ToCall other) = name ≡ other
-Fits way standing = ⊥
+pub may_begin : (called : Option Bool) (op : Operation) → is_begin op ≡ false → MayBegin called op
+may_begin None op e = tt
+may_begin (Some g) op e = e
 
-module _ (may_call : (function : ℕ) → Bool) where
-  on : {way : Bool} {after : Option ℕ} (t' : Place) (op : Operation) (m m' : ℕ) (rest : Coded) → is_fork op ≡ false → ends_part op ≡ false → above_before op m ≡ Some m'
-      → At may_call way after m rest → At may_call way after m' (perform t' op rest)
+module _ (may_call : (function : ℕ) → Bool) (tables : Tables) (functions : (binding : ℕ) → Signature) (caller : Option Bool) where
+  abbrev results : (function : ℕ) → Bool
+  results f = gives_value functions f
+
+  abbrev above : Option ℕ → Coded → Option ℕ
+  above after code = pending.above results after code
+
+  abbrev Fits : Way → Standing → Type 0
+  Fits Valued OnList = Unit {0}
+  Fits Absent OnList = Unit {0}
+  Fits Placed (AtAddress deep spot) = Unit {0}
+  Fits Word (InWord variable) = Unit {0}
+  Fits (Function name) (ToCall other) = (name ≡ other) × (may_call (note tables name.at).binding ≡ true)
+  Fits way standing = ⊥
+
+  on : {way : Bool} {after : Option ℕ} (t' : Place) (op : Operation) (m m' : ℕ) (rest : Coded) → stands_alone op ≡ true → ends_part op ≡ false → above_before op m ≡ Some m'
+      → At may_call results caller way after m rest → At may_call results caller way after m' (perform t' op rest)
   on t' op m m' rest f' p e a = record {
     there = ap (before_it op) a.there ∙ e;
     counted = (f', subst (λ (x : Option ℕ). MayStand op x (leads rest)) (sym a.there) (may_stand op m m' (leads rest) e), a.counted);
@@ -72,75 +87,80 @@ module _ (may_call : (function : ℕ) → Bool) where
   }
 
   abbrev Goes : Way → (Standing → Coded) → Bool → Option ℕ → ℕ → Type 0
-  Goes w k way after m = (s : Standing) → Fits w s → At may_call way after (up_of w m) (k s)
+  Goes w k way after m = (s : Standing) → Fits w s → At may_call results caller way after (up_of w m) (k s)
 
   abbrev Good : Way → Stands → Type 0
-  Good w e = (way : Bool) (after : Option ℕ) (m : ℕ) (k : Standing → Coded) → Goes w k way after m → At may_call way after m (e k)
+  Good w e = (way : Bool) (after : Option ℕ) (m : ℕ) (k : Standing → Coded) → Goes w k way after m → At may_call results caller way after m (e k)
 
   -- code that leaves one value more
   abbrev Adds : (Coded → Coded) → Type 0
-  Adds e = (way : Bool) (after : Option ℕ) (m : ℕ) (rest : Coded) → At may_call way after (suc m) rest → At may_call way after m (e rest)
+  Adds e = (way : Bool) (after : Option ℕ) (m : ℕ) (rest : Coded) → At may_call results caller way after (suc m) rest → At may_call results caller way after m (e rest)
 
   module _ {way : Bool} {after : Option ℕ} where
-    pushes : (n' m : ℕ) (rest : Coded) → At may_call way after (suc m) rest → At may_call way after m (plain (o.Push n') rest)
+    pushes : (n' m : ℕ) (rest : Coded) → At may_call results caller way after (suc m) rest → At may_call results caller way after m (plain (o.Push n') rest)
     pushes n' m rest a = on nowhere (o.Push n') (suc m) m rest refl refl refl a
 
-    operators : (sign : Sign) (unsigned : Bool) (m : ℕ) (rest : Coded) → At may_call way after (suc m) rest → At may_call way after (suc (suc m)) (plain (operator_of sign unsigned) rest)
+    operators : (sign : Sign) (unsigned : Bool) (m : ℕ) (rest : Coded) → At may_call results caller way after (suc m) rest → At may_call results caller way after (suc (suc m)) (plain (operator_of sign unsigned) rest)
     operators g.Minus unsigned m rest a = on nowhere (operator_of g.Minus unsigned) (suc m) (suc (suc m)) rest refl refl refl a
     operators sign unsigned m rest a = on nowhere (operator_of sign unsigned) (suc m) (suc (suc m)) rest refl refl refl a
 
-    moves : (move : Move) (step : ℕ) (sign : Sign) (unsigned : Bool) (m : ℕ) (rest : Coded) → At may_call way after (suc m) rest → At may_call way after (suc (suc m)) (moved move step (operator_of sign unsigned) rest)
+    moves : (move : Move) (step : ℕ) (sign : Sign) (unsigned : Bool) (m : ℕ) (rest : Coded) → At may_call results caller way after (suc m) rest → At may_call results caller way after (suc (suc m)) (moved move step (operator_of sign unsigned) rest)
     moves Forth step sign unsigned m rest a = on nowhere (o.Index step) (suc m) (suc (suc m)) rest refl refl refl a
     moves Back step sign unsigned m rest a =
         on nowhere (o.Apply u.Negate) (suc (suc m)) (suc (suc m)) (plain (o.Index step) rest) refl refl refl (on nowhere (o.Index step) (suc m) (suc (suc m)) rest refl refl refl a)
     moves NoMove step sign unsigned m rest a = operators sign unsigned m rest a
 
-    either : (m : ℕ) (b : Bool) (x y : Coded) → At may_call way after m x → At may_call way after m y → At may_call way after m (if b then x else y)
+    either : (m : ℕ) (b : Bool) (x y : Coded) → At may_call results caller way after m x → At may_call results caller way after m y → At may_call results caller way after m (if b then x else y)
     either m true x y p q = p
     either m false x y p q = q
 
-    agrees : (sync : Bool) (m : ℕ) (rest : Coded) → At may_call way after (suc m) rest → At may_call way after (suc m) (agreed sync rest)
+    agrees : (sync : Bool) (m : ℕ) (rest : Coded) → At may_call results caller way after (suc m) rest → At may_call results caller way after (suc m) (agreed sync rest)
     agrees true m rest a = on nowhere o.Agree (suc m) (suc m) rest refl refl refl a
     agrees false m rest a = a
 
-    put : (bytes : List ℕ) (m : ℕ) (rest : Coded) → At may_call way after m rest → At may_call way after m (put_bytes bytes rest)
+    put : (bytes : List ℕ) (m : ℕ) (rest : Coded) → At may_call results caller way after m rest → At may_call results caller way after m (put_bytes bytes rest)
     put [] m rest a = a
     put (b ∷ bytes) m rest a =
         let others = put_bytes bytes rest in
         pushes b m (plain o.PrintByte others) (on nowhere o.PrintByte m (suc m) others refl refl refl (put bytes m rest a))
 
-    -- a choice, each way of which leaves one value
-    chooses : (t' : Place) (op : Operation) (a b rest : Coded) (m x y : ℕ) → is_fork op ≡ false → At may_call way after (suc m) rest
-        → At may_call false (Some (suc m)) x a → At may_call false (Some (suc m)) y b → above_choice op true x ≡ Some (suc m) → above_choice op false y ≡ Some (suc m)
-        → At may_call way after (suc m) (choose t' op a b rest)
-    chooses t' op a b rest m x y f' r p q e e' =
-        let first : before_way op true (above (Some (suc m)) a) ≡ Some (suc m) = ap (before_way op true) p.there ∙ e in
-        let second : before_way op false (above (Some (suc m)) b) ≡ Some (suc m) = ap (before_way op false) q.there ∙ e' in
+    -- a choice, each way of which leaves as many values
+    chooses : (t' : Place) (op : Operation) (a b rest : Coded) (m l x y : ℕ) → is_fork op ≡ false → is_begin op ≡ false → At may_call results caller way after l rest
+        → At may_call results caller false (Some l) x a → At may_call results caller false (Some l) y b → above_choice op true x ≡ Some (suc m) → above_choice op false y ≡ Some (suc m)
+        → At may_call results caller way after (suc m) (choose t' op a b rest)
+    chooses t' op a b rest m l x y f' begins r p q e e' =
+        let first : before_way op true (above (Some l) a) ≡ Some (suc m) = ap (before_way op true) p.there ∙ e in
+        let second : before_way op false (above (Some l) b) ≡ Some (suc m) = ap (before_way op false) q.there ∙ e' in
         record {
           there = ap (λ (fork : Bool). if fork then Some 2 else before_way op true (above (above after rest) a)) f'
               ∙ ap (λ (behind : Option ℕ). before_way op true (above behind a)) r.there ∙ first;
           counted = (
-            subst (λ (behind : Option ℕ). MayChoose op behind (above behind a) (above behind b) × Counted may_call behind a × Counted may_call behind b)
+            subst (λ (behind : Option ℕ). MayChoose op behind (above behind a) (above behind b) × Counted may_call results caller behind a × Counted may_call results caller behind b)
                 (sym r.there) ((ap is_some first, second ∙ sym first), p.counted, q.counted),
             r.counted,
+            may_begin caller op begins,
           );
           leading = λ is. or_leads (is_fork op) (leads rest) (r.leading is);
         }
 
   -- the end of an arm, and of a part
-  arm_ends : (m : ℕ) → At {A = Place} may_call false (Some m) m done
+  arm_ends : (m : ℕ) → At {A = Place} may_call results caller false (Some m) m done
   arm_ends m = record { there = refl; counted = tt; leading = λ is. untrue is }
 
-  part_ends : (m : ℕ) → At may_call false (Some m) m (plain o.End done)
+  part_ends : (m : ℕ) → At may_call results caller false (Some m) m (plain o.End done)
   part_ends m = record { there = refl; counted = (refl, refl, tt); leading = λ is. untrue is }
 
-  module _ (tables : Tables) (functions : (binding : ℕ) → Signature) where
+  -- what is told of each name in it, so that what is called may be
+  module _ (Decides : (at : ℕ) → Type 0) (Means : Named → Type 0) (means : (name : Named) → Means name → may_call (note tables name.at).binding ≡ true) where
+    abbrev Told : Tree → Type 0
+    Told x = told.Told Decides Means x
+
     module _ {way : Bool} {after : Option ℕ} where
-      checks : (deep : Bool) (spot : Spot) (m : ℕ) (rest : Coded) → At may_call way after (suc m) rest → At may_call way after (suc m) (checked tables functions deep spot rest)
+      checks : (deep : Bool) (spot : Spot) (m : ℕ) (rest : Coded) → At may_call results caller way after (suc m) rest → At may_call results caller way after (suc m) (checked tables functions deep spot rest)
       checks true spot m rest a = on spot.place (o.Check false) (suc m) (suc m) rest refl refl refl a
       checks false spot m rest a = a
 
-      values_at : (w : Way) (s : Standing) (rest : Coded) (m : ℕ) → Fits w s → At may_call way after (up (gives w) m) rest → At may_call way after (up_of w m) (valued tables functions s rest)
+      values_at : (w : Way) (s : Standing) (rest : Coded) (m : ℕ) → Fits w s → At may_call results caller way after (up (gives w) m) rest → At may_call results caller way after (up_of w m) (valued tables functions s rest)
       values_at Valued OnList rest m r a = a
       values_at Absent OnList rest m r a = a
       values_at Placed (AtAddress deep spot) rest m r a =
@@ -150,14 +170,14 @@ module _ (may_call : (function : ℕ) → Bool) where
       values_at (Function name) (ToCall other) rest m r a = a
       values_at w s rest m r a = absurd r
 
-      addresses_at : (w : Way) (s : Standing) (rest : Coded) (m : ℕ) → IsTarget w → Fits w s → At may_call way after (up_of w m) rest → At may_call way after (up_of w m) (addressed tables functions s rest)
+      addresses_at : (w : Way) (s : Standing) (rest : Coded) (m : ℕ) → IsTarget w → Fits w s → At may_call results caller way after (up_of w m) rest → At may_call results caller way after (up_of w m) (addressed tables functions s rest)
       addresses_at Placed (AtAddress deep spot) rest m i r a = checks deep spot m rest a
       addresses_at Word (InWord variable') rest m i r a = a
       addresses_at Placed s rest m i r a = absurd r
       addresses_at Word s rest m i r a = absurd r
       addresses_at w s rest m i r a = absurd i
 
-      fetches_at : (w : Way) (s : Standing) (rest : Coded) (m : ℕ) → IsTarget w → Fits w s → At may_call way after (suc (up_of w m)) rest → At may_call way after (up_of w m) (fetched tables functions s rest)
+      fetches_at : (w : Way) (s : Standing) (rest : Coded) (m : ℕ) → IsTarget w → Fits w s → At may_call results caller way after (suc (up_of w m)) rest → At may_call results caller way after (up_of w m) (fetched tables functions s rest)
       fetches_at Placed (AtAddress deep spot) rest m i r a =
           checks deep spot m (plain o.CopyLast (plain o.Read rest))
           (on nowhere o.CopyLast (suc (suc m)) (suc m) (plain o.Read rest) refl refl refl (on nowhere o.Read (suc (suc m)) (suc (suc m)) rest refl refl refl a))
@@ -166,45 +186,45 @@ module _ (may_call : (function : ℕ) → Bool) where
       fetches_at Word s rest m i r a = absurd r
       fetches_at w s rest m i r a = absurd i
 
-      assigns_at : (w : Way) (s : Standing) (rest : Coded) (m : ℕ) → IsTarget w → Fits w s → At may_call way after (suc m) rest → At may_call way after (suc (up_of w m)) (assigned tables functions s rest)
+      assigns_at : (w : Way) (s : Standing) (rest : Coded) (m : ℕ) → IsTarget w → Fits w s → At may_call results caller way after (suc m) rest → At may_call results caller way after (suc (up_of w m)) (assigned tables functions s rest)
       assigns_at Placed (AtAddress deep spot) rest m i r a = on nowhere o.Write (suc m) (suc (suc m)) rest refl refl refl a
       assigns_at Word (InWord variable') rest m i r a = on nowhere (o.Set variable') (suc m) (suc m) rest refl refl refl a
       assigns_at Placed s rest m i r a = absurd r
       assigns_at Word s rest m i r a = absurd r
       assigns_at w s rest m i r a = absurd i
 
-      drops : (at : ℕ) (had : Bool) (m : ℕ) (rest : Coded) → had ≡ not (is_void tables at) → At may_call way after m rest → At may_call way after (up had m) (dropped tables functions at rest)
+      drops : (at : ℕ) (had : Bool) (m : ℕ) (rest : Coded) → had ≡ not (is_void tables at) → At may_call results caller way after m rest → At may_call results caller way after (up had m) (dropped tables functions at rest)
       drops at had m rest e a = by (is_void tables at) had e
         where
-          by : (b had' : Bool) → had' ≡ not b → At may_call way after (up had' m) (if b then rest else plain o.DropLast rest)
+          by : (b had' : Bool) → had' ≡ not b → At may_call results caller way after (up had' m) (if b then rest else plain o.DropLast rest)
           by true false e' = a
           by false true e' = on nowhere o.DropLast m (suc m) rest refl refl refl a
           by true true e' = untrue (sym e')
           by false false e' = untrue e'
 
-      operates : (sign : Sign) (left right : ℕ) (m : ℕ) (rest : Coded) → At may_call way after (suc m) rest → At may_call way after (suc (suc m)) (operate tables functions sign left right rest)
+      operates : (sign : Sign) (left right : ℕ) (m : ℕ) (rest : Coded) → At may_call results caller way after (suc m) rest → At may_call results caller way after (suc (suc m)) (operate tables functions sign left right rest)
       operates sign left right m rest a =
           let unsigned = if is_shift sign then is_unsigned tables left else is_unsigned tables left || is_unsigned tables right in
           let step = (kind_at tables left).step in
           either (suc (suc m)) (step == 0) (plain (operator_of sign unsigned) rest) (moved (move_of sign) step (operator_of sign unsigned) rest)
           (operators sign unsigned m rest a) (moves (move_of sign) step sign unsigned m rest a)
 
-      members : (at : ℕ) (m : ℕ) (rest : Coded) → At may_call way after (suc m) rest → At may_call way after (suc m) (member tables functions at rest)
+      members : (at : ℕ) (m : ℕ) (rest : Coded) → At may_call results caller way after (suc m) rest → At may_call results caller way after (suc m) (member tables functions at rest)
       members at m rest a = pushes _ (suc m) (plain (o.Join f.Add false) rest) (on nowhere (o.Join f.Add false) (suc m) (suc (suc m)) rest refl refl refl a)
 
-    value_at : (w : Way) (e : Stands) → Good w e → (way : Bool) (after : Option ℕ) (m : ℕ) (rest : Coded) → At may_call way after (up (gives w) m) rest → At may_call way after m (value_of tables functions e rest)
+    value_at : (w : Way) (e : Stands) → Good w e → (way : Bool) (after : Option ℕ) (m : ℕ) (rest : Coded) → At may_call results caller way after (up (gives w) m) rest → At may_call results caller way after m (value_of tables functions e rest)
     value_at w e good way after m rest a = good way after m (λ s. valued tables functions s rest) (λ s r. values_at w s rest m r a)
 
     adds : (w : Way) (e : Stands) → Good w e → gives w ≡ true → Adds (value_of tables functions e)
-    adds w e good is way after m rest a = value_at w e good way after m rest (subst (λ b. At may_call way after (up b m) rest) (sym is) a)
+    adds w e good is way after m rest a = value_at w e good way after m rest (subst (λ b. At may_call results caller way after (up b m) rest) (sym is) a)
 
     -- names
-    predeclares : (name : Named) → Good (predeclared_way name) (predeclared tables functions name)
-    predeclares name way after m k h =
+    predeclares : (name : Named) → may_call (note tables name.at).binding ≡ true → Good (predeclared_way name) (predeclared tables functions name)
+    predeclares name may way after m k h =
         by (is_name name (codes "__PROC_NR__")) (is_name name (codes "__STARTED_PROCS__")) (is_name name (codes "__inputs")) (is_name name (codes "__input")) h
       where
         by : (a b c d : Bool)
-            → Goes (if a then Valued else if b then Valued else if c then Valued else if d then Placed else Function name) k way after m → At may_call way after m (
+            → Goes (if a then Valued else if b then Valued else if c then Valued else if d then Placed else Function name) k way after m → At may_call results caller way after m (
             if a then plain (o.Get n.ProcessorNumber) (k OnList)
             else if b then plain (o.Get n.Processors) (k OnList)
             else if c then plain (o.Get n.InputLength) (k OnList)
@@ -215,26 +235,26 @@ module _ (may_call : (function : ℕ) → Bool) where
         by false false true d p = on nowhere (o.Get n.InputLength) (suc m) m (k OnList) refl refl refl (p OnList tt)
         by false false false true p =
             on nowhere (o.Get n.InputAddress) (suc m) m (k (AtAddress false (spot_of name))) refl refl refl (p (AtAddress false (spot_of name)) tt)
-        by false false false false p = p (ToCall name) refl
+        by false false false false p = p (ToCall name) (refl, may)
 
-    homes : (home : Home) (i : ℕ) (name : Named) → Good (placed_way home name) (placed tables functions home i name)
-    homes h.Global i name way after m k p = pushes _ m (k (AtAddress false (spot_of name))) (p (AtAddress false (spot_of name)) tt)
-    homes h.FilePrivate i name way after m k p = p (InWord (v.OfFile i)) tt
-    homes h.Private i name way after m k p = p (InWord (v.Private i)) tt
-    homes (h.Group r) i name way after m k p = on nowhere _ (suc m) m (k (AtAddress false (spot_of name))) refl refl refl (p (AtAddress false (spot_of name)) tt)
-    homes h.NoWord i name way after m k p = p (ToCall name) refl
+    homes : (home : Home) (i : ℕ) (name : Named) → may_call (note tables name.at).binding ≡ true → Good (placed_way home name) (placed tables functions home i name)
+    homes h.Global i name may way after m k p = pushes _ m (k (AtAddress false (spot_of name))) (p (AtAddress false (spot_of name)) tt)
+    homes h.FilePrivate i name may way after m k p = p (InWord (v.OfFile i)) tt
+    homes h.Private i name may way after m k p = p (InWord (v.Private i)) tt
+    homes (h.Group r) i name may way after m k p = on nowhere _ (suc m) m (k (AtAddress false (spot_of name))) refl refl refl (p (AtAddress false (spot_of name)) tt)
+    homes h.NoWord i name may way after m k p = p (ToCall name) (refl, may)
 
-    names : (name : Named) → Good (named_way tables name) (variable tables functions name)
-    names name way after m k p = by ((note tables name.at).binding == no_binding) p
+    names : (name : Named) → may_call (note tables name.at).binding ≡ true → Good (named_way tables functions name) (variable tables functions name)
+    names name may way after m k p = by ((note tables name.at).binding == no_binding) p
       where
         b : ℕ
         b = (note tables name.at).binding
 
         by : (no : Bool) → Goes (if no then predeclared_way name else placed_way (slot tables (note tables name.at).binding).home name) k way after m
-            → At may_call way after m (if no then predeclared tables functions name k
+            → At may_call results caller way after m (if no then predeclared tables functions name k
             else placed tables functions (slot tables (note tables name.at).binding).home (slot tables (note tables name.at).binding).index name k)
-        by true q = predeclares name way after m k q
-        by false q = homes (slot tables (note tables name.at).binding).home (slot tables (note tables name.at).binding).index name way after m k q
+        by true q = predeclares name may way after m k q
+        by false q = homes (slot tables (note tables name.at).binding).home (slot tables (note tables name.at).binding).index name may way after m k q
 
     -- operators
     updates : (sign : Sign) (w : Way) (target : Stands) → Good w target → IsTarget w → (left right : ℕ) (e : Coded → Coded) → Adds e
@@ -265,7 +285,7 @@ module _ (may_call : (function : ℕ) → Bool) where
     prefixes spot g.Decrement w e at good is way after m k q = updates g.Minus w e good is at spot.at (one tables functions) ones way after m k q
     prefixes spot sign w e at good is way after m k q = adds w e good is way after m (k OnList) (q OnList tt)
 
-    truths : (w : Way) (e : Stands) → Good w e → gives w ≡ true → (way : Bool) (after : Option ℕ) (m : ℕ) (rest : Coded) → At may_call way after (suc m) rest → At may_call way after m (truth tables functions e rest)
+    truths : (w : Way) (e : Stands) → Good w e → gives w ≡ true → (way : Bool) (after : Option ℕ) (m : ℕ) (rest : Coded) → At may_call results caller way after (suc m) rest → At may_call results caller way after m (truth tables functions e rest)
     truths w e good is way after m rest a =
         adds w e good is way after m (plain (o.Push 0) (plain (o.Join f.Ne false) rest))
         (pushes 0 (suc m) (plain (o.Join f.Ne false) rest) (on nowhere (o.Join f.Ne false) (suc m) (suc (suc m)) rest refl refl refl a))
@@ -279,30 +299,12 @@ module _ (may_call : (function : ℕ) → Bool) where
         let branched = choose nowhere (o.Branch onward) (truth tables functions b done) (plain (o.Push other) done) (k OnList) in
         adds w a good_a has_a way after m (if here.splits then parted else agreed here.sync branched)
         (either (suc m) here.splits parted (agreed here.sync branched)
-        (chooses spot.place (o.Divide split) (truth tables functions b (plain o.End done)) done (plain o.Resume (k OnList)) m m (suc m) no_fork
+        (chooses spot.place (o.Divide split) (truth tables functions b (plain o.End done)) done (plain o.Resume (k OnList)) m (suc m) m (suc m) no_fork refl
         (on nowhere o.Resume (suc m) (suc m) (k OnList) refl refl refl (p OnList tt))
         (truths x b good_b has_b false (Some (suc m)) m (plain o.End done) (part_ends (suc m))) (arm_ends (suc m)) (true_way m) (false_way m))
         (agrees here.sync m branched
-        (chooses nowhere (o.Branch onward) (truth tables functions b done) (plain (o.Push other) done) (k OnList) m m m refl (p OnList tt)
+        (chooses nowhere (o.Branch onward) (truth tables functions b done) (plain (o.Push other) done) (k OnList) m (suc m) m m refl refl (p OnList tt)
         (truths x b good_b has_b false (Some (suc m)) m done (arm_ends (suc m))) (pushes other m done (arm_ends (suc m))) refl refl)))
-
-    choices : (spot : Spot) (w x y : Way) (c a b : Stands) → Good w c → gives w ≡ true → Good x a → gives x ≡ true → Good y b → gives y ≡ true
-        → Good Valued (chosen tables functions spot c a b)
-    choices spot w x y c a b good_c has_c good_a has_a good_b has_b way after m k p =
-        let here = note tables spot.at in
-        let first = value_of tables functions a in
-        let second = value_of tables functions b in
-        let parted = choose spot.place (o.Divide IfElse) (first (plain o.End done)) (second (plain o.End done)) (plain o.Resume (k OnList)) in
-        let branched = choose nowhere (o.Branch true) (first done) (second done) (k OnList) in
-        adds w c good_c has_c way after m (if here.splits then parted else agreed here.sync branched)
-        (either (suc m) here.splits parted (agreed here.sync branched)
-        (chooses spot.place (o.Divide IfElse) (first (plain o.End done)) (second (plain o.End done)) (plain o.Resume (k OnList)) m m m refl
-        (on nowhere o.Resume (suc m) (suc m) (k OnList) refl refl refl (p OnList tt))
-        (adds x a good_a has_a false (Some (suc m)) m (plain o.End done) (part_ends (suc m)))
-        (adds y b good_b has_b false (Some (suc m)) m (plain o.End done) (part_ends (suc m))) refl refl)
-        (agrees here.sync m branched
-        (chooses nowhere (o.Branch true) (first done) (second done) (k OnList) m m m refl (p OnList tt)
-        (adds x a good_a has_a false (Some (suc m)) m done (arm_ends (suc m))) (adds y b good_b has_b false (Some (suc m)) m done (arm_ends (suc m))) refl refl)))
 
     result_up : (b : Bool) (m : ℕ) → up_of (result b) m ≡ up b m
     result_up true m = refl
@@ -312,12 +314,34 @@ module _ (may_call : (function : ℕ) → Bool) where
     result_fits true = tt
     result_fits false = tt
 
-    joins : (spot : Spot) (sign : Sign) (w : Way) (a : Stands) (left : ℕ) (x : Way) (b : Stands) (right : ℕ) → Good w a → Good x b → JoinNeeds tables sign w left x
+    choices : (spot : Spot) (w x y : Way) (c a b : Stands) → Good w c → gives w ≡ true → Good x a → Good y b → gives y ≡ gives x
+        → Good (result (gives x)) (chosen tables functions spot c a b)
+    choices spot w x y c a b good_c has_c good_a good_b alike way after m k p =
+        let l = up (gives x) m in
+        let behind : At may_call results caller way after l (k OnList) = subst (λ m'. At may_call results caller way after m' (k OnList)) (result_up (gives x) m) (p OnList (result_fits (gives x))) in
+        let in_first : (rest : Coded) → At may_call results caller false (Some l) l rest → At may_call results caller false (Some l) m (value_of tables functions a rest) = λ rest q. value_at x a good_a false (Some l) m rest q in
+        let in_second : (rest : Coded) → At may_call results caller false (Some l) l rest → At may_call results caller false (Some l) m (value_of tables functions b rest)
+        = λ rest q. value_at y b good_b false (Some l) m rest (subst (λ had. At may_call results caller false (Some l) (up had m) rest) (sym alike) q) in
+        let here = note tables spot.at in
+        let first = value_of tables functions a in
+        let second = value_of tables functions b in
+        let parted = choose spot.place (o.Divide IfElse) (first (plain o.End done)) (second (plain o.End done)) (plain o.Resume (k OnList)) in
+        let branched = choose nowhere (o.Branch true) (first done) (second done) (k OnList) in
+        adds w c good_c has_c way after m (if here.splits then parted else agreed here.sync branched)
+        (either (suc m) here.splits parted (agreed here.sync branched)
+        (chooses spot.place (o.Divide IfElse) (first (plain o.End done)) (second (plain o.End done)) (plain o.Resume (k OnList)) m l m m refl refl
+        (on nowhere o.Resume l l (k OnList) refl refl refl behind)
+        (in_first (plain o.End done) (part_ends l)) (in_second (plain o.End done) (part_ends l)) refl refl)
+        (agrees here.sync m branched
+        (chooses nowhere (o.Branch true) (first done) (second done) (k OnList) m l m m refl refl behind
+        (in_first done (arm_ends l)) (in_second done (arm_ends l)) refl refl)))
+
+    joins : (spot : Spot) (sign : Sign) (w : Way) (a : Stands) (left : ℕ) (x : Way) (b : Stands) (right : ℕ) → Good w a → Good x b → JoinNeeds tables functions sign w left x
         → Good (joined_way sign x) (joined tables functions spot sign a left b right)
     joins spot g.Comma w a left x b right good_a good_b is way after m k p =
         let more = value_of tables functions b (k OnList) in
         value_at w a good_a way after m (dropped tables functions left more)
-        (drops left (gives w) m more is (value_at x b good_b way after m (k OnList) (subst (λ m'. At may_call way after m' (k OnList)) (result_up (gives x) m) (p OnList (result_fits (gives x))))))
+        (drops left (gives w) m more is (value_at x b good_b way after m (k OnList) (subst (λ m'. At may_call results caller way after m' (k OnList)) (result_up (gives x) m) (p OnList (result_fits (gives x))))))
     joins spot g.AndAnd w a left x b right good_a good_b is way after m k p = logicals spot AndThen true 0 w x a b good_a is.0 good_b is.1 refl (λ m'. refl) (λ m'. refl) way after m k p
     joins spot g.OrOr w a left x b right good_a good_b is way after m k p = logicals spot OrElse false 1 w x a b good_a is.0 good_b is.1 refl (λ m'. refl) (λ m'. refl) way after m k p
     joins spot sign w a left x b right good_a good_b is way after m k p =
@@ -384,7 +408,7 @@ module _ (may_call : (function : ℕ) → Bool) where
     pairs name by xs es all enough two = absurd all
 
     singles : (name : Named) (act : Coded → Coded) (xs : Trees) (es : List Stands) → AllAdd xs es → TakesEnough name xs → is_name name (codes "groupsize") ≡ false
-        → (way : Bool) (after : Option ℕ) (m : ℕ) (k : Standing → Coded) → At may_call way after (suc m) (act (k OnList)) → At may_call way after m (with_one tables functions act es k)
+        → (way : Bool) (after : Option ℕ) (m : ℕ) (k : Standing → Coded) → At may_call results caller way after (suc m) (act (k OnList)) → At may_call results caller way after m (with_one tables functions act es k)
     singles name act t.no_trees [] all enough sizes way after m k a = absurd (untrue (sym sizes ∙ enough.1))
     singles name act (t.tree x others) (e ∷ es) all enough sizes way after m k a = all.0 way after m (act (k OnList)) a
     singles name act xs es all enough sizes way after m k a = absurd all
@@ -394,11 +418,11 @@ module _ (may_call : (function : ℕ) → Bool) where
         by (is_name name (codes "mpadd")) (is_name name (codes "mpmax")) (is_name name (codes "mpand")) (is_name name (codes "mpor")) (is_name name (codes "groupsize"))
         (is_name name (codes "putint")) (is_name name (codes "putchar")) (is_name name (codes "malloc")) (is_name name (codes "shmalloc")) refl refl p
       where
-        one_less : (act : Coded → Coded) → is_name name (codes "groupsize") ≡ false → At may_call way after (suc m) (act (k OnList)) → At may_call way after m (with_one tables functions act es k)
+        one_less : (act : Coded → Coded) → is_name name (codes "groupsize") ≡ false → At may_call results caller way after (suc m) (act (k OnList)) → At may_call results caller way after m (with_one tables functions act es k)
         one_less act sizes a = singles name act xs es all enough sizes way after m k a
 
         by : (a b c d e f' g' h' i : Bool) → (a || (b || (c || d))) ≡ takes_two name → is_name name (codes "groupsize") ≡ e
-            → Goes (result ((a || (b || (c || d))) || (e || not (f' || g')))) k way after m → At may_call way after m (
+            → Goes (result ((a || (b || (c || d))) || (e || not (f' || g')))) k way after m → At may_call results caller way after m (
             if a then multiprefix tables functions name MpAdd es k
             else if b then multiprefix tables functions name MpMax es k
             else if c then multiprefix tables functions name MpAnd es k
@@ -426,69 +450,109 @@ module _ (may_call : (function : ℕ) → Bool) where
             one_less (λ rest. plain o.Agree (plain o.Block rest)) sizes
             (on nowhere o.Agree (suc m) (suc m) (plain o.Block (k OnList)) refl refl refl (on nowhere o.Block (suc m) (suc m) (k OnList) refl refl refl (q OnList tt)))
 
-    calls : (w : Way) (e : Stands) (xs : Trees) (es : List Stands) → Good w e → AllAdd xs es → CallNeeds tables w xs → Good (called_way w) (λ k. e (calling tables functions es k))
+    -- and of those of the program
+    arguments_on : (xs : List DeclaredTree) (ts : Trees) (es : List Stands) → AllAdd ts es → AreEnough xs ts → (way : Bool) (after : Option ℕ) (m : ℕ) (rest : Coded)
+        → At may_call results caller way after (more (length xs) m) rest → At may_call results caller way after m (arguments tables functions xs es rest)
+    arguments_on [] ts es all enough way after m rest a = a
+    arguments_on (x ∷ xs) t.no_trees [] all enough way after m rest a = absurd enough
+    arguments_on (x ∷ xs) (t.tree y ys) (e ∷ es) all enough way after m rest a =
+        let others = arguments tables functions xs es rest in
+        all.0 way after m (agreed x.shared others) (agrees x.shared m others (arguments_on xs ys es all.1 enough way after (suc m) rest a))
+    arguments_on (x ∷ xs) ts es all enough way after m rest a = absurd all
+
+    before_enter : (g : Bool) (n m : ℕ) → before_call g (o.Enter n) (Some (up g m)) ≡ Some (more n m)
+    before_enter true n m = refl
+    before_enter false n m = refl
+
+    enters_on : (t' : Place) (f : ℕ) (n m : ℕ) (opening rest : Coded) → may_call f ≡ true → Idle may_call results (Some (results f)) opening
+        → (way : Bool) (after : Option ℕ) → At may_call results caller way after (up (results f) m) rest → At may_call results caller way after (more n m) (call t' (o.Enter n) f opening rest)
+    enters_on t' f n m opening rest may opens way after a = record {
+      there = ap (before_call (results f) (o.Enter n)) a.there ∙ before_enter (results f) n m;
+      counted = (
+        refl,
+        may,
+        opens,
+        (subst (MayCall (results f) (o.Enter n)) (sym a.there) (ap is_some (before_enter (results f) n m)), a.counted),
+      );
+      leading = a.leading;
+    }
+
+    own_calls : (name : Named) (xs : Trees) (es : List Stands) → AllAdd xs es → AreEnough (functions (note tables name.at).binding).parameters xs → may_call (note tables name.at).binding ≡ true
+        → Good (result (results (note tables name.at).binding)) (called tables functions name es)
+    own_calls name xs es all enough may way after m k p =
+        let b = (note tables name.at).binding in
+        let function = functions b in
+        let opening = framed tables functions (frame_at tables function.at 0) name.place (parameters tables functions 0 function.parameters) in
+        arguments_on function.parameters xs es all enough way after m (call name.place (o.Enter (length function.parameters)) b opening (k OnList))
+        (enters_on name.place b (length function.parameters) m opening (k OnList) may (opening_idle may_call results (Some (results b)) tables functions (frame_at tables function.at 0) name.place function.parameters) way after
+        (subst (λ m'. At may_call results caller way after m' (k OnList)) (result_up (results b) m) (p OnList (result_fits (results b)))))
+
+    calls : (w : Way) (e : Stands) (xs : Trees) (es : List Stands) → Good w e → AllAdd xs es → CallNeeds tables functions w xs → Good (called_way tables functions w) (λ k. e (calling tables functions es k))
     calls (Function name) e xs es good all needs way after m k p = good way after m (calling tables functions es k) by
       where
-        by_binding : (no : Bool) → no ≡ true → At may_call way after m (if no then called_predeclared tables functions name es k else called tables functions name es k)
-        by_binding true is = predeclared_calls name xs es all needs.1 way after m k p
-        by_binding false is = untrue is
+        by_binding : (no : Bool) → NameTakes tables functions no name xs → may_call (note tables name.at).binding ≡ true → Goes (result (call_gives tables functions no name)) k way after m
+            → At may_call results caller way after m (if no then called_predeclared tables functions name es k else called tables functions name es k)
+        by_binding true takes may q = predeclared_calls name xs es all takes way after m k q
+        by_binding false takes may q = own_calls name xs es all takes may way after m k q
 
         by : Goes (Function name) (calling tables functions es k) way after m
-        by (ToCall other) fits = subst (λ (x : Named). At may_call way after m (calling tables functions es k (ToCall x))) fits (by_binding ((note tables name.at).binding == no_binding) needs.0)
+        by (ToCall other) fits =
+            subst (λ (x : Named). At may_call results caller way after m (calling tables functions es k (ToCall x))) fits.0
+            (by_binding ((note tables name.at).binding == no_binding) needs fits.1 p)
         by OnList fits = absurd fits
         by (AtAddress deep spot) fits = absurd fits
         by (InWord variable') fits = absurd fits
     calls w e xs es good all needs way after m k p = absurd needs
 
     mutual
-      pub evaluates : (x : Tree) → Evaluates tables x → Good (w.way tables x) (stands tables functions x)
-      evaluates (t.Number spot value' unsigned) h way after m k p = pushes value' m (k OnList) (p OnList tt)
-      evaluates (t.Puts spot text) h way after m k p = put (text_of text) m (k OnList) (p OnList tt)
-      evaluates (t.Sizeof spot type) h way after m k p = pushes (note tables spot.at).binding m (k OnList) (p OnList tt)
-      evaluates (t.Variable name) h way after m k p = names name way after m k p
-      evaluates (t.GroupNumber spot) h way after m k p = on nowhere (o.Get n.GroupNumber) (suc m) m (k OnList) refl refl refl (p OnList tt)
-      evaluates (t.GroupRank spot) h way after m k p = on nowhere (o.Get n.Rank) (suc m) m (k OnList) refl refl refl (p OnList tt)
-      evaluates (t.Prefix spot sign operand) h way after m k p =
-          prefixes spot sign (w.way tables operand) (stands tables functions operand) (token operand) (evaluates operand h.0) h.1 way after m k p
-      evaluates (t.Cast spot type operand) h way after m k p =
-          adds (w.way tables operand) (stands tables functions operand) (evaluates operand h.0) h.1 way after m (k OnList) (p OnList tt)
-      evaluates (t.Chain first links) h way after m k p =
-          links_evaluate (stands tables functions first) (w.way tables first) (token first) links (evaluates first h.0) h.1 way after m k p
-      evaluates (t.Postfix whole suffixes) h way after m k p =
-          suffixes_evaluate (stands tables functions whole) (w.way tables whole) (token whole) suffixes (evaluates whole h.0) h.1 way after m k p
-      evaluates (t.Assign spot sign target value') h way after m k p =
-          assignments sign (w.way tables target) (stands tables functions target) (token target) (w.way tables value') (stands tables functions value') (token value')
-          (evaluates target h.0) h.1 (evaluates value' h.2) h.3 way after m k p
-      evaluates (t.Choose spot condition first second) h way after m k p =
-          choices spot (w.way tables condition) (w.way tables first) (w.way tables second) (stands tables functions condition) (stands tables functions first) (stands tables functions second)
-          (evaluates condition h.0) h.1 (evaluates first h.2) h.3 (evaluates second h.4) h.5 way after m k p
+      pub evaluates : (x : Tree) → Evaluates tables functions x → Told x → Good (w.way tables functions x) (stands tables functions x)
+      evaluates (t.Number spot value' unsigned) h d way after m k p = pushes value' m (k OnList) (p OnList tt)
+      evaluates (t.Puts spot text) h d way after m k p = put (text_of text) m (k OnList) (p OnList tt)
+      evaluates (t.Sizeof spot type) h d way after m k p = pushes (note tables spot.at).binding m (k OnList) (p OnList tt)
+      evaluates (t.Variable name) h d way after m k p = names name (means name d) way after m k p
+      evaluates (t.GroupNumber spot) h d way after m k p = on nowhere (o.Get n.GroupNumber) (suc m) m (k OnList) refl refl refl (p OnList tt)
+      evaluates (t.GroupRank spot) h d way after m k p = on nowhere (o.Get n.Rank) (suc m) m (k OnList) refl refl refl (p OnList tt)
+      evaluates (t.Prefix spot sign operand) h d way after m k p =
+          prefixes spot sign (w.way tables functions operand) (stands tables functions operand) (token operand) (evaluates operand h.0 d) h.1 way after m k p
+      evaluates (t.Cast spot type operand) h d way after m k p =
+          adds (w.way tables functions operand) (stands tables functions operand) (evaluates operand h.0 d) h.1 way after m (k OnList) (p OnList tt)
+      evaluates (t.Chain first links) h d way after m k p =
+          links_evaluate (stands tables functions first) (w.way tables functions first) (token first) links (evaluates first h.0 d.0) h.1 d.1 way after m k p
+      evaluates (t.Postfix whole suffixes) h d way after m k p =
+          suffixes_evaluate (stands tables functions whole) (w.way tables functions whole) (token whole) suffixes (evaluates whole h.0 d.0) h.1 d.1 way after m k p
+      evaluates (t.Assign spot sign target value') h d way after m k p =
+          assignments sign (w.way tables functions target) (stands tables functions target) (token target) (w.way tables functions value') (stands tables functions value') (token value')
+          (evaluates target h.0 d.0) h.1 (evaluates value' h.2 d.1) h.3 way after m k p
+      evaluates (t.Choose spot condition first second) h d way after m k p =
+          choices spot (w.way tables functions condition) (w.way tables functions first) (w.way tables functions second) (stands tables functions condition) (stands tables functions first) (stands tables functions second)
+          (evaluates condition h.0 d.1) h.1 (evaluates first h.2 d.2) (evaluates second h.3 d.3) h.4 way after m k p
 
-      links_evaluate : (e : Stands) (w' : Way) (at : ℕ) (links : Links) → Good w' e → LinksEvaluate tables w' at links → Good (chain_way tables w' links) (linked tables functions e at links)
-      links_evaluate e w' at t.no_links good h = good
-      links_evaluate e w' at (t.link spot sign right others) good h =
-          links_evaluate (joined tables functions spot sign e at (stands tables functions right) (token right)) (joined_way sign (w.way tables right)) spot.at others
-          (joins spot sign w' e at (w.way tables right) (stands tables functions right) (token right) good (evaluates right h.0) h.1) h.2
+      links_evaluate : (e : Stands) (w' : Way) (at : ℕ) (links : Links) → Good w' e → LinksEvaluate tables functions w' at links → told.LinksTold Decides Means links → Good (chain_way tables functions w' links) (linked tables functions e at links)
+      links_evaluate e w' at t.no_links good h d = good
+      links_evaluate e w' at (t.link spot sign right others) good h d =
+          links_evaluate (joined tables functions spot sign e at (stands tables functions right) (token right)) (joined_way sign (w.way tables functions right)) spot.at others
+          (joins spot sign w' e at (w.way tables functions right) (stands tables functions right) (token right) good (evaluates right h.0 d.1) h.1) h.2 d.2
 
-      suffixes_evaluate : (e : Stands) (w' : Way) (at : ℕ) (suffixes : Suffixes) → Good w' e → SuffixesEvaluate tables w' suffixes → Good (suffixed_way tables w' suffixes) (suffixed tables functions e at suffixes)
-      suffixes_evaluate e w' at t.no_suffixes good h = good
-      suffixes_evaluate e w' at (t.index spot by others) good h =
+      suffixes_evaluate : (e : Stands) (w' : Way) (at : ℕ) (suffixes : Suffixes) → Good w' e → SuffixesEvaluate tables functions w' suffixes → told.SuffixesTold Decides Means suffixes → Good (suffixed_way tables functions w' suffixes) (suffixed tables functions e at suffixes)
+      suffixes_evaluate e w' at t.no_suffixes good h d = good
+      suffixes_evaluate e w' at (t.index spot by others) good h d =
           suffixes_evaluate (indexed tables functions spot e (stands tables functions by)) Placed spot.at others
-          (indexes spot w' (w.way tables by) e (stands tables functions by) good h.0 (evaluates by h.1) h.2) h.3
-      suffixes_evaluate e w' at (t.call spot arguments others) good h =
-          suffixes_evaluate (λ k. e (calling tables functions (all_stand tables functions arguments) k)) (called_way w') spot.at others
-          (calls w' e arguments (all_stand tables functions arguments) good (all_evaluate arguments h.1) h.0) h.2
-      suffixes_evaluate e w' at (t.dot spot name others) good h =
-          suffixes_evaluate (dotted tables functions spot name.at e) Placed spot.at others (dots spot name.at w' e good h.0) h.1
-      suffixes_evaluate e w' at (t.arrow spot name others) good h =
-          suffixes_evaluate (pointed tables functions spot name.at e) Placed spot.at others (points spot name.at w' e good h.0) h.1
-      suffixes_evaluate e w' at (t.up spot others) good h =
-          suffixes_evaluate (raised tables functions g.Plus g.Minus e at) Valued spot.at others (raises g.Plus g.Minus w' e at good h.0) h.1
-      suffixes_evaluate e w' at (t.down spot others) good h =
-          suffixes_evaluate (raised tables functions g.Minus g.Plus e at) Valued spot.at others (raises g.Minus g.Plus w' e at good h.0) h.1
+          (indexes spot w' (w.way tables functions by) e (stands tables functions by) good h.0 (evaluates by h.1 d.0) h.2) h.3 d.1
+      suffixes_evaluate e w' at (t.call spot arguments' others) good h d =
+          suffixes_evaluate (λ k. e (calling tables functions (all_stand tables functions arguments') k)) (called_way tables functions w') spot.at others
+          (calls w' e arguments' (all_stand tables functions arguments') good (all_evaluate arguments' h.1 d.0) h.0) h.2 d.1
+      suffixes_evaluate e w' at (t.dot spot name others) good h d =
+          suffixes_evaluate (dotted tables functions spot name.at e) Placed spot.at others (dots spot name.at w' e good h.0) h.1 d
+      suffixes_evaluate e w' at (t.arrow spot name others) good h d =
+          suffixes_evaluate (pointed tables functions spot name.at e) Placed spot.at others (points spot name.at w' e good h.0) h.1 d
+      suffixes_evaluate e w' at (t.up spot others) good h d =
+          suffixes_evaluate (raised tables functions g.Plus g.Minus e at) Valued spot.at others (raises g.Plus g.Minus w' e at good h.0) h.1 d
+      suffixes_evaluate e w' at (t.down spot others) good h d =
+          suffixes_evaluate (raised tables functions g.Minus g.Plus e at) Valued spot.at others (raises g.Minus g.Plus w' e at good h.0) h.1 d
 
-      all_evaluate : (xs : Trees) → AllEvaluate tables xs → AllAdd xs (all_stand tables functions xs)
-      all_evaluate t.no_trees h = tt
-      all_evaluate (t.tree first others) h = (adds (w.way tables first) (stands tables functions first) (evaluates first h.0) h.1, all_evaluate others h.2)
+      all_evaluate : (xs : Trees) → AllEvaluate tables functions xs → told.AllTold Decides Means xs → AllAdd xs (all_stand tables functions xs)
+      all_evaluate t.no_trees h d = tt
+      all_evaluate (t.tree first others) h d = (adds (w.way tables functions first) (stands tables functions first) (evaluates first h.0 d.0) h.1, all_evaluate others h.2 d.1)
 
-    pub value_evaluates : (e : Tree) → IsValued tables e → (way : Bool) (after : Option ℕ) (m : ℕ) (rest : Coded) → At may_call way after (suc m) rest → At may_call way after m (value tables functions e rest)
-    value_evaluates e h way after m rest a = adds (w.way tables e) (stands tables functions e) (evaluates e h.0) h.1 way after m rest a
+    pub value_evaluates : (e : Tree) → IsValued tables functions e → Told e → (way : Bool) (after : Option ℕ) (m : ℕ) (rest : Coded) → At may_call results caller way after (suc m) rest → At may_call results caller way after m (value tables functions e rest)
+    value_evaluates e h d way after m rest a = adds (w.way tables functions e) (stands tables functions e) (evaluates e h.0 d) h.1 way after m rest a

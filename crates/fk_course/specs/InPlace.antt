@@ -1,12 +1,12 @@
 -- What is asked of the functions of a program, so that it goes through its groups, parts and bodies in their order: where
--- processors run by themselves nothing splits and no group begins, but by `start` on the outermost level of `main`; and what a
--- `fork` computes behind its number of parts gives one value each, and calls no function of the program.
+-- processors run by themselves nothing splits and no group begins, but by `start` on the outermost level of `main`; what a
+-- `fork` computes behind its number of parts gives one value each, and functions return values where they have results.
 use Rattle.std.specs.Prelude.{◌≡◌, ℕ, ◌≤◌, ◌==◌, Bool, true, false, List, [], ◌∷◌, Option, Some, None}
 use Rattle.fk_syntax.specs.Tree.{Named, Tree}
 use Rattle.fk_syntax.specs.Program as p
 use Rattle.fk_syntax.specs.Program.{DeclaredTree, Statement, Statements, FunctionTree, ProgramTree}
 use Rattle.fk_forms.specs.Tables.{Tables, note}
-use Rattle.fk_forms.specs.Program.{functions_of, binding_of, is_main, main_of}
+use Rattle.fk_forms.specs.Program.{functions_of, binding_of, signature_in, is_main, main_of}
 use Rattle.fk_run.specs.Processor.{Setting}
 use Rattle.fk_run.specs.Schedule.{Schedule, run, IsLawful}
 use Rattle.fk_source.specs.Program.{next_in, main_work, opening}
@@ -17,7 +17,8 @@ use Rattle.fk_together.specs.Course.{ByItself, Follows}
 use Rattle.fk_together.specs.OneProgram.{KeepOneProgram}
 use Rattle.fk_course.specs.Placed.{Who, OfGroup, OfBody, OfMain, is_group, is_outermost, inner}
 use Rattle.fk_course.specs.Placed as g
-use Rattle.fk_course.specs.Valued.{IsValued, OptionValued}
+use Rattle.fk_course.specs.Forks.{ForksAreValued}
+use Rattle.fk_course.specs.Returns.{FunctionsReturn}
 use Rattle.fk_course.specs.Ahead.{all_outs}
 
 module _ (tables : Tables) (may_call : (in_group : Bool) → (function : ℕ) → Bool) where
@@ -64,7 +65,7 @@ module _ (tables : Tables) (may_call : (in_group : Bool) → (function : ℕ) �
     StatementInPlace main who (p.Seq spot body) = (is_group who ≡ true) × StatementInPlace main OfBody body
     StatementInPlace main who (p.Fork spot parts part rank body) =
         (is_group who ≡ true) × InPlace (is_group who) parts × InPlace (is_group who) part × OptionInPlace (is_group who) rank
-        × StatementInPlace main OfGroup body × IsValued tables part × OptionValued tables rank
+        × StatementInPlace main OfGroup body
     StatementInPlace main who (p.Barrier spot) = Unit {0}
     StatementInPlace main who (p.Break spot) = Unit {0}
     StatementInPlace main who (p.Continue spot) = Unit {0}
@@ -92,6 +93,8 @@ pub record IsInPlace (tables : Tables) (program : ProgramTree) (may_call : (in_g
   pub shaped : ProgramShaped tables program
   pub noted : FunctionsNoted tables (may_call true) (functions_of program.items)
   pub in_place : FunctionsInPlace tables may_call (main_of tables program) (functions_of program.items)
+  pub valued : ForksAreValued tables (signature_in tables (functions_of program.items)) (functions_of program.items)
+  pub returning : FunctionsReturn (functions_of program.items)
 
 -- such programs are courses
 abbrev pub ProgramsFollow : Type 0

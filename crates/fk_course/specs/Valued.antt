@@ -1,14 +1,15 @@
 -- Expressions that give one value, whichever way is gone in them. How an expression stands when its operations are done is
 -- told by its tree.
-use Rattle.std.specs.Prelude.{◌≡◌, ℕ, ◌==◌, ◌||◌, Bool, true, false, not, codes, Option, Some, None, if◌then◌else◌}
+use Rattle.std.specs.Prelude.{◌≡◌, ℕ, ◌==◌, ◌||◌, Bool, true, false, not, List, [], ◌∷◌, codes, Option, Some, None, if◌then◌else◌}
 use Rattle.fk_syntax.specs.declared.sign.Sign.{Sign}
 use Rattle.fk_syntax.specs.declared.sign.Sign.TheVariants as g
 use Rattle.fk_syntax.specs.Tree as t
 use Rattle.fk_syntax.specs.Tree.{Named, Tree, Links, Trees, Suffixes}
+use Rattle.fk_syntax.specs.Program.{DeclaredTree}
 use Rattle.fk_forms.specs.declared.tables.Home.{Home}
 use Rattle.fk_forms.specs.declared.tables.Home.TheVariants as h
 use Rattle.fk_forms.specs.Tables.{Tables, no_binding, note, is_void, slot}
-use Rattle.fk_forms.specs.Expressions.{is_name, token}
+use Rattle.fk_forms.specs.Expressions.{Signature, is_name, token}
 use Rattle.fk_nesting.specs.Calls.{takes_two, TakesEnough}
 
 pub data Way : Type 0 where
@@ -61,10 +62,6 @@ abbrev pub joined_way : Sign → (right : Way) → Way
 joined_way g.Comma right = result (gives right)
 joined_way sign right = Valued
 
-abbrev pub called_way : Way → Way
-called_way (Function name) = result (predeclared_gives name)
-called_way way = Absent
-
 -- it has an address, or a place to which is assigned
 abbrev pub HasAddress : Way → Type 0
 HasAddress Placed = Unit {0}
@@ -82,11 +79,29 @@ PrefixNeeds g.Increment way = IsTarget way
 PrefixNeeds g.Decrement way = IsTarget way
 PrefixNeeds sign way = gives way ≡ true
 
-module _ (tables : Tables) where
+-- so many arguments as parameters
+abbrev pub AreEnough : List DeclaredTree → Trees → Type 0
+AreEnough [] es = Unit {0}
+AreEnough (x ∷ xs) t.no_trees = ⊥
+AreEnough (x ∷ xs) (t.tree e es) = AreEnough xs es
+
+-- a function of the program gives a value where it has a result
+abbrev pub gives_value : (functions : (binding : ℕ) → Signature) → (function : ℕ) → Bool
+gives_value functions function = not (functions function).void
+
+module _ (tables : Tables) (functions : (binding : ℕ) → Signature) where
   abbrev pub named_way : Named → Way
   named_way name =
       let b = (note tables name.at).binding in
       if b == no_binding then predeclared_way name else placed_way (slot tables b).home name
+
+  abbrev pub call_gives : (predeclared : Bool) → Named → Bool
+  call_gives true name = predeclared_gives name
+  call_gives false name = gives_value functions (note tables name.at).binding
+
+  abbrev pub called_way : Way → Way
+  called_way (Function name) = result (call_gives ((note tables name.at).binding == no_binding) name)
+  called_way way = Absent
 
   abbrev mutual
     pub way : Tree → Way
@@ -95,6 +110,7 @@ module _ (tables : Tables) where
     way (t.Prefix spot sign operand) = prefix_way sign
     way (t.Chain first links) = chain_way (way first) links
     way (t.Postfix whole suffixes) = suffixed_way (way whole) suffixes
+    way (t.Choose spot condition first second) = result (gives (way first))
     way e = Valued
 
     pub chain_way : Way → Links → Way
@@ -115,9 +131,13 @@ module _ (tables : Tables) where
   JoinNeeds g.Comma l at r = gives l ≡ not (is_void tables at)
   JoinNeeds sign l at r = (gives l ≡ true) × (gives r ≡ true)
 
-  -- a predeclared function is called, with its arguments; but no function of the program
+  -- a function is called, with its arguments
+  abbrev pub NameTakes : (predeclared : Bool) → Named → Trees → Type 0
+  NameTakes true name arguments = TakesEnough name arguments
+  NameTakes false name arguments = AreEnough (functions (note tables name.at).binding).parameters arguments
+
   abbrev pub CallNeeds : Way → Trees → Type 0
-  CallNeeds (Function name) arguments = (((note tables name.at).binding == no_binding) ≡ true) × TakesEnough name arguments
+  CallNeeds (Function name) arguments = NameTakes ((note tables name.at).binding == no_binding) name arguments
   CallNeeds w arguments = ⊥
 
   abbrev mutual
@@ -129,8 +149,8 @@ module _ (tables : Tables) where
     Evaluates (t.Assign spot sign target value) =
         Evaluates target × IsTarget (way target) × Evaluates value × (gives (way value) ≡ true)
     Evaluates (t.Choose spot condition first second) =
-        Evaluates condition × (gives (way condition) ≡ true)
-        × Evaluates first × (gives (way first) ≡ true) × Evaluates second × (gives (way second) ≡ true)
+        Evaluates condition × (gives (way condition) ≡ true) × Evaluates first × Evaluates second
+        × (gives (way second) ≡ gives (way first))
     Evaluates e = Unit {0}
 
     pub LinksEvaluate : Way → (at : ℕ) → Links → Type 0

@@ -2,5 +2,6 @@ pub mod RegionTokens
 pub mod SharingTokens
 pub mod Notes
 pub mod Statements
+pub mod Returning
 pub mod NoForks
 pub mod Programs

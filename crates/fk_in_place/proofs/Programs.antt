@@ -31,10 +31,12 @@ use Rattle.fk_nesting.specs.Shape.{Exits, of_function}
 use Rattle.fk_nesting.specs.Shaped.{StatementsShaped, BodyShaped, FunctionsShaped}
 use Rattle.fk_lockstep.specs.Noted.{BodyNoted, FunctionsNoted}
 use Rattle.fk_course.specs.Placed.{Who, OfGroup, OfBody, OfMain}
+use Rattle.fk_forms.specs.Statements.{is_nothing}
 use Rattle.fk_course.specs.InPlace.{BodyInPlace, FunctionsInPlace}
+use Rattle.fk_course.specs.Returns.{BodyReturns, FunctionsReturn}
 use Rattle.fk_layout.specs.Layout.{tables_by}
 use Rattle.fk_course.proofs.Programs.{programs_have_one_program}
-use Rattle.fk_in_place.specs.Valid.{StatementsValued, BodyValued, ForksAreValued, IsValid, may_run, callable, may_call, ValidProgramsAreInPlace, ValidProgramsHaveOneProgram}
+use Rattle.fk_in_place.specs.Valid.{IsValid, may_run, callable, may_call, ValidProgramsAreInPlace, ValidProgramsHaveOneProgram}
 use Rattle.fk_fitting.proofs.Each.{Each, each, front_of, rest_of}
 use Rattle.fk_fitting.proofs.Typed.{Unbroken}
 use Rattle.fk_fitting.proofs.Notes.{among}
@@ -42,6 +44,7 @@ use Rattle.fk_fitting.proofs.Bodies.{no_header}
 use Rattle.fk_in_place.proofs.Notes.{tables, correct, all_right, all_ours}
 use Rattle.fk_fitting.proofs.Named.{env, unbroken_pieces}
 use Rattle.fk_fitting.proofs.Declared.{function_number}
+use Rattle.fk_in_place.proofs.Returning.{statements_return}
 use Rattle.fk_in_place.proofs.Statements.{Right, Mine, Stands, Refers, Fine, Where, scope_of, AreGoodStatements, statements_good}
 
 module _ (program : ProgramTree) (facts : Facts) (valid : IsValid program facts) where
@@ -116,28 +119,27 @@ module _ (program : ProgramTree) (facts : Facts) (valid : IsValid program facts)
     pub ours : (thing : ℕ → Option Thing) → Each (Mine program facts valid functions thing) (s.statements_tokens thing ◌∷◌ (h.Body (region_by f.mode) ∷ []) body)
     pub marks : Each (Stands program facts valid functions) (statements_marks body)
     pub parts : Each (Fine program facts valid functions) (statements_pieces f.result body)
-    pub valued : StatementsValued (tables program facts valid) body
 
   fine_of : (f : FunctionTree) (index : ℕ) → slice_get program.items index ≡ Some (FunctionItem f) → (o : Option Statements) → f.body ≡ o
       → Each (Right program facts valid functions) (r.body_tokens ◌∷◌ (r.holder_of f ∷ []) o)
       → ((thing : ℕ → Option Thing) → Each (Mine program facts valid functions thing) (s.body_tokens thing ◌∷◌ (h.Body (region_by f.mode) ∷ []) o))
-      → Each (Stands program facts valid functions) (body_marks o) → Each (Fine program facts valid functions) (body_pieces f.result o) → BodyValued (tables program facts valid) o
+      → Each (Stands program facts valid functions) (body_marks o) → Each (Fine program facts valid functions) (body_pieces f.result o)
       → (others : List FunctionTree) → Each IsFine others → Each IsFine (with_body f o others)
-  fine_of f index there None has a o b k l others rest = rest
-  fine_of f index there (Some body) has a o b k l others rest =
-      (record { index = index; there = there; body = body; has = has; tokens = a; ours = o; marks = b; parts = k; valued = l }, rest)
+  fine_of f index there None has a o b k others rest = rest
+  fine_of f index there (Some body) has a o b k others rest =
+      (record { index = index; there = there; body = body; has = has; tokens = a; ours = o; marks = b; parts = k }, rest)
 
   all_fine : (xs : List ItemTree) → ((j : ℕ) (x : ItemTree) → slice_get xs j ≡ Some x → (i : ℕ) × (slice_get program.items i ≡ Some x))
       → Each (Right program facts valid functions) (r.items_tokens ◌∷◌ [] xs) → ((thing : ℕ → Option Thing) → Each (Mine program facts valid functions thing) (s.items_tokens thing ◌∷◌ [] xs))
-      → Each (Stands program facts valid functions) (items_marks xs) → Each (Fine program facts valid functions) (items_pieces xs) → ForksAreValued (tables program facts valid) (functions_of xs) → Each IsFine (functions_of xs)
-  all_fine [] at a o b k l = tt
-  all_fine (StructItem name members ∷ xs) at a o b k l = all_fine xs (λ j x is. at (suc j) x is) a o b k l
-  all_fine (VariablesItem variables ∷ xs) at a o b k l =
+      → Each (Stands program facts valid functions) (items_marks xs) → Each (Fine program facts valid functions) (items_pieces xs) → Each IsFine (functions_of xs)
+  all_fine [] at a o b k = tt
+  all_fine (StructItem name members ∷ xs) at a o b k = all_fine xs (λ j x is. at (suc j) x is) a o b k
+  all_fine (VariablesItem variables ∷ xs) at a o b k =
       let x = VariablesItem variables in
       all_fine xs (λ j y is. at (suc j) y is) (rest_of (Right program facts valid functions) (r.item_tokens ◌∷◌ [] x) (r.items_tokens ◌∷◌ [] xs) a)
       (λ thing. rest_of (Mine program facts valid functions thing) (s.item_tokens thing ◌∷◌ [] x) (s.items_tokens thing ◌∷◌ [] xs) (o thing))
-      (rest_of (Stands program facts valid functions) (item_marks x) (items_marks xs) b) (rest_of (Fine program facts valid functions) (item_pieces x) (items_pieces xs) k) l
-  all_fine (FunctionItem f ∷ xs) at a o b k l =
+      (rest_of (Stands program facts valid functions) (item_marks x) (items_marks xs) b) (rest_of (Fine program facts valid functions) (item_pieces x) (items_pieces xs) k)
+  all_fine (FunctionItem f ∷ xs) at a o b k =
       let x = FunctionItem f in
       let here = at 0 x refl in
       let marks' = scope_of program facts valid functions (variables_marks f.parameters ++ body_marks f.body)
@@ -148,19 +150,10 @@ module _ (program : ProgramTree) (facts : Facts) (valid : IsValid program facts)
       (front_of (Mine program facts valid functions thing) (s.item_tokens thing ◌∷◌ [] x) (s.items_tokens thing ◌∷◌ [] xs) (o thing)))
       (rest_of (Stands program facts valid functions) (variables_marks f.parameters) (body_marks f.body) marks')
       (rest_of (Fine program facts valid functions) (parameters_pieces f.parameters) (body_pieces f.result f.body) pieces')
-      (body_valued f.body refl l) (functions_of xs)
+      (functions_of xs)
       (all_fine xs (λ j y is. at (suc j) y is) (rest_of (Right program facts valid functions) (r.item_tokens ◌∷◌ [] x) (r.items_tokens ◌∷◌ [] xs) a)
       (λ thing. rest_of (Mine program facts valid functions thing) (s.item_tokens thing ◌∷◌ [] x) (s.items_tokens thing ◌∷◌ [] xs) (o thing))
-      (rest_of (Stands program facts valid functions) (item_marks x) (items_marks xs) b) (rest_of (Fine program facts valid functions) (item_pieces x) (items_pieces xs) k)
-      (others_valued f.body l))
-    where
-      body_valued : (o' : Option Statements) → f.body ≡ o' → ForksAreValued (tables program facts valid) (with_body f o' (functions_of xs)) → BodyValued (tables program facts valid) o'
-      body_valued None e h' = tt
-      body_valued (Some body) e h' = subst (BodyValued (tables program facts valid)) e h'.0
-
-      others_valued : (o' : Option Statements) → ForksAreValued (tables program facts valid) (with_body f o' (functions_of xs)) → ForksAreValued (tables program facts valid) (functions_of xs)
-      others_valued None h' = h'
-      others_valued (Some body) h' = h'.1
+      (rest_of (Stands program facts valid functions) (item_marks x) (items_marks xs) b) (rest_of (Fine program facts valid functions) (item_pieces x) (items_pieces xs) k))
 
   fine_pieces : (ps : List PieceTree) → Each (λ x. Unbroken (PieceBreaks (env program facts (correct program facts valid)) x)) ps → Each (Refers program facts valid functions) (pieces_references ps) → Each (Fine program facts valid functions) ps
   fine_pieces [] u c = tt
@@ -174,7 +167,6 @@ module _ (program : ProgramTree) (facts : Facts) (valid : IsValid program facts)
       (each (Stands program facts valid functions) (outline program) (λ i x is. (i, is)))
       (fine_pieces (pieces program) (unbroken_pieces program facts (correct program facts valid))
       (each (Refers program facts valid functions) (pieces_references (pieces program)) (λ i x is. among (pieces_references (pieces program)) i x is)))
-      valid.valued
 
   -- ---- what each is
 
@@ -183,7 +175,7 @@ module _ (program : ProgramTree) (facts : Facts) (valid : IsValid program facts)
 
   good_in : (who : Who) (f : FunctionTree) (k : IsFine f) → is_main f ≡ false → At who false of_function (g.Function f.mode ∷ []) (λ thing. h.Body (region_by f.mode) ∷ []) → Good who false k.body
   good_in who f k is at = statements_good program facts valid functions f.result who false of_function (g.Function f.mode ∷ []) (λ thing. h.Body (region_by f.mode) ∷ []) at k.body
-      (subst (λ (holder : gh.Holder). Each (Right program facts valid functions) (r.statements_tokens ◌∷◌ (holder ∷ []) k.body)) (held_by f false is) k.tokens) k.ours k.marks k.parts k.valued
+      (subst (λ (holder : gh.Holder). Each (Right program facts valid functions) (r.statements_tokens ◌∷◌ (holder ∷ []) k.body)) (held_by f false is) k.tokens) k.ours k.marks k.parts
 
   -- `main` is asynchronous
   async_by : (f : FunctionTree) (index : ℕ) → slice_get program.items index ≡ Some (FunctionItem f) → is_main f ≡ true → (mode : Mode) → f.mode ≡ mode → (mode ≡ Async → ⊥) → ⊥
@@ -203,7 +195,7 @@ module _ (program : ProgramTree) (facts : Facts) (valid : IsValid program facts)
       let async = main_async f k.index k.there main in
       statements_good program facts valid functions f.result (OfMain true) true of_function (g.Main Async ∷ []) (λ thing. h.Body Asynchronous ∷ []) of_main k.body
       (subst (λ (holder : gh.Holder). Each (Right program facts valid functions) (r.statements_tokens ◌∷◌ (holder ∷ []) k.body)) (held_by f true main ∙ ap g.Main async) k.tokens)
-      (λ thing. subst (λ (mode : Mode). Each (Mine program facts valid functions thing) (s.statements_tokens thing ◌∷◌ (h.Body (region_by mode) ∷ []) k.body)) async (k.ours thing)) k.marks k.parts k.valued
+      (λ thing. subst (λ (mode : Mode). Each (Mine program facts valid functions thing) (s.statements_tokens thing ◌∷◌ (h.Body (region_by mode) ∷ []) k.body)) async (k.ours thing)) k.marks k.parts
 
   shaped_one : (f : FunctionTree) (k : IsFine f) → StatementsShaped (tables program facts valid) functions of_function k.body
   shaped_one f k = by (is_main f) refl f.mode refl
@@ -301,11 +293,20 @@ module _ (program : ProgramTree) (facts : Facts) (valid : IsValid program facts)
     in_place gs h.1,
   )
 
+  returning : (gs : List FunctionTree) → Each IsFine gs → FunctionsReturn gs
+  returning [] h = tt
+  returning (f ∷ gs) h = (
+    (λ is. subst (BodyReturns (not (is_nothing f.result))) (sym h.0.has) (statements_return program facts valid functions f.result h.0.body h.0.parts)),
+    returning gs h.1,
+  )
+
 pub valid_programs_are_in_place : ValidProgramsAreInPlace
 valid_programs_are_in_place program facts valid = record {
   shaped = shaped program facts valid (functions_of program.items) (fine program facts valid);
   noted = noted program facts valid (functions_of program.items) (fine program facts valid);
   in_place = in_place program facts valid (functions_of program.items) (fine program facts valid);
+  valued = valid.valued;
+  returning = returning program facts valid (functions_of program.items) (fine program facts valid);
 }
 
 pub valid_programs_have_one_program : ValidProgramsHaveOneProgram

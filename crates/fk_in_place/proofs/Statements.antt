@@ -68,7 +68,7 @@ use Rattle.fk_course.specs.InPlace as ip
 use Rattle.fk_course.specs.InPlace.{Splits, StatementInPlace, StatementsInPlace}
 use Rattle.fk_course.proofs.Forms.{inner_group}
 use Rattle.fk_fitting.specs.Correct.{IsCorrect}
-use Rattle.fk_in_place.specs.Valid.{StatementValued, StatementsValued, IsValid, may_run, callable, may_call}
+use Rattle.fk_in_place.specs.Valid.{IsValid, may_run, callable, may_call}
 use Rattle.fk_fitting.proofs.Each.{Each, front_of, rest_of}
 use Rattle.fk_fitting.proofs.Typed.{Unbroken}
 use Rattle.fk_fitting.proofs.Notes.{among, binding_is, Theirs}
@@ -451,18 +451,18 @@ module _ (program : ProgramTree) (facts : Facts) (valid : IsValid program facts)
   mutual
     pub statement_good : (result : TypeTree) (who : Who) (main : Bool) (x : Exits) (outer : List gh.Holder) (held : (ℕ → Option Thing) → List hh.Holder) → Where who main x outer held
         → (st : Statement) → Each Right (r.statement_tokens ◌∷◌ outer st) → ((thing : ℕ → Option Thing) → Each (Mine thing) (s.statement_tokens thing ◌∷◌ (held thing) st))
-        → Each Stands (statement_marks st) → Each Fine (statement_pieces result st) → StatementValued (tables program facts valid) st → IsGoodStatement who main x st
-    statement_good result who main x outer held at p.Empty a o b' f k = record { shaped = tt; in_place = tt; noted = λ e. tt }
-    statement_good result who main x outer held at (p.Expression value) a o b' f k =
+        → Each Stands (statement_marks st) → Each Fine (statement_pieces result st) → IsGoodStatement who main x st
+    statement_good result who main x outer held at p.Empty a o b' f = record { shaped = tt; in_place = tt; noted = λ e. tt }
+    statement_good result who main x outer held at (p.Expression value) a o b' f =
         let v = used (is_group who) outer at.runs role.Alone value a b' f.0 in
         record { shaped = v.fits; in_place = v.in_place; noted = v.noted }
-    statement_good result who main x outer held at (p.Block statements) a o b' f k =
-        let v = statements_good result who main x (g.Block ∷ outer) held (in_block at) statements a o (scope_of (statements_marks statements) b') f k in
+    statement_good result who main x outer held at (p.Block statements) a o b' f =
+        let v = statements_good result who main x (g.Block ∷ outer) held (in_block at) statements a o (scope_of (statements_marks statements) b') f in
         record { shaped = v.shaped; in_place = v.in_place; noted = v.noted }
-    statement_good result who main x outer held at (p.Declare variables) a o b' f k =
+    statement_good result who main x outer held at (p.Declare variables) a o b' f =
         let v = declared_good (is_group who) outer at.runs variables a b' f in
         record { shaped = v.fits; in_place = v.in_place; noted = v.noted }
-    statement_good result who main x outer held at (p.If spot condition body) a o b' f k =
+    statement_good result who main x outer held at (p.If spot condition body) a o b' f =
         let shared = λ (thing : ℕ → Option Thing). is_shared thing condition in
         let ts = r.statement_tokens ◌∷◌ (g.Branch ∷ outer) body in
         let v = used (is_group who) outer at.runs role.Condition condition (front_of Right (r.tree_tokens outer condition) ts a.1)
@@ -471,13 +471,13 @@ module _ (program : ProgramTree) (facts : Facts) (valid : IsValid program facts)
         (in_arm shared spot (λ thing. condition_is held condition spot _ thing (o thing)) at) body
         (rest_of Right (r.tree_tokens outer condition) ts a.1)
         (λ thing. rest_of (Mine thing) (s.condition_tokens thing (held thing) spot condition) _ (o thing))
-        (scope_of (statement_marks body) (rest_of Stands (tree_marks condition) (n.scope (statement_marks body)) b')) f.1 k in
+        (scope_of (statement_marks body) (rest_of Stands (tree_marks condition) (n.scope (statement_marks body)) b')) f.1 in
         record {
           shaped = (v.fits, s'.shaped);
           in_place = (splits_in_group (is_group who) outer at.runs spot w.If a.0, v.in_place, s'.in_place);
           noted = λ e. (decides (is_group who) outer at.runs e spot w.If mis.if_decides a.0, v.noted e, s'.noted (inner_group who ∙ e));
         }
-    statement_good result who main x outer held at (p.IfElse spot condition body otherwise) a o b' f k =
+    statement_good result who main x outer held at (p.IfElse spot condition body otherwise) a o b' f =
         let shared = λ (thing : ℕ → Option Thing). is_shared thing condition in
         let ts = r.statement_tokens ◌∷◌ (g.Branch ∷ outer) body in
         let us = r.statement_tokens ◌∷◌ (g.Branch ∷ outer) otherwise in
@@ -491,17 +491,17 @@ module _ (program : ProgramTree) (facts : Facts) (valid : IsValid program facts)
         let arm = in_arm shared spot (λ thing. condition_is held condition spot _ thing (o' thing)) at in
         let s' = statement_good result (inner who) main _ (g.Branch ∷ outer) (λ thing. h.Branch (shared thing) ∷ held thing) arm body
         (rest_of Right (r.tree_tokens outer condition) ts a') (λ thing. rest_of (Mine thing) (s.condition_tokens thing (held thing) spot condition) _ (o' thing))
-        (scope_of (statement_marks body) (rest_of Stands (tree_marks condition) ms b'')) (front_of Fine (statement_pieces result body) (statement_pieces result otherwise) f.1) k.0 in
+        (scope_of (statement_marks body) (rest_of Stands (tree_marks condition) ms b'')) (front_of Fine (statement_pieces result body) (statement_pieces result otherwise) f.1) in
         let t' = statement_good result (inner who) main _ (g.Branch ∷ outer) (λ thing. h.Branch (shared thing) ∷ held thing) arm otherwise
         (rest_of Right (r.tree_tokens outer condition ++ ts) us a.1)
         (λ thing. rest_of (Mine thing) (s.condition_tokens thing (held thing) spot condition ++ s.statement_tokens thing ◌∷◌ (h.Branch (shared thing) ∷ held thing) body) _ (o thing))
-        (scope_of (statement_marks otherwise) (rest_of Stands (tree_marks condition ++ ms) ns b')) (rest_of Fine (statement_pieces result body) (statement_pieces result otherwise) f.1) k.1 in
+        (scope_of (statement_marks otherwise) (rest_of Stands (tree_marks condition ++ ms) ns b')) (rest_of Fine (statement_pieces result body) (statement_pieces result otherwise) f.1) in
         record {
           shaped = (v.fits, s'.shaped, t'.shaped);
           in_place = (splits_in_group (is_group who) outer at.runs spot w.If a.0, v.in_place, s'.in_place, t'.in_place);
           noted = λ e. (decides (is_group who) outer at.runs e spot w.If mis.if_decides a.0, v.noted e, s'.noted (inner_group who ∙ e), t'.noted (inner_group who ∙ e));
         }
-    statement_good result who main x outer held at (p.While spot condition body) a o b' f k =
+    statement_good result who main x outer held at (p.While spot condition body) a o b' f =
         let shared = λ (thing : ℕ → Option Thing). is_shared thing condition in
         let ts = r.statement_tokens ◌∷◌ (g.Loop ∷ outer) body in
         let v = used (is_group who) outer at.runs role.Condition condition (front_of Right (r.tree_tokens outer condition) ts a.1)
@@ -510,13 +510,13 @@ module _ (program : ProgramTree) (facts : Facts) (valid : IsValid program facts)
         (in_loop shared spot (λ thing. condition_is held condition spot _ thing (o thing)) at) body
         (rest_of Right (r.tree_tokens outer condition) ts a.1)
         (λ thing. rest_of (Mine thing) (s.condition_tokens thing (held thing) spot condition) _ (o thing))
-        (scope_of (statement_marks body) (rest_of Stands (tree_marks condition) (n.scope (statement_marks body)) b')) f.1 k in
+        (scope_of (statement_marks body) (rest_of Stands (tree_marks condition) (n.scope (statement_marks body)) b')) f.1 in
         record {
           shaped = (v.fits, s'.shaped);
           in_place = (splits_in_group (is_group who) outer at.runs spot w.Loop a.0, v.in_place, s'.in_place);
           noted = λ e. (decides (is_group who) outer at.runs e spot w.Loop mis.loop_decides a.0, v.noted e, s'.noted (inner_group who ∙ e));
         }
-    statement_good result who main x outer held at (p.DoWhile spot body condition) a o b' f k =
+    statement_good result who main x outer held at (p.DoWhile spot body condition) a o b' f =
         let shared = λ (thing : ℕ → Option Thing). is_shared thing condition in
         let ts = r.statement_tokens ◌∷◌ (g.Loop ∷ outer) body in
         let v = used (is_group who) outer at.runs role.Condition condition (front_of Right (r.tree_tokens outer condition) ts a.1)
@@ -526,13 +526,13 @@ module _ (program : ProgramTree) (facts : Facts) (valid : IsValid program facts)
         (rest_of Right (r.tree_tokens outer condition) ts a.1)
         (λ thing. rest_of (Mine thing) (s.condition_tokens thing (held thing) spot condition) _ (o thing))
         (scope_of (statement_marks body) (front_of Stands (n.scope (statement_marks body)) (tree_marks condition) b'))
-        (front_of Fine (statement_pieces result body) (q.Used role.Condition condition ∷ []) f) k in
+        (front_of Fine (statement_pieces result body) (q.Used role.Condition condition ∷ []) f) in
         record {
           shaped = (v.fits, s'.shaped);
           in_place = (splits_in_group (is_group who) outer at.runs spot w.Loop a.0, v.in_place, s'.in_place);
           noted = λ e. (decides (is_group who) outer at.runs e spot w.Loop mis.loop_decides a.0, v.noted e, s'.noted (inner_group who ∙ e));
         }
-    statement_good result who main x outer held at (p.For spot first condition after body) a o b' f k =
+    statement_good result who main x outer held at (p.For spot first condition after body) a o b' f =
         let shared = λ (thing : ℕ → Option Thing). s.is_condition_shared thing condition in
         let t1 = r.optional_tokens outer first in
         let t2 = r.optional_tokens outer condition in
@@ -557,7 +557,7 @@ module _ (program : ProgramTree) (facts : Facts) (valid : IsValid program facts)
         (in_loop shared spot (λ thing. head_is held spot first condition after _ thing (o thing)) at) body
         (rest_of Right (t1 ++ t2 ++ t3) ts a.1)
         (λ thing. rest_of (Mine thing) (s.head_tokens thing (held thing) spot first condition after) _ (o thing))
-        (scope_of (statement_marks body) (rest_of Stands (m1 ++ m2 ++ m3) ms b')) (rest_of Fine (f1 ++ f2 ++ f3) (statement_pieces result body) f) k in
+        (scope_of (statement_marks body) (rest_of Stands (m1 ++ m2 ++ m3) ms b')) (rest_of Fine (f1 ++ f2 ++ f3) (statement_pieces result body) f) in
         record {
           shaped = (option_fits (is_group who) outer at.runs first v1, option_fits (is_group who) outer at.runs condition v2, option_fits (is_group who) outer at.runs after v3, s'.shaped);
           in_place = (
@@ -575,14 +575,14 @@ module _ (program : ProgramTree) (facts : Facts) (valid : IsValid program facts)
             s'.noted (inner_group who ∙ e),
           );
         }
-    statement_good result who main x outer held at (p.Start spot count body) a o b' f k =
+    statement_good result who main x outer held at (p.Start spot count body) a o b' f =
         let ts = r.statement_tokens ◌∷◌ (g.Start ∷ outer) body in
         let ms = n.scope (statement_marks body) in
         let v = used_or (is_group who) outer at.runs role.Word count (front_of Right (r.optional_tokens outer count) ts a.1) (front_of Stands (optional_marks count) ms b')
         (front_of Fine (optional_pieces role.Word count) (statement_pieces result body) f) in
         let s' = statement_good result OfGroup main none (g.Start ∷ outer) (λ thing. h.Body Synchronous ∷ held thing) in_group_body body
         (rest_of Right (r.optional_tokens outer count) ts a.1) (λ thing. rest_of (Mine thing) (s.optional_tokens thing (held thing) count) _ (o thing))
-        (scope_of (statement_marks body) (rest_of Stands (optional_marks count) ms b')) (rest_of Fine (optional_pieces role.Word count) (statement_pieces result body) f) k in
+        (scope_of (statement_marks body) (rest_of Stands (optional_marks count) ms b')) (rest_of Fine (optional_pieces role.Word count) (statement_pieces result body) f) in
         record {
           shaped = (option_fits (is_group who) outer at.runs count v, s'.shaped);
           in_place = (
@@ -593,21 +593,21 @@ module _ (program : ProgramTree) (facts : Facts) (valid : IsValid program facts)
           );
           noted = λ e. (option_noted (is_group who) outer at.runs count v e, s'.noted refl);
         }
-    statement_good result who main x outer held at (p.Farm spot body) a o b' f k =
-        let s' = statement_good result OfBody main none (g.Farm ∷ outer) (λ thing. h.Body Asynchronous ∷ held thing) (in_own_body g.Farm refl refl refl refl) body a.1 o (scope_of (statement_marks body) b') f k in
+    statement_good result who main x outer held at (p.Farm spot body) a o b' f =
+        let s' = statement_good result OfBody main none (g.Farm ∷ outer) (λ thing. h.Body Asynchronous ∷ held thing) (in_own_body g.Farm refl refl refl refl) body a.1 o (scope_of (statement_marks body) b') f in
         record {
           shaped = s'.shaped;
           in_place = (true_from_ne_false (is_group who) (λ e. a.0.unbroken rules.FarmOutside (inl (mis.farm_outside (at.runs.alone e)))), s'.in_place);
           noted = λ e. tt;
         }
-    statement_good result who main x outer held at (p.Seq spot body) a o b' f k =
-        let s' = statement_good result OfBody main none (g.Seq ∷ outer) (λ thing. h.Body Asynchronous ∷ held thing) (in_own_body g.Seq refl refl refl refl) body a.1 o (scope_of (statement_marks body) b') f k in
+    statement_good result who main x outer held at (p.Seq spot body) a o b' f =
+        let s' = statement_good result OfBody main none (g.Seq ∷ outer) (λ thing. h.Body Asynchronous ∷ held thing) (in_own_body g.Seq refl refl refl refl) body a.1 o (scope_of (statement_marks body) b') f in
         record {
           shaped = s'.shaped;
           in_place = (true_from_ne_false (is_group who) (λ e. a.0.unbroken rules.SeqOutside (inl (mis.seq_outside (at.runs.alone e)))), s'.in_place);
           noted = λ e. tt;
         }
-    statement_good result who main x outer held at (p.Fork spot parts part rank body) a o b' f k =
+    statement_good result who main x outer held at (p.Fork spot parts part rank body) a o b' f =
         let t1 = r.tree_tokens outer parts in
         let t2 = r.tree_tokens outer part in
         let t3 = r.optional_tokens outer rank in
@@ -625,7 +625,7 @@ module _ (program : ProgramTree) (facts : Facts) (valid : IsValid program facts)
         let s' = statement_good result OfGroup main none (g.Fork ∷ outer) (λ thing. h.Body Synchronous ∷ held thing) in_fork_body body
         (rest_of Right (t1 ++ t2 ++ t3) ts a.1)
         (λ thing. rest_of (Mine thing) (s.parts_tokens thing (held thing) parts part rank) _ (o thing))
-        (scope_of (statement_marks body) (rest_of Stands (m1 ++ m2 ++ m3) ms b')) (rest_of Fine f3 (statement_pieces result body) f.1.1) k.2 in
+        (scope_of (statement_marks body) (rest_of Stands (m1 ++ m2 ++ m3) ms b')) (rest_of Fine f3 (statement_pieces result body) f.1.1) in
         record {
           shaped = (v1.fits, v2.fits, option_fits (is_group who) outer at.runs rank v3, s'.shaped);
           in_place = (
@@ -634,27 +634,25 @@ module _ (program : ProgramTree) (facts : Facts) (valid : IsValid program facts)
             v2.in_place,
             option_in_place (is_group who) outer at.runs rank v3,
             s'.in_place,
-            k.0,
-            k.1,
           );
           noted = λ e. (v1.noted e, v2.noted e, option_noted (is_group who) outer at.runs rank v3 e, s'.noted refl);
         }
-    statement_good result who main x outer held at (p.Barrier spot) a o b' f k = record { shaped = tt; in_place = tt; noted = λ e. tt }
-    statement_good result who main x outer held at (p.Break spot) a o b' f k = record {
+    statement_good result who main x outer held at (p.Barrier spot) a o b' f = record { shaped = tt; in_place = tt; noted = λ e. tt }
+    statement_good result who main x outer held at (p.Break spot) a o b' f = record {
       shaped = true_from_ne_false x.breaks (λ e.
           let k = at.breaks (inside (loops outer) (λ is. a.0.unbroken rules.NoLoop (inl (mis.break_outside is))) (λ is. a.0.unbroken rules.LoopLeavesBody (inl (mis.break_leaves is)))) e in
           (o k.0).0.unbroken k.1 rules.BreakFromSplit (sb.break_leaves k.2));
       in_place = tt;
       noted = λ e. tt;
     }
-    statement_good result who main x outer held at (p.Continue spot) a o b' f k = record {
+    statement_good result who main x outer held at (p.Continue spot) a o b' f = record {
       shaped = true_from_ne_false x.continues (λ e.
           let k = at.continues (inside (loops outer) (λ is. a.0.unbroken rules.NoLoop (inl (mis.continue_outside is))) (λ is. a.0.unbroken rules.LoopLeavesBody (inl (mis.continue_leaves is)))) e in
           (o k.0).0.unbroken k.1 rules.ContinueFromSplit (sb.continue_leaves k.2));
       in_place = tt;
       noted = λ e. tt;
     }
-    statement_good result who main x outer held at (p.Return spot value) a o b' f k =
+    statement_good result who main x outer held at (p.Return spot value) a o b' f =
         let v = returned (is_group who) outer at.runs result spot value a.1 b' f.0 in
         let free = false_from_ne_true (is_in_body outer) (λ e. a.0.unbroken rules.ReturnFromBody (inl (mis.return_inside e))) in
         record {
@@ -670,15 +668,15 @@ module _ (program : ProgramTree) (facts : Facts) (valid : IsValid program facts)
 
     pub statements_good : (result : TypeTree) (who : Who) (main : Bool) (x : Exits) (outer : List gh.Holder) (held : (ℕ → Option Thing) → List hh.Holder) → Where who main x outer held
         → (st : Statements) → Each Right (r.statements_tokens ◌∷◌ outer st) → ((thing : ℕ → Option Thing) → Each (Mine thing) (s.statements_tokens thing ◌∷◌ (held thing) st))
-        → Each Stands (statements_marks st) → Each Fine (statements_pieces result st) → StatementsValued (tables program facts valid) st → AreGoodStatements who main x st
-    statements_good result who main x outer held at p.no_statements a o b' f k = record { shaped = tt; in_place = tt; noted = λ e. tt }
-    statements_good result who main x outer held at (p.statement first others) a o b' f k =
+        → Each Stands (statements_marks st) → Each Fine (statements_pieces result st) → AreGoodStatements who main x st
+    statements_good result who main x outer held at p.no_statements a o b' f = record { shaped = tt; in_place = tt; noted = λ e. tt }
+    statements_good result who main x outer held at (p.statement first others) a o b' f =
         let ts = r.statement_tokens ◌∷◌ outer first in
         let us = r.statements_tokens ◌∷◌ outer others in
         let s' = statement_good result who main x outer held at first (front_of Right ts us a)
         (λ thing. front_of (Mine thing) (s.statement_tokens thing ◌∷◌ (held thing) first) (s.statements_tokens thing ◌∷◌ (held thing) others) (o thing))
-        (front_of Stands (statement_marks first) (statements_marks others) b') (front_of Fine (statement_pieces result first) (statements_pieces result others) f) k.0 in
+        (front_of Stands (statement_marks first) (statements_marks others) b') (front_of Fine (statement_pieces result first) (statements_pieces result others) f) in
         let t' = statements_good result who main x outer held at others (rest_of Right ts us a)
         (λ thing. rest_of (Mine thing) (s.statement_tokens thing ◌∷◌ (held thing) first) (s.statements_tokens thing ◌∷◌ (held thing) others) (o thing))
-        (rest_of Stands (statement_marks first) (statements_marks others) b') (rest_of Fine (statement_pieces result first) (statements_pieces result others) f) k.1 in
+        (rest_of Stands (statement_marks first) (statements_marks others) b') (rest_of Fine (statement_pieces result first) (statements_pieces result others) f) in
         record { shaped = (s'.shaped, t'.shaped); in_place = (s'.in_place, t'.in_place); noted = λ e. (s'.noted e, t'.noted e) }

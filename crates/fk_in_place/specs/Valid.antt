@@ -4,13 +4,11 @@ use Rattle.std.specs.Prelude.{◌≡◌, ◌≢◌, ℕ, ◌≤◌, ◌^◌, Boo
 use Rattle.fk_syntax.specs.declared.facts.Facts.{Facts}
 use Rattle.fk_syntax.specs.declared.program.Mode.{Mode}
 use Rattle.fk_syntax.specs.declared.program.Mode.TheVariants.{Sync, Async, Straight}
-use Rattle.fk_syntax.specs.Program as p
-use Rattle.fk_syntax.specs.Program.{Statement, Statements, FunctionTree, ProgramTree}
+use Rattle.fk_syntax.specs.Program.{ProgramTree}
 use Rattle.fk_syntax.specs.WellFormed.{IsWellFormed}
 use Rattle.fk_run.specs.Processor.{Setting}
 use Rattle.fk_run.specs.Schedule.{Schedule, run, IsLawful}
-use Rattle.fk_forms.specs.Tables.{Tables}
-use Rattle.fk_forms.specs.Program.{functions_of, is_main}
+use Rattle.fk_forms.specs.Program.{functions_of, signature_in, is_main}
 use Rattle.fk_source.specs.Program.{next_in, opening}
 use Rattle.fk_names.specs.Outline.{DeclarationTree, Variable, Header, declarations}
 use Rattle.fk_regions.specs.declared.around.Holder.{Holder}
@@ -19,7 +17,7 @@ use Rattle.fk_regions.specs.Tokens.{Standing, tokens}
 use Rattle.fk_check.specs.Known.{AreAllFacts}
 use Rattle.fk_layout.specs.Layout.{tables_by}
 use Rattle.fk_together.specs.OneProgram.{KeepOneProgram}
-use Rattle.fk_course.specs.Valued.{IsValued, OptionValued}
+use Rattle.fk_course.specs.Forks.{ForksAreValued}
 use Rattle.fk_course.specs.InPlace.{IsInPlace}
 
 -- a function of a mode may be called by a group, or by processors by themselves
@@ -37,49 +35,23 @@ callable in_group (Some (Header function)) = not (is_main function) && may_run i
 abbrev pub may_call : ProgramTree → (in_group : Bool) → (binding : ℕ) → Bool
 may_call program in_group binding = callable in_group (slice_get (declarations program) binding)
 
--- what a `fork` computes behind its number of parts gives one value each, whichever way is gone in it, and calls no function of
--- the program
-module _ (tables : Tables) where
-  abbrev mutual
-    pub StatementValued : Statement → Type 0
-    StatementValued (p.Block statements) = StatementsValued statements
-    StatementValued (p.If spot condition first) = StatementValued first
-    StatementValued (p.IfElse spot condition first second) = StatementValued first × StatementValued second
-    StatementValued (p.While spot condition body) = StatementValued body
-    StatementValued (p.DoWhile spot body condition) = StatementValued body
-    StatementValued (p.For spot before condition after body) = StatementValued body
-    StatementValued (p.Start spot count body) = StatementValued body
-    StatementValued (p.Farm spot body) = StatementValued body
-    StatementValued (p.Seq spot body) = StatementValued body
-    StatementValued (p.Fork spot parts part rank body) = IsValued tables part × OptionValued tables rank × StatementValued body
-    StatementValued statement = Unit {0}
-
-    pub StatementsValued : Statements → Type 0
-    StatementsValued p.no_statements = Unit {0}
-    StatementsValued (p.statement first others) = StatementValued first × StatementsValued others
-
-  abbrev pub BodyValued : Option Statements → Type 0
-  BodyValued None = Unit {0}
-  BodyValued (Some statements) = StatementsValued statements
-
-  abbrev pub ForksAreValued : List FunctionTree → Type 0
-  ForksAreValued [] = Unit {0}
-  ForksAreValued (f ∷ fs) = BodyValued f.body × ForksAreValued fs
-
--- as where no token of a program is a `fork`
+-- no token of a program is a `fork`, so nothing is computed for one
 abbrev pub HasNoFork : ProgramTree → Type 0
 HasNoFork program = (i : ℕ) (token : Standing (List Holder)) → slice_get (tokens program) i ≡ Some token → token.word ≢ Fork
 
 abbrev pub ForkFreeProgramsAreValued : Type 0
 ForkFreeProgramsAreValued =
-    (program : ProgramTree) (facts : Facts) → HasNoFork program → ForksAreValued (tables_by program facts) (functions_of program.items)
+    (program : ProgramTree) (facts : Facts) → HasNoFork program
+    → let tables = tables_by program facts in
+    let fs = functions_of program.items in
+    ForksAreValued tables (signature_in tables fs) fs
 
 -- a program of at most 2^20 tokens that keeps all rules and whose every `fork` is so, with what is known of it
 pub record IsValid (program : ProgramTree) (facts : Facts) : Type 0 where
   pub well_formed : IsWellFormed program
   pub small : program.tokens ≤ 2 ^ 20
   pub known : AreAllFacts program facts
-  pub valued : ForksAreValued (tables_by program facts) (functions_of program.items)
+  pub valued : ForksAreValued (tables_by program facts) (signature_in (tables_by program facts) (functions_of program.items)) (functions_of program.items)
 
 -- such a program is in place by its names, its types and the places of its variables
 abbrev pub ValidProgramsAreInPlace : Type 0

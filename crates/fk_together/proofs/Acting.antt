@@ -17,7 +17,7 @@ use Rattle.fk_lockstep.specs.InStep.{is_agree}
 use Rattle.fk_lockstep.specs.Untouched.{changes_tree}
 use Rattle.fk_lockstep.proofs.Rounds.{Outcome, OutcomeBy}
 use Rattle.fk_together.specs.Course.{Stand, InGroup, Waits, ByItself, Stays, Does, DoesNext, FollowsFor, Follows}
-use Rattle.fk_together.specs.Counts.{Counts, Leaves, CountsGoOn, CountedNext, CountedFor, IsCounted}
+use Rattle.fk_together.specs.Counts.{Counts, ArePending, Leaves, CountsGoOn, CountedNext, CountedFor, IsCounted}
 
 pub untrue : {A : Type 0} → false ≡ true → A
 untrue e = absurd (true≢false (sym e))
@@ -112,7 +112,7 @@ module _ {W : Type 0} (next : W → Option (Step W)) (outs : W → List W) (coun
   pub record Is (x : Here W) (r : Runner W) : Type 0 where
     pub left : r.left ≡ x.left
     pub value : HasValue x.agreed r
-    pub numbers : counts.numbers x.left r.has ≡ x.numbers
+    pub numbers : ArePending next outs counts x.left r.has x.numbers
     pub counted : IsCounted next outs counts x.left
 
   -- there are as many as are pending
@@ -136,7 +136,7 @@ module _ {W : Type 0} (next : W → Option (Step W)) (outs : W → List W) (coun
     pub outs_are : outs r.left ≡ ahead
     pub follows : Follows next outs (ByItself alone) r.left
     pub more : List ℕ
-    pub numbers : counts.numbers r.left r.has ≡ more ++ ns
+    pub numbers : ArePending next outs counts r.left r.has (more ++ ns)
     pub counted : IsCounted next outs counts r.left
     pub holds : Holds
 
@@ -165,18 +165,19 @@ module _ {W : Type 0} (next : W → Option (Step W)) (outs : W → List W) (coun
   leaves_by op w rest c is isnt h = subst (λ (c' : Class). Leaves next outs counts c' op w rest) is h
 
   plain_numbers : (op : Operation) (w : W) (rest : Bool → W) → class_of op ≡ Tree → changes_tree op ≡ false → CountsGoOn next outs counts op w rest
-      → (v size : ℕ) (p : Processor) → counts.numbers (rest true) (does op v size p) ≡ numbers_after op (counts.pending w) (counts.pending (rest true)) v (counts.numbers w p)
-  plain_numbers o.Agree w rest is e h v size p = h v p
-  plain_numbers o.Begin w rest is e h v size p = absurd (true≢false e)
-  plain_numbers (o.Divide by) w rest is e h v size p = absurd (true≢false e)
-  plain_numbers o.Shrink w rest is e h v size p = absurd (true≢false e)
-  plain_numbers o.End w rest is e h v size p = absurd (true≢false e)
-  plain_numbers o.Farm w rest is e h v size p = absurd (true≢false e)
-  plain_numbers o.Seq w rest is e h v size p = absurd (true≢false e)
-  plain_numbers o.Resume w rest is e h v size p = absurd (true≢false e)
-  plain_numbers (o.Meet true) w rest is e h v size p = absurd (true≢false e)
-  plain_numbers (o.Meet false) w rest is e h v size p = h v 0 size p
-  plain_numbers op w rest is e h v size p = (subst (λ (c : Class). Leaves next outs counts c op w rest) is h) v 0 size p
+      → (v size : ℕ) (p : Processor) (ns : List ℕ) → ArePending next outs counts w p ns
+      → ArePending next outs counts (rest true) (does op v size p) (numbers_after op (counts.pending w) (counts.pending (rest true)) v ns)
+  plain_numbers o.Agree w rest is e h v size p ns are = h v p ns are
+  plain_numbers o.Begin w rest is e h v size p ns are = absurd (true≢false e)
+  plain_numbers (o.Divide by) w rest is e h v size p ns are = absurd (true≢false e)
+  plain_numbers o.Shrink w rest is e h v size p ns are = absurd (true≢false e)
+  plain_numbers o.End w rest is e h v size p ns are = absurd (true≢false e)
+  plain_numbers o.Farm w rest is e h v size p ns are = absurd (true≢false e)
+  plain_numbers o.Seq w rest is e h v size p ns are = absurd (true≢false e)
+  plain_numbers o.Resume w rest is e h v size p ns are = absurd (true≢false e)
+  plain_numbers (o.Meet true) w rest is e h v size p ns are = absurd (true≢false e)
+  plain_numbers (o.Meet false) w rest is e h v size p ns are = h v 0 size p ns are
+  plain_numbers op w rest is e h v size p ns are = (subst (λ (c : Class). Leaves next outs counts c op w rest) is h) v 0 size p ns are
 
   pub does_so : (stand : Stand) (w : W) (step : Step W) → Follows next outs stand w → next w ≡ Some step → (n : ℕ) → Does next outs (FollowsFor next outs n) stand step.operation w step.rest
   does_so stand w step f e n = subst (DoesNext next outs (FollowsFor next outs n) stand w) e (f (suc n))
@@ -407,14 +408,14 @@ module _ {W : Type 0} (next : W → Option (Step W)) (outs : W → List W) (coun
 
     -- and what is pending then
     one_local : (x : Here W) (r : Runner W) → Is x r → (step : Step W) → next x.left ≡ Some step → class_of step.operation ≡ Local → (onward : Bool)
-        → counts.numbers (step.rest onward) (local set step.operation r.has) ≡ x.numbers
+        → ArePending next outs counts (step.rest onward) (local set step.operation r.has) x.numbers
     one_local x r is step e c onward =
-        leaves_by step.operation x.left step.rest Local c local_not_tree (counts_so x.left step is.counted e) set onward r.has ∙ is.numbers
+        leaves_by step.operation x.left step.rest Local c local_not_tree (counts_so x.left step is.counted e) set onward r.has x.numbers is.numbers
 
     one_request : (x : Here W) (r : Runner W) → Is x r → (step : Step W) → next x.left ≡ Some step → class_of step.operation ≡ Request → (a : ℕ)
-        → counts.numbers (step.rest true) (with_answer step.operation a r.has) ≡ x.numbers
+        → ArePending next outs counts (step.rest true) (with_answer step.operation a r.has) x.numbers
     one_request x r is step e c a =
-        leaves_by step.operation x.left step.rest Request c request_not_tree (counts_so x.left step is.counted e) a r.has ∙ is.numbers
+        leaves_by step.operation x.left step.rest Request c request_not_tree (counts_so x.left step is.counted e) a r.has x.numbers is.numbers
 
     goes_way : (behind : List (Out W)) (x : Here W) → Grouped behind x → (r : Runner W) → Is x r → (step : Step W) → next x.left ≡ Some step → is_onward step.operation r.has ≡ way x.agreed step.operation
     goes_way behind x g r is step e =
@@ -511,9 +512,8 @@ module _ {W : Type 0} (next : W → Option (Step W)) (outs : W → List W) (coun
             record {
               left = so.left;
               value = value_by (is_agree step.operation) (λ agrees. ap (λ (p : Processor). last (values p)) so.has ∙ agree_value step.operation v so.size q.has agrees);
-              numbers = ap (counts.numbers (step.rest true)) so.has
-                  ∙ plain_numbers step.operation x.left step.rest tree e (counts_so x.left step is.counted stands) v so.size q.has
-                  ∙ ap (numbers_after step.operation m n v) is.numbers;
+              numbers = subst (λ (p : Processor). ArePending next outs counts (step.rest true) p (numbers_after step.operation m n v x.numbers)) (sym so.has)
+                  (plain_numbers step.operation x.left step.rest tree e (counts_so x.left step is.counted stands) v so.size q.has x.numbers is.numbers);
               counted = counts_on x.left step is.counted stands true;
             }
           where
@@ -564,7 +564,7 @@ module _ {W : Type 0} (next : W → Option (Step W)) (outs : W → List W) (coun
               outs_are = (alone_stays (FollowsFor next outs 0) alone step.operation r.left step.rest Local is local_not_tree (so 0) onward).0 ∙ g.outs_are;
               follows = λ n. (alone_stays (FollowsFor next outs n) alone step.operation r.left step.rest Local is local_not_tree (so n) onward).1;
               more = g.more;
-              numbers = leaves_by step.operation r.left step.rest Local is local_not_tree (counts_so r.left step g.counted e) set onward r.has ∙ g.numbers;
+              numbers = leaves_by step.operation r.left step.rest Local is local_not_tree (counts_so r.left step g.counted e) set onward r.has (g.more ++ ns) g.numbers;
               counted = counts_on r.left step g.counted e onward;
               holds = g.holds;
             }
@@ -577,7 +577,7 @@ module _ {W : Type 0} (next : W → Option (Step W)) (outs : W → List W) (coun
               outs_are = (alone_stays (FollowsFor next outs 0) alone step.operation r.left step.rest Request is request_not_tree (so 0) true).0 ∙ g.outs_are;
               follows = λ n. (alone_stays (FollowsFor next outs n) alone step.operation r.left step.rest Request is request_not_tree (so n) true).1;
               more = g.more;
-              numbers = leaves_by step.operation r.left step.rest Request is request_not_tree (counts_so r.left step g.counted e) a r.has ∙ g.numbers;
+              numbers = leaves_by step.operation r.left step.rest Request is request_not_tree (counts_so r.left step g.counted e) a r.has (g.more ++ ns) g.numbers;
               counted = counts_on r.left step g.counted e true;
               holds = g.holds;
             }
@@ -592,10 +592,10 @@ module _ {W : Type 0} (next : W → Option (Step W)) (outs : W → List W) (coun
               outs_are = ap outs t.left ∙ (alone_plain (FollowsFor next outs 0) alone step.operation r.left step.rest quiet other (so 0) true).0 ∙ g.outs_are;
               follows = λ n. subst (FollowsFor next outs n (ByItself alone)) (sym t.left) (alone_plain (FollowsFor next outs n) alone step.operation r.left step.rest quiet other (so n) true).1;
               more = more_by (is_agree step.operation) (nat_lt (counts.pending r.left) (counts.pending (step.rest true)));
-              numbers = ap (λ (w : W). counts.numbers w r'.has) t.left ∙ ap (counts.numbers (step.rest true)) t.has
-                  ∙ plain_numbers step.operation r.left step.rest tree quiet (counts_so r.left step g.counted e) v t.size r.has
-                  ∙ ap (numbers_after step.operation (counts.pending r.left) (counts.pending (step.rest true)) v) g.numbers
-                  ∙ more_is (is_agree step.operation) (nat_lt (counts.pending r.left) (counts.pending (step.rest true)));
+              numbers = subst (ArePending next outs counts r'.left r'.has) (more_is (is_agree step.operation) (nat_lt (counts.pending r.left) (counts.pending (step.rest true))))
+                  (subst (λ (w : W). ArePending next outs counts w r'.has (numbers_after step.operation (counts.pending r.left) (counts.pending (step.rest true)) v (g.more ++ ns))) (sym t.left)
+                  (subst (λ (p : Processor). ArePending next outs counts (step.rest true) p (numbers_after step.operation (counts.pending r.left) (counts.pending (step.rest true)) v (g.more ++ ns))) (sym t.has)
+                  (plain_numbers step.operation r.left step.rest tree quiet (counts_so r.left step g.counted e) v t.size r.has (g.more ++ ns) g.numbers)));
               counted = subst (IsCounted next outs counts) (sym t.left) (counts_on r.left step g.counted e true);
               holds = g.holds;
             }))

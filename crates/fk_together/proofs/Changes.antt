@@ -1,7 +1,7 @@
 -- The steps of a round that change the tree, one node after the other.
 use Rattle.std.proofs.Common.{◌≡◌, ◌≢◌, inr, ⊎_elim, ℕ, zero, suc, ◌+◌, ◌<◌, ◌≤◌, ◌==◌, ◌&&◌, ◌||◌, nat_lt, min, Bool, true, false, not, true≢false, List, [], ◌∷◌, ◌++◌, length, slice_get, Option, Some, None, is_some, refl, sym, ap, ◌∙◌, subst, subst₂, arith, if◌then◌else◌}
 use Rattle.std.specs.Prelude.{option_map}
-use Rattle.std.proofs.lemmas.Bool.{cases_Bool, cases_eq, cases_lt, eqb-true, eq-eqb, lt-ltb, le-ltb}
+use Rattle.std.proofs.lemmas.Bool.{cases_Bool, cases_eq, cases_lt, eqb-true, eq-eqb, ne_eqb, lt-ltb, le-ltb}
 use Rattle.fk_operation.specs.declared.operation.Operation.{Operation}
 use Rattle.fk_operation.specs.declared.operation.Operation.TheVariants as o
 use Rattle.fk_operation.specs.declared.operation.Split.{Split}
@@ -19,10 +19,10 @@ use Rattle.fk_tree.proofs.Begins.{length-root, split_same}
 use Rattle.fk_run.specs.Processor.{Processor, Setting, values, last, before}
 use Rattle.fk_run.specs.Group.{not_negative, parts, part, if_below, enters, divided, stays, does, goes_onward, changes}
 use Rattle.fk_operation.specs.declared.kinds.Class.TheVariants as class
-use Rattle.fk_run.specs.Round.{Step, Runner, State, Round, Acting, lowest, agreed, nobody, who, change_by, all_changes, is_possible}
+use Rattle.fk_run.specs.Round.{Step, Runner, State, Round, Acting, lowest, agreed, who, change_by, all_changes, is_possible}
 use Rattle.fk_nesting.specs.Behind.{tail}
 use Rattle.fk_lockstep.specs.Untouched.{changes_tree}
-use Rattle.fk_together.specs.Counts.{Counts, AsMany, NoMore, Leaves, CountsGoOn, IsCounted}
+use Rattle.fk_together.specs.Counts.{Counts, ArePending, AsMany, NoMore, Leaves, CountsGoOn, IsCounted}
 use Rattle.fk_together.specs.Course.{InGroup, Waits, ByItself, after_waiting, Parts, Does, FollowsFor, Follows}
 use Rattle.fk_together.proofs.Acting.{untrue, Here, Out, told, lefts, bare, lefts_bare, Ends, HasValue, Is, AtNode, without, within, is_changing, Grouped, Parted, Loner, ahead_of, Apart, does_so, counts_so, counts_on, going_on}
 use Rattle.fk_together.proofs.Nodes.{Frame, kind_frame, shrink_frame, split_frame}
@@ -96,10 +96,6 @@ pub no_length : (ns : List ℕ) → length ns ≡ 0 → ns ≡ []
 no_length [] e = refl
 no_length (n ∷ ns) e = absurd (omega (arith, e))
 
-tail_length : (ns : List ℕ) (k : ℕ) → length ns ≡ suc k → length (tail ns) ≡ k
-tail_length [] k e = absurd (omega (arith, e))
-tail_length (n ∷ ns) k e = omega (arith, e)
-
 pub ends_none : {W : Type 0} (ws : List W) → Ends (bare ws) []
 ends_none [] = tt
 ends_none (w ∷ ws) = ([], refl)
@@ -128,16 +124,16 @@ step_of_none n whose highest low tree (o.Meet false) e = refl
 step_of_none n whose highest low tree op e = refl
 
 module _ {W : Type 0} (next : W → Option (Step W)) (outs : W → List W) (counts : Counts W) where
-  pending_same : (w v : W) (p q : Processor) → counts.numbers w p ≡ counts.numbers v q → counts.pending w ≡ counts.pending v
-  pending_same w v p q e = sym (counts.many w p) ∙ ap length e ∙ counts.many v q
+  abbrev Pends : W → Processor → List ℕ → Type 0
+  Pends w p ns = ArePending next outs counts w p ns
 
   -- what is pending behind a split
   pub record Dividing (by : Split) (here : W) (rest : Bool → W) (waiter : W) (b : List (Out W)) (ns : List ℕ) : Type 0 where
     pub behind : List ℕ
-    pub after : (size : ℕ) (o' : Option ℕ) (q : Processor) → counts.numbers here q ≡ ns → counts.numbers (rest (enters by o')) (divided by size q o') ≡ behind
+    pub after : (size : ℕ) (o' : Option ℕ) (q : Processor) → Pends here q ns → Pends (rest (enters by o')) (divided by size q o') behind
     pub many : length behind ≡ counts.pending waiter
     pub ends : Ends b behind
-    pub same_parts : (q r : Processor) → counts.numbers here q ≡ ns → counts.numbers here r ≡ ns → parts by (values q) ≡ parts by (values r)
+    pub same_parts : (q r : Processor) → Pends here q ns → Pends here r ns → parts by (values q) ≡ parts by (values r)
 
   abbrev FirstMany : List (Out W) → Type 0
   FirstMany [] = Unit {0}
@@ -150,23 +146,22 @@ module _ {W : Type 0} (next : W → Option (Step W)) (outs : W → List W) (coun
     pub outs_in : (j : ℕ) → outs (rest (enters by (Some j))) ≡ waiter ∷ outs here
     pub follows_in : (j : ℕ) → Follows next outs (InGroup false) (rest (enters by (Some j)))
     pub aside : (vs : List ℕ) → part by vs ≡ None → rest (enters by None) ≡ waiter
-    pub divides : (b : List (Out W)) (ns : List ℕ) → outs here ≡ lefts b → length ns ≡ counts.pending here → FirstMany b → Ends b ns → Dividing by here rest waiter b ns
+    pub divides : (b : List (Out W)) (ns : List ℕ) (q : Processor) → outs here ≡ lefts b → Pends here q ns → FirstMany b → Ends b ns → Dividing by here rest waiter b ns
 
   forking : (here : W) (rest : Bool → W) (w : W) → rest false ≡ w → CountsGoOn next outs counts (o.Divide split_by.Fork) here rest
-      → (b : List (Out W)) (ns : List ℕ) → outs here ≡ lefts b → length ns ≡ counts.pending here → FirstMany b → Ends b ns → Dividing split_by.Fork here rest w b ns
-  forking here rest w is c b ns outs_are many first ends =
-      let aside_many : counts.pending here ≡ suc (counts.pending (rest false))
-      = sym (counts.many here nobody) ∙ ap length (c.0 0 None nobody)
-      ∙ ap (λ (k : ℕ). suc k) (counts.many (rest false) (divided split_by.Fork 0 nobody None)) in
-      let in_many : counts.pending here ≡ suc (counts.pending (rest true))
-      = sym (counts.many here nobody) ∙ ap length (c.0 0 (Some 0) nobody)
-      ∙ ap (λ (k : ℕ). suc k) (counts.many (rest true) (divided split_by.Fork 0 nobody (Some 0))) in
+      → (b : List (Out W)) (ns : List ℕ) (q : Processor) → outs here ≡ lefts b → Pends here q ns → FirstMany b → Ends b ns → Dividing split_by.Fork here rest w b ns
+  forking here rest w is c b ns q outs_are pends first ends =
+      let aside_taken = c.0 0 None q ns pends in
+      let in_taken = c.0 0 (Some 0) q ns pends in
+      let in_size : length ns ≡ suc (length in_taken.0) = ap length in_taken.1 in
+      let in_many : length in_taken.0 ≡ counts.pending (rest true) = counts.many (rest true) (divided split_by.Fork 0 q (Some 0)) in_taken.0 in_taken.2 in
       record {
         behind = tail ns;
-        after = λ size o' q e. sym (ap tail (sym e ∙ c.0 size o' q));
-        many = tail_length ns (counts.pending (rest false)) (many ∙ aside_many) ∙ ap counts.pending is;
-        ends = by b (subst (NoMore next outs counts (counts.pending (rest true))) outs_are c.1) first ends in_many;
-        same_parts = λ q r e f. ap not_negative (ap head (sym (c.0 0 None q) ∙ e ∙ sym f ∙ c.0 0 None r));
+        after = λ size o' r e. let taken = c.0 size o' r ns e in
+            subst (Pends (rest (enters split_by.Fork o')) (divided split_by.Fork size r o')) (sym (ap tail taken.1)) taken.2;
+        many = ap length (ap tail aside_taken.1) ∙ counts.many (rest false) (divided split_by.Fork 0 q None) aside_taken.0 aside_taken.2 ∙ ap counts.pending is;
+        ends = by b (subst (NoMore next outs counts (counts.pending (rest true))) outs_are c.1) first ends (in_size ∙ ap (λ (k : ℕ). suc k) in_many);
+        same_parts = λ r u e f. ap not_negative (ap head (sym (c.0 0 None r ns e).1 ∙ (c.0 0 None u ns f).1));
       }
     where
       head : List ℕ → ℕ
@@ -174,12 +169,12 @@ module _ {W : Type 0} (next : W → Option (Step W)) (outs : W → List W) (coun
       head (v ∷ vs) = v
 
       by : (b' : List (Out W)) → NoMore next outs counts (counts.pending (rest true)) (lefts b') → FirstMany b' → Ends b' ns
-          → counts.pending here ≡ suc (counts.pending (rest true)) → Ends b' (tail ns)
+          → length ns ≡ suc (counts.pending (rest true)) → Ends b' (tail ns)
       by [] less first' ends' in_many = tt
       by (y ∷ ys) less first' ends' in_many = by_more ends'.0 ends'.1
         where
           by_more : (more : List ℕ) → ns ≡ more ++ y.numbers → Ends (y ∷ ys) (tail ns)
-          by_more [] e = let size = ap length e in absurd (omega (arith, size, first', less, in_many, many))
+          by_more [] e = let size = ap length e in absurd (omega (arith, size, first', less, in_many))
           by_more (m ∷ more) e = (more, ap tail e)
 
   parting : (by : Split) (here : W) (rest : Bool → W) (os : List W) → outs (rest true) ≡ os → ((n : ℕ) → Parts next outs (FollowsFor next outs n) by here rest os)
@@ -201,10 +196,10 @@ module _ {W : Type 0} (next : W → Option (Step W)) (outs : W → List W) (coun
     outs_in = λ j. first_outs (j == 0);
     follows_in = λ j. first_follows (j == 0);
     aside = λ vs none. never_none (last vs == 0) none;
-    divides = λ b ns outs_are many first ends. record {
+    divides = λ b ns q outs_are pends first ends. record {
       behind = ns;
-      after = λ size o' q is. c.0 size o' q ∙ is;
-      many = many ∙ sym (as_many (outs (rest true)) e c.1);
+      after = λ size o' r is. c.0 size o' r ns is;
+      many = counts.many here q ns pends ∙ sym (as_many (outs (rest true)) e c.1);
       ends = ends;
       same_parts = λ q r is is'. refl;
     };
@@ -227,10 +222,10 @@ module _ {W : Type 0} (next : W → Option (Step W)) (outs : W → List W) (coun
     outs_in = λ j. e ∙ ap (λ (bs : List W). w ∷ bs) (h 0).0;
     follows_in = λ j n. (h n).3;
     aside = λ vs none. (h 0).4;
-    divides = λ b ns outs_are many first ends. record {
+    divides = λ b ns q outs_are pends first ends. record {
       behind = ns;
-      after = λ size o' q is. c.0 size o' q ∙ is;
-      many = many ∙ sym (pending_same (rest false) here (divided by 0 nobody None) nobody (c.0 0 None nobody)) ∙ ap counts.pending (h 0).4;
+      after = λ size o' r is. c.0 size o' r ns is;
+      many = counts.many (rest false) (divided by 0 q None) ns (c.0 0 None q ns pends) ∙ ap counts.pending (h 0).4;
       ends = ends;
       same_parts = λ q r is is'. refl;
     };
@@ -525,14 +520,14 @@ module _ {W : Type 0} (next : W → Option (Step W)) (outs : W → List W) (coun
       left : r'.left ≡ rest (goes_onward op' value i before.has)
       size : ℕ
       has : r'.has ≡ does op' value size before.has
-      numbers : counts.numbers w before.has ≡ ns
+      numbers : ArePending next outs counts w before.has ns
 
     abbrev AllFin : (op' : Operation) (w : W) (rest : Bool → W) (ns : List ℕ) → Type 0
     AllFin op' w rest ns = (h : ℕ) (r' : Runner W) → Has tree n h → mids (suc i) h ≡ Some r' → Fin op' w rest ns h r'
 
     -- where all have the same left
     all_fin : (w : W) (ns : List ℕ)
-        → ((h : ℕ) → Has tree n h → (r : Runner W) → mids i h ≡ Some r → (u : Step W) → next r.left ≡ Some u → u.operation ≡ op → (r.left ≡ w) × (counts.numbers w r.has ≡ ns))
+        → ((h : ℕ) → Has tree n h → (r : Runner W) → mids i h ≡ Some r → (u : Step W) → next r.left ≡ Some u → u.operation ≡ op → (r.left ≡ w) × ArePending next outs counts w r.has ns)
         → (u : Step W) → next w ≡ Some u → AllFin op w u.rest ns
     all_fin w ns same u stands h r' is e =
         let m = moved h r' is e in
@@ -550,9 +545,9 @@ module _ {W : Type 0} (next : W → Option (Step W)) (outs : W → List W) (coun
 
     -- what is pending then, where the operation leaves it
     still_pending : (op' : Operation) (w : W) (rest : Bool → W) (ns : List ℕ) (h : ℕ) (r' : Runner W) → Leaves next outs counts class.Tree op' w rest → (f : Fin op' w rest ns h r')
-        → counts.numbers (rest (goes_onward op' value i f.before.has)) r'.has ≡ ns
+        → ArePending next outs counts (rest (goes_onward op' value i f.before.has)) r'.has ns
     still_pending op' w rest ns h r' l f =
-        ap (counts.numbers (rest (goes_onward op' value i f.before.has))) f.has ∙ l value i f.size f.before.has ∙ f.numbers
+        subst (λ (q : Processor). ArePending next outs counts (rest (goes_onward op' value i f.before.has)) q ns) (sym f.has) (l value i f.size f.before.has ns f.numbers)
 
     after_of : (h : ℕ) → Has tree n h → (r' : Runner W) × (mids (suc i) h ≡ Some r')
     after_of h is = let c = there h (inv0.sound.within n h (had h is)) in (mid (nat_lt (low h) (suc i)) c.0, at_mid h c.0 (nat_lt (low h) (suc i)) c.1)
@@ -566,7 +561,7 @@ module _ {W : Type 0} (next : W → Option (Step W)) (outs : W → List W) (coun
     some_n : tree.nodes n ≢ None
     some_n = has_some tree n i (has i in_i)
 
-    unit : (w : W) (ns : List ℕ) (r' : Runner W) → r'.left ≡ w → counts.numbers w r'.has ≡ ns → IsCounted next outs counts w → (Is next outs counts) (without w ns) r'
+    unit : (w : W) (ns : List ℕ) (r' : Runner W) → r'.left ≡ w → ArePending next outs counts w r'.has ns → IsCounted next outs counts w → (Is next outs counts) (without w ns) r'
     unit w ns r' e f c = record { left = e; value = tt; numbers = f; counted = c }
 
     -- a group in lockstep
@@ -593,18 +588,18 @@ module _ {W : Type 0} (next : W → Option (Step W)) (outs : W → List W) (coun
           subst (FirstMany next outs counts) (sym (st.inv.chain n lower some_n)) up_parted.at.many
 
       -- who leaves has what those have who wait
-      is_up : (w : W) (r' : Runner W) → outs x.left ≡ w ∷ outs w → r'.left ≡ w → counts.numbers w r'.has ≡ x.numbers → IsCounted next outs counts w
+      is_up : (w : W) (r' : Runner W) → outs x.left ≡ w ∷ outs w → r'.left ≡ w → ArePending next outs counts w r'.has x.numbers → IsCounted next outs counts w
           → (Is next outs counts) (st.here (parent tree n)) r'
       is_up w r' e is same counted =
           let up = st.here (parent tree n) in
           let lists : w ∷ outs w ≡ up.left ∷ lefts (st.behind (parent tree n)) = sym e ∙ g.outs_are ∙ ap lefts (st.inv.chain n lower some_n) in
           let left_is : w ≡ up.left = cons_first lists in
           let ends : Ends (told up ∷ st.behind (parent tree n)) x.numbers = subst (λ (bs : List (Out W)). Ends bs x.numbers) (st.inv.chain n lower some_n) g.ends in
-          let size : length x.numbers ≡ length up.numbers = sym (ap length same) ∙ counts.many w r'.has ∙ ap counts.pending left_is ∙ sym up_parted.at.many in
+          let size : length x.numbers ≡ length up.numbers = counts.many w r'.has x.numbers same ∙ ap counts.pending left_is ∙ sym up_parted.at.many in
           record {
             left = is ∙ left_is;
             value = plain up.agreed up_parted.unagreed;
-            numbers = ap (λ (v : W). counts.numbers v r'.has) (sym left_is) ∙ same ∙ no_more ends.0 x.numbers up.numbers ends.1 size;
+            numbers = subst (ArePending next outs counts up.left r'.has) (no_more ends.0 x.numbers up.numbers ends.1 size) (subst (λ (v : W). ArePending next outs counts v r'.has x.numbers) left_is same);
             counted = subst (IsCounted next outs counts) left_is counted;
           }
         where
@@ -615,11 +610,11 @@ module _ {W : Type 0} (next : W → Option (Step W)) (outs : W → List W) (coun
           plain None e' = tt
           plain (Some v) e' = absurd (cc)
 
-      numbers_of : (op' : Operation) → AllFin op' x.left rest x.numbers → (h : ℕ) → Has tree n h → counts.numbers x.left (who actings h) ≡ x.numbers
+      numbers_of : (op' : Operation) → AllFin op' x.left rest x.numbers → (h : ℕ) → Has tree n h → ArePending next outs counts x.left (who actings h) x.numbers
       numbers_of op' fin h is =
           let r' = after_of h is in
           let f = fin h r'.0 is r'.1 in
-          ap (counts.numbers x.left) f.known ∙ f.numbers
+          subst (λ (q : Processor). ArePending next outs counts x.left q x.numbers) (sym f.known) f.numbers
 
       group_splits : (by : Split) (d : Parting next outs counts by x.left rest) → Dividing next outs counts by x.left rest d.waiter b x.numbers
           → ((onward : Bool) → IsCounted next outs counts (rest onward)) → AllFin (o.Divide by) x.left rest x.numbers → Next (changes (o.Divide by) n (who actings) value i tree)
@@ -629,7 +624,7 @@ module _ {W : Type 0} (next : W → Option (Step W)) (outs : W → List W) (coun
           let into : ℕ → Option ℕ = λ h. part by (values (who actings h)) in
           let into' : ℕ → Option ℕ = λ h. cut k (into h) in
           let ns = v.behind in
-          let numbers_at : (h : ℕ) → Has tree n h → counts.numbers x.left (who actings h) ≡ x.numbers = numbers_of (o.Divide by) fin in
+          let numbers_at : (h : ℕ) → Has tree n h → ArePending next outs counts x.left (who actings h) x.numbers = numbers_of (o.Divide by) fin in
           let same_into : (h : ℕ) → Has tree n h → into' h ≡ into h
           = λ h is. cut_same k (into h) (λ j e. few by (values (who actings h)) vs j (v.same_parts (who actings h) (who actings i) (numbers_at h is) (numbers_at i (has i in_i))) e) in
           let can : CanSplit n k into' tree = record { there = some_n; leaf = leaf; few = λ h j e. cut_few k (into h) j e } in
@@ -645,11 +640,12 @@ module _ {W : Type 0} (next : W → Option (Step W)) (outs : W → List W) (coun
           = λ j. record { outs_are = d.outs_in j ∙ ap (λ (bs : List W). d.waiter ∷ bs) g.outs_are; follows = d.follows_in j; ends = ([], refl) } in
           let way_in : (h : ℕ) (o' : Option ℕ) (r' : Runner W) → Has tree n h → into h ≡ o' → mids (suc i) h ≡ Some r' → r'.left ≡ rest (enters by o')
           = λ h o' r' is e e'. let f = fin h r' is e' in f.left ∙ ap (λ (q : Processor). rest (enters by (part by (values q)))) (sym f.known) ∙ ap (λ (o'' : Option ℕ). rest (enters by o'')) e in
-          let numbers_in : (h : ℕ) (o' : Option ℕ) (r' : Runner W) → Has tree n h → into h ≡ o' → mids (suc i) h ≡ Some r' → counts.numbers (rest (enters by o')) r'.has ≡ ns
+          let numbers_in : (h : ℕ) (o' : Option ℕ) (r' : Runner W) → Has tree n h → into h ≡ o' → mids (suc i) h ≡ Some r' → ArePending next outs counts (rest (enters by o')) r'.has ns
           = λ h o' r' is e e'.
           let f = fin h r' is e' in
           let part_is : part by (values f.before.has) ≡ o' = ap (λ (q : Processor). part by (values q)) (sym f.known) ∙ e in
-          ap (counts.numbers (rest (enters by o'))) (f.has ∙ ap (λ (o'' : Option ℕ). divided by f.size f.before.has o'') part_is) ∙ v.after f.size o' f.before.has f.numbers in
+          subst (λ (q : Processor). ArePending next outs counts (rest (enters by o')) q ns) (sym (f.has ∙ ap (λ (o'' : Option ℕ). divided by f.size f.before.has o'') part_is))
+          (v.after f.size o' f.before.has f.numbers) in
           let enter : (h j : ℕ) (r' : Runner W) → Has tree n h → into' h ≡ Some j → mids (suc i) h ≡ Some r' → (Is next outs counts) (inside j) r'
           = λ h j r' is e e'.
           let e'' : into h ≡ Some j = sym (same_into h is) ∙ e in
@@ -659,7 +655,7 @@ module _ {W : Type 0} (next : W → Option (Step W)) (outs : W → List W) (coun
           let e'' : into h ≡ None = sym (same_into h is) ∙ e in
           let aside : rest (enters by None) ≡ d.waiter = d.aside (values (who actings h)) e'' in
           unit d.waiter ns r' (way_in h None r' is e'' e' ∙ aside)
-          (ap (λ (w : W). counts.numbers w r'.has) (sym aside) ∙ numbers_in h None r' is e'' e') (subst (IsCounted next outs counts) aside (on (enters by None))) in
+          (subst (λ (w : W). ArePending next outs counts w r'.has ns) aside (numbers_in h None r' is e'' e')) (subst (IsCounted next outs counts) aside (on (enters by None))) in
           subst Next (split_same n k into' into tree same_into)
           (record {
             here' = parted_here (told {W = W}) (Grouped next outs counts) (Parted next outs counts) (Apart next outs counts) (Is next outs counts) p tree (mids i) st.here st.behind st.inv n k into' can (without d.waiter ns) b inside (mids (suc i)) (λ ne. refl) waits parts_in enter stay others;
@@ -690,10 +686,10 @@ module _ {W : Type 0} (next : W → Option (Step W)) (outs : W → List W) (coun
           at_way : (h : ℕ) (way : Bool) (r' : Runner W) → Has tree n h → stays (who actings h) ≡ way → mids (suc i) h ≡ Some r' → r'.left ≡ rest way
           at_way h way r' is keep e = let f = fin h r' is e in f.left ∙ ap (λ (q : Processor). rest (stays q)) (sym f.known) ∙ ap rest keep
 
-          pending_at : (h : ℕ) (way : Bool) (r' : Runner W) → Has tree n h → stays (who actings h) ≡ way → mids (suc i) h ≡ Some r' → counts.numbers (rest way) r'.has ≡ x.numbers
+          pending_at : (h : ℕ) (way : Bool) (r' : Runner W) → Has tree n h → stays (who actings h) ≡ way → mids (suc i) h ≡ Some r' → ArePending next outs counts (rest way) r'.has x.numbers
           pending_at h way r' is keep e =
               let f = fin h r' is e in
-              ap (λ (c : Bool). counts.numbers (rest c) r'.has) (sym (ap stays (sym f.known) ∙ keep)) ∙ still_pending o.Shrink x.left rest x.numbers h r' l f
+              subst (λ (c : Bool). ArePending next outs counts (rest c) r'.has x.numbers) (ap stays (sym f.known) ∙ keep) (still_pending o.Shrink x.left rest x.numbers h r' l f)
 
       finishes : outs x.left ≡ rest true ∷ outs (rest true) → Leaves next outs counts class.Tree o.End x.left rest → ((onward : Bool) → IsCounted next outs counts (rest onward))
           → AllFin o.End x.left rest x.numbers → Next (changes o.End n (who actings) value i tree)
@@ -724,37 +720,38 @@ module _ {W : Type 0} (next : W → Option (Step W)) (outs : W → List W) (coun
           follows_by true = follows_first
           follows_by false = follows_second
 
-          lone : (m : ℕ) → m ≢ 0 → (r' : Runner W) (way : Bool) → r'.left ≡ rest way → counts.numbers (rest way) r'.has ≡ x.numbers
+          lone : (m : ℕ) → m ≢ 0 → (r' : Runner W) (way : Bool) → r'.left ≡ rest way → ArePending next outs counts (rest way) r'.has x.numbers
               → Apart next outs counts m b (without (rest false) x.numbers) r'
           lone zero ne r' way e f = absurd (ne refl)
           lone (suc m) ne r' way e f = inr (record {
             outs_are = ap outs e ∙ outs_by way;
             follows = subst (Follows next outs (ByItself true)) (sym e) (follows_by way);
             more = [];
-            numbers = ap (λ (w : W). counts.numbers w r'.has) e ∙ f;
+            numbers = subst (λ (w : W). ArePending next outs counts w r'.has x.numbers) (sym e) f;
             counted = subst (IsCounted next outs counts) (sym e) (on way);
             holds = record { many = many; ends = g.ends };
           })
 
       group_by : (op' : Operation) → changes_tree op' ≡ true → ((k : ℕ) → Does next outs (FollowsFor next outs k) (InGroup (is_some x.agreed)) op' x.left rest)
-          → CountsGoOn next outs counts op' x.left rest → length x.numbers ≡ counts.pending x.left → ((onward : Bool) → IsCounted next outs counts (rest onward))
+          → CountsGoOn next outs counts op' x.left rest → (q : Processor) → ArePending next outs counts x.left q x.numbers → ((onward : Bool) → IsCounted next outs counts (rest onward))
           → AllFin op' x.left rest x.numbers → Next (changes op' n (who actings) value i tree)
-      group_by (o.Divide by) c d k many on fin =
+      group_by (o.Divide by) c d k q pends on fin =
           let parts_of = parting next outs counts by x.left rest (outs (rest true)) refl d k in
-          group_splits by parts_of (parts_of.divides b x.numbers g.outs_are many first_many g.ends) on fin
-      group_by o.Shrink c d k many on fin = shrinks (d 0) (λ m. (d m).1) k on fin
-      group_by o.End c d k many on fin = finishes (d 0) k on fin
-      group_by o.Farm c d k many on fin =
+          group_splits by parts_of (parts_of.divides b x.numbers q g.outs_are pends first_many g.ends) on fin
+      group_by o.Shrink c d k q pends on fin = shrinks (d 0) (λ m. (d m).1) k on fin
+      group_by o.End c d k q pends on fin = finishes (d 0) k on fin
+      group_by o.Farm c d k q pends on fin =
           let met : counts.pending (rest false) ≡ counts.pending x.left = subst (AsMany next outs counts (counts.pending x.left)) (d 0).0 k.1 in
-          opens false o.Farm (d 0).0 (d 0).1 (λ m. (d m).2) (λ m. (d m).3) k.0 (many ∙ sym met) on fin
-      group_by o.Seq c d k many on fin =
+          opens false o.Farm (d 0).0 (d 0).1 (λ m. (d m).2) (λ m. (d m).3) k.0 (counts.many x.left q x.numbers pends ∙ sym met) on fin
+      group_by o.Seq c d k q pends on fin =
           opens true o.Seq (d 0).0 (d 0).1 (λ m. (d m).2) (λ m. (d m).3) k
-          (many ∙ sym (pending_same next outs counts (rest false) x.left nobody nobody (k 0 1 0 nobody))) on fin
-      group_by o.Begin c d k many on fin = absurd (d 0)
-      group_by o.Resume c d k many on fin = absurd (d 0)
-      group_by (o.Meet true) c d k many on fin = absurd (d 0)
-      group_by (o.Meet false) c d k many on fin = untrue c
-      group_by op' c d k many on fin = untrue c
+          (counts.many (rest false) q x.numbers
+          (subst (λ (c' : Bool). ArePending next outs counts (rest c') q x.numbers) (ne_eqb q.number (suc q.number) (λ same. omega (arith, same))) (k 0 (suc q.number) 0 q x.numbers pends))) on fin
+      group_by o.Begin c d k q pends on fin = absurd (d 0)
+      group_by o.Resume c d k q pends on fin = absurd (d 0)
+      group_by (o.Meet true) c d k q pends on fin = absurd (d 0)
+      group_by (o.Meet false) c d k q pends on fin = untrue c
+      group_by op' c d k q pends on fin = untrue c
 
     in_group : kind tree n ≡ Some Lockstep → Next (changes op n (who actings) value i tree)
     in_group locked =
@@ -766,7 +763,7 @@ module _ {W : Type 0} (next : W → Option (Step W)) (outs : W → List W) (coun
         group_by locked g u.rest op changing
         (λ k. subst (λ (op' : Operation). Does next outs (FollowsFor next outs k) (InGroup (is_some x.agreed)) op' x.left u.rest) my_move.same (so k))
         (subst (λ (op' : Operation). CountsGoOn next outs counts op' x.left u.rest) my_move.same (counts_so next outs counts x.left u is_mine.counted stands))
-        (sym (ap length is_mine.numbers) ∙ counts.many x.left my_move.before.has)
+        my_move.before.has is_mine.numbers
         (counts_on next outs counts x.left u is_mine.counted stands)
         (all_fin x.left x.numbers (λ h is r was v e same. let is_h = is_there (Some Lockstep) locked h is r was in (is_h.left, is_h.numbers)) u stands)
 
@@ -786,7 +783,7 @@ module _ {W : Type 0} (next : W → Option (Step W)) (outs : W → List W) (coun
         let inside : (h : ℕ) (r' : Runner W) → Has tree n h → mids (suc i) h ≡ Some r' → IsKind' new r'
         = λ h r' is e.
         let f = fin h r' is e in
-        there_by n (rest true) (same ∙ g.outs_are) follows (on true) (g.at.many ∙ sym (pending_same next outs counts (rest true) x.left nobody nobody (l 0 0 0 nobody))) r' f.left
+        there_by n (rest true) (same ∙ g.outs_are) follows (on true) r' f.left
         (still_pending o.Resume x.left rest x.numbers h r' l f) in
         record {
           here' = turned_here (told {W = W}) (Grouped next outs counts) (Parted next outs counts) (Apart next outs counts) (Is next outs counts) p tree (mids i) st.here st.behind st.inv n (kind_after n) new (mids (suc i)) leaf (idle-after n) (free-after n) some_n fits inside others;
@@ -800,18 +797,18 @@ module _ {W : Type 0} (next : W → Option (Step W)) (outs : W → List W) (coun
         node_by zero w e f = tt
         node_by (suc m) w e f = record { outs_are = e; follows = f; ends = g.at.ends }
 
-        there_by : (m : ℕ) (w : W) → outs w ≡ lefts b → Follows next outs (after_waiting (within m)) w → IsCounted next outs counts w → length x.numbers ≡ counts.pending w
-            → (r : Runner W) → r.left ≡ w → counts.numbers w r.has ≡ x.numbers
+        there_by : (m : ℕ) (w : W) → outs w ≡ lefts b → Follows next outs (after_waiting (within m)) w → IsCounted next outs counts w
+            → (r : Runner W) → r.left ≡ w → ArePending next outs counts w r.has x.numbers
             → IsThere (told {W = W}) (Grouped next outs counts) (Parted next outs counts) (Apart next outs counts) (Is next outs counts) p m (Some (kind_after m)) b (without w x.numbers) r
-        there_by zero w e f c many r is num = inr (record {
+        there_by zero w e f c r is num = inr (record {
           outs_are = ap outs is ∙ e;
           follows = subst (Follows next outs (ByItself false)) (sym is) f;
           more = [];
-          numbers = ap (λ (v : W). counts.numbers v r.has) is ∙ num;
+          numbers = subst (λ (v : W). ArePending next outs counts v r.has x.numbers) (sym is) num;
           counted = subst (IsCounted next outs counts) (sym is) c;
-          holds = record { many = many; ends = g.at.ends };
+          holds = record { many = counts.many w r.has x.numbers num; ends = g.at.ends };
         })
-        there_by (suc m) w e f c many r is num = unit w x.numbers r is num c
+        there_by (suc m) w e f c r is num = unit w x.numbers r is num c
 
     waiting_by : (op' : Operation) (rest : Bool → W) → ((k : ℕ) → Does next outs (FollowsFor next outs k) (Waits (within n)) op' x.left rest) → Parted next outs counts n b x
         → CountsGoOn next outs counts op' x.left rest → ((onward : Bool) → IsCounted next outs counts (rest onward)) → AllFin op' x.left rest x.numbers
@@ -881,7 +878,7 @@ module _ {W : Type 0} (next : W → Option (Step W)) (outs : W → List W) (coun
 
     -- who have come to one operation of their bodies
     abbrev AllCome : (op' : Operation) (w : W) (rest : Bool → W) → Type 0
-    AllCome op' w rest = (ns : List ℕ) → ((r : Runner W) → IsLone r → r.left ≡ w → counts.numbers w r.has ≡ ns) → AllFin op' w rest ns
+    AllCome op' w rest = (ns : List ℕ) → ((r : Runner W) → IsLone r → r.left ≡ w → ArePending next outs counts w r.has ns) → AllFin op' w rest ns
 
     meets : (w : W) (rest : Bool → W) → within n ≡ true → outs w ≡ ahead → outs w ≡ w ∷ outs (rest true) → Follows next outs (InGroup false) (rest true)
         → Leaves next outs counts class.Tree (o.Meet true) w rest → ((onward : Bool) → IsCounted next outs counts (rest onward)) → AtNode next outs counts b x → AllCome (o.Meet true) w rest
@@ -894,8 +891,9 @@ module _ {W : Type 0} (next : W → Option (Step W)) (outs : W → List W) (coun
         let fits : Grouped next outs counts b new = record { outs_are = same; follows = follows; ends = at_n.ends } in
         let fin : AllFin (o.Meet true) w rest x.numbers
         = come x.numbers (λ r lone e.
-        let pending : counts.numbers w r.has ≡ lone.more ++ x.numbers = ap (λ (v : W). counts.numbers v r.has) (sym e) ∙ lone.numbers in
-        no_more lone.more (counts.numbers w r.has) x.numbers pending (counts.many w r.has ∙ ap counts.pending met ∙ sym at_n.many)) in
+        let pending : ArePending next outs counts w r.has (lone.more ++ x.numbers) = subst (λ (v : W). ArePending next outs counts v r.has (lone.more ++ x.numbers)) e lone.numbers in
+        subst (ArePending next outs counts w r.has)
+        (no_more lone.more (lone.more ++ x.numbers) x.numbers refl (counts.many w r.has (lone.more ++ x.numbers) pending ∙ ap counts.pending met ∙ sym at_n.many)) pending) in
         let inside : (h : ℕ) (r' : Runner W) → Has tree n h → mids (suc i) h ≡ Some r' → (Is next outs counts) new r'
         = λ h r' in_h e. let f = fin h r' in_h e in unit (rest true) x.numbers r' f.left (still_pending (o.Meet true) w rest x.numbers h r' l f) (on true) in
         let free : n ≡ 0 → Lockstep ≢ Lockstep = λ zero'. absurd (inside_lower n inner zero') in
@@ -938,14 +936,25 @@ module _ {W : Type 0} (next : W → Option (Step W)) (outs : W → List W) (coun
         can = record { there = some_n; leaf = leaf; few = λ h j e. one_of_none (nat_lt h count) j e }
 
         fin : AllFin o.Begin w rest []
-        fin = come [] (λ r lone e. no_length (counts.numbers w r.has) (counts.many w r.has ∙ none))
+        fin =
+            come [] (λ r lone e.
+            let pending : ArePending next outs counts w r.has (lone.more ++ x.numbers) = subst (λ (v : W). ArePending next outs counts v r.has (lone.more ++ x.numbers)) e lone.numbers in
+            subst (ArePending next outs counts w r.has) (no_length (lone.more ++ x.numbers) (counts.many w r.has (lone.more ++ x.numbers) pending ∙ none)) pending)
+
+        mine' : Fin o.Begin w rest [] i mine.0
+        mine' = fin i mine.0 (has i in_i) mine.1
+
+        -- nobody is taken for a group of none
+        waiting_is : ArePending next outs counts (rest false) (does o.Begin 0 0 mine'.before.has) []
+        waiting_is =
+            subst (λ (c : Bool). ArePending next outs counts (rest c) (does o.Begin 0 0 mine'.before.has) []) (le-ltb mine'.before.has.number 0 (omega arith)) (l 0 0 0 mine'.before.has [] mine'.numbers)
 
         waits : Parted next outs counts n (bare (outs (rest false))) (without (rest false) [])
         waits = record {
           outs_are = sym (lefts_bare (outs (rest false)));
           follows = subst (λ (c : Bool). Follows next outs (Waits c) (rest false)) (sym outer) waits_on;
           unagreed = refl;
-          at = record { many = sym (pending_same next outs counts (rest false) w (does o.Begin 0 0 nobody) nobody (l 0 0 0 nobody) ∙ none); ends = ends_none (outs (rest false)) };
+          at = record { many = counts.many (rest false) (does o.Begin 0 0 mine'.before.has) [] waiting_is; ends = ends_none (outs (rest false)) };
         }
 
         parts_in : (j : ℕ) → Grouped next outs counts (told (without (rest false) []) ∷ bare (outs (rest false))) (without (rest true) [])
@@ -960,12 +969,12 @@ module _ {W : Type 0} (next : W → Option (Step W)) (outs : W → List W) (coun
             let small : h < length (members tree n) = let lt' = st.inv.sound.within n h in_h in omega (arith, lt', size) in
             f.left ∙ ap rest (ap (λ (q : ℕ). nat_lt q (not_negative value)) f.number ∙ sym (first_same h (length (members tree n)) (not_negative value) small) ∙ is)
 
-        pending_is : (h : ℕ) (c : Bool) (r' : Runner W) → Has tree n h → nat_lt h count ≡ c → mids (suc i) h ≡ Some r' → counts.numbers (rest c) r'.has ≡ []
+        pending_is : (h : ℕ) (c : Bool) (r' : Runner W) → Has tree n h → nat_lt h count ≡ c → mids (suc i) h ≡ Some r' → ArePending next outs counts (rest c) r'.has []
         pending_is h c r' in_h is e =
             let f = fin h r' in_h e in
             let small : h < length (members tree n) = let lt' = st.inv.sound.within n h in_h in omega (arith, lt', size) in
-            ap (λ (c' : Bool). counts.numbers (rest c') r'.has) (sym (ap (λ (q : ℕ). nat_lt q (not_negative value)) f.number ∙ sym (first_same h (length (members tree n)) (not_negative value) small) ∙ is))
-            ∙ still_pending o.Begin w rest [] h r' l f
+            subst (λ (c' : Bool). ArePending next outs counts (rest c') r'.has []) (ap (λ (q : ℕ). nat_lt q (not_negative value)) f.number ∙ sym (first_same h (length (members tree n)) (not_negative value) small) ∙ is)
+            (still_pending o.Begin w rest [] h r' l f)
 
         enter : (h j : ℕ) (r' : Runner W) → Has tree n h → first_part count h ≡ Some j → mids (suc i) h ≡ Some r' → (Is next outs counts) (without (rest true) []) r'
         enter h j r' in_h e e' = unit (rest true) [] r' (way_is h true r' in_h (first_in h count j e) e') (pending_is h true r' in_h (first_in h count j e) e') (on true)
@@ -1071,8 +1080,7 @@ module _ {W : Type 0} (next : W → Option (Step W)) (outs : W → List W) (coun
             let c : CountsGoOn next outs counts (o.Divide by') x.left u.rest
             = subst (λ (op' : Operation). CountsGoOn next outs counts op' x.left u.rest) (my_move.same ∙ e) (counts_so next outs counts x.left u is_mine.counted stands) in
             let d = parting next outs counts by' x.left u.rest (outs (u.rest true)) refl does_op c in
-            let many : length x.numbers ≡ counts.pending x.left = sym (ap length is_mine.numbers) ∙ counts.many x.left my_move.before.has in
-            let divides = d.divides b x.numbers g.outs_are many (first_many locked g u.rest) g.ends in
+            let divides = d.divides b x.numbers my_move.before.has g.outs_are is_mine.numbers (first_many locked g u.rest) g.ends in
             let fin = all_fin x.left x.numbers (λ h' is' r was v' e' same. let is_h = is_there (Some Lockstep) locked h' is' r was in (is_h.left, is_h.numbers)) u stands in
             let numbers_at = numbers_of locked g u.rest op fin in
             divides.same_parts (who actings h) (who actings i) (numbers_at h is) (numbers_at i (has i in_i))

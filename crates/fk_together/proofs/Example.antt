@@ -1,6 +1,7 @@
 -- Programs that go through their groups so, as code. The first is `start { if ($) 1; else ; farm barrier; }`: its groups have
 -- one remaining program.
-use Rattle.std.proofs.Common.{◌≡◌, ℕ, zero, suc, ◌≤◌, Bool, true, false, true≢false, List, [], ◌∷◌, ◌++◌, map, length, Option, Some, None, is_some, refl, arith}
+use Rattle.std.proofs.Common.{◌≡◌, ℕ, zero, suc, ◌≤◌, Bool, true, false, true≢false, List, [], ◌∷◌, ◌++◌, map, length, bytes_eq, Option, Some, None, is_some, refl, sym, ap, ◌∙◌, arith}
+use Rattle.std.proofs.lemmas.Slice.Eq.{bytes_eq-Decides}
 use Rattle.fk_operation.specs.Kinds.{class_of}
 use Rattle.fk_operation.specs.declared.operation.Operation.{Operation}
 use Rattle.fk_operation.specs.declared.kinds.Class.{Class}
@@ -18,7 +19,7 @@ use Rattle.fk_forms.specs.Code.{Code, done, perform, choose, while, until, turn,
 use Rattle.fk_source.specs.Next.{Work, going, next}
 use Rattle.fk_nesting.specs.Behind.{outs}
 use Rattle.fk_together.specs.Course.{Stand, InGroup, Waits, ByItself, FollowsFor, Follows}
-use Rattle.fk_together.specs.Counts.{Counts, AsMany, Leaves, CountsGoOn, CountedFor, IsCounted}
+use Rattle.fk_together.specs.Counts.{Counts, ArePending, AsMany, Leaves, IsTaken, CountsGoOn, CountedFor, IsCounted}
 use Rattle.fk_together.specs.OneProgram.{KeepOneProgram}
 use Rattle.fk_together.proofs.Whole.{groups_have_one_program}
 
@@ -134,8 +135,16 @@ abbrev is_fork : Operation → Bool
 is_fork (o.Divide Fork) = true
 is_fork op = false
 
+abbrev are_none : List ℕ → Bool
+are_none [] = true
+are_none (n ∷ ns) = false
+
+none_many : (ns : List ℕ) → are_none ns ≡ true → length ns ≡ 0
+none_many [] h = refl
+none_many (n ∷ ns) h = absurd (true≢false (sym h))
+
 abbrev no_counts : Counts Work
-no_counts = record { pending = λ work. 0; numbers = λ work p. []; many = λ work p. refl }
+no_counts = record { pending = λ work. 0; are_pending = λ work p ns. are_none ns; many = λ work p ns h. none_many ns h }
 
 module _ (next' : Work → Option (Step Work)) where
   none_met : (ws : List Work) → AsMany next' all_outs no_counts 0 ws
@@ -143,15 +152,15 @@ module _ (next' : Work → Option (Step Work)) where
   none_met (w ∷ ws) = refl
 
   none_left : (c : Class) (op : Operation) (here : Work) (rest : Bool → Work) → Leaves next' all_outs no_counts c op here rest
-  none_left class.Local op here rest = λ set onward p. refl
-  none_left class.Request op here rest = λ answer p. refl
-  none_left class.Tree op here rest = λ highest lowest size p. refl
+  none_left class.Local op here rest = λ set onward p ns h. h
+  none_left class.Request op here rest = λ answer p ns h. h
+  none_left class.Tree op here rest = λ highest lowest size p ns h. h
 
   none_pending : (op : Operation) → is_fork op ≡ false → (here : Work) (rest : Bool → Work) → CountsGoOn next' all_outs no_counts op here rest
-  none_pending o.Agree e here rest = λ value p. refl
+  none_pending o.Agree e here rest = λ value p ns h. h
   none_pending (o.Divide Fork) e here rest = absurd (true≢false e)
-  none_pending (o.Divide IfElse) e here rest = ((λ size part p. refl), none_met (all_outs (rest true)))
-  none_pending (o.Divide by) e here rest = ((λ size part p. refl), tt)
+  none_pending (o.Divide IfElse) e here rest = ((λ size part p ns h. h), none_met (all_outs (rest true)))
+  none_pending (o.Divide by) e here rest = ((λ size part p ns h. h), tt)
   none_pending o.Farm e here rest = (none_left class.Tree o.Farm here rest, none_met (all_outs (rest true)))
   none_pending o.Begin e here rest = (none_left class.Tree o.Begin here rest, refl)
   none_pending op e here rest = none_left (class_of op) op here rest
@@ -215,7 +224,7 @@ main_has_one_program : (setting : Setting) (schedule : Schedule) (processors : �
     → IsLawful next_in_main setting schedule (opening processors globals input firsts (going main []))
     → (run next_in_main setting schedule (opening processors globals input firsts (going main []))).fault ≡ None
     → KeepOneProgram next_in_main processors (run next_in_main setting schedule (opening processors globals input firsts (going main [])))
-main_has_one_program = groups_have_one_program Work next_in_main all_outs (going main []) whole no_counts refl free_main
+main_has_one_program = groups_have_one_program Work next_in_main all_outs (going main []) whole no_counts (λ p. refl) free_main
 
 -- and one with a loop that its members leave one by one: `start while ($) 1;`
 abbrev test : Code ℕ
@@ -333,7 +342,11 @@ as_many_at None p = refl
 as_many_at (Some k) p = refl
 
 abbrev fork_counts : Counts Work
-fork_counts = record { pending = λ work. many_at (above work.left); numbers = λ work p. numbers_at (above work.left) p; many = λ work p. as_many_at (above work.left) p }
+fork_counts = record {
+  pending = λ work. many_at (above work.left);
+  are_pending = λ work p ns. bytes_eq ns (numbers_at (above work.left) p);
+  many = λ work p ns h. ap length ((bytes_eq-Decides ns (numbers_at (above work.left) p)).0 h) ∙ as_many_at (above work.left) p;
+}
 
 abbrev Forks : Stand → Code ℕ → Type 0
 Forks stand code = Follows next_in_fork all_outs stand (going code [])
@@ -393,7 +406,7 @@ fork_whole (suc k) = λ onward. (refl, fork_begins k)
 -- the number of parts, operation by operation
 count_last : IsCountedThere (ends 21 o.Halt done)
 count_last zero = tt
-count_last (suc k) = ((λ highest lowest size p. refl), (λ onward. count_done k))
+count_last (suc k) = ((λ highest lowest size p ns h. h), (λ onward. count_done k))
   where
     count_done : IsCountedThere done
     count_done zero = tt
@@ -401,28 +414,28 @@ count_last (suc k) = ((λ highest lowest size p. refl), (λ onward. count_done k
 
 count_others : IsCountedThere behind_all
 count_others zero = tt
-count_others (suc k) = ((λ highest lowest size p. refl), (λ onward. count_last k))
+count_others (suc k) = ((λ highest lowest size p ns h. h), (λ onward. count_last k))
 
 count_ends : IsCountedThere (perform 46 o.End behind_all)
 count_ends zero = tt
-count_ends (suc k) = ((λ highest lowest size p. refl), (λ onward. count_others k))
+count_ends (suc k) = ((λ highest lowest size p ns h. h), (λ onward. count_others k))
 
 count_behind : IsCountedThere behind_fork
 count_behind zero = tt
-count_behind (suc k) = ((λ highest lowest size p. refl), (λ onward. count_ends k))
+count_behind (suc k) = ((λ highest lowest size p ns h. h), (λ onward. count_ends k))
 
 count_part : IsCountedThere (perform 44 o.End behind_fork)
 count_part zero = tt
-count_part (suc k) = ((λ highest lowest size p. refl), (λ onward. count_behind k))
+count_part (suc k) = ((λ highest lowest size p ns h. h), (λ onward. count_behind k))
 
 count_forks : IsCountedThere forking
 count_forks zero = tt
 count_forks (suc k) = ((taken, omega arith), by)
   where
-    taken : (size : ℕ) (part : Option ℕ) (p : Processor)
-        → last (before 2 (values p)) ∷ [] ≡ last (before 2 (values p)) ∷ fork_counts.numbers (going (append (if is_some part then perform 44 o.End done else done) behind_fork) []) (divided Fork size p part)
-    taken size None p = refl
-    taken size (Some j) p = refl
+    taken : (size : ℕ) (part : Option ℕ) (p : Processor) (ns : List ℕ) → bytes_eq ns (last (before 2 (values p)) ∷ []) ≡ true
+        → IsTaken next_in_fork all_outs fork_counts p (divided Fork size p part) (going (append (if is_some part then perform 44 o.End done else done) behind_fork) []) ns
+    taken size None p ns h = ([], (bytes_eq-Decides ns (last (before 2 (values p)) ∷ [])).0 h, refl)
+    taken size (Some j) p ns h = ([], (bytes_eq-Decides ns (last (before 2 (values p)) ∷ [])).0 h, refl)
 
     by : (onward : Bool) → CountedFor next_in_fork all_outs fork_counts k (going (append (if onward then perform 44 o.End done else done) behind_fork) [])
     by true = count_part k
@@ -430,19 +443,19 @@ count_forks (suc k) = ((taken, omega arith), by)
 
 count_ranked : IsCountedThere ranked
 count_ranked zero = tt
-count_ranked (suc k) = ((λ set onward p. refl), (λ onward. count_forks k))
+count_ranked (suc k) = ((λ set onward p ns h. h), (λ onward. count_forks k))
 
 count_numbered : IsCountedThere numbered
 count_numbered zero = tt
-count_numbered (suc k) = ((λ set onward p. refl), (λ onward. count_ranked k))
+count_numbered (suc k) = ((λ set onward p ns h. h), (λ onward. count_ranked k))
 
 count_agrees : IsCountedThere (perform 40 o.Agree numbered)
 count_agrees zero = tt
-count_agrees (suc k) = ((λ value p. refl), (λ onward. count_numbered k))
+count_agrees (suc k) = ((λ value p ns h. (bytes_eq-Decides (value ∷ ns) (value ∷ [])).1 (ap (λ (ms : List ℕ). value ∷ ms) ((bytes_eq-Decides ns []).0 h))), (λ onward. count_numbered k))
 
 count_pushes : IsCountedThere (perform 39 (o.Push 2) (perform 40 o.Agree numbered))
 count_pushes zero = tt
-count_pushes (suc k) = ((λ set onward p. refl), (λ onward. count_agrees k))
+count_pushes (suc k) = ((λ set onward p ns h. h), (λ onward. count_agrees k))
 
 count_begins : IsCountedThere (choose 38 o.Begin (perform 39 (o.Push 2) (perform 40 o.Agree (perform 41 (o.Get n.Rank) (perform 42 (o.Get n.Rank)
     (choose 43 (o.Divide Fork) (perform 44 o.End done) done (perform 45 o.Resume (perform 46 o.End done))))))) done behind_all)
@@ -453,13 +466,14 @@ count_begins (suc k) = ((taken, refl), by)
     abbrev_part = perform 39 (o.Push 2) (perform 40 o.Agree (perform 41 (o.Get n.Rank) (perform 42 (o.Get n.Rank)
         (choose 43 (o.Divide Fork) (perform 44 o.End done) done (perform 45 o.Resume (perform 46 o.End done))))))
 
-    either : (onward : Bool) (p : Processor) → fork_counts.numbers (going (append (if onward then abbrev_part else done) behind_all) []) p ≡ []
-    either true p = refl
-    either false p = refl
+    either : (onward : Bool) (p : Processor) (ns : List ℕ) → bytes_eq ns [] ≡ true
+        → ArePending next_in_fork all_outs fork_counts (going (append (if onward then abbrev_part else done) behind_all) []) p ns
+    either true p ns h = h
+    either false p ns h = h
 
-    taken : (highest lowest size : ℕ) (p : Processor)
-        → fork_counts.numbers (going (append (if goes_onward o.Begin highest lowest p then abbrev_part else done) behind_all) []) (does o.Begin highest size p) ≡ []
-    taken highest lowest size p = either (goes_onward o.Begin highest lowest p) (does o.Begin highest size p)
+    taken : (highest lowest size : ℕ) (p : Processor) (ns : List ℕ) → bytes_eq ns [] ≡ true
+        → ArePending next_in_fork all_outs fork_counts (going (append (if goes_onward o.Begin highest lowest p then abbrev_part else done) behind_all) []) (does o.Begin highest size p) ns
+    taken highest lowest size p ns h = either (goes_onward o.Begin highest lowest p) (does o.Begin highest size p) ns h
 
     by : (onward : Bool) → CountedFor next_in_fork all_outs fork_counts k (going (append (if onward then abbrev_part else done) behind_all) [])
     by true = count_pushes k
@@ -467,10 +481,10 @@ count_begins (suc k) = ((taken, refl), by)
 
 count_whole : IsCountedThere fork_main
 count_whole zero = tt
-count_whole (suc k) = ((λ set onward p. refl), (λ onward. count_begins k))
+count_whole (suc k) = ((λ set onward p ns h. h), (λ onward. count_begins k))
 
 fork_has_one_program : (setting : Setting) (schedule : Schedule) (processors : ℕ) (globals input : List ℕ) (firsts : Memory) → 1 ≤ processors
     → IsLawful next_in_fork setting schedule (opening processors globals input firsts (going fork_main []))
     → (run next_in_fork setting schedule (opening processors globals input firsts (going fork_main []))).fault ≡ None
     → KeepOneProgram next_in_fork processors (run next_in_fork setting schedule (opening processors globals input firsts (going fork_main [])))
-fork_has_one_program = groups_have_one_program Work next_in_fork all_outs (going fork_main []) fork_whole fork_counts refl count_whole
+fork_has_one_program = groups_have_one_program Work next_in_fork all_outs (going fork_main []) fork_whole fork_counts (λ p. refl) count_whole

@@ -22,7 +22,7 @@ use Rattle.fk_run.specs.Round.{Step, Runner, Fault, State, Round, Acting, lowest
 use Rattle.fk_run.specs.Schedule.{Schedule, beginners, opening, run, ArePossible}
 use Rattle.fk_run.proofs.Stopped.{stopped_faults}
 use Rattle.fk_lockstep.proofs.Rounds.{settled_at}
-use Rattle.fk_together.specs.Counts.{Counts, IsCounted}
+use Rattle.fk_together.specs.Counts.{Counts, ArePending, IsCounted}
 use Rattle.fk_together.specs.Course.{InGroup, ByItself, Does, FollowsFor, Follows}
 use Rattle.fk_together.specs.OneProgram.{groups_of, HaveOneProgram, WaitersHaveOneProgram, GroupsHaveOneProgram}
 use Rattle.fk_together.proofs.Acting.{untrue, Here, Out, told, bare, lefts_bare, HasValue, Is, without, Grouped, Parted, Apart, does_so, is_changing}
@@ -253,7 +253,7 @@ module _ {W : Type 0} (next : W → Option (Step W)) (outs : W → List W) (coun
   beginners_length set firsts program h zero = refl
   beginners_length set firsts program h (suc count) = ap (λ (n : ℕ). suc n) (beginners_length set firsts program (suc h) count)
 
-  module _ (program : W) (follows : Follows next outs (ByItself false) program) (none : counts.pending program ≡ 0) (counted : IsCounted next outs counts program) (processors : ℕ) (globals input : List ℕ) (firsts : Memory) (some : 1 ≤ processors) where
+  module _ (program : W) (follows : Follows next outs (ByItself false) program) (none : (p : Processor) → ArePending next outs counts program p []) (counted : IsCounted next outs counts program) (processors : ℕ) (globals input : List ℕ) (firsts : Memory) (some : 1 ≤ processors) where
     abbrev start : State W
     start = opening processors globals input firsts program
 
@@ -289,9 +289,9 @@ module _ {W : Type 0} (next : W → Option (Step W)) (outs : W → List W) (coun
               outs_are = ap outs left ∙ sym (lefts_bare (outs program));
               follows = subst (Follows next outs (ByItself false)) (sym left) follows;
               more = [];
-              numbers = none_at r.left r.has (ap counts.pending left ∙ none);
+              numbers = subst (λ (w : W). ArePending next outs counts w r.has []) (sym left) (none r.has);
               counted = subst (IsCounted next outs counts) (sym left) counted;
-              holds = record { many = sym none; ends = ends_none (outs program) };
+              holds = record { many = counts.many program r.has [] (none r.has); ends = ends_none (outs program) };
             }));
       };
       many = beginners_length (setting_of processors globals input) firsts program 0 processors;
@@ -301,9 +301,6 @@ module _ {W : Type 0} (next : W → Option (Step W)) (outs : W → List W) (coun
       groups = λ h r e. (beginner_at (setting_of processors globals input) firsts program 0 processors h r e).groups;
     }
       where
-        none_at : (w : W) (p : Processor) → counts.pending w ≡ 0 → counts.numbers w p ≡ []
-        none_at w p e = no_length (counts.numbers w p) (counts.many w p ∙ e)
-
         zero_less : (h : ℕ) → 0 + h ≡ h
         zero_less h = omega arith
 

@@ -14,14 +14,17 @@ use Rattle.fk_run.specs.Group.{enters, divided, does, goes_onward}
 use Rattle.fk_run.specs.Round.{Step}
 use Rattle.fk_nesting.specs.Behind.{grown}
 
--- the numbers of parts on which a processor's group has agreed and which no `fork` has taken yet, the last one first. How
--- many they are is told by what it has left
+-- the numbers of parts on which a processor's group has agreed and which no `fork` has taken yet, the last one first: which
+-- they may be, by what it has left and what it has. How many they are is told by what it has left
 pub record Counts (W : Type 0) : Type 0 where
   pub pending : W → ℕ
-  pub numbers : W → Processor → List ℕ
-  pub many : (work : W) (p : Processor) → length (numbers work p) ≡ pending work
+  pub are_pending : W → Processor → (numbers : List ℕ) → Bool
+  pub many : (work : W) (p : Processor) (numbers : List ℕ) → are_pending work p numbers ≡ true → length numbers ≡ pending work
 
 module _ {W : Type 0} (next : W → Option (Step W)) (outs : W → List W) (counts : Counts W) where
+  abbrev pub ArePending : W → Processor → (numbers : List ℕ) → Type 0
+  ArePending work p numbers = counts.are_pending work p numbers ≡ true
+
   -- where others are met behind a part or a body there are as many, or no more
   abbrev pub AsMany : ℕ → List W → Type 0
   AsMany n [] = Unit {0}
@@ -34,27 +37,31 @@ module _ {W : Type 0} (next : W → Option (Step W)) (outs : W → List W) (coun
   -- an operation leaves them as they are
   abbrev pub Leaves : Class → Operation → (here : W) → (rest : Bool → W) → Type 0
   Leaves Local op here rest =
-      (set : Setting) (onward : Bool) (p : Processor) → counts.numbers (rest onward) (local set op p) ≡ counts.numbers here p
+      (set : Setting) (onward : Bool) (p : Processor) (ns : List ℕ) → ArePending here p ns → ArePending (rest onward) (local set op p) ns
   Leaves Request op here rest =
-      (answer : ℕ) (p : Processor) → counts.numbers (rest true) (with_answer op answer p) ≡ counts.numbers here p
+      (answer : ℕ) (p : Processor) (ns : List ℕ) → ArePending here p ns → ArePending (rest true) (with_answer op answer p) ns
   Leaves Tree op here rest =
-      (highest lowest size : ℕ) (p : Processor)
-      → counts.numbers (rest (goes_onward op highest lowest p)) (does op highest size p) ≡ counts.numbers here p
+      (highest lowest size : ℕ) (p : Processor) (ns : List ℕ) → ArePending here p ns
+      → ArePending (rest (goes_onward op highest lowest p)) (does op highest size p) ns
 
   abbrev pub LeavesAtSplit : Split → (here : W) → (rest : Bool → W) → Type 0
   LeavesAtSplit by here rest =
-      (size : ℕ) (part : Option ℕ) (p : Processor) → counts.numbers (rest (enters by part)) (divided by size p part) ≡ counts.numbers here p
+      (size : ℕ) (part : Option ℕ) (p : Processor) (ns : List ℕ) → ArePending here p ns
+      → ArePending (rest (enters by part)) (divided by size p part) ns
+
+  -- the last one is the value that a `fork` splits by, and the others are left
+  abbrev pub IsTaken : (p after : Processor) (behind : W) (numbers : List ℕ) → Type 0
+  IsTaken p after behind ns = (others : List ℕ) × (ns ≡ last (before 2 (values p)) ∷ others) × ArePending behind after others
 
   -- an agree may add the value that all members have then. A `fork` takes the last one, which is the value that it splits by,
   -- and which was agreed on in the part that one is in. At a `start` there are none. All else leaves them
   abbrev pub CountsGoOn : Operation → (here : W) → (rest : Bool → W) → Type 0
   CountsGoOn o.Agree here rest =
-      (value : ℕ) (p : Processor)
-      → counts.numbers (rest true) (in_place value p)
-      ≡ grown (nat_lt (counts.pending here) (counts.pending (rest true))) value (counts.numbers here p)
+      (value : ℕ) (p : Processor) (ns : List ℕ) → ArePending here p ns
+      → ArePending (rest true) (in_place value p) (grown (nat_lt (counts.pending here) (counts.pending (rest true))) value ns)
   CountsGoOn (o.Divide Fork) here rest =
-      ((size : ℕ) (part : Option ℕ) (p : Processor)
-      → counts.numbers here p ≡ last (before 2 (values p)) ∷ counts.numbers (rest (is_some part)) (divided Fork size p part))
+      ((size : ℕ) (part : Option ℕ) (p : Processor) (ns : List ℕ) → ArePending here p ns
+      → IsTaken p (divided Fork size p part) (rest (is_some part)) ns)
       × NoMore (counts.pending (rest true)) (outs here)
   CountsGoOn (o.Divide IfElse) here rest = LeavesAtSplit IfElse here rest × AsMany (counts.pending here) (outs (rest true))
   CountsGoOn (o.Divide by) here rest = LeavesAtSplit by here rest × Unit {0}

@@ -1,5 +1,5 @@
 -- Groups whose members have one remaining program.
-use Rattle.std.specs.Prelude.{◌≡◌, ℕ, ◌≤◌, Bool, true, false, List, ◌∷◌, length, map, Option, Some, None, slice_get}
+use Rattle.std.specs.Prelude.{◌≡◌, ℕ, ◌≤◌, Bool, true, false, List, [], ◌∷◌, length, map, Option, Some, None, slice_get}
 use Rattle.fk_num.specs.Word.{Memory}
 use Rattle.fk_operation.specs.declared.operation.Operation.TheVariants as o
 use Rattle.fk_tree.specs.Tree as t
@@ -10,7 +10,7 @@ use Rattle.fk_run.specs.Processor.{Processor, Setting, values, last}
 use Rattle.fk_run.specs.Round.{Step, Runner, State}
 use Rattle.fk_run.specs.Schedule.{Schedule, opening, run, IsLawful}
 use Rattle.fk_together.specs.Course.{ByItself, Follows}
-use Rattle.fk_together.specs.Counts.{Counts, IsCounted}
+use Rattle.fk_together.specs.Counts.{Counts, ArePending, IsCounted}
 
 -- `@` and the size of a processor's group, and of each group round it
 abbrev pub groups_of : Processor → List (ℕ × ℕ)
@@ -50,7 +50,7 @@ module _ {W : Type 0} (next : W → Option (Step W)) where
 abbrev pub GroupsHaveOneProgram : (W : Type 0) → Type 0
 GroupsHaveOneProgram W =
     (next : W → Option (Step W)) (outs : W → List W) (program : W) → Follows next outs (ByItself false) program
-    → (counts : Counts W) → counts.pending program ≡ 0 → IsCounted next outs counts program
+    → (counts : Counts W) → ((p : Processor) → ArePending next outs counts program p []) → IsCounted next outs counts program
     → (setting : Setting) (schedule : Schedule) (processors : ℕ) (globals input : List ℕ) (firsts : Memory) → 1 ≤ processors
     → IsLawful next setting schedule (opening processors globals input firsts program)
     → (run next setting schedule (opening processors globals input firsts program)).fault ≡ None
