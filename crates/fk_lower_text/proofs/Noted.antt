@@ -14,8 +14,7 @@ use Rattle.fk_lower.specs.Building.{events_of}
 use Rattle.fk_lower.specs.BuilderView.{event_of}
 use Rattle.fk_lower.specs.declared.event.CodeEvent.{CodeEvent}
 use Rattle.fk_lower_text.specs.declared.noting.Noting.{Noting}
-use Rattle.fk_lower_text.specs.Height.{depth, after}
-use Rattle.fk_lower_text.specs.Noting.{told, written, noted, noting_after, noting_mark}
+use Rattle.fk_lower_text.specs.Noting.{told, written, noted, noting_after, no_mark}
 use Rattle.fk_lower_text.specs.Whole.{IsPlain}
 
 -- what is written
@@ -51,12 +50,12 @@ both {from = from} {to = to} {last = last} {xs = xs} {ys = ys} x y = record {
       };
 }
 
-one : (from : Noting) (event : Event) (e : b.Event) → event_of (told event (depth from.height)) ≡ e → Notes from (e ∷ []) (noting_after from event)
+one : (from : Noting) (event : Event) (e : b.Event) → event_of (told event) ≡ e → Notes from (e ∷ []) (noting_after from event)
 one from event e same = record {
   adds = λ h.
       let less : from.filled < length from.events.items = omega (arith, h) in
-      let x = told event (depth from.height) in
-      subst (λ (b : Bool). Adds from (e ∷ []) (record (if b then written from x else from) { height = after from.height event }))
+      let x = told event in
+      subst (λ (b : Bool). Adds from (e ∷ []) (if b then written from x else from))
       (sym (lt-ltb from.filled (length from.events.items) less))
       (record {
         filled = omega arith;
@@ -73,7 +72,7 @@ writes from event less = ap (λ (b : Bool). if b then written from event else fr
 
 module _ (functions : (binding : ℕ) → Signature) where
   abbrev past : Noting → Coded → Noting
-  past noting code = through noting_after noting_mark functions noting code
+  past noting code = through noting_after no_mark functions noting code
 
   shows : (code : Coded) → IsPlain code → (noting : Noting) → Notes noting (events_of code) (past noting code)
   shows c.done p noting = nothing noting
@@ -81,10 +80,10 @@ module _ (functions : (binding : ℕ) → Signature) where
   shows (c.choose t op x y rest) p noting =
       let first = noting_after noting (v.Choose (shown op) t) in
       let second = past first x in
-      let third = past (noting_after second (v.Aside (noting_mark first))) y in
+      let third = past (noting_after second (v.Aside (no_mark first))) y in
       both (both (both (one noting (v.Choose (shown op) t) (b.Choose op) (ap b.Choose p.1.0)) (shows x (p.0.0, p.1.1) first))
-      (both (one second (v.Aside (noting_mark first)) b.Aside refl) (shows y (p.0.1, p.1.2) _)))
-      (both (one third (v.Joined (noting_mark noting) (noting_mark second)) b.Joined refl) (shows rest (p.0.2, p.1.3) _))
+      (both (one second (v.Aside (no_mark first)) b.Aside refl) (shows y (p.0.1, p.1.2) _)))
+      (both (one third (v.Joined (no_mark noting) (no_mark second)) b.Joined refl) (shows rest (p.0.2, p.1.3) _))
   shows (c.while test body step rest) p noting =
       both (both (both (both (one noting v.While b.While refl) (shows test (p.0.0, p.1.0) _)) (both (one _ v.Part b.Part refl) (shows body (p.0.1, p.1.1) _)))
       (both (one _ v.Part b.Part refl) (shows step (p.0.2, p.1.2) _))) (both (one _ v.Behind b.Behind refl) (shows rest (p.0.3, p.1.3) _))
@@ -99,15 +98,15 @@ module _ (functions : (binding : ℕ) → Signature) where
   shows (c.call t op f opening rest) p noting =
       let entered = noting_after noting (v.Call (shown op) t f) in
       both (both (one noting (v.Call (shown op) t f) (b.Call op f) (ap (λ o. b.Call o f) p.1.0)) (shows opening (p.0.0, p.1.1) entered))
-      (both (one _ (v.Returned (noting_mark entered) (functions f).void) b.Returned refl) (shows rest (p.0.1, p.1.2) _))
+      (both (one _ (v.Returned (no_mark entered) (functions f).void) b.Returned refl) (shows rest (p.0.1, p.1.2) _))
   shows (c.ends t op rest) p noting = both (one noting (v.Ends (shown op) t) (b.Ends op) (ap b.Ends p.1.0)) (shows rest (p.0, p.1.1) _)
 
 -- with room for just these, they are all that is written
 pub all_noted : (functions : (binding : ℕ) → Signature) (code : Coded) → IsPlain code → (first last : Noting)
-    → last ≡ through noting_after noting_mark functions first code → first.filled ≡ 0 → length first.events.items ≡ length (events_of code)
+    → last ≡ through noting_after no_mark functions first code → first.filled ≡ 0 → length first.events.items ≡ length (events_of code)
     → map event_of last.events.items ≡ events_of code
 all_noted functions code p first last e z n =
-    let end = through noting_after noting_mark functions first code in
+    let end = through noting_after no_mark functions first code in
     let all = shows functions code p first in
     let a = all.adds (omega (arith, z, n)) in
     let f = a.filled in

@@ -1,4 +1,6 @@
 pub mod Height
+pub mod Depths
+pub mod Telling
 pub mod Counting
 pub mod Noting
 pub mod Whole

@@ -37,11 +37,11 @@ fn has_site(event: CodeEvent) -> bool
 {
     matches!(
         event,
-        CodeEvent::Perform { .. }
-            | CodeEvent::Choose { .. }
-            | CodeEvent::Quit { .. }
-            | CodeEvent::Call { .. }
-            | CodeEvent::Ends { .. }
+        CodeEvent::Perform(_)
+            | CodeEvent::Choose(_)
+            | CodeEvent::Quit(_)
+            | CodeEvent::Call(_, _)
+            | CodeEvent::Ends(_)
     )
 }
 

@@ -6,6 +6,7 @@
 
 mod bodies;
 mod count;
+mod depths;
 mod height;
 mod main_entry;
 mod noting;

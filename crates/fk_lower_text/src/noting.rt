@@ -10,40 +10,33 @@ ghost use Rattle.fk_lower_text.specs.Noting.{told, noted};
 ghost use Rattle.fk_lower_text.specs.Whole.{IsPlain};
 
 use crate::count::Count;
-use crate::height::Height;
 use fk_lower::{CodeEvent, LowerFault};
 use fk_syntax::Function;
 use fk_walk::{Event, Known, Mark, Visitor};
 use fk_walk_statements::function;
 use std::alloc::Global;
 
-/// A visitor that writes down what it is shown, as long as there is room, each operation with how
-/// many values the running call has before it.
+/// A visitor that writes down what it is shown, as long as there is room.
 #[derive(Drop)]
 pub(crate) struct Noting {
     pub(crate) events: Vec<CodeEvent>,
     /// How many of them are written.
     pub(crate) filled: usize,
-    pub(crate) height: Height,
 }
 
-// An event as it is shown to a builder, where the running call has so many values.
-fn told(event: Event, depth: u32) -> CodeEvent
-    ensures { result ≡ told event depth }
+// An event as it is shown to a builder.
+fn told(event: Event) -> CodeEvent
+    ensures { result ≡ told event }
 {
     match event {
-        Event::Perform(operation, _) => CodeEvent::Perform { operation, depth },
-        Event::Choose(operation, _) => CodeEvent::Choose { operation, depth },
+        Event::Perform(operation, _) => CodeEvent::Perform(operation),
+        Event::Choose(operation, _) => CodeEvent::Choose(operation),
         Event::Aside(_) => CodeEvent::Aside,
         Event::Joined(_, _) => CodeEvent::Joined,
-        Event::Quit(operation, _) => CodeEvent::Quit { operation, depth },
-        Event::Call(operation, _, function) => CodeEvent::Call {
-            operation,
-            depth,
-            function,
-        },
+        Event::Quit(operation, _) => CodeEvent::Quit(operation),
+        Event::Call(operation, _, function) => CodeEvent::Call(operation, function),
         Event::Returned(_, _) => CodeEvent::Returned,
-        Event::Ends(operation, _) => CodeEvent::Ends { operation, depth },
+        Event::Ends(operation, _) => CodeEvent::Ends(operation),
         Event::While => CodeEvent::While,
         Event::Until => CodeEvent::Until,
         Event::Part => CodeEvent::Part,
@@ -66,20 +59,23 @@ impl Noting {
 }
 
 impl Visitor for Noting {
-    ghost use Rattle.fk_lower_text.specs.Noting.{noting_after, noting_mark};
+    ghost use Rattle.fk_lower_text.specs.Noting.{noting_after, no_mark};
 
     ghost after = { noting_after };
 
-    ghost counts = { noting_mark };
+    ghost counts = { no_mark };
 
     fn meet(&mut self, event: Event) {
-        let height = self.height;
-        self.write(told(event, height.depth()));
-        self.height = height.after(event);
+        self.write(told(event));
     }
 
     fn mark(&self) -> Mark {
-        self.height.mark()
+        Mark {
+            values: 0,
+            most: 0,
+            nesting: 0,
+            deepest: 0,
+        }
     }
 }
 
@@ -105,11 +101,7 @@ pub(crate) fn events_of(
     let Ok(events) = vec![in alloc; CodeEvent::Break; count.events as usize] else {
         return Err(LowerFault::Memory);
     };
-    let mut noting = Noting {
-        events,
-        filled: 0,
-        height: Height::NOTHING,
-    };
+    let mut noting = Noting { events, filled: 0 };
     function(known, &mut noting, whole);
     Ok(noting.events)
 }

@@ -6,11 +6,14 @@ ghost use Rattle.fk_forms.specs.Program.{main_of};
 ghost use Rattle.fk_walk.specs.Known.{tables_of, items_in, IsSound};
 ghost use Rattle.fk_walk_statements.specs.Texts.{functions_in};
 ghost use Rattle.fk_core.specs.WellFormed.{HasDepths};
+ghost use Rattle.fk_lower.specs.Depths.{AreTold};
 ghost use Rattle.fk_lower.specs.Written.{entry_of};
+ghost use Rattle.fk_lower_text.specs.Depths as d;
 ghost use Rattle.fk_lower_text.specs.Laid.{CanBeLaid};
 ghost use Rattle.fk_lower_text.specs.Lowered.{IsLowerable, HasProgram, HasItsRuns, HasSites, IsTextFault};
 
 use crate::bodies::Bodies;
+use crate::depths::depths_of;
 use crate::main_entry::check_depths;
 use fk_lower::{Block, LowerFault, Lowered, lower};
 use fk_walk::Known;
@@ -36,6 +39,8 @@ pub fn lower_text(alloc: Global, known: &Known) -> Result<Lowered, LowerFault>
         (entry_of lowered.entries.of_bindings.items lowered.entries.end)) }
     ensures sites { (program : ProgramTree) → IsLowerable known.now program
         → IfOk result (λ lowered. HasSites known.now lowered.ops.items) }
+    ensures told { (program : ProgramTree) → IsLowerable known.now program
+        → IfOk result (λ lowered. AreTold (d.depths_of known.now (functions_in known.now)) lowered.ops.items) }
     ensures depths { (program : ProgramTree) → program.items ≡ items_in known.now
         → IfOk result (λ lowered. HasDepths lowered.ops.items
         (entry_of lowered.entries.of_bindings.items lowered.entries.end
@@ -44,7 +49,8 @@ pub fn lower_text(alloc: Global, known: &Known) -> Result<Lowered, LowerFault>
 {
     let bodies = Bodies::of(alloc, known)?;
     let blocks: &[Block] = &bodies.blocks;
-    let lowered = lower(alloc, blocks)?;
+    let depths = depths_of(alloc, known)?;
+    let lowered = lower(alloc, blocks, &depths)?;
     check_depths(alloc, known, &lowered)?;
     Ok(lowered)
 }

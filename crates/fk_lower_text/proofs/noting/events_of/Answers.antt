@@ -1,5 +1,5 @@
 -- All that is shown of the code is counted, and then written down.
-use Rattle.std.proofs.Common.{None, refl, arith}
+use Rattle.std.proofs.Common.{refl, arith}
 use Rattle.fk_syntax.specs.ProgramView.{function_of}
 use Rattle.fk_walk.specs.Known.{functions_of}
 use Rattle.fk_walk_statements.specs.Texts.{code_in}
@@ -14,5 +14,5 @@ returns-clause-events c plain =
     let count = c.function.new.visitor in
     let n = exactly (functions_of known) code plain.0 count c.function.ensures c.if-count.false in
     let m = c.in-Ok.ensures.len in
-    all_noted (functions_of known) code plain (record { events = c.in-Ok.events; filled = 0; height = record { values = 0; beginning = None } })
+    all_noted (functions_of known) code plain (record { events = c.in-Ok.events; filled = 0 })
     c.function-2.new.visitor c.function-2.ensures refl (omega (arith, n, m))

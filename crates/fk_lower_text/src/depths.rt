@@ -1,0 +1,106 @@
+//! How many values the running call has before each operation of a text.
+
+ghost use Rattle.std.specs.Prelude.{◌≡◌, ◌*◌, ◌^◌, ◌<◌, ◌∷◌, List, IfOk, IfErr, length, map};
+ghost use Rattle.fk_syntax.specs.Program.{ItemTree};
+ghost use Rattle.fk_syntax.specs.ProgramView.{item_of};
+ghost use Rattle.fk_forms.specs.Program as f;
+ghost use Rattle.fk_walk.specs.Known.{IsSound};
+ghost use Rattle.fk_walk_statements.specs.Texts.{functions_in, sites_of_text};
+ghost use Rattle.fk_lower_text.specs.Depths.{HaveOpenings};
+ghost use Rattle.fk_lower_text.specs.Depths as d;
+ghost use Rattle.fk_lower_text.specs.Telling.{told_depth, through_functions};
+
+use crate::height::Height;
+use fk_layout::count_sites;
+use fk_lower::LowerFault;
+use fk_syntax::Item;
+use fk_walk::{Event, Known, Mark, Visitor};
+use fk_walk_statements::function;
+use std::alloc::Global;
+
+/// A visitor that tells how many values the running call has before each operation that it is
+/// shown, as long as there is room.
+#[derive(Drop)]
+pub(crate) struct Depths {
+    pub(crate) told: Vec<u32>,
+    /// How many of them are told.
+    pub(crate) filled: usize,
+    pub(crate) height: Height,
+}
+
+impl Depths {
+    // Tells the depth here, where there is room.
+    fn tell(&mut self)
+        ensures { self.new ≡ told_depth self.old }
+    {
+        let depth = self.height.depth();
+        if self.filled < self.told.len() {
+            self.told[self.filled] = depth;
+            self.filled += 1;
+        }
+    }
+
+    // Is shown what stands in a text side by side. Each function begins without values.
+    fn item(&mut self, known: &Known, whole: &Item)
+        requires { IsSound known.now }
+        ensures { (others : List ItemTree)
+            → through_functions known.now self.old (f.functions_of (item_of whole.now ∷ others))
+            ≡ through_functions known.now self.new (f.functions_of others) }
+    {
+        match whole {
+            Item::Function(whole) => {
+                if whole.body.is_some() {
+                    self.height = Height::NOTHING;
+                    function(known, self, whole);
+                }
+            }
+            Item::Struct(_, _) | Item::Variables(_) => {}
+        }
+    }
+}
+
+impl Visitor for Depths {
+    ghost use Rattle.fk_lower_text.specs.Telling.{depths_after, depths_mark};
+
+    ghost after = { depths_after };
+
+    ghost counts = { depths_mark };
+
+    fn meet(&mut self, event: Event) {
+        let height = self.height;
+        if event.operation().is_some() {
+            self.tell();
+        }
+        self.height = height.after(event);
+    }
+
+    fn mark(&self) -> Mark {
+        self.height.mark()
+    }
+}
+
+/// How many values the running call has before each operation of a text, in the order of the text.
+/// It takes time and memory linear in the text.
+///
+/// # Errors
+/// `Memory`.
+pub(crate) fn depths_of(alloc: Global, known: &Known) -> Result<Vec<u32>, LowerFault>
+    requires { IsSound known.now }
+    ensures depths { HaveOpenings known.now (functions_in known.now)
+        → 2 * length (sites_of_text known.now) < 2 ^ 32
+        → IfOk result (λ depths. depths.items ≡ d.depths_of known.now (functions_in known.now)) }
+    ensures refused { IfErr result (λ fault. fault ≡ LowerFault.Memory) }
+{
+    let Ok(told) = vec![in alloc; 0; count_sites(known) as usize] else {
+        return Err(LowerFault::Memory);
+    };
+    let mut depths = Depths {
+        told,
+        filled: 0,
+        height: Height::NOTHING,
+    };
+    for item in known.items {
+        depths.item(known, item);
+    }
+    Ok(depths.told)
+}
