@@ -24,7 +24,7 @@ use Rattle.fk_asked.proofs.Programs.{correct_programs_are_asked, mains_have_thei
 use Rattle.fk_suits.proofs.Free.{lone, typed_list, lists_are_free}
 use Rattle.fk_suits.proofs.Suiting.{live_words_suit}
 use Rattle.fk_rooms.proofs.Room.{correct_programs_have_room}
-use Rattle.fk_certain.specs.Laws.{CorrectListsAreCertain}
+use Rattle.fk_certain.specs.Laws.{CorrectListsAreSafe, CorrectListsAreCertain}
 
 -- what has the place of `main` is defined
 is_there : (tables : Tables) (fs : List FunctionTree) (b : ℕ) → place_in tables fs b ≡ Main → is_defined tables fs b ≡ true
@@ -36,8 +36,8 @@ is_there tables (f ∷ fs) b is = by (binding_of tables f == b) (is_there tables
     by true others is = refl
     by false others is = others is
 
-pub correct_lists_are_certain : CorrectListsAreCertain
-correct_lists_are_certain program facts valid trim proper fits built small core entry kept lowered =
+pub correct_lists_are_safe : CorrectListsAreSafe
+correct_lists_are_safe program facts valid trim proper fits built core entry flat =
     let tables = tables_by program facts in
     let main = main_of tables program in
     let asked = correct_programs_are_asked program facts valid trim proper fits in
@@ -45,16 +45,29 @@ correct_lists_are_certain program facts valid trim proper fits built small core 
     let shaped = forms_are_shaped tables program fitting in
     let place = (mains_have_their_place program facts valid).0 in
     let closed = functions_are_closed tables program fitting main (is_there tables (functions_of program.items) main place) in
-    let within = lists_are_free tables program core entry asked built shaped lowered.flat closed in
+    let within = lists_are_free tables program core entry asked built shaped flat closed in
+    let typed = typed_list tables program core entry asked built shaped flat in
+    record {
+      begins = within.begins;
+      free = within.free;
+      may =
+          knowledge_is_enough core (entry main)
+          (typed_lists_know (bodies_of tables program) core entry (place_of tables program) typed (lone tables program core entry built flat) main place);
+    }
+
+pub correct_lists_are_certain : CorrectListsAreCertain
+correct_lists_are_certain program facts valid trim proper fits built small core entry kept lowered =
+    let tables = tables_by program facts in
+    let main = main_of tables program in
+    let asked = correct_programs_are_asked program facts valid trim proper fits in
+    let shaped = forms_are_shaped tables program (correct_programs_fit program facts valid trim) in
+    let place = (mains_have_their_place program facts valid).0 in
     let typed = typed_list tables program core entry asked built shaped lowered.flat in
-    let knowledge = typed_lists_know (bodies_of tables program) core entry (place_of tables program) typed (lone tables program core entry built lowered.flat) main place in
     let count = length-map (variables_of false program.items) (first_of (told facts.notes.items facts.kinds.items)) in
     let suits = live_words_suit (bodies_of tables program) core entry (place_of tables program) (file_privates program.items) typed lowered.tall
     (correct_programs_have_room program facts valid trim proper fits built (subst (λ n. n ≤ 55) count small)) (words_in kept) lowered.live lowered.least main place in
     record {
-      begins = within.begins;
-      free = within.free;
-      may = knowledge_is_enough core (entry main) knowledge;
+      safe = correct_lists_are_safe program facts valid trim proper fits built core entry lowered.flat;
       frames = record { keeps = words_in kept; is_main = suits.0; of_file = file_privates program.items };
       of_file = sym count;
       suits = suits.1;

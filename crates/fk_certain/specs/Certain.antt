@@ -7,14 +7,17 @@ use Rattle.fk_block_law.specs.Suits.{Suits}
 use Rattle.fk_kept.specs.declared.set.Set.{Set}
 use Rattle.fk_kept.specs.Frames.{kept_in}
 
-pub record IsCertain (core : List CoreOp) (kept : List Set) (main firsts : ℕ) : Type 0 where
+pub record IsSafe (core : List CoreOp) (main : ℕ) : Type 0 where
   -- `main` begins in the list
   pub begins : main < length core
   -- it has operations without groups alone
   pub free : IsFree core
   -- in every run each operation may be done
   pub may : AlwaysMay core main
-  -- and it suits frames with so many private variables of file scope
+
+pub record IsCertain (core : List CoreOp) (kept : List Set) (main firsts : ℕ) : Type 0 where
+  pub safe : IsSafe core main
+  -- it suits frames with so many private variables of file scope
   pub frames : Frames
   pub of_file : frames.of_file ≡ firsts
   pub suits : Suits core frames main

@@ -18,7 +18,7 @@ use Rattle.fk_fitting.specs.Correct.{IsCorrect}
 use Rattle.fk_typed_code.specs.Laws.{HasHeightsOf}
 use Rattle.fk_typed_forms.specs.Asked.{place_of}
 use Rattle.fk_asked.specs.Proper.{ProgramIsProper}
-use Rattle.fk_certain.specs.Certain.{IsCertain}
+use Rattle.fk_certain.specs.Certain.{IsSafe, IsCertain}
 
 -- the code of each function stands at its entry in a list, with its depths, and these words are those that are live in it
 pub record IsLowered (tables : Tables) (program : ProgramTree) (core : List CoreOp) (entry : (binding : ℕ) → ℕ) (kept : List Set) : Type 0 where
@@ -26,6 +26,13 @@ pub record IsLowered (tables : Tables) (program : ProgramTree) (core : List Core
   pub tall : HasHeightsOf (bodies_of tables program) core (place_of tables program)
   pub live : IsLive core (words_in kept)
   pub least : IsLeast core (words_in kept)
+
+abbrev pub CorrectListsAreSafe : Type 0
+CorrectListsAreSafe =
+    (program : ProgramTree) (facts : Facts) → IsCorrect program facts → ProgramIsTrim program → ProgramIsProper program
+    → let tables = tables_by program facts in
+    Fits tables program.items → AreBuilt tables program
+    → (core : List CoreOp) (entry : (binding : ℕ) → ℕ) → IsFlat (bodies_of tables program) core entry → IsSafe core (entry (main_of tables program))
 
 -- how many private variables of file scope a text has
 abbrev pub count_of_file : ProgramTree → Facts → ℕ

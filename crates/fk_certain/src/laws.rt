@@ -1,6 +1,13 @@
 //! Laws of the lists of programs.
 
-ghost use Rattle.fk_certain.specs.Laws.{CorrectListsAreCertain};
+ghost use Rattle.fk_certain.specs.Laws.{CorrectListsAreSafe, CorrectListsAreCertain};
+
+/// A flat list of a program that keeps all rules, as a text spells it, and has a layout, has operations
+/// without groups alone, goes on within itself from `main` on, and may do each operation in every run,
+/// where all operations are built.
+pub fn correct_lists_are_safe()
+    ensures { CorrectListsAreSafe }
+{}
 
 /// A flat list of a program that keeps all rules, as a text spells it, and has a layout, with the
 /// depths of its code and its live words, has operations without groups alone, may do each of them in

@@ -8,7 +8,7 @@ use Rattle.fk_core.specs.Numbers.{operation_of}
 use Rattle.fk_core.specs.WellFormed.{IsOperation, LeadsOn}
 use Rattle.fk_block_law.proofs.Standing.{landing_here}
 use Rattle.fk_kept.specs.declared.set.Set.{Set}
-use Rattle.fk_certificate.specs.Certain.{IsCertain}
+use Rattle.fk_certain.specs.Certain.{IsCertain}
 use Rattle.fk_generate.specs.Generable.{IsGenerable}
 
 -- the operation at an index has a site and a number of 32 bits
@@ -30,9 +30,9 @@ pub certain_is_generable : (core : List CoreOp) (kept : List Set) (main : ℕ) (
     → All (λ op. (op.site < 2 ^ 32) × (op.number < 2 ^ 32)) core → All (λ v. v < 2 ^ 32) firsts
     → LeadsOn core → IsGenerable core kept main firsts
 certain_is_generable core kept main firsts certain words first_words leads = record {
-  free = certain.free;
+  free = certain.safe.free;
   operations = are_operations core leads;
-  begins = certain.begins;
+  begins = certain.safe.begins;
   frames = certain.frames;
   suits = certain.suits;
   keeps = certain.keeps;

@@ -1,5 +1,5 @@
 -- A text that keeps all rules and has a layout can be lowered.
-use Rattle.std.proofs.Common.{◌≡◌, ◌≤◌, ℕ, List, length, sym, ap, subst, ◌∙◌, arith}
+use Rattle.std.proofs.Common.{◌≤◌, ℕ, List, length, sym, subst}
 use Rattle.std.specs.Prelude.{Result, Ok, Err, IfOk}
 use Rattle.fk_syntax.specs.declared.facts.Facts.{Facts}
 use Rattle.fk_syntax.specs.Program.{ItemTree, ProgramTree}
@@ -8,6 +8,7 @@ use Rattle.fk_forms.specs.Program.{functions_of, bodies_of, sites_in}
 use Rattle.fk_walk.specs.declared.known.Known.{Known}
 use Rattle.fk_walk.specs.Known.{tables_of}
 use Rattle.fk_walk_statements.specs.Texts.{functions_in, sites_of_text}
+use Rattle.fk_core.specs.declared.op.CoreOp.{CoreOp}
 use Rattle.fk_flat.specs.Laws.{AreShaped}
 use Rattle.fk_layout.specs.Layout.{tables_by}
 use Rattle.fk_layout.specs.Refusal.{Fits}
@@ -18,6 +19,11 @@ use Rattle.fk_parsed.specs.Trim.{ProgramIsTrim}
 use Rattle.fk_fitting.specs.Correct.{IsCorrect}
 use Rattle.fk_fitting.specs.Laws.{CorrectProgramsFit}
 use Rattle.fk_lowerable.specs.Laws.{IsKnownOf}
+use Rattle.fk_text.specs.Built.{AreBuilt}
+use Rattle.fk_asked.specs.Proper.{ProgramIsProper}
+use Rattle.fk_certain.specs.Certain.{IsSafe}
+use Rattle.fk_certain.specs.Laws.{CorrectListsAreSafe}
+use Rattle.fk_compile.specs.Lists.{IsListFor}
 
 module _ (program : ProgramTree) (facts : Facts) (known : Known) (of : IsKnownOf program facts known) where
   pub lowerable : IsCorrect program facts → ProgramIsTrim program → CorrectProgramsFit → FormsAreShaped → AreWhole known (functions_in known) → IsLowerable known program
@@ -31,6 +37,14 @@ module _ (program : ProgramTree) (facts : Facts) (known : Known) (of : IsKnownOf
   few_sites fits =
       subst (λ (items : List ItemTree). length (sites_in (tables_of known) (functions_of items) (functions_of items)) ≤ 16000) (sym of.items)
       (subst (λ (t : Tables). length (sites_in t (functions_of program.items) (functions_of program.items)) ≤ 16000) (sym of.tables) fits.sites)
+
+-- and its list has operations that may be done in every run
+pub safe_list : (program : ProgramTree) (facts : Facts) (known : Known) → IsKnownOf program facts known → CorrectListsAreSafe → IsCorrect program facts → ProgramIsTrim program
+    → ProgramIsProper program → Fits (tables_by program facts) program.items → AreBuilt (tables_by program facts) program
+    → (core : List CoreOp) (main : ℕ) → IsListFor (tables_of known) program core main → IsSafe core main
+safe_list program facts known of law valid trim proper fits built core main list =
+    let own = subst (λ (t : Tables). IsListFor t program core main) of.tables list in
+    subst (λ (m : ℕ). IsSafe core m) (sym own.begins) (law program facts valid trim proper fits built core own.entry own.flat)
 
 -- what is so of what is answered
 pub answered : {A E : Type 0} (P Q : A → Type 0) (r : Result A E) → ((a : A) → P a → Q a) → IfOk r P → IfOk r Q

@@ -23,7 +23,7 @@ use Rattle.fk_asm.specs.declared.code.Code.{Code}
 use Rattle.fk_block_law.specs.Stands.{Places}
 use Rattle.fk_block_law.specs.Block.{BlockLaw}
 use Rattle.fk_kept.specs.declared.set.Set.{Set}
-use Rattle.fk_certificate.specs.Certain.{IsCertain}
+use Rattle.fk_certain.specs.Certain.{IsCertain}
 use Rattle.fk_text.specs.declared.refusal.Refusal.{Refusal}
 use Rattle.fk_text.specs.Refusal.{IsRefused}
 use Rattle.fk_generate.specs.Generable.{IsGenerable, HasCode, DoesTheList}

@@ -14,7 +14,7 @@ use Rattle.fk_block_law.specs.Block.{BlockLaw}
 use Rattle.fk_simulation.specs.Follows.{Follows}
 use Rattle.fk_simulation.specs.Simulation.{Carries, MachinesFollowPrograms}
 use Rattle.fk_kept.specs.declared.set.Set.{Set}
-use Rattle.fk_certificate.specs.Certain.{IsCertain}
+use Rattle.fk_certain.specs.Certain.{IsCertain}
 use Rattle.fk_compile.specs.Lists.{IsListFor}
 use Rattle.fk_compile.specs.Faithful.{in_image, words_by, firsts_by, IsFaithfulTo}
 
@@ -36,9 +36,9 @@ module _ (program : ProgramTree) (facts : Facts) (core : List CoreOp) (kept : Li
       subst (λ (m : ℕ). Carries core m (firsts_by program facts) c.places image) c.list.begins
       (record {
         well_formed = record { leads_on = c.list.code.leads_on; depths = c.list.depths };
-        may = c.certain.may;
-        free = c.certain.free;
-        begins = c.certain.begins;
+        may = c.certain.safe.may;
+        free = c.certain.safe.free;
+        begins = c.certain.safe.begins;
         blocks = c.blocks;
         firsts_are_words = c.firsts_are_words;
         globals_are_words = c.globals_are_words;

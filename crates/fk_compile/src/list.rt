@@ -1,6 +1,6 @@
 //! The flat list of a text, and whether it is certain that its code does what it does.
 
-ghost use Rattle.std.specs.Prelude.{◌≡◌, ◌<◌, ◌≤◌, ◌^◌, ℕ, All, List as Listed, IfErr, IfOk, alloc_error, length, sum_by};
+ghost use Rattle.std.specs.Prelude.{◌≡◌, ◌<◌, ◌≤◌, ◌^◌, ℕ, All, List as Listed, IfErr, IfOk, IfSome, IsTrue, alloc_error, length, sum_by};
 ghost use Rattle.fk_syntax.specs.Program.{ProgramTree};
 ghost use Rattle.fk_syntax.specs.ProgramView.{program_of};
 ghost use Rattle.fk_syntax.specs.WellFormed.{IsWellFormed};
@@ -11,17 +11,21 @@ ghost use Rattle.fk_walk_statements.specs.Texts.{functions_in};
 ghost use Rattle.fk_lower_text.specs.Laid.{CanBeLaid};
 ghost use Rattle.fk_lower_text.specs.Lowered.{IsLowerable, HasSites};
 ghost use Rattle.fk_core.specs.WellFormed.{LeadsOn};
-ghost use Rattle.fk_certificate.specs.Certain.{IsCertain};
+ghost use Rattle.fk_block_law.specs.Suits.{Suits};
+ghost use Rattle.fk_kept.specs.Frames.{frames_of};
+ghost use Rattle.fk_certain.specs.Certain.{IsSafe, IsCertain};
 ghost use Rattle.fk_generate.specs.Generable.{IsGenerable, most_words};
+ghost use Rattle.fk_text.specs.Built.{AreBuilt};
 ghost use Rattle.fk_text.specs.Refusal.{IsRefused};
 ghost use Rattle.fk_text.specs.Text.{IsChecked};
 ghost use Rattle.fk_compile.specs.Lists.{IsListFor};
 
 use crate::image::are_words;
-use fk_certificate::certificate_of;
+use fk_asked::laws::texts_are_proper;
+use fk_certain::laws::correct_lists_are_safe;
 use fk_core::CoreOp;
 use fk_fitting::laws::correct_programs_fit;
-use fk_kept::Set;
+use fk_kept::{Place, Set, live_words, places_of, suits_frames};
 use fk_lookup::Lookup;
 use fk_lower::LowerFault;
 use fk_lower_text::{entry_of_main, lower_text};
@@ -80,10 +84,13 @@ pub(crate) fn list_of(alloc: Global, text: &Built) -> Result<List, Refusal>
         (program_of text.now.tree).items }
     requires well_formed { IsWellFormed (program_of text.now.tree) }
     requires tokens { text.now.tree.tokens ≤ 2 ^ 20 }
+    requires built { AreBuilt (tables_by (program_of text.now.tree) text.now.facts)
+        (program_of text.now.tree) }
     ensures list { IfOk result
         (λ list. IsListFor (tables_by (program_of text.now.tree) text.now.facts)
         (program_of text.now.tree) list.ops.items list.main) }
     ensures small { IfOk result (λ list. sum_by most_words list.ops.items ≤ 256000) }
+    ensures safe { IfOk result (λ list. IsSafe list.ops.items list.main) }
     ensures refused { IfErr result (λ refusal. (source : Listed ℕ) → IsRefused source refusal) }
 {
     let bare = known_of(&text.tree, &text.facts, &text.layout);
@@ -91,11 +98,13 @@ pub(crate) fn list_of(alloc: Global, text: &Built) -> Result<List, Refusal>
     let known = lookup.complete(bare);
     texts_have_words();
     texts_are_trim();
+    texts_are_proper();
     correct_programs_fit();
     forms_are_shaped();
     lists_are_small();
     numbers_have_room();
     texts_can_be_laid();
+    correct_lists_are_safe();
     lowered(alloc, &known)
 }
 
@@ -116,10 +125,43 @@ fn have_words(ops: &[CoreOp])
     }
 }
 
+// Whether a list suits frames in which calls keep these words.
+fn suits(ops: &[CoreOp], places: &[Place], kept: &[Set], main: u32, firsts: u32) -> bool
+    ensures { IsTrue result
+        → Suits ops.now (frames_of places.now kept.now firsts) main }
+{
+    let list = fk_kept::List {
+        ops,
+        places,
+        kept,
+        firsts,
+    };
+    suits_frames(&list, main)
+}
+
+// The private words that are live at each index of a list, where it suits frames that hold them.
+fn kept_words(
+    alloc: Global,
+    ops: &[CoreOp],
+    main: u32,
+    firsts: u32,
+) -> Result<Option<Vec<Set>>, AllocError>
+    requires safe { IsSafe ops.now main }
+    ensures { IfOk result (λ found. IfSome found (λ kept. IsCertain ops.now kept.items main firsts)) }
+{
+    let places = places_of(alloc, ops)?;
+    let kept = live_words(alloc, ops)?;
+    if !suits(ops, &places, &kept, main, firsts) {
+        return Ok(None);
+    }
+    Ok(Some(kept))
+}
+
 /// The private words that calls keep at each index of a list, where it is certain that the code does
 /// what the list does. Code is made of it, with the first values of private variables of file scope.
 pub(crate) fn certify(alloc: Global, list: &List, firsts: &[u32]) -> Result<Vec<Set>, Refusal>
     requires few { length firsts.now ≤ 56 }
+    requires safe { IsSafe list.now.ops.items list.now.main }
     ensures certain { IfOk result (λ kept. IsCertain list.now.ops.items kept.items list.now.main (length firsts.now)) }
     ensures generable { IfOk result (λ kept. LeadsOn list.now.ops.items
         → IsGenerable list.now.ops.items kept.items list.now.main firsts.now) }
@@ -127,7 +169,7 @@ pub(crate) fn certify(alloc: Global, list: &List, firsts: &[u32]) -> Result<Vec<
 {
     have_words(&list.ops);
     are_words(firsts);
-    match certificate_of(alloc, &list.ops, list.main, firsts.len() as u32) {
+    match kept_words(alloc, &list.ops, list.main, firsts.len() as u32) {
         Ok(Some(kept)) => Ok(kept),
         Ok(None) => Err(uncertain()),
         Err(error) => Err(Refusal::Memory(error)),

@@ -5,7 +5,7 @@ use Rattle.fk_image.specs.declared.Image.{Image}
 use Rattle.fk_layout.specs.declared.listed.Site.{Site}
 use Rattle.fk_core.specs.declared.op.CoreOp.{CoreOp}
 use Rattle.fk_text.proofs.Parts.{kept as passed}
-use Rattle.fk_certificate.specs.Certain.{IsCertain}
+use Rattle.fk_certain.specs.Certain.{IsCertain}
 use Rattle.fk_generate.specs.Generable.{IsGenerable, most_words}
 use Rattle.fk_compile.specs.Faithful.{in_table}
 use Rattle.fk_compile.proofs.Made.{passes_on, does_the_list, is_generable, few_words, is_compiled}
@@ -102,8 +102,11 @@ returns-clause-faithful c =
           }));
     }
 
-pub certify-requires : goal.certify-requires
-certify-requires c =
+pub certify-requires-clause-safe : goal.certify-requires-clause-safe
+certify-requires-clause-safe c = c.in_ok-list.ensures.safe
+
+pub certify-requires-clause-few : goal.certify-requires-clause-few
+certify-requires-clause-few c =
     let text = c.in_ok-text.text in
     let tree = program_of text.tree in
     let few = c.firsts_are_few.ensures tree text.facts

@@ -1,6 +1,6 @@
 use Rattle.std.proofs.Common.{◌<◌, ◌^◌, List, All, length, subst}
 use Rattle.fk_core.specs.declared.op.CoreOp.{CoreOp}
-use Rattle.fk_certificate.specs.Certain.{IsCertain}
+use Rattle.fk_certain.specs.Certain.{IsCertain}
 use Rattle.fk_compile.proofs.Generable.{certain_is_generable}
 use Rattle.fk_compile.proofs.list.certify.Goals as goal
 

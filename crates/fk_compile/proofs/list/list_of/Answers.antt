@@ -1,14 +1,14 @@
-use Rattle.std.proofs.Common.{◌≤◌, IfOk, List, refl, subst, sum_by, sym, ◌∙◌}
-use Rattle.fk_syntax.specs.Program.{ItemTree}
+use Rattle.std.proofs.Common.{◌≤◌, IfOk, subst, sum_by, ◌∙◌}
 use Rattle.fk_syntax.specs.ProgramView.{program_of}
 use Rattle.fk_forms.specs.Tables.{Tables}
-use Rattle.fk_lower_text.specs.Lowered.{HasSites, IsLowerable}
+use Rattle.fk_walk.specs.Known.{tables_of}
+use Rattle.fk_lower_text.specs.Lowered.{HasSites}
 use Rattle.fk_generate.specs.Generable.{most_words}
-use Rattle.fk_numbers.specs.Words.{ItemsHaveWords}
 use Rattle.fk_fitting.specs.Correct.{IsCorrect}
 use Rattle.fk_lowerable.specs.Laws.{IsKnownOf}
+use Rattle.fk_certain.specs.Certain.{IsSafe}
 use Rattle.fk_compile.specs.Lists.{IsListFor}
-use Rattle.fk_compile.proofs.Lowerable.{lowerable, few_sites, answered}
+use Rattle.fk_compile.proofs.Lowerable.{lowerable, few_sites, safe_list, answered}
 use Rattle.fk_compile.proofs.list.list_of.Goals as goal
 
 pub returns-clause-list : goal.returns-clause-list
@@ -55,3 +55,22 @@ lowered-requires-clause-laid c =
     let words = c.texts_have_words.ensures c.requires.checked.0 checked.parsed.tokens tree checked.parsed.spelled checked.parsed.derived in
     let whole = c.numbers_have_room.ensures tree facts c.complete-known.result valid c.requires.fits words tables items in
     c.texts_can_be_laid.ensures tree facts c.complete-known.result valid of c.requires.fits whole
+
+pub returns-clause-safe : goal.returns-clause-safe
+returns-clause-safe c =
+    let tree = program_of c.args.text.now.tree in
+    let facts = c.args.text.now.facts in
+    let known = c.complete-known.result in
+    let checked = c.requires.checked.1 in
+    let tables = c.complete-known.ensures.tables ∙ c.known_of-bare.ensures.tables in
+    let items = c.complete-known.ensures.items ∙ c.known_of-bare.ensures.items in
+    let of : IsKnownOf tree facts known = record { tables = tables; items = items } in
+    let valid : IsCorrect tree facts = record { well_formed = c.requires.well_formed; small = c.requires.tokens; known = checked.known } in
+    let trim = c.texts_are_trim.ensures c.requires.checked.0 checked.parsed.tokens tree checked.parsed.spelled checked.parsed.derived in
+    let proper = c.texts_are_proper.ensures c.requires.checked.0 checked.parsed.tokens tree checked.parsed.spelled checked.parsed.derived in
+    let words = c.texts_have_words.ensures c.requires.checked.0 checked.parsed.tokens tree checked.parsed.spelled checked.parsed.derived in
+    let whole = c.numbers_have_room.ensures tree facts known valid c.requires.fits words tables items in
+    let can = lowerable tree facts known of valid trim c.correct_programs_fit.ensures c.forms_are_shaped.ensures whole in
+    answered (λ list. IsListFor (tables_of known) tree list.ops.items list.main) (λ list. IsSafe list.ops.items list.main) c.lowered.result
+    (λ list is. safe_list tree facts known of c.correct_lists_are_safe.ensures valid trim proper c.requires.fits c.requires.built list.ops.items list.main is)
+    (c.lowered.ensures.list tree can)

@@ -12,6 +12,7 @@ returns-in-Ok-clause-list c = λ program lowerable.
     let entries = c.in-Ok.lowered.entries in
     record {
       entry = entry_of entries.of_bindings.items entries.end;
+      flat = (c.in-Ok.ensures.program program lowerable).flat;
       code = (c.in-Ok.ensures.program program lowerable).code;
       begins =
           c.entry_of_main-main.ensures
