@@ -1,5 +1,7 @@
 -- how many cycles blocks take at most
 mod Few
+-- where harts begin
+pub mod Opening
 -- lists in whose frames no level stands
 pub mod Levels
 -- what processors do alone
@@ -8,3 +10,5 @@ pub mod Law
 mod At
 -- steps of groups, and the whole law
 pub mod Groups
+-- where no level stands in a frame
+pub mod Whole
