@@ -4,6 +4,8 @@ mod Few
 pub mod Opening
 -- lists in whose frames no level stands
 pub mod Levels
+-- the code of a list without groups
+pub mod Generated
 -- what processors do alone
 pub mod Law
 -- the cycles of an operation at its index

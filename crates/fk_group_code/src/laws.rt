@@ -1,8 +1,13 @@
 //! What the code of a list does.
 
-ghost use Rattle.fk_group_code.specs.Laws.{ListsDoAlone, LevelsNeedNoRoom, ListsHaveTheLaw};
+ghost use Rattle.fk_group_code.specs.Laws.{GeneratedCodeStands, ListsDoAlone, LevelsNeedNoRoom, ListsHaveTheLaw};
 ghost use Rattle.fk_group_code.specs.Opening.{GroupsBegin};
 ghost use Rattle.fk_group_code.specs.Whole.{CodeHasTheLaw};
+
+/// The code that `fk_generate` makes of a list without groups has the block of each operation that processors do alone at its index.
+pub fn generated_code_stands()
+    ensures { GeneratedCodeStands }
+{}
 
 /// Where the block of each operation that processors do alone stands at its index, and the list suits frames that have room for the levels
 /// round a processor, all these do what the law of blocks of groups asks, in the cycles that are told by operation.
