@@ -9,11 +9,11 @@ use Rattle.fk_isa.specs.declared.instruction.Instruction.TheVariants.{Lui, Addi,
 use Rattle.fk_machine.specs.Hart.{Hart, Setting as MachineSetting}
 use Rattle.fk_machine.specs.Cycle.{first_hart}
 use Rattle.fk_machine.proofs.Performs.{writes, moves}
-use Rattle.fk_nodes.specs.Alone.{later, in_cycles}
-use Rattle.fk_block_law.specs.Stands.{Places, local_address}
+use Rattle.fk_nodes.specs.Alone.{RunsPrivately, later, in_cycles}
+use Rattle.fk_block_law.specs.Stands.{Places, StandsAt, local_address}
 use Rattle.fk_block_law.specs.Block.{IsRunning, Begins, beginner}
 use Rattle.fk_gen.specs.Lines.{at_private, high_part, low_part, label_of}
-use Rattle.fk_gen.specs.InPlace.{LinesAt}
+use Rattle.fk_gen.specs.InPlace.{HasLabels, LinesAt}
 use Rattle.fk_gen.proofs.Walk.{Quiets, Plain, TellsNumber, TellsHarts, told_of, walk, walked, lines_split, runs_join}
 use Rattle.fk_gen.proofs.Values.{number_of_parts as parts_make_word, same_word, other_word}
 use Rattle.fk_gen.proofs.Jumps.{jumps}
@@ -50,7 +50,7 @@ abbrev pub cycles_of : List ℕ → ℕ
 cycles_of [] = 1
 cycles_of (v ∷ vs) = suc (suc (suc (cycles_of vs)))
 
-few_cycles : (vs : List ℕ) → cycles_of vs ≡ 3 * length vs + 1
+pub few_cycles : (vs : List ℕ) → cycles_of vs ≡ 3 * length vs + 1
 few_cycles [] = refl
 few_cycles (v ∷ vs) = let e = few_cycles vs in omega arith
 
@@ -77,13 +77,107 @@ firsts_come image bound number main (v ∷ vs) t i k h Goal few about lines le s
     (firsts_come image bound number main vs (later (later (later t))) (suc i) (suc (suc (suc k))) h3 Goal (omega arith) about3 lines.1.1.1 le start
     (λ h' live pc local same. goal h' live pc local (λ r e. same r e ∙ rw e)))))
 
+-- the registers of a hart behind those lines of an opening that set them
+pub record HasRegisters (places : Places) (setting : Setting) (hart : ℕ) (h : Hart) : Type 0 where
+  pub nought : h.registers 0 ≡ 0
+  pub frame : h.registers 8 ≡ local_address places.frames.of_file
+  pub behind : h.registers 9 ≡ local_address 64
+  pub number : h.registers 18 ≡ 0
+  pub rank : h.registers 19 ≡ hart
+  pub size : h.registers 20 ≡ setting.processors
+  pub top : h.registers 21 ≡ 0
+  pub local : h.registers 22 ≡ local_address 0
+  pub shared_data : h.registers 23 ≡ 0x10000000
+  pub private_heap : h.registers 24 ≡ 0x20010000
+  pub shared_mask : h.registers 25 ≡ 0xffc00003
+  pub devices : h.registers 26 ≡ 0x30000000
+  pub heap_mask : h.registers 27 ≡ 0xffff0003
+
+-- what such a hart comes to: it stands where `main` begins, with all registers but t0 as they were
+abbrev pub HasBegun : Places → Setting → (firsts : List ℕ) → (main number : ℕ) → (h h' : Hart) → Type 0
+HasBegun places setting firsts main number h h' =
+    StandsAt places (beginner setting (slice_index firsts) main number) h' × ((r : ℕ) → (r == 5) ≡ false → h'.registers r ≡ h.registers r)
+
+pub firsts_begin : (image : Image) (bound : ℕ → ℕ) (places : Places) (firsts : List ℕ) (main : ℕ) → HasLabels bound places → AreFirsts places.frames.of_file firsts → places.frames.is_main main ≡ true
+    → (setting : Setting) (t : MachineSetting) (number k : ℕ) (h : Hart) → IsAbout image t k h → LinesAt image bound k (first_lines 0 firsts ++ jump_block main) → HasRegisters places setting number h
+    → h.local ≡ (λ i. 0) → Comes image t number (cycles_of firsts) h (HasBegun places setting firsts main number h)
+firsts_begin image bound places firsts main labels are is_main setting t number k h about lines has zeros =
+    let of_file = places.frames.of_file in
+    let few = are.few in
+    let within = are.within in
+    firsts_come image bound number main firsts t 0 k h (HasBegun places setting firsts main number h) (omega arith) about lines (labels.within (label_of main)) has.local
+    (λ h' live pc local same.
+    let memory : h'.local ≡ filled (λ i. 0) 0 firsts = local ∙ ap (λ m. filled m 0 firsts) zeros in (
+      record {
+        live = live;
+        at = pc ∙ ap (λ j. 4 * j) (labels.blocks main);
+        stands = record {
+          nought = same 0 refl ∙ has.nought;
+          frame = same 8 refl ∙ has.frame;
+          behind = same 9 refl ∙ has.behind;
+          number = same 18 refl ∙ has.number;
+          rank = same 19 refl ∙ has.rank;
+          size = same 20 refl ∙ has.size;
+          top = same 21 refl ∙ has.top;
+          local = same 22 refl ∙ has.local;
+          shared_data = same 23 refl ∙ has.shared_data;
+          private_heap = same 24 refl ∙ has.private_heap;
+          shared_mask = same 25 refl ∙ has.shared_mask;
+          devices = same 26 refl ∙ has.devices;
+          heap_mask = same 27 refl ∙ has.heap_mask;
+          running = record {
+            home = is_main;
+            values = tt;
+            privates = λ w e. ap (λ m. m (of_file + 8 + w)) memory ∙ filled_other (λ i. 0) 0 firsts (of_file + 8 + w) (inr (omega arith));
+          };
+          waiting = tt;
+          own = λ j lt. ap (λ m. m (8 + j)) memory ∙ filled_at (λ i. 0) 0 firsts j (8 + j) are.words (λ k le. refl) (omega arith);
+          heap = λ j lt. ap (λ m. m (16384 + j)) memory ∙ filled_other (λ i. 0) 0 firsts (16384 + j) (inr (omega arith));
+        };
+      },
+      same,
+    ))
+
 -- ---- all of it
 
-abbrev register_quiets : (of_file : ℕ) → Quiets
+abbrev pub register_quiets : (of_file : ℕ) → Quiets
 register_quiets of_file =
     (Lui 22 0x20000, Plain) ∷ (Addi 8 22 (4 * of_file), Plain) ∷ (Addi 9 22 256, Plain) ∷ (Lui 23 0x10000, Plain) ∷ (Lui 24 0x20010, Plain) ∷
     (Lui 25 0xffc00, Plain) ∷ (Addi 25 25 3, Plain) ∷ (Lui 27 0xffff0, Plain) ∷ (Addi 27 27 3, Plain) ∷ (Lui 26 0x30000, Plain) ∷
     (Lw 19 26 20, TellsNumber) ∷ (Lw 20 26 24, TellsHarts) ∷ []
+
+abbrev pub with_registers : (of_file : ℕ) → MachineSetting → (number : ℕ) → Hart
+with_registers of_file t number = walk (told_of t number) (register_quiets of_file) first_hart
+
+-- from the beginning of an image
+pub record SetsRegisters (image : Image) (places : Places) (setting : Setting) (t : MachineSetting) (number : ℕ) (h : Hart) : Type 0 where
+  pub runs : RunsPrivately image t number 12 first_hart h
+  pub about : IsAbout image (in_cycles 12 t) 12 h
+  pub has : HasRegisters places setting number h
+
+pub registers_come : (image : Image) (bound : ℕ → ℕ) (places : Places) (setting : Setting) (t : MachineSetting) (number : ℕ) → places.frames.of_file ≤ 56 → IsRunning image setting t
+    → LinesAt image bound 0 (register_lines places.frames.of_file) → SetsRegisters image places setting t number (with_registers places.frames.of_file t number)
+registers_come image bound places setting t number few running lines =
+    let w = walked image bound t number running.code (register_quiets places.frames.of_file) 0 first_hart lines refl refl (tt, (tt, (tt, (tt, (tt, (tt, (tt, (tt, (tt, (tt, (refl, (refl, tt)))))))))))) in
+    record {
+      runs = w.runs;
+      about = record { code = running.code; live = w.live; at = w.pc };
+      has = record {
+        nought = refl;
+        frame = omega arith;
+        behind = refl;
+        number = refl;
+        rank = refl;
+        size = running.processors;
+        top = refl;
+        local = refl;
+        shared_data = refl;
+        private_heap = refl;
+        shared_mask = refl;
+        devices = refl;
+        heap_mask = refl;
+      };
+    }
 
 pub opening_begins : (core : List CoreOp) (image : Image) (bound : ℕ → ℕ) (places : Places) (firsts : List ℕ) (main : ℕ) → HasOpening image bound places firsts main
     → AreFirsts places.frames.of_file firsts → places.frames.is_main main ≡ true
@@ -93,43 +187,13 @@ opening_begins core image bound places firsts main opening are is_main setting t
     let few = are.few in
     let within = are.within in
     let split = lines_split image bound 0 (register_lines of_file) (first_lines 0 firsts ++ jump_block main) opening.lines in
-    let w = walked image bound t number running.code (register_quiets of_file) 0 first_hart split.0 refl refl (tt, (tt, (tt, (tt, (tt, (tt, (tt, (tt, (tt, (tt, (refl, (refl, tt)))))))))))) in
-    let h = walk (told_of t number) (register_quiets of_file) first_hart in
-    let about : IsAbout image (in_cycles 12 t) 12 h = record { code = running.code; live = w.live; at = w.pc } in
-    let comes = firsts_come image bound number main firsts (in_cycles 12 t) 0 12 h (λ h'. (h'.ended ≡ false) × (h'.pc ≡ 4 * bound (label_of main)) × (h'.local ≡ filled (λ i. 0) 0 firsts) × ((r : ℕ) → (r == 5) ≡ false → h'.registers r ≡ h.registers r))
-    (omega arith) about split.1 (opening.labels.within (label_of main)) refl (λ h' a b c d. (a, b, c, d)) in
-    let goal = comes.goal in
-    let same = goal.3 in
+    let h = with_registers of_file t number in
+    let sets = registers_come image bound places setting t number few running split.0 in
+    let comes = firsts_begin image bound places firsts main opening.labels are is_main setting (in_cycles 12 t) number 12 h sets.about split.1 sets.has refl in
     record {
       cycles = 12 + cycles_of firsts;
       few = let e = few_cycles firsts in omega arith;
       hart = comes.hart;
-      runs = runs_join image t number 12 (cycles_of firsts) first_hart h comes.hart w.runs comes.runs;
-      at = record {
-        live = goal.0;
-        at = goal.1 ∙ ap (λ k. 4 * k) (opening.labels.blocks main);
-        stands = record {
-          nought = same 0 refl;
-          frame = same 8 refl ∙ omega arith;
-          behind = same 9 refl;
-          number = same 18 refl;
-          rank = same 19 refl;
-          size = same 20 refl ∙ running.processors;
-          top = same 21 refl;
-          local = same 22 refl;
-          shared_data = same 23 refl;
-          private_heap = same 24 refl;
-          shared_mask = same 25 refl;
-          devices = same 26 refl;
-          heap_mask = same 27 refl;
-          running = record {
-            home = is_main;
-            values = tt;
-            privates = λ w e. ap (λ m. m (of_file + 8 + w)) goal.2 ∙ filled_other (λ i. 0) 0 firsts (of_file + 8 + w) (inr (omega arith));
-          };
-          waiting = tt;
-          own = λ j lt. ap (λ m. m (8 + j)) goal.2 ∙ filled_at (λ i. 0) 0 firsts j (8 + j) are.words (λ k le. refl) (omega arith);
-          heap = λ j lt. ap (λ m. m (16384 + j)) goal.2 ∙ filled_other (λ i. 0) 0 firsts (16384 + j) (inr (omega arith));
-        };
-      };
+      runs = runs_join image t number 12 (cycles_of firsts) first_hart h comes.hart sets.runs comes.runs;
+      at = comes.goal.0;
     }

@@ -11,7 +11,7 @@ use Rattle.fk_gen_flow.specs.Keeps.{KeepsBelow, BlockKeeps, result_word}
 use Rattle.fk_group_law.specs.Node.{Nestings}
 use Rattle.fk_group_law.specs.Law.{Cycles, BlockDoesInNode}
 use Rattle.fk_gen_group.specs.InNode.{LevelsFit, LoneBlocksStayInNode}
-use Rattle.fk_gen_group.proofs.InNode.{does_in_node, in_cycles_of, blocks_stay_in_node}
+use Rattle.fk_gen_group.proofs.InNode.{does_in_node, in_cycles_of, same_call_in_node}
 use Rattle.fk_gen_group.proofs.Calls.{has_entered, enters_in_node, has_left, leaves_in_node}
 
 stays : (core : List CoreOp) (image : Image) (places : Places) (nestings : Nestings) (cycles : Cycles) (i : ℕ) (op : CoreOp) (operation : Operation)
@@ -31,7 +31,7 @@ stays core image places nestings cycles i op (Leave gives false) stands alone le
     leaves_in_node core image places nestings i op gives stands levels setting p t runs first m h' d en member kept
     (has_left core image places nestings i op gives stands levels setting p d s s' en.index e)))
 stays core image places nestings cycles i op operation stands alone levels keeps setting t runs first m p en member =
-    blocks_stay_in_node core image places nestings cycles i op operation stands alone refl levels keeps setting t runs first m p en member
+    same_call_in_node core image places nestings cycles i op operation stands alone refl levels keeps setting t runs first m p en member
 
 pub lone_blocks_stay_in_node : LoneBlocksStayInNode
 lone_blocks_stay_in_node core image places nestings cycles i op operation stands alone levels keeps =

@@ -26,14 +26,14 @@ use Rattle.fk_block_law.specs.Next.{StandsOp, step_at}
 use Rattle.fk_block_law.specs.Ready.{is_alone}
 use Rattle.fk_block_law.specs.Suits.{writes}
 use Rattle.fk_block_law.specs.Block.{Enters, HasDone, member_of}
-use Rattle.fk_gen.specs.Keeps.{Keeps, DoesAnd, peak}
+use Rattle.fk_gen.specs.Keeps.{Keeps, DoesAnd, BlockDoesBy, peak}
 use Rattle.fk_gen.specs.Lines.{label_of}
 use Rattle.fk_gen.proofs.Jumps.{jumps, jal_private}
 use Rattle.fk_gen.proofs.Does.{local_part, asks}
 use Rattle.fk_group_law.specs.Node.{Nestings, StandsInNode, HasOuter, HasNestings, LieBelow, saved_at, first_word, control_address}
 use Rattle.fk_group_law.specs.Lockstep.{IsMember}
-use Rattle.fk_group_law.specs.Law.{Cycles, HasDoneInNode, way_by, way_of}
-use Rattle.fk_gen_group.specs.InNode.{stays_in_call, HasLevels, BlocksStayInNode, JumpsStayInNode}
+use Rattle.fk_group_law.specs.Law.{Cycles, BlockDoesInNode, HasDoneInNode, way_by, way_of}
+use Rattle.fk_gen_group.specs.InNode.{HasLevels, JumpsStayInNode}
 use Rattle.fk_gen_group.proofs.Levels.{starts_behind, lies_below, outer_by, many_callers}
 use Rattle.fk_gen_group.proofs.Behind.{body_kept}
 
@@ -90,6 +90,12 @@ module _ (core : List CoreOp) (image : Image) (places : Places) (nestings : Nest
               (one.commits.does s);
         };
       }
+
+-- operations that make no call, and end none
+abbrev pub stays_in_call : Operation → Bool
+stays_in_call (Leave gives framed) = false
+stays_in_call (Enter arguments) = false
+stays_in_call operation = true
 
 abbrev member_with : (number : ℕ) → Hart → Member
 member_with number h = record { number = number; hart = h }
@@ -226,8 +232,10 @@ in_cycles_of core image places nestings cycles setting t i operation runs first 
     subst (λ x. OneDoes (core_source core setting) image t 1 (cycles.before i) (cycles.behind i (way_of operation p.runner.has)) x p (λ h d. HasDoneInNode core image places nestings setting runs d h)) same
     (subst (λ w. OneDoes (core_source core setting) image t 1 (cycles.before i) (cycles.behind i w) (member_of p m.hart) p (λ h d. HasDoneInNode core image places nestings setting runs d h)) way one)
 
-pub blocks_stay_in_node : BlocksStayInNode
-blocks_stay_in_node core image places nestings cycles i op operation stands alone stays levels does setting t runs first m p en member =
+pub same_call_in_node : (core : List CoreOp) (image : Image) (places : Places) (nestings : Nestings) (cycles : Cycles) (i : ℕ) (op : CoreOp) (operation : Operation)
+    → StandsOp core i op operation → is_alone operation ≡ true → stays_in_call operation ≡ true → HasLevels core places nestings i op operation
+    → BlockDoesBy core image places (cycles.before i) (cycles.behind i) i op operation → BlockDoesInNode core image places nestings cycles i op operation
+same_call_in_node core image places nestings cycles i op operation stands alone stays levels does setting t runs first m p en member =
     in_cycles_of core image places nestings cycles setting t i operation runs first m p alone member
     (does_in_node core image places nestings setting p t runs (cycles.before i) (cycles.behind i (is_onward operation p.runner.has)) m
     (Keeps places (length p.runner.has.callers) (peak operation op.depth) (writes operation) m.hart) (does setting t p m.hart en)

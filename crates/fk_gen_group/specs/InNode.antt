@@ -1,5 +1,5 @@
 -- Blocks of operations that processors do by themselves, in a node.
-use Rattle.std.specs.Prelude.{◌≡◌, ℕ, suc, ◌-◌, ◌<◌, ◌≤◌, List, [], ◌∷◌, Bool, true, false}
+use Rattle.std.specs.Prelude.{◌≡◌, ℕ, suc, ◌-◌, ◌<◌, ◌≤◌, List, [], ◌∷◌, Bool, true}
 use Rattle.fk_operation.specs.declared.operation.Operation.{Operation}
 use Rattle.fk_operation.specs.declared.operation.Operation.TheVariants.{Leave, Enter}
 use Rattle.fk_core.specs.declared.op.CoreOp.{CoreOp}
@@ -13,17 +13,11 @@ use Rattle.fk_isa.specs.declared.instruction.Instruction.TheVariants.{Jal}
 use Rattle.fk_gen.specs.Registers.{zero_register}
 use Rattle.fk_gen.specs.Lines.{goes_to, label_of}
 use Rattle.fk_gen.specs.InPlace.{HasBlock}
-use Rattle.fk_gen.specs.Keeps.{BlockDoesBy, peak}
+use Rattle.fk_gen.specs.Keeps.{peak}
 use Rattle.fk_gen_flow.specs.Keeps.{BlockKeeps}
 use Rattle.fk_group_law.specs.Node.{Nestings, HasLevelRoom}
 use Rattle.fk_group_law.specs.Lockstep.{LevelsStay}
 use Rattle.fk_group_law.specs.Law.{Cycles, BlockDoesInNode, BlockJumpsInNode}
-
--- operations that make no call, and end none
-abbrev pub stays_in_call : Operation → Bool
-stays_in_call (Leave gives framed) = false
-stays_in_call (Enter arguments) = false
-stays_in_call operation = true
 
 -- the levels of the running call have room beside the values of an operation and the private words that it writes, and the call
 -- goes on with them
@@ -32,13 +26,6 @@ pub record HasLevels (core : List CoreOp) (places : Places) (nestings : Nestings
   pub room : HasLevelRoom places.frames nestings i (peak operation op.depth)
   pub apart : 0 < nestings.levels i → (word : ℕ) → writes operation word ≡ true → word < nestings.behind i
   pub stay : (onward : Bool) → LevelsStay nestings i (follows core operation i op.target [] onward).at
-
--- a block that keeps the words of frames keeps its hart in its node, in as many cycles
-abbrev pub BlocksStayInNode : Type 0
-BlocksStayInNode =
-    (core : List CoreOp) (image : Image) (places : Places) (nestings : Nestings) (cycles : Cycles) (i : ℕ) (op : CoreOp) (operation : Operation)
-    → StandsOp core i op operation → is_alone operation ≡ true → stays_in_call operation ≡ true → HasLevels core places nestings i op operation
-    → BlockDoesBy core image places (cycles.before i) (cycles.behind i) i op operation → BlockDoesInNode core image places nestings cycles i op operation
 
 -- a call goes on behind the jump that follows it, with the same levels, which have room beside the values that are left and a
 -- result. None stand in the new frame
@@ -60,7 +47,7 @@ LevelsFit core places nestings i op (Enter arguments) = GivesLevels core places 
 LevelsFit core places nestings i op (Leave gives framed) = HasNoLevels places nestings i
 LevelsFit core places nestings i op operation = HasLevels core places nestings i op operation
 
--- so each block of an operation that processors do alone keeps its hart in its node, calls and their ends too
+-- a block of an operation that processors do alone, and that keeps what is to be kept, keeps its hart in its node, in as many cycles
 abbrev pub LoneBlocksStayInNode : Type 0
 LoneBlocksStayInNode =
     (core : List CoreOp) (image : Image) (places : Places) (nestings : Nestings) (cycles : Cycles) (i : ℕ) (op : CoreOp) (operation : Operation)

@@ -3,7 +3,7 @@
 ghost use Rattle.fk_gen_group.specs.Meeting.{HartsArrive, HartsMove};
 ghost use Rattle.fk_gen_group.specs.Together.{TurnsAreMoves, MembersLeaveTogether, MembersLeaveInTen};
 ghost use Rattle.fk_gen_group.specs.Chains.{MeetersHaveChains};
-ghost use Rattle.fk_gen_group.specs.InNode.{BlocksStayInNode, LoneBlocksStayInNode, JumpsStayInNode};
+ghost use Rattle.fk_gen_group.specs.InNode.{LoneBlocksStayInNode, JumpsStayInNode};
 ghost use Rattle.fk_gen_group.specs.Laws.{BlocksMeet, GroupsAgree, GroupsEnd, GroupsSendOne, GroupsSetFree, GroupsStart};
 
 /// A hart that comes to the lines of a meeting, in whatever cycle, arrives after 5 cycles or 6, in an even one.
@@ -66,14 +66,9 @@ pub fn groups_start()
     ensures { GroupsStart }
 {}
 
-/// A block that keeps `a0`, `a1` and the words of frames but values and what it writes, keeps its hart in its node, in as many cycles, where
-/// the levels in the frame of its call have room beside these.
-pub fn blocks_stay_in_node()
-    ensures { BlocksStayInNode }
-{}
-
-/// So do the blocks of all operations that processors do alone: that of a call where none of the levels round it stand in the new
-/// frame, and that of its end where none stand in the frame that is given up.
+/// The block of an operation that processors do alone, and that keeps `a0`, `a1` and the words of frames but values and what it writes,
+/// keeps its hart in its node, in as many cycles, where the levels in the frame of its call have room beside these: that of a call
+/// too, where none of the levels round it stand in the new frame, and that of its end, where none stand in the frame that is given up.
 pub fn lone_blocks_stay_in_node()
     ensures { LoneBlocksStayInNode }
 {}

@@ -16,13 +16,13 @@ use Rattle.fk_kept.specs.declared.set.Set.{Set}
 use Rattle.fk_gen.specs.InPlace.{HasBlock}
 use Rattle.fk_gen_flow.specs.Calls.{HasShared}
 use Rattle.fk_gen_flow.specs.Laws.{JumpsStand}
-use Rattle.fk_generate.specs.Kinds.{block_in}
+use Rattle.fk_generate.specs.Kinds.{block_in, block_of}
 use Rattle.fk_generate.specs.Layout.{placed}
 use Rattle.fk_generate.specs.Generable.{AreKept}
 use Rattle.fk_group_law.specs.Node.{Nestings, HasLevelRoom}
 use Rattle.fk_group_law.specs.Lockstep.{LevelsStay, values_of_step}
 use Rattle.fk_group_law.specs.Law.{Cycles, GroupLaw, BlockDoesInNode, BlockJumpsInNode, BeginsInNode}
-use Rattle.fk_gen_group.specs.Blocks.{HasStart, block_of, is_group_step}
+use Rattle.fk_gen_group.specs.Blocks.{HasStart, block_of as block_of_step, is_group_step}
 use Rattle.fk_gen_group.specs.InNode.{LevelsFit}
 use Rattle.fk_group_code.specs.Cycles.{lone_kind, cycles_of}
 
@@ -38,6 +38,13 @@ pub record HasLoneCode (core : List CoreOp) (kept : List Set) (image : Image) (b
       → HasBlock image bound places i (block_in (lone_kind operation) (placed (length image.globals.items) kept i op))
   pub jumps : JumpsStand core image bound places
   pub shared : HasShared image bound
+
+-- so it is with the code that is made of a list without groups
+abbrev pub GeneratedCodeStands : Type 0
+GeneratedCodeStands =
+    (core : List CoreOp) (kept : List Set) (image : Image) (bound : ℕ → ℕ) (places : Places)
+    → ((i : ℕ) (op : CoreOp) → slice_get core i ≡ Some op → HasBlock image bound places i (block_of (placed (length image.globals.items) kept i op)))
+    → HasShared image bound → HasLoneCode core kept image bound places
 
 -- the numbers of a list are words, and there are no more globals than shared words
 pub record AreInRange (core : List CoreOp) (image : Image) : Type 0 where
@@ -78,7 +85,7 @@ leads_away operation = false
 -- the block of each step stands at its index, and so does the code that beginnings of `start` share
 pub record HasGroupCode (core : List CoreOp) (image : Image) (bound : ℕ → ℕ) (places : Places) : Type 0 where
   pub blocks : (i : ℕ) (op : CoreOp) (operation : Operation) → StandsOp core i op operation → is_group_step (Some operation) ≡ true
-      → HasBlock image bound places i (block_of (Some operation) op.depth op.target)
+      → HasBlock image bound places i (block_of_step (Some operation) op.depth op.target)
   pub start : HasStart image bound
 
 -- a step finds the value that it looks at

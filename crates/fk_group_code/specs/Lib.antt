@@ -1,2 +1,4 @@
 pub mod Cycles
 pub mod Laws
+pub mod Opening
+pub mod Whole

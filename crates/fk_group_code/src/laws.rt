@@ -1,6 +1,13 @@
 //! What the code of a list does.
 
-ghost use Rattle.fk_group_code.specs.Laws.{ListsDoAlone, LevelsNeedNoRoom, ListsHaveTheLaw};
+ghost use Rattle.fk_group_code.specs.Laws.{GeneratedCodeStands, ListsDoAlone, LevelsNeedNoRoom, ListsHaveTheLaw};
+ghost use Rattle.fk_group_code.specs.Opening.{GroupsBegin};
+ghost use Rattle.fk_group_code.specs.Whole.{CodeHasTheLaw};
+
+/// The code that `fk_generate` makes of a list without groups has the block of each operation that processors do alone at its index.
+pub fn generated_code_stands()
+    ensures { GeneratedCodeStands }
+{}
 
 /// Where the block of each operation that processors do alone stands at its index, and the list suits frames that have room for the levels
 /// round a processor, all these do what the law of blocks of groups asks, in the cycles that are told by operation.
@@ -17,4 +24,14 @@ pub fn levels_need_no_room()
 /// blocks of groups holds.
 pub fn lists_have_the_law()
     ensures { ListsHaveTheLaw }
+{}
+
+/// From an opening that sets the two registers of a node each hart comes to the block where `main` begins, in the root.
+pub fn groups_begin()
+    ensures { GroupsBegin }
+{}
+
+/// So a list in which no group splits has the whole law where its opening, its blocks and the code that they share stand in an image.
+pub fn code_has_the_law()
+    ensures { CodeHasTheLaw }
 {}
