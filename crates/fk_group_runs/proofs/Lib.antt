@@ -2,5 +2,7 @@
 pub mod Landed
 -- rounds of a run, and what a cycle leaves
 pub mod Results
+-- levels of groups
+pub mod Homes
 -- from one cycle to the next
 pub mod Follow

@@ -24,7 +24,7 @@ one_unit None = tt
 one_unit (Some zero) = tt
 one_unit (Some (suc d)) = tt
 
-counts_are_units : (stages : List Stage) → rounds.AreUnits (counts_for stages)
+pub counts_are_units : (stages : List Stage) → rounds.AreUnits (counts_for stages)
 counts_are_units [] = tt
 counts_are_units (s ∷ stages) = (one_unit (distance s), counts_are_units stages)
 

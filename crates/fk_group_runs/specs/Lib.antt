@@ -1,3 +1,4 @@
 pub mod Beside
 pub mod Results
+pub mod Homes
 pub mod Follow

@@ -2,6 +2,7 @@
 
 ghost use Rattle.fk_group_runs.specs.Beside.{LandedRunsAreRuns};
 ghost use Rattle.fk_group_runs.specs.Results.{CyclesAreResults, CutsAreFaults};
+ghost use Rattle.fk_group_runs.specs.Homes.{HomesStay, HomesGoOn};
 ghost use Rattle.fk_group_runs.specs.Follow.{CyclesFollowRounds};
 
 /// It doesn't matter whether processors are at jumps or at the operations that these lead to: a round leaves the same.
@@ -18,6 +19,17 @@ pub fn cycles_are_results()
 /// Where one of them faults, that is the fault of the round, and of the round without the processors above it.
 pub fn cuts_are_faults()
     ensures { CutsAreFaults }
+{}
+
+/// Where each processor has of its group, and of those round it, what the tree has of the node where it stands, and of its parents,
+/// it has so behind a known round.
+pub fn homes_stay()
+    ensures { HomesStay }
+{}
+
+/// So nothing but their next operations is to be known of those who go on.
+pub fn homes_go_on()
+    ensures { HomesGoOn }
 {}
 
 /// From one cycle to the next a machine follows a run: where the plan of a state's tree binds the harts of the processors that
