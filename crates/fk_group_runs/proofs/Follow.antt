@@ -1,5 +1,5 @@
 -- From one cycle to the next a machine follows a run.
-use Rattle.std.proofs.Common.{◌≡◌, ℕ, zero, suc, ◌+◌, ◌^◌, ◌<◌, List, [], ◌∷◌, ◌++◌, length, Option, Some, None, Bool, true, ◌&&◌, sym, ap, subst, ◌∙◌, refl, arith, ◌⊎◌, inl, inr, ⊎_elim}
+use Rattle.std.proofs.Common.{◌≡◌, ℕ, suc, ◌+◌, List, [], ◌∷◌, ◌++◌, length, Some, true, ◌&&◌, sym, ap, subst, ◌∙◌, refl, arith, inl, inr, ⊎_elim}
 use Rattle.std.specs.Prelude.{map, is_none}
 use Rattle.std.proofs.lemmas.Bool.{and_from}
 use Rattle.std.proofs.lemmas.List.{append-nil, length-map}
@@ -7,37 +7,35 @@ use Rattle.fk_num.specs.Word.{Memory}
 use Rattle.fk_space.specs.Space.{Space}
 use Rattle.fk_tree.specs.Tree.{Tree}
 use Rattle.fk_run.specs.Processor.{Setting}
-use Rattle.fk_run.specs.Round.{Runner, Fault, State, cut, result, is_allowed, is_possible}
+use Rattle.fk_run.specs.Round.{Runner, State, result, is_allowed}
 use Rattle.fk_core.specs.declared.op.CoreOp.{CoreOp}
-use Rattle.fk_core.specs.Next.{Position, landing, next}
+use Rattle.fk_core.specs.Next.{Position, next}
 use Rattle.fk_image.specs.declared.Image.{Image}
 use Rattle.fk_machine.specs.declared.stand.Stand.TheVariants.{Faulted}
 use Rattle.fk_machine.specs.Hart.{Hart, Shared, Setting as MachineSetting}
-use Rattle.fk_machine.specs.Cycle.{turns, unprinted}
-use Rattle.fk_nodes.specs.Source.{Shows, AllPass, FaultsAfter}
+use Rattle.fk_machine.specs.Cycle.{turns}
+use Rattle.fk_nodes.specs.Source.{AllPass, FaultsAfter}
 use Rattle.fk_nodes.specs.Alone.{later}
-use Rattle.fk_nodes.specs.Whole.{planned, counted, first_of}
+use Rattle.fk_nodes.specs.Whole.{first_of}
 use Rattle.fk_plans.specs.Stage.{Stage, counts_for}
-use Rattle.fk_plans.specs.Plan.{Plan, IsBound}
-use Rattle.fk_block_law.specs.Owner.{Commons, Owner, core_source}
+use Rattle.fk_plans.specs.Plan.{IsBound}
+use Rattle.fk_block_law.specs.Owner.{Owner, core_source}
 use Rattle.fk_block_law.specs.Stands.{Places}
 use Rattle.fk_simulation.proofs.Linked.{runs_later}
 use Rattle.fk_simulation.proofs.Rounds.{first_cut}
 use Rattle.fk_group_law.specs.Node.{Nestings}
-use Rattle.fk_group_law.specs.Law.{Cycles, GroupLaw}
 use Rattle.fk_group_plans.specs.Nodes as plans
 use Rattle.fk_group_plans.specs.Nodes.{nodes_of, plan_of}
 use Rattle.fk_group_plans.specs.Behind.{blocks_of}
 use Rattle.fk_group_plans.specs.Rounds.{AllDue, owners_of}
 use Rattle.fk_group_plans.proofs.Rounds.{rounds_are_allowed}
-use Rattle.fk_group_rounds.specs.Next.{JumpsLead, landed, all_landed}
+use Rattle.fk_group_rounds.specs.Next.{JumpsLead, all_landed}
 use Rattle.fk_group_rounds.specs.After.{runners_of, tree_after, owners_after, ArePlaces, AllLanded}
 use Rattle.fk_group_rounds.specs.After.{GroupsGoOn}
 use Rattle.fk_group_rounds.specs.Rounds.{IsTree, IsBefore, IsKnownRound}
 use Rattle.fk_group_rounds.proofs.Groups.{many_length}
 use Rattle.fk_group_rounds.proofs.Cycle.{cycles_bind_again}
-use Rattle.fk_group_runs.specs.Beside.{landed_runner, landed_state, HaveHeaps, AreInOrder, IsBeside}
-use Rattle.fk_group_runs.specs.Results.{IsAfter}
+use Rattle.fk_group_runs.specs.Beside.{landed_runner, landed_state, HaveHeaps, AreInOrder}
 use Rattle.fk_group_runs.specs.Follow.{IsFollowed, CyclesFollowRounds}
 use Rattle.fk_group_runs.proofs.Landed.{landing_twice, allowed_land}
 use Rattle.fk_group_runs.specs.Homes.{AllHome, AllNext}

@@ -1,8 +1,7 @@
 -- What processors have of their groups stays that of their nodes.
-use Rattle.std.proofs.Common.{◌≡◌, ◌≢◌, ℕ, zero, suc, ◌+◌, ◌-◌, ◌<◌, List, [], ◌∷◌, length, Option, Some, None, Bool, true, false, sym, ap, subst, ◌∙◌, refl, arith, ◌⊎◌, inl, inr, ⊎_elim}
+use Rattle.std.proofs.Common.{◌≡◌, ◌≢◌, ℕ, zero, suc, ◌+◌, ◌-◌, ◌<◌, List, [], ◌∷◌, length, Option, Some, None, Bool, true, false, sym, ap, subst, ◌∙◌, refl, arith, ⊎_elim}
 use Rattle.std.specs.Prelude.{◌==◌, ◌&&◌, map, nat_lt, if◌then◌else◌}
 use Rattle.std.proofs.lemmas.Bool.{cases_Bool, cases_eq, false≢true}
-use Rattle.fk_num.specs.Word.{Memory}
 use Rattle.fk_space.specs.Space.{Space, free}
 use Rattle.fk_tree.specs.declared.node.Kind.TheVariants.{Lockstep}
 use Rattle.fk_tree.specs.Tree as trees
@@ -18,24 +17,22 @@ use Rattle.fk_operation.specs.declared.operation.Variable.{Variable}
 use Rattle.fk_operation.specs.declared.operation.Variable.TheVariants.{Private, OfFile}
 use Rattle.fk_store.specs.Store.{Store, private_words}
 use Rattle.fk_store.specs.Serve as store
-use Rattle.fk_run.specs.Processor.{Level, Call, Processor, Setting, values, last, in_place, to_outer}
-use Rattle.fk_run.specs.Local.{stored, taken, unframed, to_caller, local, is_onward}
+use Rattle.fk_run.specs.Processor.{Level, Call, Processor, Setting, values, last, to_outer}
+use Rattle.fk_run.specs.Local.{stored, taken, unframed, to_caller, local}
 use Rattle.fk_run.specs.Request.{request, with_answer}
-use Rattle.fk_run.specs.Group.{does, goes_onward, changes, has_room, framed, allotted, with_block}
+use Rattle.fk_run.specs.Group.{does, changes, has_room, framed, allotted}
 use Rattle.fk_run.specs.Round.{Step, Runner, Acting, Phase, Passes, Breaks, taking, lowest, who, agreed, change_by, all_changes, settled_by, do_local, local_phase, do_request, answered, request_phase, begin}
 use Rattle.fk_core.specs.declared.op.CoreOp.{CoreOp}
 use Rattle.fk_core.specs.Next.{Position, next}
 use Rattle.fk_nodes.specs.Source as nodes
 use Rattle.fk_plans.specs.Stage.{Stage, counts_for}
-use Rattle.fk_lockstep.specs.Untouched.{changes_tree}
 use Rattle.fk_block_law.specs.Owner.{Commons, Owner, Doing, number_of, found, as_part, part, core_source}
 use Rattle.fk_simulation.proofs.Rounds.{IsUnit, AreUnits}
 use Rattle.fk_group_law.specs.Node.{first_word}
 use Rattle.fk_group_plans.specs.Nodes.{first_of}
 use Rattle.fk_group_plans.proofs.Rounds.{not_none, leaf_place}
-use Rattle.fk_group_rounds.specs.Next.{landed, all_landed, IsHome}
-use Rattle.fk_group_rounds.specs.After.{actings, tree_after, owner_after, owners_after, Keeps, DoesStep, StepsAt, AllGoOn}
-use Rattle.fk_group_rounds.specs.Rounds.{IsKnownRound, EndsGroup}
+use Rattle.fk_group_rounds.specs.After.{actings, tree_after, owner_after, owners_after, DoesStep, StepsAt, AllGoOn}
+use Rattle.fk_group_rounds.specs.Rounds.{EndsGroup}
 use Rattle.fk_group_rounds.proofs.Resume.{kind_there, step_is_brought}
 use Rattle.fk_group_rounds.proofs.Sum.{stays_put, Stays, AllStay, keeps_stay, all_keep_stay, steps_stay, all_places}
 use Rattle.fk_group_runs.specs.Homes.{IsLevelOf, AllHome, AllNext, HomesGoOn, HomesStay}

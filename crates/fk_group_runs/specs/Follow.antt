@@ -1,5 +1,5 @@
 -- A machine follows a core run with groups, from one cycle to the next.
-use Rattle.std.specs.Prelude.{◌≡◌, ℕ, suc, ◌^◌, ◌<◌, List, ◌++◌, length, Bool, true, Option, Some, None, ◌⊎◌}
+use Rattle.std.specs.Prelude.{◌≡◌, ℕ, suc, ◌^◌, ◌<◌, List, ◌++◌, length, true, Option, Some, None, ◌⊎◌}
 use Rattle.fk_space.specs.Space.{Space}
 use Rattle.fk_run.specs.Processor.{Setting}
 use Rattle.fk_run.specs.Round.{State, cut, result, is_possible, IsStopped}
