@@ -6,3 +6,7 @@ pub mod Results
 pub mod Homes
 -- from one cycle to the next
 pub mod Follow
+-- where harts have ended
+pub mod Ended
+-- cycle by cycle
+pub mod Machines

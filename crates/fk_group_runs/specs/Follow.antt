@@ -3,12 +3,13 @@ use Rattle.std.specs.Prelude.{◌≡◌, ℕ, suc, ◌^◌, ◌<◌, List, ◌++
 use Rattle.fk_space.specs.Space.{Space}
 use Rattle.fk_run.specs.Processor.{Setting}
 use Rattle.fk_run.specs.Round.{State, cut, result, is_possible, IsStopped}
+use Rattle.fk_run.specs.Schedule.{all_done}
 use Rattle.fk_core.specs.declared.op.CoreOp.{CoreOp}
 use Rattle.fk_core.specs.Next.{Position, next}
 use Rattle.fk_image.specs.declared.Image.{Image}
 use Rattle.fk_machine.specs.declared.stand.Stand.TheVariants.{Faulted}
 use Rattle.fk_machine.specs.Hart.{Hart, Shared, Setting as MachineSetting}
-use Rattle.fk_machine.specs.Cycle.{Turns, turns, unprinted}
+use Rattle.fk_machine.specs.Cycle.{all_ended, Turns, turns, unprinted}
 use Rattle.fk_nodes.specs.Source.{Shows}
 use Rattle.fk_nodes.specs.Alone.{later}
 use Rattle.fk_nodes.specs.Whole.{planned, counted}
@@ -82,3 +83,10 @@ CyclesFollowRounds =
     → IsFollowed core image places nestings setting spaces s nodes t printed stages hs sh
     → (planned image hs ≡ counts_for stages)
     × (FollowsRound core image places nestings setting spaces s nodes t printed stages hs sh ⊎ FollowsFault core image places nestings setting spaces s nodes t printed stages hs sh)
+
+-- all harts have ended exactly where all processors of the state have nothing left to do
+abbrev pub HartsEndWithProcessors : Type 0
+HartsEndWithProcessors =
+    (core : List CoreOp) (image : Image) (places : Places) (nestings : Nestings) (setting : Setting) (spaces : ℕ → Space) (s : State Position) (nodes : List ℕ) (t : MachineSetting) (printed : List ℕ)
+    (stages : List Stage) (hs : List Hart) (sh : Shared)
+    → JumpsLead core → IsFollowed core image places nestings setting spaces s nodes t printed stages hs sh → all_ended hs ≡ all_done (next core) setting s.runners

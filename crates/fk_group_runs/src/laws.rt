@@ -3,7 +3,8 @@
 ghost use Rattle.fk_group_runs.specs.Beside.{LandedRunsAreRuns};
 ghost use Rattle.fk_group_runs.specs.Results.{CyclesAreResults, CutsAreFaults};
 ghost use Rattle.fk_group_runs.specs.Homes.{HomesStay, HomesGoOn};
-ghost use Rattle.fk_group_runs.specs.Follow.{CyclesFollowRounds};
+ghost use Rattle.fk_group_runs.specs.Machines.{MachinesFollowRounds};
+ghost use Rattle.fk_group_runs.specs.Follow.{CyclesFollowRounds, HartsEndWithProcessors};
 
 /// It doesn't matter whether processors are at jumps or at the operations that these lead to: a round leaves the same.
 pub fn landed_runs_are_runs()
@@ -37,4 +38,15 @@ pub fn homes_go_on()
 /// `fk_group_rounds`, and processors go on as is told there, the state behind it is followed too.
 pub fn cycles_follow_rounds()
     ensures { CyclesFollowRounds }
+{}
+
+/// All harts of a machine that follows a state have ended exactly where all its processors have nothing left to do.
+pub fn harts_end_with_processors()
+    ensures { HartsEndWithProcessors }
+{}
+
+/// So a machine follows a run cycle by cycle: the round that is read off a cycle is possible, and the machine has finished behind it
+/// exactly where the run has; or it is stopped, and its fault ends the machine.
+pub fn machines_follow_rounds()
+    ensures { MachinesFollowRounds }
 {}
