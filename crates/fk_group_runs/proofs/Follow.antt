@@ -1,5 +1,5 @@
 -- From one cycle to the next a machine follows a run.
-use Rattle.std.proofs.Common.{◌≡◌, ℕ, zero, suc, ◌+◌, ◌^◌, ◌<◌, List, [], ◌∷◌, ◌++◌, length, Option, Some, None, Bool, true, ◌&&◌, sym, ap, subst, ◌∙◌, refl, arith, ◌⊎◌, inl, inr, ⊎_elim}
+use Rattle.std.proofs.Common.{◌≡◌, ℕ, suc, ◌+◌, List, [], ◌∷◌, ◌++◌, length, Some, true, ◌&&◌, sym, ap, subst, ◌∙◌, refl, arith, inl, inr, ⊎_elim}
 use Rattle.std.specs.Prelude.{map, is_none}
 use Rattle.std.proofs.lemmas.Bool.{and_from}
 use Rattle.std.proofs.lemmas.List.{append-nil, length-map}
@@ -7,40 +7,40 @@ use Rattle.fk_num.specs.Word.{Memory}
 use Rattle.fk_space.specs.Space.{Space}
 use Rattle.fk_tree.specs.Tree.{Tree}
 use Rattle.fk_run.specs.Processor.{Setting}
-use Rattle.fk_run.specs.Round.{Runner, Fault, State, cut, result, is_allowed, is_possible}
+use Rattle.fk_run.specs.Round.{Runner, State, result, is_allowed}
 use Rattle.fk_core.specs.declared.op.CoreOp.{CoreOp}
-use Rattle.fk_core.specs.Next.{Position, landing, next}
+use Rattle.fk_core.specs.Next.{Position, next}
 use Rattle.fk_image.specs.declared.Image.{Image}
 use Rattle.fk_machine.specs.declared.stand.Stand.TheVariants.{Faulted}
 use Rattle.fk_machine.specs.Hart.{Hart, Shared, Setting as MachineSetting}
-use Rattle.fk_machine.specs.Cycle.{turns, unprinted}
-use Rattle.fk_nodes.specs.Source.{Shows, AllPass, FaultsAfter}
+use Rattle.fk_machine.specs.Cycle.{turns}
+use Rattle.fk_nodes.specs.Source.{AllPass, FaultsAfter}
 use Rattle.fk_nodes.specs.Alone.{later}
-use Rattle.fk_nodes.specs.Whole.{planned, counted, first_of}
+use Rattle.fk_nodes.specs.Whole.{first_of}
 use Rattle.fk_plans.specs.Stage.{Stage, counts_for}
-use Rattle.fk_plans.specs.Plan.{Plan, IsBound}
-use Rattle.fk_block_law.specs.Owner.{Commons, Owner, core_source}
+use Rattle.fk_plans.specs.Plan.{IsBound}
+use Rattle.fk_block_law.specs.Owner.{Owner, core_source}
 use Rattle.fk_block_law.specs.Stands.{Places}
 use Rattle.fk_simulation.proofs.Linked.{runs_later}
 use Rattle.fk_simulation.proofs.Rounds.{first_cut}
 use Rattle.fk_group_law.specs.Node.{Nestings}
-use Rattle.fk_group_law.specs.Law.{Cycles, GroupLaw}
 use Rattle.fk_group_plans.specs.Nodes as plans
 use Rattle.fk_group_plans.specs.Nodes.{nodes_of, plan_of}
 use Rattle.fk_group_plans.specs.Behind.{blocks_of}
 use Rattle.fk_group_plans.specs.Rounds.{AllDue, owners_of}
 use Rattle.fk_group_plans.proofs.Rounds.{rounds_are_allowed}
-use Rattle.fk_group_rounds.specs.Next.{JumpsLead, landed, all_landed}
+use Rattle.fk_group_rounds.specs.Next.{JumpsLead, all_landed}
 use Rattle.fk_group_rounds.specs.After.{runners_of, tree_after, owners_after, ArePlaces, AllLanded}
-use Rattle.fk_group_rounds.specs.After.{AllGoOn, GroupsGoOn}
-use Rattle.fk_group_rounds.specs.Rounds.{IsTree, IsBefore}
+use Rattle.fk_group_rounds.specs.After.{GroupsGoOn}
+use Rattle.fk_group_rounds.specs.Rounds.{IsTree, IsBefore, IsKnownRound}
 use Rattle.fk_group_rounds.proofs.Groups.{many_length}
 use Rattle.fk_group_rounds.proofs.Cycle.{cycles_bind_again}
-use Rattle.fk_group_runs.specs.Beside.{landed_runner, landed_state, HaveHeaps, AreInOrder, IsBeside}
-use Rattle.fk_group_runs.specs.Results.{IsAfter}
+use Rattle.fk_group_runs.specs.Beside.{landed_runner, landed_state, HaveHeaps, AreInOrder}
 use Rattle.fk_group_runs.specs.Follow.{IsFollowed, CyclesFollowRounds}
 use Rattle.fk_group_runs.proofs.Landed.{landing_twice, allowed_land}
+use Rattle.fk_group_runs.specs.Homes.{AllHome, AllNext}
 use Rattle.fk_group_runs.proofs.Results.{is_after, is_fault}
+use Rattle.fk_group_runs.proofs.Homes.{homes_stay, homes_go_on}
 
 -- ---- the landed state as the plan has it
 
@@ -81,6 +81,10 @@ module _ (core : List CoreOp) where
   runners_length (p ∷ ps) (r ∷ rs) same = ap suc (runners_length ps rs (cc))
   runners_length [] (r ∷ rs) same = absurd (cc)
   runners_length (p ∷ ps) [] same = absurd (cc)
+
+  landed_homes : (tree : Tree) (spaces : ℕ → Space) (number : ℕ) (ps : List Owner) → AllHome tree spaces number ps → AllHome tree spaces number (all_landed core ps)
+  landed_homes tree spaces number [] home = tt
+  landed_homes tree spaces number (p ∷ ps) home = (home.0, home.1, landed_homes tree spaces (suc number) ps home.2)
 
   all_land : (leads : JumpsLead core) (ps : List Owner) → AllLanded core (all_landed core ps)
   all_land leads [] = tt
@@ -133,6 +137,12 @@ cycles_follow_rounds core image places nestings cycles firsts main setting space
           let after = is_after core setting s f.ps f.shared leads f.order f.beside stages whole.did whole.store
           (subst (λ c. AllPass source c f.ps f.shared whole.did whole.store) cycle.0 whole.parts) in
           let e : next_state.tree ≡ new = after.tree in
+          let harts = (many_length nodes done.harts whole.did whole.as_many).1 in
+          let as_many = f.before.many in
+          let homes : IsKnownRound s.tree whole.did → AllHome new spaces 0 (owners_after s.tree new whole.did)
+          = λ known.
+          homes_stay core setting s.tree spaces stages f.ps whole.did f.shared whole.store f.before.sound (omega (arith, harts, as_many)) f.homes
+          (subst (λ c. AllPass source c f.ps f.shared whole.did whole.store) cycle.0 whole.parts) known in
           inl
           (record {
             going = whole.going;
@@ -145,7 +155,8 @@ cycles_follow_rounds core image places nestings cycles firsts main setting space
             afters = r.left.afters;
             again = λ nodes' known tree' there many' on goes.
                 let b = r.again nodes' known (subst (λ x. IsTree setting x spaces) e tree') (subst (λ x. ArePlaces x 0 nodes') e there) many'
-                (subst (λ x. AllGoOn core x spaces 0 r.left.afters whole.did (owners_after s.tree x whole.did)) e on)
+                (homes_go_on core new spaces r.left.afters whole.did (owners_after s.tree new whole.did) (homes known)
+                (subst (λ x. AllNext core x 0 r.left.afters whole.did (owners_after s.tree x whole.did)) e on))
                 (subst (λ x. GroupsGoOn core nestings x nodes' r.left.afters (owners_after s.tree x whole.did)) e goes) in
                 let ps' = all_landed core (owners_after s.tree new whole.did) in
                 let before : IsBefore core image setting next_state.tree spaces nodes' (later t) b.stages' done.harts ps'
@@ -168,6 +179,7 @@ cycles_follow_rounds core image places nestings cycles firsts main setting space
                     before = before;
                     order = in_order_back core 0 next_state.runners (subst (AreInOrder 0) after.beside.runners (many_runners core 0 new spaces b.stages' (runners_of ps') b.due));
                     beside = after.beside;
+                    homes = subst (λ x. AllHome x spaces 0 ps') (sym e) (landed_homes core new spaces 0 (owners_after s.tree new whole.did) (homes known));
                     shows = record { words = whole.shows.words; output = append-nil (printed ++ done.shared.output) ∙ whole.shows.output; common = whole.shows.common };
                     bound =
                         subst

@@ -1,16 +1,16 @@
 -- Processors at jumps do the same as those at the operations that jumps lead to.
-use Rattle.std.proofs.Common.{◌≡◌, ℕ, List, [], ◌∷◌, length, Option, Some, None, Bool, true, sym, ap, ◌∙◌, refl, ◌⊎◌, inl, inr, ⊎_elim}
+use Rattle.std.proofs.Common.{◌≡◌, ℕ, List, [], ◌∷◌, Option, sym, ap, ◌∙◌, refl, ⊎_elim}
 use Rattle.std.specs.Prelude.{map, option_map, slice_get}
 use Rattle.fk_run.specs.Processor.{Setting}
 use Rattle.fk_run.specs.Round.{Step, Runner, State, Round, result, is_allowed}
 use Rattle.fk_run.proofs.Natural.{step_by, runner_by, state_by, results, allowed_alike}
 use Rattle.fk_core.specs.declared.op.CoreOp.{CoreOp}
-use Rattle.fk_core.specs.Next.{Position, position, is_jump, landing, step_of, next}
+use Rattle.fk_core.specs.Next.{Position, position, landing, step_of, next}
 use Rattle.fk_block_law.proofs.Standing.{landing_here}
 use Rattle.fk_group_rounds.specs.Next.{JumpsLead}
 use Rattle.fk_simulation.proofs.Positions.{no_jump}
 use Rattle.fk_group_rounds.proofs.Way.{way}
-use Rattle.fk_group_runs.specs.Beside.{landed_runner, landed_state, LandedRunsAreRuns}
+use Rattle.fk_group_runs.specs.Beside.{landed_state, LandedRunsAreRuns}
 
 module _ (core : List CoreOp) (leads : JumpsLead core) where
   pub landing_twice : (i : ℕ) → landing core (landing core i) ≡ landing core i

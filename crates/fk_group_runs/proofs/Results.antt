@@ -4,11 +4,11 @@ use Rattle.std.specs.Prelude.{map}
 use Rattle.fk_num.specs.Word.{Memory}
 use Rattle.fk_tree.specs.Tree.{Tree}
 use Rattle.fk_run.specs.Processor.{Setting}
-use Rattle.fk_run.specs.Round.{Runner, Fault, State, Round, cut, Acting, Phases, all_requests, all_changes, asking, runner_of, settled, tree_phase, result}
+use Rattle.fk_run.specs.Round.{Runner, Fault, State, Round, cut, Acting, Phases, all_requests, asking, settled, tree_phase, result}
 use Rattle.fk_core.specs.declared.op.CoreOp.{CoreOp}
 use Rattle.fk_core.specs.Next.{Position, next}
 use Rattle.fk_nodes.specs.Source.{AllPass, FaultsAfter}
-use Rattle.fk_plans.specs.Stage.{Stage, count_of_stage, count_for, distance, counts_for}
+use Rattle.fk_plans.specs.Stage.{Stage, count_for, distance, counts_for}
 use Rattle.fk_block_law.specs.Owner.{Commons, commons_of, Owner, Doing, core_source}
 use Rattle.fk_simulation.proofs.Rounds as rounds
 use Rattle.fk_group_rounds.specs.Next.{JumpsLead, landed, all_landed}
@@ -24,7 +24,7 @@ one_unit None = tt
 one_unit (Some zero) = tt
 one_unit (Some (suc d)) = tt
 
-counts_are_units : (stages : List Stage) → rounds.AreUnits (counts_for stages)
+pub counts_are_units : (stages : List Stage) → rounds.AreUnits (counts_for stages)
 counts_are_units [] = tt
 counts_are_units (s ∷ stages) = (one_unit (distance s), counts_are_units stages)
 

@@ -1,14 +1,15 @@
 -- A machine follows a core run with groups, from one cycle to the next.
-use Rattle.std.specs.Prelude.{◌≡◌, ℕ, suc, ◌^◌, ◌<◌, List, ◌++◌, length, Bool, true, Option, Some, None, ◌⊎◌}
+use Rattle.std.specs.Prelude.{◌≡◌, ℕ, suc, ◌^◌, ◌<◌, List, ◌++◌, length, true, Option, Some, None, ◌⊎◌}
 use Rattle.fk_space.specs.Space.{Space}
 use Rattle.fk_run.specs.Processor.{Setting}
 use Rattle.fk_run.specs.Round.{State, cut, result, is_possible, IsStopped}
+use Rattle.fk_run.specs.Schedule.{all_done}
 use Rattle.fk_core.specs.declared.op.CoreOp.{CoreOp}
 use Rattle.fk_core.specs.Next.{Position, next}
 use Rattle.fk_image.specs.declared.Image.{Image}
 use Rattle.fk_machine.specs.declared.stand.Stand.TheVariants.{Faulted}
 use Rattle.fk_machine.specs.Hart.{Hart, Shared, Setting as MachineSetting}
-use Rattle.fk_machine.specs.Cycle.{Turns, turns, unprinted}
+use Rattle.fk_machine.specs.Cycle.{all_ended, Turns, turns, unprinted}
 use Rattle.fk_nodes.specs.Source.{Shows}
 use Rattle.fk_nodes.specs.Alone.{later}
 use Rattle.fk_nodes.specs.Whole.{planned, counted}
@@ -21,20 +22,22 @@ use Rattle.fk_group_law.specs.Law.{Cycles, GroupLaw}
 use Rattle.fk_group_plans.specs.Nodes.{first_of, plan_of}
 use Rattle.fk_group_plans.specs.Behind.{blocks_of}
 use Rattle.fk_group_rounds.specs.Next.{JumpsLead}
-use Rattle.fk_group_rounds.specs.After.{tree_after, owners_after, ArePlaces, AllGoOn, GroupsGoOn, AllSoon}
+use Rattle.fk_group_rounds.specs.After.{tree_after, owners_after, ArePlaces, GroupsGoOn, AllSoon}
 use Rattle.fk_group_rounds.specs.Rounds.{IsBefore, IsTree, IsKnownRound}
 use Rattle.fk_group_runs.specs.Beside.{AreInOrder, IsBeside}
+use Rattle.fk_group_runs.specs.Homes.{AllHome, AllNext}
 use Rattle.fk_group_runs.specs.Results.{IsFault}
 
 module _ (core : List CoreOp) (image : Image) (places : Places) (nestings : Nestings) (setting : Setting) (spaces : ℕ → Space) where
-  -- a state of a run that goes on stands beside the processors of harts, all of which the plan of its tree binds; what the harts share
-  -- shows what the state has, with these bytes printed so far
+  -- a state of a run that goes on stands beside the processors of harts, all of which the plan of its tree binds, and each of which
+  -- has of its group what the tree has; what the harts share shows what the state has, with these bytes printed so far
   pub record IsFollowed (s : State Position) (nodes : List ℕ) (t : MachineSetting) (printed : List ℕ) (stages : List Stage) (hs : List Hart) (sh : Shared) : Type 0 where
     pub ps : List Owner
     pub shared : Commons
     pub before : IsBefore core image setting s.tree spaces nodes t stages hs ps
     pub order : AreInOrder 0 s.runners
     pub beside : IsBeside core s ps shared
+    pub homes : AllHome s.tree spaces 0 ps
     pub shows : Shows (core_source core setting) printed sh shared
     pub bound : IsBound (core_source core setting) image (plan_of s.tree spaces nodes)
         (blocks_of core image places nestings setting (plan_of s.tree spaces nodes) (first_of spaces)) t stages hs ps (λ g. sh.control)
@@ -57,7 +60,7 @@ module _ (core : List CoreOp) (image : Image) (places : Places) (nestings : Nest
       pub tree : next_state.tree ≡ tree_after s.tree did
       pub afters : List (Option Stage)
       pub again : (nodes' : List ℕ) → IsKnownRound s.tree did → IsTree setting next_state.tree spaces → ArePlaces next_state.tree 0 nodes' → length nodes' ≡ length nodes
-          → AllGoOn core next_state.tree spaces 0 afters did (owners_after s.tree next_state.tree did) → GroupsGoOn core nestings next_state.tree nodes' afters (owners_after s.tree next_state.tree did)
+          → AllNext core next_state.tree 0 afters did (owners_after s.tree next_state.tree did) → GroupsGoOn core nestings next_state.tree nodes' afters (owners_after s.tree next_state.tree did)
           → (stages' : List Stage) × AllNear stages stages' × AllSoon afters stages'
           × IsFollowed next_state nodes' (later t) (printed ++ done.shared.output) stages' done.harts (unprinted done.shared)
 
@@ -80,3 +83,10 @@ CyclesFollowRounds =
     → IsFollowed core image places nestings setting spaces s nodes t printed stages hs sh
     → (planned image hs ≡ counts_for stages)
     × (FollowsRound core image places nestings setting spaces s nodes t printed stages hs sh ⊎ FollowsFault core image places nestings setting spaces s nodes t printed stages hs sh)
+
+-- all harts have ended exactly where all processors of the state have nothing left to do
+abbrev pub HartsEndWithProcessors : Type 0
+HartsEndWithProcessors =
+    (core : List CoreOp) (image : Image) (places : Places) (nestings : Nestings) (setting : Setting) (spaces : ℕ → Space) (s : State Position) (nodes : List ℕ) (t : MachineSetting) (printed : List ℕ)
+    (stages : List Stage) (hs : List Hart) (sh : Shared)
+    → JumpsLead core → IsFollowed core image places nestings setting spaces s nodes t printed stages hs sh → all_ended hs ≡ all_done (next core) setting s.runners

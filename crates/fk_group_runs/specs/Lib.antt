@@ -1,3 +1,5 @@
 pub mod Beside
 pub mod Results
+pub mod Homes
 pub mod Follow
+pub mod Machines

@@ -1,0 +1,60 @@
+-- A machine follows a core run with groups, cycle by cycle.
+use Rattle.std.specs.Prelude.{◌≡◌, ℕ, suc, ◌^◌, ◌<◌, List, ◌++◌, length, Bool, true, cond, Option, ◌⊎◌}
+use Rattle.fk_space.specs.Space.{Space}
+use Rattle.fk_run.specs.Processor.{Setting}
+use Rattle.fk_run.specs.Round.{State, cut, result, is_possible, IsStopped}
+use Rattle.fk_run.specs.Schedule.{all_done}
+use Rattle.fk_core.specs.declared.op.CoreOp.{CoreOp}
+use Rattle.fk_core.specs.Next.{Position, next}
+use Rattle.fk_image.specs.declared.Image.{Image}
+use Rattle.fk_machine.specs.declared.stand.Stand.TheVariants.{Running, Finished, Faulted}
+use Rattle.fk_machine.specs.Cycle.{Machine, setting_of, unprinted, is_running, cycle}
+use Rattle.fk_machine.specs.Run.{round_of}
+use Rattle.fk_plans.specs.Stage.{Stage, AllNear, counts_for}
+use Rattle.fk_block_law.specs.Owner.{Doing}
+use Rattle.fk_block_law.specs.Stands.{Places}
+use Rattle.fk_group_law.specs.Node.{Nestings}
+use Rattle.fk_group_law.specs.Law.{Cycles, GroupLaw}
+use Rattle.fk_group_rounds.specs.Next.{JumpsLead}
+use Rattle.fk_group_rounds.specs.After.{owners_after, ArePlaces, GroupsGoOn, AllSoon}
+use Rattle.fk_group_rounds.specs.Rounds.{IsTree, IsKnownRound}
+use Rattle.fk_group_runs.specs.Homes.{AllNext}
+use Rattle.fk_group_runs.specs.Results.{IsFault}
+use Rattle.fk_group_runs.specs.Follow.{IsFollowed}
+
+module _ (core : List CoreOp) (image : Image) (places : Places) (nestings : Nestings) (setting : Setting) (spaces : ℕ → Space) where
+  -- a machine that has printed these bytes follows a state, and has finished exactly where that has
+  pub record GoesWith (s : State Position) (nodes : List ℕ) (printed : List ℕ) (stages : List Stage) (m : Machine) : Type 0 where
+    pub followed : IsFollowed core image places nestings setting spaces s nodes (setting_of m) printed stages m.harts (unprinted m.shared)
+    pub stand : m.stand ≡ cond (all_done (next core) setting s.runners) Finished Running
+
+  module _ (s : State Position) (nodes : List ℕ) (printed : List ℕ) (stages : List Stage) (m : Machine) where
+    abbrev pub next_state : State Position
+    next_state = result (next core) setting (counts_for stages) s
+
+    -- the round of its cycle is possible. Where it is a known one, and processors go on as is told, the machine follows the state
+    -- behind it
+    pub record GoesOn : Type 0 where
+      pub round : round_of image m ≡ counts_for stages
+      pub possible : is_possible (next core) setting (round_of image m) s ≡ true
+      pub did : List Doing
+      pub afters : List (Option Stage)
+      pub again : (nodes' : List ℕ) → IsKnownRound s.tree did → IsTree setting next_state.tree spaces → ArePlaces next_state.tree 0 nodes' → length nodes' ≡ length nodes
+          → AllNext core next_state.tree 0 afters did (owners_after s.tree next_state.tree did) → GroupsGoOn core nestings next_state.tree nodes' afters (owners_after s.tree next_state.tree did)
+          → (stages' : List Stage) × AllNear stages stages' × AllSoon afters stages' × GoesWith next_state nodes' (printed ++ (cycle m).shared.output) stages' (cycle m)
+
+    -- or it is a stopped round, whose fault ends the machine
+    pub record StopsWith : Type 0 where
+      pub site : ℕ
+      pub place : ℕ
+      pub stand : (cycle m).stand ≡ Faulted site place
+      pub round : round_of image m ≡ cut (suc place) (counts_for stages)
+      pub stopped : IsStopped (next core) setting (round_of image m) s
+
+abbrev pub MachinesFollowRounds : Type 0
+MachinesFollowRounds =
+    (core : List CoreOp) (image : Image) (places : Places) (nestings : Nestings) (cycles : Cycles) (firsts : List ℕ) (main : ℕ) (setting : Setting) (spaces : ℕ → Space)
+    (s : State Position) (nodes : List ℕ) (printed : List ℕ) (stages : List Stage) (m : Machine)
+    → GroupLaw core image places nestings cycles firsts main → JumpsLead core → length m.harts < 2 ^ 31 → is_running m.stand ≡ true
+    → GoesWith core image places nestings setting spaces s nodes printed stages m
+    → GoesOn core image places nestings setting spaces s nodes printed stages m ⊎ StopsWith core image places nestings setting spaces s nodes printed stages m
