@@ -1,5 +1,5 @@
 -- An expression that is as well typed code asks it leaves one value or none.
-use Rattle.std.proofs.Common.{◌≡◌, ℕ, Bool, true, false, List, [], ◌∷◌, Option, Some, None, refl, sym, ap, ◌∙◌, subst}
+use Rattle.std.proofs.Common.{◌≡◌, ℕ, Bool, true, false, List, [], ◌∷◌, refl, sym, ap, ◌∙◌, subst}
 use Rattle.std.specs.Prelude.{◌==◌, not, codes, if◌then◌else◌}
 use Rattle.fk_syntax.specs.declared.sign.Sign.{Sign}
 use Rattle.fk_syntax.specs.declared.sign.Sign.TheVariants as g
@@ -11,7 +11,7 @@ use Rattle.fk_signs.specs.declared.values.ExpressionType.{ExpressionType}
 use Rattle.fk_signs.specs.declared.values.ExpressionType.TheVariants.{Stored, Computed, Nothing}
 use Rattle.fk_forms.specs.declared.tables.Home.{Home}
 use Rattle.fk_forms.specs.declared.tables.Home.TheVariants as h
-use Rattle.fk_forms.specs.Tables.{Tables, no_binding, note, slot, is_void}
+use Rattle.fk_forms.specs.Tables.{Tables, no_binding, note, slot}
 use Rattle.fk_forms.specs.Expressions.{Signature, is_name, token}
 use Rattle.fk_kept.specs.declared.places.Place.{Place}
 use Rattle.fk_course.specs.Valued as c
