@@ -1,6 +1,6 @@
 -- What is pending of a processor stays so through operations.
-use Rattle.std.proofs.Common.{◌≡◌, ℕ, zero, suc, ◌+◌, ◌*◌, ◌<◌, ◌≤◌, Bool, true, false, true≢false, List, [], ◌∷◌, Option, Some, None, is_some, nat_lt, ap, ◌∙◌, sym, refl, subst, subst₂, arith}
-use Rattle.std.specs.Prelude.{◌==◌, ◌-◌, ◌&&◌, ◌||◌, not, if◌then◌else◌}
+use Rattle.std.proofs.Common.{◌≡◌, ℕ, zero, suc, ◌+◌, ◌*◌, Bool, true, false, true≢false, List, [], ◌∷◌, Option, Some, None, is_some, nat_lt, ap, ◌∙◌, sym, refl, subst, subst₂, arith}
+use Rattle.std.specs.Prelude.{◌==◌, ◌-◌, ◌&&◌, ◌||◌, if◌then◌else◌}
 use Rattle.std.proofs.lemmas.Bool.{and_parts, and_from, eqb-true, eq-eqb, lt-ltb, le-ltb}
 use Rattle.fk_operation.specs.Kinds.{class_of}
 use Rattle.fk_operation.specs.declared.operation.Operation.{Operation}
@@ -15,24 +15,22 @@ use Rattle.fk_operation.specs.declared.kinds.Class.TheVariants.{Local, Request, 
 use Rattle.fk_store.specs.Serve.{words_of}
 use Rattle.fk_store.specs.Store.{private_words, private_address, address_of}
 use Rattle.fk_space.specs.Space.{Space, frame, block}
-use Rattle.fk_run.specs.Processor.{Call, Level, Processor, Setting, values, last, before, with_values, drop_last, in_place, enter_level, leave_level, to_outer}
+use Rattle.fk_run.specs.Processor.{Call, Level, Processor, Setting, values, last, before, drop_last, in_place, enter_level, leave_level, to_outer}
 use Rattle.fk_run.specs.Local.{local, applied_to, joined, in_order, stored, taken, handed, unframed, to_caller}
 use Rattle.fk_num.specs.Word.{word}
 use Rattle.fk_num.specs.Op.{applied}
 use Rattle.fk_run.specs.Request.{with_answer, entered}
-use Rattle.fk_run.specs.Group.{divided, does, part, part_level, waits_with as split_waits, taken_by, allotted, framed, with_block, with_size, enters, is_taken, start_level, stays, goes_onward}
+use Rattle.fk_run.specs.Group.{divided, does, part, allotted, framed, with_block, with_size, enters, is_taken, start_level, stays, goes_onward}
 use Rattle.fk_run.specs.Round.{Step}
-use Rattle.fk_forms.specs.Code.{Code, done, ends}
-use Rattle.fk_source.specs.Left.{settled}
-use Rattle.fk_source.specs.Next.{Work, going, returned}
+use Rattle.fk_forms.specs.Code.{Code}
+use Rattle.fk_source.specs.Next.{Work}
 use Rattle.fk_nesting.specs.Behind.{grown}
 use Rattle.fk_nesting.specs.Shape.{is_of_call}
 use Rattle.fk_nesting.proofs.Spine.{untrue}
-use Rattle.fk_together.specs.Counts.{ArePending, AsMany, IsTaken, Leaves, LeavesAtSplit, CountsGoOn}
+use Rattle.fk_together.specs.Counts.{AsMany, IsTaken, Leaves, LeavesAtSplit, CountsGoOn}
 use Rattle.fk_course.specs.Ahead.{all_outs}
-use Rattle.fk_course.specs.Placed.{is_begin}
 use Rattle.fk_course.specs.Pending as pending
-use Rattle.fk_course.specs.Pending.{is_fork, is_enter, leaves, more, above_before, before_it, above_choice, before_way, before_call, MayStand, MayCall, all_leave, has_number, waits_with, is_none, one_more, of_either, are_waiting, many_waiting, fork_counts}
+use Rattle.fk_course.specs.Pending.{is_fork, is_enter, leaves, more, above_before, above_choice, before_way, before_call, MayStand, MayCall, all_leave, has_number, waits_with, one_more, of_either, are_waiting, many_waiting, fork_counts}
 
 -- values below those that an operation takes
 pub before_none : (m : ℕ) → before m [] ≡ []

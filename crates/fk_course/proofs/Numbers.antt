@@ -6,7 +6,7 @@ use Rattle.fk_syntax.specs.declared.place.Place.{Place}
 use Rattle.fk_syntax.specs.declared.place.Spot.{Spot}
 use Rattle.fk_syntax.specs.Tree.{Named, Tree}
 use Rattle.fk_syntax.specs.Program as p
-use Rattle.fk_syntax.specs.Program.{DeclaredTree, Statement, Statements, FunctionTree}
+use Rattle.fk_syntax.specs.Program.{DeclaredTree, Statement, Statements}
 use Rattle.fk_operation.specs.declared.operation.Operation.{Operation}
 use Rattle.fk_operation.specs.declared.operation.Operation.TheVariants as o
 use Rattle.fk_operation.specs.declared.operation.Known.TheVariants as n
@@ -15,8 +15,8 @@ use Rattle.fk_operation.specs.declared.operation.Split.TheVariants.{IfAlone, IfE
 use Rattle.fk_forms.specs.declared.tables.Region.{Region}
 use Rattle.fk_forms.specs.Code as c
 use Rattle.fk_forms.specs.Code.{Code, done, perform, choose, while, until, turn, again, quit, break, continue, call, ends, size, numbered}
-use Rattle.fk_forms.specs.Tables.{Tables, note, slot, frame_at}
-use Rattle.fk_forms.specs.Expressions.{Coded, nowhere, plain, Standing, Signature, agreed, token, addressed, assigned, dropped, variable, framed, parameters, value}
+use Rattle.fk_forms.specs.Tables.{Tables, note, frame_at}
+use Rattle.fk_forms.specs.Expressions.{Coded, nowhere, plain, Standing, Signature, agreed, token, addressed, assigned, dropped, variable, framed, value}
 use Rattle.fk_forms.specs.Statements.{Inside, is_scalar, used, used_or, value_or, declared, all_declared, part_frame, leaving, tested, looping, left_by, executed, all_executed, end_of, body_of}
 use Rattle.fk_nesting.specs.Shape.{ends_part}
 use Rattle.fk_nesting.proofs.Spine.{untrue}

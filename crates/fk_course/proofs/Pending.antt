@@ -5,13 +5,11 @@ use Rattle.std.proofs.lemmas.Bool.{and_parts}
 use Rattle.fk_operation.specs.declared.operation.Operation.{Operation}
 use Rattle.fk_operation.specs.declared.operation.Operation.TheVariants as o
 use Rattle.fk_operation.specs.declared.operation.Split.TheVariants.{IfAlone, IfElse, AndThen, OrElse, Loop, Fork}
-use Rattle.fk_run.specs.Processor.{Processor}
-use Rattle.fk_run.specs.Round.{Step}
 use Rattle.fk_forms.specs.Code.{Code, done, perform, choose, while, until, turn, again, quit, break, continue, call, ends, append}
 use Rattle.fk_source.specs.Left.{broken, settled}
 use Rattle.fk_source.specs.Next.{Work, going, returned, step, step_of, next}
 use Rattle.fk_nesting.specs.Behind.{opens_body, tail, shrinks, grown, fallen, marked, past, works, waiting, outs}
-use Rattle.fk_nesting.specs.Shape.{none, of_function, ends_part, is_performed, is_chosen, is_quit, is_of_call, meets, Shape}
+use Rattle.fk_nesting.specs.Shape.{none, of_function, is_performed, is_chosen, is_quit, is_of_call, meets, Shape}
 use Rattle.fk_nesting.proofs.Spine.{untrue}
 use Rattle.fk_nesting.proofs.Nested.{Nested, no_exits, nested_append, body_nested, whole_nested, settles}
 use Rattle.fk_nesting.proofs.Steps.{WorkNested, is_stepped}
@@ -20,7 +18,7 @@ use Rattle.fk_course.specs.Ahead.{starts_in, outermost, starts, all_outs}
 use Rattle.fk_course.specs.Placed.{is_begin}
 use Rattle.fk_course.proofs.Behind.{behind_part}
 use Rattle.fk_course.specs.Pending as pending
-use Rattle.fk_course.specs.Pending.{is_fork, leaves, above_before, before_it, before_way, before_call, above_call, leads, MayStand, MayChoose, MayCall, MayBegin, stands_alone, all_leave, one_more, many_waiting, fork_counts, CodeIsCounted}
+use Rattle.fk_course.specs.Pending.{is_fork, leaves, before_it, before_way, before_call, leads, MayStand, MayChoose, MayCall, MayBegin, stands_alone, all_leave, one_more, many_waiting, fork_counts, CodeIsCounted}
 use Rattle.fk_course.proofs.Counted.{counted_append, idle_append, broken_idle, counted_settled, settled_idle, above_append, all_say, leave_append, leave_broken, leave_settled, leave_whole}
 use Rattle.fk_course.proofs.Holding as h
 use Rattle.fk_course.proofs.Holding.{Passes, pending_of, same_pending, none_goes, some_goes, ways_go, takes_one, enters_call, ends_last, ends_first}

@@ -23,7 +23,7 @@ use Rattle.fk_course.specs.InPlace.{BodyInPlace, FunctionsInPlace, IsInPlace, Pr
 use Rattle.fk_nesting.proofs.Spine.{untrue}
 use Rattle.fk_run.specs.Processor.{Processor}
 use Rattle.fk_together.specs.Counts.{ArePending, IsCounted}
-use Rattle.fk_course.specs.Pending.{has_number, is_none, above, Idle, fork_counts}
+use Rattle.fk_course.specs.Pending.{has_number, is_none, Idle, fork_counts}
 use Rattle.fk_course.specs.Valued.{gives_value}
 use Rattle.fk_course.specs.Forks.{BodyValued, ForksAreValued}
 use Rattle.fk_course.specs.Returns.{StatementsReturn, BodyReturns, FunctionsReturn}

@@ -34,7 +34,7 @@ use Rattle.fk_nesting.proofs.Spine.{untrue}
 use Rattle.fk_lockstep.specs.Told as told
 use Rattle.fk_course.specs.Placed.{is_begin}
 use Rattle.fk_course.specs.Pending as pending
-use Rattle.fk_course.specs.Pending.{is_fork, stands_alone, more, above_before, before_it, above_choice, before_way, above_call, before_call, leads, MayStand, MayChoose, MayCall, MayBegin, Idle, Counted, At}
+use Rattle.fk_course.specs.Pending.{is_fork, stands_alone, more, above_before, before_it, above_choice, before_way, before_call, leads, MayStand, MayChoose, MayCall, MayBegin, Idle, Counted, At}
 use Rattle.fk_course.proofs.Opening.{opening_idle}
 use Rattle.fk_course.specs.Valued as w
 use Rattle.fk_course.specs.Valued.{Way, Valued, Absent, Placed, Word, Function, gives, result, predeclared_gives, predeclared_way, placed_way, prefix_way, joined_way, HasAddress, IsTarget, PrefixNeeds, AreEnough, gives_value, named_way, call_gives, called_way, chain_way, suffixed_way, JoinNeeds, NameTakes, CallNeeds, Evaluates, LinksEvaluate, SuffixesEvaluate, AllEvaluate, IsValued}

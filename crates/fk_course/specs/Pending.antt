@@ -7,7 +7,7 @@ use Rattle.std.proofs.lemmas.Bool.{false≢true, and_parts}
 use Rattle.fk_operation.specs.declared.operation.Operation.{Operation}
 use Rattle.fk_operation.specs.declared.operation.Operation.TheVariants as o
 use Rattle.fk_operation.specs.declared.operation.Split.TheVariants.{IfElse, AndThen, OrElse, Fork}
-use Rattle.fk_run.specs.Processor.{Call, Processor, values, last, before}
+use Rattle.fk_run.specs.Processor.{Call, values, last, before}
 use Rattle.fk_forms.specs.Code.{Code, done, perform, choose, while, until, turn, again, quit, break, continue, call, ends}
 use Rattle.fk_source.specs.Next.{Work, going, next}
 use Rattle.fk_nesting.specs.Shape.{of_function, ends_part, is_of_call, Shape}
@@ -72,7 +72,7 @@ abbrev pub before_way : Operation → (onward : Bool) → Option ℕ → Option 
 before_way op onward None = None
 before_way op onward (Some m) = above_choice op onward m
 
--- so many more
+-- so many values more stand above it
 abbrev pub more : (values above : ℕ) → ℕ
 more zero m = m
 more (suc n) m = more n (suc m)
@@ -204,6 +204,7 @@ abbrev pub is_none : List ℕ → Bool
 is_none [] = true
 is_none (n ∷ ns) = false
 
+-- what follows from either of two tests follows where one of them holds
 abbrev pub of_either : {X : Type 0} (a b : Bool) → (a || b) ≡ true → (a ≡ true → X) → (b ≡ true → X) → X
 of_either true b h first second = first refl
 of_either false b h first second = second h

@@ -17,7 +17,7 @@ pub fn programs_follow()
 
 /// Where each `fork` of code stands behind code that begins with an agree on its number of parts, and
 /// then leaves two values more on each of its ways, it takes that number, whichever ways its
-/// processors have gone.
+/// processors have gone, and whatever they have called.
 pub fn code_is_counted()
     ensures { CodeIsCounted }
 {}

@@ -1,6 +1,6 @@
 -- Programs that keep all rules, and what they compute for a `fork` gives one value each, are in place, so their groups have
 -- one remaining program.
-use Rattle.std.specs.Prelude.{◌≡◌, ◌≢◌, ℕ, ◌≤◌, ◌^◌, Bool, true, not, ◌&&◌, List, [], ◌∷◌, Option, Some, None, slice_get}
+use Rattle.std.specs.Prelude.{◌≡◌, ◌≢◌, ℕ, ◌≤◌, ◌^◌, Bool, true, not, ◌&&◌, List, Option, Some, None, slice_get}
 use Rattle.fk_syntax.specs.declared.facts.Facts.{Facts}
 use Rattle.fk_syntax.specs.declared.program.Mode.{Mode}
 use Rattle.fk_syntax.specs.declared.program.Mode.TheVariants.{Sync, Async, Straight}

@@ -8,9 +8,9 @@ pub fn fork_free_programs_are_valued()
 {}
 
 /// A program that keeps the forty rules is in place, where each part and rank that it tells for a
-/// `fork` gives one value, whichever way is gone in it, and calls no function of the program. Its
-/// parts, bodies and loops are nested, what groups run is noted as such, groups alone split, and no
-/// name in them means a function that may not be called there.
+/// `fork` gives one value, whichever way is gone in it and whatever it calls. Its parts, bodies and
+/// loops are nested, what groups run is noted as such, groups alone split, functions return values
+/// where they have results, and no name in them means a function that may not be called there.
 pub fn valid_programs_are_in_place()
     ensures { ValidProgramsAreInPlace }
 {}

@@ -29,7 +29,7 @@ use Rattle.fk_together.proofs.Acting.{untrue, Here, Out, told, bare, lefts_bare,
 use Rattle.fk_together.proofs.Trees.{IsThere, NodeIs, ThereAt, Inv, leaf_place}
 use Rattle.fk_together.proofs.Round.{first_is, some_at, at_below, lowest_member, actings as actings_of, phases as phases_of, settle as settle_of, settled_length, Ordered, number_at, groups_at, acting_length, no_fault}
 use Rattle.fk_together.proofs.Kept.{Sized, new_sizes, new_sized, new_groups}
-use Rattle.fk_together.proofs.Changes.{no_length, ends_none, mids, last_stage}
+use Rattle.fk_together.proofs.Changes.{ends_none, mids, last_stage}
 
 -- steps of the tree leave a processor its number
 divided_number : (by : Split) (size : ℕ) (p : Processor) (o' : Option ℕ) → (divided by size p o').number ≡ p.number

@@ -1,0 +1,86 @@
+-- Programs that keep all rules have one remaining program.
+use Rattle.std.specs.Prelude.{◌≡◌, ℕ, ◌≤◌, Bool, true, not, List, Some, None}
+use Rattle.fk_store.specs.Serve.{may_use}
+use Rattle.fk_syntax.specs.declared.facts.Facts.{Facts}
+use Rattle.fk_syntax.specs.Tree.{Tree}
+use Rattle.fk_syntax.specs.Program.{ProgramTree}
+use Rattle.fk_structs.specs.declared.types.DataType.{DataType}
+use Rattle.fk_signs.specs.declared.values.ExpressionType.{ExpressionType}
+use Rattle.fk_typing.specs.Term.{term_of}
+use Rattle.fk_typing.specs.Names.{Env}
+use Rattle.fk_typing.specs.Typing.{type_of}
+use Rattle.fk_run.specs.Processor.{Setting}
+use Rattle.fk_run.specs.Schedule.{Schedule, run, IsLawful}
+use Rattle.fk_forms.specs.Tables.{Tables}
+use Rattle.fk_forms.specs.Expressions.{Signature}
+use Rattle.fk_forms.specs.Program.{functions_of, signature_in}
+use Rattle.fk_source.specs.Program.{next_in, opening}
+use Rattle.fk_kept.specs.declared.places.Place.{Place}
+use Rattle.fk_layout.specs.Layout.{tables_by}
+use Rattle.fk_layout.specs.Refusal.{Fits}
+use Rattle.fk_lex.specs.Reading.{Spelled, Tokens}
+use Rattle.fk_parse.specs.Parses.{SpellsProgram}
+use Rattle.fk_parsed.specs.Trim.{ProgramIsTrim}
+use Rattle.fk_fitting.specs.Correct.{IsCorrect}
+use Rattle.fk_together.specs.OneProgram.{KeepOneProgram}
+use Rattle.fk_course.specs.Valued.{gives, gives_value, way, Evaluates}
+use Rattle.fk_course.specs.Forks.{ForksAreValued}
+use Rattle.fk_typed_forms.specs.Ways as w
+use Rattle.fk_typed_forms.specs.Asked.{IsCalled, Asked}
+use Rattle.fk_typed_forms.specs.Typed.{IsNothing, Known}
+use Rattle.fk_asked.specs.Proper.{ProgramIsProper}
+
+-- a function that is called gives a value where it has a result
+abbrev pub GiveResults : (functions : (binding : ℕ) → Signature) → (place_of : (binding : ℕ) → Place) → Type 0
+GiveResults functions place_of = (binding : ℕ) → IsCalled (place_of binding) → w.place_gives (place_of binding) ≡ gives_value functions binding
+
+-- what well typed code asks of an expression is enough for it to leave one value or none
+abbrev pub AskedEvaluates : Type 0
+AskedEvaluates =
+    (tables : Tables) (functions : (binding : ℕ) → Signature) (place_of : (binding : ℕ) → Place) → GiveResults functions place_of
+    → (x : Tree) → Asked tables functions place_of x
+    → Evaluates tables functions x × (gives (way tables functions x) ≡ w.gives (w.way tables place_of x))
+
+-- so an expression that has a type leaves one value, or none where its type is nothing
+abbrev pub TypedEvaluates : Type 0
+TypedEvaluates =
+    (has_room : (address : ℕ) → DataType → Bool)
+    → ((address : ℕ) (type : DataType) → has_room address type ≡ true → may_use true address ≡ true)
+    → (env : Env) (tables : Tables) (functions : (binding : ℕ) → Signature) (place_of : (binding : ℕ) → Place) → GiveResults functions place_of
+    → (x : Tree) → Known (λ address type. has_room address type ≡ true) env tables functions place_of x
+    → (type : ExpressionType) → type_of env (term_of x) ≡ Some type
+    → Evaluates tables functions x × (gives (way tables functions x) ≡ not (IsNothing type))
+
+-- a program that keeps all rules, as a text spells it, and has a layout
+pub record IsLaidOut (program : ProgramTree) (facts : Facts) : Type 0 where
+  pub correct : IsCorrect program facts
+  pub trim : ProgramIsTrim program
+  pub proper : ProgramIsProper program
+  pub fits : Fits (tables_by program facts) program.items
+
+-- each part and each rank that it tells for a `fork` gives one value
+abbrev pub ForksGiveValues : Type 0
+ForksGiveValues =
+    (program : ProgramTree) (facts : Facts) → IsLaidOut program facts
+    → let tables = tables_by program facts in
+    let fs = functions_of program.items in
+    ForksAreValued tables (signature_in tables fs) fs
+
+-- and its groups have one remaining program
+abbrev pub HasOneProgram : (program : ProgramTree) (facts : Facts) → Type 0
+HasOneProgram program facts =
+    (setting : Setting) (schedule : Schedule) (words firsts input : List ℕ) (processors : ℕ) → 1 ≤ processors
+    → let next = next_in (tables_by program facts) program in
+    let first = opening (tables_by program facts) program words firsts input processors in
+    IsLawful next setting schedule first
+    → (run next setting schedule first).fault ≡ None
+    → KeepOneProgram next processors (run next setting schedule first)
+
+abbrev pub CorrectProgramsHaveOneProgram : Type 0
+CorrectProgramsHaveOneProgram = (program : ProgramTree) (facts : Facts) → IsLaidOut program facts → HasOneProgram program facts
+
+-- so has the program of a text
+abbrev pub TextsHaveOneProgram : Type 0
+TextsHaveOneProgram =
+    (source : List ℕ) (tokens : List Spelled) (program : ProgramTree) (facts : Facts) → Tokens source tokens → SpellsProgram tokens program
+    → IsCorrect program facts → Fits (tables_by program facts) program.items → HasOneProgram program facts

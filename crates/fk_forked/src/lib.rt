@@ -1,0 +1,6 @@
+//! Programs that keep all rules have one remaining program in synchronous code.
+//!
+//! The definitions stand in `specs/`, and what is proved of them in `laws`.
+#![tactic(auto)]
+
+pub mod laws;
