@@ -36,7 +36,7 @@ few_in tables words firsts (f ∷ fs) asks b = by (binding_of tables f == b) (fe
     by false more = more
 
 -- what is told of a function that is called agrees with its header
-agree_in : (tables : Tables) (fs : List FunctionTree) (b : ℕ) (gives : Bool) → place_in tables fs b ≡ Called gives → gives ≡ not (signature_in tables fs b).void
+pub agree_in : (tables : Tables) (fs : List FunctionTree) (b : ℕ) (gives : Bool) → place_in tables fs b ≡ Called gives → gives ≡ not (signature_in tables fs b).void
 agree_in tables [] b gives is = sym (ap place_gives is)
 agree_in tables (f ∷ fs) b gives is = by (binding_of tables f == b) (agree_in tables fs b gives) is
   where
