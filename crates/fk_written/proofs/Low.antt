@@ -117,17 +117,17 @@ module _ (functions : (binding : ℕ) → Signature) (place_of : (binding : ℕ)
   )
   counted agree has (ends t op rest) n i l s e sh ty b = (b.0, counted agree has rest (suc n) i l (w.behind op true s) e sh.1 ty.2 b.1)
 
-  raised_so : (op : Operation) (onward : Bool) → is_built op ≡ true → (p : At) → raised p.values op onward ≡ (behind_operation p op).values
+  pub raised_so : (op : Operation) (onward : Bool) → is_built op ≡ true → (p : At) → raised p.values op onward ≡ (behind_operation p op).values
   raised_so op onward e p = ap (λ k. p.values - takes op + k) (leaves_so op onward e)
 
-  called_so : (op : Operation) (f : ℕ) → pushes op ≡ 0 → results_of (place_of f) ≡ z.results (functions f).void → (p : At)
+  pub called_so : (op : Operation) (f : ℕ) → pushes op ≡ 0 → results_of (place_of f) ≡ z.results (functions f).void → (p : At)
       → p.values - takes op + results_of (place_of f) ≡ (behind_call functions p op f).values
   called_so op f none gives p = omega (arith, none, gives)
 
   abbrev up : ℕ → Coded → ℕ → ℕ
   up n code h = height place_of h (numbered n code)
 
-  heights : (code : Coded) (p : At) (n : ℕ) → Counted code → up n code p.values ≡ (behind functions p code).values
+  pub heights : (code : Coded) (p : At) (n : ℕ) → Counted code → up n code p.values ≡ (behind functions p code).values
   heights done p n c = refl
   heights (perform t op rest) p n c = ap (up (suc n) rest) (raised_so op true c.0 p) ∙ heights rest (behind_operation p op) (suc n) c.1
   heights (choose t op x y rest) p n c =
