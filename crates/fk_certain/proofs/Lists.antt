@@ -24,7 +24,27 @@ use Rattle.fk_asked.proofs.Programs.{correct_programs_are_asked, mains_have_thei
 use Rattle.fk_suits.proofs.Free.{lone, typed_list, lists_are_free}
 use Rattle.fk_suits.proofs.Suiting.{live_words_suit}
 use Rattle.fk_rooms.proofs.Room.{correct_programs_have_room}
-use Rattle.fk_certain.specs.Laws.{CorrectListsAreSafe, CorrectListsAreCertain}
+use Rattle.fk_core.specs.declared.op.CoreOp.{CoreOp}
+use Rattle.fk_walk.specs.declared.known.Known.{Known}
+use Rattle.fk_walk_statements.specs.Texts.{functions_in}
+use Rattle.fk_syntax.specs.declared.facts.Facts.{Facts}
+use Rattle.fk_syntax.specs.Program.{ProgramTree}
+use Rattle.fk_depths.proofs.Runs.{local_depths_are_depths}
+use Rattle.fk_lower.specs.Depths.{AreTold}
+use Rattle.fk_lower_text.specs.Depths.{depths_of}
+use Rattle.fk_layout.specs.Refusal.{Fits}
+use Rattle.fk_parsed.specs.Trim.{ProgramIsTrim}
+use Rattle.fk_text.specs.Built.{AreBuilt}
+use Rattle.fk_shapes.specs.Fitting.{ProgramFits}
+use Rattle.fk_fitting.specs.Correct.{IsCorrect}
+use Rattle.fk_typed_code.specs.Typed.{AreTyped}
+use Rattle.fk_typed_code.specs.Laws.{HasHeightsOf}
+use Rattle.fk_typed_code.proofs.Depths.{typed_lists_have_depths}
+use Rattle.fk_typed_forms.proofs.Programs.{forms_are_typed}
+use Rattle.fk_asked.specs.Proper.{ProgramIsProper}
+use Rattle.fk_lowerable.specs.Laws.{IsKnownOf}
+use Rattle.fk_heights.proofs.Lists.{lists_have_heights}
+use Rattle.fk_certain.specs.Laws.{CorrectListsAreSafe, CorrectListsAreCertain, LoweredListsCanBeCoded}
 
 -- what has the place of `main` is defined
 is_there : (tables : Tables) (fs : List FunctionTree) (b : ℕ) → place_in tables fs b ≡ Main → is_defined tables fs b ≡ true
@@ -72,4 +92,36 @@ correct_lists_are_certain program facts valid trim proper fits built small core 
       of_file = sym count;
       suits = suits.1;
       keeps = λ index word held. held;
+    }
+
+module _ (program : ProgramTree) (facts : Facts) (known : Known) (of : IsKnownOf program facts known) (valid : IsCorrect program facts) (trim : ProgramIsTrim program)
+    (proper : ProgramIsProper program) (fits : Fits (tables_by program facts) program.items) (built : AreBuilt (tables_by program facts) program) where
+  -- the depths that are told of the text are those of its code
+  tall : (core : List CoreOp) → AreTold (depths_of known (functions_in known)) core
+      → HasHeightsOf (bodies_of (tables_by program facts) program) core (place_of (tables_by program facts) program)
+  tall core told =
+      let tables = tables_by program facts in
+      let fitting = correct_programs_fit program facts valid trim in
+      let typed = forms_are_typed tables program (correct_programs_are_asked program facts valid trim proper fits) built in
+      subst
+      (λ (t : Tables).
+      ProgramFits t program → AreBuilt t program → AreTyped (place_of t program) (bodies_of t program) → HasHeightsOf (bodies_of t program) core (place_of t program))
+      of.tables (λ f b t. lists_have_heights known program core (sym of.items) f b t told) fitting built typed
+
+pub lowered_lists_can_be_coded : LoweredListsCanBeCoded
+lowered_lists_can_be_coded program facts known of valid trim proper fits built core entry flat told =
+    let tables = tables_by program facts in
+    let main = main_of tables program in
+    let asked = correct_programs_are_asked program facts valid trim proper fits in
+    let shaped = forms_are_shaped tables program (correct_programs_fit program facts valid trim) in
+    let place = (mains_have_their_place program facts valid).0 in
+    let typed = typed_list tables program core entry asked built shaped flat in
+    let high = tall program facts known of valid trim proper fits built core told in
+    record {
+      depths =
+          local_depths_are_depths core (entry main)
+          (typed_lists_have_depths (bodies_of tables program) core entry (place_of tables program) typed high main place);
+      safe = correct_lists_are_safe program facts valid trim proper fits built core entry flat;
+      certain = λ small kept live least.
+          correct_lists_are_certain program facts valid trim proper fits built small core entry kept (record { flat = flat; tall = high; live = live; least = least });
     }

@@ -6,10 +6,15 @@ use Rattle.fk_forms.specs.Tables.{Tables}
 use Rattle.fk_forms.specs.Program.{bodies_of, main_of}
 use Rattle.fk_globals.specs.Constants.{told}
 use Rattle.fk_globals.specs.Rows.{firsts}
+use Rattle.fk_walk.specs.declared.known.Known.{Known}
+use Rattle.fk_walk_statements.specs.Texts.{functions_in}
 use Rattle.fk_core.specs.declared.op.CoreOp.{CoreOp}
+use Rattle.fk_core.specs.WellFormed.{HasDepths}
 use Rattle.fk_flat.specs.Laws.{IsFlat}
 use Rattle.fk_layout.specs.Layout.{tables_by}
 use Rattle.fk_layout.specs.Refusal.{Fits}
+use Rattle.fk_lower.specs.Depths.{AreTold}
+use Rattle.fk_lower_text.specs.Depths.{depths_of}
 use Rattle.fk_kept.specs.declared.set.Set.{Set}
 use Rattle.fk_kept.specs.Live.{IsLive, IsLeast, words_in}
 use Rattle.fk_text.specs.Built.{AreBuilt}
@@ -18,6 +23,7 @@ use Rattle.fk_fitting.specs.Correct.{IsCorrect}
 use Rattle.fk_typed_code.specs.Laws.{HasHeightsOf}
 use Rattle.fk_typed_forms.specs.Asked.{place_of}
 use Rattle.fk_asked.specs.Proper.{ProgramIsProper}
+use Rattle.fk_lowerable.specs.Laws.{IsKnownOf}
 use Rattle.fk_certain.specs.Certain.{IsSafe, IsCertain}
 
 -- the code of each function stands at its entry in a list, with its depths, and these words are those that are live in it
@@ -46,3 +52,18 @@ CorrectListsAreCertain =
     Fits tables program.items → AreBuilt tables program → count_of_file program facts ≤ 55
     → (core : List CoreOp) (entry : (binding : ℕ) → ℕ) (kept : List Set) → IsLowered tables program core entry kept
     → IsCertain core kept (entry (main_of tables program)) (count_of_file program facts)
+
+-- what code is made of: the depths of a list are those of all runs, it is safe, and certain with the words that are live in it
+pub record CanBeCoded (core : List CoreOp) (main firsts : ℕ) : Type 0 where
+  pub depths : HasDepths core main
+  pub safe : IsSafe core main
+  pub certain : firsts ≤ 55 → (kept : List Set) → IsLive core (words_in kept) → IsLeast core (words_in kept) → IsCertain core kept main firsts
+
+-- so it is with a list that has the depths that are told of the text
+abbrev pub LoweredListsCanBeCoded : Type 0
+LoweredListsCanBeCoded =
+    (program : ProgramTree) (facts : Facts) (known : Known) → IsKnownOf program facts known → IsCorrect program facts → ProgramIsTrim program → ProgramIsProper program
+    → let tables = tables_by program facts in
+    Fits tables program.items → AreBuilt tables program
+    → (core : List CoreOp) (entry : (binding : ℕ) → ℕ) → IsFlat (bodies_of tables program) core entry → AreTold (depths_of known (functions_in known)) core
+    → CanBeCoded core (entry (main_of tables program)) (count_of_file program facts)

@@ -21,9 +21,10 @@ use Rattle.fk_fitting.specs.Laws.{CorrectProgramsFit}
 use Rattle.fk_lowerable.specs.Laws.{IsKnownOf}
 use Rattle.fk_text.specs.Built.{AreBuilt}
 use Rattle.fk_asked.specs.Proper.{ProgramIsProper}
-use Rattle.fk_certain.specs.Certain.{IsSafe}
-use Rattle.fk_certain.specs.Laws.{CorrectListsAreSafe}
-use Rattle.fk_compile.specs.Lists.{IsListFor}
+use Rattle.fk_lower.specs.Depths.{AreTold}
+use Rattle.fk_lower_text.specs.Depths.{depths_of}
+use Rattle.fk_certain.specs.Laws.{CanBeCoded, LoweredListsCanBeCoded, count_of_file}
+use Rattle.fk_compile.specs.Lists.{HasListOf}
 
 module _ (program : ProgramTree) (facts : Facts) (known : Known) (of : IsKnownOf program facts known) where
   pub lowerable : IsCorrect program facts → ProgramIsTrim program → CorrectProgramsFit → FormsAreShaped → AreWhole known (functions_in known) → IsLowerable known program
@@ -38,15 +39,21 @@ module _ (program : ProgramTree) (facts : Facts) (known : Known) (of : IsKnownOf
       subst (λ (items : List ItemTree). length (sites_in (tables_of known) (functions_of items) (functions_of items)) ≤ 16000) (sym of.items)
       (subst (λ (t : Tables). length (sites_in t (functions_of program.items) (functions_of program.items)) ≤ 16000) (sym of.tables) fits.sites)
 
--- and its list has operations that may be done in every run
-pub safe_list : (program : ProgramTree) (facts : Facts) (known : Known) → IsKnownOf program facts known → CorrectListsAreSafe → IsCorrect program facts → ProgramIsTrim program
+-- and code is made of its list
+pub coded_list : (program : ProgramTree) (facts : Facts) (known : Known) → IsKnownOf program facts known → LoweredListsCanBeCoded → IsCorrect program facts → ProgramIsTrim program
     → ProgramIsProper program → Fits (tables_by program facts) program.items → AreBuilt (tables_by program facts) program
-    → (core : List CoreOp) (main : ℕ) → IsListFor (tables_of known) program core main → IsSafe core main
-safe_list program facts known of law valid trim proper fits built core main list =
-    let own = subst (λ (t : Tables). IsListFor t program core main) of.tables list in
-    subst (λ (m : ℕ). IsSafe core m) (sym own.begins) (law program facts valid trim proper fits built core own.entry own.flat)
+    → (core : List CoreOp) (main : ℕ) → HasListOf (tables_of known) program core main → AreTold (depths_of known (functions_in known)) core
+    → CanBeCoded core main (count_of_file program facts)
+coded_list program facts known of law valid trim proper fits built core main list told =
+    let own = subst (λ (t : Tables). HasListOf t program core main) of.tables list in
+    subst (λ (m : ℕ). CanBeCoded core m (count_of_file program facts)) (sym own.begins)
+    (law program facts known of valid trim proper fits built core own.entry own.flat told)
 
 -- what is so of what is answered
 pub answered : {A E : Type 0} (P Q : A → Type 0) (r : Result A E) → ((a : A) → P a → Q a) → IfOk r P → IfOk r Q
 answered P Q (Ok a) go h = go a h
 answered P Q (Err e) go h = tt
+
+pub answered_both : {A E : Type 0} (P Q R : A → Type 0) (r : Result A E) → ((a : A) → P a → Q a → R a) → IfOk r P → IfOk r Q → IfOk r R
+answered_both P Q R (Ok a) go h k = go a h k
+answered_both P Q R (Err e) go h k = tt

@@ -16,6 +16,7 @@ use Rattle.fk_layout.specs.Refusal.{Fits}
 use Rattle.fk_layout.specs.declared.layout.Layout.{Layout}
 use Rattle.fk_layout.specs.declared.listed.Site.{Site}
 use Rattle.fk_core.specs.declared.op.CoreOp.{CoreOp}
+use Rattle.fk_core.specs.WellFormed.{HasDepths}
 use Rattle.fk_image.specs.declared.Image.{Image}
 use Rattle.fk_image.specs.Limits.{IsSite, IsCommit, Rise}
 use Rattle.fk_asm.specs.Commits.{IsCommitTable}
@@ -27,7 +28,7 @@ use Rattle.fk_certain.specs.Certain.{IsCertain}
 use Rattle.fk_text.specs.declared.refusal.Refusal.{Refusal}
 use Rattle.fk_text.specs.Refusal.{IsRefused}
 use Rattle.fk_generate.specs.Generable.{IsGenerable, HasCode, DoesTheList}
-use Rattle.fk_compile.specs.Lists.{IsListFor}
+use Rattle.fk_compile.specs.Lists.{HasListOf}
 use Rattle.fk_compile.specs.Faithful.{in_image, in_table, words_by, firsts_by}
 use Rattle.fk_compile.proofs.Limits.{sites_fit, commits_fit, commits_rise}
 use Rattle.fk_compile.proofs.Theorem.{IsCompiled}
@@ -71,7 +72,8 @@ module _ (program : ProgramTree) (facts : Facts) (layout : Layout) (laid : IsLay
   module _ (core : List CoreOp) (kept : List Set) (main : ℕ) (code : Code) (image : Image) where
     -- what the code and the table of sites are, of which the image is put together
     pub record IsPutTogether : Type 0 where
-      pub list : IsListFor (tables_by program facts) program core main
+      pub list : HasListOf (tables_by program facts) program core main
+      pub depths : HasDepths core main
       pub certain : IsCertain core kept main (length layout.firsts.items)
       pub blocks : DoesTheList core kept main layout.firsts.items (vec_len layout.words) code
       pub table : IsCommitTable (vec_len code.words) code.commits.items
@@ -104,6 +106,7 @@ module _ (program : ProgramTree) (facts : Facts) (layout : Layout) (laid : IsLay
       pub is_compiled : IsCompiled program facts core kept main image
       is_compiled = record {
         list = p.list;
+        depths = p.depths;
         certain = subst (λ (firsts : List ℕ). IsCertain core kept main (length firsts)) laid.firsts p.certain;
         places = places.0;
         blocks = places.1;

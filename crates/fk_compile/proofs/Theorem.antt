@@ -7,6 +7,7 @@ use Rattle.fk_forms.specs.Program.{main_of, sites_of}
 use Rattle.fk_source.specs.Program.{next_in, opening}
 use Rattle.fk_layout.specs.Layout.{tables_by}
 use Rattle.fk_core.specs.declared.op.CoreOp.{CoreOp}
+use Rattle.fk_core.specs.WellFormed.{HasDepths}
 use Rattle.fk_image.specs.declared.Image.{Image}
 use Rattle.fk_image.specs.Limits.{IsWithinLimits}
 use Rattle.fk_block_law.specs.Stands.{Places}
@@ -15,13 +16,14 @@ use Rattle.fk_simulation.specs.Follows.{Follows}
 use Rattle.fk_simulation.specs.Simulation.{Carries, MachinesFollowPrograms}
 use Rattle.fk_kept.specs.declared.set.Set.{Set}
 use Rattle.fk_certain.specs.Certain.{IsCertain}
-use Rattle.fk_compile.specs.Lists.{IsListFor}
+use Rattle.fk_compile.specs.Lists.{HasListOf}
 use Rattle.fk_compile.specs.Faithful.{in_image, words_by, firsts_by, IsFaithfulTo}
 
 module _ (program : ProgramTree) (facts : Facts) (core : List CoreOp) (kept : List Set) (main : ℕ) (image : Image) where
   -- what the parts of the compiler say of the list and the image
   pub record IsCompiled : Type 0 where
-    pub list : IsListFor (tables_by program facts) program core main
+    pub list : HasListOf (tables_by program facts) program core main
+    pub depths : HasDepths core main
     pub certain : IsCertain core kept main (length (firsts_by program facts))
     pub places : Places
     pub blocks : BlockLaw core image places (firsts_by program facts) main
@@ -35,7 +37,7 @@ module _ (program : ProgramTree) (facts : Facts) (core : List CoreOp) (kept : Li
   carries c =
       subst (λ (m : ℕ). Carries core m (firsts_by program facts) c.places image) c.list.begins
       (record {
-        well_formed = record { leads_on = c.list.code.leads_on; depths = c.list.depths };
+        well_formed = record { leads_on = c.list.code.leads_on; depths = c.depths };
         may = c.certain.safe.may;
         free = c.certain.safe.free;
         begins = c.certain.safe.begins;

@@ -8,10 +8,9 @@ use Rattle.fk_core.specs.KeepsRuns.{HasCodeOf}
 use Rattle.fk_core.specs.WellFormed.{HasDepths}
 use Rattle.fk_flat.specs.Laws.{IsFlat}
 
--- it is flat, the code of each function stands at its entry, that of `main` at this index, and the depths are those of all runs
-pub record IsListFor (tables : Tables) (program : ProgramTree) (core : List CoreOp) (main : ℕ) : Type 0 where
+-- it is flat, and the code of each function stands at its entry, that of `main` at this index
+pub record HasListOf (tables : Tables) (program : ProgramTree) (core : List CoreOp) (main : ℕ) : Type 0 where
   pub entry : ℕ → ℕ
   pub flat : IsFlat (bodies_of tables program) core entry
   pub code : HasCodeOf tables program core entry
   pub begins : main ≡ entry (main_of tables program)
-  pub depths : HasDepths core main

@@ -9,20 +9,24 @@ ghost use Rattle.fk_layout.specs.Layout.{IsLayout, tables_by};
 ghost use Rattle.fk_layout.specs.Refusal.{Fits};
 ghost use Rattle.fk_walk_statements.specs.Texts.{functions_in};
 ghost use Rattle.fk_lower_text.specs.Laid.{CanBeLaid};
+ghost use Rattle.fk_lower.specs.Depths.{AreTold};
+ghost use Rattle.fk_lower_text.specs.Depths.{depths_of};
+ghost use Rattle.fk_lower_text.specs.Whole.{AreNumbered};
 ghost use Rattle.fk_lower_text.specs.Lowered.{IsLowerable, HasSites};
 ghost use Rattle.fk_core.specs.WellFormed.{LeadsOn};
 ghost use Rattle.fk_block_law.specs.Suits.{Suits};
 ghost use Rattle.fk_kept.specs.Frames.{frames_of};
-ghost use Rattle.fk_certain.specs.Certain.{IsSafe, IsCertain};
+ghost use Rattle.fk_certain.specs.Certain.{IsCertain};
+ghost use Rattle.fk_certain.specs.Laws.{CanBeCoded, count_of_file};
 ghost use Rattle.fk_generate.specs.Generable.{IsGenerable, most_words};
 ghost use Rattle.fk_text.specs.Built.{AreBuilt};
 ghost use Rattle.fk_text.specs.Refusal.{IsRefused};
 ghost use Rattle.fk_text.specs.Text.{IsChecked};
-ghost use Rattle.fk_compile.specs.Lists.{IsListFor};
+ghost use Rattle.fk_compile.specs.Lists.{HasListOf};
 
 use crate::image::are_words;
 use fk_asked::laws::texts_are_proper;
-use fk_certain::laws::correct_lists_are_safe;
+use fk_certain::laws::lowered_lists_can_be_coded;
 use fk_core::CoreOp;
 use fk_fitting::laws::correct_programs_fit;
 use fk_kept::{Place, Set, live_words, places_of, suits_frames};
@@ -30,6 +34,7 @@ use fk_lookup::Lookup;
 use fk_lower::LowerFault;
 use fk_lower_text::{entry_of_main, lower_text};
 use fk_lowerable::laws::{lists_are_small, texts_can_be_laid};
+use fk_numbered::laws::operations_have_numbers;
 use fk_numbers::laws::texts_have_words;
 use fk_parsed::laws::texts_are_trim;
 use fk_room::laws::numbers_have_room;
@@ -56,10 +61,13 @@ fn uncertain() -> Refusal
 fn lowered(alloc: Global, known: &Known) -> Result<List, Refusal>
     requires sound { IsSound known.now }
     requires laid { CanBeLaid known.now 0 0 (functions_in known.now) }
+    requires numbered { AreNumbered known.now (functions_in known.now) }
     ensures list { (program : ProgramTree) → IsLowerable known.now program
-        → IfOk result (λ list. IsListFor (tables_of known.now) program list.ops.items list.main) }
+        → IfOk result (λ list. HasListOf (tables_of known.now) program list.ops.items list.main) }
     ensures sites { (program : ProgramTree) → IsLowerable known.now program
         → IfOk result (λ list. HasSites known.now list.ops.items) }
+    ensures told { (program : ProgramTree) → IsLowerable known.now program
+        → IfOk result (λ list. AreTold (depths_of known.now (functions_in known.now)) list.ops.items) }
     ensures refused { IfErr result (λ refusal. (source : Listed ℕ) → IsRefused source refusal) }
 {
     match lower_text(alloc, known) {
@@ -71,7 +79,7 @@ fn lowered(alloc: Global, known: &Known) -> Result<List, Refusal>
             })
         }
         Err(LowerFault::Memory) => Err(Refusal::Memory(AllocError)),
-        Err(_) => Err(uncertain()),
+        Err(_) => unreachable!(),
     }
 }
 
@@ -87,10 +95,11 @@ pub(crate) fn list_of(alloc: Global, text: &Built) -> Result<List, Refusal>
     requires built { AreBuilt (tables_by (program_of text.now.tree) text.now.facts)
         (program_of text.now.tree) }
     ensures list { IfOk result
-        (λ list. IsListFor (tables_by (program_of text.now.tree) text.now.facts)
+        (λ list. HasListOf (tables_by (program_of text.now.tree) text.now.facts)
         (program_of text.now.tree) list.ops.items list.main) }
     ensures small { IfOk result (λ list. sum_by most_words list.ops.items ≤ 256000) }
-    ensures safe { IfOk result (λ list. IsSafe list.ops.items list.main) }
+    ensures coded { IfOk result (λ list. CanBeCoded list.ops.items list.main
+        (count_of_file (program_of text.now.tree) text.now.facts)) }
     ensures refused { IfErr result (λ refusal. (source : Listed ℕ) → IsRefused source refusal) }
 {
     let bare = known_of(&text.tree, &text.facts, &text.layout);
@@ -104,7 +113,8 @@ pub(crate) fn list_of(alloc: Global, text: &Built) -> Result<List, Refusal>
     lists_are_small();
     numbers_have_room();
     texts_can_be_laid();
-    correct_lists_are_safe();
+    operations_have_numbers();
+    lowered_lists_can_be_coded();
     lowered(alloc, &known)
 }
 
@@ -139,29 +149,37 @@ fn suits(ops: &[CoreOp], places: &[Place], kept: &[Set], main: u32, firsts: u32)
     suits_frames(&list, main)
 }
 
-// The private words that are live at each index of a list, where it suits frames that hold them.
+// The private words that are live at each index of a list, where it suits frames that hold them: that
+// is looked at where the private variables of file scope fill the frame of `main`.
 fn kept_words(
     alloc: Global,
     ops: &[CoreOp],
     main: u32,
     firsts: u32,
 ) -> Result<Option<Vec<Set>>, AllocError>
-    requires safe { IsSafe ops.now main }
+    requires coded { CanBeCoded ops.now main firsts }
     ensures { IfOk result (λ found. IfSome found (λ kept. IsCertain ops.now kept.items main firsts)) }
 {
-    let places = places_of(alloc, ops)?;
     let kept = live_words(alloc, ops)?;
+    if firsts <= 55 {
+        return Ok(Some(kept));
+    }
+    let places = places_of(alloc, ops)?;
     if !suits(ops, &places, &kept, main, firsts) {
         return Ok(None);
     }
     Ok(Some(kept))
 }
 
-/// The private words that calls keep at each index of a list, where it is certain that the code does
-/// what the list does. Code is made of it, with the first values of private variables of file scope.
+/// The private words that calls keep at each index of a list. Code is made of it, with the first values
+/// of private variables of file scope.
+///
+/// # Errors
+/// `Memory`; and that too where there are 56 such variables, and `main` calls a function, since its
+/// frame has no room for a result then.
 pub(crate) fn certify(alloc: Global, list: &List, firsts: &[u32]) -> Result<Vec<Set>, Refusal>
     requires few { length firsts.now ≤ 56 }
-    requires safe { IsSafe list.now.ops.items list.now.main }
+    requires coded { CanBeCoded list.now.ops.items list.now.main (length firsts.now) }
     ensures certain { IfOk result (λ kept. IsCertain list.now.ops.items kept.items list.now.main (length firsts.now)) }
     ensures generable { IfOk result (λ kept. LeadsOn list.now.ops.items
         → IsGenerable list.now.ops.items kept.items list.now.main firsts.now) }

@@ -130,5 +130,5 @@ module _ (known : Known) where
       omega (arith, long, few, same, total_few blocks m, laid_sized known (functions_in known) 0 0)
   text_fault can blocks are m v.OutOfRange none = λ numbers.
       none (parts_numbered blocks (subst EachNumbered (sym are) (laid_numbered known (functions_in known) 0 0 numbers)))
-  text_fault can blocks are m v.Misplaced is = tt
+  text_fault can blocks are m v.Misplaced is = is
   text_fault can blocks are m v.Memory is = tt

@@ -49,10 +49,9 @@ pub record HasSites (known : Known) (core : List CoreOp) : Type 0 where
   pub sites : acts items ≡ ranked 0 (sites_of_text known)
   pub few : jumps items ≤ length (acts items) + calls items
 
--- Why functions that can be laid have no list: an operation has no number; it wasn't found that depths go with operations; or memory
--- is refused, which no clause can say
+-- Why functions that can be laid have no list: an operation has no number, or memory is refused, which no clause can say
 abbrev pub IsTextFault : Known → LowerFault → Type 0
 IsTextFault known TooLong = ⊥
 IsTextFault known OutOfRange = AreNumbered known (functions_in known) → ⊥
-IsTextFault known Misplaced = Unit {0}
+IsTextFault known Misplaced = ⊥
 IsTextFault known Memory = Unit {0}

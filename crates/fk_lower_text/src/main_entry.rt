@@ -1,4 +1,4 @@
-//! `main`, and whether the depths of a list go with each other.
+//! `main`, and where it begins in a list.
 
 ghost use Rattle.std.specs.Prelude.{◌≡◌, ◌∷◌, List, OnOk, IfErr, unwrap_or};
 ghost use Rattle.fk_syntax.specs.Program.{ItemTree};
@@ -8,14 +8,11 @@ ghost use Rattle.fk_forms.specs.Program.{functions_of, binding_of, main_in};
 ghost use Rattle.fk_walk.specs.Known.{tables_of};
 ghost use Rattle.fk_walk_statements.specs.Texts.{functions_in};
 ghost use Rattle.fk_lower.specs.Written.{entry_of};
-ghost use Rattle.fk_depths.specs.Local.{HasLocalDepths};
 ghost use Rattle.fk_lower_text.specs.Lowered.{IsTextFault};
 
-use fk_depths::has_local_depths;
-use fk_lower::{LowerFault, Lowered};
+use fk_lower::Lowered;
 use fk_syntax::{Function, Item};
 use fk_walk::Known;
-use std::alloc::Global;
 
 /// The binding of a function.
 pub(crate) fn binding_of(known: &Known, whole: &Function) -> u32
@@ -78,30 +75,4 @@ pub fn entry_of_main(known: &Known, lowered: &Lowered) -> u32
         (main_in (tables_of known.now) (functions_in known.now)) }
 {
     entry(lowered, main_binding(known))
-}
-
-/// Whether the depths of a list of a text go with its operations. It takes time and memory linear
-/// in the list.
-///
-/// # Errors
-/// `Misplaced` where they don't; and `Memory`.
-pub(crate) fn check_depths(
-    alloc: Global,
-    known: &Known,
-    lowered: &Lowered,
-) -> Result<(), LowerFault>
-    ensures depths { OnOk result (HasLocalDepths lowered.now.ops.items
-        (entry_of lowered.now.entries.of_bindings.items lowered.now.entries.end
-        (main_in (tables_of known.now) (functions_in known.now)))) }
-    ensures refused { IfErr result (IsTextFault known.now) }
-{
-    let main = entry_of_main(known, lowered);
-    let Ok(fits) = has_local_depths(alloc, &lowered.ops, main) else {
-        return Err(LowerFault::Memory);
-    };
-    if fits {
-        Ok(())
-    } else {
-        Err(LowerFault::Misplaced)
-    }
 }

@@ -6,6 +6,7 @@ use Rattle.fk_layout.specs.declared.listed.Site.{Site}
 use Rattle.fk_core.specs.declared.op.CoreOp.{CoreOp}
 use Rattle.fk_text.proofs.Parts.{kept as passed}
 use Rattle.fk_certain.specs.Certain.{IsCertain}
+use Rattle.fk_certain.specs.Laws.{CanBeCoded}
 use Rattle.fk_generate.specs.Generable.{IsGenerable, most_words}
 use Rattle.fk_compile.specs.Faithful.{in_table}
 use Rattle.fk_compile.proofs.Made.{passes_on, does_the_list, is_generable, few_words, is_compiled}
@@ -84,6 +85,7 @@ returns-clause-faithful c =
           (is_compiled tree text.facts layout c.in_ok-text.ensures.laid c.in_ok-text.ensures.fits list.ops.items kept.items list.main code image
           (record {
             list = c.in_ok-list.ensures.list;
+            depths = c.in_ok-list.ensures.coded.depths;
             certain = certain;
             blocks =
                 does_the_list list.ops.items c.deref-2.result.now kept.items c.deref-3.result.now list.main layout.firsts.items c.deref-4.result.now (vec_len layout.words)
@@ -102,8 +104,11 @@ returns-clause-faithful c =
           }));
     }
 
-pub certify-requires-clause-safe : goal.certify-requires-clause-safe
-certify-requires-clause-safe c = c.in_ok-list.ensures.safe
+pub certify-requires-clause-coded : goal.certify-requires-clause-coded
+certify-requires-clause-coded c =
+    let list = c.in_ok-list.list in
+    subst (λ (firsts : List ℕ). CanBeCoded list.ops.items list.main (length firsts)) (sym (c.deref.ensures.value ∙ c.in_ok-text.ensures.laid.firsts))
+    c.in_ok-list.ensures.coded
 
 pub certify-requires-clause-few : goal.certify-requires-clause-few
 certify-requires-clause-few c =

@@ -6,9 +6,12 @@ use Rattle.fk_lower_text.specs.Lowered.{HasSites}
 use Rattle.fk_generate.specs.Generable.{most_words}
 use Rattle.fk_fitting.specs.Correct.{IsCorrect}
 use Rattle.fk_lowerable.specs.Laws.{IsKnownOf}
-use Rattle.fk_certain.specs.Certain.{IsSafe}
-use Rattle.fk_compile.specs.Lists.{IsListFor}
-use Rattle.fk_compile.proofs.Lowerable.{lowerable, few_sites, safe_list, answered}
+use Rattle.fk_lower.specs.Depths.{AreTold}
+use Rattle.fk_lower_text.specs.Depths.{depths_of}
+use Rattle.fk_walk_statements.specs.Texts.{functions_in}
+use Rattle.fk_certain.specs.Laws.{CanBeCoded, count_of_file}
+use Rattle.fk_compile.specs.Lists.{HasListOf}
+use Rattle.fk_compile.proofs.Lowerable.{lowerable, few_sites, coded_list, answered, answered_both}
 use Rattle.fk_compile.proofs.list.list_of.Goals as goal
 
 pub returns-clause-list : goal.returns-clause-list
@@ -24,7 +27,7 @@ returns-clause-list c =
     let words = c.texts_have_words.ensures c.requires.checked.0 checked.parsed.tokens tree checked.parsed.spelled checked.parsed.derived in
     let whole = c.numbers_have_room.ensures tree facts c.complete-known.result valid c.requires.fits words tables items in
     let can = lowerable tree facts c.complete-known.result of valid trim c.correct_programs_fit.ensures c.forms_are_shaped.ensures whole in
-    subst (λ (t : Tables). IfOk c.lowered.result (λ list. IsListFor t tree list.ops.items list.main)) tables (c.lowered.ensures.list tree can)
+    subst (λ (t : Tables). IfOk c.lowered.result (λ list. HasListOf t tree list.ops.items list.main)) tables (c.lowered.ensures.list tree can)
 
 pub returns-clause-small : goal.returns-clause-small
 returns-clause-small c =
@@ -56,8 +59,8 @@ lowered-requires-clause-laid c =
     let whole = c.numbers_have_room.ensures tree facts c.complete-known.result valid c.requires.fits words tables items in
     c.texts_can_be_laid.ensures tree facts c.complete-known.result valid of c.requires.fits whole
 
-pub returns-clause-safe : goal.returns-clause-safe
-returns-clause-safe c =
+pub returns-clause-coded : goal.returns-clause-coded
+returns-clause-coded c =
     let tree = program_of c.args.text.now.tree in
     let facts = c.args.text.now.facts in
     let known = c.complete-known.result in
@@ -71,6 +74,20 @@ returns-clause-safe c =
     let words = c.texts_have_words.ensures c.requires.checked.0 checked.parsed.tokens tree checked.parsed.spelled checked.parsed.derived in
     let whole = c.numbers_have_room.ensures tree facts known valid c.requires.fits words tables items in
     let can = lowerable tree facts known of valid trim c.correct_programs_fit.ensures c.forms_are_shaped.ensures whole in
-    answered (λ list. IsListFor (tables_of known) tree list.ops.items list.main) (λ list. IsSafe list.ops.items list.main) c.lowered.result
-    (λ list is. safe_list tree facts known of c.correct_lists_are_safe.ensures valid trim proper c.requires.fits c.requires.built list.ops.items list.main is)
-    (c.lowered.ensures.list tree can)
+    answered_both (λ list. HasListOf (tables_of known) tree list.ops.items list.main) (λ list. AreTold (depths_of known (functions_in known)) list.ops.items)
+    (λ list. CanBeCoded list.ops.items list.main (count_of_file tree facts)) c.lowered.result
+    (λ list is told.
+    coded_list tree facts known of c.lowered_lists_can_be_coded.ensures valid trim proper c.requires.fits c.requires.built list.ops.items list.main is told)
+    (c.lowered.ensures.list tree can) (c.lowered.ensures.told tree can)
+
+pub lowered-requires-clause-numbered : goal.lowered-requires-clause-numbered
+lowered-requires-clause-numbered c =
+    let tree = program_of c.args.text.now.tree in
+    let facts = c.args.text.now.facts in
+    let checked = c.requires.checked.1 in
+    let tables = c.complete-known.ensures.tables ∙ c.known_of-bare.ensures.tables in
+    let items = c.complete-known.ensures.items ∙ c.known_of-bare.ensures.items in
+    let of : IsKnownOf tree facts c.complete-known.result = record { tables = tables; items = items } in
+    let valid : IsCorrect tree facts = record { well_formed = c.requires.well_formed; small = c.requires.tokens; known = checked.known } in
+    let trim = c.texts_are_trim.ensures c.requires.checked.0 checked.parsed.tokens tree checked.parsed.spelled checked.parsed.derived in
+    c.operations_have_numbers.ensures tree facts c.complete-known.result valid trim c.requires.fits c.requires.built of

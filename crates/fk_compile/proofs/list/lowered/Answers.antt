@@ -1,5 +1,4 @@
-use Rattle.std.proofs.Common.{ℕ, List, sym, ap, subst, ◌∙◌}
-use Rattle.fk_core.specs.WellFormed.{HasDepths}
+use Rattle.std.proofs.Common.{List, sym, ap, ◌∙◌}
 use Rattle.fk_syntax.specs.Program.{ItemTree}
 use Rattle.fk_forms.specs.Program.{functions_of, main_in}
 use Rattle.fk_walk.specs.Known.{tables_of}
@@ -17,9 +16,4 @@ returns-in-Ok-clause-list c = λ program lowerable.
       begins =
           c.entry_of_main-main.ensures
           ∙ ap (λ (items : List ItemTree). entry_of entries.of_bindings.items entries.end (main_in (tables_of known) (functions_of items))) (sym lowerable.items);
-      depths =
-          subst (λ (n : ℕ). HasDepths c.in-Ok.lowered.ops.items n)
-          (sym (c.entry_of_main-main.ensures
-          ∙ ap (λ (items : List ItemTree). entry_of entries.of_bindings.items entries.end (main_in (tables_of known) (functions_of items))) (sym lowerable.items)))
-          (c.in-Ok.ensures.depths program lowerable.items);
     }

@@ -1,12 +1,7 @@
 -- What lowering finds of a text follows from its blocks.
 use Rattle.std.proofs.Common.{◌≡◌, map, ap, sym, ◌∙◌, subst, List, arith}
 use Rattle.std.proofs.lemmas.Result.{err_from_is_err_and}
-use Rattle.fk_syntax.specs.Program.{ItemTree}
-use Rattle.fk_forms.specs.Program.{functions_of, main_in}
-use Rattle.fk_walk.specs.Known.{tables_of}
 use Rattle.fk_walk_statements.specs.Texts.{functions_in}
-use Rattle.fk_core.specs.WellFormed.{HasDepths}
-use Rattle.fk_depths.proofs.Runs.{local_depths_are_depths}
 use Rattle.fk_lower.specs.Written.{entry_of}
 use Rattle.fk_lower.specs.declared.block.Block.{Block}
 use Rattle.fk_lower.specs.View.{part_of}
@@ -56,14 +51,6 @@ returns-clause-told c program lowerable =
     let own = c.in_ok-depths.ensures.depths (program_opened known program lowerable can.up) (omega (arith, few, sites_sized known (functions_in known))) in
     let same : c.deref.result.now ≡ depths_of known (functions_in known) = cc in
     subst (λ depths. AreTold depths c.in_ok-lowered.lowered.ops.items) same c.in_ok-lowered.ensures.told
-
-pub returns-clause-depths : goal.returns-clause-depths
-returns-clause-depths c program same =
-    let known = c.args.known.now in
-    let lowered = c.in_ok-lowered.lowered in
-    let entry = entry_of lowered.entries.of_bindings.items lowered.entries.end in
-    subst (λ (items : List ItemTree). HasDepths lowered.ops.items (entry (main_in (tables_of known) (functions_of items)))) (sym same)
-    (local_depths_are_depths lowered.ops.items (entry (main_in (tables_of known) (functions_in known))) c.in_ok-check_depths.ensures.depths)
 
 pub returns-in_err-bodies-clause-refused : goal.returns-in_err-bodies-clause-refused
 returns-in_err-bodies-clause-refused c =
