@@ -7,6 +7,8 @@ ghost use Rattle.fk_syntax.specs.WellFormed.{IsWellFormed};
 ghost use Rattle.fk_walk.specs.Known.{IsSound, tables_of};
 ghost use Rattle.fk_layout.specs.Layout.{IsLayout, tables_by};
 ghost use Rattle.fk_layout.specs.Refusal.{Fits};
+ghost use Rattle.fk_walk_statements.specs.Texts.{functions_in};
+ghost use Rattle.fk_lower_text.specs.Laid.{CanBeLaid};
 ghost use Rattle.fk_lower_text.specs.Lowered.{IsLowerable, HasSites};
 ghost use Rattle.fk_core.specs.WellFormed.{LeadsOn};
 ghost use Rattle.fk_certificate.specs.Certain.{IsCertain};
@@ -23,7 +25,7 @@ use fk_kept::Set;
 use fk_lookup::Lookup;
 use fk_lower::LowerFault;
 use fk_lower_text::{entry_of_main, lower_text};
-use fk_lowerable::laws::lists_are_small;
+use fk_lowerable::laws::{lists_are_small, texts_can_be_laid};
 use fk_numbers::laws::texts_have_words;
 use fk_parsed::laws::texts_are_trim;
 use fk_room::laws::numbers_have_room;
@@ -48,7 +50,8 @@ fn uncertain() -> Refusal
 
 // The list of a text of which all is known.
 fn lowered(alloc: Global, known: &Known) -> Result<List, Refusal>
-    requires { IsSound known.now }
+    requires sound { IsSound known.now }
+    requires laid { CanBeLaid known.now 0 0 (functions_in known.now) }
     ensures list { (program : ProgramTree) → IsLowerable known.now program
         → IfOk result (λ list. IsListFor (tables_of known.now) program list.ops.items list.main) }
     ensures sites { (program : ProgramTree) → IsLowerable known.now program
@@ -92,6 +95,7 @@ pub(crate) fn list_of(alloc: Global, text: &Built) -> Result<List, Refusal>
     forms_are_shaped();
     lists_are_small();
     numbers_have_room();
+    texts_can_be_laid();
     lowered(alloc, &known)
 }
 

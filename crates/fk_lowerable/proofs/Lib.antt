@@ -1,3 +1,4 @@
 pub mod Bindings
 pub mod Firsts
 pub mod Small
+pub mod Laid

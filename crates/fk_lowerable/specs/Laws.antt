@@ -10,7 +10,8 @@ use Rattle.fk_walk.specs.declared.known.Known.{Known}
 use Rattle.fk_walk.specs.Known.{tables_of, items_in}
 use Rattle.fk_walk_statements.specs.Texts.{functions_in, sites_of_text}
 use Rattle.fk_core.specs.declared.op.CoreOp.{CoreOp}
-use Rattle.fk_lower_text.specs.Laid.{GoUp}
+use Rattle.fk_lower_text.specs.Whole.{AreWhole}
+use Rattle.fk_lower_text.specs.Laid.{GoUp, CanBeLaid}
 use Rattle.fk_lower_text.specs.Lowered.{HasSites}
 use Rattle.fk_generate.specs.Generable.{most_words}
 use Rattle.fk_fitting.specs.Correct.{IsCorrect}
@@ -33,3 +34,9 @@ FirstsAreFew =
 -- the blocks of a list have few words where its text has few operations
 abbrev pub ListsAreSmall : Type 0
 ListsAreSmall = (known : Known) (core : List CoreOp) → HasSites known core → length (sites_of_text known) ≤ 16000 → sum_by most_words core ≤ 256000
+
+-- the functions can be laid where each number of an operation has room in a word
+abbrev pub TextsCanBeLaid : Type 0
+TextsCanBeLaid =
+    (program : ProgramTree) (facts : Facts) (known : Known) → IsCorrect program facts → IsKnownOf program facts known → Fits (tables_by program facts) program.items
+    → AreWhole known (functions_in known) → CanBeLaid known 0 0 (functions_in known)

@@ -42,3 +42,16 @@ returns-clause-small c =
     let can = lowerable tree facts known of valid trim c.correct_programs_fit.ensures c.forms_are_shaped.ensures whole in
     answered (λ list. HasSites known list.ops.items) (λ list. sum_by most_words list.ops.items ≤ 256000) c.lowered.result
     (λ list has. c.lists_are_small.ensures known list.ops.items has (few_sites tree facts known of c.requires.fits)) (c.lowered.ensures.sites tree can)
+
+pub lowered-requires-clause-laid : goal.lowered-requires-clause-laid
+lowered-requires-clause-laid c =
+    let tree = program_of c.args.text.now.tree in
+    let facts = c.args.text.now.facts in
+    let checked = c.requires.checked.1 in
+    let tables = c.complete-known.ensures.tables ∙ c.known_of-bare.ensures.tables in
+    let items = c.complete-known.ensures.items ∙ c.known_of-bare.ensures.items in
+    let of : IsKnownOf tree facts c.complete-known.result = record { tables = tables; items = items } in
+    let valid : IsCorrect tree facts = record { well_formed = c.requires.well_formed; small = c.requires.tokens; known = checked.known } in
+    let words = c.texts_have_words.ensures c.requires.checked.0 checked.parsed.tokens tree checked.parsed.spelled checked.parsed.derived in
+    let whole = c.numbers_have_room.ensures tree facts c.complete-known.result valid c.requires.fits words tables items in
+    c.texts_can_be_laid.ensures tree facts c.complete-known.result valid of c.requires.fits whole
