@@ -1,11 +1,11 @@
 -- Harts have ended exactly where their processors have nothing left to do.
-use Rattle.std.proofs.Common.{◌≡◌, ℕ, zero, suc, ◌+◌, List, [], ◌∷◌, Option, Some, None, Bool, true, false, cond, ◌&&◌, sym, ap, ap₂, subst, ◌∙◌, refl, arith, eq-eqb}
+use Rattle.std.proofs.Common.{◌≡◌, ℕ, zero, suc, List, [], ◌∷◌, Some, None, Bool, true, false, cond, ◌&&◌, sym, ap, ap₂, subst, ◌∙◌, refl, arith, eq-eqb}
 use Rattle.std.specs.Prelude.{◌==◌, map, is_none}
 use Rattle.fk_num.specs.Word.{Memory}
 use Rattle.fk_space.specs.Space.{Space}
 use Rattle.fk_tree.specs.Tree.{Tree}
 use Rattle.fk_run.specs.Processor.{Setting}
-use Rattle.fk_run.specs.Round.{Runner, State}
+use Rattle.fk_run.specs.Round.{Runner}
 use Rattle.fk_run.specs.Schedule.{all_done}
 use Rattle.fk_core.specs.declared.op.CoreOp.{CoreOp}
 use Rattle.fk_core.specs.Next.{Position, next}
@@ -19,7 +19,7 @@ use Rattle.fk_nodes.specs.Chain.{runs}
 use Rattle.fk_nodes.specs.Alone.{NodeCycle}
 use Rattle.fk_nodes.specs.Together.{AllCount, Together}
 use Rattle.fk_plans.specs.Stage.{Stage, Ended, Acts, Meets}
-use Rattle.fk_plans.specs.Plan.{Plan, Blocks, StandsAt, AllStandAt, AllAct, Binds, IsBound, JointBlocksTurn}
+use Rattle.fk_plans.specs.Plan.{Plan, Blocks, StandsAt, AllStandAt, AllAct, Binds, JointBlocksTurn}
 use Rattle.fk_block_law.specs.Owner.{core_source}
 use Rattle.fk_group_plans.specs.Nodes.{first_of, plan_of}
 use Rattle.fk_group_plans.specs.Behind.{blocks_of}

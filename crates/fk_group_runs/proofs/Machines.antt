@@ -1,8 +1,8 @@
 -- A machine follows a run, cycle by cycle.
-use Rattle.std.proofs.Common.{◌≡◌, ℕ, suc, ◌+◌, ◌^◌, ◌<◌, List, ◌++◌, length, Option, Some, None, Bool, true, cond, sym, ap, subst, ◌∙◌, refl, arith, ◌⊎◌, inl, inr, ⊎_elim}
+use Rattle.std.proofs.Common.{◌≡◌, ℕ, ◌+◌, List, ◌++◌, length, None, true, cond, sym, ap, subst, ◌∙◌, inl, inr, ⊎_elim}
 use Rattle.fk_space.specs.Space.{Space}
 use Rattle.fk_run.specs.Processor.{Setting}
-use Rattle.fk_run.specs.Round.{State, cut, result, is_possible, IsStopped}
+use Rattle.fk_run.specs.Round.{State, result, is_possible, IsStopped}
 use Rattle.fk_core.specs.declared.op.CoreOp.{CoreOp}
 use Rattle.fk_core.specs.Next.{Position, next}
 use Rattle.fk_image.specs.declared.Image.{Image}

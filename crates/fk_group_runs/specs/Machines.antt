@@ -1,5 +1,5 @@
 -- A machine follows a core run with groups, cycle by cycle.
-use Rattle.std.specs.Prelude.{◌≡◌, ℕ, suc, ◌^◌, ◌<◌, List, ◌++◌, length, Bool, true, cond, Option, ◌⊎◌}
+use Rattle.std.specs.Prelude.{◌≡◌, ℕ, suc, ◌^◌, ◌<◌, List, ◌++◌, length, true, cond, Option, ◌⊎◌}
 use Rattle.fk_space.specs.Space.{Space}
 use Rattle.fk_run.specs.Processor.{Setting}
 use Rattle.fk_run.specs.Round.{State, cut, result, is_possible, IsStopped}
@@ -19,7 +19,6 @@ use Rattle.fk_group_rounds.specs.Next.{JumpsLead}
 use Rattle.fk_group_rounds.specs.After.{owners_after, ArePlaces, GroupsGoOn, AllSoon}
 use Rattle.fk_group_rounds.specs.Rounds.{IsTree, IsKnownRound}
 use Rattle.fk_group_runs.specs.Homes.{AllNext}
-use Rattle.fk_group_runs.specs.Results.{IsFault}
 use Rattle.fk_group_runs.specs.Follow.{IsFollowed}
 
 module _ (core : List CoreOp) (image : Image) (places : Places) (nestings : Nestings) (setting : Setting) (spaces : ℕ → Space) where
