@@ -1,5 +1,5 @@
 -- The depths that are told of a text are those of its code.
-use Rattle.std.proofs.Common.{◌≡◌, ℕ, zero, suc, ◌+◌, ◌<◌, Bool, true, false, List, [], ◌∷◌, ◌++◌, length, Option, Some, None, refl, sym, ap, subst, ◌∙◌, arith, length-append}
+use Rattle.std.proofs.Common.{◌≡◌, ℕ, zero, suc, ◌+◌, Bool, true, false, List, [], ◌∷◌, ◌++◌, length, Option, Some, None, refl, sym, ap, subst, arith, length-append}
 use Rattle.std.specs.Prelude.{◌==◌, slice_get, unwrap_or, if◌then◌else◌}
 use Rattle.std.specs.List.{All}
 use Rattle.std.proofs.Math.Seq.{append_snoc}
@@ -8,7 +8,7 @@ use Rattle.fk_sizes.specs.Places.{beginning}
 use Rattle.fk_forms.specs.Code.{Code, size, numbered}
 use Rattle.fk_forms.specs.Expressions.{Coded}
 use Rattle.fk_forms.specs.Tables.{Tables}
-use Rattle.fk_forms.specs.Program.{functions_of, binding_of, signature_in, code_of, body_in, bodies_of}
+use Rattle.fk_forms.specs.Program.{binding_of, signature_in, code_of, body_in, bodies_of}
 use Rattle.fk_walk.specs.declared.known.Known.{Known}
 use Rattle.fk_walk.specs.Known.{tables_of, items_in}
 use Rattle.fk_walk_statements.specs.Texts.{functions_in}

@@ -1,5 +1,5 @@
 -- How many values the running call has before each operation of a text, in the order of the text.
-use Rattle.std.specs.Prelude.{◌≡◌, ℕ, List, [], ◌∷◌, ◌++◌}
+use Rattle.std.specs.Prelude.{ℕ, List, [], ◌∷◌, ◌++◌}
 use Rattle.fk_syntax.specs.Program.{FunctionTree}
 use Rattle.fk_forms.specs.Code.{Code, done, perform, choose, while, until, turn, again, quit, break, continue, call, ends}
 use Rattle.fk_forms.specs.Expressions.{Coded, Signature}
