@@ -1,1 +1,56 @@
+mod InExpressions
+mod InStatements
+mod Whole
+pub mod WordNumbers
+pub mod Near
+pub mod Regions
+pub mod WordSlots
+pub mod WordRoom
+pub mod Bindings
+pub mod Firsts
+pub mod Small
+pub mod Laid
+mod Proper
+mod Sizes
+mod Tokens
+mod Places
+mod Scalars
+mod Valid
+mod AskedNames
+mod Calls
+mod Members
+mod Expressions
+mod Statements
+pub mod Programs
+pub mod Ok
+pub mod Forms
+pub mod WrittenStatements
+pub mod WrittenPrograms
+pub mod Low
+pub mod Frames
+pub mod Roomy
+mod RoomyForms
+pub mod RoomyStatements
+pub mod Items
+pub mod Apart
+pub mod Free
+mod Sized
+mod Living
+pub mod Suiting
+pub mod Values
+pub mod Named
+pub mod Marked
+pub mod Functions
+pub mod Nested
+pub mod Slots
+pub mod Outer
+pub mod Referring
+pub mod Names
+pub mod Own
+mod Unnamed
+pub mod Room
+pub mod Numbers
+pub mod Texts
+mod Heights
+pub mod TallLists
 pub mod Lists

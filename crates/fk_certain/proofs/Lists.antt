@@ -20,10 +20,10 @@ use Rattle.fk_shapes.proofs.Programs.{forms_are_shaped, functions_are_closed}
 use Rattle.fk_fitting.proofs.Programs.{correct_programs_fit}
 use Rattle.fk_typed_code.proofs.Knowing.{typed_lists_know}
 use Rattle.fk_typed_forms.specs.Asked.{place_by, place_in, place_of}
-use Rattle.fk_asked.proofs.Programs.{correct_programs_are_asked, mains_have_their_place}
-use Rattle.fk_suits.proofs.Free.{lone, typed_list, lists_are_free}
-use Rattle.fk_suits.proofs.Suiting.{live_words_suit}
-use Rattle.fk_rooms.proofs.Room.{correct_programs_have_room}
+use Rattle.fk_certain.proofs.Programs.{correct_programs_are_asked, mains_have_their_place}
+use Rattle.fk_certain.proofs.Free.{lone, typed_list, lists_are_free}
+use Rattle.fk_certain.proofs.Suiting.{live_words_suit}
+use Rattle.fk_certain.proofs.Room.{correct_programs_have_room}
 use Rattle.fk_core.specs.declared.op.CoreOp.{CoreOp}
 use Rattle.fk_walk.specs.declared.known.Known.{Known}
 use Rattle.fk_walk_statements.specs.Texts.{functions_in}
@@ -41,9 +41,9 @@ use Rattle.fk_typed_code.specs.Typed.{AreTyped}
 use Rattle.fk_typed_code.specs.Laws.{HasHeightsOf}
 use Rattle.fk_typed_code.proofs.Depths.{typed_lists_have_depths}
 use Rattle.fk_typed_forms.proofs.Programs.{forms_are_typed}
-use Rattle.fk_asked.specs.Proper.{ProgramIsProper}
-use Rattle.fk_lowerable.specs.Laws.{IsKnownOf}
-use Rattle.fk_heights.proofs.Lists.{lists_have_heights}
+use Rattle.fk_certain.specs.Proper.{ProgramIsProper}
+use Rattle.fk_certain.specs.LoweringLaws.{IsKnownOf}
+use Rattle.fk_certain.proofs.TallLists.{lists_have_heights}
 use Rattle.fk_certain.specs.Laws.{CorrectListsAreSafe, CorrectListsAreCertain, LoweredListsCanBeCoded}
 
 -- what has the place of `main` is defined

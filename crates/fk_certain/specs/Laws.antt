@@ -22,8 +22,8 @@ use Rattle.fk_parsed.specs.Trim.{ProgramIsTrim}
 use Rattle.fk_fitting.specs.Correct.{IsCorrect}
 use Rattle.fk_typed_code.specs.Laws.{HasHeightsOf}
 use Rattle.fk_typed_forms.specs.Asked.{place_of}
-use Rattle.fk_asked.specs.Proper.{ProgramIsProper}
-use Rattle.fk_lowerable.specs.Laws.{IsKnownOf}
+use Rattle.fk_certain.specs.Proper.{ProgramIsProper}
+use Rattle.fk_certain.specs.LoweringLaws.{IsKnownOf}
 use Rattle.fk_certain.specs.Certain.{IsSafe, IsCertain}
 
 -- the code of each function stands at its entry in a list, with its depths, and these words are those that are live in it

@@ -1,2 +1,17 @@
+pub mod WordRoom
+pub mod WordLaws
+pub mod LoweringLaws
+pub mod Proper
+pub mod AskedLaws
+pub mod Scopes
+pub mod WritingLaws
+pub mod Room
+pub mod Rooms
+pub mod Suiting
+pub mod FreeLaws
+pub mod Named
+pub mod RoomLaws
+pub mod NumberLaws
+pub mod HeightLaws
 pub mod Certain
 pub mod Laws

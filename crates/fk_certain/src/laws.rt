@@ -1,6 +1,140 @@
-//! Laws of the lists of programs.
+//! Laws of programs that keep all rules and have a layout, and of their lists.
 
+ghost use Rattle.fk_certain.specs.WordLaws.{MembersAreClose, NumbersHaveRoom};
+ghost use Rattle.fk_certain.specs.LoweringLaws.{BindingsGoUp, TextsCanBeLaid, FirstsAreFew, ListsAreSmall};
+ghost use Rattle.fk_certain.specs.Proper.{TextsAreProper};
+ghost use Rattle.fk_certain.specs.AskedLaws.{CorrectProgramsAreAsked, MainsHaveTheirPlace};
+ghost use Rattle.fk_certain.specs.WritingLaws.{FormsWriteFirst};
+ghost use Rattle.fk_certain.specs.Room.{CallsHaveRoom};
+ghost use Rattle.fk_certain.specs.FreeLaws.{FlatListsAreApart, ListsAreFree};
+ghost use Rattle.fk_certain.specs.Suiting.{LiveWordsSuit};
+ghost use Rattle.fk_certain.specs.RoomLaws.{ValuesHaveRoom, NamesHaveWords, CorrectProgramsHaveRoom};
+ghost use Rattle.fk_certain.specs.Named.{CodeNamesWords};
+ghost use Rattle.fk_certain.specs.NumberLaws.{OperationsHaveNumbers};
+ghost use Rattle.fk_certain.specs.HeightLaws.{ListsHaveHeights};
 ghost use Rattle.fk_certain.specs.Laws.{CorrectListsAreSafe, CorrectListsAreCertain, LoweredListsCanBeCoded};
+
+/// The members in a program that keeps all rules lie near the first words of their structs, and no
+/// function has too many parameters.
+pub fn members_are_close()
+    ensures { MembersAreClose }
+{}
+
+/// Each number that an operation of a program takes has room in a word, where the program keeps all
+/// rules and has a layout, and those that are written in its text have: addresses, the words before
+/// members and those of types, places and counts of arguments.
+pub fn numbers_have_room()
+    ensures { NumbersHaveRoom }
+{}
+
+/// The bindings of the functions go up in the order of the text, from 0 on.
+pub fn bindings_go_up()
+    ensures { BindingsGoUp }
+{}
+
+/// The functions of a text can be laid, each at its binding, where each number of an operation has
+/// room in a word: at most 16,000 operations are few enough for their list.
+pub fn texts_can_be_laid()
+    ensures { TextsCanBeLaid }
+{}
+
+/// There are at most 56 private variables of file scope: they are among the words of the private
+/// frame of `main`, which has at most 64, and 8 before them.
+pub fn firsts_are_few()
+    ensures { FirstsAreFew }
+{}
+
+/// The blocks of the list of a text of at most 16,000 operations have at most 256,000 words, each
+/// counted with as many as it has at most.
+pub fn lists_are_small()
+    ensures { ListsAreSmall }
+{}
+
+/// The structs of a text have members, and its parameters no lengths.
+pub fn texts_are_proper()
+    ensures { TextsAreProper }
+{}
+
+/// A program that keeps all rules, as a text spells it, and has a layout, has a value wherever one
+/// is needed, and a place where something is assigned; its calls are of functions with their
+/// arguments, its constant addresses are those of shared data, and it returns values where its
+/// functions give them.
+pub fn correct_programs_are_asked()
+    ensures { CorrectProgramsAreAsked }
+{}
+
+/// The binding of `main` means `main`, and every other one a function that is called.
+pub fn mains_have_their_place()
+    ensures { MainsHaveTheirPlace }
+{}
+
+/// The code of a program of which all operations are built writes each private word before it
+/// reads it, where each name of a private variable stands behind the declaration of that variable,
+/// in its scope, and not in its initial value.
+pub fn forms_write_first()
+    ensures { FormsWriteFirst }
+{}
+
+/// The code of a program with values wherever they are needed has room for a result behind each call,
+/// where a frame has room for its values, and for one at least.
+pub fn calls_have_room()
+    ensures { CallsHaveRoom }
+{}
+
+/// No index of the flat list of a program lies in the code of two functions.
+pub fn flat_lists_are_apart()
+    ensures { FlatListsAreApart }
+{}
+
+/// The flat list of a program with well typed code, of which all operations are built, has operations
+/// without groups alone, its jumps lead to operations, and none but an end goes on outside it. Its
+/// `main` begins in it.
+pub fn lists_are_free()
+    ensures { ListsAreFree }
+{}
+
+/// A flat list of well typed functions, whose private words and values have room in frames, suits
+/// frames that hold its live words, where calls keep no more than their arguments.
+pub fn live_words_suit()
+    ensures { LiveWordsSuit }
+{}
+
+/// A program that keeps all rules, as a text spells it, and has a layout, has room in the frame of
+/// each function for its private words and for its values, where all operations are built.
+pub fn values_have_room()
+    ensures { ValuesHaveRoom }
+{}
+
+/// The code of a program of which all operations are built names private words that are there, and
+/// its calls have few arguments and begin with nothing, where so it is with the names of its text.
+pub fn code_names_words()
+    ensures { CodeNamesWords }
+{}
+
+/// A program that keeps all rules and has a layout has code that names private words that are there:
+/// each is below the number of its function's own words, or among those of file scope.
+pub fn names_have_words()
+    ensures { NamesHaveWords }
+{}
+
+/// A program that keeps all rules, as a text spells it, and has a layout, has room in the frame of
+/// each function for its private words and its values, and for a result behind each call, where it
+/// has at most 55 private variables of file scope and all operations are built.
+pub fn correct_programs_have_room()
+    ensures { CorrectProgramsHaveRoom }
+{}
+
+/// Each operation of a program that keeps all rules and has a layout has a number, where all are
+/// built: each private word that it names is among the 56 of its function or of file scope.
+pub fn operations_have_numbers()
+    ensures { OperationsHaveNumbers }
+{}
+
+/// A list whose operations have the depths that a text tells of their sites has the heights of the
+/// text's code, where that is well typed and all its operations are built.
+pub fn lists_have_heights()
+    ensures { ListsHaveHeights }
+{}
 
 /// A flat list of a program that keeps all rules, as a text spells it, and has a layout, has operations
 /// without groups alone, goes on within itself from `main` on, and may do each operation in every run,

@@ -18,9 +18,9 @@ use Rattle.fk_shapes.specs.Fitting.{FormsAreShaped}
 use Rattle.fk_parsed.specs.Trim.{ProgramIsTrim}
 use Rattle.fk_fitting.specs.Correct.{IsCorrect}
 use Rattle.fk_fitting.specs.Laws.{CorrectProgramsFit}
-use Rattle.fk_lowerable.specs.Laws.{IsKnownOf}
+use Rattle.fk_certain.specs.LoweringLaws.{IsKnownOf}
 use Rattle.fk_text.specs.Built.{AreBuilt}
-use Rattle.fk_asked.specs.Proper.{ProgramIsProper}
+use Rattle.fk_certain.specs.Proper.{ProgramIsProper}
 use Rattle.fk_lower.specs.Depths.{AreTold}
 use Rattle.fk_lower_text.specs.Depths.{depths_of}
 use Rattle.fk_certain.specs.Laws.{CanBeCoded, LoweredListsCanBeCoded, count_of_file}

@@ -9,9 +9,9 @@ ghost use Rattle.fk_compile.specs.Faithful.{IsFaithful};
 
 use crate::image::{are_words, site_table};
 use crate::list::{certify, list_of};
+use fk_certain::laws::firsts_are_few;
 use fk_generate::generate;
 use fk_image::Image;
-use fk_lowerable::laws::firsts_are_few;
 use fk_simulation::laws::machines_follow_programs;
 use fk_text::{Refusal, built_text};
 use std::alloc::Global;

@@ -25,19 +25,18 @@ ghost use Rattle.fk_text.specs.Text.{IsChecked};
 ghost use Rattle.fk_compile.specs.Lists.{HasListOf};
 
 use crate::image::are_words;
-use fk_asked::laws::texts_are_proper;
-use fk_certain::laws::lowered_lists_can_be_coded;
+use fk_certain::laws::{
+    lists_are_small, lowered_lists_can_be_coded, numbers_have_room, operations_have_numbers,
+    texts_are_proper, texts_can_be_laid,
+};
 use fk_core::CoreOp;
 use fk_fitting::laws::correct_programs_fit;
 use fk_kept::{Place, Set, live_words, places_of, suits_frames};
 use fk_lookup::Lookup;
 use fk_lower::LowerFault;
 use fk_lower_text::{entry_of_main, lower_text};
-use fk_lowerable::laws::{lists_are_small, texts_can_be_laid};
-use fk_numbered::laws::operations_have_numbers;
 use fk_numbers::laws::texts_have_words;
 use fk_parsed::laws::texts_are_trim;
-use fk_room::laws::numbers_have_room;
 use fk_shapes::laws::forms_are_shaped;
 use fk_text::{Built, Refusal, known_of};
 use fk_walk::Known;

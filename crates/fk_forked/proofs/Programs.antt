@@ -17,8 +17,8 @@ use Rattle.fk_in_place.proofs.Programs.{valid_programs_have_one_program}
 use Rattle.fk_typed_forms.specs.Asked.{ValueAsked, OptionValueAsked, StatementAsked, StatementsAsked, BodyAsked, FunctionsAsked, IsCalled, place_in, place_of, place_by}
 use Rattle.fk_typed_forms.specs.Ways.{place_gives}
 use Rattle.fk_parsed.specs.Trim.{TextsAreTrim}
-use Rattle.fk_asked.specs.Proper.{TextsAreProper}
-use Rattle.fk_asked.proofs.Programs.{correct_programs_are_asked}
+use Rattle.fk_certain.specs.Proper.{TextsAreProper}
+use Rattle.fk_certain.proofs.Programs.{correct_programs_are_asked}
 use Rattle.fk_forked.specs.Laws.{GiveResults, ForksGiveValues, CorrectProgramsHaveOneProgram, TextsHaveOneProgram}
 use Rattle.fk_forked.proofs.Evaluating.{evaluates_as}
 

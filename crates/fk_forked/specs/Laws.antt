@@ -28,7 +28,7 @@ use Rattle.fk_course.specs.Forks.{ForksAreValued}
 use Rattle.fk_typed_forms.specs.Ways as w
 use Rattle.fk_typed_forms.specs.Asked.{IsCalled, Asked}
 use Rattle.fk_typed_forms.specs.Typed.{IsNothing, Known}
-use Rattle.fk_asked.specs.Proper.{ProgramIsProper}
+use Rattle.fk_certain.specs.Proper.{ProgramIsProper}
 
 -- a function that is called gives a value where it has a result
 abbrev pub GiveResults : (functions : (binding : ℕ) → Signature) → (place_of : (binding : ℕ) → Place) → Type 0

@@ -2,7 +2,7 @@
 
 ghost use Rattle.fk_forked.specs.Laws.{AskedEvaluates, TypedEvaluates, ForksGiveValues, CorrectProgramsHaveOneProgram, TextsHaveOneProgram};
 
-use fk_asked::laws::texts_are_proper;
+use fk_certain::laws::texts_are_proper;
 use fk_parsed::laws::texts_are_trim;
 
 /// An expression that is as well typed code asks it leaves one value or none, whichever way is gone in

@@ -5,7 +5,7 @@ use Rattle.fk_walk.specs.Known.{tables_of}
 use Rattle.fk_lower_text.specs.Lowered.{HasSites}
 use Rattle.fk_generate.specs.Generable.{most_words}
 use Rattle.fk_fitting.specs.Correct.{IsCorrect}
-use Rattle.fk_lowerable.specs.Laws.{IsKnownOf}
+use Rattle.fk_certain.specs.LoweringLaws.{IsKnownOf}
 use Rattle.fk_lower.specs.Depths.{AreTold}
 use Rattle.fk_lower_text.specs.Depths.{depths_of}
 use Rattle.fk_walk_statements.specs.Texts.{functions_in}

@@ -1,0 +1,400 @@
+-- How the names in a program stand.
+use Rattle.std.proofs.Common.{◌≡◌, ◌⊎◌, inl, inr, ℕ, zero, suc, ◌+◌, ◌*◌, ◌%◌, ◌^◌, ◌-◌, ◌<◌, ◌≤◌, Bool, true, false, ◌&&◌, List, [], ◌∷◌, ◌++◌, flat_map, get_or, codes, Option, Some, None, slice_get, Contains, refl, sym, ap, subst, ◌∙◌, arith}
+use Rattle.std.specs.Prelude.{◌==◌, is_some, map, bytes_eq, if◌then◌else◌}
+use Rattle.std.specs.Option.{option_map}
+use Rattle.std.proofs.lemmas.Bool.{false≢true, and_from, or_left, le-leb, lt-ltb, eqb-true, eq-eqb, ne_eqb}
+use Rattle.std.proofs.lemmas.List.{get_or_default}
+use Rattle.std.proofs.lemmas.Option.{same_Some}
+use Rattle.fk_typing.specs.Names.{Env}
+use Rattle.fk_forms.specs.Tables.{Tables}
+use Rattle.fk_forms.specs.Expressions.{Signature, is_name}
+use Rattle.fk_kept.specs.declared.places.Place.{Place}
+use Rattle.fk_syntax.specs.declared.place.Place as sp
+use Rattle.fk_num.specs.Word.{word}
+use Rattle.fk_store.specs.Serve.{may_use}
+use Rattle.fk_syntax.specs.declared.facts.Facts.{Facts}
+use Rattle.fk_syntax.specs.Tree as t
+use Rattle.fk_syntax.specs.Tree.{Named, BaseType}
+use Rattle.fk_syntax.specs.Program.{DeclaredTree, FunctionTree, ProgramTree}
+use Rattle.fk_structs.specs.declared.types.Root.{Root}
+use Rattle.fk_structs.specs.declared.types.Root.TheVariants as r
+use Rattle.fk_structs.specs.declared.types.DataType.{DataType}
+use Rattle.fk_structs.specs.Types.{StructTree, structs_of, root_of, struct_named, type_declared, type_spelled}
+use Rattle.fk_structs.specs.Sizes.{HasTypeWords}
+use Rattle.fk_struct_rules.specs.Declarations.{DeclarationBreaks}
+use Rattle.fk_names.specs.declared.names.Meaning.{Meaning}
+use Rattle.fk_names.specs.declared.names.Meaning.TheVariants as m
+use Rattle.fk_names.specs.Outline.{DeclarationTree, Variable, Header, declarations, outline}
+use Rattle.fk_names.specs.Means.{Means, MeansAt, predeclared}
+use Rattle.fk_signs.specs.declared.values.Value.TheVariants.{Int}
+use Rattle.fk_signs.specs.declared.values.ExpressionType.{ExpressionType}
+use Rattle.fk_signs.specs.declared.values.ExpressionType.TheVariants.{Stored, Computed, Nothing}
+use Rattle.fk_signs.specs.Values.{result_of}
+use Rattle.fk_pieces.specs.Pieces as q
+use Rattle.fk_pieces.specs.Pieces.{PieceTree, pieces}
+use Rattle.fk_type_rules.specs.Noted.{piece_noted}
+use Rattle.fk_token_laws.proofs.Pieces.{declared_by_piece, of_items}
+use Rattle.fk_typing.specs.Term as e
+use Rattle.fk_typing.specs.Names.{Meant, Kept, Constant, Called, Main, Undeclared, Always, Typed, IsDeclared, IsSignature, HasDeclaredType, is_text, predeclared_meant, input}
+use Rattle.fk_typing.specs.Typing.{type_of, name_type, struct_of_root}
+use Rattle.fk_class.specs.declared.thing.Thing.TheVariants.{PrivateVariable}
+use Rattle.fk_sharing.specs.Tokens.{is_struct}
+use Rattle.fk_forms.specs.declared.tables.Home.{Home}
+use Rattle.fk_forms.specs.declared.tables.Home.TheVariants as h
+use Rattle.fk_forms.specs.Tables.{no_binding, note, slot, kind_at, is_array}
+use Rattle.fk_layout.specs.Refusal.{Fits}
+use Rattle.fk_fitting.proofs.Each.{Each, one_of}
+use Rattle.fk_fitting.proofs.Typed.{Unbroken, IsGood}
+use Rattle.fk_fitting.proofs.Named.{IsKnown, meant_at, declared_low}
+use Rattle.fk_fitting.proofs.Declared.{IsHomeFor, header_at}
+use Rattle.fk_fitting.proofs.Homes.{home_of}
+use Rattle.fk_fitting.proofs.Things.{thing_tells}
+use Rattle.fk_typed_forms.specs.Ways.{Way, Valued, Array, Grouped, Word, Function, placed_way, predeclared_way, named_way}
+use Rattle.fk_typed_forms.specs.Asked.{NameAsks}
+use Rattle.fk_typed_forms.specs.Typed.{StandsAs, NameIs, IsNoWord}
+use Rattle.fk_certain.proofs.Sizes.{IsSound, has_sound}
+use Rattle.fk_certain.proofs.Tokens.{IsSoundType, kind_is, kind_words, array_is}
+use Rattle.fk_certain.proofs.Places.{lies_within}
+use Rattle.fk_certain.proofs.Scalars.{Kept as KeptToken, IsScalar, is_scalar}
+use Rattle.fk_certain.proofs.Valid.{IsGiven, E, T, F, P, things, words_declared, IsUsed, Noting, IsPiece, are_pieces}
+
+-- ---- addresses of shared data
+
+shared_address : (i : ℕ) → i ≤ 524288 → may_use true (0x10000000 + 4 * i) ≡ true
+shared_address i low =
+    let a = 0x10000000 + 4 * i in
+    and_from _ _ (eq-eqb (a % 4) 0 (omega arith))
+    (or_left _ _ (and_from _ _ (le-leb 0x10000000 a (omega arith)) (lt-ltb a (0x10000000 + 4 * 2 ^ 20) (omega (arith, low)))))
+
+module _ (structs : List StructTree) where
+  -- a type has its words at an address, among those of the shared variables
+  pub record HasRoom (address : ℕ) (type : DataType) : Type 0 where
+    pub index : ℕ
+    pub words : ℕ
+    pub is : address ≡ 0x10000000 + 4 * index
+    pub has : HasTypeWords structs type words
+    pub within : index + words ≤ 524288
+
+  pub room_may : (address : ℕ) (type : DataType) → HasRoom address type → may_use true address ≡ true
+  room_may address type room = subst (λ a. may_use true a ≡ true) (sym room.is) (shared_address room.index (let few = room.within in omega (arith, few)))
+
+  -- a type that is spelled by words that aren't those of a struct
+  no_struct : (base : BaseType) (stars : ℕ) (length : Option ℕ) (type : DataType) → is_struct (record { base = base; stars = stars }) ≡ false
+      → type_spelled structs (record { base = base; stars = stars }) length ≡ Some type → (type.length ≡ length) × (struct_of_root type.root type.stars ≡ None)
+  no_struct t.Int stars length type plain is = subst (λ (x : DataType). (x.length ≡ length) × (struct_of_root x.root x.stars ≡ None)) (same_Some _ type is) (refl, refl)
+  no_struct t.Unsigned stars length type plain is = subst (λ (x : DataType). (x.length ≡ length) × (struct_of_root x.root x.stars ≡ None)) (same_Some _ type is) (refl, refl)
+  no_struct t.Void stars length type plain is = subst (λ (x : DataType). (x.length ≡ length) × (struct_of_root x.root x.stars ≡ None)) (same_Some _ type is) (refl, refl)
+  no_struct (t.Struct name) zero length type plain is = absurd (false≢true (sym plain))
+  no_struct (t.Struct name) (suc stars) length type plain is = by (struct_named structs name.bytes) is
+    where
+      by : (o : Option ℕ) → option_map (λ (root : Root). record { root = root; stars = suc stars; length = length }) (option_map r.Struct o) ≡ Some type
+          → (type.length ≡ length) × (struct_of_root type.root type.stars ≡ None)
+      by None is' = absurd (cc)
+      by (Some i) is' = subst (λ (x : DataType). (x.length ≡ length) × (struct_of_root x.root x.stars ≡ None)) (same_Some _ type is') (refl, refl)
+
+module _ (program : ProgramTree) (facts : Facts) (given : IsGiven program facts) (fits : Fits (T program facts given) program.items)
+    (kept : (number : ℕ) (x : DeclaredTree) → slice_get (declarations program) number ≡ Some (Variable x) → IsScalar x) where
+  abbrev env : Env
+  env = E program facts given
+
+  abbrev tables : Tables
+  tables = T program facts given
+
+  abbrev functions : (binding : ℕ) → Signature
+  functions = F program facts given
+
+  abbrev places : (binding : ℕ) → Place
+  places = P program facts given
+
+  abbrev structs : List StructTree
+  structs = env.structs
+
+  abbrev pub Room : (address : ℕ) → DataType → Type 0
+  Room = HasRoom structs
+
+  abbrev bound : Named → ℕ
+  bound name = (note tables name.at).binding
+
+  abbrev pub Stood : Way → ExpressionType → Type 0
+  Stood w type = StandsAs Room w type
+
+  -- ---- what is declared is noted
+
+  abbrev NotedDeclared : DeclarationTree → Type 0
+  NotedDeclared (Variable x) = Noting program facts given (record { at = x.name.at; type = option_map Stored (type_declared structs x) })
+  NotedDeclared (Header f) = Unit {0}
+
+  noted_by : (ps : List PieceTree) → Each (IsPiece program facts given) ps → Each NotedDeclared (flat_map declared_by_piece ps)
+  noted_by [] k = tt
+  noted_by (q.FileVariable x ∷ ps) k = (k.0.notes.0, noted_by ps k.1)
+  noted_by (q.Variable x ∷ ps) k = (k.0.notes.0, noted_by ps k.1)
+  noted_by (q.Parameter x ∷ ps) k = (k.0.notes.0, noted_by ps k.1)
+  noted_by (q.Header f ∷ ps) k = (tt, noted_by ps k.1)
+  noted_by (q.Used role value ∷ ps) k = noted_by ps k.1
+  noted_by (q.Return result spot value ∷ ps) k = noted_by ps k.1
+
+  noted_at : (number : ℕ) (x : DeclaredTree) → slice_get (declarations program) number ≡ Some (Variable x)
+      → Noting program facts given (record { at = x.name.at; type = option_map Stored (type_declared structs x) })
+  noted_at number x is = one_of NotedDeclared (declarations program)
+      (subst (Each NotedDeclared) (of_items program.items).declared (noted_by (pieces program) (are_pieces program facts given))) number (Variable x) is
+
+  -- ---- a variable stands by its home
+
+  pub record IsVariable (number : ℕ) (x : DeclaredTree) (type : DataType) : Type 0 where
+    pub there : slice_get (declarations program) number ≡ Some (Variable x)
+    pub is : type_declared structs x ≡ Some type
+    pub right : Unbroken (DeclarationBreaks structs x)
+    pub home : IsHomeFor x.shared (slot tables number).home
+
+  module _ (number : ℕ) (x : DeclaredTree) (type : DataType) (v : IsVariable number x type) where
+    global : (slot tables number).home ≡ h.Global → Room (0x10000000 + 4 * (slot tables number).index) type
+    global e =
+        let words = words_declared program facts given x type v.right v.is in
+        let noted = subst (λ o. Noting program facts given (record { at = x.name.at; type = option_map Stored o })) v.is (noted_at number x v.there) in
+        let same = kind_words structs type (kind_at tables x.name.at) words.0 words.1 words.3 (kind_is program facts given.correct x.name.at (Stored type) noted) in
+        record {
+          index = (slot tables number).index;
+          words = words.0;
+          is = refl;
+          has = words.1;
+          within = omega (arith, lies_within program facts given.correct fits number x v.there e, same);
+        }
+
+    in_word : x.shared ≡ false → Stood Word (Stored type)
+    in_word private =
+        let plain = kept number x v.there private in
+        let none = no_struct structs x.kind.base x.kind.stars x.length type plain.1 v.is in
+        (ap is_some (none.0 ∙ plain.0), none.1)
+
+    word_is : (i : ℕ) → i ≤ 524288 → word (0x10000000 + 4 * i) ≡ 0x10000000 + 4 * i
+    word_is i low = omega (arith, low)
+
+    by_home : (shared : Bool) → x.shared ≡ shared → (home : Home) → (slot tables number).home ≡ home → IsHomeFor shared home → (name : Named) (at : ℕ)
+        → NameAsks tables functions places at (placed_way home (slot tables number).index name) × Stood (placed_way home (slot tables number).index name) (Stored type)
+    by_home true is h.Global e home name at =
+        let room = global e in
+        let few = room.within in
+        let same : word (0x10000000 + 4 * (slot tables number).index) ≡ 0x10000000 + 4 * (slot tables number).index = word_is (slot tables number).index (omega (arith, few)) in
+        let here = subst (λ a. Room a type) (sym same) room in
+        (room_may structs _ type here, here)
+    by_home true is (h.Group r') e home name at = (tt, tt)
+    by_home true is h.FilePrivate e home name at = absurd home
+    by_home true is h.Private e home name at = absurd home
+    by_home true is h.NoWord e home name at = absurd home
+    by_home false is h.FilePrivate e home name at = (tt, in_word is)
+    by_home false is h.Private e home name at = (tt, in_word is)
+    by_home false is h.Global e home name at = absurd home
+    by_home false is (h.Group r') e home name at = absurd home
+    by_home false is h.NoWord e home name at = absurd home
+
+    pub variable_stands : (name : Named) (at : ℕ)
+        → let w = placed_way (slot tables number).home (slot tables number).index name in NameAsks tables functions places at w × Stood w (Stored type)
+    variable_stands name at = by_home x.shared refl (slot tables number).home refl v.home name at
+
+  -- ---- what a name means
+
+  pub record MeansVariable (name : Named) : Type 0 where
+    pub number : ℕ
+    pub variable : DeclaredTree
+    pub type : DataType
+    pub known : IsVariable number variable type
+    pub means : Means program name.at (m.Declared number)
+    pub meant : env.meant name ≡ Kept (Some type)
+    pub binds : bound name ≡ number
+    pub low : number < no_binding
+
+  pub record MeansFunction (name : Named) : Type 0 where
+    pub number : ℕ
+    pub function : FunctionTree
+    pub there : slice_get (declarations program) number ≡ Some (Header function)
+    pub is : IsDeclared structs (Header function) (env.meant name)
+    pub means : Means program name.at (m.Declared number)
+    pub binds : bound name ≡ number
+    pub low : number < no_binding
+
+  pub record MeansPredeclared (name : Named) : Type 0 where
+    pub there : Contains predeclared name.bytes
+    pub meant : env.meant name ≡ predeclared_meant name.bytes
+    pub binds : bound name ≡ no_binding
+
+  abbrev pub MeansOne : Named → Type 0
+  MeansOne name = MeansVariable name ⊎ (MeansFunction name ⊎ MeansPredeclared name)
+
+  module _ (name : Named) where
+    declared_one : (number : ℕ) (d : DeclarationTree) → slice_get (declarations program) number ≡ Some d → Means program name.at (m.Declared number) → bound name ≡ number
+        → IsGood (env.meant name) → IsDeclared structs d (env.meant name) → MeansOne name
+    declared_one number (Header f) there means binds good is =
+        inr (inl (record { number = number; function = f; there = there; is = is; means = means; binds = binds; low = declared_low program facts given.correct number (Header f) there }))
+    declared_one number (Variable x) there means binds good is = by is.0 is.1 is.2
+      where
+        by : (type : Option DataType) → HasDeclaredType structs (DeclarationBreaks structs x) (type_declared structs x) type → env.meant name ≡ Kept type → MeansOne name
+        by None has meant = absurd (subst IsGood meant good)
+        by (Some type) has meant = inl (record {
+          number = number;
+          variable = x;
+          type = type;
+          known = record { there = there; is = has.0; right = has.1; home = home_of program facts given.correct given.trim name.at number x means there };
+          means = means;
+          meant = meant;
+          binds = binds;
+          low = declared_low program facts given.correct number (Variable x) there;
+        })
+
+    pub means_one : IsUsed program facts given name → MeansOne name
+    means_one used = let found = meant_at program facts given.correct name used.0 used.1 used.2 in by found.0 found.1 found.2
+      where
+        by : (meaning : Meaning) → MeansAt (outline program) name.bytes used.0 meaning → IsKnown program facts given.correct name meaning → MeansOne name
+        by (m.Declared number) at known =
+            declared_one number known.meant.0 known.meant.1 known.means known.binds known.good
+            (subst (λ (ss : List StructTree). IsDeclared ss known.meant.0 (env.meant name)) (sym given.correct.known.types.right.structs) known.meant.2)
+        by m.Predeclared at known = inr (inr (record { there = at.1; meant = known.meant; binds = known.binds }))
+        by m.Undeclared at known = absurd known.binds
+
+    abbrev pub way_of : Way
+    way_of = named_way tables places name
+
+    picked : (b : Bool) (x y : Way) → b ≡ false → (if b then x else y) ≡ y
+    picked false x y e = refl
+    picked true x y e = absurd (false≢true (sym e))
+
+    picked_first : (b : Bool) (x y : Way) → b ≡ true → (if b then x else y) ≡ x
+    picked_first true x y e = refl
+    picked_first false x y e = absurd (false≢true e)
+
+    pub way_declared : (number : ℕ) → bound name ≡ number → number < no_binding → way_of ≡ placed_way (slot tables number).home (slot tables number).index name
+    way_declared number binds low =
+        picked (bound name == no_binding) _ _ (ne_eqb (bound name) no_binding (λ e. omega (arith, e, binds, low)))
+        ∙ ap (λ (n : ℕ). placed_way (slot tables n).home (slot tables n).index name) binds
+
+    pub way_predeclared : bound name ≡ no_binding → way_of ≡ predeclared_way name
+    way_predeclared binds = picked_first (bound name == no_binding) _ _ (eq-eqb (bound name) no_binding binds)
+
+    pub way_function : MeansFunction name → way_of ≡ Function name
+    way_function f =
+        way_declared f.number f.binds f.low
+        ∙ ap (λ (home : Home). placed_way home (slot tables f.number).index name) (header_at program facts given.correct f.number f.function f.there).0
+
+  -- ---- a name that has a type
+
+  abbrev NameStands : Named → ExpressionType → Type 0
+  NameStands name type = NameAsks tables functions places name.at (way_of name) × Stood (way_of name) type
+
+  no_type : (is_main : Bool) (other : Meant) (type : ExpressionType) → name_type other ≡ None → name_type (if is_main then Main else other) ≡ Some type → ⊥
+  no_type true other type none e = cc
+  no_type false other type none e = let clash = sym none ∙ e in cc
+
+  -- of those that are declared before each text
+  module _ (at : ℕ) (place : sp.Place) where
+    abbrev Fine : List ℕ → Type 0
+    Fine bytes =
+        (type : ExpressionType) → name_type (predeclared_meant bytes) ≡ Some type → ((t' : DataType) → type ≡ Stored t' → is_some t'.length ≡ true → is_array tables at ≡ true)
+        → let w = predeclared_way (record { bytes = bytes; at = at; place = place }) in NameAsks tables functions places at w × Stood w type
+
+    at_number : (k : ℕ) → k < 14 → Fine (get_or predeclared k [])
+    at_number zero low type e array = absurd (cc)
+    at_number (suc zero) low type e array = absurd (cc)
+    at_number (suc (suc zero)) low type e array = absurd (cc)
+    at_number (suc (suc (suc zero))) low type e array = absurd (cc)
+    at_number (suc (suc (suc (suc zero)))) low type e array = absurd (cc)
+    at_number (suc (suc (suc (suc (suc zero))))) low type e array = absurd (cc)
+    at_number (suc (suc (suc (suc (suc (suc zero)))))) low type e array = absurd (cc)
+    at_number (suc (suc (suc (suc (suc (suc (suc zero))))))) low type e array = absurd (cc)
+    at_number (suc (suc (suc (suc (suc (suc (suc (suc zero)))))))) low type e array = absurd (cc)
+    at_number (suc (suc (suc (suc (suc (suc (suc (suc (suc zero))))))))) low type e array = absurd (cc)
+    at_number (suc (suc (suc (suc (suc (suc (suc (suc (suc (suc zero)))))))))) low type e array = (tt, subst (Stood Valued) (same_Some _ type e) tt)
+    at_number (suc (suc (suc (suc (suc (suc (suc (suc (suc (suc (suc zero))))))))))) low type e array = (tt, subst (Stood Valued) (same_Some _ type e) tt)
+    at_number (suc (suc (suc (suc (suc (suc (suc (suc (suc (suc (suc (suc zero)))))))))))) low type e array =
+        (array input (sym (same_Some _ type e)) refl, subst (Stood Array) (same_Some _ type e) refl)
+    at_number (suc (suc (suc (suc (suc (suc (suc (suc (suc (suc (suc (suc (suc zero))))))))))))) low type e array = (tt, subst (Stood Valued) (same_Some _ type e) tt)
+    at_number (suc (suc (suc (suc (suc (suc (suc (suc (suc (suc (suc (suc (suc (suc k)))))))))))))) low type e array = absurd (omega (arith, low))
+
+    fine : (bytes : List ℕ) → Contains predeclared bytes → Fine bytes
+    fine bytes (k, low, is) = subst Fine (get_or_default predeclared k [] bytes low ∙ is) (at_number k low)
+
+  stored_array : (name : Named) (type : ExpressionType) → Noting program facts given (record { at = name.at; type = Some type }) → (t' : DataType) → type ≡ Stored t'
+      → is_some t'.length ≡ true → is_array tables name.at ≡ true
+  stored_array name type noted t' same some = array_is program facts given.correct name.at t' (subst (λ x. Noting program facts given (record { at = name.at; type = Some x })) same noted) some
+
+  pub name_stands : (name : Named) → IsUsed program facts given name → Noting program facts given (record { at = name.at; type = name_type (env.meant name) })
+      → (type : ExpressionType) → name_type (env.meant name) ≡ Some type → NameStands name type
+  name_stands name used noted type e = elim (means_one name used) [
+    | inl v ↦
+        let here = variable_stands v.number v.variable v.type v.known name name.at in
+        let same : Stored v.type ≡ type = same_Some _ type (sym (ap name_type v.meant) ∙ e) in
+        subst (λ (w : Way). NameAsks tables functions places name.at w × Stood w type) (sym (way_declared name v.number v.binds v.low))
+        (here.0, subst (Stood _) same here.1)
+    | inr (inl f) ↦ absurd (no_type (is_text f.function.name.bytes (codes "main")) (Called (map Typed f.is.0) (Always (option_map result_of f.is.1))) type refl (sym (ap name_type f.is.3) ∙ e))
+    | inr (inr p) ↦
+        subst (λ (w : Way). NameAsks tables functions places name.at w × Stood w type) (sym (way_predeclared name p.binds))
+        (fine name.at name.place name.bytes p.there type (sym (ap name_type p.meant) ∙ e)
+        (stored_array name type (subst (λ o. Noting program facts given (record { at = name.at; type = o })) e noted)))
+  ]
+
+  -- and its type may be declared
+  input_sound : IsSound structs input
+  input_sound = record { root = tt; length = λ n e. omega (arith, same_Some 65536 n e) }
+
+  abbrev Sound : List ℕ → Type 0
+  Sound bytes = (type' : ExpressionType) → name_type (predeclared_meant bytes) ≡ Some type' → IsSoundType structs type'
+
+  sound_number : (k : ℕ) → k < 14 → Sound (get_or predeclared k [])
+  sound_number zero low type' e' = absurd (cc)
+  sound_number (suc zero) low type' e' = absurd (cc)
+  sound_number (suc (suc zero)) low type' e' = absurd (cc)
+  sound_number (suc (suc (suc zero))) low type' e' = absurd (cc)
+  sound_number (suc (suc (suc (suc zero)))) low type' e' = absurd (cc)
+  sound_number (suc (suc (suc (suc (suc zero))))) low type' e' = absurd (cc)
+  sound_number (suc (suc (suc (suc (suc (suc zero)))))) low type' e' = absurd (cc)
+  sound_number (suc (suc (suc (suc (suc (suc (suc zero))))))) low type' e' = absurd (cc)
+  sound_number (suc (suc (suc (suc (suc (suc (suc (suc zero)))))))) low type' e' = absurd (cc)
+  sound_number (suc (suc (suc (suc (suc (suc (suc (suc (suc zero))))))))) low type' e' = absurd (cc)
+  sound_number (suc (suc (suc (suc (suc (suc (suc (suc (suc (suc zero)))))))))) low type' e' = subst (IsSoundType structs) (same_Some _ type' e') tt
+  sound_number (suc (suc (suc (suc (suc (suc (suc (suc (suc (suc (suc zero))))))))))) low type' e' = subst (IsSoundType structs) (same_Some _ type' e') tt
+  sound_number (suc (suc (suc (suc (suc (suc (suc (suc (suc (suc (suc (suc zero)))))))))))) low type' e' = subst (IsSoundType structs) (same_Some _ type' e') (λ some. input_sound)
+  sound_number (suc (suc (suc (suc (suc (suc (suc (suc (suc (suc (suc (suc (suc zero))))))))))))) low type' e' = subst (IsSoundType structs) (same_Some _ type' e') tt
+  sound_number (suc (suc (suc (suc (suc (suc (suc (suc (suc (suc (suc (suc (suc (suc k)))))))))))))) low type' e' = absurd (omega (arith, low))
+
+  sound_by : (bytes : List ℕ) → Contains predeclared bytes → Sound bytes
+  sound_by bytes (k, low, is) = subst Sound (get_or_default predeclared k [] bytes low ∙ is) (sound_number k low)
+
+  pub name_sound : (name : Named) → IsUsed program facts given name → (type : ExpressionType) → name_type (env.meant name) ≡ Some type → IsSoundType structs type
+  name_sound name used type e = elim (means_one name used) [
+    | inl v ↦
+        let has = has_sound structs v.variable v.known.right in
+        let one : has.type ≡ v.type = same_Some has.type v.type (sym has.is ∙ v.known.is) in
+        subst (IsSoundType structs) (same_Some _ type (sym (ap name_type v.meant) ∙ e)) (λ some. subst (IsSound structs) one has.sound)
+    | inr (inl f) ↦ absurd (no_type (is_text f.function.name.bytes (codes "main")) (Called (map Typed f.is.0) (Always (option_map result_of f.is.1))) type refl (sym (ap name_type f.is.3) ∙ e))
+    | inr (inr p) ↦ sound_by name.bytes p.there type (sym (ap name_type p.meant) ∙ e)
+  ]
+
+  -- ---- the address of a private variable isn't taken
+
+  no_predeclared_word : (name : Named) → IsNoWord (predeclared_way name)
+  no_predeclared_word name =
+      by (is_name name (codes "__PROC_NR__")) (is_name name (codes "__STARTED_PROCS__")) (is_name name (codes "__inputs")) (is_name name (codes "__input"))
+    where
+      by : (a b c d : Bool) → IsNoWord (if a then Valued else if b then Valued else if c then Valued else if d then Array else Function name)
+      by true b c d = tt
+      by false true c d = tt
+      by false false true d = tt
+      by false false false true = tt
+      by false false false false = tt
+
+  shared_word : (home : Home) (index : ℕ) (name : Named) → IsHomeFor true home → IsNoWord (placed_way home index name)
+  shared_word h.Global index name is = tt
+  shared_word (h.Group r') index name is = tt
+  shared_word h.FilePrivate index name is = is
+  shared_word h.Private index name is = is
+  shared_word h.NoWord index name is = tt
+
+  pub no_word : (name : Named) → IsUsed program facts given name → (things program facts given name.at ≡ Some PrivateVariable → ⊥) → IsNoWord (way_of name)
+  no_word name used shared = elim (means_one name used) [
+    | inl v ↦
+        subst IsNoWord (sym (way_declared name v.number v.binds v.low)) (by v v.variable.shared refl v.known.home)
+    | inr (inl f) ↦ subst IsNoWord (sym (way_function name f)) tt
+    | inr (inr p) ↦ subst IsNoWord (sym (way_predeclared name p.binds)) (no_predeclared_word name)
+  ]
+    where
+      by : (v : MeansVariable name) (b : Bool) → v.variable.shared ≡ b → IsHomeFor b (slot tables v.number).home → IsNoWord (placed_way (slot tables v.number).home (slot tables v.number).index name)
+      by v true is home = shared_word (slot tables v.number).home (slot tables v.number).index name home
+      by v false is home = absurd (shared ((thing_tells program given.correct.well_formed name.at PrivateVariable).1 (v.number, v.variable, v.means, v.known.there, is)))

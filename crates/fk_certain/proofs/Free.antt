@@ -1,0 +1,70 @@
+-- The flat lists of programs stay within themselves.
+use Rattle.std.proofs.Common.{◌≡◌, ℕ, ◌+◌, ◌<◌, ◌≤◌, true, false, true≢false, List, length, slice_get, Option, Some, None, inl, inr, refl, sym, ap, ◌∙◌, subst}
+use Rattle.std.specs.Prelude.{◌⊎◌}
+use Rattle.std.proofs.lemmas.Option.{slice_get_within}
+use Rattle.fk_operation.specs.declared.operation.Operation.{Operation}
+use Rattle.fk_operation.specs.declared.operation.Operation.TheVariants.{Halt}
+use Rattle.fk_syntax.specs.Program.{ProgramTree}
+use Rattle.fk_forms.specs.Tables.{Tables}
+use Rattle.fk_forms.specs.Program.{functions_of, bodies_of, main_of}
+use Rattle.fk_core.specs.declared.op.CoreOp.{CoreOp}
+use Rattle.fk_core.specs.Numbers.{operation_of}
+use Rattle.fk_core.specs.Next.{is_jump}
+use Rattle.fk_core.proofs.Leading.{op_stops}
+use Rattle.fk_flat.specs.Flat.{extent}
+use Rattle.fk_flat.specs.Laws.{AreShaped, IsFlat}
+use Rattle.fk_block_law.specs.Ready.{is_alone}
+use Rattle.fk_text.specs.Built.{AreBuilt}
+use Rattle.fk_typed_code.specs.Laws.{IsTypedList, IsLone}
+use Rattle.fk_typed_code.proofs.Free.{typed_lists_are_free, entries_are_within}
+use Rattle.fk_typed_forms.specs.Asked.{place_of, ProgramAsked}
+use Rattle.fk_typed_forms.proofs.Programs.{forms_are_typed}
+use Rattle.fk_certain.specs.FreeLaws.{ListsAreFree}
+use Rattle.fk_certain.proofs.Items.{built_alone, OperationAt, JumpAt}
+use Rattle.fk_certain.proofs.Apart.{Own, at_index, apart}
+
+module _ (tables : Tables) (program : ProgramTree) (core : List CoreOp) (entry : ℕ → ℕ) (are_built : AreBuilt tables program)
+    (flat : IsFlat (bodies_of tables program) core entry) where
+  same_op : (a b : CoreOp) (o : Option CoreOp) → o ≡ Some a → o ≡ Some b → a ≡ b
+  same_op a b o p q = cc
+
+  same_operation : (a b : Operation) (o : Option Operation) → o ≡ Some a → o ≡ Some b → a ≡ b
+  same_operation a b o p q = cc
+
+  pub lone : IsLone core
+  lone i op operation stands is_read = by (at_index tables program core entry are_built flat i f (lies.1, lies.2))
+    where
+      lies : (binding : ℕ) × (flat.place binding ≤ i) × (i < flat.place binding + extent false (bodies_of tables program binding))
+      lies = flat.covers i (slice_get_within core i op stands)
+
+      f : ℕ
+      f = lies.0
+
+      by : OperationAt (Own tables program core entry are_built flat f) core entry i ⊎ (JumpAt (Own tables program core entry are_built flat f) core entry i × (flat.place f < i))
+          → (is_alone operation ≡ true) ⊎ (operation ≡ Halt)
+      by (inl x) =
+          let same : x.op ≡ op = same_op x.op op (slice_get core i) x.stands stands in
+          let read : x.operation ≡ operation =
+          same_operation x.operation operation (operation_of op.kind op.number)
+          (subst (λ (o : CoreOp). operation_of o.kind o.number ≡ Some x.operation) same x.is_read) is_read in
+          subst (λ o. (is_alone o ≡ true) ⊎ (o ≡ Halt)) read (built_alone x.operation x.own.built)
+      by (inr x) = absurd (true≢false (sym x.0.leads ∙ op_stops core entry i op operation stands is_read x.0.op x.0.stands))
+
+-- the list of a program is one of well typed functions
+pub typed_list : (tables : Tables) (program : ProgramTree) (core : List CoreOp) (entry : ℕ → ℕ) → ProgramAsked tables program → AreBuilt tables program
+    → AreShaped (bodies_of tables program) → IsFlat (bodies_of tables program) core entry
+    → IsTypedList (bodies_of tables program) core entry (place_of tables program)
+typed_list tables program core entry asked are_built shaped flat = record {
+  shaped = shaped;
+  flat = flat;
+  apart = apart tables program core entry are_built flat;
+  typed = forms_are_typed tables program asked are_built;
+}
+
+pub lists_are_free : ListsAreFree
+lists_are_free tables program core entry asked are_built shaped flat has_main =
+    let typed = typed_list tables program core entry asked are_built shaped flat in
+    record {
+      begins = entries_are_within (bodies_of tables program) core entry (place_of tables program) typed (main_of tables program) has_main;
+      free = typed_lists_are_free (bodies_of tables program) core entry (place_of tables program) typed (lone tables program core entry are_built flat);
+    }

@@ -1,0 +1,230 @@
+-- Code has few values at each of its places, where the layout counts as few.
+use Rattle.std.proofs.Common.{◌≡◌, ℕ, suc, ◌+◌, ◌-◌, ◌≤◌, max, Bool, true, false, true≢false, List, [], ◌∷◌, ◌++◌, Option, Some, refl, sym, ap, subst, ◌∙◌, arith}
+use Rattle.std.specs.Prelude.{not}
+use Rattle.fk_syntax.specs.declared.place.Place as y
+use Rattle.fk_operation.specs.declared.operation.Operation.{Operation}
+use Rattle.fk_operation.specs.declared.operation.Operation.TheVariants as o
+use Rattle.fk_sizes.specs.Operations.{takes, pushes}
+use Rattle.fk_sizes.specs.Operations as z
+use Rattle.fk_sizes.specs.Places.{At, behind_operation, behind_call, behind, places, most_values}
+use Rattle.fk_depths.specs.Local.{results, leaves}
+use Rattle.fk_forms.specs.Code.{Code, done, perform, choose, while, until, turn, again, quit, break, continue, call, ends, size, numbered}
+use Rattle.fk_forms.specs.Expressions.{Coded, Signature}
+use Rattle.fk_kept.specs.declared.places.Place.{Place}
+use Rattle.fk_kept.specs.declared.places.Place.TheVariants.{Main, Called}
+use Rattle.fk_flat.specs.Items.{into, way_of}
+use Rattle.fk_flat.specs.Shape.{IsShaped}
+use Rattle.fk_text.specs.Built.{is_built}
+use Rattle.fk_typed_code.specs.Values.{State}
+use Rattle.fk_typed_code.specs.Values as w
+use Rattle.fk_typed_code.specs.Typed.{Typed}
+use Rattle.fk_typed_code.specs.Heights.{raised, results_of, height}
+use Rattle.fk_typed_forms.proofs.Built.{AllBuilt}
+use Rattle.fk_certain.specs.Room.{HasFew}
+
+-- an operation that is built leaves as many values on both ways
+leaves_so : (op : Operation) (onward : Bool) → is_built op ≡ true → leaves op onward ≡ pushes op
+leaves_so (o.Divide by) onward e = absurd (true≢false (sym e))
+leaves_so op onward e = refl
+
+-- so many values are at each of these places
+abbrev pub AreLow : (most : ℕ) → List At → Type 0
+AreLow most [] = Unit {0}
+AreLow most (p ∷ ps) = (p.values ≤ most) × AreLow most ps
+
+pub low : (most : ℕ) (ps : List At) → most_values ps ≤ most → AreLow most ps
+low most [] h = tt
+low most (p ∷ ps) h = (omega (arith, h), low most ps (omega (arith, h)))
+
+front : (most : ℕ) (ps qs : List At) → AreLow most (ps ++ qs) → AreLow most ps
+front most [] qs h = tt
+front most (p ∷ ps) qs h = (h.0, front most ps qs h.1)
+
+back : (most : ℕ) (ps qs : List At) → AreLow most (ps ++ qs) → AreLow most qs
+back most [] qs h = h
+back most (p ∷ ps) qs h = back most ps qs h.1
+
+-- an operation that calls pushes nothing by itself
+pushes_none : (op : Operation) → way_of op ≡ into → pushes op ≡ 0
+pushes_none (o.Push number) e = absurd (cc)
+pushes_none (o.Get known) e = absurd (cc)
+pushes_none o.CopyLast e = absurd (cc)
+pushes_none (o.Apply sign) e = absurd (cc)
+pushes_none (o.Join sign turned) e = absurd (cc)
+pushes_none (o.Index bytes) e = absurd (cc)
+pushes_none o.Take e = absurd (cc)
+pushes_none o.Read e = absurd (cc)
+pushes_none o.Write e = absurd (cc)
+pushes_none (o.Combine by) e = absurd (cc)
+pushes_none o.Heap e = absurd (cc)
+pushes_none o.Block e = absurd (cc)
+pushes_none op e = refl
+
+module _ (functions : (binding : ℕ) → Signature) (place_of : (binding : ℕ) → Place) where
+  -- code of operations that are built, whose calls give what is told of the functions
+  abbrev pub Counted : Coded → Type 0
+  Counted done = Unit {0}
+  Counted (perform t op rest) = (is_built op ≡ true) × Counted rest
+  Counted (choose t op a b rest) = (is_built op ≡ true) × Counted a × Counted b × Counted rest
+  Counted (while test body step rest) = Counted test × Counted body × Counted step × Counted rest
+  Counted (until body test rest) = Counted body × Counted test × Counted rest
+  Counted (quit t op rest) = (is_built op ≡ true) × Counted rest
+  Counted (break rest) = Counted rest
+  Counted (continue rest) = Counted rest
+  Counted (call t op f opening rest) = (pushes op ≡ 0) × (results_of (place_of f) ≡ z.results (functions f).void) × Counted rest
+  Counted (ends t op rest) = (is_built op ≡ true) × Counted rest
+  Counted code = ⊥
+
+  called : ((f : ℕ) (gives : Bool) → place_of f ≡ Called gives → gives ≡ not (functions f).void)
+      → (f : ℕ) (gives : Bool) → place_of f ≡ Called gives → results_of (place_of f) ≡ z.results (functions f).void
+  called agree f gives is = ap results_of is ∙ ap results (agree f gives is) ∙ same (functions f).void
+    where
+      same : (void : Bool) → results (not void) ≡ z.results void
+      same true = refl
+      same false = refl
+
+  pub counted : ((f : ℕ) (gives : Bool) → place_of f ≡ Called gives → gives ≡ not (functions f).void) → (has_body : ℕ → Bool)
+      → (code : Coded) (n : ℕ) (i : Bool) (l : Option State) (s e : State)
+      → IsShaped has_body i (numbered n code) → Typed place_of l s (numbered n code) e → AllBuilt code → Counted code
+  counted agree has done n i l s e sh ty b = tt
+  counted agree has (perform t op rest) n i l s e sh ty b = (b.0, counted agree has rest (suc n) i l (w.behind op true s) e sh.1 ty.1 b.1)
+  counted agree has (choose t op x y rest) n i l s e sh ty b = (
+    b.0,
+    counted agree has x (suc n) i l (w.behind op true s) ty.1 sh.1 ty.2 b.1,
+    counted agree has y (suc n + size x) i l (w.behind op false s) ty.1 sh.2 ty.3 b.2,
+    counted agree has rest (suc n + size x + size y) i l ty.1 e sh.3 ty.4 b.3,
+  )
+  counted agree has (while test body step rest) n i l s e sh ty b = (
+    counted agree has test n true (Some ty.0) ty.0 ty.0 sh.2 ty.2 b.0,
+    counted agree has body (n + size test) true (Some ty.0) ty.0 ty.0 sh.3 ty.3 b.1,
+    counted agree has step (n + size test + size body) true (Some ty.0) ty.0 ty.0 sh.4 ty.4 b.2,
+    counted agree has rest (n + size test + size body + size step) i l ty.0 e sh.5 ty.5 b.3,
+  )
+  counted agree has (until body test rest) n i l s e sh ty b = (
+    counted agree has body n true (Some ty.0) ty.0 ty.0 sh.1 ty.2 b.0,
+    counted agree has test (n + size body) true (Some ty.0) ty.0 ty.0 sh.2 ty.3 b.1,
+    counted agree has rest (n + size body + size test) i l ty.0 e sh.3 ty.4 b.2,
+  )
+  counted agree has (turn test body step rest) n i l s e sh ty b = absurd sh
+  counted agree has (again test body step rest) n i l s e sh ty b = absurd sh
+  counted agree has (quit t op rest) n i l s e sh ty b = (b.0, counted agree has rest (suc n) i l (w.behind op true s) e sh.2 ty.2 b.1)
+  counted agree has (break rest) n i l s e sh ty b = counted agree has rest n i l s e sh.1 ty.1 b
+  counted agree has (continue rest) n i l s e sh ty b = counted agree has rest n i l s e sh.1 ty.1 b
+  counted agree has (call t op f opening rest) n i l s e sh ty b = (
+    pushes_none op sh.0,
+    called agree f ty.1 ty.2,
+    counted agree has rest (suc n + size opening) i l (w.behind_call (takes op) ty.1 s) e sh.3 ty.4 b.2,
+  )
+  counted agree has (ends t op rest) n i l s e sh ty b = (b.0, counted agree has rest (suc n) i l (w.behind op true s) e sh.1 ty.2 b.1)
+
+  pub raised_so : (op : Operation) (onward : Bool) → is_built op ≡ true → (p : At) → raised p.values op onward ≡ (behind_operation p op).values
+  raised_so op onward e p = ap (λ k. p.values - takes op + k) (leaves_so op onward e)
+
+  pub called_so : (op : Operation) (f : ℕ) → pushes op ≡ 0 → results_of (place_of f) ≡ z.results (functions f).void → (p : At)
+      → p.values - takes op + results_of (place_of f) ≡ (behind_call functions p op f).values
+  called_so op f none gives p = omega (arith, none, gives)
+
+  abbrev up : ℕ → Coded → ℕ → ℕ
+  up n code h = height place_of h (numbered n code)
+
+  pub heights : (code : Coded) (p : At) (n : ℕ) → Counted code → up n code p.values ≡ (behind functions p code).values
+  heights done p n c = refl
+  heights (perform t op rest) p n c = ap (up (suc n) rest) (raised_so op true c.0 p) ∙ heights rest (behind_operation p op) (suc n) c.1
+  heights (choose t op x y rest) p n c =
+      let k = suc n + size x + size y in
+      ap (λ h. up k rest (up (suc n) x h)) (raised_so op true c.0 p)
+      ∙ ap (up k rest) (heights x (behind_operation p op) (suc n) c.1)
+      ∙ heights rest (record { values = (behind functions (behind_operation p op) x).values; nesting = p.nesting }) k c.3
+  heights (while test body step rest) p n c =
+      let b = n + size test in
+      let s = b + size body in
+      let r = s + size step in
+      let q = behind functions p test in
+      ap (λ h. up r rest (up s step (up b body h))) (heights test p n c.0)
+      ∙ ap (λ h. up r rest (up s step h)) (heights body q b c.1)
+      ∙ ap (up r rest) (heights step (behind functions q body) s c.2)
+      ∙ heights rest (behind functions (behind functions q body) step) r c.3
+  heights (until body test rest) p n c =
+      let t = n + size body in
+      let r = t + size test in
+      ap (λ h. up r rest (up t test h)) (heights body p n c.0)
+      ∙ ap (up r rest) (heights test (behind functions p body) t c.1)
+      ∙ heights rest (behind functions (behind functions p body) test) r c.2
+  heights (turn test body step rest) p n c = absurd c
+  heights (again test body step rest) p n c = absurd c
+  heights (quit t op rest) p n c = ap (up (suc n) rest) (raised_so op true c.0 p) ∙ heights rest (behind_operation p op) (suc n) c.1
+  heights (break rest) p n c = heights rest p n c
+  heights (continue rest) p n c = heights rest p n c
+  heights (call t op f opening rest) p n c =
+      ap (up (suc n + size opening) rest) (called_so op f c.0 c.1 p) ∙ heights rest (behind_call functions p op f) (suc n + size opening) c.2
+  heights (ends t op rest) p n c = ap (up (suc n) rest) (raised_so op true c.0 p) ∙ heights rest (behind_operation p op) (suc n) c.1
+
+  module _ (most : ℕ) where
+    abbrev Low : ℕ → Code ℕ → Type 0
+    Low h code = HasFew place_of most h code
+
+    from : (code : Code ℕ) {a b : ℕ} → a ≡ b → Low b code → Low a code
+    from code is h = subst (λ k. Low k code) (sym is) h
+
+    pub lows : (code : Coded) (p : At) (n : ℕ) → Counted code → AreLow most (places functions p code) → Low p.values (numbered n code)
+    lows done p n c h = h.0
+    lows (perform t op rest) p n c h =
+        (h.0, from (numbered (suc n) rest) (raised_so op true c.0 p) (lows rest (behind_operation p op) (suc n) c.1 h.1))
+    lows (choose t op x y rest) p n c h =
+        let k = suc n + size x + size y in
+        let f = behind_operation p op in
+        let q : At = record { values = (behind functions f x).values; nesting = p.nesting } in
+        let both = front most (places functions f x ++ places functions f y) (places functions q rest) h.1 in (
+          h.0,
+          from (numbered (suc n) x) (raised_so op true c.0 p) (lows x f (suc n) c.1 (front most (places functions f x) (places functions f y) both)),
+          from (numbered (suc n + size x) y) (raised_so op false c.0 p)
+              (lows y f (suc n + size x) c.2 (back most (places functions f x) (places functions f y) both)),
+          from (numbered k rest) (ap (up (suc n) x) (raised_so op true c.0 p) ∙ heights x f (suc n) c.1)
+              (lows rest q k c.3 (back most (places functions f x ++ places functions f y) (places functions q rest) h.1)),
+        )
+    lows (while test body step rest) p n c h =
+        let b = n + size test in
+        let s = b + size body in
+        let r = s + size step in
+        let q = behind functions p test in
+        let u = behind functions q body in
+        let v = behind functions u step in
+        let ps = places functions p test in
+        let qs = places functions q body in
+        let us = places functions u step in
+        let three = front most (ps ++ qs ++ us) (places functions v rest) h in
+        let two = front most (ps ++ qs) us three in
+        let first = heights test p n c.0 in
+        let second = ap (up b body) first ∙ heights body q b c.1 in
+        let third = ap (up s step) second ∙ heights step u s c.2 in (
+          lows test p n c.0 (front most ps qs two),
+          from (numbered b body) first (lows body q b c.1 (back most ps qs two)),
+          from (numbered s step) second (lows step u s c.2 (back most (ps ++ qs) us three)),
+          from (numbered r rest) third (lows rest v r c.3 (back most (ps ++ qs ++ us) (places functions v rest) h)),
+        )
+    lows (until body test rest) p n c h =
+        let t = n + size body in
+        let r = t + size test in
+        let q = behind functions p body in
+        let v = behind functions q test in
+        let ps = places functions p body in
+        let qs = places functions q test in
+        let two = front most (ps ++ qs) (places functions v rest) h in
+        let first = heights body p n c.0 in
+        let second = ap (up t test) first ∙ heights test q t c.1 in (
+          lows body p n c.0 (front most ps qs two),
+          from (numbered t test) first (lows test q t c.1 (back most ps qs two)),
+          from (numbered r rest) second (lows rest v r c.2 (back most (ps ++ qs) (places functions v rest) h)),
+        )
+    lows (turn test body step rest) p n c h = absurd c
+    lows (again test body step rest) p n c h = absurd c
+    lows (quit t op rest) p n c h =
+        (h.0, from (numbered (suc n) rest) (raised_so op true c.0 p) (lows rest (behind_operation p op) (suc n) c.1 h.1))
+    lows (break rest) p n c h = lows rest p n c h
+    lows (continue rest) p n c h = lows rest p n c h
+    lows (call t op f opening rest) p n c h = (
+      h.0,
+      from (numbered (suc n + size opening) rest) (called_so op f c.0 c.1 p) (lows rest (behind_call functions p op f) (suc n + size opening) c.2 h.1.1),
+    )
+    lows (ends t op rest) p n c h =
+        (h.0, from (numbered (suc n) rest) (raised_so op true c.0 p) (lows rest (behind_operation p op) (suc n) c.1 h.1))

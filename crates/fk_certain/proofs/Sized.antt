@@ -1,0 +1,258 @@
+-- What is known of values, and the room in a function's frame, as one system of states.
+use Rattle.std.proofs.Common.{◌≡◌, ℕ, ◌+◌, ◌-◌, ◌≤◌, Bool, true, false, length, Option, None, Some, inl, inr, refl, sym, ap, ◌∙◌, subst, arith}
+use Rattle.std.specs.Prelude.{◌⊎◌}
+use Rattle.fk_operation.specs.declared.operation.Operation.{Operation}
+use Rattle.fk_operation.specs.declared.operation.Operation.TheVariants as o
+use Rattle.fk_sizes.specs.Operations.{takes}
+use Rattle.fk_forms.specs.Code.{Code, done, perform, choose, while, until, turn, again, quit, break, continue, call, ends}
+use Rattle.fk_kept.specs.declared.places.Place.{Place}
+use Rattle.fk_kept.specs.declared.places.Place.TheVariants.{Called}
+use Rattle.fk_flat.specs.Items as w
+use Rattle.fk_flat.specs.Items.{Way, way_of}
+use Rattle.fk_flat.specs.Shape.{is_done, IsShaped}
+use Rattle.fk_typed_code.specs.Values.{State, bare, behind, behind_call, May, Grants}
+use Rattle.fk_typed_code.specs.Typed as t
+use Rattle.fk_typed_code.specs.Typed.{EndsIn, Typed}
+use Rattle.fk_typed_code.specs.Heights.{raised, results_of, height}
+use Rattle.fk_typed_code.specs.Words.{IsLow, ahead_in}
+use Rattle.fk_typed_code.proofs.Done.{by_done}
+use Rattle.fk_typed_code.proofs.Granting.{as_long, grants_itself, grants_both}
+use Rattle.fk_typed_code.proofs.Valued.{values, values_lawful}
+use Rattle.fk_typed_code.proofs.Valued as u
+use Rattle.fk_typed_code.proofs.System.{System, GrantsLoop, Judged, IsLawful}
+use Rattle.fk_typed_code.proofs.Rising.{rises, called_rises}
+use Rattle.fk_typed_code.proofs.Standing.{stands_at}
+use Rattle.fk_certain.specs.Rooms.{HasWord, HasWords}
+
+-- of a call: what is known of its values, how many words its function has, and how many values at most
+pub record Sized : Type 0 where
+  pub state : State
+  pub words : ℕ
+  pub most : ℕ
+
+abbrev pub sized : State → (words most : ℕ) → Sized
+sized state words most = record { state = state; words = words; most = most }
+
+pub record GrantsSized (s asked : Sized) : Type 0 where
+  pub state : Grants s.state asked.state
+  pub words : s.words ≡ asked.words
+  pub most : s.most ≡ asked.most
+
+-- behind a call there is room for a result
+abbrev pub IsRoomy : Operation → Sized → Type 0
+IsRoomy (o.Enter arguments) s = length s.state.values - arguments + 1 ≤ s.most
+IsRoomy op s = length (behind op true s.state).values ≤ s.most
+
+pub record MaySized (firsts : ℕ) (op : Operation) (s : Sized) : Type 0 where
+  pub may : May op s.state
+  pub there : HasWord firsts s.words op
+  pub room : ahead_in firsts s.state.place + 8 + s.words + s.most ≤ 64
+  pub low : length s.state.values ≤ s.most
+  pub roomy : IsRoomy op s
+
+module _ (firsts : ℕ) (place_of : ℕ → Place) (words most : ℕ → ℕ) where
+  pub record CallsSized (op : Operation) (f : ℕ) (gives : Bool) (opening : Code ℕ) : Type 0 where
+    pub place : place_of f ≡ Called gives
+    pub direct : is_done opening ≡ true
+    pub few : takes op ≤ 56
+
+  abbrev pub sizing : System
+  sizing = record {
+    State = Sized;
+    Grants = GrantsSized;
+    May = MaySized firsts;
+    Ends = λ op s. EndsIn op s.state.place;
+    behind = λ op onward s. sized (behind op onward s.state) s.words s.most;
+    Calls = CallsSized;
+    begin = λ op f gives. sized (bare (Called gives)) (words f) (most f);
+    behind_call = λ op gives s. sized (behind_call (takes op) gives s.state) s.words s.most;
+    first = λ f. sized (bare (place_of f)) (words f) (most f);
+    height = λ s. length s.state.values;
+  }
+
+  pub sizing_lawful : IsLawful sizing place_of
+  sizing_lawful =
+      let l = values_lawful place_of in
+      record {
+        itself = λ s. record { state = grants_itself s.state; words = refl; most = refl };
+        both = λ s t u g h. record {
+          state = grants_both s.state t.state u.state g.state h.state;
+          words = g.words ∙ h.words;
+          most = g.most ∙ h.most;
+        };
+        enters = λ op f gives opening c. record { state = l.enters op f gives opening c.place; words = refl; most = refl };
+        rises = λ op onward s. rises op onward s.state;
+        level = λ s t g. as_long s.state.values t.state.values g.state.values;
+        called = λ op f gives opening s c. called_rises place_of op f gives s.state c.place;
+        nought = λ op f gives. refl;
+        none = λ f. refl;
+      }
+
+  -- the place stays
+  placed : (code : Code ℕ) (l : Option State) (s e : State) → Typed place_of l s code e → s.place ≡ e.place
+  placed done l s e h = h.place
+  placed (perform n op rest) l s e h = placed rest l (behind op true s) e h.1
+  placed (choose n op x y rest) l s e h = placed x l (behind op true s) h.1 h.2 ∙ placed rest l h.1 e h.4
+  placed (while a b c rest) l s e h = h.1.place ∙ placed rest l h.0 e h.5
+  placed (until a b rest) l s e h = h.1.place ∙ placed rest l h.0 e h.4
+  placed (turn a b c rest) l s e h = absurd h
+  placed (again a b c rest) l s e h = absurd h
+  placed (quit n op rest) l s e h = placed rest l (behind op true s) e h.2
+  placed (break rest) l s e h = placed rest l s e h.1
+  placed (continue rest) l s e h = placed rest l s e h.1
+  placed (call n op f opening rest) l s e h = placed rest l (behind_call (takes op) h.1 s) e h.4
+  placed (ends n op rest) l s e h = placed rest l (behind op true s) e h.2
+
+  -- in a function, with so many words and values
+  module _ (W M : ℕ) where
+    -- so it is where low code begins
+    low_here : (code : Code ℕ) (h : ℕ) → IsLow place_of M h code → h ≤ M
+    low_here done h is = is
+    low_here (perform n op rest) h is = is.0
+    low_here (choose n op x y rest) h is = is.0
+    low_here (while a b c rest) h is = low_here a h is.0
+    low_here (until a b rest) h is = low_here a h is.0
+    low_here (turn a b c rest) h is = absurd is
+    low_here (again a b c rest) h is = absurd is
+    low_here (quit n op rest) h is = is.0
+    low_here (break rest) h is = low_here rest h is
+    low_here (continue rest) h is = low_here rest h is
+    low_here (call n op f opening rest) h is = is.0
+    low_here (ends n op rest) h is = is.0
+
+    low_at : (code : Code ℕ) (a b : ℕ) → a ≡ b → IsLow place_of M a code → IsLow place_of M b code
+    low_at code a b e is = subst (λ h. IsLow place_of M h code) e is
+
+    -- the loop round a place, in both judgements
+    abbrev Loops : Option State → Option Sized → Type 0
+    Loops None None = Unit {0}
+    Loops (Some round) (Some both) = both ≡ sized round W M
+    Loops l lh = ⊥
+
+    looped : (l : Option State) (lh : Option Sized) (s : State) → Loops l lh → t.GrantsLoop l s → GrantsLoop sizing lh (sized s W M)
+    looped None None s is g = absurd g
+    looped (Some round) (Some both) s is g = subst (GrantsSized (sized s W M)) (sym is) (record { state = g; words = refl; most = refl })
+    looped None (Some both) s is g = absurd is
+    looped (Some round) None s is g = absurd is
+
+    abbrev Room : Place → Type 0
+    Room place = ahead_in firsts place + 8 + W + M ≤ 64
+
+    roomy : (op : Operation) (s : State) (way : Way) → way_of op ≡ way → (way ≡ w.into → ⊥) → length (behind op true s).values ≤ M → IsRoomy op (sized s W M)
+    roomy (o.Enter arguments) s way e n a = absurd (n (sym e))
+    roomy op s way e n a = a
+
+    roomy_call : (op : Operation) (s : State) → way_of op ≡ w.into → length s.values - takes op + 1 ≤ M → IsRoomy op (sized s W M)
+    roomy_call (o.Enter arguments) s e a = a
+    roomy_call op s e a = absurd (let z = e in cc)
+
+    there_call : (op : Operation) → way_of op ≡ w.into → HasWord firsts W op
+    there_call (o.Enter arguments) e = tt
+    there_call op e = absurd (let z = e in cc)
+
+    not_straight : w.straight ≡ w.into → ⊥
+    not_straight e = absurd (cc)
+
+    not_onto : w.onto ≡ w.into → ⊥
+    not_onto e = absurd (cc)
+
+    not_either : w.either ≡ w.into → ⊥
+    not_either e = absurd (cc)
+
+    not_out : w.out ≡ w.into → ⊥
+    not_out e = absurd (cc)
+
+    done_judged : (code : Code ℕ) (l : Option Sized) (s : Sized) → is_done code ≡ true → Judged sizing l s code s
+    done_judged code l s d = by_done (λ x. Judged sizing l s x s) code d (sizing_lawful.itself s)
+
+    module _ (has_body : ℕ → Bool) where
+      straight_roomy : (op : Operation) (s : State) (rest : Code ℕ) → (way_of op ≡ w.straight) ⊎ ((way_of op ≡ w.onto) × (is_done rest ≡ true))
+          → length (behind op true s).values ≤ M → IsRoomy op (sized s W M)
+      straight_roomy op s rest (inl e) a = roomy op s w.straight e not_straight a
+      straight_roomy op s rest (inr e) a = roomy op s w.onto e.0 not_onto a
+
+      -- the judgements together
+      pub all_sized : (code : Code ℕ) (inside : Bool) (l : Option State) (lh : Option Sized) (s e : State)
+          → IsShaped has_body inside code → Loops l lh → Room s.place
+          → Typed place_of l s code e → HasWords firsts W code → IsLow place_of M (length s.values) code
+          → Judged sizing lh (sized s W M) code (sized e W M)
+      all_sized done inside l lh s e p ls room t h low = record { state = t; words = refl; most = refl }
+      all_sized (perform n op rest) inside l lh s e p ls room t h low =
+          let b = behind op true s in
+          let lr = low_at rest (raised (length s.values) op true) (length b.values) (sym (rises op true s)) low.1 in (
+            record { may = t.0; there = h.0; room = room; low = low.0; roomy = straight_roomy op s rest p.0 (low_here rest (length b.values) lr) },
+            all_sized rest inside l lh b e p.1 ls room t.1 h.1 lr,
+          )
+      all_sized (choose n op x y rest) inside l lh s e p ls room t h low =
+          let b = behind op true s in
+          let b' = behind op false s in
+          let m = t.1 in
+          let lx = low_at x (raised (length s.values) op true) (length b.values) (sym (rises op true s)) low.1 in
+          let ly = low_at y (raised (length s.values) op false) (length b'.values) (sym (rises op false s)) low.2 in
+          let up = ap (λ n. height place_of n x) (sym (rises op true s)) ∙ stands_at (values place_of) place_of (values_lawful place_of) x l b m (u.judged place_of x l b m t.2) in
+          let lr = low_at rest (height place_of (raised (length s.values) op true) x) (length m.values) up low.3 in (
+            record { may = t.0; there = h.0; room = room; low = low.0; roomy = roomy op s w.either p.0 not_either (low_here x (length b.values) lx) },
+            sized m W M,
+            all_sized x inside l lh b m p.1 ls room t.2 h.1 lx,
+            all_sized y inside l lh b' m p.2 ls room t.3 h.2 ly,
+            all_sized rest inside l lh m e p.3 ls (subst Room (placed x l b m t.2) room) t.4 h.3 lr,
+          )
+      all_sized (while test body step rest) inside l lh s e p ls room t h low =
+          let r = t.0 in
+          let both = sized r W M in
+          let rr = subst Room t.1.place room in
+          let u0 : length s.values ≡ length r.values = as_long s.values r.values t.1.values in
+          let v = values place_of in
+          let vl = values_lawful place_of in
+          let u1 : height place_of (length s.values) test ≡ length r.values = ap (λ n. height place_of n test) u0 ∙ stands_at v place_of vl test (Some r) r r (u.judged place_of test (Some r) r r t.2) in
+          let u2 : height place_of (height place_of (length s.values) test) body ≡ length r.values = ap (λ n. height place_of n body) u1 ∙ stands_at v place_of vl body (Some r) r r (u.judged place_of body (Some r) r r t.3) in
+          let u3 : height place_of (height place_of (height place_of (length s.values) test) body) step ≡ length r.values = ap (λ n. height place_of n step) u2 ∙ stands_at v place_of vl step (Some r) r r (u.judged place_of step (Some r) r r t.4) in (
+            both,
+            record { state = t.1; words = refl; most = refl },
+            all_sized test true (Some r) (Some both) r r p.2 refl rr t.2 h.0 (low_at test (length s.values) (length r.values) u0 low.0),
+            all_sized body true (Some r) (Some both) r r p.3 refl rr t.3 h.1 (low_at body (height place_of (length s.values) test) (length r.values) u1 low.1),
+            all_sized step true (Some r) (Some both) r r p.4 refl rr t.4 h.2 (low_at step (height place_of (height place_of (length s.values) test) body) (length r.values) u2 low.2),
+            all_sized rest inside l lh r e p.5 ls rr t.5 h.3 (low_at rest (height place_of (height place_of (height place_of (length s.values) test) body) step) (length r.values) u3 low.3),
+          )
+      all_sized (until body test rest) inside l lh s e p ls room t h low =
+          let r = t.0 in
+          let both = sized r W M in
+          let rr = subst Room t.1.place room in
+          let u0 : length s.values ≡ length r.values = as_long s.values r.values t.1.values in
+          let v = values place_of in
+          let vl = values_lawful place_of in
+          let u1 : height place_of (length s.values) body ≡ length r.values = ap (λ n. height place_of n body) u0 ∙ stands_at v place_of vl body (Some r) r r (u.judged place_of body (Some r) r r t.2) in
+          let u2 : height place_of (height place_of (length s.values) body) test ≡ length r.values = ap (λ n. height place_of n test) u1 ∙ stands_at v place_of vl test (Some r) r r (u.judged place_of test (Some r) r r t.3) in (
+            both,
+            record { state = t.1; words = refl; most = refl },
+            all_sized body true (Some r) (Some both) r r p.1 refl rr t.2 h.0 (low_at body (length s.values) (length r.values) u0 low.0),
+            all_sized test true (Some r) (Some both) r r p.2 refl rr t.3 h.1 (low_at test (height place_of (length s.values) body) (length r.values) u1 low.1),
+            all_sized rest inside l lh r e p.3 ls rr t.4 h.2 (low_at rest (height place_of (height place_of (length s.values) body) test) (length r.values) u2 low.2),
+          )
+      all_sized (turn test body step rest) inside l lh s e p ls room t h low = absurd t
+      all_sized (again test body step rest) inside l lh s e p ls room t h low = absurd t
+      all_sized (quit n op rest) inside l lh s e p ls room t h low =
+          let b = behind op true s in
+          let lr = low_at rest (raised (length s.values) op true) (length b.values) (sym (rises op true s)) low.1 in (
+            record { may = t.0; there = h.0; room = room; low = low.0; roomy = roomy op s w.either p.1 not_either (low_here rest (length b.values) lr) },
+            looped l lh (behind op false s) ls t.1,
+            all_sized rest inside l lh b e p.2 ls room t.2 h.1 lr,
+          )
+      all_sized (break rest) inside l lh s e p ls room t h low = (looped l lh s ls t.0, all_sized rest inside l lh s e p.1 ls room t.1 h low)
+      all_sized (continue rest) inside l lh s e p ls room t h low = (looped l lh s ls t.0, all_sized rest inside l lh s e p.1 ls room t.1 h low)
+      all_sized (call n op f opening rest) inside l lh s e p ls room t h low =
+          let b = behind_call (takes op) t.1 s in
+          let lr = low_at rest (length s.values - takes op + results_of (place_of f)) (length b.values) (called_rises place_of op f t.1 s t.2) low.2 in (
+            record { may = t.0; there = there_call op p.0; room = room; low = low.0; roomy = roomy_call op s p.0 low.1 },
+            t.1,
+            record { place = t.2; direct = h.0; few = h.1 },
+            done_judged opening None (sized (bare (Called t.1)) (words f) (most f)) h.0,
+            all_sized rest inside l lh b e p.3 ls room t.4 h.2 lr,
+          )
+      all_sized (ends n op rest) inside l lh s e p ls room t h low =
+          let b = behind op true s in
+          let lr = low_at rest (raised (length s.values) op true) (length b.values) (sym (rises op true s)) low.1 in (
+            record { may = t.0; there = h.0; room = room; low = low.0; roomy = roomy op s w.out p.0 not_out (low_here rest (length b.values) lr) },
+            t.1,
+            all_sized rest inside l lh b e p.1 ls room t.2 h.1 lr,
+          )

@@ -1,2 +1,0 @@
-mod Heights
-pub mod Lists

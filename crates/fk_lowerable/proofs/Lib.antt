@@ -1,4 +1,0 @@
-pub mod Bindings
-pub mod Firsts
-pub mod Small
-pub mod Laid

@@ -1,5 +1,0 @@
-use Rattle.fk_lowerable.proofs.Small.{lists_are_small}
-use Rattle.fk_lowerable.proofs.laws.lists_are_small.Goals as goal
-
-pub returns : goal.returns
-returns c = lists_are_small

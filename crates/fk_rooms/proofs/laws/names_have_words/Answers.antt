@@ -1,5 +1,0 @@
-use Rattle.fk_rooms.proofs.Own.{names_have_words}
-use Rattle.fk_rooms.proofs.laws.names_have_words.Goals as goal
-
-pub returns : goal.returns
-returns c = names_have_words

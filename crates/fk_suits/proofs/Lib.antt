@@ -1,6 +1,0 @@
-pub mod Items
-pub mod Apart
-pub mod Free
-mod Sized
-mod Living
-pub mod Suiting
