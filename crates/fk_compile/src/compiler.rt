@@ -22,7 +22,8 @@ use std::alloc::Global;
 /// fault at a site of the text included.
 ///
 /// # Errors
-/// Those of `built_text`; and `Memory` too where it isn't certain that the code is right.
+/// Those of `built_text`; and `Memory` too of a text with 56 private variables of file scope whose `main`
+/// calls a function, since its frame has no room for a result.
 pub fn compile(alloc: Global, source: &[u8]) -> Result<Image, Refusal>
     ensures faithful { IfOk result (IsFaithful source.now) }
     ensures kept { OnOk result (KeepsRules source.now) }

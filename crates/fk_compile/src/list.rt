@@ -1,4 +1,4 @@
-//! The flat list of a text, and whether it is certain that its code does what it does.
+//! The flat list of a text, and the private words that its calls keep.
 
 ghost use Rattle.std.specs.Prelude.{◌≡◌, ◌<◌, ◌≤◌, ◌^◌, ℕ, All, List as Listed, IfErr, IfOk, IfSome, IsTrue, alloc_error, length, sum_by};
 ghost use Rattle.fk_syntax.specs.Program.{ProgramTree};
@@ -49,7 +49,7 @@ pub(crate) struct List {
     pub(crate) main: u32,
 }
 
-/// The answer where it isn't certain that the code of a text is right, as where there is no memory.
+/// The answer where a list suits no frames that hold its live words, as where there is no memory.
 fn uncertain() -> Refusal
     ensures { result ≡ Refusal.Memory alloc_error }
 {
