@@ -4,6 +4,7 @@ mod Whole
 pub mod WordNumbers
 pub mod Near
 pub mod Regions
+pub mod Taken
 pub mod WordSlots
 pub mod WordRoom
 pub mod Bindings

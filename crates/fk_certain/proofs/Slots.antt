@@ -13,6 +13,7 @@ use Rattle.fk_slots.specs.Slots.{behind_body_frame, begun, begun_two, behind, be
 use Rattle.fk_slots.proofs.Alike.{same_privates}
 use Rattle.fk_fitting.proofs.Each.{Each, each_map}
 use Rattle.fk_certain.proofs.Regions.{join}
+use Rattle.fk_certain.proofs.Taken.{same_within, same_outside, same_frame, same_body_frame, same_two}
 
 -- a word of a function is below this number. No variable of a function lies in the file's words
 abbrev pub IsBelow : (count : ℕ) → Home → (index : ℕ) → Type 0
@@ -57,31 +58,6 @@ either count false xs ys n t u h k = k
 
 again : (xs : List Slot) (a b c d : ℕ) → a ≡ c → b ≡ d → Good xs a b → Good xs c d
 again xs a b c d same ends h = subst (λ n. Good xs n d) same (subst (λ n. Good xs a n) ends h)
-
--- ---- what is taken
-
-same_within : (taken : _) → (within (within taken)).privates ≡ (within taken).privates
-unfolding within
-same_within taken = refl
-
-same_outside : (before taken : _) → (within (outside before taken)).privates ≡ (within taken).privates
-unfolding within outside
-same_outside before taken = refl
-
-frame_or : (b : Bool) (taken : _) → (within (if b then taken else record taken { frames = min (taken.frames + 1) (2 ^ 32 - 1) })).privates ≡ (within taken).privates
-unfolding within
-frame_or true taken = refl
-frame_or false taken = refl
-
-same_frame : (taken : _) (words : ℕ) → (within (behind_frame taken words)).privates ≡ (within taken).privates
-unfolding behind_frame
-same_frame taken words = frame_or (words == 0) taken
-
-same_body_frame : (told : Told) (taken : _) (x : Statement) → (within (begun told taken x)).privates ≡ (within taken).privates
-same_body_frame told taken x = same_within (behind_body_frame told taken x) ∙ same_frame taken (statement_words told 0 x)
-
-same_two : (told : Told) (taken : _) (x y : Statement) → (within (begun_two told taken x y)).privates ≡ (within taken).privates
-same_two told taken x y = same_body_frame told (behind_body_frame told taken x) y ∙ same_frame taken (statement_words told 0 x)
 
 module _ (told : Told) (frame : ℕ) where
   shared_or : (b : Bool) (taken : _) (x : DeclaredTree)
