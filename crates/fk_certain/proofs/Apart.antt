@@ -1,19 +1,16 @@
 -- No index of the flat list of a program lies in the code of two functions: the operations of each have ranks of their own.
-use Rattle.std.proofs.Common.{◌≡◌, ℕ, zero, suc, ◌+◌, ◌-◌, ◌<◌, ◌≤◌, Bool, true, false, true≢false, List, [], ◌∷◌, ◌++◌, length, slice_get, Option, Some, None, inl, inr, refl, sym, ap, ◌∙◌, subst, arith}
+use Rattle.std.proofs.Common.{◌≡◌, ℕ, zero, suc, ◌+◌, ◌-◌, ◌<◌, ◌≤◌, Bool, true, false, true≢false, List, [], ◌∷◌, length, slice_get, Option, Some, None, inl, inr, refl, sym, ◌∙◌, subst, arith}
 use Rattle.std.specs.Prelude.{◌==◌, ◌⊎◌, if◌then◌else◌}
 use Rattle.std.proofs.lemmas.Bool.{eqb-true}
 use Rattle.fk_operation.specs.declared.operation.Operation.{Operation}
 use Rattle.fk_syntax.specs.Program.{FunctionTree, ProgramTree}
-use Rattle.fk_forms.specs.Code.{Code, done, size, numbered}
+use Rattle.fk_forms.specs.Code.{Code, size, numbered}
 use Rattle.fk_forms.specs.Tables.{Tables}
 use Rattle.fk_forms.specs.Program.{functions_of, binding_of, code_of, body_in, bodies_of}
 use Rattle.fk_core.specs.declared.op.CoreOp.{CoreOp}
-use Rattle.fk_core.specs.Numbers.{operation_of}
-use Rattle.fk_core.specs.Next.{is_jump}
 use Rattle.fk_core.specs.Stands.{Around}
 use Rattle.fk_core.proofs.Leading.{op_stops}
-use Rattle.fk_flat.specs.Items.{Item}
-use Rattle.fk_flat.specs.Flat.{extent, flat}
+use Rattle.fk_flat.specs.Flat.{flat}
 use Rattle.fk_flat.specs.Laws.{IsFlat}
 use Rattle.fk_flat.proofs.Lengths.{flat_length}
 use Rattle.fk_text.specs.Built.{is_built, operations, operations_in, operations_of, AreBuilt}

@@ -1,8 +1,8 @@
 -- How the names in a program stand.
-use Rattle.std.proofs.Common.{◌≡◌, ◌⊎◌, inl, inr, ℕ, zero, suc, ◌+◌, ◌*◌, ◌%◌, ◌^◌, ◌-◌, ◌<◌, ◌≤◌, Bool, true, false, ◌&&◌, List, [], ◌∷◌, ◌++◌, flat_map, get_or, codes, Option, Some, None, slice_get, Contains, refl, sym, ap, subst, ◌∙◌, arith}
-use Rattle.std.specs.Prelude.{◌==◌, is_some, map, bytes_eq, if◌then◌else◌}
+use Rattle.std.proofs.Common.{◌≡◌, ◌⊎◌, inl, inr, ℕ, zero, suc, ◌+◌, ◌*◌, ◌%◌, ◌^◌, ◌<◌, ◌≤◌, Bool, true, false, List, [], ◌∷◌, flat_map, get_or, codes, Option, Some, None, slice_get, Contains, refl, sym, ap, subst, ◌∙◌, arith}
+use Rattle.std.specs.Prelude.{◌==◌, is_some, map, if◌then◌else◌}
 use Rattle.std.specs.Option.{option_map}
-use Rattle.std.proofs.lemmas.Bool.{false≢true, and_from, or_left, le-leb, lt-ltb, eqb-true, eq-eqb, ne_eqb}
+use Rattle.std.proofs.lemmas.Bool.{false≢true, and_from, or_left, le-leb, lt-ltb, eq-eqb, ne_eqb}
 use Rattle.std.proofs.lemmas.List.{get_or_default}
 use Rattle.std.proofs.lemmas.Option.{same_Some}
 use Rattle.fk_typing.specs.Names.{Env}
@@ -19,24 +19,21 @@ use Rattle.fk_syntax.specs.Program.{DeclaredTree, FunctionTree, ProgramTree}
 use Rattle.fk_structs.specs.declared.types.Root.{Root}
 use Rattle.fk_structs.specs.declared.types.Root.TheVariants as r
 use Rattle.fk_structs.specs.declared.types.DataType.{DataType}
-use Rattle.fk_structs.specs.Types.{StructTree, structs_of, root_of, struct_named, type_declared, type_spelled}
+use Rattle.fk_structs.specs.Types.{StructTree, struct_named, type_declared, type_spelled}
 use Rattle.fk_structs.specs.Sizes.{HasTypeWords}
 use Rattle.fk_struct_rules.specs.Declarations.{DeclarationBreaks}
 use Rattle.fk_names.specs.declared.names.Meaning.{Meaning}
 use Rattle.fk_names.specs.declared.names.Meaning.TheVariants as m
 use Rattle.fk_names.specs.Outline.{DeclarationTree, Variable, Header, declarations, outline}
 use Rattle.fk_names.specs.Means.{Means, MeansAt, predeclared}
-use Rattle.fk_signs.specs.declared.values.Value.TheVariants.{Int}
 use Rattle.fk_signs.specs.declared.values.ExpressionType.{ExpressionType}
-use Rattle.fk_signs.specs.declared.values.ExpressionType.TheVariants.{Stored, Computed, Nothing}
+use Rattle.fk_signs.specs.declared.values.ExpressionType.TheVariants.{Stored}
 use Rattle.fk_signs.specs.Values.{result_of}
 use Rattle.fk_pieces.specs.Pieces as q
 use Rattle.fk_pieces.specs.Pieces.{PieceTree, pieces}
-use Rattle.fk_type_rules.specs.Noted.{piece_noted}
 use Rattle.fk_token_laws.proofs.Pieces.{declared_by_piece, of_items}
-use Rattle.fk_typing.specs.Term as e
-use Rattle.fk_typing.specs.Names.{Meant, Kept, Constant, Called, Main, Undeclared, Always, Typed, IsDeclared, IsSignature, HasDeclaredType, is_text, predeclared_meant, input}
-use Rattle.fk_typing.specs.Typing.{type_of, name_type, struct_of_root}
+use Rattle.fk_typing.specs.Names.{Meant, Kept, Called, Main, Always, Typed, IsDeclared, HasDeclaredType, is_text, predeclared_meant, input}
+use Rattle.fk_typing.specs.Typing.{name_type, struct_of_root}
 use Rattle.fk_class.specs.declared.thing.Thing.TheVariants.{PrivateVariable}
 use Rattle.fk_sharing.specs.Tokens.{is_struct}
 use Rattle.fk_forms.specs.declared.tables.Home.{Home}
@@ -49,13 +46,13 @@ use Rattle.fk_fitting.proofs.Named.{IsKnown, meant_at, declared_low}
 use Rattle.fk_fitting.proofs.Declared.{IsHomeFor, header_at}
 use Rattle.fk_fitting.proofs.Homes.{home_of}
 use Rattle.fk_fitting.proofs.Things.{thing_tells}
-use Rattle.fk_typed_forms.specs.Ways.{Way, Valued, Array, Grouped, Word, Function, placed_way, predeclared_way, named_way}
+use Rattle.fk_typed_forms.specs.Ways.{Way, Valued, Array, Word, Function, placed_way, predeclared_way, named_way}
 use Rattle.fk_typed_forms.specs.Asked.{NameAsks}
-use Rattle.fk_typed_forms.specs.Typed.{StandsAs, NameIs, IsNoWord}
+use Rattle.fk_typed_forms.specs.Typed.{StandsAs, IsNoWord}
 use Rattle.fk_certain.proofs.Sizes.{IsSound, has_sound}
 use Rattle.fk_certain.proofs.Tokens.{IsSoundType, kind_is, kind_words, array_is}
 use Rattle.fk_certain.proofs.Places.{lies_within}
-use Rattle.fk_certain.proofs.Scalars.{Kept as KeptToken, IsScalar, is_scalar}
+use Rattle.fk_certain.proofs.Scalars.{IsScalar}
 use Rattle.fk_certain.proofs.Valid.{IsGiven, E, T, F, P, things, words_declared, IsUsed, Noting, IsPiece, are_pieces}
 
 -- ---- addresses of shared data

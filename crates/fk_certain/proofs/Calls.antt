@@ -1,8 +1,8 @@
 -- Calls are of functions, with their arguments, and give what their types say.
-use Rattle.std.proofs.Common.{◌≡◌, ◌⊎◌, inl, inr, ℕ, zero, suc, ◌+◌, ◌<◌, ◌≤◌, Bool, true, false, not, ◌&&◌, List, [], ◌∷◌, length, nat_eq, get_or, codes, Option, Some, None, slice_get, Contains, refl, sym, ap, subst, ◌∙◌, arith}
-use Rattle.std.specs.Prelude.{◌==◌, ◌||◌, is_some, IsSome, map, bytes_eq, if◌then◌else◌}
+use Rattle.std.proofs.Common.{◌≡◌, inl, inr, ℕ, zero, suc, ◌+◌, ◌<◌, ◌≤◌, Bool, true, false, not, ◌&&◌, List, [], ◌∷◌, length, nat_eq, get_or, codes, Option, Some, None, slice_get, Contains, refl, sym, ap, subst, ◌∙◌, arith}
+use Rattle.std.specs.Prelude.{◌==◌, ◌||◌, IsSome, map, if◌then◌else◌}
 use Rattle.std.specs.Option.{option_map}
-use Rattle.std.proofs.lemmas.Bool.{false≢true, and_parts, eqb-true, ne_eqb, false_from_ne_true}
+use Rattle.std.proofs.lemmas.Bool.{false≢true, eqb-true, ne_eqb}
 use Rattle.std.proofs.lemmas.List.{get_or_default, length-map}
 use Rattle.std.proofs.lemmas.Option.{same_Some}
 use Rattle.fk_typing.specs.Names.{Env}
@@ -18,13 +18,13 @@ use Rattle.fk_rules.specs.declared.rule.Rule.TheVariants as rules
 use Rattle.fk_structs.specs.declared.types.Root.{Root}
 use Rattle.fk_structs.specs.declared.types.Root.TheVariants as r
 use Rattle.fk_structs.specs.declared.types.DataType.{DataType}
-use Rattle.fk_structs.specs.Types.{StructTree, root_of, struct_named, type_spelled}
-use Rattle.fk_struct_rules.specs.Declarations.{IsStruct, ResultBreaks}
-use Rattle.fk_names.specs.Outline.{DeclarationTree, Variable, Header, declarations}
+use Rattle.fk_structs.specs.Types.{struct_named, type_spelled}
+use Rattle.fk_struct_rules.specs.Declarations.{ResultBreaks}
+use Rattle.fk_names.specs.Outline.{Variable, Header, declarations}
 use Rattle.fk_names.specs.Means.{predeclared}
 use Rattle.fk_signs.specs.declared.values.Value.{Value}
 use Rattle.fk_signs.specs.declared.values.ExpressionType.{ExpressionType}
-use Rattle.fk_signs.specs.declared.values.ExpressionType.TheVariants.{Stored, Computed, Nothing}
+use Rattle.fk_signs.specs.declared.values.ExpressionType.TheVariants.{Computed}
 use Rattle.fk_signs.specs.Values.{result_of}
 use Rattle.fk_typing.specs.Term as e
 use Rattle.fk_typing.specs.Term.{Terms, no_terms, also, count_of, term_of, with_arguments}
@@ -37,7 +37,6 @@ use Rattle.fk_forms.specs.Program.{functions_of, with_body, binding_of, signatur
 use Rattle.fk_kept.specs.declared.places.Place.{Place}
 use Rattle.fk_kept.specs.declared.places.Place.TheVariants as pl
 use Rattle.fk_layout.specs.Refusal.{Fits}
-use Rattle.fk_nesting.specs.Calls.{TakesEnough}
 use Rattle.fk_shapes.specs.Fitting.{is_defined, NameFits}
 use Rattle.fk_fitting.proofs.Typed.{Unbroken, Not}
 use Rattle.fk_fitting.proofs.Named.{known}

@@ -1,7 +1,7 @@
 -- What is asked of the names, members and calls of an expression is so in a program that keeps all rules.
-use Rattle.std.proofs.Common.{◌≡◌, ℕ, zero, suc, Bool, true, false, List, [], ◌∷◌, ◌++◌, Option, Some, None, slice_get, refl, sym, ap, subst, ◌∙◌}
+use Rattle.std.proofs.Common.{◌≡◌, ℕ, Bool, true, false, List, [], ◌∷◌, ◌++◌, Option, Some, None, slice_get, refl, sym, ap, subst, ◌∙◌}
 use Rattle.std.specs.Prelude.{is_some, if◌then◌else◌}
-use Rattle.std.specs.Option.{option_map, option_and_then}
+use Rattle.std.specs.Option.{option_and_then}
 use Rattle.std.proofs.lemmas.Bool.{false≢true}
 use Rattle.std.proofs.lemmas.Option.{same_Some}
 use Rattle.fk_typing.specs.Names.{Env}
@@ -16,7 +16,6 @@ use Rattle.fk_syntax.specs.declared.sign.Sign.TheVariants as g
 use Rattle.fk_syntax.specs.Tree as t
 use Rattle.fk_syntax.specs.Tree.{Named, Tree, Links, Trees, Suffixes}
 use Rattle.fk_syntax.specs.Program.{DeclaredTree, ProgramTree}
-use Rattle.fk_rules.specs.declared.rule.Rule.{Rule}
 use Rattle.fk_rules.specs.declared.rule.Rule.TheVariants as rules
 use Rattle.fk_structs.specs.declared.types.DataType.{DataType}
 use Rattle.fk_structs.specs.Types.{StructTree, type_spelled}
@@ -30,7 +29,7 @@ use Rattle.fk_signs.specs.Values.{value_of, value_stored, is_array, target}
 use Rattle.fk_signs.specs.Signs.{is_void as is_void_target, is_integer, counted}
 use Rattle.fk_typing.specs.Term as e
 use Rattle.fk_typing.specs.Term.{Term, Terms, no_terms, also, count_of, term_of, with_links, with_suffixes, with_arguments, joined_term, prefix_term}
-use Rattle.fk_typing.specs.Typing.{Noted, noted, all_noted, type_of, value_in, computed, number_type, sizeof_type, cast_type, pointed, element, counted_type, last_of, left_of, assigned, branched, is_no_target, name_type, struct_of, struct_at, called_as, parameters_of, do_all_fit, first_value}
+use Rattle.fk_typing.specs.Typing.{Noted, noted, all_noted, type_of, value_in, computed, number_type, sizeof_type, cast_type, pointed, element, counted_type, last_of, left_of, assigned, branched, is_no_target, struct_of, struct_at, called_as, parameters_of, do_all_fit, first_value}
 use Rattle.fk_typing_walk.proofs.ReadLemmas.{noted-prefix, noted-joined}
 use Rattle.fk_class.specs.Class.{is_shared, is_call_shared, is_joined_shared}
 use Rattle.fk_class.specs.declared.thing.Thing.TheVariants.{PrivateVariable}
@@ -41,10 +40,10 @@ use Rattle.fk_sharing.specs.Broken as sb
 use Rattle.fk_forms.specs.Expressions.{token, last_link, last_suffix}
 use Rattle.fk_layout.specs.Refusal.{Fits}
 use Rattle.fk_lockstep.specs.Told.{Told, LinksTold, SuffixesTold, AllTold}
-use Rattle.fk_parsed.specs.Trim.{HasLinks, HasSuffixes, IsTrim, LinksAreTrim, TreesAreTrim, SuffixesAreTrim}
+use Rattle.fk_parsed.specs.Trim.{IsTrim, LinksAreTrim, TreesAreTrim, SuffixesAreTrim}
 use Rattle.fk_fitting.proofs.Each.{Each, front_of, rest_of}
 use Rattle.fk_fitting.proofs.Read.{Any}
-use Rattle.fk_typed_forms.specs.Ways.{Way, Valued, Absent, Unchecked, Constant, Function, gives, result, prefix_way, joined_way, call_gives, called_way, dotted_way, way, chain_way, suffixed_way}
+use Rattle.fk_typed_forms.specs.Ways.{Way, Valued, Unchecked, Constant, Function, gives, result, prefix_way, joined_way, call_gives, called_way, dotted_way, way, chain_way, suffixed_way}
 use Rattle.fk_typed_forms.specs.Asked.{CallAsks, Asked}
 use Rattle.fk_typed_forms.specs.Typed.{StandsAs, CommaIs, IsNoWord, PrefixIs, Known, LinksKnown, SuffixesKnown, AllKnown}
 use Rattle.fk_typed_forms.proofs.Typing.{is_use, uncalled}

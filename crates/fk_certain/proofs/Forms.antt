@@ -24,21 +24,21 @@ use Rattle.fk_forms.specs.declared.tables.Home.TheVariants as h
 use Rattle.fk_forms.specs.declared.tables.Region.{Region}
 use Rattle.fk_forms.specs.declared.signs.Move.{Move}
 use Rattle.fk_forms.specs.declared.signs.Move.TheVariants.{Forth, Back, NoMove}
-use Rattle.fk_forms.specs.Code.{done, perform, choose, call, numbered}
+use Rattle.fk_forms.specs.Code.{done, perform, choose, numbered}
 use Rattle.fk_forms.specs.Tables.{Tables, no_binding, note, kind_at, is_array, is_void, is_unsigned, slot, frame_at}
 use Rattle.fk_forms.specs.Signs.{operator_of, is_shift, move_of}
 use Rattle.fk_forms.specs.Texts.{text_of}
 use Rattle.fk_forms.specs.Expressions.{Coded, nowhere, plain, Standing, OnList, AtAddress, InWord, ToCall, Stands, token, spot_of, is_name, Signature, put_bytes, moved, agreed, checked, valued, addressed, fetched, assigned, value_of, dropped, predeclared, placed, variable, operate, updated, one, prefixed, truth, logical, chosen, joined, assignment, member, is_deep, indexed, dotted, pointed, step_back, raised, arguments, framed, parameters, called, multiprefix, with_one, called_predeclared, calling, stands, linked, suffixed, all_stand, value}
-use Rattle.fk_forms.specs.Statements.{is_scalar, used, used_or, value_or, declared, all_declared, part_frame}
+use Rattle.fk_forms.specs.Statements.{used, used_or, value_or, part_frame}
 use Rattle.fk_flat.specs.Shape.{is_done}
 use Rattle.fk_nesting.specs.Calls.{takes_two, TakesEnough, CallFits, LinksFit, FirstFits, SuffixesFit, AllFit}
 use Rattle.fk_nesting.proofs.Spine.{both_ways}
 use Rattle.fk_nesting.proofs.Kept.{is_predeclared, entered}
-use Rattle.fk_shapes.specs.Fitting.{NameFits, Takes, Fits, OptionFits, VariablesFit}
+use Rattle.fk_shapes.specs.Fitting.{NameFits, Takes, Fits, OptionFits}
 use Rattle.fk_typed_code.specs.Words.{Words}
 use Rattle.fk_typed_forms.proofs.Built.{AllBuilt}
-use Rattle.fk_certain.specs.Scopes.{IsWritten, NameIsWritten, NamesWritten, HasWord, TreeScoped, OptionScoped, ScalarScoped, VariablesScoped, with_word, behind_variable, behind_variables}
-use Rattle.fk_certain.proofs.Ok.{names_none, AreBelow, VariableIsWritten, freely, gets, sets, has_its_word, Ok, ended, on, writes_word, branch, enters, or_left}
+use Rattle.fk_certain.specs.Scopes.{IsWritten, NameIsWritten, NamesWritten, TreeScoped, OptionScoped}
+use Rattle.fk_certain.proofs.Ok.{names_none, AreBelow, VariableIsWritten, freely, gets, sets, has_its_word, Ok, ended, on, branch, enters}
 
 -- in which loop code stands, and what is asked behind it
 abbrev pub Want : Type 0

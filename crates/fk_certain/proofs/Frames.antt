@@ -1,24 +1,23 @@
 -- Where frames have room, the private words and the values of functions have.
-use Rattle.std.proofs.Common.{◌≡◌, ℕ, suc, ◌+◌, ◌*◌, ◌≤◌, max, Bool, true, false, List, [], ◌∷◌, length, Option, Some, None, refl, sym, ap, ◌∙◌, arith}
+use Rattle.std.proofs.Common.{◌≡◌, ℕ, ◌+◌, ◌*◌, ◌≤◌, Bool, true, false, List, [], ◌∷◌, Option, sym, ap, arith}
 use Rattle.std.specs.Prelude.{◌==◌, not, if◌then◌else◌}
-use Rattle.fk_syntax.specs.Program.{FunctionTree, ItemTree, ProgramTree}
-use Rattle.fk_sizes.specs.Places.{beginning, places, most_values}
+use Rattle.fk_syntax.specs.Program.{FunctionTree, ItemTree}
+use Rattle.fk_sizes.specs.Places.{beginning, places}
 use Rattle.fk_forms.specs.Code.{size, numbered}
 use Rattle.fk_forms.specs.Tables.{Tables}
 use Rattle.fk_forms.specs.Statements.{is_nothing}
-use Rattle.fk_forms.specs.Program.{functions_of, binding_of, signature_of, signature_in, is_main, code_of, body_in, bodies_of}
-use Rattle.fk_layout.specs.Frames.{file_privates, values_of, nesting_of, private_words}
+use Rattle.fk_forms.specs.Program.{functions_of, binding_of, signature_of, signature_in, is_main, code_of, body_in}
+use Rattle.fk_layout.specs.Frames.{file_privates, values_of, nesting_of}
 use Rattle.fk_flat.specs.Shape.{IsShaped}
 use Rattle.fk_kept.specs.declared.places.Place.{Place}
 use Rattle.fk_kept.specs.declared.places.Place.TheVariants.{Main, Called}
-use Rattle.fk_text.specs.Built.{operations, operations_in, operations_of}
+use Rattle.fk_text.specs.Built.{operations, operations_in}
 use Rattle.fk_typed_code.specs.Values.{State}
 use Rattle.fk_typed_code.specs.Typed.{Typed}
 use Rattle.fk_typed_code.specs.Words.{ahead_in}
 use Rattle.fk_typed_forms.specs.Ways.{place_gives}
-use Rattle.fk_typed_forms.specs.Asked.{place_by, place_in, place_of}
-use Rattle.fk_typed_forms.proofs.Built.{AreAllBuilt, each_of, front, back, built}
-use Rattle.fk_shapes.proofs.Programs.{forms_are_shaped}
+use Rattle.fk_typed_forms.specs.Asked.{place_by, place_in}
+use Rattle.fk_typed_forms.proofs.Built.{AreAllBuilt, front, back, built}
 use Rattle.fk_certain.specs.Scopes.{words_in}
 use Rattle.fk_certain.specs.Room.{HasFew, own_words, HaveRoom}
 use Rattle.fk_certain.proofs.Low.{low, counted, lows}

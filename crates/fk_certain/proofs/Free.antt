@@ -1,15 +1,14 @@
 -- The flat lists of programs stay within themselves.
-use Rattle.std.proofs.Common.{◌≡◌, ℕ, ◌+◌, ◌<◌, ◌≤◌, true, false, true≢false, List, length, slice_get, Option, Some, None, inl, inr, refl, sym, ap, ◌∙◌, subst}
+use Rattle.std.proofs.Common.{◌≡◌, ℕ, ◌+◌, ◌<◌, ◌≤◌, true, false, true≢false, List, slice_get, Option, Some, inl, inr, sym, ◌∙◌, subst}
 use Rattle.std.specs.Prelude.{◌⊎◌}
 use Rattle.std.proofs.lemmas.Option.{slice_get_within}
 use Rattle.fk_operation.specs.declared.operation.Operation.{Operation}
 use Rattle.fk_operation.specs.declared.operation.Operation.TheVariants.{Halt}
 use Rattle.fk_syntax.specs.Program.{ProgramTree}
 use Rattle.fk_forms.specs.Tables.{Tables}
-use Rattle.fk_forms.specs.Program.{functions_of, bodies_of, main_of}
+use Rattle.fk_forms.specs.Program.{bodies_of, main_of}
 use Rattle.fk_core.specs.declared.op.CoreOp.{CoreOp}
 use Rattle.fk_core.specs.Numbers.{operation_of}
-use Rattle.fk_core.specs.Next.{is_jump}
 use Rattle.fk_core.proofs.Leading.{op_stops}
 use Rattle.fk_flat.specs.Flat.{extent}
 use Rattle.fk_flat.specs.Laws.{AreShaped, IsFlat}

@@ -1,5 +1,5 @@
 -- What stands in the flat list of code: its operations, each with its rank.
-use Rattle.std.proofs.Common.{◌≡◌, ℕ, zero, suc, ◌+◌, ◌<◌, ◌≤◌, Bool, true, false, true≢false, List, [], ◌∷◌, ◌++◌, length, slice_get, Option, Some, None, inl, inr, refl, sym, ap, ◌∙◌, subst, arith}
+use Rattle.std.proofs.Common.{◌≡◌, ℕ, zero, suc, ◌+◌, ◌<◌, ◌≤◌, Bool, true, false, List, [], ◌∷◌, ◌++◌, length, slice_get, Some, None, inl, inr, refl, sym, subst, arith}
 use Rattle.std.specs.Prelude.{◌||◌, ◌⊎◌}
 use Rattle.fk_operation.specs.declared.operation.Operation.{Operation}
 use Rattle.fk_operation.specs.declared.operation.Operation.TheVariants as o
@@ -10,7 +10,7 @@ use Rattle.fk_core.specs.declared.op.CoreOp.{CoreOp}
 use Rattle.fk_core.specs.Numbers.{operation_of}
 use Rattle.fk_core.specs.Next.{is_jump}
 use Rattle.fk_core.specs.Stands.{Around}
-use Rattle.fk_flat.specs.Items.{Item, jump, act, Has, IsItem, way_of, goes_away}
+use Rattle.fk_flat.specs.Items.{Item, jump, act, Has, way_of, goes_away}
 use Rattle.fk_flat.specs.Flat.{begins_here, skip, gap, label, flat}
 use Rattle.fk_flat.proofs.Parts.{choice_at, turns_at, rounds_at, entering_at}
 use Rattle.fk_block_law.specs.Ready.{is_alone}

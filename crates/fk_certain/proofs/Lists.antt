@@ -8,11 +8,9 @@ use Rattle.fk_forms.specs.Program.{functions_of, binding_of, bodies_of, main_of}
 use Rattle.fk_globals.specs.Constants.{told}
 use Rattle.fk_globals.specs.Rows.{first_of}
 use Rattle.fk_globals.specs.Variables.{variables_of}
-use Rattle.fk_flat.specs.Shape.{is_closed}
 use Rattle.fk_layout.specs.Frames.{file_privates}
 use Rattle.fk_layout.specs.Layout.{tables_by}
-use Rattle.fk_kept.specs.declared.places.Place.{Place}
-use Rattle.fk_kept.specs.declared.places.Place.TheVariants.{Main, Called}
+use Rattle.fk_kept.specs.declared.places.Place.TheVariants.{Main}
 use Rattle.fk_kept.specs.Live.{words_in}
 use Rattle.fk_known.proofs.Enough.{knowledge_is_enough}
 use Rattle.fk_shapes.specs.Fitting.{is_defined}

@@ -1,7 +1,6 @@
 -- Code has few values at each of its places, where the layout counts as few.
-use Rattle.std.proofs.Common.{◌≡◌, ℕ, suc, ◌+◌, ◌-◌, ◌≤◌, max, Bool, true, false, true≢false, List, [], ◌∷◌, ◌++◌, Option, Some, refl, sym, ap, subst, ◌∙◌, arith}
+use Rattle.std.proofs.Common.{◌≡◌, ℕ, suc, ◌+◌, ◌-◌, ◌≤◌, Bool, true, false, true≢false, List, [], ◌∷◌, ◌++◌, Option, Some, refl, sym, ap, subst, ◌∙◌, arith}
 use Rattle.std.specs.Prelude.{not}
-use Rattle.fk_syntax.specs.declared.place.Place as y
 use Rattle.fk_operation.specs.declared.operation.Operation.{Operation}
 use Rattle.fk_operation.specs.declared.operation.Operation.TheVariants as o
 use Rattle.fk_sizes.specs.Operations.{takes, pushes}
@@ -11,7 +10,7 @@ use Rattle.fk_depths.specs.Local.{results, leaves}
 use Rattle.fk_forms.specs.Code.{Code, done, perform, choose, while, until, turn, again, quit, break, continue, call, ends, size, numbered}
 use Rattle.fk_forms.specs.Expressions.{Coded, Signature}
 use Rattle.fk_kept.specs.declared.places.Place.{Place}
-use Rattle.fk_kept.specs.declared.places.Place.TheVariants.{Main, Called}
+use Rattle.fk_kept.specs.declared.places.Place.TheVariants.{Called}
 use Rattle.fk_flat.specs.Items.{into, way_of}
 use Rattle.fk_flat.specs.Shape.{IsShaped}
 use Rattle.fk_text.specs.Built.{is_built}

@@ -1,7 +1,6 @@
 -- Where all private words of a function count as written, it is scoped as soon as its names mean words that are there.
-use Rattle.std.proofs.Common.{◌≡◌, ℕ, ◌<◌, ◌≤◌, Bool, true, false, List, [], ◌∷◌, ◌++◌, Option, Some, None}
+use Rattle.std.proofs.Common.{◌≡◌, ℕ, ◌<◌, Bool, true, false, List, [], ◌∷◌, ◌++◌}
 use Rattle.std.specs.Prelude.{◌==◌}
-use Rattle.fk_syntax.specs.Tree.{Tree}
 use Rattle.fk_syntax.specs.Program as p
 use Rattle.fk_syntax.specs.Program.{DeclaredTree, Statement, Statements}
 use Rattle.fk_names.specs.Outline.{MarkTree, Opens, Closes, Declares, Uses, tree_marks, optional_marks, variable_marks, variables_marks, scope, statement_marks, statements_marks}

@@ -1,5 +1,5 @@
 -- A member of a struct at a constant address has its words there; and members have types that may be declared.
-use Rattle.std.proofs.Common.{◌≡◌, ℕ, zero, suc, ◌+◌, ◌*◌, ◌%◌, ◌^◌, ◌<◌, ◌≤◌, Bool, true, false, List, [], ◌∷◌, length, map, Option, Some, None, slice_get, refl, sym, ap, subst, ◌∙◌, arith}
+use Rattle.std.proofs.Common.{◌≡◌, ℕ, zero, suc, ◌+◌, ◌*◌, ◌%◌, ◌^◌, ◌≤◌, false, List, Option, Some, None, slice_get, refl, sym, ap, subst, ◌∙◌, arith}
 use Rattle.std.specs.Prelude.{is_some, if◌then◌else◌}
 use Rattle.std.specs.Option.{option_map, option_and_then}
 use Rattle.std.proofs.lemmas.List.{length-map}
@@ -18,20 +18,17 @@ use Rattle.fk_structs.specs.Words.{capped}
 use Rattle.fk_structs.specs.Sizes.{HasTypeWords}
 use Rattle.fk_struct_rules.specs.Declarations.{DeclarationBreaks}
 use Rattle.fk_struct_rules.specs.Structs.{whole}
-use Rattle.fk_names.specs.Outline.{Variable, declarations}
 use Rattle.fk_references.specs.References.{Member}
 use Rattle.fk_signs.specs.declared.values.ExpressionType.{ExpressionType}
 use Rattle.fk_signs.specs.declared.values.ExpressionType.TheVariants.{Stored}
 use Rattle.fk_type_rules.specs.Bound as b
 use Rattle.fk_bindings.proofs.Below.{references_below}
-use Rattle.fk_typing.specs.Term as e
 use Rattle.fk_typing.specs.Term.{Term}
 use Rattle.fk_typing.specs.Names.{HasDeclaredType}
 use Rattle.fk_typing.specs.Typing.{type_of, struct_of, struct_of_root, member_type}
 use Rattle.fk_forms.specs.Tables.{note}
 use Rattle.fk_fitting.proofs.Typed.{Unbroken}
 use Rattle.fk_fitting.proofs.Notes.{binding_is}
-use Rattle.fk_typed_forms.specs.Ways.{behind_member}
 use Rattle.fk_typed_forms.specs.Typed.{MemberIs}
 use Rattle.fk_certain.proofs.Sizes.{IsSound, first_within, has_sound, member_lies}
 use Rattle.fk_certain.proofs.Tokens.{IsSoundType}

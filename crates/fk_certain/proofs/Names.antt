@@ -1,5 +1,5 @@
 -- Each name in a function means a word of that function or of file scope.
-use Rattle.std.proofs.Common.{◌≡◌, ◌⊎◌, inl, inr, ℕ, zero, suc, ◌+◌, ◌-◌, ◌<◌, ◌≤◌, Bool, true, false, cond, List, [], ◌∷◌, ◌++◌, length, take, Option, Some, None, slice_get, refl, sym, ap, subst, ◌∙◌, append-nil, append_assoc, length-append, arith}
+use Rattle.std.proofs.Common.{◌≡◌, ◌⊎◌, inl, inr, ℕ, suc, ◌+◌, ◌-◌, ◌<◌, ◌≤◌, List, [], ◌∷◌, ◌++◌, length, take, Option, Some, None, slice_get, refl, sym, ap, subst, ◌∙◌, append-nil, append_assoc, length-append, arith}
 use Rattle.std.specs.Prelude.{count_by, ◌==◌, ◌*◌, IsSome, if◌then◌else◌}
 use Rattle.std.proofs.Math.Seq.{take-append-add}
 use Rattle.std.proofs.lemmas.Bool.{false≢true, eqb-true, eq-eqb, cases_lt, false_from_ne_true}
@@ -12,7 +12,7 @@ use Rattle.fk_names.specs.declared.names.Meaning.{Meaning}
 use Rattle.fk_names.specs.declared.names.Meaning.TheVariants as m
 use Rattle.fk_names.specs.Outline.{DeclarationTree, MarkTree, Variable, Header, Opens, Closes, Declares, Uses, declared_in, declarations, outline, variables_marks, body_marks, function_marks, item_marks, items_marks}
 use Rattle.fk_names.specs.Visible.{is_opening, is_closing, depth, IsInnermost}
-use Rattle.fk_names.specs.Means.{MeansAt, StandsFor, binding, DefinesHere}
+use Rattle.fk_names.specs.Means.{MeansAt, binding, DefinesHere}
 use Rattle.fk_name_rules.proofs.ListLemmas.{at_some}
 use Rattle.fk_type_rules.specs.Bound.{declares}
 use Rattle.fk_bindings.proofs.Below.{declared_below}
@@ -25,8 +25,7 @@ use Rattle.fk_forms.specs.Tables.{Tables, nth, no_slot, no_binding, note, slot}
 use Rattle.fk_forms.specs.Program.{functions_of, with_body, is_main}
 use Rattle.fk_slots.specs.Told.{Told}
 use Rattle.fk_slots.specs.Places.{none_taken}
-use Rattle.fk_slots.specs.Slots.{item_slots, items_slots, behind_item, body_slots, own_of}
-use Rattle.fk_globals.specs.Variables.{variables_of}
+use Rattle.fk_slots.specs.Slots.{item_slots, items_slots, behind_item}
 use Rattle.fk_layout.specs.Frames.{file_privates, values_of, nesting_of, private_words}
 use Rattle.fk_layout.specs.Layout.{told_by}
 use Rattle.fk_layout.specs.Refusal.{Fits}

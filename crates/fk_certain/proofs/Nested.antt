@@ -10,7 +10,7 @@ use Rattle.fk_syntax.specs.Tree.{Tree, Links, Trees, Suffixes}
 use Rattle.fk_syntax.specs.Program as p
 use Rattle.fk_syntax.specs.Program.{DeclaredTree, Statement, Statements, FunctionTree}
 use Rattle.fk_names.specs.Outline.{MarkTree, Header, Opens, Closes, Declares, Uses, tree_marks, links_marks, trees_marks, suffixes_marks, optional_marks, variable_marks, variables_marks, scope, statement_marks, statements_marks, body_marks, function_marks}
-use Rattle.fk_names.specs.Visible.{is_opening, is_closing, depth}
+use Rattle.fk_names.specs.Visible.{is_opening, is_closing}
 use Rattle.fk_fitting.proofs.Shut.{opened, closed}
 
 count_one : (test : MarkTree → Bool) (mark : MarkTree) (marks : List MarkTree) → count_by test (mark ∷ marks) ≡ cond (test mark) 1 0 + count_by test marks

@@ -7,7 +7,7 @@ use Rattle.std.proofs.lemmas.List.{take-append-le}
 use Rattle.std.proofs.lemmas.List.Sums.{sum_by-append}
 use Rattle.std.proofs.lemmas.Option.{slice_get_within}
 use Rattle.fk_syntax.specs.Program.{DeclaredTree, Statements, FunctionTree, ItemTree, StructItem, VariablesItem, FunctionItem}
-use Rattle.fk_names.specs.Outline.{DeclarationTree, MarkTree, Variable, Header, Opens, Closes, Declares, Uses, declared_in, variables_marks, body_marks, function_marks, item_marks, items_marks}
+use Rattle.fk_names.specs.Outline.{DeclarationTree, MarkTree, Variable, Opens, Closes, Declares, Uses, declared_in, variables_marks, body_marks, function_marks, item_marks, items_marks}
 use Rattle.fk_names.specs.Visible.{is_opening, is_closing}
 use Rattle.fk_names.specs.Means.{binding}
 use Rattle.fk_pieces.specs.Pieces.{item_pieces}
@@ -20,7 +20,7 @@ use Rattle.fk_forms.specs.Tables.{nth, no_slot}
 use Rattle.fk_globals.specs.Variables.{kept, variables_of}
 use Rattle.fk_slots.specs.Told.{Told}
 use Rattle.fk_slots.specs.Places.{file_slot, file_slots, behind_words, behind_private, behind_variable, behind_variables}
-use Rattle.fk_slots.specs.Slots.{item_slots, items_slots, behind_item, behind_body}
+use Rattle.fk_slots.specs.Slots.{item_slots, items_slots, behind_body}
 use Rattle.fk_fitting.proofs.Each.{Each}
 use Rattle.fk_fitting.proofs.Declared.{Declared, item_length}
 use Rattle.fk_fitting.proofs.Homes.{back_get}

@@ -1,7 +1,6 @@
 -- Where shared variables of file scope lie: within the words that a layout has for them. And each declaration with its slot.
 use Rattle.std.proofs.Common.{◌≡◌, ℕ, zero, suc, ◌+◌, ◌≤◌, Bool, true, false, List, [], ◌∷◌, ◌++◌, length, Option, Some, None, slice_get, refl, sym, ap, subst, ◌∙◌, arith}
-use Rattle.std.specs.Prelude.{IsSome, min, flat_map, if◌then◌else◌}
-use Rattle.std.proofs.lemmas.Bool.{false≢true}
+use Rattle.std.specs.Prelude.{min, if◌then◌else◌}
 use Rattle.std.proofs.lemmas.List.Concat.{flat_map-append}
 use Rattle.fk_syntax.specs.declared.facts.Facts.{Facts}
 use Rattle.fk_syntax.specs.Program as p
@@ -11,10 +10,9 @@ use Rattle.fk_names.specs.Outline.{DeclarationTree, Variable, Header, declaratio
 use Rattle.fk_pieces.specs.Pieces as q
 use Rattle.fk_pieces.specs.Pieces.{PieceTree, pieces, file_pieces, item_pieces, items_pieces}
 use Rattle.fk_token_laws.proofs.Pieces.{declared_by_piece, of_items}
-use Rattle.fk_forms.specs.declared.tables.Home.{Home}
 use Rattle.fk_forms.specs.declared.tables.Home.TheVariants.{Global, FilePrivate, Private, Group}
 use Rattle.fk_forms.specs.declared.tables.Slot.{Slot}
-use Rattle.fk_forms.specs.Tables.{Tables, nth, no_slot, slot, kind_at}
+use Rattle.fk_forms.specs.Tables.{Tables, no_slot, slot, kind_at}
 use Rattle.fk_slots.specs.Told.{Told, splits_at, words_at}
 use Rattle.fk_slots.specs.Frames.{last_word}
 use Rattle.fk_slots.specs.Places as l

@@ -1,13 +1,13 @@
 -- The functions of a program that keeps all rules are as they are asked; and its `main` has its place.
-use Rattle.std.proofs.Common.{◌≡◌, ◌⊎◌, inl, inr, ℕ, zero, suc, ◌+◌, Bool, true, false, not, List, [], ◌∷◌, ◌++◌, length, codes, Option, Some, None, slice_get, refl, sym, ap, subst, ◌∙◌}
+use Rattle.std.proofs.Common.{◌≡◌, ◌⊎◌, inl, inr, ℕ, suc, ◌+◌, Bool, true, false, not, List, [], ◌∷◌, ◌++◌, length, codes, Option, Some, None, slice_get, refl, sym, ap, subst, ◌∙◌}
 use Rattle.std.specs.Prelude.{◌==◌, IsSome, if◌then◌else◌}
 use Rattle.std.proofs.lemmas.Bool.{false≢true, eqb-true, eq-eqb, false_from_ne_true}
 use Rattle.std.proofs.lemmas.Slice.Eq.{bytes_eq-Decides}
 use Rattle.fk_class.specs.declared.thing.Thing.{Thing}
 use Rattle.fk_syntax.specs.declared.facts.Facts.{Facts}
 use Rattle.fk_syntax.specs.Program.{DeclaredTree, Statements, FunctionTree, ItemTree, ProgramTree, StructItem, VariablesItem, FunctionItem}
-use Rattle.fk_names.specs.Outline.{DeclarationTree, MarkTree, Variable, Header, declarations, outline, variables_marks, body_marks, item_marks, items_marks}
-use Rattle.fk_pieces.specs.Pieces.{PieceTree, pieces, parameters_pieces, body_pieces, item_pieces, items_pieces}
+use Rattle.fk_names.specs.Outline.{MarkTree, Variable, Header, declarations, outline, variables_marks, body_marks, item_marks, items_marks}
+use Rattle.fk_pieces.specs.Pieces.{PieceTree, parameters_pieces, body_pieces, item_pieces, items_pieces}
 use Rattle.fk_sharing.specs.declared.around.Holder.{Holder}
 use Rattle.fk_sharing.specs.Tokens as s
 use Rattle.fk_slots.specs.Places.{none_taken}
@@ -16,14 +16,12 @@ use Rattle.fk_layout.specs.Layout.{told_by, tables_by}
 use Rattle.fk_layout.specs.Refusal.{Fits}
 use Rattle.fk_forms.specs.Statements.{is_nothing}
 use Rattle.fk_forms.specs.Program.{functions_of, with_body, binding_of, is_main, main_in, main_of}
-use Rattle.fk_kept.specs.declared.places.Place.{Place}
 use Rattle.fk_kept.specs.declared.places.Place.TheVariants.{Main, Called}
 use Rattle.fk_parsed.specs.Trim.{BodyIsTrim, ItemsAreTrim}
 use Rattle.fk_shapes.specs.Fitting as fit
 use Rattle.fk_shapes.specs.Fitting.{is_defined, FunctionsFit}
 use Rattle.fk_fitting.specs.Correct.{IsCorrect}
 use Rattle.fk_fitting.proofs.Each.{Each, each, front_of, rest_of}
-use Rattle.fk_fitting.proofs.Notes.{tables}
 use Rattle.fk_fitting.proofs.Declared.{same_function, function_number}
 use Rattle.fk_fitting.proofs.Things.{thing_tells}
 use Rattle.fk_fitting.proofs.Main.{there_is_main}
@@ -31,11 +29,10 @@ use Rattle.fk_fitting.proofs.Programs.{correct_programs_fit}
 use Rattle.fk_typed_forms.specs.Asked.{BodyAsked, FunctionsAsked, place_by}
 use Rattle.fk_typed_forms.specs.Laws.{HasMain, IsMainAlone}
 use Rattle.fk_typed_forms.proofs.Mains.{main_has_its_place}
-use Rattle.fk_certain.specs.Proper.{ItemsAreProper}
 use Rattle.fk_certain.specs.AskedLaws.{CorrectProgramsAreAsked, MainsHaveTheirPlace}
 use Rattle.fk_certain.proofs.Places.{AreFrom, from_first, from_next, item_homed, Homes, by_pieces}
 use Rattle.fk_certain.proofs.Scalars.{Kept as KeptBy, IsScalar, is_scalar}
-use Rattle.fk_certain.proofs.Valid.{IsGiven, E, T, F, P, things, Stands, IsPiece, are_pieces}
+use Rattle.fk_certain.proofs.Valid.{IsGiven, T, F, P, things, Stands, IsPiece, are_pieces}
 use Rattle.fk_certain.proofs.Statements as st
 use Rattle.fk_certain.proofs.Statements.{IsPlaceOf, statements}
 

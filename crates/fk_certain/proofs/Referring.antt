@@ -5,7 +5,7 @@ use Rattle.fk_syntax.specs.Tree.{TypeTree, Tree, Links, Trees, Suffixes}
 use Rattle.fk_syntax.specs.Program as p
 use Rattle.fk_syntax.specs.Program.{DeclaredTree, Statement, Statements, FunctionTree, ItemTree, ProgramTree}
 use Rattle.std.specs.Prelude.{Contains}
-use Rattle.fk_names.specs.Outline.{MarkTree, Header, Variable, Opens, Closes, Declares, Uses, tree_marks, links_marks, trees_marks, suffixes_marks, optional_marks, variable_marks, variables_marks, scope, statement_marks, statements_marks, body_marks, item_marks, items_marks, outline}
+use Rattle.fk_names.specs.Outline.{MarkTree, Closes, Uses, tree_marks, links_marks, trees_marks, suffixes_marks, optional_marks, variable_marks, variables_marks, scope, statement_marks, statements_marks, body_marks, item_marks, items_marks, outline}
 use Rattle.fk_references.specs.References.{ReferenceTree, Name, main_token, tree_references, links_references, trees_references, suffixes_references, optional_references}
 use Rattle.fk_pieces.specs.declared.piece.Role.{Role}
 use Rattle.fk_pieces.specs.declared.piece.Role.TheVariants as role

@@ -1,13 +1,12 @@
 -- Programs that keep all rules and have a layout have room in frames, behind each of their calls too.
-use Rattle.std.proofs.Common.{◌≡◌, ℕ, zero, suc, ◌+◌, ◌≤◌, List, [], ◌∷◌, None, arith}
+use Rattle.std.proofs.Common.{ℕ, zero, suc, ◌+◌, ◌≤◌, None, arith}
 use Rattle.fk_forms.specs.Code.{Code}
-use Rattle.fk_forms.specs.Tables.{Tables}
 use Rattle.fk_forms.specs.Program.{bodies_of}
 use Rattle.fk_layout.specs.Frames.{file_privates}
 use Rattle.fk_layout.specs.Layout.{tables_by}
 use Rattle.fk_kept.specs.declared.places.Place.{Place}
 use Rattle.fk_kept.specs.declared.places.Place.TheVariants.{Main, Called}
-use Rattle.fk_typed_code.specs.Values.{State, bare}
+use Rattle.fk_typed_code.specs.Values.{bare}
 use Rattle.fk_typed_code.specs.Typed.{IsTyped}
 use Rattle.fk_typed_code.specs.Words.{IsLow, ahead_in}
 use Rattle.fk_typed_forms.specs.Asked.{place_of}

@@ -1,9 +1,8 @@
 -- The code of expressions has room for a result behind each of its calls before code that has.
-use Rattle.std.proofs.Common.{◌≡◌, ℕ, zero, suc, ◌+◌, ◌-◌, ◌<◌, ◌≤◌, Bool, true, false, List, [], ◌∷◌, length, refl, sym, subst, ap, ◌∙◌, arith}
+use Rattle.std.proofs.Common.{◌≡◌, ℕ, suc, ◌+◌, ◌-◌, Bool, true, false, List, [], ◌∷◌, length, refl, sym, subst, ap, ◌∙◌, arith}
 use Rattle.std.specs.Prelude.{◌==◌, ◌*◌, ◌||◌, not, codes, if◌then◌else◌}
 use Rattle.std.proofs.lemmas.Bool.{false≢true}
 use Rattle.fk_num.specs.declared.operator.Op.TheVariants as f
-use Rattle.fk_syntax.specs.declared.place.Place as y
 use Rattle.fk_syntax.specs.declared.place.Spot.{Spot}
 use Rattle.fk_syntax.specs.declared.sign.Sign.{Sign}
 use Rattle.fk_syntax.specs.declared.sign.Sign.TheVariants as g
@@ -18,17 +17,15 @@ use Rattle.fk_operation.specs.declared.operation.Multiprefix.{Multiprefix}
 use Rattle.fk_operation.specs.declared.operation.Multiprefix.TheVariants.{MpAdd, MpMax, MpAnd, MpOr}
 use Rattle.fk_operation.specs.declared.operation.Split.{Split}
 use Rattle.fk_operation.specs.declared.operation.Split.TheVariants.{IfElse, AndThen, OrElse}
-use Rattle.fk_depths.specs.Local.{results}
 use Rattle.fk_forms.specs.declared.tables.Home.{Home}
 use Rattle.fk_forms.specs.declared.tables.Home.TheVariants as homes
-use Rattle.fk_forms.specs.declared.tables.Region.{Region}
 use Rattle.fk_forms.specs.declared.signs.Move.{Move}
 use Rattle.fk_forms.specs.declared.signs.Move.TheVariants.{Forth, Back, NoMove}
-use Rattle.fk_forms.specs.Code.{done, perform, choose, call}
-use Rattle.fk_forms.specs.Tables.{Tables, no_binding, note, kind_at, is_array, is_void, is_unsigned, slot, region, frame_at}
+use Rattle.fk_forms.specs.Code.{done, perform, choose}
+use Rattle.fk_forms.specs.Tables.{Tables, no_binding, note, kind_at, is_array, is_void, is_unsigned, slot}
 use Rattle.fk_forms.specs.Signs.{operator_of, is_shift, move_of}
 use Rattle.fk_forms.specs.Texts.{text_of}
-use Rattle.fk_forms.specs.Expressions.{Coded, nowhere, plain, Standing, OnList, AtAddress, InWord, ToCall, Stands, token, spot_of, is_name, Signature, put_bytes, moved, agreed, checked, valued, addressed, fetched, assigned, value_of, dropped, predeclared, placed, variable, operate, updated, one, prefixed, truth, logical, chosen, joined, assignment, member, is_deep, indexed, dotted, pointed, step_back, raised, arguments, framed, parameters, called, multiprefix, with_one, called_predeclared, calling, stands, linked, suffixed, all_stand}
+use Rattle.fk_forms.specs.Expressions.{Coded, nowhere, plain, Standing, OnList, AtAddress, InWord, ToCall, Stands, token, spot_of, is_name, Signature, put_bytes, moved, agreed, checked, valued, addressed, fetched, assigned, value_of, dropped, predeclared, placed, variable, operate, updated, one, prefixed, truth, logical, chosen, joined, assignment, member, is_deep, indexed, dotted, pointed, step_back, raised, arguments, called, multiprefix, with_one, called_predeclared, calling, stands, linked, suffixed, all_stand}
 use Rattle.fk_nesting.specs.Calls.{takes_two, TakesEnough}
 use Rattle.fk_kept.specs.declared.places.Place.{Place}
 use Rattle.fk_kept.specs.declared.places.Place.TheVariants.{Main, Called}

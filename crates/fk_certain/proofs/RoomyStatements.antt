@@ -1,6 +1,6 @@
 -- The code of statements and functions has room for a result behind each of its calls, where it has few values.
-use Rattle.std.proofs.Common.{◌≡◌, ℕ, zero, suc, ◌+◌, ◌<◌, ◌≤◌, Bool, true, false, List, [], ◌∷◌, Option, Some, None, refl, arith}
-use Rattle.std.specs.Prelude.{◌==◌, not, is_some, if◌then◌else◌}
+use Rattle.std.proofs.Common.{ℕ, suc, ◌+◌, ◌<◌, Bool, true, false, List, [], ◌∷◌, Option, Some, None, arith}
+use Rattle.std.specs.Prelude.{◌==◌, is_some, if◌then◌else◌}
 use Rattle.std.proofs.lemmas.Bool.{false≢true}
 use Rattle.fk_syntax.specs.declared.place.Spot.{Spot}
 use Rattle.fk_syntax.specs.declared.program.Mode.{Mode}
@@ -16,7 +16,7 @@ use Rattle.fk_forms.specs.Code.{done, choose, quit, ends, size, numbered}
 use Rattle.fk_forms.specs.Tables.{Tables, note, is_void, frame_at}
 use Rattle.fk_forms.specs.Expressions.{Coded, nowhere, plain, agreed, token, Signature, addressed, assigned, dropped, variable, framed, stands, value}
 use Rattle.fk_forms.specs.Statements.{Inside, is_nothing, is_scalar, used, used_or, value_or, declared, all_declared, part_frame, leaving, tested, looping, left_by, executed, all_executed, end_of, body_of}
-use Rattle.fk_forms.specs.Program.{functions_of, binding_of, signature_in, is_main, code_of, body_in, bodies_of}
+use Rattle.fk_forms.specs.Program.{functions_of, binding_of, signature_in, is_main, code_of, body_in}
 use Rattle.fk_kept.specs.declared.places.Place.{Place}
 use Rattle.fk_kept.specs.declared.places.Place.TheVariants.{Main, Called}
 use Rattle.fk_typed_code.specs.Words.{IsLow}

@@ -1,7 +1,7 @@
 -- Private variables are neither arrays nor structs.
-use Rattle.std.proofs.Common.{◌≡◌, ◌⊎◌, inl, inr, ℕ, zero, suc, Bool, true, false, ◌&&◌, flat_map, List, [], ◌∷◌, ◌++◌, Option, Some, None, slice_get, refl, sym, ap, subst, ◌∙◌}
-use Rattle.std.specs.Prelude.{◌==◌, is_some}
-use Rattle.std.proofs.lemmas.Bool.{false≢true, false_from_ne_true, and_parts, eqb-true}
+use Rattle.std.proofs.Common.{◌≡◌, inr, ℕ, Bool, true, false, ◌&&◌, flat_map, List, [], ◌∷◌, ◌++◌, Option, Some, None, slice_get, refl, subst}
+use Rattle.std.specs.Prelude.{◌==◌}
+use Rattle.std.proofs.lemmas.Bool.{false_from_ne_true, eqb-true}
 use Rattle.fk_syntax.specs.declared.facts.Facts.{Facts}
 use Rattle.fk_syntax.specs.Tree as t
 use Rattle.fk_syntax.specs.Tree.{BaseType, TypeTree, Tree}
@@ -17,10 +17,7 @@ use Rattle.fk_pieces.specs.Pieces.{PieceTree, pieces, optional_pieces, variables
 use Rattle.fk_type_rules.specs.Pieces.{PieceBreaks}
 use Rattle.fk_token_laws.proofs.Pieces.{declared_by_piece, of_items}
 use Rattle.fk_class.specs.declared.thing.Thing.{Thing}
-use Rattle.fk_regions.specs.Tokens.{spot_of}
 use Rattle.fk_sharing.specs.declared.around.Holder.{Holder}
-use Rattle.fk_sharing.specs.declared.token.Form.{Form}
-use Rattle.fk_sharing.specs.declared.token.Form.TheVariants as f
 use Rattle.fk_sharing.specs.declared.token.Word.TheVariants as w
 use Rattle.fk_sharing.specs.Tokens as s
 use Rattle.fk_sharing.specs.Tokens.{form_by, form_of, is_struct, is_struct_base}

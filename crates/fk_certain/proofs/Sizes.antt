@@ -13,8 +13,8 @@ use Rattle.fk_name_rules.proofs.ListLemmas.{some_at}
 use Rattle.fk_structs.specs.declared.types.Root.{Root}
 use Rattle.fk_structs.specs.declared.types.Root.TheVariants as r
 use Rattle.fk_structs.specs.declared.types.DataType.{DataType}
-use Rattle.fk_structs.specs.Types.{StructTree, first_of, struct_named, root_of, type_spelled, type_declared, names_of, member_types, member_type, all_types}
-use Rattle.fk_structs.specs.Words.{Sizes, element_words, type_words, plus, total_words, words_within, capped}
+use Rattle.fk_structs.specs.Types.{StructTree, first_of, struct_named, root_of, type_declared, names_of, member_types, member_type, all_types}
+use Rattle.fk_structs.specs.Words.{Sizes, element_words, type_words, plus, total_words, words_within}
 use Rattle.fk_structs.specs.Sizes.{HasTypeWords, HasOffset}
 use Rattle.fk_structs.proofs.WordLemmas.{one-type}
 use Rattle.fk_struct_rules.specs.Declarations.{DeclarationBreaks}

@@ -1,19 +1,18 @@
 -- The private words of a function lie one behind the other: each below the number of them all.
-use Rattle.std.proofs.Common.{◌≡◌, ℕ, suc, ◌+◌, ◌-◌, ◌<◌, ◌≤◌, Bool, true, false, List, [], ◌∷◌, ◌++◌, length, Option, Some, None, refl, sym, ap, subst, ◌∙◌, arith}
-use Rattle.std.specs.Prelude.{◌==◌, min, ◌^◌, if◌then◌else◌}
+use Rattle.std.proofs.Common.{◌≡◌, ℕ, ◌+◌, ◌<◌, ◌≤◌, Bool, true, false, List, [], ◌∷◌, ◌++◌, length, Some, refl, sym, subst, arith}
+use Rattle.std.specs.Prelude.{min, if◌then◌else◌}
 use Rattle.fk_syntax.specs.Program as p
 use Rattle.fk_syntax.specs.Program.{DeclaredTree, Statement, Statements}
 use Rattle.fk_forms.specs.declared.tables.Home.{Home}
 use Rattle.fk_forms.specs.declared.tables.Home.TheVariants as h
 use Rattle.fk_forms.specs.declared.tables.Slot.{Slot}
 use Rattle.fk_slots.specs.Told.{Told, splits_at}
-use Rattle.fk_slots.specs.Words.{statement_words}
-use Rattle.fk_slots.specs.Places.{none_taken, behind_frame, within, outside, behind_private, slot_in, behind_words, behind_variable, behind_variables, behind_parameter, behind_parameters, variables_slots, parameters_slots}
+use Rattle.fk_slots.specs.Places.{none_taken, within, outside, behind_private, slot_in, behind_words, behind_variable, behind_variables, behind_parameter, behind_parameters, variables_slots, parameters_slots}
 use Rattle.fk_slots.specs.Slots.{behind_body_frame, begun, begun_two, behind, behind_all, slots_in, all_slots_in, opening, at_end, body_slots}
 use Rattle.fk_slots.proofs.Alike.{same_privates}
 use Rattle.fk_fitting.proofs.Each.{Each, each_map}
 use Rattle.fk_certain.proofs.Regions.{join}
-use Rattle.fk_certain.proofs.Taken.{same_within, same_outside, same_frame, same_body_frame, same_two}
+use Rattle.fk_certain.proofs.Taken.{same_within, same_outside, same_body_frame, same_two}
 
 -- a word of a function is below this number. No variable of a function lies in the file's words
 abbrev pub IsBelow : (count : ℕ) → Home → (index : ℕ) → Type 0

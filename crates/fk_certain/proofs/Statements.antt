@@ -1,8 +1,7 @@
 -- The statements of a program that keeps all rules are as they are asked.
-use Rattle.std.proofs.Common.{◌≡◌, inl, inr, ℕ, zero, suc, ◌<◌, Bool, true, false, not, ◌&&◌, List, [], ◌∷◌, ◌++◌, Option, Some, None, slice_get, refl, sym, ap, subst, ◌∙◌, arith}
-use Rattle.std.specs.Prelude.{◌==◌, is_some, is_none}
+use Rattle.std.proofs.Common.{◌≡◌, inl, inr, ℕ, Bool, true, false, not, List, [], ◌∷◌, ◌++◌, Option, Some, None, slice_get, refl, sym, ap, subst, ◌∙◌}
+use Rattle.std.specs.Prelude.{is_some, is_none}
 use Rattle.std.proofs.lemmas.Bool.{false≢true, eq-eqb, eqb-true, false_from_ne_true, true_from_ne_false}
-use Rattle.std.proofs.lemmas.Option.{same_Some}
 use Rattle.fk_typing.specs.Names.{Env}
 use Rattle.fk_forms.specs.Tables.{Tables}
 use Rattle.fk_forms.specs.Expressions.{Signature}
@@ -22,17 +21,15 @@ use Rattle.fk_names.specs.Outline.{DeclarationTree, MarkTree, Variable, Declares
 use Rattle.fk_names.specs.Means.{binding}
 use Rattle.fk_bindings.proofs.BodyLemmas.{declared_here}
 use Rattle.fk_signs.specs.declared.values.ExpressionType.{ExpressionType}
-use Rattle.fk_signs.specs.declared.values.ExpressionType.TheVariants.{Stored}
 use Rattle.fk_signs.specs.Values.{value_of}
-use Rattle.fk_typing.specs.Term.{Term, term_of, first_place}
+use Rattle.fk_typing.specs.Term.{term_of, first_place}
 use Rattle.fk_typing.specs.Typing.{Noted, noted, type_of, value_in, left_of}
 use Rattle.fk_typing.specs.Broken.{Broken, where_so, is_such, is_no_value, is_struct}
-use Rattle.fk_pieces.specs.declared.piece.Role.{Role}
 use Rattle.fk_pieces.specs.declared.piece.Role.TheVariants as role
 use Rattle.fk_pieces.specs.Pieces as q
 use Rattle.fk_pieces.specs.Pieces.{PieceTree, optional_pieces, variables_pieces, statement_pieces, statements_pieces}
 use Rattle.fk_references.specs.References.{tree_references, optional_references}
-use Rattle.fk_type_rules.specs.Pieces.{PieceBreaks, ReturnBreaks, if_there, InitialBreaks}
+use Rattle.fk_type_rules.specs.Pieces.{if_there, InitialBreaks}
 use Rattle.fk_type_rules.specs.Bound as b
 use Rattle.fk_type_rules.specs.Noted.{optional_noted}
 use Rattle.fk_regions.specs.Tokens as r
@@ -40,14 +37,13 @@ use Rattle.fk_sharing.specs.declared.around.Holder.{Holder}
 use Rattle.fk_sharing.specs.Tokens as s
 use Rattle.fk_forms.specs.declared.tables.Home.{Home}
 use Rattle.fk_forms.specs.declared.tables.Home.TheVariants as h
-use Rattle.fk_forms.specs.Tables.{no_binding, note, slot, is_void}
+use Rattle.fk_forms.specs.Tables.{slot, is_void}
 use Rattle.fk_forms.specs.Expressions.{token}
 use Rattle.fk_forms.specs.Statements.{is_nothing, is_scalar}
 use Rattle.fk_forms.specs.Program.{functions_of}
 use Rattle.fk_kept.specs.declared.places.Place.{Place}
 use Rattle.fk_kept.specs.declared.places.Place.TheVariants.{Main, Called}
 use Rattle.fk_layout.specs.Refusal.{Fits}
-use Rattle.fk_layout.specs.Layout.{told_by}
 use Rattle.fk_lockstep.specs.Told.{Told}
 use Rattle.fk_parsed.specs.Trim.{IsTrim, OptionIsTrim, VariablesAreTrim, StatementIsTrim, StatementsAreTrim}
 use Rattle.fk_shapes.specs.Fitting.{is_defined, StatementFits, StatementsFit}
@@ -56,17 +52,17 @@ use Rattle.fk_fitting.proofs.Each.{Each, front_of, rest_of}
 use Rattle.fk_fitting.proofs.Typed.{Unbroken, so_not, value_there, There, Not}
 use Rattle.fk_fitting.proofs.Notes.{among, binding_is}
 use Rattle.fk_fitting.proofs.Named.{known as named, declared_low}
-use Rattle.fk_fitting.proofs.Declared.{IsHomeFor, MayHaveHome}
+use Rattle.fk_fitting.proofs.Declared.{IsHomeFor}
 use Rattle.fk_fitting.proofs.Bodies.{one_number, Takes, takes_of}
 use Rattle.fk_fitting.proofs.Expressions.{told}
 use Rattle.fk_fitting.proofs.Read.{Any, IsNamed, read}
-use Rattle.fk_typed_forms.specs.Ways.{Way, gives, placed_way, named_way, way}
+use Rattle.fk_typed_forms.specs.Ways.{placed_way, way}
 use Rattle.fk_typed_forms.specs.Asked.{IsTarget, NameAsks, Asked, ValueAsked, OptionValueAsked, UsedAsked, OptionUsedAsked, ScalarAsked, VariablesAsked, ReturnAsked, StatementAsked, StatementsAsked}
 use Rattle.fk_typed_forms.specs.Typed.{IsNothing, StandsAs}
 use Rattle.fk_typed_forms.proofs.Typing.{tree_is, gives_value, gives_by}
 use Rattle.fk_certain.proofs.Sizes.{has_sound}
-use Rattle.fk_certain.proofs.Tokens.{IsSoundType, void_is}
-use Rattle.fk_certain.proofs.Places.{IsHomed, Homes}
+use Rattle.fk_certain.proofs.Tokens.{void_is}
+use Rattle.fk_certain.proofs.Places.{Homes}
 use Rattle.fk_certain.proofs.Scalars.{IsScalar}
 use Rattle.fk_certain.proofs.Valid.{IsGiven, E, T, F, P, things, words_of, Stands, Referred, Noting, IsUsed, IsPiece}
 use Rattle.fk_certain.proofs.AskedNames as n

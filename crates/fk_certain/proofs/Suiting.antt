@@ -1,6 +1,6 @@
 -- Flat lists of well typed code with room in frames suit frames that hold their live words.
-use Rattle.std.proofs.Common.{◌≡◌, ℕ, suc, ◌+◌, ◌-◌, ◌<◌, ◌≤◌, Bool, true, false, true≢false, List, [], length, slice_get, Option, Some, None, inl, inr, refl, sym, ap, ◌∙◌, subst, arith}
-use Rattle.std.specs.Prelude.{◌==◌, ◌||◌, ◌&&◌, not, nat_lt, ◌⊎◌, if◌then◌else◌}
+use Rattle.std.proofs.Common.{◌≡◌, ℕ, suc, ◌+◌, ◌-◌, ◌<◌, ◌≤◌, Bool, true, false, List, [], length, slice_get, Option, Some, None, inl, inr, refl, sym, ap, ◌∙◌, subst, arith}
+use Rattle.std.specs.Prelude.{◌&&◌, not, nat_lt, ◌⊎◌, if◌then◌else◌}
 use Rattle.std.proofs.lemmas.Bool.{ltb-true, lt-ltb, eqb-true, and_parts}
 use Rattle.fk_operation.specs.declared.operation.Operation.{Operation}
 use Rattle.fk_operation.specs.declared.operation.Operation.TheVariants as o
@@ -14,7 +14,7 @@ use Rattle.fk_core.specs.Next.{is_jump, behind_jump, follows}
 use Rattle.fk_kept.specs.declared.places.Place.{Place}
 use Rattle.fk_kept.specs.declared.places.Place.TheVariants.{Main, Called}
 use Rattle.fk_kept.specs.Frames.{is_main_place}
-use Rattle.fk_kept.specs.Live.{reads, needed, kept_behind, asked_by, asked_of, asked, IsLive, IsLeast}
+use Rattle.fk_kept.specs.Live.{reads, kept_behind, asked_by, asked_of, IsLive, IsLeast}
 use Rattle.fk_kept.proofs.Asked.{split_or}
 use Rattle.fk_flat.specs.Items.{way_of}
 use Rattle.fk_flat.specs.Items as w

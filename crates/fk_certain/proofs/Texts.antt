@@ -1,5 +1,5 @@
 -- The operations of texts have numbers.
-use Rattle.std.proofs.Common.{◌≡◌, inl, inr, ℕ, suc, ◌+◌, ◌*◌, ◌≤◌, Bool, true, false, List, [], ◌∷◌, refl, sym, subst, arith}
+use Rattle.std.proofs.Common.{inl, inr, ℕ, suc, ◌+◌, ◌*◌, ◌≤◌, Bool, true, false, List, [], ◌∷◌, refl, sym, subst, arith}
 use Rattle.std.specs.Prelude.{◌==◌, if◌then◌else◌}
 use Rattle.std.proofs.lemmas.Bool.{cases_lt}
 use Rattle.std.proofs.lemmas.List.{length-map}
@@ -14,7 +14,7 @@ use Rattle.fk_slots.specs.Slots.{own_of}
 use Rattle.fk_layout.specs.Frames.{told_in, file_privates, values_of, nesting_of, private_words}
 use Rattle.fk_layout.specs.Layout.{tables_by}
 use Rattle.fk_walk.specs.declared.known.Known.{Known}
-use Rattle.fk_walk.specs.Known.{tables_of, items_in}
+use Rattle.fk_walk.specs.Known.{tables_of}
 use Rattle.fk_walk_statements.specs.Texts.{functions_in, code_in}
 use Rattle.fk_flat.specs.Shape.{is_closed, IsShaped}
 use Rattle.fk_shapes.proofs.Programs.{forms_are_shaped}

@@ -1,7 +1,6 @@
 -- What is noted of the types of tokens: whether a value is there, and how many words it has.
-use Rattle.std.proofs.Common.{◌≡◌, inl, inr, ℕ, zero, suc, ◌+◌, ◌*◌, ◌<◌, ◌≤◌, Bool, true, false, List, [], ◌∷◌, ◌++◌, Option, Some, None, unwrap_or, slice_get, Contains, refl, sym, ap, subst, ◌∙◌, arith}
+use Rattle.std.proofs.Common.{◌≡◌, inl, inr, ℕ, zero, suc, ◌<◌, ◌≤◌, true, false, List, Option, Some, None, slice_get, Contains, refl, sym, ap, subst, ◌∙◌, arith}
 use Rattle.std.specs.Prelude.{◌==◌, is_some}
-use Rattle.std.specs.Option.{option_map}
 use Rattle.std.proofs.lemmas.Bool.{false≢true, ne_eqb}
 use Rattle.std.proofs.lemmas.Option.{same_Some}
 use Rattle.fk_syntax.specs.declared.facts.Facts.{Facts}
@@ -12,8 +11,7 @@ use Rattle.fk_syntax.specs.Nodes.{items_indices}
 use Rattle.fk_structs.specs.declared.types.Root.{Root}
 use Rattle.fk_structs.specs.declared.types.Root.TheVariants as r
 use Rattle.fk_structs.specs.declared.types.DataType.{DataType}
-use Rattle.fk_structs.specs.Types.{StructTree, all_types}
-use Rattle.fk_structs.specs.Words.{type_words, words_within}
+use Rattle.fk_structs.specs.Types.{StructTree}
 use Rattle.fk_structs.specs.Sizes.{HasTypeWords}
 use Rattle.fk_signs.specs.declared.values.Value.{Value}
 use Rattle.fk_signs.specs.declared.values.Value.TheVariants.{Int, Unsigned, Pointer}
@@ -25,7 +23,7 @@ use Rattle.fk_typing.specs.Typing.{Noted, left_of}
 use Rattle.fk_pieces.specs.Pieces.{pieces}
 use Rattle.fk_type_rules.specs.Kinds.{IsWords, IsValueKind, IsPlainKind, IsStoredKind, IsKind}
 use Rattle.fk_type_rules.specs.Noted.{pieces_noted, HasTypeAt}
-use Rattle.fk_token_laws.proofs.Counting.{times, contained, node-below}
+use Rattle.fk_token_laws.proofs.Counting.{contained, node-below}
 use Rattle.fk_token_laws.proofs.Notes.{note_token, of_pieces}
 use Rattle.fk_token_laws.proofs.Pieces.{of_items}
 use Rattle.fk_forms.specs.Tables.{Tables, no_kind, note, kind_at, is_array, is_void}
@@ -33,7 +31,7 @@ use Rattle.fk_fitting.specs.Correct.{IsCorrect}
 use Rattle.fk_fitting.proofs.Notes.{tables, nth_at, note_at}
 use Rattle.fk_fitting.proofs.Named.{env}
 use Rattle.fk_typed_forms.specs.Typed.{IsNothing}
-use Rattle.fk_certain.proofs.Sizes.{IsSound, sound_words, one_size}
+use Rattle.fk_certain.proofs.Sizes.{IsSound, one_size}
 
 -- ---- kinds
 

@@ -1,5 +1,5 @@
 -- What is given of a program: that it keeps all rules, is as a text spells it, and has a layout; and what is known by that.
-use Rattle.std.proofs.Common.{◌≡◌, inl, inr, ℕ, zero, suc, ◌<◌, ◌≤◌, Bool, true, false, List, [], ◌∷◌, length, Option, Some, None, slice_get, Contains, refl, sym, ap, subst, ◌∙◌, arith}
+use Rattle.std.proofs.Common.{◌≡◌, inl, ℕ, zero, suc, ◌≤◌, List, [], ◌∷◌, length, Option, Some, slice_get, Contains, sym, ap, subst, ◌∙◌, arith}
 use Rattle.std.proofs.lemmas.Option.{same_Some}
 use Rattle.fk_syntax.specs.declared.facts.Facts.{Facts}
 use Rattle.fk_syntax.specs.Tree.{Named}
@@ -9,9 +9,8 @@ use Rattle.fk_structs.specs.Types.{StructTree, structs_of, type_declared}
 use Rattle.fk_structs.specs.Sizes.{HasTypeWords}
 use Rattle.fk_struct_rules.specs.Declarations.{DeclarationBreaks}
 use Rattle.fk_struct_rules.specs.Structs.{StructsBreak}
-use Rattle.fk_names.specs.Outline.{DeclarationTree, MarkTree, Variable, declarations, outline}
+use Rattle.fk_names.specs.Outline.{MarkTree, outline}
 use Rattle.fk_names.specs.Means.{UsesAt}
-use Rattle.fk_pieces.specs.Pieces as q
 use Rattle.fk_pieces.specs.Pieces.{PieceTree, pieces}
 use Rattle.fk_references.specs.References.{ReferenceTree, Name}
 use Rattle.fk_type_rules.specs.Pieces.{PieceBreaks}
@@ -24,7 +23,6 @@ use Rattle.fk_forms.specs.Tables.{Tables}
 use Rattle.fk_forms.specs.Expressions.{Signature}
 use Rattle.fk_forms.specs.Program.{functions_of, signature_in}
 use Rattle.fk_kept.specs.declared.places.Place.{Place}
-use Rattle.fk_layout.specs.Refusal.{Fits}
 use Rattle.fk_parsed.specs.Trim.{ProgramIsTrim}
 use Rattle.fk_fitting.specs.Correct.{IsCorrect}
 use Rattle.fk_fitting.proofs.Each.{Each, each, front_of, rest_of}

@@ -1,5 +1,5 @@
 -- No function has more values than its frame has room for.
-use Rattle.std.proofs.Common.{ℕ, ◌≤◌, List, [], ◌∷◌, None, arith}
+use Rattle.std.proofs.Common.{◌≤◌, List, [], ◌∷◌, None, arith}
 use Rattle.fk_syntax.specs.Program.{FunctionTree, ItemTree}
 use Rattle.fk_forms.specs.Tables.{Tables}
 use Rattle.fk_forms.specs.Program.{functions_of}

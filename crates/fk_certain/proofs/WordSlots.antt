@@ -1,17 +1,16 @@
 -- The places of the declarations of a text are low: there are few private ones, and shared words are few.
-use Rattle.std.proofs.Common.{◌≡◌, ℕ, ◌+◌, ◌-◌, ◌^◌, ◌≤◌, Bool, true, false, List, [], ◌∷◌, ◌++◌, length, Option, Some, None, refl, sym, subst, ◌∙◌, length-append, arith}
-use Rattle.std.specs.Prelude.{◌==◌, min, if◌then◌else◌}
+use Rattle.std.proofs.Common.{◌≡◌, ℕ, ◌+◌, ◌^◌, ◌≤◌, Bool, true, false, List, [], ◌∷◌, ◌++◌, length, Option, Some, None, refl, sym, subst, length-append, arith}
+use Rattle.std.specs.Prelude.{min, if◌then◌else◌}
 use Rattle.fk_syntax.specs.Program as p
 use Rattle.fk_syntax.specs.Program.{DeclaredTree, Statement, Statements, ItemTree}
 use Rattle.fk_forms.specs.declared.tables.Home.TheVariants as h
 use Rattle.fk_forms.specs.declared.tables.Slot.{Slot}
 use Rattle.fk_slots.specs.Told.{Told, splits_at, words_at}
-use Rattle.fk_slots.specs.Places.{none_taken, behind_frame, within, outside, behind_private, slot_in, file_slot, no_slot, no_slots, behind_words, behind_variable, behind_variables, behind_parameter, behind_parameters, variables_slots, parameters_slots, file_slots}
+use Rattle.fk_slots.specs.Places.{none_taken, within, outside, behind_private, slot_in, file_slot, no_slot, no_slots, behind_words, behind_variable, behind_variables, behind_parameter, behind_parameters, variables_slots, parameters_slots, file_slots}
 use Rattle.fk_slots.specs.Slots.{behind_body_frame, begun, begun_two, behind, behind_all, slots_in, all_slots_in, opening, body_slots, items_slots, behind_body}
-use Rattle.fk_slots.specs.Words.{statement_words}
 use Rattle.fk_fitting.proofs.Each.{Each}
 use Rattle.fk_certain.proofs.Regions.{join}
-use Rattle.fk_certain.proofs.Taken.{same_within, same_outside, same_frame, same_body_frame, same_two}
+use Rattle.fk_certain.proofs.Taken.{same_within, same_outside, same_body_frame, same_two}
 
 abbrev pub most : ℕ
 most = 2 ^ 20

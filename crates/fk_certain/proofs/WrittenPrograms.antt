@@ -1,11 +1,11 @@
 -- The code of programs writes first.
-use Rattle.std.proofs.Common.{◌≡◌, ℕ, ◌+◌, ◌<◌, ◌≤◌, Bool, true, false, List, [], ◌∷◌, length, Option, Some, None, refl, arith}
-use Rattle.std.specs.Prelude.{◌==◌, nat_lt, is_some, if◌then◌else◌}
+use Rattle.std.proofs.Common.{ℕ, ◌+◌, ◌≤◌, Bool, true, false, List, [], ◌∷◌, length, Option, Some, None, arith}
+use Rattle.std.specs.Prelude.{◌==◌, is_some, if◌then◌else◌}
 use Rattle.std.proofs.lemmas.Bool.{ltb-true}
 use Rattle.fk_syntax.specs.declared.program.Mode.{Mode}
 use Rattle.fk_syntax.specs.Tree.{Named, TypeTree}
-use Rattle.fk_syntax.specs.Program.{DeclaredTree, Statements, FunctionTree, ProgramTree}
-use Rattle.fk_forms.specs.Code.{done, size, numbered}
+use Rattle.fk_syntax.specs.Program.{DeclaredTree, Statements, FunctionTree}
+use Rattle.fk_forms.specs.Code.{size, numbered}
 use Rattle.fk_forms.specs.Tables.{Tables, frame_at}
 use Rattle.fk_forms.specs.Expressions.{Signature}
 use Rattle.fk_forms.specs.Statements.{Inside, is_nothing}
@@ -16,7 +16,7 @@ use Rattle.fk_typed_code.specs.Words.{Words, first_words, WritesFirst}
 use Rattle.fk_typed_forms.proofs.Built.{AreAllBuilt, each_of, front, back, built}
 use Rattle.fk_certain.specs.Scopes.{BodyScoped, FunctionScoped, FunctionsScoped, words_in, behind_all}
 use Rattle.fk_certain.specs.WritingLaws.{FormsWriteFirst}
-use Rattle.fk_certain.proofs.Ok.{all, Ok, ended}
+use Rattle.fk_certain.proofs.Ok.{all, Ok}
 use Rattle.fk_certain.proofs.Forms.{counts}
 use Rattle.fk_certain.proofs.WrittenStatements.{body_fine}
 

@@ -1,9 +1,8 @@
 -- The code of statements and functions writes first.
-use Rattle.std.proofs.Common.{◌≡◌, ℕ, suc, ◌+◌, ◌<◌, ◌≤◌, Bool, true, false, true≢false, List, [], ◌∷◌, length, Option, Some, None, refl, sym, subst}
-use Rattle.std.specs.Prelude.{◌==◌, ◌||◌, is_some, if◌then◌else◌}
+use Rattle.std.proofs.Common.{◌≡◌, ℕ, ◌<◌, ◌≤◌, Bool, true, false, true≢false, List, [], ◌∷◌, length, Option, Some, None, refl, sym, subst}
+use Rattle.std.specs.Prelude.{◌==◌, ◌||◌, if◌then◌else◌}
 use Rattle.std.proofs.lemmas.Bool.{eqb-true}
 use Rattle.fk_syntax.specs.declared.place.Spot.{Spot}
-use Rattle.fk_syntax.specs.Tree as t
 use Rattle.fk_syntax.specs.Tree.{Named, Tree}
 use Rattle.fk_syntax.specs.Program as m
 use Rattle.fk_syntax.specs.Program.{DeclaredTree, Statement, Statements}
@@ -16,11 +15,11 @@ use Rattle.fk_forms.specs.declared.tables.Home.{Home}
 use Rattle.fk_forms.specs.declared.tables.Home.TheVariants as h
 use Rattle.fk_forms.specs.Code as c
 use Rattle.fk_forms.specs.Code.{done, choose, quit, ends}
-use Rattle.fk_forms.specs.Tables.{Tables, no_binding, note, slot, frame_at}
+use Rattle.fk_forms.specs.Tables.{Tables, no_binding, note, slot}
 use Rattle.fk_forms.specs.Expressions.{Coded, nowhere, plain, agreed, Signature, Standing, addressed, assigned, predeclared, placed, variable, value}
-use Rattle.fk_forms.specs.Statements.{Inside, is_scalar, used, used_or, value_or, declared, all_declared, part_frame, leaving, tested, looping, left_by, executed, all_executed, end_of, body_of}
+use Rattle.fk_forms.specs.Statements.{Inside, is_scalar, used_or, value_or, declared, all_declared, part_frame, leaving, tested, looping, left_by, executed, all_executed, end_of, body_of}
 use Rattle.fk_shapes.specs.Fitting.{Fits, OptionFits, OptionConditionFits, VariablesFit, StatementFits, StatementsFit}
-use Rattle.fk_typed_code.specs.Words.{Words, first_words, AreWritten, AreWrittenInLoop}
+use Rattle.fk_typed_code.specs.Words.{Words, AreWritten, AreWrittenInLoop}
 use Rattle.fk_certain.specs.Scopes.{with_word, declares_word, behind_variable, behind_variables, behind, behind_all, HasWord, TreeScoped, OptionScoped, ScalarScoped, VariablesScoped, StatementScoped, StatementsScoped}
 use Rattle.fk_certain.proofs.Ok.{names_none, AreBelow, freely, sets, or_left, all, Ok, weaken, ended, on, writes_word, branch, looped, looped_first, quits, broken, continued, left}
 use Rattle.fk_certain.proofs.Forms.{Want, counts, goes, either, agrees, values_kept, uses, uses_or, gives_or, part_frames}

@@ -1,5 +1,5 @@
 -- The lists of programs that keep all rules and have a layout.
-use Rattle.std.specs.Prelude.{◌≡◌, ℕ, ◌≤◌, List, length}
+use Rattle.std.specs.Prelude.{ℕ, ◌≤◌, List, length}
 use Rattle.fk_syntax.specs.declared.facts.Facts.{Facts}
 use Rattle.fk_syntax.specs.Program.{ProgramTree}
 use Rattle.fk_forms.specs.Tables.{Tables}
