@@ -1,7 +1,7 @@
 -- What is so whether anybody unites with others or not: who binds whom, and what a cycle leaves in which nobody does.
-use Rattle.std.proofs.Common.{◌≡◌, ℕ, zero, suc, List, [], ◌∷◌, Option, Some, None, Bool, true, false, sym, ap, subst, ◌∙◌, refl, inl, inr, ⊎_elim}
+use Rattle.std.proofs.Common.{◌≡◌, ℕ, zero, suc, List, [], ◌∷◌, Option, Some, None, Bool, true, false, sym, ap, ◌∙◌, refl, ◌⊎◌, inl, inr, ⊎_elim}
 use Rattle.std.specs.Prelude.{◌==◌}
-use Rattle.std.proofs.lemmas.Bool.{false≢true}
+use Rattle.std.proofs.lemmas.Bool.{cases_Bool, false≢true}
 use Rattle.fk_num.specs.Word.{Memory}
 use Rattle.fk_run.specs.Processor.{Setting}
 use Rattle.fk_core.specs.declared.op.CoreOp.{CoreOp}
@@ -10,15 +10,15 @@ use Rattle.fk_machine.specs.Hart.{Hart, Setting as MachineSetting}
 use Rattle.fk_nodes.specs.Node.{Member, numbered, add, of_node}
 use Rattle.fk_nodes.specs.Source.{Source}
 use Rattle.fk_nodes.specs.Alone.{later}
-use Rattle.fk_meeting.specs.Phase.{Phase, Outside, Away, Coming, Waiting, Leaving}
+use Rattle.fk_meeting.specs.Phase.{Outside, Away, Coming, Waiting, Leaving}
 use Rattle.fk_plans.specs.Stage.{Commits, Unites, Stage, Ended, Acts, Meets, Pairwise, IsOver, Remains}
-use Rattle.fk_plans.specs.Plan.{Plan, Blocks, StandsAt, AllStandAt, AllAct, InLockstep, Binds, IsBound}
+use Rattle.fk_plans.specs.Plan.{Plan, Blocks, StandsAt, AllStandAt, AllAct, Binds, IsBound}
 use Rattle.fk_plans.specs.Cycle.{Went, Leaves, AllLeave, AllAreLeft, NodeIsLeft, IsLeft}
-use Rattle.fk_block_law.specs.Owner.{Owner, Doing, core_source}
+use Rattle.fk_block_law.specs.Owner.{Owner, core_source}
 use Rattle.fk_block_law.specs.Stands.{Places}
 use Rattle.fk_group_law.specs.Node.{Nestings}
 use Rattle.fk_group_plans.specs.Behind.{blocks_of, joining_blocks_of}
-use Rattle.fk_group_plans.specs.Uniting.{unites_now, NobodyUnites, CyclesLeaveApart}
+use Rattle.fk_group_plans.specs.Uniting.{unites_now, NobodyUnites, SomebodyUnites, CyclesLeaveApart}
 
 -- ---- lists of a node
 
@@ -42,6 +42,11 @@ pub nobody_of : (g : ℕ) (ns : List ℕ) (stages : List Stage) → NobodyUnites
 nobody_of g [] stages nobody = tt
 nobody_of g (n ∷ ns) [] nobody = tt
 nobody_of g (n ∷ ns) (s ∷ stages) nobody = nobody_add (n == g) s (of_node g ns stages) nobody.0 (nobody_of g ns stages nobody.1)
+
+pub nobody_or_somebody : (stages : List Stage) → NobodyUnites stages ⊎ SomebodyUnites stages
+nobody_or_somebody [] = inl tt
+nobody_or_somebody (s ∷ stages) =
+    ⊎_elim (λ is. inr (inl is)) (λ no. ⊎_elim (λ nobody. inl (no, nobody)) (λ more. inr (inr more)) (nobody_or_somebody stages)) (cases_Bool (unites_now s))
 
 -- ---- blocks behind which others may join
 
