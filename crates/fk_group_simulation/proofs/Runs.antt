@@ -1,11 +1,11 @@
 -- Machines follow core runs with groups.
-use Rattle.std.proofs.Common.{◌≡◌, ℕ, zero, suc, ◌+◌, ◌≤◌, ◌<◌, ◌^◌, List, [], ◌∷◌, ◌++◌, length, Option, Some, None, Bool, true, false, cond, sym, ap, subst, ◌∙◌, refl, arith, ◌⊎◌, inl, inr, ⊎_elim}
+use Rattle.std.proofs.Common.{◌≡◌, ℕ, zero, suc, ◌≤◌, ◌<◌, ◌^◌, List, [], ◌++◌, length, Bool, true, false, cond, sym, ap, subst, ◌∙◌, refl, arith, ◌⊎◌, inl, inr, ⊎_elim}
 use Rattle.std.specs.Prelude.{replicate}
 use Rattle.std.proofs.lemmas.List.{append-nil}
 use Rattle.fk_space.specs.Space.{Space}
 use Rattle.fk_tree.specs.Tree.{Tree}
 use Rattle.fk_run.specs.Processor.{Setting, setting_of}
-use Rattle.fk_run.specs.Round.{State, cut, result, is_possible, IsStopped}
+use Rattle.fk_run.specs.Round.{State, result, is_possible, IsStopped}
 use Rattle.fk_run.specs.Schedule.{Schedule, SourceRunning, SourceFinished, SourceFaulted, run, CouldAct, IsLawful, all_done, stand_by}
 use Rattle.fk_core.specs.declared.op.CoreOp.{CoreOp}
 use Rattle.fk_core.specs.Next.{Position, next, opening}
@@ -14,8 +14,8 @@ use Rattle.fk_machine.specs.declared.stand.Stand.{Stand}
 use Rattle.fk_machine.specs.declared.stand.Stand.TheVariants.{Running, Finished, Faulted}
 use Rattle.fk_machine.specs.Cycle.{Machine, turns_of, all_ended, unprinted, is_running, stand_after, after_turns, cycle}
 use Rattle.fk_machine.specs.Cycle as machines
-use Rattle.fk_machine.specs.Run.{machine, output_of, round_of, rounds}
-use Rattle.fk_plans.specs.Stage.{Stage, counts_for}
+use Rattle.fk_machine.specs.Run.{machine, output_of, rounds}
+use Rattle.fk_plans.specs.Stage.{Stage}
 use Rattle.fk_block_law.specs.Owner.{commons_of}
 use Rattle.fk_block_law.specs.Stands.{Places}
 use Rattle.fk_group_law.specs.Node.{Nestings}
@@ -24,15 +24,14 @@ use Rattle.fk_group_rounds.specs.Next.{JumpsLead}
 use Rattle.fk_group_rounds.specs.Comes.{most_between}
 use Rattle.fk_group_rounds.specs.After.{ArePlaces}
 use Rattle.fk_group_rounds.proofs.Groups.{many_length}
-use Rattle.fk_group_runs.specs.Follow.{FollowsRound, FollowsFault}
-use Rattle.fk_group_runs.specs.Machines.{GoesWith, GoesOn, StopsWith}
+use Rattle.fk_group_runs.specs.Follow.{FollowsFault}
+use Rattle.fk_group_runs.specs.Machines.{GoesWith}
 use Rattle.fk_group_runs.proofs.Follow.{cycles_follow_rounds}
 use Rattle.fk_group_runs.proofs.Machines.{machines_follow_rounds}
-use Rattle.fk_simulation.specs.Follows.{StandsAgree, Agrees, Follows}
-use Rattle.fk_group_simulation.specs.Opening.{OpensWith}
-use Rattle.fk_group_simulation.specs.Pace.{AreInTime, Sight, Turns, ActsWithin}
+use Rattle.fk_simulation.specs.Follows.{StandsAgree, Agrees}
+use Rattle.fk_group_simulation.specs.Pace.{AreInTime, Sight, ActsWithin}
 use Rattle.fk_group_simulation.specs.Able.{sight_of}
-use Rattle.fk_group_simulation.specs.Runs.{GoesFurther, AlwaysGoesFurther, MachinesFollowGroupRuns, places_in, tree_behind, IsOrderly, OrderlyRoundsGoFurther}
+use Rattle.fk_group_simulation.specs.Runs.{AlwaysGoesFurther, MachinesFollowGroupRuns, places_in, tree_behind, OrderlyRoundsGoFurther}
 use Rattle.fk_group_simulation.proofs.Able.{who_could_act_will}
 use Rattle.fk_group_simulation.proofs.Induction.{IsGoing, IsOver, IsBroken, IsWhole, follows_from}
 
