@@ -1,0 +1,87 @@
+-- Machines of an image that has the law of blocks of groups follow core runs with groups.
+use Rattle.std.specs.Prelude.{◌≡◌, ℕ, zero, suc, ◌≤◌, List, [], ◌∷◌, ◌++◌, length, true}
+use Rattle.fk_space.specs.Space.{Space}
+use Rattle.fk_tree.specs.Tree.{Tree}
+use Rattle.fk_run.specs.Processor.{Setting, setting_of}
+use Rattle.fk_run.specs.Round.{State, result}
+use Rattle.fk_run.specs.Schedule.{Schedule, run, IsLawful}
+use Rattle.fk_core.specs.declared.op.CoreOp.{CoreOp}
+use Rattle.fk_core.specs.Next.{Position, next, opening}
+use Rattle.fk_image.specs.declared.Image.{Image}
+use Rattle.fk_machine.specs.Cycle.{Machine, is_running, cycle}
+use Rattle.fk_plans.specs.Stage.{Stage, counts_for}
+use Rattle.fk_block_law.specs.Stands.{Places}
+use Rattle.fk_group_law.specs.Node.{Nestings}
+use Rattle.fk_group_law.specs.Law.{Cycles, GroupLaw}
+use Rattle.fk_group_rounds.specs.Next.{JumpsLead}
+use Rattle.fk_group_rounds.specs.After.{owners_after, ArePlaces, GroupsGoOn}
+use Rattle.fk_group_rounds.specs.Rounds.{IsTree, IsKnownRound}
+use Rattle.fk_group_runs.specs.Homes.{AllNext}
+use Rattle.fk_group_runs.specs.Machines.{GoesWith, GoesOn}
+use Rattle.fk_simulation.specs.Follows.{Follows}
+use Rattle.fk_group_simulation.specs.Opening.{OpensWith}
+use Rattle.fk_group_simulation.specs.Pace.{AreInTime, Turns}
+use Rattle.fk_group_simulation.specs.Able.{WhoWaitsResumes, sight_of}
+
+module _ (core : List CoreOp) (image : Image) (places : Places) (nestings : Nestings) (setting : Setting) (spaces : ℕ → Space) where
+  -- after a cycle of a machine that goes with a state it goes with the state behind the round, all its harts are in time, and those
+  -- who meet have moved
+  pub record GoesFurther (s : State Position) (nodes : List ℕ) (printed : List ℕ) (stages : List Stage) (m : Machine) : Type 0 where
+    pub nodes' : List ℕ
+    pub stages' : List Stage
+    pub goes : GoesWith core image places nestings setting spaces (result (next core) setting (counts_for stages) s) nodes' (printed ++ (cycle m).shared.output) stages' (cycle m)
+    pub in_time : AreInTime stages'
+    pub turns : Turns (sight_of s.tree spaces nodes stages m.shared.control m.begun)
+        (sight_of (result (next core) setting (counts_for stages) s).tree spaces nodes' stages' (cycle m).shared.control (cycle m).begun)
+
+  -- in the run that begins with a state: so it is with each cycle whose round is possible and keeps the schedule lawful, and who
+  -- waits for parts in a state behind a lawful schedule is to go on behind them
+  pub record AlwaysGoesFurther (first : State Position) : Type 0 where
+    pub waits : (schedule : Schedule) → IsLawful (next core) setting schedule first → WhoWaitsResumes core (run (next core) setting schedule first)
+    pub further : (schedule : Schedule) (nodes : List ℕ) (printed : List ℕ) (stages : List Stage) (m : Machine)
+        → GoesWith core image places nestings setting spaces (run (next core) setting schedule first) nodes printed stages m → AreInTime stages → is_running m.stand ≡ true
+        → GoesOn core image places nestings setting spaces (run (next core) setting schedule first) nodes printed stages m
+        → IsLawful (next core) setting (schedule ++ counts_for stages ∷ []) first
+        → GoesFurther (run (next core) setting schedule first) nodes printed stages m
+
+-- so a machine with so many harts follows the run, for every input and every number of cycles
+abbrev pub MachinesFollowGroupRuns : Type 0
+MachinesFollowGroupRuns =
+    (core : List CoreOp) (image : Image) (places : Places) (nestings : Nestings) (cycles : Cycles) (firsts : List ℕ) (main : ℕ) (spaces : ℕ → Space) (input : List ℕ) (p n : ℕ)
+    → GroupLaw core image places nestings cycles firsts main → JumpsLead core → p ≤ 1024
+    → (opens : OpensWith core image places nestings spaces firsts main input p) → AreInTime opens.stages
+    → AlwaysGoesFurther core image places nestings (setting_of p image.globals.items input) spaces (opening main image.globals.items firsts input p)
+    → Follows (next core) image input p n (opening main image.globals.items firsts input p)
+
+-- ---- what is to be known of the run
+
+-- where so many processors stand in a tree, from a number on
+abbrev pub places_in : Tree → (number count : ℕ) → List ℕ
+places_in tree number zero = []
+places_in tree number (suc n) = tree.places number ∷ places_in tree (suc number) n
+
+module _ (core : List CoreOp) (image : Image) (places : Places) (nestings : Nestings) (setting : Setting) (spaces : ℕ → Space) (s : State Position) (nodes : List ℕ) (printed : List ℕ)
+    (stages : List Stage) (m : Machine) (r : GoesOn core image places nestings setting spaces s nodes printed stages m) where
+  abbrev pub tree_behind : Tree
+  tree_behind = (result (next core) setting (counts_for stages) s).tree
+
+  -- the round of a cycle is a known one, which leaves a sound tree whose nodes own words apart, and all processors go on
+  pub record IsOrderly : Type 0 where
+    pub known : IsKnownRound s.tree r.did
+    pub tree : IsTree setting tree_behind spaces
+    pub ahead : AllNext core tree_behind 0 r.afters r.did (owners_after s.tree tree_behind r.did)
+    pub groups : GroupsGoOn core nestings tree_behind (places_in tree_behind 0 setting.processors) r.afters (owners_after s.tree tree_behind r.did)
+    -- harts are in time behind it, and those who meet have moved
+    pub timely : (there : ArePlaces tree_behind 0 (places_in tree_behind 0 setting.processors)) (many : length (places_in tree_behind 0 setting.processors) ≡ length nodes)
+        → AreInTime (r.again (places_in tree_behind 0 setting.processors) known tree there many ahead groups).0
+        × Turns (sight_of s.tree spaces nodes stages m.shared.control m.begun)
+        (sight_of tree_behind spaces (places_in tree_behind 0 setting.processors) (r.again (places_in tree_behind 0 setting.processors) known tree there many ahead groups).0 (cycle m).shared.control
+        (cycle m).begun)
+
+-- then the machine goes further
+abbrev pub OrderlyRoundsGoFurther : Type 0
+OrderlyRoundsGoFurther =
+    (core : List CoreOp) (image : Image) (places : Places) (nestings : Nestings) (setting : Setting) (spaces : ℕ → Space) (s : State Position) (nodes : List ℕ) (printed : List ℕ)
+    (stages : List Stage) (m : Machine) (r : GoesOn core image places nestings setting spaces s nodes printed stages m)
+    → GoesWith core image places nestings setting spaces s nodes printed stages m → IsOrderly core image places nestings setting spaces s nodes printed stages m r
+    → GoesFurther core image places nestings setting spaces s nodes printed stages m

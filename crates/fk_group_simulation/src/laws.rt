@@ -1,0 +1,48 @@
+//! Laws of the definitions.
+
+ghost use Rattle.fk_group_simulation.specs.Opening.{OpeningsAreFollowed};
+ghost use Rattle.fk_group_simulation.specs.Pace.{PacesGoOn, PacesAreKept};
+ghost use Rattle.fk_group_simulation.specs.Turning.{PlansTurn};
+ghost use Rattle.fk_group_simulation.specs.Able.{WhoCouldActWill};
+ghost use Rattle.fk_group_simulation.specs.Runs.{MachinesFollowGroupRuns, OrderlyRoundsGoFurther};
+
+/// A machine of an image that has the law of blocks of groups goes with the core run from its first cycle on: each of its harts
+/// is at most 254 private instructions before its first commit, or before it arrives where it meets others.
+pub fn openings_are_followed()
+    ensures { OpeningsAreFollowed }
+{}
+
+/// Where each cycle goes from one sight of the harts to the next, and who could act is to commit within 254 cycles, with all whom
+/// it meets, this one is in a round by then.
+pub fn paces_go_on()
+    ensures { PacesGoOn }
+{}
+
+/// So who could act before each of 256 rounds is in one of them, also where a fault ends the last of these.
+pub fn paces_are_kept()
+    ensures { PacesAreKept }
+{}
+
+/// Where the tree changes behind a cycle as `fk_plans` asks, and all who have committed are at stages in time, so all are: who is at
+/// a distance from its commit is one cycle nearer, and those who meet at a word have moved.
+pub fn plans_turn<S, P, D>()
+    ensures { PlansTurn S P D }
+{}
+
+/// Where the plan of a state's tree binds all harts, at stages in time, who could act in that state is to commit within 254 cycles:
+/// it is near its commit, or all whom it meets have entered, and have time to leave.
+pub fn who_could_act_will()
+    ensures { WhoCouldActWill }
+{}
+
+/// A machine of an image that has the law of blocks of groups follows a lawful schedule of the list's core runs, one round for
+/// each cycle, in which who could act is in one of any 256 rounds. Its output, shared data and stand, a fault at a site included,
+/// are those of that core run. So it is where each cycle goes further (`AlwaysGoesFurther`), which is still to be proved of lists.
+pub fn machines_follow_group_runs()
+    ensures { MachinesFollowGroupRuns }
+{}
+
+/// A cycle goes further where its round is a known one and its processors go on as is told (`IsOrderly`).
+pub fn orderly_rounds_go_further()
+    ensures { OrderlyRoundsGoFurther }
+{}
