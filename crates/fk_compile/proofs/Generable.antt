@@ -10,6 +10,7 @@ use Rattle.fk_block_law.proofs.Standing.{landing_here}
 use Rattle.fk_kept.specs.declared.set.Set.{Set}
 use Rattle.fk_certain.specs.Certain.{IsCertain}
 use Rattle.fk_generate.specs.Generable.{IsGenerable}
+use Rattle.fk_generate.proofs.Free.{free_has_blocks}
 
 -- the operation at an index has a site and a number of 32 bits
 abbrev pub no_op : CoreOp
@@ -30,7 +31,7 @@ pub certain_is_generable : (core : List CoreOp) (kept : List Set) (main : ℕ) (
     → All (λ op. (op.site < 2 ^ 32) × (op.number < 2 ^ 32)) core → All (λ v. v < 2 ^ 32) firsts
     → LeadsOn core → IsGenerable core kept main firsts
 certain_is_generable core kept main firsts certain words first_words leads = record {
-  free = certain.safe.free;
+  blocks = free_has_blocks core certain.safe.free;
   operations = are_operations core leads;
   begins = certain.safe.begins;
   frames = certain.frames;

@@ -92,6 +92,8 @@ pub record HasRegisters (places : Places) (setting : Setting) (hart : ℕ) (h : 
   pub shared_mask : h.registers 25 ≡ 0xffc00003
   pub devices : h.registers 26 ≡ 0x30000000
   pub heap_mask : h.registers 27 ≡ 0xffff0003
+  pub node : h.registers 10 ≡ 0x18400000
+  pub body : h.registers 11 ≡ setting.processors
 
 -- what such a hart comes to: it stands where `main` begins, with all registers but t0 as they were
 abbrev pub HasBegun : Places → Setting → (firsts : List ℕ) → (main number : ℕ) → (h h' : Hart) → Type 0
@@ -144,21 +146,21 @@ abbrev pub register_quiets : (of_file : ℕ) → Quiets
 register_quiets of_file =
     (Lui 22 0x20000, Plain) ∷ (Addi 8 22 (4 * of_file), Plain) ∷ (Addi 9 22 256, Plain) ∷ (Lui 23 0x10000, Plain) ∷ (Lui 24 0x20010, Plain) ∷
     (Lui 25 0xffc00, Plain) ∷ (Addi 25 25 3, Plain) ∷ (Lui 27 0xffff0, Plain) ∷ (Addi 27 27 3, Plain) ∷ (Lui 26 0x30000, Plain) ∷
-    (Lw 19 26 20, TellsNumber) ∷ (Lw 20 26 24, TellsHarts) ∷ []
+    (Lw 19 26 20, TellsNumber) ∷ (Lw 20 26 24, TellsHarts) ∷ (Lui 10 0x18400, Plain) ∷ (Addi 11 20 0, Plain) ∷ []
 
 abbrev pub with_registers : (of_file : ℕ) → MachineSetting → (number : ℕ) → Hart
 with_registers of_file t number = walk (told_of t number) (register_quiets of_file) first_hart
 
 -- from the beginning of an image
 pub record SetsRegisters (image : Image) (places : Places) (setting : Setting) (t : MachineSetting) (number : ℕ) (h : Hart) : Type 0 where
-  pub runs : RunsPrivately image t number 12 first_hart h
-  pub about : IsAbout image (in_cycles 12 t) 12 h
+  pub runs : RunsPrivately image t number 14 first_hart h
+  pub about : IsAbout image (in_cycles 14 t) 14 h
   pub has : HasRegisters places setting number h
 
 pub registers_come : (image : Image) (bound : ℕ → ℕ) (places : Places) (setting : Setting) (t : MachineSetting) (number : ℕ) → places.frames.of_file ≤ 56 → IsRunning image setting t
     → LinesAt image bound 0 (register_lines places.frames.of_file) → SetsRegisters image places setting t number (with_registers places.frames.of_file t number)
 registers_come image bound places setting t number few running lines =
-    let w = walked image bound t number running.code (register_quiets places.frames.of_file) 0 first_hart lines refl refl (tt, (tt, (tt, (tt, (tt, (tt, (tt, (tt, (tt, (tt, (refl, (refl, tt)))))))))))) in
+    let w = walked image bound t number running.code (register_quiets places.frames.of_file) 0 first_hart lines refl refl (tt, (tt, (tt, (tt, (tt, (tt, (tt, (tt, (tt, (tt, (refl, (refl, (tt, (tt, tt)))))))))))))) in
     record {
       runs = w.runs;
       about = record { code = running.code; live = w.live; at = w.pc };
@@ -176,24 +178,37 @@ registers_come image bound places setting t number few running lines =
         shared_mask = refl;
         devices = refl;
         heap_mask = refl;
+        node = refl;
+        body = omega (arith, running.processors, running.few);
       };
     }
 
-pub opening_begins : (core : List CoreOp) (image : Image) (bound : ℕ → ℕ) (places : Places) (firsts : List ℕ) (main : ℕ) → HasOpening image bound places firsts main
+-- a hart comes to the block where `main` begins, and its registers tell of the root
+pub record BeginsInRoot (core : List CoreOp) (image : Image) (places : Places) (setting : Setting) (t : MachineSetting) (firsts : List ℕ) (main number : ℕ) : Type 0 where
+  pub begins : Begins core image places t (beginner setting (slice_index firsts) main number)
+  pub node : begins.hart.registers 10 ≡ 0x18400000
+  pub body : begins.hart.registers 11 ≡ setting.processors
+
+pub begins_in_root : (core : List CoreOp) (image : Image) (bound : ℕ → ℕ) (places : Places) (firsts : List ℕ) (main : ℕ) → HasOpening image bound places firsts main
     → AreFirsts places.frames.of_file firsts → places.frames.is_main main ≡ true
-    → (setting : Setting) (t : MachineSetting) (number : ℕ) → IsRunning image setting t → Begins core image places t (beginner setting (slice_index firsts) main number)
-opening_begins core image bound places firsts main opening are is_main setting t number running =
+    → (setting : Setting) (t : MachineSetting) (number : ℕ) → IsRunning image setting t → BeginsInRoot core image places setting t firsts main number
+begins_in_root core image bound places firsts main opening are is_main setting t number running =
     let of_file = places.frames.of_file in
     let few = are.few in
     let within = are.within in
     let split = lines_split image bound 0 (register_lines of_file) (first_lines 0 firsts ++ jump_block main) opening.lines in
     let h = with_registers of_file t number in
     let sets = registers_come image bound places setting t number few running split.0 in
-    let comes = firsts_begin image bound places firsts main opening.labels are is_main setting (in_cycles 12 t) number 12 h sets.about split.1 sets.has refl in
+    let comes = firsts_begin image bound places firsts main opening.labels are is_main setting (in_cycles 14 t) number 14 h sets.about split.1 sets.has refl in
+    let same = comes.goal.1 in
     record {
-      cycles = 12 + cycles_of firsts;
-      few = let e = few_cycles firsts in omega arith;
-      hart = comes.hart;
-      runs = runs_join image t number 12 (cycles_of firsts) first_hart h comes.hart sets.runs comes.runs;
-      at = comes.goal.0;
+      begins = record {
+        cycles = 14 + cycles_of firsts;
+        few = let e = few_cycles firsts in omega arith;
+        hart = comes.hart;
+        runs = runs_join image t number 14 (cycles_of firsts) first_hart h comes.hart sets.runs comes.runs;
+        at = comes.goal.0;
+      };
+      node = same 10 refl ∙ sets.has.node;
+      body = same 11 refl ∙ sets.has.body;
     }

@@ -21,7 +21,7 @@ use Rattle.fk_gen_flow.specs.Laws.{JumpsGo, FlowBlocksDo, FlowBlocksKeep, HaltsE
 use Rattle.fk_gen_flow.proofs.Does.{jump_goes, branch_keeps, halt_does}
 use Rattle.fk_gen_flow.proofs.Leaves.{leave_keeps}
 use Rattle.fk_gen_flow.proofs.Enters.{enter_keeps}
-use Rattle.fk_gen_flow.proofs.Begins.{opening_begins}
+use Rattle.fk_gen_flow.proofs.Begins.{begins_in_root}
 
 never : {A : Type 0} → false ≡ true → A
 never e = absurd (cc)
@@ -43,7 +43,7 @@ halts_end core image places bound i op clears at block =
 
 pub harts_begin : HartsBegin
 harts_begin core image places bound firsts main opening are is_main setting t number running =
-    opening_begins core image bound places firsts main opening are is_main setting t number running
+    (begins_in_root core image bound places firsts main opening are is_main setting t number running).begins
 
 -- behind a call stands a jump, which is one word
 behind_jump : (image : Image) (bound : ℕ → ℕ) (places : Places) (i : ℕ) (op : CoreOp) → HasBlock image bound places i (jump_block op.target) → places.block (suc i) ≡ suc (places.block i)

@@ -4,20 +4,22 @@ use Rattle.fk_image.specs.declared.Image.{Image}
 use Rattle.fk_isa.specs.declared.instruction.Instruction.TheVariants.{Lui, Addi, Lw, Sw}
 use Rattle.fk_asm.specs.Block.{MarkedLine}
 use Rattle.fk_block_law.specs.Stands.{Places, frame_register, end_register, rank_register, size_register, local_register, shared_register, heap_register, shared_mask_register, device_register, heap_mask_register}
-use Rattle.fk_gen.specs.Registers.{t0}
+use Rattle.fk_gen.specs.Registers.{t0, a0, a1}
 use Rattle.fk_gen.specs.Lines.{quiet, at_private, high_part, low_part}
 use Rattle.fk_gen.specs.InPlace.{HasLabels, LinesAt}
 use Rattle.fk_gen_flow.specs.Flow.{jump_block}
 
--- the registers that are not 0 at the beginning, for so many private variables of file scope. Devices tell the number of the
--- hart and how many there are
+-- The registers that are not 0 at the beginning, for so many private variables of file scope. Devices tell the number of the
+-- hart and how many there are. Each hart begins in the root of the tree of groups, whose control words are at 0x18400000, and
+-- whose body all run
 abbrev pub register_lines : (of_file : ℕ) → List MarkedLine
 register_lines of_file =
     quiet (Lui local_register 0x20000) ∷ quiet (Addi frame_register local_register (4 * of_file)) ∷
     quiet (Addi end_register local_register 256) ∷ quiet (Lui shared_register 0x10000) ∷ quiet (Lui heap_register 0x20010) ∷
     quiet (Lui shared_mask_register 0xffc00) ∷ quiet (Addi shared_mask_register shared_mask_register 3) ∷
     quiet (Lui heap_mask_register 0xffff0) ∷ quiet (Addi heap_mask_register heap_mask_register 3) ∷
-    quiet (Lui device_register 0x30000) ∷ quiet (Lw rank_register device_register 20) ∷ quiet (Lw size_register device_register 24) ∷ []
+    quiet (Lui device_register 0x30000) ∷ quiet (Lw rank_register device_register 20) ∷ quiet (Lw size_register device_register 24) ∷
+    quiet (Lui a0 0x18400) ∷ quiet (Addi a1 size_register 0) ∷ []
 
 -- the first value of a private variable of file scope; and those from one on
 abbrev pub first_line : (i first : ℕ) → List MarkedLine

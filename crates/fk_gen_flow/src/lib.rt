@@ -6,6 +6,7 @@ mod blocks;
 mod calls;
 pub mod laws;
 mod opening;
+pub mod registers;
 
 pub use blocks::FlowBlocks;
 pub use calls::{emit_back, emit_clear, emit_copy};

@@ -7,6 +7,7 @@ ghost use Rattle.fk_gen_flow.specs.Flow.{jump_block};
 ghost use Rattle.fk_gen_flow.specs.Opening.{register_lines, first_lines, first_line, opening_lines};
 
 use crate::blocks::emit_jump;
+use crate::registers::{BODY, NODE};
 use fk_asm::Assembler;
 use fk_gen::numbers::{at_private, high_part, low_part};
 use fk_gen::registers::{
@@ -32,7 +33,7 @@ pub fn emit_opening(into: &mut Assembler, firsts: &[u32], main: u32) -> Result<(
 
 fn emit_registers(into: &mut Assembler, of_file: u32) -> Result<(), AllocError>
     requires few { of_file ≤ 56 }
-    requires room { length into.old.lines + 12 < 2 ^ 30 }
+    requires room { length into.old.lines + 14 < 2 ^ 30 }
     requires free { AreFollowed into.old }
     ensures added { OnOk result (into.new ≡ with_block into.old (register_lines of_file)) }
 {
@@ -51,6 +52,8 @@ fn emit_registers(into: &mut Assembler, of_file: u32) -> Result<(), AllocError>
             BlockLine::quiet(Instruction::Lui(DEVICES, 0x30000)),
             BlockLine::quiet(Instruction::Lw(RANK, DEVICES, 20)),
             BlockLine::quiet(Instruction::Lw(SIZE, DEVICES, 24)),
+            BlockLine::quiet(Instruction::Lui(NODE, 0x18400)),
+            BlockLine::quiet(Instruction::Addi(BODY, SIZE, 0)),
         ],
     )
 }

@@ -5,12 +5,12 @@ ghost use Rattle.fk_asm.specs.Assembly.{AreFollowed};
 ghost use Rattle.fk_asm.specs.Block.{GoesToMade, HasBegun, with_block};
 ghost use Rattle.fk_gen_group.specs.Blocks.{meet_block, begin_block, agree_block, farm_block, seq_block, end_block};
 
-use crate::registers::{BODY, NODE};
 use crate::start::START_LABEL;
 use fk_asm::{Assembler, Blocks};
 use fk_gen::numbers::at_value;
 use fk_gen::registers::{END, NUMBER, RA, RANK, SIZE, T0, T1, T2, T3, ZERO};
 use fk_gen::{BlockLine, Placed, emit_lines};
+use fk_gen_flow::registers::{BODY, NODE};
 use fk_isa::Instruction;
 use fk_operation::Operation;
 use std::alloc::AllocError;

@@ -3,7 +3,6 @@
 
 mod blocks;
 pub mod laws;
-pub mod registers;
 mod start;
 #[cfg(test)]
 mod tests;

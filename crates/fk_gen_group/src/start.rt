@@ -5,11 +5,11 @@ ghost use Rattle.fk_asm.specs.Assembly.{AreFollowed};
 ghost use Rattle.fk_asm.specs.Block.{with_block};
 ghost use Rattle.fk_gen_group.specs.Blocks.{meet_lines, telling_lines, size_lines, parting_lines, start_lines};
 
-use crate::registers::NODE;
 use fk_asm::Assembler;
 use fk_gen::numbers::{high_part, low_part};
 use fk_gen::registers::{DEVICES, RA, RANK, SIZE, T0, T1, T2, T3, ZERO};
 use fk_gen::{BlockLine, emit_lines};
+use fk_gen_flow::registers::NODE;
 use fk_isa::Instruction;
 use std::alloc::AllocError;
 

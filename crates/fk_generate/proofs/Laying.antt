@@ -40,7 +40,7 @@ pub goes_to_made : (n : ℕ) (bound : List (Option ℕ)) (ms : List MarkedLine) 
 goes_to_made n bound ms count go = All-weaker (GoesTo n) (GoesToMade bound) (λ m goes. made (IsFar m.line.instruction) m.line.label goes) ms go
   where
     below : (label : ℕ) → IsLabel n label → label < length bound
-    below label (inl copy) = omega arith
+    below label (inl low) = omega arith
     below label (inr (inl clear)) = let high = clear.1 in omega arith
     below label (inr (inr of_block)) = let high = of_block.1 in omega arith
 

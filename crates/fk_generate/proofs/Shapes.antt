@@ -1,12 +1,11 @@
 -- The labels that blocks go to, and how many words they have.
-use Rattle.std.proofs.Common.{◌≡◌, ℕ, zero, suc, ◌+◌, ◌-◌, ◌*◌, ◌<◌, ◌≤◌, List, [], ◌∷◌, ◌++◌, map, length, Bool, true, false, Option, Some, None, All, inl, inr, IfSome, ap, refl, arith, length-append}
+use Rattle.std.proofs.Common.{◌≡◌, ℕ, zero, suc, ◌+◌, ◌-◌, ◌*◌, ◌<◌, ◌≤◌, List, [], ◌∷◌, ◌++◌, map, length, Bool, true, false, Option, Some, None, All, inl, inr, IfSome, ap, sym, subst, refl, arith, length-append}
 use Rattle.std.specs.Prelude.{◌==◌, nat_le, slice_get, flat_map, sum_by, ◌||◌, if◌then◌else◌}
 use Rattle.std.specs.Option.{option_map_or}
 use Rattle.std.proofs.lemmas.Bool.{leb-true}
 use Rattle.std.proofs.lemmas.List.{length-map}
 use Rattle.std.proofs.lemmas.List.Elements.{All-nil, All-cons, All-append, All-from_recursion, All-weaker}
 use Rattle.std.proofs.lemmas.List.Sums.{sum_by-cons}
-use Rattle.std.proofs.lemmas.Option.{slice_get_within}
 use Rattle.fk_num.specs.declared.operator.Op.{Op}
 use Rattle.fk_num.specs.declared.operator.Op.TheVariants as op
 use Rattle.fk_operation.specs.declared.operation.Known.{Known}
@@ -31,15 +30,17 @@ use Rattle.fk_block_law.specs.Next.{StandsOp}
 use Rattle.fk_gen_flow.specs.Calls as calls
 use Rattle.fk_gen_flow.specs.Calls.{most_privates}
 use Rattle.fk_gen_flow.specs.Flow as f
+use Rattle.fk_gen_group.specs.Blocks as group
 use Rattle.fk_gen_flow.specs.Opening.{register_lines, first_line, first_lines, opening_lines}
 use Rattle.fk_generate.specs.Generable.{IsGenerable, most_words, words_by}
 use Rattle.fk_generate.specs.declared.kind.Kind.{Kind}
-use Rattle.fk_generate.specs.declared.kind.Kind.TheVariants.{Flow, Access, Expression}
+use Rattle.fk_generate.specs.declared.kind.Kind.TheVariants.{Flow, Access, Group, Expression}
 use Rattle.fk_generate.specs.Kinds.{kind_of, kind_by, block_in, block_of}
 use Rattle.fk_generate.specs.Layout.{placed, placed_from}
 use Rattle.fk_generate.proofs.Chain.{IsUnlabeled}
 use Rattle.fk_generate.proofs.Laid.{GoesTo, IsLabel}
 use Rattle.fk_generate.proofs.Near.{IsFar}
+use Rattle.fk_generate.proofs.Suited.{jump_none}
 
 -- ---- lines without labels
 
@@ -89,6 +90,9 @@ expression_all globals d (Some operation) = first_all (expressions.expression_co
 abbrev Leads : (n : ℕ) → CoreOp → Option Operation → Type 0
 Leads n op (Some (o.Branch onward)) = op.target < n
 Leads n op (Some (o.Enter arguments)) = arguments ≤ most_privates
+Leads n op (Some o.Begin) = op.target < n
+Leads n op (Some o.Seq) = op.target < n
+Leads n op (Some o.End) = op.target < n
 Leads n op operation = Unit {0}
 
 jump_goes : (n target : ℕ) → target < n → GoesTo n (f.jump_line target)
@@ -102,7 +106,7 @@ arguments_all n true zero le = All-nil (GoesTo n)
 arguments_all n true (suc k) le =
     All-append (GoesTo n) (calls.copy_lines k) (calls.own_copies k) (All-from_recursion (GoesTo n) (calls.copy_lines k) (tt, (tt, tt)))
     (arguments_all n true k (omega arith))
-arguments_all n false arguments le = All-from_recursion (GoesTo n) (calls.copies_by false arguments) ((inl le, (6, refl)), tt)
+arguments_all n false arguments le = All-from_recursion (GoesTo n) (calls.copies_by false arguments) ((inl (omega arith), (6, refl)), tt)
 
 clears_all : (n : ℕ) (clears : Bool) (arguments : ℕ) → All (GoesTo n) (calls.clears_by clears arguments)
 clears_all n true arguments = All-from_recursion (GoesTo n) (calls.clears_by true arguments) ((inr (inl (omega arith, omega arith)), (6, refl)), tt)
@@ -133,6 +137,31 @@ flow_block_all n clears op jumps leads = by (is_jump op) jumps leads
     by true jumps leads = jump_all n op.target (jumps refl)
     by false jumps leads = flow_all n clears op (operation_of op.kind op.number) (leads refl)
 
+meet_all : (n word size : ℕ) → All (GoesTo n) (group.meet_block word size)
+meet_all n word size =
+    go_nowhere n (group.meet_block word size)
+    (All-from_recursion IsUnlabeled (group.meet_block word size) (refl, (refl, (refl, (refl, (refl, (refl, (refl, (refl, (refl, (refl, (refl, tt))))))))))))
+
+group_all : (n : ℕ) (op : CoreOp) (operation : Option Operation) → Leads n op operation → All (GoesTo n) (group.block_of operation op.depth op.target)
+group_all n op (Some o.Begin) leads =
+    All-from_recursion (GoesTo n) (group.begin_block op.depth op.target) (tt, ((inl (omega arith), (1, refl)), (jump_goes n op.target leads, tt)))
+group_all n op (Some o.Agree) leads = All-from_recursion (GoesTo n) (group.agree_block op.depth) (tt, (tt, (tt, (tt, tt))))
+group_all n op (Some o.Farm) leads = All-from_recursion (GoesTo n) group.farm_block (tt, tt)
+group_all n op (Some o.Seq) leads =
+    All-from_recursion (GoesTo n) (group.seq_block op.target) (tt, (tt, (tt, (tt, (tt, (jump_goes n op.target leads, (tt, tt)))))))
+group_all n op (Some o.End) leads =
+    All-from_recursion (GoesTo n) (group.end_block op.target) (tt, (tt, (tt, (tt, (tt, (tt, (jump_goes n op.target leads, tt)))))))
+group_all n op (Some o.Resume) leads = meet_all n 1 20
+group_all n op (Some (o.Meet false)) leads = meet_all n 0 11
+group_all n op (Some (o.Meet true)) leads = meet_all n 1 20
+group_all n op operation leads = All-nil (GoesTo n)
+
+-- a jump is no operation, and so none that leads anywhere
+leads_all : (n : ℕ) (op : CoreOp) (jump : Bool) → is_jump op ≡ jump → (is_jump op ≡ false → Leads n op (operation_of op.kind op.number))
+    → Leads n op (operation_of op.kind op.number)
+leads_all n op true j leads = subst (Leads n op) (sym (jump_none op j)) tt
+leads_all n op false j leads = leads j
+
 block_all : (n : ℕ) (p : Placed) → (is_jump p.op ≡ true → p.op.target < n)
     → (is_jump p.op ≡ false → Leads n p.op (operation_of p.op.kind p.op.number)) → All (GoesTo n) (block_of p)
 block_all n p jumps leads = by (kind_of p.op)
@@ -140,6 +169,7 @@ block_all n p jumps leads = by (kind_of p.op)
     by : (kind : Kind) → All (GoesTo n) (block_in kind p)
     by Flow = flow_block_all n p.clears p.op jumps leads
     by Access = go_nowhere n _ (access_all (operation_of p.op.kind p.op.number) p.op.depth p.op.site)
+    by Group = group_all n p.op (operation_of p.op.kind p.op.number) (leads_all n p.op (is_jump p.op) refl leads)
     by Expression = go_nowhere n _ (expression_all p.globals p.op.depth (operation_of p.op.kind p.op.number))
 
 -- ---- in a list
@@ -147,17 +177,19 @@ block_all n p jumps leads = by (kind_of p.op)
 leads_by : (core : List CoreOp) (kept : List Set) (main : ℕ) (firsts : List ℕ) (i : ℕ) (op : CoreOp) (operation : Option Operation)
     → IsGenerable core kept main firsts → slice_get core i ≡ Some op → is_jump op ≡ false → operation_of op.kind op.number ≡ operation
     → Leads (length core) op operation
-leads_by core kept main firsts i op (Some (o.Branch onward)) is e quiet' read = (is.free.within i op (o.Branch onward) e read refl false).at
+leads_by core kept main firsts i op (Some (o.Branch onward)) is e quiet' read =
+    is.blocks.targets i op (o.Branch onward) (record { stands = e; no_jump = quiet'; is_read = read }) refl
 leads_by core kept main firsts i op (Some (o.Enter arguments)) is e quiet' read =
     let stands : StandsOp core i op (o.Enter arguments) = record { stands = e; no_jump = quiet'; is_read = read } in
     (is.suits.fits i op (o.Enter arguments) stands).goes_on.few
+leads_by core kept main firsts i op (Some o.Begin) is e quiet' read = is.blocks.targets i op o.Begin (record { stands = e; no_jump = quiet'; is_read = read }) refl
+leads_by core kept main firsts i op (Some o.Seq) is e quiet' read = is.blocks.targets i op o.Seq (record { stands = e; no_jump = quiet'; is_read = read }) refl
+leads_by core kept main firsts i op (Some o.End) is e quiet' read = is.blocks.targets i op o.End (record { stands = e; no_jump = quiet'; is_read = read }) refl
 leads_by core kept main firsts i op operation is e quiet' read = tt
 
 jumps_to : (core : List CoreOp) (kept : List Set) (main : ℕ) (firsts : List ℕ) (i : ℕ) (op : CoreOp) → IsGenerable core kept main firsts
     → slice_get core i ≡ Some op → is_jump op ≡ true → op.target < length core
-jumps_to core kept main firsts i op is e jump =
-    let there = is.free.jumps i op e jump in
-    slice_get_within core op.target there.op there.stands
+jumps_to core kept main firsts i op is e jump = is.blocks.jumps i op e jump
 
 pub op_goes : (core : List CoreOp) (kept : List Set) (main : ℕ) (firsts : List ℕ) (globals i : ℕ) (op : CoreOp) → IsGenerable core kept main firsts
     → slice_get core i ≡ Some op → All (GoesTo (length core)) (block_of (placed globals kept i op))
@@ -276,15 +308,27 @@ flow_words clears op (Some (o.Enter arguments)) =
 flow_words clears op (Some o.Halt) = omega arith
 flow_words clears op operation = omega arith
 
+group_words : (operation : Option Operation) (d target : ℕ) → length (group.block_of operation d target) ≤ words_by operation
+group_words (Some o.Begin) d target = omega arith
+group_words (Some o.Agree) d target = omega arith
+group_words (Some o.Farm) d target = omega arith
+group_words (Some o.Seq) d target = omega arith
+group_words (Some o.End) d target = omega arith
+group_words (Some o.Resume) d target = omega arith
+group_words (Some (o.Meet false)) d target = omega arith
+group_words (Some (o.Meet true)) d target = omega arith
+group_words operation d target = omega arith
+
 words_of : (jump : Bool) (p : Placed) (operation : Option Operation) → is_jump p.op ≡ jump → operation_of p.op.kind p.op.number ≡ operation
-    → length (block_in (kind_by (jump || flow.is_some_flow operation) (accesses.is_access operation)) p)
+    → length (block_in (kind_by (jump || flow.is_some_flow operation) (accesses.is_access operation) (group.is_group_step operation)) p)
     ≤ (if jump then 1 else words_by operation)
 words_of true p operation j read = rw j (omega arith)
-words_of false p operation j read = by (kind_by (flow.is_some_flow operation) (accesses.is_access operation))
+words_of false p operation j read = by (kind_by (flow.is_some_flow operation) (accesses.is_access operation) (group.is_group_step operation))
   where
     by : (kind : Kind) → length (block_in kind p) ≤ words_by operation
     by Flow = rw (j, read) (flow_words p.clears p.op operation)
     by Access = rw read (access_words operation p.op.depth p.op.site)
+    by Group = rw read (group_words operation p.op.depth p.op.target)
     by Expression = rw read (expression_words p.globals p.op.depth operation)
 
 block_words : (p : Placed) → length (block_of p) ≤ most_words p.op
@@ -310,7 +354,7 @@ firsts_all i (v ∷ firsts) =
 registers_all : (of_file : ℕ) → All IsUnlabeled (register_lines of_file)
 registers_all of_file =
     All-from_recursion IsUnlabeled (register_lines of_file)
-    (refl, (refl, (refl, (refl, (refl, (refl, (refl, (refl, (refl, (refl, (refl, (refl, tt))))))))))))
+    (refl, (refl, (refl, (refl, (refl, (refl, (refl, (refl, (refl, (refl, (refl, (refl, (refl, (refl, tt))))))))))))))
 
 pub opening_goes : (n of_file : ℕ) (firsts : List ℕ) (main : ℕ) → main < n → All (GoesTo n) (opening_lines of_file firsts main)
 opening_goes n of_file firsts main lt =
@@ -323,9 +367,22 @@ firsts_length : (i : ℕ) (firsts : List ℕ) → length (first_lines i firsts) 
 firsts_length i [] = refl
 firsts_length i (v ∷ firsts) = let rest = firsts_length (suc i) firsts in omega arith
 
-pub opening_length : (of_file : ℕ) (firsts : List ℕ) (main : ℕ) → length (opening_lines of_file firsts main) ≡ 3 * length firsts + 13
+pub opening_length : (of_file : ℕ) (firsts : List ℕ) (main : ℕ) → length (opening_lines of_file firsts main) ≡ 3 * length firsts + 15
 opening_length of_file firsts main =
     let sum = length-append (register_lines of_file ++ first_lines 0 firsts) (f.jump_block main) in
     let sum' = length-append (register_lines of_file) (first_lines 0 firsts) in
     let firsts' = firsts_length 0 firsts in
     omega arith
+
+-- ---- the code that beginnings of `start` share
+
+pub start_goes : (n globals : ℕ) → All (GoesTo n) (group.start_lines globals)
+start_goes n globals =
+    go_nowhere n (group.start_lines globals)
+    (All-append IsUnlabeled group.meet_lines (group.telling_lines ++ (group.size_lines ++ group.parting_lines globals))
+    (All-from_recursion IsUnlabeled group.meet_lines (refl, (refl, (refl, (refl, (refl, (refl, (refl, (refl, (refl, (refl, (refl, tt))))))))))))
+    (All-append IsUnlabeled group.telling_lines (group.size_lines ++ group.parting_lines globals)
+    (All-from_recursion IsUnlabeled group.telling_lines (refl, (refl, tt)))
+    (All-append IsUnlabeled group.size_lines (group.parting_lines globals)
+    (All-from_recursion IsUnlabeled group.size_lines (refl, (refl, (refl, (refl, (refl, (refl, (refl, (refl, tt)))))))))
+    (All-from_recursion IsUnlabeled (group.parting_lines globals) (refl, (refl, (refl, (refl, (refl, (refl, (refl, (refl, (refl, tt)))))))))))))

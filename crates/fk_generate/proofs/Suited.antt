@@ -5,7 +5,7 @@ use Rattle.std.proofs.lemmas.Bool.{eqb-true}
 use Rattle.fk_operation.specs.declared.operation.Known.TheVariants.{Value, Rank, GroupNumber, ProcessorNumber, Processors, GroupSize, InputLength, FrameAddress, InputAddress}
 use Rattle.fk_operation.specs.declared.operation.Multiprefix.{Multiprefix}
 use Rattle.fk_operation.specs.declared.operation.Operation.{Operation}
-use Rattle.fk_operation.specs.declared.operation.Operation.TheVariants.{Push, Get, Set, DropLast, CopyLast, Apply, Join, Index, Branch, Enter, Leave, Combine, Halt}
+use Rattle.fk_operation.specs.declared.operation.Operation.TheVariants.{Push, Get, Set, DropLast, CopyLast, Apply, Join, Index, Branch, Enter, Leave, Combine, Halt, Begin, Agree, Farm, Seq, End, Resume, Meet}
 use Rattle.fk_operation.specs.declared.operation.Variable.TheVariants.{Private, OfFile}
 use Rattle.fk_operation.specs.declared.kinds.Class.{Class}
 use Rattle.fk_operation.specs.declared.kinds.Class.TheVariants.{Local, Request, Tree}
@@ -16,12 +16,14 @@ use Rattle.fk_core.specs.Numbers.{operation_of, operation_by, local_of, request_
 use Rattle.fk_block_law.specs.Stands.{Frames, HasRoom}
 use Rattle.fk_block_law.specs.Next.{StandsOp}
 use Rattle.fk_block_law.specs.Ready.{is_alone}
-use Rattle.fk_block_law.specs.Lists.{IsFree}
 use Rattle.fk_block_law.specs.Suits.{Fits}
 use Rattle.fk_gen_expr.specs.Expressions.{IsExpression}
 use Rattle.fk_gen_access.specs.Blocks.{is_access}
 use Rattle.fk_gen_flow.specs.Blocks.{is_flow, is_some_flow, HasOperands}
+use Rattle.fk_gen_group.specs.Blocks.{is_group_step}
+use Rattle.fk_generate.specs.declared.kind.Kind.TheVariants.{Group}
 use Rattle.fk_generate.specs.Kinds.{kind_of, kind_by, HasBlockIn, HasBlockOf}
+use Rattle.fk_generate.specs.Generable.{HasOwnBlock, HasBlocks}
 
 -- ---- the size of an index is the number of its operation
 
@@ -107,19 +109,43 @@ has_expression core frames i globals op operation read fits few number some alon
 
 -- what a branch and a call ask for
 pub has_operands : (core : List CoreOp) (frames : Frames) (i : ℕ) (op : CoreOp) (operation : Operation) → StandsOp core i op operation
-    → Fits core frames i op operation → IsFree core → length core < 2 ^ 31 → HasOperands op.depth op.target (Some operation)
-has_operands core frames i op (Branch onward) stands fits free short =
-    let there : op.target < length core = (free.within i op (Branch onward) stands.stands stands.is_read refl false).at in omega arith
-has_operands core frames i op (Enter n) stands fits free short = fits.values
-has_operands core frames i op operation stands fits free short = tt
+    → Fits core frames i op operation → HasBlocks core → length core < 2 ^ 31 → HasOperands op.depth op.target (Some operation)
+has_operands core frames i op (Branch onward) stands fits blocks short =
+    let there : op.target < length core = blocks.targets i op (Branch onward) stands refl in omega arith
+has_operands core frames i op (Enter n) stands fits blocks short = fits.values
+has_operands core frames i op operation stands fits blocks short = tt
+
+-- ---- steps of groups
+
+-- what processors do alone is none
+pub alone_is_no_step : (operation : Operation) → is_alone operation ≡ true → is_group_step (Some operation) ≡ false
+alone_is_no_step Begin alone = never alone
+alone_is_no_step Agree alone = never alone
+alone_is_no_step Farm alone = never alone
+alone_is_no_step Seq alone = never alone
+alone_is_no_step End alone = never alone
+alone_is_no_step Resume alone = never alone
+alone_is_no_step (Meet closing) alone = never alone
+alone_is_no_step operation alone = refl
+
+-- and a step has its own kind
+pub step_kind : (operation : Operation) → is_group_step (Some operation) ≡ true → kind_by (is_flow operation) (is_access (Some operation)) (is_group_step (Some operation)) ≡ Group
+step_kind Begin step = refl
+step_kind Agree step = refl
+step_kind Farm step = refl
+step_kind Seq step = refl
+step_kind End step = refl
+step_kind Resume step = refl
+step_kind (Meet closing) step = refl
+step_kind operation step = never step
 
 -- ---- all of them
 
 pub kind_here : (core : List CoreOp) (i : ℕ) (op : CoreOp) (operation : Operation) → StandsOp core i op operation
-    → kind_of op ≡ kind_by (is_flow operation) (is_access (Some operation))
+    → kind_of op ≡ kind_by (is_flow operation) (is_access (Some operation)) (is_group_step (Some operation))
 kind_here core i op operation stands =
-    ap (λ b. kind_by (b || is_some_flow (operation_of op.kind op.number)) (is_access (operation_of op.kind op.number))) stands.no_jump
-    ∙ ap (λ o. kind_by (is_some_flow o) (is_access o)) stands.is_read
+    ap (λ b. kind_by (b || is_some_flow (operation_of op.kind op.number)) (is_access (operation_of op.kind op.number)) (is_group_step (operation_of op.kind op.number))) stands.no_jump
+    ∙ ap (λ o. kind_by (is_some_flow o) (is_access o) (is_group_step o)) stands.is_read
 
 no_halt : (operation : Operation) → (is_alone operation ≡ true) ⊎ (operation ≡ Halt) → is_flow operation ≡ false → is_alone operation ≡ true
 no_halt operation (inl alone) f = alone
@@ -128,7 +154,7 @@ no_halt operation (inr e) f = never (sym f ∙ ap is_flow e)
 module _ (core : List CoreOp) (frames : Frames) (i globals : ℕ) (op : CoreOp) (operation : Operation) (clears : Bool) where
   has_by : (flow access : Bool) → is_flow operation ≡ flow → is_access (Some operation) ≡ access → StandsOp core i op operation
       → Fits core frames i op operation → frames.of_file ≤ 56 → op.number < 2 ^ 32 → HasOperands op.depth op.target (Some operation)
-      → globals ≤ 2 ^ 20 → (is_alone operation ≡ true) ⊎ (operation ≡ Halt) → HasBlockIn (kind_by flow access) (record { op = op; globals = globals; clears = clears })
+      → globals ≤ 2 ^ 20 → (is_alone operation ≡ true) ⊎ (operation ≡ Halt) → HasBlockIn (kind_by flow access false) (record { op = op; globals = globals; clears = clears })
   has_by true access f a stands fits few number operands some alone = record {
     kind = inr (ap is_some_flow stands.is_read ∙ f);
     depth = λ e. shallow core frames i op operation fits;
@@ -143,22 +169,43 @@ module _ (core : List CoreOp) (frames : Frames) (i globals : ℕ) (op : CoreOp) 
       subst (λ o. IsSomeAnd o (IsExpression globals op.depth)) (sym stands.is_read)
       (has_expression core frames i globals op operation stands.is_read fits few number some (no_halt operation alone f) f a)
 
-  -- an operation that suits frames has a block
-  pub has_block_of : StandsOp core i op operation → Fits core frames i op operation → frames.of_file ≤ 56 → op.number < 2 ^ 32 → HasOperands op.depth op.target (Some operation)
-      → globals ≤ 2 ^ 20 → (is_alone operation ≡ true) ⊎ (operation ≡ Halt) → HasBlockOf (record { op = op; globals = globals; clears = clears })
-  has_block_of stands fits few number operands some alone =
-      subst (λ k. HasBlockIn k (record { op = op; globals = globals; clears = clears })) (sym (kind_here core i op operation stands))
+  -- the kind of one that is no step of a group
+  lone_has : is_group_step (Some operation) ≡ false → StandsOp core i op operation → Fits core frames i op operation → frames.of_file ≤ 56 → op.number < 2 ^ 32
+      → HasOperands op.depth op.target (Some operation) → globals ≤ 2 ^ 20 → (is_alone operation ≡ true) ⊎ (operation ≡ Halt)
+      → HasBlockOf (record { op = op; globals = globals; clears = clears })
+  lone_has no_step stands fits few number operands some alone =
+      subst (λ k. HasBlockIn k (record { op = op; globals = globals; clears = clears }))
+      (sym (kind_here core i op operation stands ∙ ap (kind_by (is_flow operation) (is_access (Some operation))) no_step))
       (has_by (is_flow operation) (is_access (Some operation)) refl refl stands fits few number operands some alone)
 
--- and so has a jump
+  -- an operation that suits frames has a block
+  pub has_block_of : StandsOp core i op operation → Fits core frames i op operation → frames.of_file ≤ 56 → op.number < 2 ^ 32 → HasOperands op.depth op.target (Some operation)
+      → globals ≤ 2 ^ 20 → (is_group_step (Some operation) ≡ true → op.target < 2 ^ 31) → HasOwnBlock operation
+      → HasBlockOf (record { op = op; globals = globals; clears = clears })
+  has_block_of stands fits few number operands some near (inl alone) =
+      lone_has (alone_is_no_step operation alone) stands fits few number operands some (inl alone)
+  has_block_of stands fits few number operands some near (inr (inl halt)) =
+      lone_has (ap (λ o. is_group_step (Some o)) halt) stands fits few number operands some (inr halt)
+  has_block_of stands fits few number operands some near (inr (inr step)) =
+      subst (λ k. HasBlockIn k (record { op = op; globals = globals; clears = clears })) (sym (kind_here core i op operation stands ∙ step_kind operation step))
+      (record {
+        kind = ap is_group_step stands.is_read ∙ step;
+        depth = shallow core frames i op operation fits;
+        target = near step;
+      })
+
+-- a jump is no operation
+pub jump_none : (op : CoreOp) → is_jump op ≡ true → operation_of op.kind op.number ≡ None
+jump_none op jump = ap (λ k. operation_of k op.number) (eqb-true op.kind 0 jump)
+
+-- but it has a block
 pub jump_has : (op : CoreOp) (globals : ℕ) (clears : Bool) → is_jump op ≡ true → op.target < 2 ^ 31 → HasBlockOf (record { op = op; globals = globals; clears = clears })
 jump_has op globals clears jump target =
-    let none : operation_of op.kind op.number ≡ None = ap (λ k. operation_of k op.number) (eqb-true op.kind 0 jump) in
-    let e = ap (λ b. kind_by (b || is_some_flow (operation_of op.kind op.number)) (is_access (operation_of op.kind op.number))) jump in
+    let e = ap (λ b. kind_by (b || is_some_flow (operation_of op.kind op.number)) (is_access (operation_of op.kind op.number)) (is_group_step (operation_of op.kind op.number))) jump in
     subst (λ k. HasBlockIn k (record { op = op; globals = globals; clears = clears })) (sym e)
     (record {
       kind = inl jump;
       depth = λ no. never (sym no ∙ jump);
       jump = λ yes. target;
-      operands = subst (HasOperands op.depth op.target) (sym none) tt;
+      operands = subst (HasOperands op.depth op.target) (sym (jump_none op jump)) tt;
     })

@@ -11,15 +11,16 @@ use Rattle.fk_asm.specs.Block.{MarkedLine, lines_of, entries_from}
 use Rattle.fk_kept.specs.declared.set.Set.{Set}
 use Rattle.fk_gen.specs.declared.placed.Placed.{Placed}
 use Rattle.fk_gen_flow.specs.Opening.{opening_lines}
+use Rattle.fk_gen_group.specs.Blocks.{start_lines}
 use Rattle.fk_generate.specs.Generable.{IsGenerable, most_words}
 use Rattle.fk_generate.specs.Kinds.{block_of}
-use Rattle.fk_generate.specs.Layout.{placed, all_placed, copying_lines, clearing_lines, front, all_lines, IsLaid}
+use Rattle.fk_generate.specs.Layout.{placed, all_placed, copying_lines, clearing_lines, calls_front, front, all_lines, IsLaid}
 use Rattle.fk_generate.proofs.Chain.{copying_straight, clearing_straight}
 use Rattle.fk_generate.proofs.InImage.{IsAssembled}
 use Rattle.fk_generate.proofs.Laid.{GoesTo, length-front, all_go_far}
 use Rattle.fk_generate.proofs.Near.{are_bound, none_too_far}
 use Rattle.fk_generate.proofs.AllPlaced.{length-placed, all_from}
-use Rattle.fk_generate.proofs.Shapes.{go_nowhere, op_goes, all_words, opening_goes, opening_length}
+use Rattle.fk_generate.proofs.Shapes.{go_nowhere, op_goes, all_words, start_goes, opening_goes, opening_length}
 
 all_flat : (P : MarkedLine → Type 0) (block : Placed → List MarkedLine) (ops : List Placed) → All (λ op. All P (block op)) ops
     → All P (flat_map block ops)
@@ -36,7 +37,7 @@ module _ (core : List CoreOp) (kept : List Set) (main : ℕ) (firsts : List ℕ)
   opening = opening_lines (length firsts) firsts main
 
   abbrev pub whole : List MarkedLine
-  whole = all_lines block_of opening ops
+  whole = all_lines block_of opening globals ops
 
   pub length-ops : length ops ≡ length core
   length-ops = length-placed globals kept 0 core
@@ -51,21 +52,23 @@ module _ (core : List CoreOp) (kept : List Set) (main : ℕ) (firsts : List ℕ)
   pub all_go : All (GoesTo (length ops)) whole
   all_go =
       let main_there : main < length ops = let e = length-ops in let lt = is.begins in omega (arith, e, lt) in
-      All-append (GoesTo (length ops)) (front opening) (flat_map block_of ops)
+      All-append (GoesTo (length ops)) (front opening globals) (flat_map block_of ops)
+      (All-append (GoesTo (length ops)) (calls_front opening) (start_lines globals)
       (All-append (GoesTo (length ops)) (opening ++ copying_lines) clearing_lines
       (All-append (GoesTo (length ops)) opening copying_lines
       (opening_goes (length ops) (length firsts) firsts main main_there)
       (go_nowhere (length ops) copying_lines copying_straight))
       (go_nowhere (length ops) clearing_lines clearing_straight))
+      (start_goes (length ops) globals))
       (all_flat (GoesTo (length ops)) block_of ops blocks_go)
 
   pub few_firsts : length firsts ≤ 56
   few_firsts = let few = is.suits.few in let same = is.of_file in omega arith
 
-  pub length-whole : length whole ≡ 3 * length firsts + 183 + length (flat_map block_of ops)
+  pub length-whole : length whole ≡ 3 * length firsts + 215 + length (flat_map block_of ops)
   length-whole =
-      let sum = length-append (front opening) (flat_map block_of ops) in
-      let first = length-front block_of opening ops in
+      let sum = length-append (front opening globals) (flat_map block_of ops) in
+      let first = length-front block_of opening globals ops in
       let second = opening_length (length firsts) firsts main in
       omega (arith, sum, first, second)
 
@@ -77,7 +80,7 @@ module _ (core : List CoreOp) (kept : List Set) (main : ℕ) (firsts : List ℕ)
         let blocks = all_words globals kept 0 core in
         omega arith
 
-    module _ (a : Assembly) (laid : IsLaid block_of opening ops a) where
+    module _ (a : Assembly) (laid : IsLaid block_of opening globals ops a) where
       same_lines : a.lines ≡ lines_of whole
       same_lines = ap (λ (x : Assembly). x.lines) laid.made
 
@@ -85,14 +88,14 @@ module _ (core : List CoreOp) (kept : List Set) (main : ℕ) (firsts : List ℕ)
       same_commits = ap (λ (x : Assembly). x.commits) laid.made
 
       whole_bound : All (IsBound a.bound) (lines_of whole)
-      whole_bound = are_bound a.bound (length whole) whole (all_go_far block_of opening ops a laid all_go)
+      whole_bound = are_bound a.bound (length whole) whole (all_go_far block_of opening globals ops a laid all_go)
 
       pub lines_bound : All (IsBound a.bound) a.lines
       lines_bound = subst (All (IsBound a.bound)) (sym same_lines) whole_bound
 
       pub lines_near : (k : ℕ) (d : ℤ) → IsFirstTooFar a.bound a.lines k d → ⊥
       lines_near k d first =
-          none_too_far a.bound whole k d few_words (all_go_far block_of opening ops a laid all_go)
+          none_too_far a.bound whole k d few_words (all_go_far block_of opening globals ops a laid all_go)
           (subst (λ l. IsFirstTooFar a.bound l k d) same_lines first)
 
       pub count_lines : length a.lines ≡ length whole

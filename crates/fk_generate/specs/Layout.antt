@@ -1,5 +1,5 @@
 -- Blocks that stand one behind the other, each with its label.
-use Rattle.std.specs.Prelude.{◌≡◌, ℕ, suc, ◌+◌, ◌-◌, ◌*◌, ◌/◌, ◌^◌, ◌==◌, ◌<◌, ◌≤◌, nat_lt, List, [], ◌∷◌, ◌++◌, length, take, flat_map, Bool, not, false, ◌&&◌, Option, Some, None, slice_get, slice_index_or}
+use Rattle.std.specs.Prelude.{◌≡◌, ℕ, suc, ◌+◌, ◌-◌, ◌*◌, ◌/◌, ◌^◌, ◌==◌, ◌<◌, ◌≤◌, nat_lt, List, [], ◌∷◌, ◌++◌, length, take, flat_map, Bool, not, false, ◌&&◌, Option, Some, None, slice_get, slice_index_or, slice_set}
 use Rattle.fk_operation.specs.declared.operation.Operation.{Operation}
 use Rattle.fk_operation.specs.declared.operation.Operation.TheVariants.{Enter}
 use Rattle.fk_core.specs.declared.op.CoreOp.{CoreOp}
@@ -10,6 +10,7 @@ use Rattle.fk_kept.specs.declared.set.Set.{Set}
 use Rattle.fk_gen.specs.declared.placed.Placed.{Placed}
 use Rattle.fk_gen.specs.Lines.{copy_label, clear_label, label_of}
 use Rattle.fk_gen_flow.specs.Calls.{chain_lines, copy_lines, clear_lines, most_privates}
+use Rattle.fk_gen_group.specs.Blocks.{start_label, start_lines}
 
 -- a call clears where its set has a word that is no argument
 abbrev pub clears_by : Option Operation → Option Set → Bool
@@ -68,27 +69,38 @@ copying_lines = chain_lines copy_lines most_privates
 abbrev pub clearing_lines : List MarkedLine
 clearing_lines = chain_lines clear_lines most_privates
 
--- what stands before the blocks, and all lines of a code
-abbrev pub front : (opening : List MarkedLine) → List MarkedLine
-front opening = (opening ++ copying_lines) ++ clearing_lines
+-- an assembler to which the code was added that all beginnings of `start` share, in an image with so many words of globals. Its label
+-- is bound where it begins
+abbrev pub AddsStart : (globals : ℕ) → (old new : Assembly) → Type 0
+AddsStart globals old new =
+    new ≡ with_block (record old { bound = slice_set old.bound start_label (Some (length old.lines)) }) (start_lines globals)
 
-abbrev pub all_lines : (Placed → List MarkedLine) → (opening : List MarkedLine) → List Placed → List MarkedLine
-all_lines block opening ops = front opening ++ flat_map block ops
+-- what stands before that code, what stands before the blocks, and all lines of a code
+abbrev pub calls_front : (opening : List MarkedLine) → List MarkedLine
+calls_front opening = (opening ++ copying_lines) ++ clearing_lines
+
+abbrev pub front : (opening : List MarkedLine) → (globals : ℕ) → List MarkedLine
+front opening globals = calls_front opening ++ start_lines globals
+
+abbrev pub all_lines : (Placed → List MarkedLine) → (opening : List MarkedLine) → (globals : ℕ) → List Placed → List MarkedLine
+all_lines block opening globals ops = front opening globals ++ flat_map block ops
 
 -- a label of none of these
 pub record IsSpare (label : ℕ) : Type 0 where
   pub low : label < label_of 0
   pub no_copy : (n : ℕ) → n ≤ most_privates → label ≡ copy_label n → ⊥
+  pub no_start : label ≡ start_label → ⊥
   pub no_clear : (n : ℕ) → n ≤ most_privates → label ≡ clear_label n → ⊥
 
 -- an assembler with all of a code
-pub record IsLaid (block : Placed → List MarkedLine) (opening : List MarkedLine) (ops : List Placed) (a : Assembly) : Type 0 where
-  pub made : a ≡ record (with_block empty (all_lines block opening ops)) { bound = a.bound }
+pub record IsLaid (block : Placed → List MarkedLine) (opening : List MarkedLine) (globals : ℕ) (ops : List Placed) (a : Assembly) : Type 0 where
+  pub made : a ≡ record (with_block empty (all_lines block opening globals ops)) { bound = a.bound }
   pub count : length a.bound ≡ label_of (length ops)
   pub copies : (n : ℕ) → n ≤ most_privates
       → slice_index_or a.bound (copy_label n) None ≡ Some (length opening + copy_offset n)
   pub clears : (n : ℕ) → n ≤ most_privates
       → slice_index_or a.bound (clear_label n) None ≡ Some (length (opening ++ copying_lines) + clear_offset n)
+  pub starts : slice_index_or a.bound start_label None ≡ Some (length (calls_front opening))
   pub spare : (label : ℕ) → IsSpare label → slice_index_or a.bound label None ≡ None
   pub labels : (i : ℕ) → i < length ops
-      → slice_index_or a.bound (label_of i) None ≡ Some (place block (length (front opening)) ops i)
+      → slice_index_or a.bound (label_of i) None ≡ Some (place block (length (front opening globals)) ops i)

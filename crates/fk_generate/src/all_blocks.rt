@@ -6,6 +6,7 @@ use fk_gen::Placed;
 use fk_gen_access::AccessBlocks;
 use fk_gen_expr::ExpressionBlocks;
 use fk_gen_flow::FlowBlocks;
+use fk_gen_group::GroupBlocks;
 use std::alloc::AllocError;
 
 /// The blocks of all operations, each by its kind.
@@ -23,6 +24,7 @@ impl Blocks<Placed> for AllBlocks {
         match Kind::of(op.op) {
             Kind::Flow => FlowBlocks.emit_op(op, into),
             Kind::Access => AccessBlocks.emit_op(op, into),
+            Kind::Group => GroupBlocks.emit_op(op, into),
             Kind::Expression => ExpressionBlocks.emit_op(op, into),
         }
     }

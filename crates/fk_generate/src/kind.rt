@@ -10,6 +10,8 @@ pub enum Kind {
     Flow,
     /// An access of memory or of a device.
     Access,
+    /// A step that a group does.
+    Group,
     /// An operation on the values of a call.
     Expression,
 }
@@ -40,6 +42,15 @@ impl Kind {
                 | Operation::PrintNumber
                 | Operation::PrintByte,
             ) => Kind::Access,
+            Some(
+                Operation::Begin
+                | Operation::Agree
+                | Operation::Farm
+                | Operation::Seq
+                | Operation::End
+                | Operation::Resume
+                | Operation::Meet(_),
+            ) => Kind::Group,
             _ => Kind::Expression,
         }
     }

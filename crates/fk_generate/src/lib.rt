@@ -1,4 +1,5 @@
-//! The code of a flat list: the opening, the code that all calls share, and the block of each operation.
+//! The code of a flat list: the opening, the code that all calls share and that which all beginnings of `start` share, and the
+//! block of each operation.
 #![tactic(auto)]
 
 mod all_blocks;
@@ -7,5 +8,6 @@ mod code;
 mod copying;
 mod kind;
 mod placing;
+mod starting;
 
 pub use code::generate;

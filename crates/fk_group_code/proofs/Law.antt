@@ -61,8 +61,8 @@ module _ (core : List CoreOp) (image : Image) (places : Places) (bound : ℕ →
   block_or o op = option_map_or (expressions.expression_block globals op.depth) o []
 
   keeps_by : (i : ℕ) (op : CoreOp) (operation : Operation) → StandsOp core i op operation → is_alone operation ≡ true → (flow access : Bool) → is_flow operation ≡ flow
-      → accesses.is_access (Some operation) ≡ access → HasBlock image bound places i (block_in (kind_by flow access) (here i op))
-      → BlockKeeps core image places (before_in (kind_by flow access) op operation) (behind_in (kind_by flow access) (here i op) operation) i op operation
+      → accesses.is_access (Some operation) ≡ access → HasBlock image bound places i (block_in (kind_by flow access false) (here i op))
+      → BlockKeeps core image places (before_in (kind_by flow access false) op operation) (behind_in (kind_by flow access false) (here i op) operation) i op operation
   keeps_by i op operation stands alone true access f a has =
       flow_blocks_keep core image places bound i op operation (here i op).clears stands alone f (ranges.words i op stands.stands).0 has code.shared code.jumps suits.few
       (suits.fits i op operation stands) (clears_enough places.frames kept i (operation_of op.kind op.number) operation are stands.is_read)
@@ -72,7 +72,7 @@ module _ (core : List CoreOp) (image : Image) (places : Places) (bound : ℕ →
       (subst (λ o. HasBlock image bound places i (accesses.block_of o op.depth op.site)) stands.is_read has) (suits.fits i op operation stands))
   keeps_by i op operation stands alone false false f a has =
       let fits = suits.fits i op operation stands in
-      keeps_of core image places 0 (behind_in (kind_by false false) (here i op) operation) i op operation f alone
+      keeps_of core image places 0 (behind_in (kind_by false false false) (here i op) operation) i op operation f alone
       (expressions_keep core image places bound i op operation stands
       (has_expression core places.frames i globals op operation stands.is_read fits suits.few (ranges.words i op stands.stands).1 ranges.globals alone f a)
       (subst (λ o. HasBlock image bound places i (block_or o op)) stands.is_read has) suits.few fits)

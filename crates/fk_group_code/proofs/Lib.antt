@@ -14,3 +14,5 @@ mod At
 pub mod Groups
 -- where no level stands in a frame
 pub mod Whole
+-- the premises of `generate`, met by a small list
+mod Example

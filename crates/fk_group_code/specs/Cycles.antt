@@ -1,5 +1,5 @@
 -- How many cycles the block of each operation takes.
-use Rattle.std.specs.Prelude.{ℕ, List, Bool, Option, Some, None, slice_get, if◌then◌else◌}
+use Rattle.std.specs.Prelude.{ℕ, List, Bool, false, Option, Some, None, slice_get, if◌then◌else◌}
 use Rattle.std.specs.Option.{option_map_or}
 use Rattle.fk_operation.specs.declared.operation.Operation.{Operation}
 use Rattle.fk_operation.specs.declared.operation.Operation.TheVariants.{Begin, Agree, Seq, End}
@@ -13,24 +13,25 @@ use Rattle.fk_gen_access.specs.Blocks as accesses
 use Rattle.fk_gen_flow.specs.Blocks.{is_flow}
 use Rattle.fk_gen_flow.specs.Keeps as flow
 use Rattle.fk_generate.specs.declared.kind.Kind.{Kind}
-use Rattle.fk_generate.specs.declared.kind.Kind.TheVariants.{Flow, Access, Expression}
+use Rattle.fk_generate.specs.declared.kind.Kind.TheVariants.{Flow, Access, Group, Expression}
 use Rattle.fk_generate.specs.Kinds.{kind_by}
 use Rattle.fk_generate.specs.Layout.{placed}
 use Rattle.fk_group_law.specs.Law.{Cycles}
 
 -- the kind of the block of an operation that processors do alone
 abbrev pub lone_kind : Operation → Kind
-lone_kind operation = kind_by (is_flow operation) (accesses.is_access (Some operation))
+lone_kind operation = kind_by (is_flow operation) (accesses.is_access (Some operation)) false
 
 -- before its commit, and behind it
 abbrev pub before_in : Kind → CoreOp → Operation → ℕ
 before_in Flow op operation = flow.before_commit operation
 before_in Access op operation = accesses.before_commit operation op.site
-before_in Expression op operation = 0
+before_in kind op operation = 0
 
 abbrev pub behind_in : Kind → Placed → Operation → (onward : Bool) → ℕ
 behind_in Flow here operation onward = flow.behind_commit here.clears operation onward
 behind_in Access here operation onward = accesses.behind_commit operation
+behind_in Group here operation onward = 0
 behind_in Expression here operation onward = past_first (expression_block here.globals here.op.depth operation)
 
 -- and those of steps that a group does in lockstep

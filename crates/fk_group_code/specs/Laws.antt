@@ -16,7 +16,7 @@ use Rattle.fk_kept.specs.declared.set.Set.{Set}
 use Rattle.fk_gen.specs.InPlace.{HasBlock}
 use Rattle.fk_gen_flow.specs.Calls.{HasShared}
 use Rattle.fk_gen_flow.specs.Laws.{JumpsStand}
-use Rattle.fk_generate.specs.Kinds.{block_in, block_of}
+use Rattle.fk_generate.specs.Kinds.{block_in}
 use Rattle.fk_generate.specs.Layout.{placed}
 use Rattle.fk_generate.specs.Generable.{AreKept}
 use Rattle.fk_group_law.specs.Node.{Gathering, Nestings, HasLevelRoom}
@@ -39,13 +39,6 @@ pub record HasLoneCode (core : List CoreOp) (kept : List Set) (image : Image) (b
       → HasBlock image bound places i (block_in (lone_kind operation) (placed (length image.globals.items) kept i op))
   pub jumps : JumpsStand core image bound places
   pub shared : HasShared image bound
-
--- so it is with the code that is made of a list without groups
-abbrev pub GeneratedCodeStands : Type 0
-GeneratedCodeStands =
-    (core : List CoreOp) (kept : List Set) (image : Image) (bound : ℕ → ℕ) (places : Places)
-    → ((i : ℕ) (op : CoreOp) → slice_get core i ≡ Some op → HasBlock image bound places i (block_of (placed (length image.globals.items) kept i op)))
-    → HasShared image bound → HasLoneCode core kept image bound places
 
 -- the numbers of a list are words, and there are no more globals than shared words
 pub record AreInRange (core : List CoreOp) (image : Image) : Type 0 where

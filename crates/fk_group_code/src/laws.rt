@@ -1,10 +1,11 @@
 //! What the code of a list does.
 
-ghost use Rattle.fk_group_code.specs.Laws.{GeneratedCodeStands, ListsDoAlone, LevelsNeedNoRoom, ListsHaveTheLaw};
+ghost use Rattle.fk_group_code.specs.Laws.{ListsDoAlone, LevelsNeedNoRoom, ListsHaveTheLaw};
 ghost use Rattle.fk_group_code.specs.Opening.{GroupsBegin};
-ghost use Rattle.fk_group_code.specs.Whole.{CodeHasTheLaw};
+ghost use Rattle.fk_group_code.specs.Whole.{GeneratedCodeStands, CodeHasTheLaw};
 
-/// The code that `fk_generate` makes of a list without groups has the block of each operation that processors do alone at its index.
+/// Where the code stands that `fk_generate` makes of a list, the block of each operation that processors do alone, of each jump and of each
+/// step of a group stands at its index.
 pub fn generated_code_stands()
     ensures { GeneratedCodeStands }
 {}
@@ -26,7 +27,7 @@ pub fn lists_have_the_law()
     ensures { ListsHaveTheLaw }
 {}
 
-/// From an opening that sets the two registers of a node each hart comes to the block where `main` begins, in the root.
+/// From the opening each hart comes to the block where `main` begins, in the root.
 pub fn groups_begin()
     ensures { GroupsBegin }
 {}

@@ -72,7 +72,7 @@ static CASES: [Case; 7] = [
         room: 9,
         status: Status::Done,
         out: b"",
-        err: b"built 184 words\n",
+        err: b"built 216 words\n",
         image: true,
     },
     // the output at once

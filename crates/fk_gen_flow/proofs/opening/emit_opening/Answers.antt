@@ -7,7 +7,7 @@ use Rattle.fk_gen_flow.proofs.opening.emit_opening.Goals as goal
 
 pub emit_firsts-requires-clause-room : goal.emit_firsts-requires-clause-room
 emit_firsts-requires-clause-room c =
-    let first = many_lines c.args.into.now c.emit_registers.new.into (register_lines (length c.args.firsts.now)) 12 c.in_ok-emit_registers.ensures.added refl in
+    let first = many_lines c.args.into.now c.emit_registers.new.into (register_lines (length c.args.firsts.now)) 14 c.in_ok-emit_registers.ensures.added refl in
     omega arith
 
 pub emit_firsts-requires-clause-free : goal.emit_firsts-requires-clause-free
@@ -20,7 +20,7 @@ emit_jump-requires-clause-labels c =
 
 pub emit_jump-requires-clause-room : goal.emit_jump-requires-clause-room
 emit_jump-requires-clause-room c =
-    let first = many_lines c.args.into.now c.emit_registers.new.into (register_lines (length c.args.firsts.now)) 12 c.in_ok-emit_registers.ensures.added refl in
+    let first = many_lines c.args.into.now c.emit_registers.new.into (register_lines (length c.args.firsts.now)) 14 c.in_ok-emit_registers.ensures.added refl in
     let second = many_lines c.emit_registers.new.into c.emit_firsts.new.into (first_lines 0 c.args.firsts.now) (3 * length c.args.firsts.now) c.in_ok-emit_firsts.ensures.added (many_firsts 0 c.args.firsts.now) in
     omega arith
 

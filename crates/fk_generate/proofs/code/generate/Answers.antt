@@ -2,8 +2,8 @@ use Rattle.std.proofs.Common.{◌≡◌, ◌≤◌, length, map, Some, vec_len, 
 use Rattle.fk_isa.specs.Find.{row}
 use Rattle.fk_asm.specs.declared.code.Code.{Code}
 use Rattle.fk_asm.specs.Assembly.{instructions}
-use Rattle.fk_generate.specs.Generable.{DoesTheList}
-use Rattle.fk_generate.proofs.Done.{does_the_list}
+use Rattle.fk_generate.specs.Generable.{DoesTheList, CodeStands}
+use Rattle.fk_generate.proofs.Done.{does_the_list, stands}
 use Rattle.fk_generate.proofs.Steps.{if_ok_two}
 use Rattle.fk_generate.proofs.Whole.{few_words, lines_bound, lines_near, count_lines}
 use Rattle.fk_generate.proofs.code.generate.Goals as goal
@@ -23,6 +23,16 @@ returns-clause-law c =
     (λ (code : Code). code.commits.items ≡ laid.commits)
     (DoesTheList c.args.ops.now c.args.kept.now c.args.main c.args.firsts.now c.args.globals)
     (λ code rows commits. does_the_list c.args.ops.now c.args.kept.now c.args.main c.args.firsts.now c.args.globals c.requires.list c.requires.globals
+    c.requires.small laid c.in_ok-laid.ensures.laid code rows commits)
+    c.finish.ensures.rows c.finish.ensures.commits
+
+pub returns-clause-stands : goal.returns-clause-stands
+returns-clause-stands c =
+    let laid = c.in_ok-laid.laid in
+    if_ok_two c.finish.result (λ (code : Code). map row code.words.items ≡ map Some (instructions laid.bound laid.lines))
+    (λ (code : Code). code.commits.items ≡ laid.commits)
+    (CodeStands c.args.ops.now c.args.kept.now c.args.main c.args.firsts.now c.args.globals)
+    (λ code rows commits. stands c.args.ops.now c.args.kept.now c.args.main c.args.firsts.now c.args.globals c.requires.list c.requires.globals
     c.requires.small laid c.in_ok-laid.ensures.laid code rows commits)
     c.finish.ensures.rows c.finish.ensures.commits
 

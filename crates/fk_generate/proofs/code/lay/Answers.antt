@@ -1,6 +1,6 @@
 use Rattle.std.proofs.Common.{◌^◌, ◌<◌, ◌≤◌, length, arith, rules}
 use Rattle.fk_generate.proofs.Done.{all_have}
-use Rattle.fk_generate.proofs.Steps.{short_list, room_for_copying, followed, room_for_clearing, labels_copied, free_copied, enough_labels, blocks_made, room_for_blocks, labels_free, all_laid}
+use Rattle.fk_generate.proofs.Steps.{short_list, room_for_copying, followed, room_for_clearing, labels_copied, free_copied, room_for_starting, labels_cleared, free_cleared, enough_labels, blocks_made, room_for_blocks, labels_free, all_laid}
 use Rattle.fk_generate.proofs.code.lay.Goals as goal
 
 pub overflow_cast-ops : goal.overflow_cast-ops
@@ -54,23 +54,42 @@ emit_clearing-requires-clause-free c =
     c.make_labels.new.into c.emit_opening.new.into c.in_ok-make_labels.ensures.made c.in_ok-emit_opening.ensures.added
     c.emit_copying.new.into c.in_ok-emit_copying.ensures.added
 
+pub emit_starting-requires-clause-room : goal.emit_starting-requires-clause-room
+emit_starting-requires-clause-room c =
+    room_for_starting c.args.ops.now c.args.kept.now c.args.main c.args.firsts.now c.args.globals c.requires.list c.requires.small
+    c.make_labels.new.into c.emit_opening.new.into c.in_ok-make_labels.ensures.made c.in_ok-emit_opening.ensures.added
+    c.emit_copying.new.into c.in_ok-emit_copying.ensures.added c.emit_clearing.new.into c.in_ok-emit_clearing.ensures.added
+
+pub emit_starting-requires-clause-made : goal.emit_starting-requires-clause-made
+emit_starting-requires-clause-made c =
+    let count = labels_cleared c.args.ops.now c.args.kept.now c.args.main c.args.firsts.now c.args.globals c.requires.list c.requires.small
+    c.make_labels.new.into c.emit_opening.new.into c.in_ok-make_labels.ensures.made c.in_ok-emit_opening.ensures.added
+    c.emit_copying.new.into c.in_ok-emit_copying.ensures.added c.emit_clearing.new.into c.in_ok-emit_clearing.ensures.added in
+    omega (arith, count)
+
+pub emit_starting-requires-clause-free : goal.emit_starting-requires-clause-free
+emit_starting-requires-clause-free c =
+    free_cleared c.args.ops.now c.args.kept.now c.args.main c.args.firsts.now c.args.globals c.requires.list c.requires.small
+    c.make_labels.new.into c.emit_opening.new.into c.in_ok-make_labels.ensures.made c.in_ok-emit_opening.ensures.added
+    c.emit_copying.new.into c.in_ok-emit_copying.ensures.added c.emit_clearing.new.into c.in_ok-emit_clearing.ensures.added
+
 pub emit_blocks-requires-clause-goes : goal.emit_blocks-requires-clause-goes
 emit_blocks-requires-clause-goes c =
     blocks_made c.args.ops.now c.args.kept.now c.args.main c.args.firsts.now c.args.globals c.requires.list c.requires.small
     c.make_labels.new.into c.emit_opening.new.into c.in_ok-make_labels.ensures.made c.in_ok-emit_opening.ensures.added
-    c.emit_copying.new.into c.in_ok-emit_copying.ensures.added c.emit_clearing.new.into c.in_ok-emit_clearing.ensures.added
+    c.emit_copying.new.into c.in_ok-emit_copying.ensures.added c.emit_clearing.new.into c.in_ok-emit_clearing.ensures.added c.emit_starting.new.into c.in_ok-emit_starting.ensures.added
 
 pub emit_blocks-requires-clause-room : goal.emit_blocks-requires-clause-room
 emit_blocks-requires-clause-room c =
     room_for_blocks c.args.ops.now c.args.kept.now c.args.main c.args.firsts.now c.args.globals c.requires.list c.requires.small
     c.make_labels.new.into c.emit_opening.new.into c.in_ok-make_labels.ensures.made c.in_ok-emit_opening.ensures.added
-    c.emit_copying.new.into c.in_ok-emit_copying.ensures.added c.emit_clearing.new.into c.in_ok-emit_clearing.ensures.added
+    c.emit_copying.new.into c.in_ok-emit_copying.ensures.added c.emit_clearing.new.into c.in_ok-emit_clearing.ensures.added c.emit_starting.new.into c.in_ok-emit_starting.ensures.added
 
 pub emit_blocks-requires-clause-made : goal.emit_blocks-requires-clause-made
 emit_blocks-requires-clause-made c =
     enough_labels c.args.ops.now c.args.kept.now c.args.main c.args.firsts.now c.args.globals c.requires.list c.requires.small
     c.make_labels.new.into c.emit_opening.new.into c.in_ok-make_labels.ensures.made c.in_ok-emit_opening.ensures.added
-    c.emit_copying.new.into c.in_ok-emit_copying.ensures.added c.emit_clearing.new.into c.in_ok-emit_clearing.ensures.added
+    c.emit_copying.new.into c.in_ok-emit_copying.ensures.added c.emit_clearing.new.into c.in_ok-emit_clearing.ensures.added c.emit_starting.new.into c.in_ok-emit_starting.ensures.added
 
 pub emit_blocks-requires-clause-few : goal.emit_blocks-requires-clause-few
 emit_blocks-requires-clause-few c =
@@ -81,10 +100,10 @@ pub emit_blocks-requires-clause-free : goal.emit_blocks-requires-clause-free
 emit_blocks-requires-clause-free c =
     labels_free c.args.ops.now c.args.kept.now c.args.main c.args.firsts.now c.args.globals c.requires.list c.requires.small
     c.make_labels.new.into c.emit_opening.new.into c.in_ok-make_labels.ensures.made c.in_ok-emit_opening.ensures.added
-    c.emit_copying.new.into c.in_ok-emit_copying.ensures.added c.emit_clearing.new.into c.in_ok-emit_clearing.ensures.added
+    c.emit_copying.new.into c.in_ok-emit_copying.ensures.added c.emit_clearing.new.into c.in_ok-emit_clearing.ensures.added c.emit_starting.new.into c.in_ok-emit_starting.ensures.added
 
 pub returns-clause-laid : goal.returns-clause-laid
 returns-clause-laid c =
     all_laid c.args.ops.now c.args.kept.now c.args.main c.args.firsts.now c.args.globals c.requires.list c.requires.small
     c.make_labels.new.into c.emit_opening.new.into c.in_ok-make_labels.ensures.made c.in_ok-emit_opening.ensures.added
-    c.emit_copying.new.into c.in_ok-emit_copying.ensures.added c.emit_clearing.new.into c.in_ok-emit_clearing.ensures.added c.emit_blocks.new.into c.in_ok-emit_blocks.ensures.added
+    c.emit_copying.new.into c.in_ok-emit_copying.ensures.added c.emit_clearing.new.into c.in_ok-emit_clearing.ensures.added c.emit_starting.new.into c.in_ok-emit_starting.ensures.added c.emit_blocks.new.into c.in_ok-emit_blocks.ensures.added
