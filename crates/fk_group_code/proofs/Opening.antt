@@ -14,7 +14,7 @@ use Rattle.fk_group_law.specs.Node.{Nestings, HasNestings, HasOuter, HasSaved, p
 use Rattle.fk_group_code.specs.Opening.{root_lines, GroupsBegin}
 
 -- no level is round a processor in the root
-root_nestings : (places : Places) (nestings : Nestings) (processors number main : ℕ) (m : Memory) → nestings.levels main ≡ 0 → places.frames.of_file + 8 + nestings.behind main ≤ 64
+root_nestings : (places : Places) (nestings : Nestings) (processors number main : ℕ) (m : Memory) → nestings.levels main ≡ 0 → places.frames.of_file + 7 + nestings.behind main ≤ 64
     → HasNestings places nestings processors number m main [] [] []
 root_nestings places nestings processors number main m none room = (
   (
@@ -63,7 +63,7 @@ groups_begin core image bound places nestings firsts main opening are is_main no
     let same = comes.goal.1 in
     let size = has.size in
     let most = running.few in
-    let main_room : of_file + 8 + nestings.behind main ≤ 64 =
+    let main_room : of_file + 7 + nestings.behind main ≤ 64 =
     let starts : ahead places.frames (places.frames.is_main main) ≡ of_file = ap (ahead places.frames) is_main in
     let r = level_room.room in
     omega arith in
