@@ -472,6 +472,11 @@ def privates(count):
     return b"".join(b"int v%d;" % number for number in range(count))
 
 
+def of_file(count):
+    """Private variables of file scope, which stand in the frame of `main`."""
+    return b"int " + b", ".join(b"w%d" % number for number in range(count)) + b";"
+
+
 def main_of(body):
     return b"void main(void) {" + body + b"}"
 
@@ -498,6 +503,8 @@ ROWS += [
     refused(main_of(privates(64) + prints(8000)), r"refused 9 TooManySites 16193\n"),
     refused(b"void first(void) {" + privates(65) + b"}" + main_of(privates(64)), r"refused 10 FrameTooLarge first 74\n"),
     refused(b"void none(void) { }" + main_of(privates(64)), r"refused 10 FrameTooLarge main 73\n"),
+    refused(of_file(56) + b"int one(void) { return 1; }" + main_of(b"one();"), r"refused 10 FrameTooLarge main 65\n"),
+    refused(of_file(57) + main_of(b""), r"refused 10 FrameTooLarge main 65\n"),
     refused(main_of(prints(8000) + b"x = 1;"), r"refused 8 Rule 1 at 1:80018\n"),
 ]
 

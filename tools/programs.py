@@ -114,6 +114,10 @@ void main(void) {
 int g(int a, int b) { int c = c, d = 5; c += a * b + d; return c; }
 int deep(int n) { int a = 1, b = 2, c = 3; return n ? deep(n - 1) + a + b + c : 9; }
 void main(void) { putint(f()); putint(deep(3)); putint(f()); putint(g(2, 3)); putint(f()); putint(g(1, 1)); }""", b"0\n27\n0\n11\n0\n6\n"),
+    "a frame of main full of variables": (1, b"", b"int v0 = 3" + b"".join(b", v%d = %d" % (number, number) for number in range(1, 56)) + b""";
+void show(void) { v0 += v55; putint(v0); putint(v1); putint(v54); v55++; }
+void twice(void) { show(); show(); }
+void main(void) { twice(); show(); }""", b"58\n1\n54\n114\n1\n54\n171\n1\n54\n"),
 }
 
 FAULTS_OF_RUNS = {

@@ -1,8 +1,8 @@
 -- When registers and local memory of a hart stand for a processor.
 --
--- Calls have frames of 64 words on the 16,384 stack words, that of `main` lowest. A frame has a header of 8 words, then the
+-- Calls have frames of 64 words on the 16,384 stack words, that of `main` lowest. A frame has a header of 7 words, then the
 -- private words of its call; the value list stands at its end, the first value highest. In the frame of `main` the private
--- variables of file scope stand between the two, and the 8 words of its header are free for any use.
+-- variables of file scope stand between the two, and the 7 words of its header are free for any use.
 use Rattle.std.specs.Prelude.{◌≡◌, ℕ, zero, suc, ◌+◌, ◌-◌, ◌*◌, ◌<◌, ◌≤◌, ◌==◌, List, [], ◌∷◌, length, true, false, Bool}
 use Rattle.fk_num.specs.Word.{Memory}
 use Rattle.fk_run.specs.Processor.{Call}
@@ -85,8 +85,8 @@ ahead frames false = 0
 
 -- a header and so many values have room in a frame, beside the words that stand in it at an index
 pub record HasRoom (frames : Frames) (index values : ℕ) : Type 0 where
-  pub header : ahead frames (frames.is_main index) + 8 + values ≤ 64
-  pub kept : (word : ℕ) → frames.keeps index word ≡ true → ahead frames (frames.is_main index) + 8 + word + values < 64
+  pub header : ahead frames (frames.is_main index) + 7 + values ≤ 64
+  pub kept : (word : ℕ) → frames.keeps index word ≡ true → ahead frames (frames.is_main index) + 7 + word + values < 64
 
 module _ (places : Places) where
   -- the first word of such a frame, but that the frame of `main` has its private variables of file scope before it
@@ -98,7 +98,7 @@ module _ (places : Places) where
   pub record HasFrame (memory : Memory) (waiting at : ℕ) (call : Call) : Type 0 where
     pub home : places.frames.is_main at ≡ (waiting == 0)
     pub values : HasValues memory (frame_end waiting) call.values
-    pub privates : (i : ℕ) → places.frames.keeps at i ≡ true → memory (frame_start waiting + 8 + i) ≡ call.privates i
+    pub privates : (i : ℕ) → places.frames.keeps at i ≡ true → memory (frame_start waiting + 7 + i) ≡ call.privates i
 
   -- the header of a call: an address four words before the one that it returns to, the frame of the call that waits there, and the word where that takes the
   -- result. There is room for it
@@ -133,7 +133,7 @@ module _ (places : Places) where
     pub heap_mask : h.registers heap_mask_register ≡ 0xffff0003
     pub running : HasFrame h.local (length p.runner.has.callers) p.runner.left.at p.runner.has.call
     pub waiting : HasWaiting h.local p.runner.left.callers p.runner.has.callers
-    pub own : (i : ℕ) → i < places.frames.of_file → h.local (8 + i) ≡ p.runner.has.own i
+    pub own : (i : ℕ) → i < places.frames.of_file → h.local (7 + i) ≡ p.runner.has.own i
     pub heap : (i : ℕ) → i < 16384 → h.local (16384 + i) ≡ p.heap i
 
   -- and the hart stands at the beginning of the block where its processor goes on

@@ -73,12 +73,13 @@ module _ (core : List CoreOp) (frames : Frames) where
   HasPlace (Push n) i depth = HasRoom frames i (suc depth)
   HasPlace CopyLast i depth = HasRoom frames i (suc depth)
   HasPlace (Get known) i depth = IsThere known i × HasRoom frames i (suc depth)
-  HasPlace (Set (Private word)) i depth = ahead frames (frames.is_main i) + 8 + word + depth < 64
+  HasPlace (Set (Private word)) i depth = ahead frames (frames.is_main i) + 7 + word + depth < 64
   HasPlace (Set (OfFile word)) i depth = word < frames.of_file
   HasPlace operation i depth = Unit {0}
 
   pub record Fits (i : ℕ) (op : CoreOp) (operation : Operation) : Type 0 where
     pub values : looks_at operation ≤ op.depth
+    pub few : op.depth ≤ 56
     pub room : HasRoom frames i op.depth
     pub place : HasPlace operation i op.depth
     pub goes_on : GoesOn operation i op.target op.depth

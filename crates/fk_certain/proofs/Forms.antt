@@ -1,4 +1,5 @@
--- The code of expressions writes first before code that does, where each name that is used means a variable that is written.
+-- The code of expressions names words that are there before code that does, where each name that is used means a declaration with
+-- its word.
 use Rattle.std.proofs.Common.{◌≡◌, ℕ, suc, ◌≤◌, Bool, true, false, true≢false, List, [], ◌∷◌, ◌++◌, length, Option, Some, None, sym, refl, subst, arith}
 use Rattle.std.specs.Prelude.{◌==◌, ◌*◌, ◌||◌, codes, if◌then◌else◌}
 use Rattle.fk_num.specs.declared.operator.Op.TheVariants as f
@@ -9,7 +10,7 @@ use Rattle.fk_syntax.specs.declared.sign.Sign.TheVariants as g
 use Rattle.fk_syntax.specs.Tree as t
 use Rattle.fk_syntax.specs.Tree.{Named, Tree, Links, Trees, Suffixes}
 use Rattle.fk_syntax.specs.Program.{DeclaredTree}
-use Rattle.fk_names.specs.Outline.{MarkTree, Opens, Closes, Declares, Uses, tree_marks, links_marks, trees_marks, suffixes_marks}
+use Rattle.fk_names.specs.Outline.{MarkTree, Uses, tree_marks, optional_marks, links_marks, trees_marks, suffixes_marks}
 use Rattle.fk_operation.specs.declared.operation.Operation.{Operation}
 use Rattle.fk_operation.specs.declared.operation.Operation.TheVariants as o
 use Rattle.fk_operation.specs.declared.operation.Variable.TheVariants as v
@@ -35,128 +36,111 @@ use Rattle.fk_nesting.specs.Calls.{takes_two, TakesEnough, CallFits, LinksFit, F
 use Rattle.fk_nesting.proofs.Spine.{both_ways}
 use Rattle.fk_nesting.proofs.Kept.{is_predeclared, entered}
 use Rattle.fk_shapes.specs.Fitting.{NameFits, Takes, Fits, OptionFits}
-use Rattle.fk_typed_code.specs.Words.{Words}
 use Rattle.fk_typed_forms.proofs.Built.{AllBuilt}
-use Rattle.fk_certain.specs.Scopes.{IsWritten, NameIsWritten, NamesWritten, TreeScoped, OptionScoped}
-use Rattle.fk_certain.proofs.Ok.{names_none, AreBelow, VariableIsWritten, freely, gets, sets, has_its_word, Ok, ended, on, branch, enters}
+use Rattle.fk_certain.specs.Named.{HasWord, IsNamed, AreNamed}
+use Rattle.fk_certain.proofs.Ok.{names_none, HasItsWord, freely, gets, sets, Ok, ended, on, branch, enters}
 
--- in which loop code stands, and what is asked behind it
-abbrev pub Want : Type 0
-Want = Option Words × Words
+-- names among marks, by parts
+module _ (tables : Tables) (firsts words : ℕ) where
+  pub front : (xs ys : List MarkTree) → AreNamed tables firsts words (xs ++ ys) → AreNamed tables firsts words xs
+  front [] ys h = tt
+  front (x ∷ xs) ys h = (h.0, front xs ys h.1)
 
-abbrev pub counts : (functions : (binding : ℕ) → Signature) → (binding : ℕ) → ℕ
-counts functions b = length (functions b).parameters
-
--- names that are used among marks, by parts
-module _ (tables : Tables) (firsts words : ℕ) (w : Words) where
-  pub ahead : (xs ys : List MarkTree) → NamesWritten tables firsts words w (xs ++ ys) → NamesWritten tables firsts words w xs
-  ahead [] ys h = tt
-  ahead (Opens ∷ xs) ys h = ahead xs ys h
-  ahead (Closes ∷ xs) ys h = ahead xs ys h
-  ahead (Declares d ∷ xs) ys h = ahead xs ys h
-  ahead (Uses name ∷ xs) ys h = (h.0, ahead xs ys h.1)
-
-  pub after : (xs ys : List MarkTree) → NamesWritten tables firsts words w (xs ++ ys) → NamesWritten tables firsts words w ys
-  after [] ys h = h
-  after (Opens ∷ xs) ys h = after xs ys h
-  after (Closes ∷ xs) ys h = after xs ys h
-  after (Declares d ∷ xs) ys h = after xs ys h
-  after (Uses name ∷ xs) ys h = after xs ys h.1
+  pub back : (xs ys : List MarkTree) → AreNamed tables firsts words (xs ++ ys) → AreNamed tables firsts words ys
+  back [] ys h = h
+  back (x ∷ xs) ys h = back xs ys h.1
 
 module _ (tables : Tables) (functions : (binding : ℕ) → Signature) (has_body : (binding : ℕ) → Bool) (firsts words : ℕ)
-    (room : (binding : ℕ) → length (functions binding).parameters ≤ 56) (w : Words) (below : AreBelow firsts words w) where
-  abbrev pub Fine : Want → Coded → Type 0
-  Fine x code = Ok firsts words (counts functions) x.0 w code x.1
+    (room : (binding : ℕ) → length (functions binding).parameters ≤ 56) where
+  abbrev pub Fine : Coded → Type 0
+  Fine code = Ok firsts words code
 
-  abbrev inner : Want → Want
-  inner x = (x.0, w)
+  abbrev StandsThere : Standing → Type 0
+  StandsThere (InWord variable) = HasItsWord firsts words variable
+  StandsThere standing = Unit {0}
 
-  abbrev StandsWritten : Standing → Type 0
-  StandsWritten (InWord variable) = VariableIsWritten firsts words variable w
-  StandsWritten standing = Unit {0}
+  pub goes : {t : Place} {op : Operation} {rest : Coded} → names_none op ≡ true → Fine rest → Fine (perform t op rest)
+  goes {op = op} e p = on (freely firsts words op e) p
 
-  pub goes : {x : Want} {t : Place} {op : Operation} {rest : Coded} → names_none op ≡ true → Fine x rest → Fine x (perform t op rest)
-  goes {op = op} e p = on (freely firsts words op e w) p
-
-  part_ends : {l : Option Words} → Fine (l, w) (plain o.End done)
+  part_ends : Fine (plain o.End done)
   part_ends = goes refl ended
 
-  pub fork : {x : Want} {t : Place} {a b rest : Coded} (op : Operation) → names_none op ≡ true → Fine (inner x) a → Fine (inner x) b → Fine x rest
-      → Fine x (choose t op a b rest)
-  fork op e p q r = branch (freely firsts words op e w) p q r
+  pub fork : {t : Place} {a b rest : Coded} (op : Operation) → names_none op ≡ true → Fine a → Fine b → Fine rest
+      → Fine (choose t op a b rest)
+  fork op e p q r = branch (freely firsts words op e) p q r
 
-  pub either : (x : Want) (b : Bool) (c d : Coded) → Fine x c → Fine x d → Fine x (if b then c else d)
-  either x true c d p q = p
-  either x false c d p q = q
+  pub either : (b : Bool) (c d : Coded) → Fine c → Fine d → Fine (if b then c else d)
+  either true c d p q = p
+  either false c d p q = q
 
-  abbrev Follows : Want → (Standing → Coded) → Type 0
-  Follows x k = (s : Standing) → StandsWritten s → Fine x (k s)
+  abbrev Follows : (Standing → Coded) → Type 0
+  Follows k = (s : Standing) → StandsThere s → Fine (k s)
 
   abbrev Good : Stands → Type 0
-  Good e = (x : Want) (k : Standing → Coded) → Follows x k → Fine x (e k)
+  Good e = (k : Standing → Coded) → Follows k → Fine (e k)
 
   abbrev pub Keeps : (Coded → Coded) → Type 0
-  Keeps e = (x : Want) (rest : Coded) → Fine x rest → Fine x (e rest)
+  Keeps e = (rest : Coded) → Fine rest → Fine (e rest)
 
   abbrev AllGood : List Stands → Type 0
   AllGood [] = Unit {0}
   AllGood (e ∷ es) = Good e × AllGood es
 
   puts : (bytes : List ℕ) → Keeps (put_bytes bytes)
-  puts [] x rest p = p
-  puts (b ∷ bytes) x rest p = (goes refl (goes refl (puts bytes x rest p)))
+  puts [] rest p = p
+  puts (b ∷ bytes) rest p = (goes refl (goes refl (puts bytes rest p)))
 
   operator : (sign : Sign) (unsigned : Bool) → Keeps (plain (operator_of sign unsigned))
-  operator g.Minus unsigned x rest p = (goes refl p)
-  operator sign unsigned x rest p = (goes refl p)
+  operator g.Minus unsigned rest p = (goes refl p)
+  operator sign unsigned rest p = (goes refl p)
 
   moves : (move : Move) (step : ℕ) (sign : Sign) (unsigned : Bool) → Keeps (moved move step (operator_of sign unsigned))
-  moves Forth step sign unsigned x rest p = (goes refl p)
-  moves Back step sign unsigned x rest p = (goes refl (goes refl p))
-  moves NoMove step sign unsigned x rest p = operator sign unsigned x rest p
+  moves Forth step sign unsigned rest p = (goes refl p)
+  moves Back step sign unsigned rest p = (goes refl (goes refl p))
+  moves NoMove step sign unsigned rest p = operator sign unsigned rest p
 
   pub agrees : (sync : Bool) → Keeps (agreed sync)
-  agrees true x rest p = (goes refl p)
-  agrees false x rest p = p
+  agrees true rest p = (goes refl p)
+  agrees false rest p = p
 
   -- how an expression stands
   checks : (deep : Bool) (spot : Spot) → Keeps (checked tables functions deep spot)
-  checks true spot x rest p = (goes refl p)
-  checks false spot x rest p = p
+  checks true spot rest p = (goes refl p)
+  checks false spot rest p = p
 
-  values : (s : Standing) → StandsWritten s → Keeps (valued tables functions s)
-  values (AtAddress deep spot) h x rest p =
-      either x (is_array tables spot.at) rest (checked tables functions deep spot (plain o.Read rest)) p
-      (checks deep spot x (plain o.Read rest) (goes refl p))
-  values (InWord variable) h x rest p = on (gets firsts words variable w h) p
-  values s h x rest p = p
+  values : (s : Standing) → StandsThere s → Keeps (valued tables functions s)
+  values (AtAddress deep spot) h rest p =
+      either (is_array tables spot.at) rest (checked tables functions deep spot (plain o.Read rest)) p
+      (checks deep spot (plain o.Read rest) (goes refl p))
+  values (InWord variable) h rest p = on (gets firsts words variable h) p
+  values s h rest p = p
 
   addresses : (s : Standing) → Keeps (addressed tables functions s)
-  addresses (AtAddress deep spot) x rest p = checks deep spot x rest p
-  addresses s x rest p = p
+  addresses (AtAddress deep spot) rest p = checks deep spot rest p
+  addresses s rest p = p
 
-  fetches : (s : Standing) → StandsWritten s → Keeps (fetched tables functions s)
-  fetches (AtAddress deep spot) h x rest p = checks deep spot x (plain o.CopyLast (plain o.Read rest)) (goes refl (goes refl p))
-  fetches (InWord variable) h x rest p = on (gets firsts words variable w h) p
-  fetches s h x rest p = p
+  fetches : (s : Standing) → StandsThere s → Keeps (fetched tables functions s)
+  fetches (AtAddress deep spot) h rest p = checks deep spot (plain o.CopyLast (plain o.Read rest)) (goes refl (goes refl p))
+  fetches (InWord variable) h rest p = on (gets firsts words variable h) p
+  fetches s h rest p = p
 
-  assigns : (s : Standing) → StandsWritten s → Keeps (assigned tables functions s)
-  assigns (AtAddress deep spot) h x rest p = (goes refl p)
-  assigns (InWord variable) h x rest p = on (sets firsts words variable w (has_its_word firsts words variable w below h)) p
-  assigns s h x rest p = p
+  assigns : (s : Standing) → StandsThere s → Keeps (assigned tables functions s)
+  assigns (AtAddress deep spot) h rest p = (goes refl p)
+  assigns (InWord variable) h rest p = on (sets firsts words variable h) p
+  assigns s h rest p = p
 
   value_is : (e : Stands) → Good e → Keeps (value_of tables functions e)
-  value_is e good x rest p = good x (λ s. valued tables functions s rest) (λ s h. values s h x rest p)
+  value_is e good rest p = good (λ s. valued tables functions s rest) (λ s h. values s h rest p)
 
   drops : (at : ℕ) → Keeps (dropped tables functions at)
-  drops at x rest p = either x (is_void tables at) rest (plain o.DropLast rest) p (goes refl p)
+  drops at rest p = either (is_void tables at) rest (plain o.DropLast rest) p (goes refl p)
 
   -- names
   predeclares : (name : Named) → Good (predeclared tables functions name)
-  predeclares name x k p =
+  predeclares name k p =
       by (is_name name (codes "__PROC_NR__")) (is_name name (codes "__STARTED_PROCS__")) (is_name name (codes "__inputs")) (is_name name (codes "__input"))
     where
-      by : (a b c d : Bool) → Fine x (
+      by : (a b c d : Bool) → Fine (
           if a then plain (o.Get n.ProcessorNumber) (k OnList)
           else if b then plain (o.Get n.Processors) (k OnList)
           else if c then plain (o.Get n.InputLength) (k OnList)
@@ -168,131 +152,131 @@ module _ (tables : Tables) (functions : (binding : ℕ) → Signature) (has_body
       by false false false true = (goes refl (p (AtAddress false (spot_of name)) tt))
       by false false false false = p (ToCall name) tt
 
-  places : (home : Home) (i : ℕ) (name : Named) → IsWritten tables firsts words home i w → Good (placed tables functions home i name)
-  places h.Global i name asks x k p = (goes refl (p (AtAddress false (spot_of name)) tt))
-  places h.FilePrivate i name asks x k p = p (InWord (v.OfFile i)) asks
-  places h.Private i name asks x k p = p (InWord (v.Private i)) asks
-  places (h.Group r) i name asks x k p = (goes refl (p (AtAddress false (spot_of name)) tt))
-  places h.NoWord i name asks x k p = p (ToCall name) tt
+  places : (home : Home) (i : ℕ) (name : Named) → HasWord tables firsts words home i → Good (placed tables functions home i name)
+  places h.Global i name asks k p = (goes refl (p (AtAddress false (spot_of name)) tt))
+  places h.FilePrivate i name asks k p = p (InWord (v.OfFile i)) asks
+  places h.Private i name asks k p = p (InWord (v.Private i)) asks
+  places (h.Group r) i name asks k p = (goes refl (p (AtAddress false (spot_of name)) tt))
+  places h.NoWord i name asks k p = p (ToCall name) tt
 
-  names : (name : Named) → NameIsWritten tables firsts words w name → Good (variable tables functions name)
-  names name asks x k p =
+  names : (name : Named) → IsNamed tables firsts words (Uses name) → Good (variable tables functions name)
+  names name asks k p =
       let b = (note tables name.at).binding in
       by (b == no_binding) (predeclared tables functions name k) (placed tables functions (slot tables b).home (slot tables b).index name k)
-      (predeclares name x k p) (λ h. places (slot tables b).home (slot tables b).index name h x k p) asks
+      (predeclares name k p) (λ h. places (slot tables b).home (slot tables b).index name h k p) asks
     where
-      by : {A : Type 0} (is : Bool) (c d : Coded) → Fine x c → (A → Fine x d) → (is ≡ false → A) → Fine x (if is then c else d)
+      by : {A : Type 0} (is : Bool) (c d : Coded) → Fine c → (A → Fine d) → (is ≡ false → A) → Fine (if is then c else d)
       by true c d p q asks' = p
       by false c d p q asks' = q (asks' refl)
 
   -- operators
   operates : (sign : Sign) (left right : ℕ) → Keeps (operate tables functions sign left right)
-  operates sign left right x rest p =
+  operates sign left right rest p =
       let unsigned = if is_shift sign then is_unsigned tables left else is_unsigned tables left || is_unsigned tables right in
       let step = (kind_at tables left).step in
-      either x (step == 0) (plain (operator_of sign unsigned) rest) (moved (move_of sign) step (operator_of sign unsigned) rest)
-      (operator sign unsigned x rest p) (moves (move_of sign) step sign unsigned x rest p)
+      either (step == 0) (plain (operator_of sign unsigned) rest) (moved (move_of sign) step (operator_of sign unsigned) rest)
+      (operator sign unsigned rest p) (moves (move_of sign) step sign unsigned rest p)
 
   updates : (sign : Sign) (target : Stands) → Good target → (left right : ℕ) (e : Coded → Coded) → Keeps e → Good (updated tables functions sign target left right e)
-  updates sign target good left right e keeps x k p =
-      good x (λ s. fetched tables functions s (e (operate tables functions sign left right (assigned tables functions s (k OnList)))))
+  updates sign target good left right e keeps k p =
+      good (λ s. fetched tables functions s (e (operate tables functions sign left right (assigned tables functions s (k OnList)))))
       (λ s h.
       let new = assigned tables functions s (k OnList) in
       let whole = operate tables functions sign left right new in
-      fetches s h x (e whole) (keeps x whole (operates sign left right x new (assigns s h x (k OnList) (p OnList tt)))))
+      fetches s h (e whole) (keeps whole (operates sign left right new (assigns s h (k OnList) (p OnList tt)))))
 
   ones : Keeps (one tables functions)
-  ones x rest p = (goes refl p)
+  ones rest p = (goes refl p)
 
   prefixes : (spot : Spot) (sign : Sign) (e : Stands) → Good e → (at : ℕ) → Good (prefixed tables functions spot sign e at)
-  prefixes spot g.Minus e good at x k p = value_is e good x (plain (o.Apply u.Negate) (k OnList)) (goes refl (p OnList tt))
-  prefixes spot g.Tilde e good at x k p = value_is e good x (plain (o.Apply u.Complement) (k OnList)) (goes refl (p OnList tt))
-  prefixes spot g.Exclamation e good at x k p = value_is e good x (plain (o.Apply u.Not) (k OnList)) (goes refl (p OnList tt))
-  prefixes spot g.Star e good at x k p = value_is e good x (k (AtAddress true spot)) (p (AtAddress true spot) tt)
-  prefixes spot g.Ampersand e good at x k p =
-      good x (λ s. addressed tables functions s (k OnList)) (λ s h. addresses s x (k OnList) (p OnList tt))
-  prefixes spot g.Increment e good at x k p = updates g.Plus e good at spot.at (one tables functions) ones x k p
-  prefixes spot g.Decrement e good at x k p = updates g.Minus e good at spot.at (one tables functions) ones x k p
-  prefixes spot sign e good at x k p = value_is e good x (k OnList) (p OnList tt)
+  prefixes spot g.Minus e good at k p = value_is e good (plain (o.Apply u.Negate) (k OnList)) (goes refl (p OnList tt))
+  prefixes spot g.Tilde e good at k p = value_is e good (plain (o.Apply u.Complement) (k OnList)) (goes refl (p OnList tt))
+  prefixes spot g.Exclamation e good at k p = value_is e good (plain (o.Apply u.Not) (k OnList)) (goes refl (p OnList tt))
+  prefixes spot g.Star e good at k p = value_is e good (k (AtAddress true spot)) (p (AtAddress true spot) tt)
+  prefixes spot g.Ampersand e good at k p =
+      good (λ s. addressed tables functions s (k OnList)) (λ s h. addresses s (k OnList) (p OnList tt))
+  prefixes spot g.Increment e good at k p = updates g.Plus e good at spot.at (one tables functions) ones k p
+  prefixes spot g.Decrement e good at k p = updates g.Minus e good at spot.at (one tables functions) ones k p
+  prefixes spot sign e good at k p = value_is e good (k OnList) (p OnList tt)
 
   truths : (e : Stands) → Good e → Keeps (truth tables functions e)
-  truths e good x rest p = value_is e good x (plain (o.Push 0) (plain (o.Join f.Ne false) rest)) (goes refl (goes refl p))
+  truths e good rest p = value_is e good (plain (o.Push 0) (plain (o.Join f.Ne false) rest)) (goes refl (goes refl p))
 
   logicals : (spot : Spot) (by : Split) (onward : Bool) (other : ℕ) (a : Stands) → Good a → (b : Stands) → Good b
       → Good (logical tables functions spot by onward other a b)
-  logicals spot by onward other a good_a b good_b x k p =
+  logicals spot by onward other a good_a b good_b k p =
       let here = note tables spot.at in
       let parted = choose spot.place (o.Divide by) (truth tables functions b (plain o.End done)) done (plain o.Resume (k OnList)) in
       let branched = choose nowhere (o.Branch onward) (truth tables functions b done) (plain (o.Push other) done) (k OnList) in
-      value_is a good_a x (if here.splits then parted else agreed here.sync branched)
-      (either x here.splits parted (agreed here.sync branched)
-      (fork (o.Divide by) refl (truths b good_b (inner x) (plain o.End done) part_ends) ended (goes refl (p OnList tt)))
-      (agrees here.sync x branched
-      (fork (o.Branch onward) refl (truths b good_b (inner x) done ended) (goes refl ended) (p OnList tt))))
+      value_is a good_a (if here.splits then parted else agreed here.sync branched)
+      (either here.splits parted (agreed here.sync branched)
+      (fork (o.Divide by) refl (truths b good_b (plain o.End done) part_ends) ended (goes refl (p OnList tt)))
+      (agrees here.sync branched
+      (fork (o.Branch onward) refl (truths b good_b done ended) (goes refl ended) (p OnList tt))))
 
   chooses : (spot : Spot) (c : Stands) → Good c → (a : Stands) → Good a → (b : Stands) → Good b → Good (chosen tables functions spot c a b)
-  chooses spot c good_c a good_a b good_b x k p =
+  chooses spot c good_c a good_a b good_b k p =
       let here = note tables spot.at in
       let parted = choose spot.place (o.Divide IfElse) (value_of tables functions a (plain o.End done)) (value_of tables functions b (plain o.End done)) (plain o.Resume (k OnList)) in
       let branched = choose nowhere (o.Branch true) (value_of tables functions a done) (value_of tables functions b done) (k OnList) in
-      value_is c good_c x (if here.splits then parted else agreed here.sync branched)
-      (either x here.splits parted (agreed here.sync branched)
-      (fork (o.Divide IfElse) refl (value_is a good_a (inner x) (plain o.End done) part_ends) (value_is b good_b (inner x) (plain o.End done) part_ends) (goes refl (p OnList tt)))
-      (agrees here.sync x branched
-      (fork (o.Branch true) refl (value_is a good_a (inner x) done ended) (value_is b good_b (inner x) done ended) (p OnList tt))))
+      value_is c good_c (if here.splits then parted else agreed here.sync branched)
+      (either here.splits parted (agreed here.sync branched)
+      (fork (o.Divide IfElse) refl (value_is a good_a (plain o.End done) part_ends) (value_is b good_b (plain o.End done) part_ends) (goes refl (p OnList tt)))
+      (agrees here.sync branched
+      (fork (o.Branch true) refl (value_is a good_a done ended) (value_is b good_b done ended) (p OnList tt))))
 
   joins : (spot : Spot) (sign : Sign) (a : Stands) → Good a → (left : ℕ) (b : Stands) → Good b → (right : ℕ) → Good (joined tables functions spot sign a left b right)
-  joins spot g.Comma a good_a left b good_b right x k p =
-      value_is a good_a x (dropped tables functions left (value_of tables functions b (k OnList)))
-      (drops left x (value_of tables functions b (k OnList)) (value_is b good_b x (k OnList) (p OnList tt)))
-  joins spot g.AndAnd a good_a left b good_b right x k p = logicals spot AndThen true 0 a good_a b good_b x k p
-  joins spot g.OrOr a good_a left b good_b right x k p = logicals spot OrElse false 1 a good_a b good_b x k p
-  joins spot sign a good_a left b good_b right x k p =
-      value_is a good_a x (value_of tables functions b (operate tables functions sign left right (k OnList)))
-      (value_is b good_b x (operate tables functions sign left right (k OnList)) (operates sign left right x (k OnList) (p OnList tt)))
+  joins spot g.Comma a good_a left b good_b right k p =
+      value_is a good_a (dropped tables functions left (value_of tables functions b (k OnList)))
+      (drops left (value_of tables functions b (k OnList)) (value_is b good_b (k OnList) (p OnList tt)))
+  joins spot g.AndAnd a good_a left b good_b right k p = logicals spot AndThen true 0 a good_a b good_b k p
+  joins spot g.OrOr a good_a left b good_b right k p = logicals spot OrElse false 1 a good_a b good_b k p
+  joins spot sign a good_a left b good_b right k p =
+      value_is a good_a (value_of tables functions b (operate tables functions sign left right (k OnList)))
+      (value_is b good_b (operate tables functions sign left right (k OnList)) (operates sign left right (k OnList) (p OnList tt)))
 
   gives : (sign : Sign) (target : Stands) → Good target → (left : ℕ) (e : Stands) → Good e → (right : ℕ) → Good (assignment tables functions sign target left e right)
-  gives g.Assign target good left e good_e right x k p =
-      good x (λ s. addressed tables functions s (value_of tables functions e (assigned tables functions s (k OnList))))
+  gives g.Assign target good left e good_e right k p =
+      good (λ s. addressed tables functions s (value_of tables functions e (assigned tables functions s (k OnList))))
       (λ s h.
       let new = assigned tables functions s (k OnList) in
-      addresses s x (value_of tables functions e new) (value_is e good_e x new (assigns s h x (k OnList) (p OnList tt))))
-  gives sign target good left e good_e right x k p =
-      updates sign target good left right (value_of tables functions e) (value_is e good_e) x k p
+      addresses s (value_of tables functions e new) (value_is e good_e new (assigns s h (k OnList) (p OnList tt))))
+  gives sign target good left e good_e right k p =
+      updates sign target good left right (value_of tables functions e) (value_is e good_e) k p
 
   -- suffixes
   indexes : (spot : Spot) (e : Stands) → Good e → (by : Stands) → Good by → Good (indexed tables functions spot e by)
-  indexes spot e good by good_by x k p =
+  indexes spot e good by good_by k p =
       let element = plain (o.Index (4 * (kind_at tables spot.at).words)) (k (AtAddress true spot)) in
-      value_is e good x (value_of tables functions by element) (value_is by good_by x element (goes refl (p (AtAddress true spot) tt)))
+      value_is e good (value_of tables functions by element) (value_is by good_by element (goes refl (p (AtAddress true spot) tt)))
 
   dots : (spot : Spot) (at : ℕ) (e : Stands) → Good e → Good (dotted tables functions spot at e)
-  dots spot at e good x k p =
-      good x (λ s. member tables functions at (k (AtAddress (is_deep tables functions s) spot)))
+  dots spot at e good k p =
+      good (λ s. member tables functions at (k (AtAddress (is_deep tables functions s) spot)))
       (λ s h. (goes refl (goes refl (p (AtAddress (is_deep tables functions s) spot) tt))))
 
   points : (spot : Spot) (at : ℕ) (e : Stands) → Good e → Good (pointed tables functions spot at e)
-  points spot at e good x k p =
-      value_is e good x (member tables functions at (k (AtAddress true spot))) (goes refl (goes refl (p (AtAddress true spot) tt)))
+  points spot at e good k p =
+      value_is e good (member tables functions at (k (AtAddress true spot))) (goes refl (goes refl (p (AtAddress true spot) tt)))
 
   raises : (sign back : Sign) (e : Stands) → Good e → (at : ℕ) → Good (raised tables functions sign back e at)
-  raises sign back e good at x k p =
-      updates sign e good at 0 (one tables functions) ones x
+  raises sign back e good at k p =
+      updates sign e good at 0 (one tables functions) ones
       (λ s. plain (o.Push (step_back tables functions at)) (plain (operator_of back false) (k OnList)))
-      (λ s h. (goes refl (operator back false x (k OnList) (p OnList tt))))
+      (λ s h. (goes refl (operator back false (k OnList) (p OnList tt))))
 
   -- calls
   takes : (xs : List DeclaredTree) (es : List Stands) → AllGood es → Keeps (arguments tables functions xs es)
-  takes [] [] good x rest p = p
-  takes [] (e ∷ es) good x rest p = p
-  takes (y ∷ ys) [] good x rest p = p
-  takes (y ∷ ys) (e ∷ es) good x rest p =
+  takes [] [] good rest p = p
+  takes [] (e ∷ es) good rest p = p
+  takes (y ∷ ys) [] good rest p = p
+  takes (y ∷ ys) (e ∷ es) good rest p =
       let others = arguments tables functions ys es rest in
-      value_is e good.0 x (agreed y.shared others) (agrees y.shared x others (takes ys es good.1 x rest p))
+      value_is e good.0 (agreed y.shared others) (agrees y.shared others (takes ys es good.1 rest p))
 
   frames : (r : Option Region) (place : Place) → Keeps (framed tables functions r place)
-  frames None place x rest p = p
-  frames (Some r) place x rest p = (goes refl p)
+  frames None place rest p = p
+  frames (Some r) place rest p = (goes refl p)
 
   puts_none : (i : ℕ) (xs : List DeclaredTree) → AllBuilt (parameters tables functions i xs) → (first : ℕ) → is_done (numbered first (parameters tables functions i xs)) ≡ true
   puts_none i [] all first = refl
@@ -312,22 +296,22 @@ module _ (tables : Tables) (functions : (binding : ℕ) → Signature) (has_body
   opens_empty None place xs all first = puts_none 0 xs all first
 
   calls : (name : Named) (es : List Stands) → AllGood es → Good (called tables functions name es)
-  calls name es good x k p =
+  calls name es good k p =
       let b = (note tables name.at).binding in
       let function = functions b in
-      takes function.parameters es good x (entered tables functions name (k OnList))
-      (enters (opens_empty (frame_at tables function.at 0) name.place function.parameters) (omega arith) (room b) (p OnList tt))
+      takes function.parameters es good (entered tables functions name (k OnList))
+      (enters (opens_empty (frame_at tables function.at 0) name.place function.parameters) (room b) (p OnList tt))
 
   both_good : (name : Named) (by : Multiprefix) (a b : Stands) (es : List Stands) → Good a → Good b → Good (multiprefix tables functions name by (a ∷ b ∷ es))
-  both_good name by a b es good_a good_b x k p =
+  both_good name by a b es good_a good_b k p =
       let request = plain (o.Combine by) (k OnList) in
-      value_is a good_a x (perform name.place (o.Check true) (value_of tables functions b request)) (goes refl (value_is b good_b x request (goes refl (p OnList tt))))
+      value_is a good_a (perform name.place (o.Check true) (value_of tables functions b request)) (goes refl (value_is b good_b request (goes refl (p OnList tt))))
 
   one_good : (after : Coded → Coded) → Keeps after → (e : Stands) (es : List Stands) → Good e → Good (with_one tables functions after (e ∷ es))
-  one_good after keeps e es good x k p = value_is e good x (after (k OnList)) (keeps x (k OnList) (p OnList tt))
+  one_good after keeps e es good k p = value_is e good (after (k OnList)) (keeps (k OnList) (p OnList tt))
 
   -- calls of predeclared functions
-  module _ (name : Named) (es : List Stands) (x : Want) (k : Standing → Coded) (p : Follows x k) where
+  module _ (name : Named) (es : List Stands) (k : Standing → Coded) (p : Follows k) where
     abbrev other_calls : Coded
     other_calls =
         if is_name name (codes "groupsize") then plain (o.Get n.GroupSize) (k OnList)
@@ -337,22 +321,22 @@ module _ (tables : Tables) (functions : (binding : ℕ) → Signature) (has_body
         else if is_name name (codes "shmalloc") then with_one tables functions (plain o.Heap) es k
         else with_one tables functions (λ rest. plain o.Agree (plain o.Block rest)) es k
 
-    with_ones : ((after : Coded → Coded) → Keeps after → Fine x (with_one tables functions after es k)) → (a b c d : Bool) → Fine x (
+    with_ones : ((after : Coded → Coded) → Keeps after → Fine (with_one tables functions after es k)) → (a b c d : Bool) → Fine (
         if a then with_one tables functions (plain o.PrintNumber) es k
         else if b then with_one tables functions (plain o.PrintByte) es k
         else if c then with_one tables functions (plain o.Take) es k
         else if d then with_one tables functions (plain o.Heap) es k
         else with_one tables functions (λ rest. plain o.Agree (plain o.Block rest)) es k)
-    with_ones one true b c d = one (plain o.PrintNumber) (λ x' rest q. (goes refl q))
-    with_ones one false true c d = one (plain o.PrintByte) (λ x' rest q. (goes refl q))
-    with_ones one false false true d = one (plain o.Take) (λ x' rest q. (goes refl q))
-    with_ones one false false false true = one (plain o.Heap) (λ x' rest q. (goes refl q))
-    with_ones one false false false false = one (λ rest. plain o.Agree (plain o.Block rest)) (λ x' rest q. (goes refl (goes refl q)))
+    with_ones one true b c d = one (plain o.PrintNumber) (λ rest q. (goes refl q))
+    with_ones one false true c d = one (plain o.PrintByte) (λ rest q. (goes refl q))
+    with_ones one false false true d = one (plain o.Take) (λ rest q. (goes refl q))
+    with_ones one false false false true = one (plain o.Heap) (λ rest q. (goes refl q))
+    with_ones one false false false false = one (λ rest. plain o.Agree (plain o.Block rest)) (λ rest q. (goes refl (goes refl q)))
 
     sizes : (is : Bool) → is_name name (codes "groupsize") ≡ is
-        → (is ≡ false → (after : Coded → Coded) → Keeps after → Fine x (with_one tables functions after es k)) → Fine x other_calls
+        → (is ≡ false → (after : Coded → Coded) → Keeps after → Fine (with_one tables functions after es k)) → Fine other_calls
     sizes true e one =
-        subst (λ b. Fine x (
+        subst (λ b. Fine (
         if b then plain (o.Get n.GroupSize) (k OnList)
         else if is_name name (codes "putint") then with_one tables functions (plain o.PrintNumber) es k
         else if is_name name (codes "putchar") then with_one tables functions (plain o.PrintByte) es k
@@ -360,11 +344,11 @@ module _ (tables : Tables) (functions : (binding : ℕ) → Signature) (has_body
         else if is_name name (codes "shmalloc") then with_one tables functions (plain o.Heap) es k
         else with_one tables functions (λ rest. plain o.Agree (plain o.Block rest)) es k)) (sym e) (goes refl (p OnList tt))
     sizes false e one =
-        either x (is_name name (codes "groupsize")) (plain (o.Get n.GroupSize) (k OnList)) _ (goes refl (p OnList tt))
+        either (is_name name (codes "groupsize")) (plain (o.Get n.GroupSize) (k OnList)) _ (goes refl (p OnList tt))
         (with_ones (one refl) (is_name name (codes "putint")) (is_name name (codes "putchar")) (is_name name (codes "malloc")) (is_name name (codes "shmalloc")))
 
-    multiprefixes : (a b c d : Bool) → ((a || (b || (c || d))) ≡ true → (by : Multiprefix) → Fine x (multiprefix tables functions name by es k))
-        → ((a || (b || (c || d))) ≡ false → Fine x other_calls) → Fine x (
+    multiprefixes : (a b c d : Bool) → ((a || (b || (c || d))) ≡ true → (by : Multiprefix) → Fine (multiprefix tables functions name by es k))
+        → ((a || (b || (c || d))) ≡ false → Fine other_calls) → Fine (
         if a then multiprefix tables functions name MpAdd es k
         else if b then multiprefix tables functions name MpMax es k
         else if c then multiprefix tables functions name MpAnd es k
@@ -376,9 +360,9 @@ module _ (tables : Tables) (functions : (binding : ℕ) → Signature) (has_body
     multiprefixes false false false true two one = two refl MpOr
     multiprefixes false false false false two one = one refl
 
-    all_predeclared : (takes_two name ≡ true → (by : Multiprefix) → Fine x (multiprefix tables functions name by es k))
-        → (takes_two name ≡ false → is_name name (codes "groupsize") ≡ false → (after : Coded → Coded) → Keeps after → Fine x (with_one tables functions after es k))
-        → Fine x (called_predeclared tables functions name es k)
+    all_predeclared : (takes_two name ≡ true → (by : Multiprefix) → Fine (multiprefix tables functions name by es k))
+        → (takes_two name ≡ false → is_name name (codes "groupsize") ≡ false → (after : Coded → Coded) → Keeps after → Fine (with_one tables functions after es k))
+        → Fine (called_predeclared tables functions name es k)
     all_predeclared two one =
         multiprefixes (is_name name (codes "mpadd")) (is_name name (codes "mpmax")) (is_name name (codes "mpand")) (is_name name (codes "mpor")) two
         (λ not_two. sizes (is_name name (codes "groupsize")) refl (one not_two))
@@ -386,152 +370,146 @@ module _ (tables : Tables) (functions : (binding : ℕ) → Signature) (has_body
   -- with the arguments of a call
   calls_predeclared : (name : Named) (arguments' : Trees) → AllGood (all_stand tables functions arguments') → TakesEnough name arguments'
       → Good (called_predeclared tables functions name (all_stand tables functions arguments'))
-  calls_predeclared name t.no_trees good enough x k p =
-      all_predeclared name [] x k p (λ two. both_ways (takes_two name) two enough.0)
+  calls_predeclared name t.no_trees good enough k p =
+      all_predeclared name [] k p (λ two. both_ways (takes_two name) two enough.0)
       (λ not_two not_size. both_ways (is_name name (codes "groupsize")) enough.1 not_size)
-  calls_predeclared name (t.tree first t.no_trees) good enough x k p =
-      all_predeclared name (stands tables functions first ∷ []) x k p (λ two. both_ways (takes_two name) two enough)
-      (λ not_two not_size after keeps. one_good after keeps (stands tables functions first) [] good.0 x k p)
-  calls_predeclared name (t.tree first (t.tree second more)) good enough x k p =
+  calls_predeclared name (t.tree first t.no_trees) good enough k p =
+      all_predeclared name (stands tables functions first ∷ []) k p (λ two. both_ways (takes_two name) two enough)
+      (λ not_two not_size after keeps. one_good after keeps (stands tables functions first) [] good.0 k p)
+  calls_predeclared name (t.tree first (t.tree second more)) good enough k p =
       let es = all_stand tables functions more in
-      all_predeclared name (stands tables functions first ∷ stands tables functions second ∷ es) x k p
-      (λ two by. both_good name by (stands tables functions first) (stands tables functions second) es good.0 good.1.0 x k p)
-      (λ not_two not_size after keeps. one_good after keeps (stands tables functions first) (stands tables functions second ∷ es) good.0 x k p)
+      all_predeclared name (stands tables functions first ∷ stands tables functions second ∷ es) k p
+      (λ two by. both_good name by (stands tables functions first) (stands tables functions second) es good.0 good.1.0 k p)
+      (λ not_two not_size after keeps. one_good after keeps (stands tables functions first) (stands tables functions second ∷ es) good.0 k p)
 
   called_by : (name : Named) (arguments' : Trees) → AllGood (all_stand tables functions arguments')
       → (predeclared' : Bool) → NameFits tables functions has_body predeclared' name arguments'
-      → (x : Want) (k : Standing → Coded) → Follows x k
-      → Fine x (if predeclared' then called_predeclared tables functions name (all_stand tables functions arguments') k else called tables functions name (all_stand tables functions arguments') k)
-  called_by name arguments' good true taken x k p = calls_predeclared name arguments' good taken x k p
-  called_by name arguments' good false taken x k p = calls name (all_stand tables functions arguments') good x k p
+      → (k : Standing → Coded) → Follows k
+      → Fine (if predeclared' then called_predeclared tables functions name (all_stand tables functions arguments') k else called tables functions name (all_stand tables functions arguments') k)
+  called_by name arguments' good true taken k p = calls_predeclared name arguments' good taken k p
+  called_by name arguments' good false taken k p = calls name (all_stand tables functions arguments') good k p
 
   call_is : (whole : Tree) (arguments' : Trees) → CallFits tables functions (Takes tables functions has_body) whole arguments' → AllGood (all_stand tables functions arguments')
       → Good (λ j. stands tables functions whole (calling tables functions (all_stand tables functions arguments') j))
-  call_is (t.Variable name) arguments' fits good x k p =
+  call_is (t.Variable name) arguments' fits good k p =
       let es = all_stand tables functions arguments' in
-      subst (Fine x) (sym (fits.0 (calling tables functions es k)))
-      (called_by name arguments' good (is_predeclared tables name) fits.1 x k p)
-  call_is (t.Number spot number unsigned) arguments' fits good x k p = absurd fits
-  call_is (t.Puts spot text) arguments' fits good x k p = absurd fits
-  call_is (t.Sizeof spot type) arguments' fits good x k p = absurd fits
-  call_is (t.GroupNumber spot) arguments' fits good x k p = absurd fits
-  call_is (t.GroupRank spot) arguments' fits good x k p = absurd fits
-  call_is (t.Prefix spot sign operand) arguments' fits good x k p = absurd fits
-  call_is (t.Cast spot type operand) arguments' fits good x k p = absurd fits
-  call_is (t.Chain first t.no_links) arguments' fits good x k p = call_is first arguments' fits good x k p
-  call_is (t.Chain first (t.link spot sign right others)) arguments' fits good x k p = absurd fits
-  call_is (t.Postfix whole t.no_suffixes) arguments' fits good x k p = call_is whole arguments' fits good x k p
-  call_is (t.Postfix whole (t.index spot by others)) arguments' fits good x k p = absurd fits
-  call_is (t.Postfix whole (t.call spot arguments others)) arguments' fits good x k p = absurd fits
-  call_is (t.Postfix whole (t.dot spot member others)) arguments' fits good x k p = absurd fits
-  call_is (t.Postfix whole (t.arrow spot member others)) arguments' fits good x k p = absurd fits
-  call_is (t.Postfix whole (t.up spot others)) arguments' fits good x k p = absurd fits
-  call_is (t.Postfix whole (t.down spot others)) arguments' fits good x k p = absurd fits
-  call_is (t.Assign spot sign target value) arguments' fits good x k p = absurd fits
-  call_is (t.Choose spot condition first second) arguments' fits good x k p = absurd fits
+      subst Fine (sym (fits.0 (calling tables functions es k)))
+      (called_by name arguments' good (is_predeclared tables name) fits.1 k p)
+  call_is (t.Number spot number unsigned) arguments' fits good k p = absurd fits
+  call_is (t.Puts spot text) arguments' fits good k p = absurd fits
+  call_is (t.Sizeof spot type) arguments' fits good k p = absurd fits
+  call_is (t.GroupNumber spot) arguments' fits good k p = absurd fits
+  call_is (t.GroupRank spot) arguments' fits good k p = absurd fits
+  call_is (t.Prefix spot sign operand) arguments' fits good k p = absurd fits
+  call_is (t.Cast spot type operand) arguments' fits good k p = absurd fits
+  call_is (t.Chain first t.no_links) arguments' fits good k p = call_is first arguments' fits good k p
+  call_is (t.Chain first (t.link spot sign right others)) arguments' fits good k p = absurd fits
+  call_is (t.Postfix whole t.no_suffixes) arguments' fits good k p = call_is whole arguments' fits good k p
+  call_is (t.Postfix whole (t.index spot by others)) arguments' fits good k p = absurd fits
+  call_is (t.Postfix whole (t.call spot arguments others)) arguments' fits good k p = absurd fits
+  call_is (t.Postfix whole (t.dot spot member others)) arguments' fits good k p = absurd fits
+  call_is (t.Postfix whole (t.arrow spot member others)) arguments' fits good k p = absurd fits
+  call_is (t.Postfix whole (t.up spot others)) arguments' fits good k p = absurd fits
+  call_is (t.Postfix whole (t.down spot others)) arguments' fits good k p = absurd fits
+  call_is (t.Assign spot sign target value) arguments' fits good k p = absurd fits
+  call_is (t.Choose spot condition first second) arguments' fits good k p = absurd fits
 
   -- expressions
   abbrev Scoped : List MarkTree → Type 0
-  Scoped marks = NamesWritten tables firsts words w marks
-
-  front : (xs ys : List MarkTree) → Scoped (xs ++ ys) → Scoped xs
-  front xs ys h = ahead tables firsts words w xs ys h
-
-  back : (xs ys : List MarkTree) → Scoped (xs ++ ys) → Scoped ys
-  back xs ys h = after tables firsts words w xs ys h
+  Scoped marks = AreNamed tables firsts words marks
 
   mutual
     expression : (e : Tree) → Fits tables functions has_body e → Scoped (tree_marks e) → Good (stands tables functions e)
-    expression (t.Number spot number unsigned) fits asks x k p = (goes refl (p OnList tt))
-    expression (t.Puts spot text) fits asks x k p = puts (text_of text) x (k OnList) (p OnList tt)
-    expression (t.Sizeof spot type) fits asks x k p = (goes refl (p OnList tt))
-    expression (t.Variable name) fits asks x k p = names name asks.0 x k p
-    expression (t.GroupNumber spot) fits asks x k p = (goes refl (p OnList tt))
-    expression (t.GroupRank spot) fits asks x k p = (goes refl (p OnList tt))
-    expression (t.Prefix spot sign operand) fits asks x k p = prefixes spot sign (stands tables functions operand) (expression operand fits asks) (token operand) x k p
-    expression (t.Cast spot type operand) fits asks x k p = value_is (stands tables functions operand) (expression operand fits asks) x (k OnList) (p OnList tt)
-    expression (t.Chain first links) fits asks x k p =
-        chain (stands tables functions first) (expression first fits.0 (front (tree_marks first) (links_marks links) asks)) (token first) links fits.1
-        (back (tree_marks first) (links_marks links) asks) x k p
-    expression (t.Postfix whole suffixes) fits asks x k p =
-        first_suffix whole (expression whole fits.0 (front (tree_marks whole) (suffixes_marks suffixes) asks)) suffixes fits.1
-        (back (tree_marks whole) (suffixes_marks suffixes) asks) x k p
-    expression (t.Assign spot sign target value) fits asks x k p =
-        gives sign (stands tables functions target) (expression target fits.0 (front (tree_marks target) (tree_marks value) asks)) (token target)
-        (stands tables functions value) (expression value fits.1 (back (tree_marks target) (tree_marks value) asks)) (token value) x k p
-    expression (t.Choose spot condition first second) fits asks x k p =
-        let both = front (tree_marks condition ++ tree_marks first) (tree_marks second) asks in
-        chooses spot (stands tables functions condition) (expression condition fits.0 (front (tree_marks condition) (tree_marks first) both))
-        (stands tables functions first) (expression first fits.1 (back (tree_marks condition) (tree_marks first) both))
-        (stands tables functions second) (expression second fits.2 (back (tree_marks condition ++ tree_marks first) (tree_marks second) asks)) x k p
+    expression (t.Number spot number unsigned) fits asks k p = (goes refl (p OnList tt))
+    expression (t.Puts spot text) fits asks k p = puts (text_of text) (k OnList) (p OnList tt)
+    expression (t.Sizeof spot type) fits asks k p = (goes refl (p OnList tt))
+    expression (t.Variable name) fits asks k p = names name asks.0 k p
+    expression (t.GroupNumber spot) fits asks k p = (goes refl (p OnList tt))
+    expression (t.GroupRank spot) fits asks k p = (goes refl (p OnList tt))
+    expression (t.Prefix spot sign operand) fits asks k p = prefixes spot sign (stands tables functions operand) (expression operand fits asks) (token operand) k p
+    expression (t.Cast spot type operand) fits asks k p = value_is (stands tables functions operand) (expression operand fits asks) (k OnList) (p OnList tt)
+    expression (t.Chain first links) fits asks k p =
+        chain (stands tables functions first) (expression first fits.0 (front tables firsts words (tree_marks first) (links_marks links) asks)) (token first) links fits.1
+        (back tables firsts words (tree_marks first) (links_marks links) asks) k p
+    expression (t.Postfix whole suffixes) fits asks k p =
+        first_suffix whole (expression whole fits.0 (front tables firsts words (tree_marks whole) (suffixes_marks suffixes) asks)) suffixes fits.1
+        (back tables firsts words (tree_marks whole) (suffixes_marks suffixes) asks) k p
+    expression (t.Assign spot sign target value) fits asks k p =
+        gives sign (stands tables functions target) (expression target fits.0 (front tables firsts words (tree_marks target) (tree_marks value) asks)) (token target)
+        (stands tables functions value) (expression value fits.1 (back tables firsts words (tree_marks target) (tree_marks value) asks)) (token value) k p
+    expression (t.Choose spot condition first second) fits asks k p =
+        let both = front tables firsts words (tree_marks condition ++ tree_marks first) (tree_marks second) asks in
+        chooses spot (stands tables functions condition) (expression condition fits.0 (front tables firsts words (tree_marks condition) (tree_marks first) both))
+        (stands tables functions first) (expression first fits.1 (back tables firsts words (tree_marks condition) (tree_marks first) both))
+        (stands tables functions second) (expression second fits.2 (back tables firsts words (tree_marks condition ++ tree_marks first) (tree_marks second) asks)) k p
 
     chain : (e : Stands) → Good e → (at : ℕ) (links : Links) → LinksFit tables functions (Takes tables functions has_body) links → Scoped (links_marks links)
         → Good (linked tables functions e at links)
-    chain e good at t.no_links fits asks x k p = good x k p
-    chain e good at (t.link spot sign right others) fits asks x k p =
+    chain e good at t.no_links fits asks k p = good k p
+    chain e good at (t.link spot sign right others) fits asks k p =
         chain (joined tables functions spot sign e at (stands tables functions right) (token right))
-        (joins spot sign e good at (stands tables functions right) (expression right fits.0 (front (tree_marks right) (links_marks others) asks)) (token right))
-        spot.at others fits.1 (back (tree_marks right) (links_marks others) asks) x k p
+        (joins spot sign e good at (stands tables functions right) (expression right fits.0 (front tables firsts words (tree_marks right) (links_marks others) asks)) (token right))
+        spot.at others fits.1 (back tables firsts words (tree_marks right) (links_marks others) asks) k p
 
     first_suffix : (whole : Tree) → Good (stands tables functions whole) → (suffixes : Suffixes) → FirstFits tables functions (Takes tables functions has_body) whole suffixes
         → Scoped (suffixes_marks suffixes) → Good (suffixed tables functions (stands tables functions whole) (token whole) suffixes)
-    first_suffix whole good t.no_suffixes fits asks x k p = good x k p
-    first_suffix whole good (t.index spot by others) fits asks x k p =
+    first_suffix whole good t.no_suffixes fits asks k p = good k p
+    first_suffix whole good (t.index spot by others) fits asks k p =
         let e = stands tables functions whole in
         postfix (indexed tables functions spot e (stands tables functions by))
-        (indexes spot e good (stands tables functions by) (expression by fits.0 (front (tree_marks by) (suffixes_marks others) asks)))
-        spot.at others fits.1 (back (tree_marks by) (suffixes_marks others) asks) x k p
-    first_suffix whole good (t.call spot arguments' others) fits asks x k p =
+        (indexes spot e good (stands tables functions by) (expression by fits.0 (front tables firsts words (tree_marks by) (suffixes_marks others) asks)))
+        spot.at others fits.1 (back tables firsts words (tree_marks by) (suffixes_marks others) asks) k p
+    first_suffix whole good (t.call spot arguments' others) fits asks k p =
         let es = all_stand tables functions arguments' in
         postfix (λ j. stands tables functions whole (calling tables functions es j))
-        (call_is whole arguments' fits.0 (all_expressions arguments' fits.1 (front (trees_marks arguments') (suffixes_marks others) asks)))
-        spot.at others fits.2 (back (trees_marks arguments') (suffixes_marks others) asks) x k p
-    first_suffix whole good (t.dot spot name others) fits asks x k p =
+        (call_is whole arguments' fits.0 (all_expressions arguments' fits.1 (front tables firsts words (trees_marks arguments') (suffixes_marks others) asks)))
+        spot.at others fits.2 (back tables firsts words (trees_marks arguments') (suffixes_marks others) asks) k p
+    first_suffix whole good (t.dot spot name others) fits asks k p =
         let e = stands tables functions whole in
-        postfix (dotted tables functions spot name.at e) (dots spot name.at e good) spot.at others fits asks x k p
-    first_suffix whole good (t.arrow spot name others) fits asks x k p =
+        postfix (dotted tables functions spot name.at e) (dots spot name.at e good) spot.at others fits asks k p
+    first_suffix whole good (t.arrow spot name others) fits asks k p =
         let e = stands tables functions whole in
-        postfix (pointed tables functions spot name.at e) (points spot name.at e good) spot.at others fits asks x k p
-    first_suffix whole good (t.up spot others) fits asks x k p =
+        postfix (pointed tables functions spot name.at e) (points spot name.at e good) spot.at others fits asks k p
+    first_suffix whole good (t.up spot others) fits asks k p =
         let e = stands tables functions whole in
-        postfix (raised tables functions g.Plus g.Minus e (token whole)) (raises g.Plus g.Minus e good (token whole)) spot.at others fits asks x k p
-    first_suffix whole good (t.down spot others) fits asks x k p =
+        postfix (raised tables functions g.Plus g.Minus e (token whole)) (raises g.Plus g.Minus e good (token whole)) spot.at others fits asks k p
+    first_suffix whole good (t.down spot others) fits asks k p =
         let e = stands tables functions whole in
-        postfix (raised tables functions g.Minus g.Plus e (token whole)) (raises g.Minus g.Plus e good (token whole)) spot.at others fits asks x k p
+        postfix (raised tables functions g.Minus g.Plus e (token whole)) (raises g.Minus g.Plus e good (token whole)) spot.at others fits asks k p
 
     postfix : (e : Stands) → Good e → (at : ℕ) (suffixes : Suffixes) → SuffixesFit tables functions (Takes tables functions has_body) suffixes → Scoped (suffixes_marks suffixes)
         → Good (suffixed tables functions e at suffixes)
-    postfix e good at t.no_suffixes fits asks x k p = good x k p
-    postfix e good at (t.index spot by others) fits asks x k p =
+    postfix e good at t.no_suffixes fits asks k p = good k p
+    postfix e good at (t.index spot by others) fits asks k p =
         postfix (indexed tables functions spot e (stands tables functions by))
-        (indexes spot e good (stands tables functions by) (expression by fits.0 (front (tree_marks by) (suffixes_marks others) asks)))
-        spot.at others fits.1 (back (tree_marks by) (suffixes_marks others) asks) x k p
-    postfix e good at (t.call spot arguments' others) fits asks x k p = absurd fits
-    postfix e good at (t.dot spot name others) fits asks x k p = postfix (dotted tables functions spot name.at e) (dots spot name.at e good) spot.at others fits asks x k p
-    postfix e good at (t.arrow spot name others) fits asks x k p = postfix (pointed tables functions spot name.at e) (points spot name.at e good) spot.at others fits asks x k p
-    postfix e good at (t.up spot others) fits asks x k p = postfix (raised tables functions g.Plus g.Minus e at) (raises g.Plus g.Minus e good at) spot.at others fits asks x k p
-    postfix e good at (t.down spot others) fits asks x k p = postfix (raised tables functions g.Minus g.Plus e at) (raises g.Minus g.Plus e good at) spot.at others fits asks x k p
+        (indexes spot e good (stands tables functions by) (expression by fits.0 (front tables firsts words (tree_marks by) (suffixes_marks others) asks)))
+        spot.at others fits.1 (back tables firsts words (tree_marks by) (suffixes_marks others) asks) k p
+    postfix e good at (t.call spot arguments' others) fits asks k p = absurd fits
+    postfix e good at (t.dot spot name others) fits asks k p = postfix (dotted tables functions spot name.at e) (dots spot name.at e good) spot.at others fits asks k p
+    postfix e good at (t.arrow spot name others) fits asks k p = postfix (pointed tables functions spot name.at e) (points spot name.at e good) spot.at others fits asks k p
+    postfix e good at (t.up spot others) fits asks k p = postfix (raised tables functions g.Plus g.Minus e at) (raises g.Plus g.Minus e good at) spot.at others fits asks k p
+    postfix e good at (t.down spot others) fits asks k p = postfix (raised tables functions g.Minus g.Plus e at) (raises g.Minus g.Plus e good at) spot.at others fits asks k p
 
     all_expressions : (es : Trees) → AllFit tables functions (Takes tables functions has_body) es → Scoped (trees_marks es) → AllGood (all_stand tables functions es)
     all_expressions t.no_trees fits asks = tt
     all_expressions (t.tree first others) fits asks =
-        (expression first fits.0 (front (tree_marks first) (trees_marks others) asks), all_expressions others fits.1 (back (tree_marks first) (trees_marks others) asks))
+        (expression first fits.0 (front tables firsts words (tree_marks first) (trees_marks others) asks), all_expressions others fits.1 (back tables firsts words (tree_marks first) (trees_marks others) asks))
 
-  pub values_kept : (e : Tree) → Fits tables functions has_body e → TreeScoped tables firsts words w e → Keeps (value tables functions e)
-  values_kept e fits asks x rest p = value_is (stands tables functions e) (expression e fits asks) x rest p
+  pub values_kept : (e : Tree) → Fits tables functions has_body e → AreNamed tables firsts words (tree_marks e) → Keeps (value tables functions e)
+  values_kept e fits asks rest p = value_is (stands tables functions e) (expression e fits asks) rest p
 
   -- what statements have of expressions
-  pub uses : (e : Tree) → Fits tables functions has_body e → TreeScoped tables firsts words w e → Keeps (used tables functions e)
-  uses e fits asks x rest p = values_kept e fits asks x (dropped tables functions (token e) rest) (drops (token e) x rest p)
+  pub uses : (e : Tree) → Fits tables functions has_body e → AreNamed tables firsts words (tree_marks e) → Keeps (used tables functions e)
+  uses e fits asks rest p = values_kept e fits asks (dropped tables functions (token e) rest) (drops (token e) rest p)
 
-  pub uses_or : (e : Option Tree) → OptionFits tables functions has_body e → OptionScoped tables firsts words w e → Keeps (used_or tables functions e)
-  uses_or None fits asks x rest p = p
-  uses_or (Some e) fits asks x rest p = uses e fits asks x rest p
+  pub uses_or : (e : Option Tree) → OptionFits tables functions has_body e → AreNamed tables firsts words (optional_marks e) → Keeps (used_or tables functions e)
+  uses_or None fits asks rest p = p
+  uses_or (Some e) fits asks rest p = uses e fits asks rest p
 
-  pub gives_or : (absent : Coded → Coded) → Keeps absent → (e : Option Tree) → OptionFits tables functions has_body e → OptionScoped tables firsts words w e
+  pub gives_or : (absent : Coded → Coded) → Keeps absent → (e : Option Tree) → OptionFits tables functions has_body e → AreNamed tables firsts words (optional_marks e)
       → Keeps (value_or tables functions absent e)
-  gives_or absent keeps None fits asks x rest p = keeps x rest p
-  gives_or absent keeps (Some e) fits asks x rest p = values_kept e fits asks x rest p
+  gives_or absent keeps None fits asks rest p = keeps rest p
+  gives_or absent keeps (Some e) fits asks rest p = values_kept e fits asks rest p
 
   pub part_frames : (spot : Spot) (number : ℕ) → Keeps (part_frame tables functions spot number)
-  part_frames spot number x rest p = frames (frame_at tables spot.at number) spot.place x rest p
+  part_frames spot number rest p = frames (frame_at tables spot.at number) spot.place rest p

@@ -14,11 +14,11 @@ use Rattle.fk_kept.specs.declared.places.Place.TheVariants.{Main, Called}
 use Rattle.fk_text.specs.Built.{operations, operations_in}
 use Rattle.fk_typed_code.specs.Values.{State}
 use Rattle.fk_typed_code.specs.Typed.{Typed}
-use Rattle.fk_typed_code.specs.Words.{ahead_in}
+use Rattle.fk_certain.specs.Rooms.{ahead_in}
 use Rattle.fk_typed_forms.specs.Ways.{place_gives}
 use Rattle.fk_typed_forms.specs.Asked.{place_by, place_in}
 use Rattle.fk_typed_forms.proofs.Built.{AreAllBuilt, front, back, built}
-use Rattle.fk_certain.specs.Scopes.{words_in}
+use Rattle.fk_certain.specs.Named.{words_in}
 use Rattle.fk_certain.specs.Room.{HasFew, own_words, HaveRoom}
 use Rattle.fk_certain.proofs.Low.{low, counted, lows}
 

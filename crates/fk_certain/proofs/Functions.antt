@@ -1,7 +1,6 @@
 -- The code of programs names words that are there.
 use Rattle.std.proofs.Common.{ℕ, ◌+◌, ◌≤◌, Bool, true, false, List, [], ◌∷◌, ◌++◌, length, Option, Some, None, arith}
 use Rattle.std.specs.Prelude.{◌==◌, is_some, if◌then◌else◌}
-use Rattle.std.proofs.lemmas.Bool.{ltb-true, lt-ltb}
 use Rattle.fk_syntax.specs.declared.program.Mode.{Mode}
 use Rattle.fk_syntax.specs.Tree.{Named, TypeTree}
 use Rattle.fk_syntax.specs.Program.{DeclaredTree, Statements, FunctionTree}
@@ -13,16 +12,11 @@ use Rattle.fk_forms.specs.Statements.{Inside, is_nothing}
 use Rattle.fk_forms.specs.Program.{functions_of, binding_of, signature_of, signature_in, is_main, code_of, body_in}
 use Rattle.fk_shapes.specs.Fitting.{is_defined, BodyFits, FunctionsFit}
 use Rattle.fk_text.specs.Built.{operations, operations_in, operations_of}
-use Rattle.fk_typed_code.specs.Words.{Words, first_words}
 use Rattle.fk_typed_forms.proofs.Built.{AllBuilt, AreAllBuilt, each_of, front, back, built}
 use Rattle.fk_certain.specs.Rooms.{HasWords}
-use Rattle.fk_certain.specs.Scopes.{behind_all, words_in}
-use Rattle.fk_certain.proofs.Ok.{AreBelow, all}
-use Rattle.fk_certain.proofs.Forms.{counts}
-use Rattle.fk_certain.proofs.WrittenStatements.{body_fine}
-use Rattle.fk_certain.specs.Named.{AreNamed, FunctionNames, FunctionsName, CodeNamesWords}
-use Rattle.fk_certain.proofs.Named.{all_there}
-use Rattle.fk_certain.proofs.Marked as m
+use Rattle.fk_certain.proofs.Forms as forms
+use Rattle.fk_certain.proofs.NamedStatements.{body_fine}
+use Rattle.fk_certain.specs.Named.{AreNamed, FunctionNames, FunctionsName, words_in, CodeNamesWords}
 
 -- the signature of a binding has few parameters
 room_in : (tables : Tables) (words : FunctionTree → ℕ) (firsts : ℕ) (fs : List FunctionTree) → FunctionsName tables words firsts fs → (b : ℕ)
@@ -39,7 +33,6 @@ module _ (tables : Tables) (everyone : List FunctionTree) (has_body : (binding :
   abbrev functions : (binding : ℕ) → Signature
   functions = signature_in tables everyone
 
-  -- all private words of the function count as written
   function_by : (words : ℕ) (mode : Mode) (kind : TypeTree) (name : Named) (parameters : List DeclaredTree) (body : Option Statements)
       → BodyFits tables functions has_body body → AreNamed tables firsts words (variables_marks parameters ++ body_marks body)
       → let f : FunctionTree = record { mode = mode; result = kind; name = name; parameters = parameters; body = body } in
@@ -48,12 +41,9 @@ module _ (tables : Tables) (everyone : List FunctionTree) (has_body : (binding :
   function_by words mode kind name parameters (Some statements) fits names built' first =
       let f : FunctionTree = record { mode = mode; result = kind; name = name; parameters = parameters; body = Some statements } in
       let inside : Inside = record { main = is_main f; framed = is_some (frame_at tables name.at 0) } in
-      let w : Words = first_words words in
-      let below : AreBelow firsts words w = λ i is. ltb-true i words is in
-      let scoped = m.statements tables firsts words statements w (λ i less. lt-ltb i words less)
-      (m.back tables firsts words (variables_marks parameters) (statements_marks statements) names) in
-      let fine = body_fine tables functions has_body firsts words room inside (is_nothing kind) statements w below fits scoped in
-      (all_there firsts words (counts functions) (numbered first (code_of tables everyone f)) None w (behind_all tables w statements) below (fine.writes w (all w) built' first)).0
+      let fine = body_fine tables functions has_body firsts words room inside (is_nothing kind) statements fits
+      (forms.back tables firsts words (variables_marks parameters) (statements_marks statements) names) in
+      fine.names built' first
 
   function_names : (words : ℕ) (f : FunctionTree) → BodyFits tables functions has_body f.body → FunctionNames tables firsts words f
       → AllBuilt (code_of tables everyone f) → (first : ℕ) → HasWords firsts words (numbered first (code_of tables everyone f))

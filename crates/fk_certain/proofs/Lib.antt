@@ -24,14 +24,10 @@ mod Expressions
 mod Statements
 pub mod Programs
 pub mod Ok
-pub mod Forms
-pub mod WrittenStatements
-pub mod WrittenPrograms
+mod Forms
+pub mod NamedStatements
 pub mod Low
 pub mod Frames
-pub mod Roomy
-mod RoomyForms
-pub mod RoomyStatements
 pub mod Items
 pub mod Apart
 pub mod Free
@@ -39,8 +35,6 @@ mod Sized
 mod Living
 pub mod Suiting
 pub mod Values
-pub mod Named
-pub mod Marked
 pub mod Functions
 pub mod Nested
 pub mod Slots
@@ -48,7 +42,6 @@ pub mod Outer
 pub mod Referring
 pub mod Names
 pub mod Own
-mod Unnamed
 pub mod Room
 pub mod Numbers
 pub mod Texts

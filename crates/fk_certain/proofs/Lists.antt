@@ -1,5 +1,5 @@
 -- What is asked of the list of a program follows from the text.
-use Rattle.std.proofs.Common.{◌≡◌, ℕ, ◌≤◌, Bool, true, false, List, [], ◌∷◌, refl, sym, subst}
+use Rattle.std.proofs.Common.{◌≡◌, ℕ, Bool, true, false, List, [], ◌∷◌, refl, sym, subst}
 use Rattle.std.specs.Prelude.{◌==◌, ◌||◌, if◌then◌else◌}
 use Rattle.std.proofs.lemmas.List.{length-map}
 use Rattle.fk_syntax.specs.Program.{FunctionTree}
@@ -74,7 +74,7 @@ correct_lists_are_safe program facts valid trim proper fits built core entry fla
     }
 
 pub correct_lists_are_certain : CorrectListsAreCertain
-correct_lists_are_certain program facts valid trim proper fits built small core entry kept lowered =
+correct_lists_are_certain program facts valid trim proper fits built core entry kept lowered =
     let tables = tables_by program facts in
     let main = main_of tables program in
     let asked = correct_programs_are_asked program facts valid trim proper fits in
@@ -83,7 +83,7 @@ correct_lists_are_certain program facts valid trim proper fits built small core 
     let typed = typed_list tables program core entry asked built shaped lowered.flat in
     let count = length-map (variables_of false program.items) (first_of (told facts.notes.items facts.kinds.items)) in
     let suits = live_words_suit (bodies_of tables program) core entry (place_of tables program) (file_privates program.items) typed lowered.tall
-    (correct_programs_have_room program facts valid trim proper fits built (subst (λ n. n ≤ 55) count small)) (words_in kept) lowered.live lowered.least main place in
+    (correct_programs_have_room program facts valid trim proper fits built) (words_in kept) lowered.live lowered.least main place in
     record {
       safe = correct_lists_are_safe program facts valid trim proper fits built core entry lowered.flat;
       frames = record { keeps = words_in kept; is_main = suits.0; of_file = file_privates program.items };
@@ -120,6 +120,6 @@ lowered_lists_can_be_coded program facts known of valid trim proper fits built c
           local_depths_are_depths core (entry main)
           (typed_lists_have_depths (bodies_of tables program) core entry (place_of tables program) typed high main place);
       safe = correct_lists_are_safe program facts valid trim proper fits built core entry flat;
-      certain = λ small kept live least.
-          correct_lists_are_certain program facts valid trim proper fits built small core entry kept (record { flat = flat; tall = high; live = live; least = least });
+      certain = λ kept live least.
+          correct_lists_are_certain program facts valid trim proper fits built core entry kept (record { flat = flat; tall = high; live = live; least = least });
     }

@@ -39,9 +39,8 @@ use Rattle.fk_fitting.proofs.Homes.{back_get}
 use Rattle.fk_fitting.proofs.Level.{IsLevel, level_both, level_item}
 use Rattle.fk_fitting.proofs.Shut.{opened, closed}
 use Rattle.fk_certain.proofs.Firsts.{small}
-use Rattle.fk_certain.specs.Scopes.{HasWord}
 use Rattle.fk_certain.specs.Room.{own_words}
-use Rattle.fk_certain.specs.Named.{IsBound, HasItsWord, IsNamed, AreNamed, FunctionNames, FunctionsName}
+use Rattle.fk_certain.specs.Named.{HasWord, IsBound, HasItsWord, IsNamed, AreNamed, FunctionNames, FunctionsName}
 use Rattle.fk_certain.proofs.Slots.{IsBelow, Below, own_slots}
 use Rattle.fk_certain.proofs.Outer.{front_get, in_middle, as_many, IsOfFile, OfFile, outer_items}
 use Rattle.fk_certain.proofs.Referring.{IsReferred, all_referred}

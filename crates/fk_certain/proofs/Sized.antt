@@ -14,7 +14,6 @@ use Rattle.fk_typed_code.specs.Values.{State, bare, behind, behind_call, May, Gr
 use Rattle.fk_typed_code.specs.Typed as t
 use Rattle.fk_typed_code.specs.Typed.{EndsIn, Typed}
 use Rattle.fk_typed_code.specs.Heights.{raised, results_of, height}
-use Rattle.fk_typed_code.specs.Words.{IsLow, ahead_in}
 use Rattle.fk_typed_code.proofs.Done.{by_done}
 use Rattle.fk_typed_code.proofs.Granting.{as_long, grants_itself, grants_both}
 use Rattle.fk_typed_code.proofs.Valued.{values, values_lawful}
@@ -22,7 +21,8 @@ use Rattle.fk_typed_code.proofs.Valued as u
 use Rattle.fk_typed_code.proofs.System.{System, GrantsLoop, Judged, IsLawful}
 use Rattle.fk_typed_code.proofs.Rising.{rises, called_rises}
 use Rattle.fk_typed_code.proofs.Standing.{stands_at}
-use Rattle.fk_certain.specs.Rooms.{HasWord, HasWords}
+use Rattle.fk_certain.specs.Room.{HasFew}
+use Rattle.fk_certain.specs.Rooms.{HasWord, HasWords, ahead_in}
 
 -- of a call: what is known of its values, how many words its function has, and how many values at most
 pub record Sized : Type 0 where
@@ -38,9 +38,9 @@ pub record GrantsSized (s asked : Sized) : Type 0 where
   pub words : s.words ≡ asked.words
   pub most : s.most ≡ asked.most
 
--- behind a call there is room for a result
+-- behind an operation that is no call there are so many values at most
 abbrev pub IsRoomy : Operation → Sized → Type 0
-IsRoomy (o.Enter arguments) s = length s.state.values - arguments + 1 ≤ s.most
+IsRoomy (o.Enter arguments) s = Unit {0}
 IsRoomy op s = length (behind op true s.state).values ≤ s.most
 
 pub record MaySized (firsts : ℕ) (op : Operation) (s : Sized) : Type 0 where
@@ -106,7 +106,7 @@ module _ (firsts : ℕ) (place_of : ℕ → Place) (words most : ℕ → ℕ) wh
   -- in a function, with so many words and values
   module _ (W M : ℕ) where
     -- so it is where low code begins
-    low_here : (code : Code ℕ) (h : ℕ) → IsLow place_of M h code → h ≤ M
+    low_here : (code : Code ℕ) (h : ℕ) → HasFew place_of M h code → h ≤ M
     low_here done h is = is
     low_here (perform n op rest) h is = is.0
     low_here (choose n op x y rest) h is = is.0
@@ -120,8 +120,8 @@ module _ (firsts : ℕ) (place_of : ℕ → Place) (words most : ℕ → ℕ) wh
     low_here (call n op f opening rest) h is = is.0
     low_here (ends n op rest) h is = is.0
 
-    low_at : (code : Code ℕ) (a b : ℕ) → a ≡ b → IsLow place_of M a code → IsLow place_of M b code
-    low_at code a b e is = subst (λ h. IsLow place_of M h code) e is
+    low_at : (code : Code ℕ) (a b : ℕ) → a ≡ b → HasFew place_of M a code → HasFew place_of M b code
+    low_at code a b e is = subst (λ h. HasFew place_of M h code) e is
 
     -- the loop round a place, in both judgements
     abbrev Loops : Option State → Option Sized → Type 0
@@ -142,9 +142,9 @@ module _ (firsts : ℕ) (place_of : ℕ → Place) (words most : ℕ → ℕ) wh
     roomy (o.Enter arguments) s way e n a = absurd (n (sym e))
     roomy op s way e n a = a
 
-    roomy_call : (op : Operation) (s : State) → way_of op ≡ w.into → length s.values - takes op + 1 ≤ M → IsRoomy op (sized s W M)
-    roomy_call (o.Enter arguments) s e a = a
-    roomy_call op s e a = absurd (let z = e in cc)
+    roomy_call : (op : Operation) (s : State) → way_of op ≡ w.into → IsRoomy op (sized s W M)
+    roomy_call (o.Enter arguments) s e = tt
+    roomy_call op s e = absurd (let z = e in cc)
 
     there_call : (op : Operation) → way_of op ≡ w.into → HasWord firsts W op
     there_call (o.Enter arguments) e = tt
@@ -174,7 +174,7 @@ module _ (firsts : ℕ) (place_of : ℕ → Place) (words most : ℕ → ℕ) wh
       -- the judgements together
       pub all_sized : (code : Code ℕ) (inside : Bool) (l : Option State) (lh : Option Sized) (s e : State)
           → IsShaped has_body inside code → Loops l lh → Room s.place
-          → Typed place_of l s code e → HasWords firsts W code → IsLow place_of M (length s.values) code
+          → Typed place_of l s code e → HasWords firsts W code → HasFew place_of M (length s.values) code
           → Judged sizing lh (sized s W M) code (sized e W M)
       all_sized done inside l lh s e p ls room t h low = record { state = t; words = refl; most = refl }
       all_sized (perform n op rest) inside l lh s e p ls room t h low =
@@ -242,8 +242,8 @@ module _ (firsts : ℕ) (place_of : ℕ → Place) (words most : ℕ → ℕ) wh
       all_sized (continue rest) inside l lh s e p ls room t h low = (looped l lh s ls t.0, all_sized rest inside l lh s e p.1 ls room t.1 h low)
       all_sized (call n op f opening rest) inside l lh s e p ls room t h low =
           let b = behind_call (takes op) t.1 s in
-          let lr = low_at rest (length s.values - takes op + results_of (place_of f)) (length b.values) (called_rises place_of op f t.1 s t.2) low.2 in (
-            record { may = t.0; there = there_call op p.0; room = room; low = low.0; roomy = roomy_call op s p.0 low.1 },
+          let lr = low_at rest (length s.values - takes op + results_of (place_of f)) (length b.values) (called_rises place_of op f t.1 s t.2) low.1 in (
+            record { may = t.0; there = there_call op p.0; room = room; low = low.0; roomy = roomy_call op s p.0 },
             t.1,
             record { place = t.2; direct = h.0; few = h.1 },
             done_judged opening None (sized (bare (Called t.1)) (words f) (most f)) h.0,

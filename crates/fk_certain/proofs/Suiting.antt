@@ -28,7 +28,6 @@ use Rattle.fk_block_law.specs.Suits as b
 use Rattle.fk_block_law.specs.Suits.{writes, nothing, Flows}
 use Rattle.fk_typed_code.specs.Values.{bare, behind}
 use Rattle.fk_typed_code.specs.Heights.{raised, HasHeights}
-use Rattle.fk_typed_code.specs.Words.{ahead_in}
 use Rattle.fk_typed_code.specs.Laws.{IsTypedList, HasHeightsOf}
 use Rattle.fk_typed_code.proofs.Rising.{rises}
 use Rattle.fk_typed_code.proofs.System.{System, Judged, IsLawful}
@@ -36,7 +35,7 @@ use Rattle.fk_typed_code.proofs.Sound.{Comes, IsSound}
 use Rattle.fk_typed_code.proofs.Valued.{same_ways}
 use Rattle.fk_typed_code.proofs.Knowing.{label_done}
 use Rattle.fk_typed_code.proofs.Listed.{state, at_end, entries, of_jump, of_operation, goes_on}
-use Rattle.fk_certain.specs.Rooms.{HasWord, HaveRoom}
+use Rattle.fk_certain.specs.Rooms.{HasWord, ahead_in, HaveRoom}
 use Rattle.fk_certain.specs.Suiting.{LiveWordsSuit}
 use Rattle.fk_certain.proofs.Sized.{Sized, sized, sizing, sizing_lawful, all_sized}
 use Rattle.fk_certain.proofs.Living.{behind_either, kept_before, read_before, jump_before}
@@ -53,7 +52,7 @@ module _ (bodies : ℕ → Code ℕ) (core : List CoreOp) (entry : ℕ → ℕ) 
   judged f = (
     sized (typed.typed f).0 (fit.words f) (fit.most f),
     all_sized firsts place_of fit.words fit.most (fit.words f) (fit.most f) (λ g. is_closed (bodies g)) (bodies f) false None None
-        (bare (place_of f)) (typed.typed f).0 (typed.shaped f).0 tt (fit.room f) (typed.typed f).1 (fit.own f) (fit.low f),
+        (bare (place_of f)) (typed.typed f).0 (typed.shaped f).0 tt (fit.room f) (typed.typed f).1 (fit.own f) (fit.few f),
   )
 
   abbrev bare_main : Sized
@@ -180,8 +179,9 @@ module _ (bodies : ℕ → Code ℕ) (core : List CoreOp) (entry : ℕ → ℕ) 
         → ((word : ℕ) → keeps j word ≡ true → written word ≡ false → keeps i word ≡ true) → ComesTo s j → Flows core frames written i j
     flows s written i j p h c = record { main = ap is_main_place (sym c.grants.state.place ∙ p); kept = h }
 
+    -- there is room for one value more, as behind each call
     room_at : (i j depth : ℕ) → ahead_in firsts (at i).state.place + 8 + (at i).words + (at i).most ≤ 64
-        → (at j).words ≡ (at i).words → (at j).state.place ≡ (at i).state.place → depth ≤ (at i).most → HasRoom frames j depth
+        → (at j).words ≡ (at i).words → (at j).state.place ≡ (at i).state.place → depth ≤ suc (at i).most → HasRoom frames j depth
     room_at i j depth room words place low =
         let a : ahead frames (is_main_place (at j).state.place) ≡ ahead_in firsts (at i).state.place = ahead_is (at j).state.place ∙ ap (ahead_in firsts) place in
         record {
@@ -193,7 +193,7 @@ module _ (bodies : ℕ → Code ℕ) (core : List CoreOp) (entry : ℕ → ℕ) 
     count i = length (at i).state.values
 
     has_room : (i m : ℕ) (op : Operation) (target depth : ℕ) → Sounds i m op target → depth ≤ (at i).most → HasRoom frames i depth
-    has_room i m op target depth s low = room_at i i depth s.may.room refl refl low
+    has_room i m op target depth s low = room_at i i depth s.may.room refl refl (omega (arith, low))
 
     grown : (op : Operation) (i : ℕ) → length (behind op true (at i).state).values ≤ (at i).most → raised (count i) op true ≤ (at i).most
     grown op i a = let e = rises op true (at i).state in omega (arith, e, a)
@@ -252,7 +252,7 @@ module _ (bodies : ℕ → Code ℕ) (core : List CoreOp) (entry : ℕ → ℕ) 
           back = flows (sys.behind_call (o.Enter arguments) c.gives (at i)) nothing i (suc (suc i)) refl
               (λ word k u. kept_before core keeps live i op (o.Enter arguments) stands word k refl) c.on;
           room = room_at i (suc (suc i)) (suc (count i - arguments)) s.may.room (sym c.on.grants.words)
-              (sym c.on.grants.state.place) (let a : count i - arguments + 1 ≤ (at i).most = s.may.roomy in omega (arith, a));
+              (sym c.on.grants.state.place) (let a = s.may.low in omega (arith, a));
         }
 
     goes : (operation : Operation) (i : ℕ) (op : CoreOp) → StandsOp core i op operation → Sounds i op.site operation op.target → b.GoesOn core frames operation i op.target (count i)
@@ -267,6 +267,7 @@ module _ (bodies : ℕ → Code ℕ) (core : List CoreOp) (entry : ℕ → ℕ) 
         let e : count i ≡ op.depth = sym (s.height refl) ∙ sym (tall.told i op operation stands.stands stands.is_read) in
         record {
           values = (let a = s.may.may.looks in omega (arith, a, e));
+          few = (let a = s.may.low in let r = s.may.room in omega (arith, a, e, r));
           room = has_room i op.site operation op.target op.depth s (let a = s.may.low in omega (arith, a, e));
           place = subst (λ d. b.HasPlace core frames operation i d) e (place operation i op stands s);
           goes_on = subst (λ d. b.GoesOn core frames operation i op.target d) e (goes operation i op stands s);

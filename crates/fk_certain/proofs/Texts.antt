@@ -28,7 +28,7 @@ use Rattle.fk_typed_forms.proofs.Built.{AreAllBuilt, each_of, front, back, built
 use Rattle.fk_certain.proofs.Firsts.{small, firsts_are_few}
 use Rattle.fk_certain.proofs.Bindings.{bindings_go_up}
 use Rattle.fk_certain.specs.Rooms.{HasWords}
-use Rattle.fk_certain.specs.Scopes.{words_in}
+use Rattle.fk_certain.specs.Named.{words_in}
 use Rattle.fk_certain.specs.Room.{own_words}
 use Rattle.fk_certain.specs.RoomLaws.{words_of}
 use Rattle.fk_certain.proofs.Own.{names_have_words}

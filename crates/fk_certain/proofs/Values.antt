@@ -12,7 +12,7 @@ use Rattle.fk_text.specs.Built.{operations_of}
 use Rattle.fk_typed_forms.proofs.Built.{each_of}
 use Rattle.fk_typed_forms.proofs.Programs.{forms_are_typed}
 use Rattle.fk_certain.proofs.Firsts.{small}
-use Rattle.fk_certain.specs.Scopes.{words_in}
+use Rattle.fk_certain.specs.Named.{words_in}
 use Rattle.fk_certain.specs.Room.{HaveRoom}
 use Rattle.fk_certain.proofs.Frames.{rooms, bodies_few}
 use Rattle.fk_certain.proofs.Programs.{correct_programs_are_asked}

@@ -44,12 +44,11 @@ CorrectListsAreSafe =
 abbrev pub count_of_file : ProgramTree → Facts → ℕ
 count_of_file program facts = length (firsts (told facts.notes.items facts.kinds.items) program.items)
 
--- With 56 private variables of file scope the frame of `main` is full without a value, and has no room for a result behind a call
 abbrev pub CorrectListsAreCertain : Type 0
 CorrectListsAreCertain =
     (program : ProgramTree) (facts : Facts) → IsCorrect program facts → ProgramIsTrim program → ProgramIsProper program
     → let tables = tables_by program facts in
-    Fits tables program.items → AreBuilt tables program → count_of_file program facts ≤ 55
+    Fits tables program.items → AreBuilt tables program
     → (core : List CoreOp) (entry : (binding : ℕ) → ℕ) (kept : List Set) → IsLowered tables program core entry kept
     → IsCertain core kept (entry (main_of tables program)) (count_of_file program facts)
 
@@ -57,7 +56,7 @@ CorrectListsAreCertain =
 pub record CanBeCoded (core : List CoreOp) (main firsts : ℕ) : Type 0 where
   pub depths : HasDepths core main
   pub safe : IsSafe core main
-  pub certain : firsts ≤ 55 → (kept : List Set) → IsLive core (words_in kept) → IsLeast core (words_in kept) → IsCertain core kept main firsts
+  pub certain : (kept : List Set) → IsLive core (words_in kept) → IsLeast core (words_in kept) → IsCertain core kept main firsts
 
 -- so it is with a list that has the depths that are told of the text
 abbrev pub LoweredListsCanBeCoded : Type 0

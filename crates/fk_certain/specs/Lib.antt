@@ -3,8 +3,6 @@ pub mod WordLaws
 pub mod LoweringLaws
 pub mod Proper
 pub mod AskedLaws
-pub mod Scopes
-pub mod WritingLaws
 pub mod Room
 pub mod Rooms
 pub mod Suiting

@@ -1,16 +1,13 @@
--- Frames that have room for the private words and the values of functions, and for a result behind each call.
-use Rattle.std.specs.Prelude.{ℕ, ◌+◌, ◌-◌, ◌<◌, ◌≤◌, true, false, List, [], ◌∷◌}
-use Rattle.fk_syntax.specs.Program.{FunctionTree, ItemTree, ProgramTree}
+-- Frames that have room for the private words and the values of functions.
+use Rattle.std.specs.Prelude.{ℕ, ◌+◌, ◌-◌, ◌≤◌, true, false, List, [], ◌∷◌}
+use Rattle.fk_syntax.specs.Program.{FunctionTree, ItemTree}
 use Rattle.fk_sizes.specs.Operations.{takes}
 use Rattle.fk_forms.specs.Code.{Code, done, perform, choose, while, until, quit, break, continue, call, ends}
 use Rattle.fk_forms.specs.Tables.{Tables}
-use Rattle.fk_forms.specs.Program.{bodies_of}
 use Rattle.fk_slots.specs.Slots.{own_of}
 use Rattle.fk_layout.specs.Frames.{told_in, private_words}
 use Rattle.fk_kept.specs.declared.places.Place.{Place}
 use Rattle.fk_typed_code.specs.Heights.{raised, results_of, height}
-use Rattle.fk_typed_code.specs.Words.{IsLow}
-use Rattle.fk_typed_forms.specs.Asked.{place_of, ProgramAsked}
 
 -- code with at most so many values at each of its places, counted as in `height`
 module _ (place_of : (binding : ℕ) → Place) (most : ℕ) where
@@ -41,11 +38,3 @@ module _ (tables : Tables) (items : List ItemTree) where
   abbrev pub HaveRoom : (most : ℕ) → List FunctionTree → Type 0
   HaveRoom most [] = Unit {0}
   HaveRoom most (f ∷ fs) = (private_words tables items f ≤ most) × HaveRoom most fs
-
--- So the code of programs has room for a result behind each call, also of a function that gives none, where it has few values: what
--- stands behind such a call pushes a value, or there are none before it
-abbrev pub CallsHaveRoom : Type 0
-CallsHaveRoom =
-    (tables : Tables) (program : ProgramTree) → ProgramAsked tables program → (most : ℕ) → 0 < most → (binding : ℕ)
-    → HasFew (place_of tables program) most 0 (bodies_of tables program binding)
-    → IsLow (place_of tables program) most 0 (bodies_of tables program binding)

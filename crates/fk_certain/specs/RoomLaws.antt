@@ -10,12 +10,11 @@ use Rattle.fk_layout.specs.Layout.{tables_by}
 use Rattle.fk_layout.specs.Refusal.{Fits}
 use Rattle.fk_kept.specs.declared.places.Place.{Place}
 use Rattle.fk_text.specs.Built.{AreBuilt}
-use Rattle.fk_certain.specs.Rooms.{HasWords, HaveRoom}
+use Rattle.fk_certain.specs.Rooms.{HasWords, ahead_in, HaveRoom}
 use Rattle.fk_parsed.specs.Trim.{ProgramIsTrim}
 use Rattle.fk_fitting.specs.Correct.{IsCorrect}
-use Rattle.fk_typed_code.specs.Words.{ahead_in}
 use Rattle.fk_typed_forms.specs.Asked.{place_of}
-use Rattle.fk_certain.specs.Scopes.{words_in}
+use Rattle.fk_certain.specs.Named.{words_in}
 use Rattle.fk_certain.specs.Room.{HasFew, own_words}
 use Rattle.fk_certain.specs.Proper.{ProgramIsProper}
 
@@ -23,8 +22,7 @@ use Rattle.fk_certain.specs.Proper.{ProgramIsProper}
 abbrev pub words_of : Tables → ProgramTree → (binding : ℕ) → ℕ
 words_of tables program b = words_in tables (own_words tables program.items) (functions_of program.items) b
 
--- the private words of each function and its values have room beside a header of 8 words, and what stands ahead. Behind a call
--- there is room for a result where the function that is called gives one
+-- the private words of each function, and its values, have room beside what stands ahead and the 8 words that a layout counts
 pub record HaveValues (bodies : (binding : ℕ) → Code ℕ) (place_of : (binding : ℕ) → Place) (firsts : ℕ) (words : (binding : ℕ) → ℕ) : Type 0 where
   pub most : (binding : ℕ) → ℕ
   pub room : (f : ℕ) → ahead_in firsts (place_of f) + 8 + words f + most f ≤ 64
@@ -45,11 +43,10 @@ NamesHaveWords =
     Fits tables program.items → AreBuilt tables program
     → (binding : ℕ) → HasWords (file_privates program.items) (words_of tables program binding) (bodies_of tables program binding)
 
--- So the words of each function and its values have room, and a result behind each of its calls, where there are at most 55 private
--- variables of file scope. With 56 the frame of `main` is full without a value, and has no room behind a call
+-- so both have room in frames
 abbrev pub CorrectProgramsHaveRoom : Type 0
 CorrectProgramsHaveRoom =
     (program : ProgramTree) (facts : Facts) → IsCorrect program facts → ProgramIsTrim program → ProgramIsProper program
     → let tables = tables_by program facts in
-    Fits tables program.items → AreBuilt tables program → file_privates program.items ≤ 55
+    Fits tables program.items → AreBuilt tables program
     → HaveRoom (bodies_of tables program) (place_of tables program) (file_privates program.items)

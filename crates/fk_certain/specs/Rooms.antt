@@ -8,7 +8,8 @@ use Rattle.fk_sizes.specs.Operations.{takes}
 use Rattle.fk_forms.specs.Code.{Code, done, perform, choose, while, until, quit, break, continue, call, ends}
 use Rattle.fk_flat.specs.Shape.{is_done}
 use Rattle.fk_kept.specs.declared.places.Place.{Place}
-use Rattle.fk_typed_code.specs.Words.{IsLow, ahead_in}
+use Rattle.fk_kept.specs.declared.places.Place.TheVariants.{Main, Called}
+use Rattle.fk_certain.specs.Room.{HasFew}
 
 -- there are so many private variables of file scope, and so many private words of a function
 module _ (firsts words : ℕ) where
@@ -34,10 +35,16 @@ module _ (firsts words : ℕ) where
   HasWords (ends n op rest) = HasWord op × HasWords rest
   HasWords code = ⊥
 
--- the private words of each function and its values have room beside a header of 8 words, and what stands ahead
+-- in the frame of `main` the private variables of file scope stand before its private words
+abbrev pub ahead_in : (firsts : ℕ) → Place → ℕ
+ahead_in firsts Main = firsts
+ahead_in firsts (Called gives) = 0
+
+-- The private words of each function and its values have room beside what stands ahead and the 8 words that a layout counts for each
+-- frame: a header of 7, and one for a result behind each call, also where the function that is called gives none
 pub record HaveRoom (bodies : (binding : ℕ) → Code ℕ) (place_of : (binding : ℕ) → Place) (firsts : ℕ) : Type 0 where
   pub words : (binding : ℕ) → ℕ
   pub most : (binding : ℕ) → ℕ
   pub room : (f : ℕ) → ahead_in firsts (place_of f) + 8 + words f + most f ≤ 64
   pub own : (f : ℕ) → HasWords firsts (words f) (bodies f)
-  pub low : (f : ℕ) → IsLow place_of (most f) 0 (bodies f)
+  pub few : (f : ℕ) → HasFew place_of (most f) 0 (bodies f)

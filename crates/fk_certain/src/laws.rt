@@ -4,8 +4,6 @@ ghost use Rattle.fk_certain.specs.WordLaws.{MembersAreClose, NumbersHaveRoom};
 ghost use Rattle.fk_certain.specs.LoweringLaws.{BindingsGoUp, TextsCanBeLaid, FirstsAreFew, ListsAreSmall};
 ghost use Rattle.fk_certain.specs.Proper.{TextsAreProper};
 ghost use Rattle.fk_certain.specs.AskedLaws.{CorrectProgramsAreAsked, MainsHaveTheirPlace};
-ghost use Rattle.fk_certain.specs.WritingLaws.{FormsWriteFirst};
-ghost use Rattle.fk_certain.specs.Room.{CallsHaveRoom};
 ghost use Rattle.fk_certain.specs.FreeLaws.{FlatListsAreApart, ListsAreFree};
 ghost use Rattle.fk_certain.specs.Suiting.{LiveWordsSuit};
 ghost use Rattle.fk_certain.specs.RoomLaws.{ValuesHaveRoom, NamesHaveWords, CorrectProgramsHaveRoom};
@@ -68,19 +66,6 @@ pub fn mains_have_their_place()
     ensures { MainsHaveTheirPlace }
 {}
 
-/// The code of a program of which all operations are built writes each private word before it
-/// reads it, where each name of a private variable stands behind the declaration of that variable,
-/// in its scope, and not in its initial value.
-pub fn forms_write_first()
-    ensures { FormsWriteFirst }
-{}
-
-/// The code of a program with values wherever they are needed has room for a result behind each call,
-/// where a frame has room for its values, and for one at least.
-pub fn calls_have_room()
-    ensures { CallsHaveRoom }
-{}
-
 /// No index of the flat list of a program lies in the code of two functions.
 pub fn flat_lists_are_apart()
     ensures { FlatListsAreApart }
@@ -118,8 +103,8 @@ pub fn names_have_words()
 {}
 
 /// A program that keeps all rules, as a text spells it, and has a layout, has room in the frame of
-/// each function for its private words and its values, and for a result behind each call, where it
-/// has at most 55 private variables of file scope and all operations are built.
+/// each function for its private words and its values, and for a result behind each call, where all
+/// operations are built.
 pub fn correct_programs_have_room()
     ensures { CorrectProgramsHaveRoom }
 {}
@@ -145,16 +130,14 @@ pub fn correct_lists_are_safe()
 
 /// A flat list of a program that keeps all rules, as a text spells it, and has a layout, with the
 /// depths of its code and its live words, has operations without groups alone, may do each of them in
-/// every run, and suits frames that hold the live words, where all operations are built and there are
-/// at most 55 private variables of file scope.
+/// every run, and suits frames that hold the live words, where all operations are built.
 pub fn correct_lists_are_certain()
     ensures { CorrectListsAreCertain }
 {}
 
 /// A flat list of a program that keeps all rules, as a text spells it, and has a layout, with the
 /// depths that lowering tells of the text, has the depths of all runs, is safe, and is certain with its
-/// live words, where all operations are built. With 56 private variables of file scope the last isn't
-/// said.
+/// live words, where all operations are built.
 pub fn lowered_lists_can_be_coded()
     ensures { LoweredListsCanBeCoded }
 {}

@@ -8,8 +8,7 @@ ghost use Rattle.fk_text.specs.Text.{HasLayout, IsBuilt, KeepsRules};
 ghost use Rattle.fk_compile.specs.Faithful.{IsFaithful};
 
 use crate::image::{are_words, site_table};
-use crate::list::{certify, list_of};
-use fk_certain::laws::firsts_are_few;
+use crate::list::{kept_words, list_of};
 use fk_generate::generate;
 use fk_image::Image;
 use fk_simulation::laws::machines_follow_programs;
@@ -22,8 +21,7 @@ use std::alloc::Global;
 /// fault at a site of the text included.
 ///
 /// # Errors
-/// Those of `built_text`; and `Memory` too of a text with 56 private variables of file scope whose `main`
-/// calls a function, since its frame has no room for a result.
+/// Those of `built_text`, and of a text that is built `Memory` alone.
 pub fn compile(alloc: Global, source: &[u8]) -> Result<Image, Refusal>
     ensures faithful { IfOk result (IsFaithful source.now) }
     ensures kept { OnOk result (KeepsRules source.now) }
@@ -36,8 +34,7 @@ pub fn compile(alloc: Global, source: &[u8]) -> Result<Image, Refusal>
     let list = list_of(alloc, &text)?;
     let layout = text.layout;
     let globals = layout.words.len() as u32;
-    firsts_are_few();
-    let kept = certify(alloc, &list, &layout.firsts)?;
+    let kept = kept_words(alloc, &list, &layout.firsts)?;
     let code = generate(alloc, &list.ops, &kept, list.main, &layout.firsts, globals).map_err(
         Refusal::Memory,
     )?;

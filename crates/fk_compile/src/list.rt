@@ -1,6 +1,6 @@
 //! The flat list of a text, and the private words that its calls keep.
 
-ghost use Rattle.std.specs.Prelude.{◌≡◌, ◌<◌, ◌≤◌, ◌^◌, ℕ, All, List as Listed, IfErr, IfOk, IfSome, IsTrue, alloc_error, length, sum_by};
+ghost use Rattle.std.specs.Prelude.{◌≡◌, ◌<◌, ◌≤◌, ◌^◌, ℕ, All, List as Listed, IfErr, IfOk, length, sum_by};
 ghost use Rattle.fk_syntax.specs.Program.{ProgramTree};
 ghost use Rattle.fk_syntax.specs.ProgramView.{program_of};
 ghost use Rattle.fk_syntax.specs.WellFormed.{IsWellFormed};
@@ -14,8 +14,6 @@ ghost use Rattle.fk_lower_text.specs.Depths.{depths_of};
 ghost use Rattle.fk_lower_text.specs.Whole.{AreNumbered};
 ghost use Rattle.fk_lower_text.specs.Lowered.{IsLowerable, HasSites};
 ghost use Rattle.fk_core.specs.WellFormed.{LeadsOn};
-ghost use Rattle.fk_block_law.specs.Suits.{Suits};
-ghost use Rattle.fk_kept.specs.Frames.{frames_of};
 ghost use Rattle.fk_certain.specs.Certain.{IsCertain};
 ghost use Rattle.fk_certain.specs.Laws.{CanBeCoded, count_of_file};
 ghost use Rattle.fk_generate.specs.Generable.{IsGenerable, most_words};
@@ -31,7 +29,7 @@ use fk_certain::laws::{
 };
 use fk_core::CoreOp;
 use fk_fitting::laws::correct_programs_fit;
-use fk_kept::{Place, Set, live_words, places_of, suits_frames};
+use fk_kept::{Set, live_words};
 use fk_lookup::Lookup;
 use fk_lower::LowerFault;
 use fk_lower_text::{entry_of_main, lower_text};
@@ -47,13 +45,6 @@ use std::alloc::{AllocError, Global};
 pub(crate) struct List {
     pub(crate) ops: Vec<CoreOp>,
     pub(crate) main: u32,
-}
-
-/// The answer where a list suits no frames that hold its live words, as where there is no memory.
-fn uncertain() -> Refusal
-    ensures { result ≡ Refusal.Memory alloc_error }
-{
-    Refusal::Memory(AllocError)
 }
 
 // The list of a text of which all is known.
@@ -134,50 +125,9 @@ fn have_words(ops: &[CoreOp])
     }
 }
 
-// Whether a list suits frames in which calls keep these words.
-fn suits(ops: &[CoreOp], places: &[Place], kept: &[Set], main: u32, firsts: u32) -> bool
-    ensures { IsTrue result
-        → Suits ops.now (frames_of places.now kept.now firsts) main }
-{
-    let list = fk_kept::List {
-        ops,
-        places,
-        kept,
-        firsts,
-    };
-    suits_frames(&list, main)
-}
-
-// The private words that are live at each index of a list, where it suits frames that hold them: that
-// is looked at where the private variables of file scope fill the frame of `main`.
-fn kept_words(
-    alloc: Global,
-    ops: &[CoreOp],
-    main: u32,
-    firsts: u32,
-) -> Result<Option<Vec<Set>>, AllocError>
-    requires coded { CanBeCoded ops.now main firsts }
-    ensures { IfOk result (λ found. IfSome found (λ kept. IsCertain ops.now kept.items main firsts)) }
-{
-    let kept = live_words(alloc, ops)?;
-    if firsts <= 55 {
-        return Ok(Some(kept));
-    }
-    let places = places_of(alloc, ops)?;
-    if !suits(ops, &places, &kept, main, firsts) {
-        return Ok(None);
-    }
-    Ok(Some(kept))
-}
-
 /// The private words that calls keep at each index of a list. Code is made of it, with the first values
-/// of private variables of file scope.
-///
-/// # Errors
-/// `Memory`; and that too where there are 56 such variables, and `main` calls a function, since its
-/// frame has no room for a result then.
-pub(crate) fn certify(alloc: Global, list: &List, firsts: &[u32]) -> Result<Vec<Set>, Refusal>
-    requires few { length firsts.now ≤ 56 }
+/// of private variables of file scope. Fails only for want of memory.
+pub(crate) fn kept_words(alloc: Global, list: &List, firsts: &[u32]) -> Result<Vec<Set>, Refusal>
     requires coded { CanBeCoded list.now.ops.items list.now.main (length firsts.now) }
     ensures certain { IfOk result (λ kept. IsCertain list.now.ops.items kept.items list.now.main (length firsts.now)) }
     ensures generable { IfOk result (λ kept. LeadsOn list.now.ops.items
@@ -186,9 +136,8 @@ pub(crate) fn certify(alloc: Global, list: &List, firsts: &[u32]) -> Result<Vec<
 {
     have_words(&list.ops);
     are_words(firsts);
-    match kept_words(alloc, &list.ops, list.main, firsts.len() as u32) {
-        Ok(Some(kept)) => Ok(kept),
-        Ok(None) => Err(uncertain()),
+    match live_words(alloc, &list.ops) {
+        Ok(kept) => Ok(kept),
         Err(error) => Err(Refusal::Memory(error)),
     }
 }

@@ -13,41 +13,6 @@ within : (core : List CoreOp) (i : ℕ) (op : CoreOp) → slice_get core i ≡ S
 within [] i op e = absurd (cc)
 within (x ∷ xs) i op e = omega arith
 
-pub below : (core : List CoreOp) (i : ℕ) (op : CoreOp) → slice_get core i ≡ Some op → i < length core
-below [] i op e = absurd (cc)
-below (x ∷ xs) zero op e = omega arith
-below (x ∷ xs) (suc i) op e = let less = below xs i op e in omega (arith, less)
-
--- the index behind the next jump: behind one that stands here, else that behind the next index; and no jump stands behind the
--- end
-pub at_jump : (core : List CoreOp) (i : ℕ) (op : CoreOp) → slice_get core i ≡ Some op → is_jump op ≡ true → behind_jump core i ≡ i + 1
-at_jump [] i op e j = absurd (cc)
-at_jump (x ∷ xs) zero op e j =
-    let same : x ≡ op = cc in
-    ap (λ (y : CoreOp). if is_jump y then 1 else suc (past_jump xs)) same ∙ ap (λ b. if b then 1 else suc (past_jump xs)) j ∙ omega arith
-at_jump (x ∷ xs) (suc i) op e j = let more = at_jump xs i op e j in omega (arith, more)
-
-at_start : (xs : List CoreOp) → behind_jump xs 0 ≡ past_jump xs
-at_start [] = refl
-at_start (x ∷ xs) = refl
-
-pub past_op : (core : List CoreOp) (i : ℕ) (op : CoreOp) → slice_get core i ≡ Some op → is_jump op ≡ false → behind_jump core (i + 1) ≡ behind_jump core i
-past_op core i op e j = let n : i + 1 ≡ suc i = omega arith in ap (behind_jump core) n ∙ by core i e
-  where
-    by : (core : List CoreOp) (i : ℕ) → slice_get core i ≡ Some op → behind_jump core (suc i) ≡ behind_jump core i
-    by [] i e = absurd (cc)
-    by (x ∷ xs) zero e =
-        let same : x ≡ op = cc in
-        ap suc (at_start xs)
-        ∙ sym (ap (λ (y : CoreOp). if is_jump y then 1 else suc (past_jump xs)) same ∙ ap (λ b. if b then 1 else suc (past_jump xs)) j)
-    by (x ∷ xs) (suc i) e = ap suc (by xs i e)
-
-pub at_end : (core : List CoreOp) (i : ℕ) → slice_get core i ≡ None → behind_jump core i ≡ i
-at_end [] zero e = refl
-at_end [] (suc i) e = refl
-at_end (x ∷ xs) zero e = absurd (cc)
-at_end (x ∷ xs) (suc i) e = ap suc (at_end xs i e)
-
 module _ (core : List CoreOp) where
   -- no jump stands there
   pub stays_none : (count i : ℕ) → slice_get core i ≡ None → landing_by core count i ≡ i
@@ -70,9 +35,6 @@ module _ (core : List CoreOp) where
   pub leads_to : (i : ℕ) (op next : CoreOp) → slice_get core i ≡ Some op → is_jump op ≡ true → slice_get core op.target ≡ Some next → is_jump next ≡ false
       → landing core i ≡ op.target
   leads_to i op next e n f m = leads_by (length core) i op e n (within core i op e) (λ c. stays_at c op.target next f m)
-
-  pub leads_out : (i : ℕ) (op : CoreOp) → slice_get core i ≡ Some op → is_jump op ≡ true → slice_get core op.target ≡ None → landing core i ≡ op.target
-  leads_out i op e n f = leads_by (length core) i op e n (within core i op e) (λ c. stays_none c op.target f)
 
   pub ordinary : (within : ℕ → Within) (op : Operation) (index target depth : ℕ) (place : Within) → is_ordinary op ≡ true
       → ((onward : Bool) → Comes core within (follows core op index target [] onward).at (depth - takes op + leaves op onward) place)

@@ -32,10 +32,6 @@ is_ordinary (o.Leave gives framed) = false
 is_ordinary o.Halt = false
 is_ordinary operation = true
 
--- the place at an index of a list of places, and `main` behind its end
-abbrev pub place_in : List Within → (index : ℕ) → Within
-place_in places index = unwrap_or (slice_get places index) Main
-
 module _ (core : List CoreOp) (within : (index : ℕ) → Within) where
   -- the operation that comes next from an index on has so many values before it, and lies in such a function
   abbrev pub Comes : (index values : ℕ) → Within → Type 0

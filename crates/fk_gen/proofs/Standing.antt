@@ -18,10 +18,10 @@ use Rattle.fk_gen.proofs.Values.{same_word, other_word, values_kept}
 
 -- those of a frame in which so many values have room
 pub record LiesIn (places : Places) (waiting at count : ℕ) : Type 0 where
-  pub start : places.frames.of_file + 8 ≤ frame_start places waiting + 8
-  pub values : places.frames.of_file + 8 ≤ frame_end waiting - count
-  pub few : count ≤ 56
-  pub kept : (word : ℕ) → places.frames.keeps at word ≡ true → frame_start places waiting + 8 + word + count < frame_end waiting
+  pub start : places.frames.of_file + 7 ≤ frame_start places waiting + 7
+  pub values : places.frames.of_file + 7 ≤ frame_end waiting - count
+  pub few : count ≤ 57
+  pub kept : (word : ℕ) → places.frames.keeps at word ≡ true → frame_start places waiting + 7 + word + count < frame_end waiting
 
 pub lies_in : (places : Places) (waiting at count : ℕ) → places.frames.of_file ≤ 56 → places.frames.is_main at ≡ (waiting == 0) → HasRoom places.frames at count
     → LiesIn places waiting at count
@@ -48,7 +48,7 @@ lies_in places (suc n) at count few home room =
 -- ---- frames and waiting calls keep what no word of theirs is written to
 
 pub frame_kept : (places : Places) (m m' : Memory) (waiting at count : ℕ) (call : Call) → places.frames.of_file ≤ 56 → HasRoom places.frames at count
-    → length call.values ≤ count → ((j : ℕ) → places.frames.of_file + 8 ≤ j → j < frame_end waiting → m' j ≡ m j)
+    → length call.values ≤ count → ((j : ℕ) → places.frames.of_file + 7 ≤ j → j < frame_end waiting → m' j ≡ m j)
     → HasFrame places m waiting at call → HasFrame places m' waiting at call
 frame_kept places m m' waiting at count call few room within same f =
     let l = lies_in places waiting at count few f.home room in
@@ -57,11 +57,11 @@ frame_kept places m m' waiting at count call few room within same f =
     record {
       home = f.home;
       values = values_kept m m' (frame_end waiting) call.values (omega arith) (λ j le lt. same j (omega arith) lt) f.values;
-      privates = λ i e. let k = l.kept i e in same (frame_start places waiting + 8 + i) (omega arith) (omega arith) ∙ f.privates i e;
+      privates = λ i e. let k = l.kept i e in same (frame_start places waiting + 7 + i) (omega arith) (omega arith) ∙ f.privates i e;
     }
 
 pub waiting_kept : (places : Places) (m m' : Memory) (backs : List ℕ) (calls : List Call) → places.frames.of_file ≤ 56
-    → ((j : ℕ) → places.frames.of_file + 8 ≤ j → j < 64 * length calls + 3 → m' j ≡ m j) → HasWaiting places m backs calls → HasWaiting places m' backs calls
+    → ((j : ℕ) → places.frames.of_file + 7 ≤ j → j < 64 * length calls + 3 → m' j ≡ m j) → HasWaiting places m backs calls → HasWaiting places m' backs calls
 waiting_kept places m m' [] [] few same held = tt
 waiting_kept places m m' (i ∷ backs) (c ∷ calls) few same held =
     let n = length calls in (
@@ -101,7 +101,7 @@ word_here m base x v words y old = word_by m base x v words y (y == x) refl (λ 
 pub record InMemory (places : Places) (memory : Memory) (p : Owner) : Type 0 where
   pub running : HasFrame places memory (length p.runner.has.callers) p.runner.left.at p.runner.has.call
   pub waiting : HasWaiting places memory p.runner.left.callers p.runner.has.callers
-  pub own : (i : ℕ) → i < places.frames.of_file → memory (8 + i) ≡ p.runner.has.own i
+  pub own : (i : ℕ) → i < places.frames.of_file → memory (7 + i) ≡ p.runner.has.own i
   pub heap : (i : ℕ) → i < 16384 → memory (16384 + i) ≡ p.heap i
 
 pub in_memory : (places : Places) (p : Owner) (h : Hart) → StandsFor places p h → InMemory places h.local p
@@ -170,10 +170,10 @@ module _ (core : List CoreOp) (places : Places) where
           privates = λ x e.
               let kept = flows.kept x e refl in
               let k = l.kept x kept in
-              below (frame_start places n + 8 + x) (omega arith) ∙ running.privates x kept;
+              below (frame_start places n + 7 + x) (omega arith) ∙ running.privates x kept;
         };
         waiting = waiting_kept places m m' p.runner.left.callers p.runner.has.callers few (λ j le lt. below j (omega arith)) held.waiting;
-        own = λ x lt. below (8 + x) (omega arith) ∙ held.own x lt;
+        own = λ x lt. below (7 + x) (omega arith) ∙ held.own x lt;
         heap = λ x lt. above (16384 + x) (omega arith) ∙ held.heap x lt;
       }
 
@@ -200,38 +200,38 @@ module _ (core : List CoreOp) (places : Places) where
   -- a private word is written
   pub private_written : (m : Memory) (p : Owner) (i i' x v count : ℕ) → places.frames.of_file ≤ 56 → length p.runner.has.callers < 256
       → p.runner.left.at ≡ i → HasRoom places.frames i count → length (values p.runner.has) ≤ count
-      → ahead places.frames (places.frames.is_main i) + 8 + x + count < 64 → Flows core places.frames (λ word. word == x) i i' → InMemory places m p
-      → InMemory places (put m (frame_start places (length p.runner.has.callers) + 8 + x) v)
+      → ahead places.frames (places.frames.is_main i) + 7 + x + count < 64 → Flows core places.frames (λ word. word == x) i i' → InMemory places m p
+      → InMemory places (put m (frame_start places (length p.runner.has.callers) + 7 + x) v)
       (record { runner = record { left = position i' p.runner.left.callers; has = stored v (Private x) p.runner.has }; heap = p.heap })
   private_written m p i i' x v count few waiting at room within place flows held =
       let n = length p.runner.has.callers in
-      let w = frame_start places n + 8 + x in
+      let w = frame_start places n + 7 + x in
       let m' = put m w v in
       let running = subst (λ a. HasFrame places m n a p.runner.has.call) at held.running in
       let l = lies_in places n i count few running.home room in
       let start = l.start in
       let low = l.values in
       let inside : w + count < frame_end n = word_inside n i x count running.home place in
-      let at_least : 64 * n + 8 ≤ w + 0 = starts n x in
+      let at_least : 64 * n + 7 ≤ w + 0 = starts n x in
       record {
         running = record {
           home = flows.main ∙ running.home;
           values = values_kept m m' (frame_end n) (values p.runner.has) (omega arith) (λ j le lt. other_word m w v j (λ e. omega arith)) running.values;
-          privates = λ y e. word_here m (frame_start places n + 8) x v p.runner.has.call.privates y (λ other. running.privates y (flows.kept y e other));
+          privates = λ y e. word_here m (frame_start places n + 7) x v p.runner.has.call.privates y (λ other. running.privates y (flows.kept y e other));
         };
         waiting = waiting_kept places m m' p.runner.left.callers p.runner.has.callers few (λ j le lt. other_word m w v j (λ e. omega arith)) held.waiting;
-        own = λ y lt. other_word m w v (8 + y) (λ e. omega arith) ∙ held.own y lt;
+        own = λ y lt. other_word m w v (7 + y) (λ e. omega arith) ∙ held.own y lt;
         heap = λ y lt. other_word m w v (16384 + y) (λ e. omega arith) ∙ held.heap y lt;
       }
     where
-      word_inside : (n i x count : ℕ) → places.frames.is_main i ≡ (n == 0) → ahead places.frames (places.frames.is_main i) + 8 + x + count < 64
-          → frame_start places n + 8 + x + count < frame_end n
+      word_inside : (n i x count : ℕ) → places.frames.is_main i ≡ (n == 0) → ahead places.frames (places.frames.is_main i) + 7 + x + count < 64
+          → frame_start places n + 7 + x + count < frame_end n
       word_inside zero i x count home place =
           let e : ahead places.frames (places.frames.is_main i) ≡ places.frames.of_file = ap (ahead places.frames) home in
           omega arith
       word_inside (suc n) i x count home place = omega arith
 
-      starts : (n x : ℕ) → 64 * n + 8 ≤ frame_start places n + 8 + x + 0
+      starts : (n x : ℕ) → 64 * n + 7 ≤ frame_start places n + 7 + x + 0
       starts zero x = omega arith
       starts (suc n) x = omega arith
 
@@ -239,11 +239,11 @@ module _ (core : List CoreOp) (places : Places) where
   pub own_written : (m : Memory) (p : Owner) (i i' x v count : ℕ) → places.frames.of_file ≤ 56 → length p.runner.has.callers < 256
       → p.runner.left.at ≡ i → HasRoom places.frames i count → length (values p.runner.has) ≤ count
       → x < places.frames.of_file → Flows core places.frames nothing i i' → InMemory places m p
-      → InMemory places (put m (8 + x) v)
+      → InMemory places (put m (7 + x) v)
       (record { runner = record { left = position i' p.runner.left.callers; has = stored v (OfFile x) p.runner.has }; heap = p.heap })
   own_written m p i i' x v count few waiting at room within place flows held =
       let n = length p.runner.has.callers in
-      let m' = put m (8 + x) v in
+      let m' = put m (7 + x) v in
       let running = subst (λ a. HasFrame places m n a p.runner.has.call) at held.running in
       let l = lies_in places n i count few running.home room in
       let start = l.start in
@@ -251,12 +251,12 @@ module _ (core : List CoreOp) (places : Places) where
       record {
         running = record {
           home = flows.main ∙ running.home;
-          values = values_kept m m' (frame_end n) (values p.runner.has) (omega arith) (λ j le lt. other_word m (8 + x) v j (λ e. omega arith)) running.values;
-          privates = λ y e. other_word m (8 + x) v (frame_start places n + 8 + y) (λ f. omega arith) ∙ running.privates y (flows.kept y e refl);
+          values = values_kept m m' (frame_end n) (values p.runner.has) (omega arith) (λ j le lt. other_word m (7 + x) v j (λ e. omega arith)) running.values;
+          privates = λ y e. other_word m (7 + x) v (frame_start places n + 7 + y) (λ f. omega arith) ∙ running.privates y (flows.kept y e refl);
         };
-        waiting = waiting_kept places m m' p.runner.left.callers p.runner.has.callers few (λ j le lt. other_word m (8 + x) v j (λ e. omega arith)) held.waiting;
-        own = λ y lt. word_here m 8 x v p.runner.has.own y (λ other. held.own y lt);
-        heap = λ y lt. other_word m (8 + x) v (16384 + y) (λ e. omega arith) ∙ held.heap y lt;
+        waiting = waiting_kept places m m' p.runner.left.callers p.runner.has.callers few (λ j le lt. other_word m (7 + x) v j (λ e. omega arith)) held.waiting;
+        own = λ y lt. word_here m 7 x v p.runner.has.own y (λ other. held.own y lt);
+        heap = λ y lt. other_word m (7 + x) v (16384 + y) (λ e. omega arith) ∙ held.heap y lt;
       }
 
   -- a word of the private heap is written
@@ -270,20 +270,6 @@ module _ (core : List CoreOp) (places : Places) where
       record {
         running = frame_kept places m m' n p.runner.left.at count p.runner.has.call few room' within (λ j le lt. other_word m (16384 + x) v j (λ e. omega arith)) held.running;
         waiting = waiting_kept places m m' p.runner.left.callers p.runner.has.callers few (λ j le lt. other_word m (16384 + x) v j (λ e. omega arith)) held.waiting;
-        own = λ y lt. other_word m (16384 + x) v (8 + y) (λ e. omega arith) ∙ held.own y lt;
+        own = λ y lt. other_word m (16384 + x) v (7 + y) (λ e. omega arith) ∙ held.own y lt;
         heap = λ y lt. word_here m 16384 x v p.heap y (λ other. held.heap y lt);
-      }
-
-  -- words of the header of `main` are written
-  pub scratch_written : (m m' : Memory) (p : Owner) (i count : ℕ) → places.frames.of_file ≤ 56
-      → p.runner.left.at ≡ i → HasRoom places.frames i count → length (values p.runner.has) ≤ count → ((j : ℕ) → 8 ≤ j → m' j ≡ m j) → InMemory places m p
-      → InMemory places m' p
-  scratch_written m m' p i count few at room within same held =
-      let n = length p.runner.has.callers in
-      let room' = subst (λ a. HasRoom places.frames a count) (sym at) room in
-      record {
-        running = frame_kept places m m' n p.runner.left.at count p.runner.has.call few room' within (λ j le lt. same j (omega arith)) held.running;
-        waiting = waiting_kept places m m' p.runner.left.callers p.runner.has.callers few (λ j le lt. same j (omega arith)) held.waiting;
-        own = λ y lt. same (8 + y) (omega arith) ∙ held.own y lt;
-        heap = λ y lt. same (16384 + y) (omega arith) ∙ held.heap y lt;
       }

@@ -74,11 +74,11 @@ pub value_place : (a n k : ℕ) → a ≡ local_address (frame_end n) → n < 25
 value_place a n k e few some most = (omega arith, omega arith)
 
 pub private_place : (places : Places) (a n x : ℕ) → a ≡ local_address (frame_start places n) → n < 256 → places.frames.of_file ≤ 56 → x < 64
-    → (frame_start places n + 8 + x < 32768) × (word_sum a (at_private x) ≡ local_address (frame_start places n + 8 + x))
+    → (frame_start places n + 7 + x < 32768) × (word_sum a (at_private x) ≡ local_address (frame_start places n + 7 + x))
 private_place places a zero x e few file lt = (omega arith, omega arith)
 private_place places a (suc n) x e few file lt = (omega arith, omega arith)
 
-pub own_place : (a x : ℕ) → a ≡ local_address 0 → x < 64 → (8 + x < 32768) × (word_sum a (at_private x) ≡ local_address (8 + x))
+pub own_place : (a x : ℕ) → a ≡ local_address 0 → x < 64 → (7 + x < 32768) × (word_sum a (at_private x) ≡ local_address (7 + x))
 own_place a x e lt = (omega arith, omega arith)
 
 -- ---- numbers

@@ -33,8 +33,8 @@ peak operation depth = depth
 pub record Keeps (places : Places) (waiting values : ℕ) (written : (word : ℕ) → Bool) (h h' : Hart) : Type 0 where
   pub node : h'.registers a0 ≡ h.registers a0
   pub body : h'.registers a1 ≡ h.registers a1
-  pub words : (j : ℕ) → places.frames.of_file + 8 ≤ j → j < frame_end waiting - values
-      → ((word : ℕ) → written word ≡ true → j ≡ frame_start places waiting + 8 + word → ⊥) → h'.local j ≡ h.local j
+  pub words : (j : ℕ) → places.frames.of_file + 7 ≤ j → j < frame_end waiting - values
+      → ((word : ℕ) → written word ≡ true → j ≡ frame_start places waiting + 7 + word → ⊥) → h'.local j ≡ h.local j
 
 module _ (core : List CoreOp) (image : Image) (places : Places) where
   -- it commits after so many private instructions and with so many behind, and then something more holds

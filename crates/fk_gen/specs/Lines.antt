@@ -46,7 +46,7 @@ at_value k = (2 ^ 32 - 4 * k) % 2 ^ 32
 
 -- that of a private word from the start of its frame, and of a private variable of file scope from local memory
 abbrev pub at_private : (i : ℕ) → ℕ
-at_private i = 4 * (8 + i)
+at_private i = 4 * (7 + i)
 
 -- ---- numbers
 
@@ -71,7 +71,7 @@ load_number n = load_by (high_part n == 0) n
 abbrev pub copy_label : (arguments : ℕ) → ℕ
 copy_label arguments = arguments
 
--- where the code that all calls share is entered to clear so many of the last words of a frame, 0 to 56
+-- where the code that all calls share is entered to clear so many of the last private words of a frame, 0 to 56
 abbrev pub clear_label : (words : ℕ) → ℕ
 clear_label words = 64 + words
 

@@ -20,7 +20,7 @@ pub fn at_private(i: u32) -> u32
     ensures exact { result ≡ at_private i }
     ensures short { IsShort 12 result }
 {
-    4 * (8 + i)
+    4 * (7 + i)
 }
 
 /// The upper 20 bits of a number that `lui` takes, where `addi` adds the lower 12 as a signed number.

@@ -14,33 +14,33 @@ use Rattle.fk_gen.specs.Keeps.{Keeps}
 use Rattle.fk_gen.proofs.Values.{other_word}
 use Rattle.fk_gen.proofs.Standing.{lies_in, waiting_kept}
 
--- a memory is as it was from word 8 on below another
+-- a memory is as it was from word 7 on below another
 pub record SameBelow (bound : ℕ) (m m' : Memory) : Type 0 where
-  pub same : (j : ℕ) → 8 ≤ j → j < bound → m' j ≡ m j
+  pub same : (j : ℕ) → 7 ≤ j → j < bound → m' j ≡ m j
 
 -- words that are put from a word on leave those below it
 pub below_put : (m : Memory) (bound k v : ℕ) → bound ≤ k → SameBelow bound m (put m k v)
 below_put m bound k v le = record { same = λ j from lt. other_word m k v j (λ e. omega arith) }
 
 module _ (places : Places) where
-  -- the variables of file scope have room in the frame of `main`
-  file_room : (n i : ℕ) (call : Call) (m : Memory) (values : ℕ) → n ≡ 0 → HasFrame places m n i call → HasRoom places.frames i values
+  -- the variables of file scope have room in the frame of `main`, beside a value
+  file_room : (n i : ℕ) (call : Call) (m : Memory) (values : ℕ) → 0 < values → n ≡ 0 → HasFrame places m n i call → HasRoom places.frames i values
       → places.frames.of_file ≤ 56
-  file_room n i call m values e frame room =
+  file_room n i call m values some e frame room =
       let main : places.frames.is_main i ≡ true = frame.home ∙ ap (λ k. k == 0) e in
-      let header = subst (λ b. ahead places.frames b + 8 + values ≤ 64) main room.header in
+      let header = subst (λ b. ahead places.frames b + 7 + values ≤ 64) main room.header in
       omega arith
 
   file_waiting : (m : Memory) (backs : List ℕ) (calls : List Call) → 0 < length calls → HasWaiting places m backs calls → places.frames.of_file ≤ 56
   file_waiting m [] [] some held = absurd (omega arith)
-  file_waiting m (i ∷ backs) (c ∷ []) some held = file_room 0 i c m (suc (length c.values)) refl held.1 held.0.room
+  file_waiting m (i ∷ backs) (c ∷ []) some held = file_room 0 i c m (suc (length c.values)) (omega arith) refl held.1 held.0.room
   file_waiting m (i ∷ backs) (c ∷ d ∷ calls) some held = file_waiting m backs (d ∷ calls) (omega arith) held.2
   file_waiting m backs calls some held = absurd (assumption held)
 
-  file_few : (n i d : ℕ) (m : Memory) (call : Call) (backs : List ℕ) (calls : List Call) → n ≡ length calls → HasFrame places m n i call
+  file_few : (n i d : ℕ) (m : Memory) (call : Call) (backs : List ℕ) (calls : List Call) → 0 < d → n ≡ length calls → HasFrame places m n i call
       → HasRoom places.frames i d → HasWaiting places m backs calls → places.frames.of_file ≤ 56
-  file_few zero i d m call backs calls e frame room waiting = file_room 0 i call m d refl frame room
-  file_few (suc n) i d m call backs calls e frame room waiting = file_waiting m backs calls (omega arith) waiting
+  file_few zero i d m call backs calls some e frame room waiting = file_room 0 i call m d some refl frame room
+  file_few (suc n) i d m call backs calls some e frame room waiting = file_waiting m backs calls (omega arith) waiting
 
   -- the registers that a block leaves alone, but that of the top of the heap
   pub record SameRegisters (h h' : Hart) : Type 0 where
@@ -67,14 +67,14 @@ module _ (places : Places) where
   }
 
   pub stands_on : (p : Owner) (i j d top : ℕ) (vs : List ℕ) (heap : Memory) (h h' : Hart) → StandsFor places p h → p.runner.left.at ≡ i
-      → HasRoom places.frames i d → (core : List CoreOp) → Flows core places.frames nothing i j → SameRegisters h h'
+      → HasRoom places.frames i d → 0 < d → (core : List CoreOp) → Flows core places.frames nothing i j → SameRegisters h h'
       → h'.registers top_register ≡ top → SameBelow (frame_end (length p.runner.has.callers) - d) h.local h'.local
       → HasValues h'.local (frame_end (length p.runner.has.callers)) vs → ((k : ℕ) → k < 16384 → h'.local (16384 + k) ≡ heap k)
       → StandsFor places (went p j vs heap top) h' × Keeps places (length p.runner.has.callers) d nothing h h'
-  stands_on p i j d top vs heap h h' stands at room core flows same top' below values heap' =
+  stands_on p i j d top vs heap h h' stands at room some core flows same top' below values heap' =
       let n = length p.runner.has.callers in
       let frame = subst (λ k. HasFrame places h.local n k p.runner.has.call) at stands.running in
-      let few = file_few n i d h.local p.runner.has.call p.runner.left.callers p.runner.has.callers refl frame room stands.waiting in
+      let few = file_few n i d h.local p.runner.has.call p.runner.left.callers p.runner.has.callers some refl frame room stands.waiting in
       let l = lies_in places n i d few frame.home room in
       let start = l.start in
       let low = l.values in
@@ -99,11 +99,11 @@ module _ (places : Places) where
             privates = λ word kept.
                 let kept' = flows.kept word kept refl in
                 let lt = l.kept word kept' in
-                below.same (frame_start places n + 8 + word) (omega arith) (omega arith) ∙ frame.privates word kept';
+                below.same (frame_start places n + 7 + word) (omega arith) (omega arith) ∙ frame.privates word kept';
           };
           waiting = waiting_kept places h.local h'.local p.runner.left.callers p.runner.has.callers few
               (λ k le lt. below.same k (omega arith) (omega arith)) stands.waiting;
-          own = λ k lt. below.same (8 + k) (omega arith) (omega arith) ∙ stands.own k lt;
+          own = λ k lt. below.same (7 + k) (omega arith) (omega arith) ∙ stands.own k lt;
           heap = heap';
         },
         record { node = same.node; body = same.body; words = λ k from lt apart. below.same k (omega arith) (omega arith) },

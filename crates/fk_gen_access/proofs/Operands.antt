@@ -28,7 +28,7 @@ module _ (core : List CoreOp) (image : Image) (places : Places) (i : ℕ) (op : 
   operand : (j k : ℕ) → j < op.depth → k ≡ op.depth - j → Enters core image places setting t i op operation p h → Fits core places.frames i op operation
       → IsFound p h k (last (before j (values p.runner.has)))
   operand j k lt e en fits =
-      let header = fits.room.header in
+      let most = fits.few in
       let few : k ≤ 56 = omega arith in
       let some : 0 < k = omega arith in
       let calls = en.ready.in_range.waiting in

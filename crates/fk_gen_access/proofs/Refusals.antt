@@ -250,7 +250,7 @@ module _ (core : List CoreOp) (image : Image) (places : Places) (i : ℕ) (op : 
       let e = after told idle Plain g in
       let same = c.same in
       let on =
-      stands_on places p i (suc i) op.depth p.runner.has.top vs p.heap h e stands en.index here.fits.room core (here.fits.goes_on true)
+      stands_on places p i (suc i) op.depth p.runner.has.top vs p.heap h e stands en.index here.fits.room (let some = here.fits.values in omega arith) core (here.fits.goes_on true)
       (record { nought = same.nought; frame = same.frame; behind = same.behind; number = same.number; rank = same.rank; size = same.size; local = same.local; shared_data = same.shared_data; private_heap = same.private_heap; shared_mask = same.shared_mask; devices = same.devices; heap_mask = same.heap_mask; node = same.node; body = same.body })
       (c.top ∙ stands.top)
       (record { same = λ j from lt. c.local j })

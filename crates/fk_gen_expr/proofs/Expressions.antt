@@ -231,7 +231,7 @@ module _ (core : List CoreOp) (image : Image) (places : Places) (bound : ℕ →
       let stands = here.enters.at.stands in
       let is = here.is in
       let place = here.fits.place in
-      get_with (Value (Private w)) ((Lw 5 8 (at_private w), LocalAt (frame_start places n + 8 + w)) ∷ []) 5 (p.runner.has.call.privates w) here refl (omega arith) refl
+      get_with (Value (Private w)) ((Lw 5 8 (at_private w), LocalAt (frame_start places n + 7 + w)) ∷ []) 5 (p.runner.has.call.privates w) here refl (omega arith) refl
       record {
         can = (private_place places (h.registers 8) n w stands.frame here.enters.ready.in_range.waiting here.few is.1, tt);
         same = itself h;
@@ -242,7 +242,7 @@ module _ (core : List CoreOp) (image : Image) (places : Places) (bound : ℕ →
       let stands = here.enters.at.stands in
       let is = here.is in
       let place = here.fits.place in
-      get_with (Value (OfFile w)) ((Lw 5 22 (at_private w), LocalAt (8 + w)) ∷ []) 5 (p.runner.has.own w) here refl (omega arith) refl
+      get_with (Value (OfFile w)) ((Lw 5 22 (at_private w), LocalAt (7 + w)) ∷ []) 5 (p.runner.has.own w) here refl (omega arith) refl
       record {
         can = (own_place (h.registers 22) w stands.local is.1, tt);
         same = itself h;
@@ -423,11 +423,11 @@ module _ (core : List CoreOp) (image : Image) (places : Places) (bound : ℕ →
       let is = here.is in
       let flows : Flows core places.frames (writes (Set (Private w))) i (suc i) = here.fits.goes_on true in
       let load : Instruction × Reached = (load_value 5 d, LocalAt (frame_end n - d)) in
-      let store : Instruction × Reached = (Sw 8 5 (at_private w), LocalAt (frame_start places n + 8 + w)) in
+      let store : Instruction × Reached = (Sw 8 5 (at_private w), LocalAt (frame_start places n + 7 + w)) in
       let h1 = after told load.0 load.1 h in
       let h2 = after told store.0 store.1 h1 in
       let new : Owner = owner_of (local_doing core image places setting i op (Set (Private w)) p) in
-      let found = ap (put h.local (frame_start places n + 8 + w)) (sym (top_at (Set (Private w)) here is.0)) in
+      let found = ap (put h.local (frame_start places n + 7 + w)) (sym (top_at (Set (Private w)) here is.0)) in
       code_does core image places bound i op (Set (Private w)) setting t p h (load ∷ store ∷ []) (KeepsMost (Set (Private w))) here.at here.enters here.block (omega arith) (omega arith)
       record { kind = refl; onward = refl }
       (reaches (Set (Private w)) d here is.0 is.1, (private_place places (h.registers 8) n w stands.frame waiting here.few is.2, tt))
@@ -435,7 +435,7 @@ module _ (core : List CoreOp) (image : Image) (places : Places) (bound : ℕ →
       (subst (λ m. InMemory places m new) found
       (private_written core places h.local p i (suc i) w (last vs) d here.few waiting here.enters.index here.fits.room (omega arith) here.fits.place flows
       (in_memory places p h stands))))
-      record { node = refl; body = refl; words = λ j from lt apart. other_word h.local (frame_start places n + 8 + w) (h1.registers 5) j (apart w (eq-eqb w w refl)) }
+      record { node = refl; body = refl; words = λ j from lt apart. other_word h.local (frame_start places n + 7 + w) (h1.registers 5) j (apart w (eq-eqb w w refl)) }
   set_does (OfFile w) here =
       let depth = here.enters.ready.depth in
       let stands = here.enters.at.stands in
@@ -443,12 +443,12 @@ module _ (core : List CoreOp) (image : Image) (places : Places) (bound : ℕ →
       let is = here.is in
       let flows : Flows core places.frames (λ word. false) i (suc i) = here.fits.goes_on true in
       let load : Instruction × Reached = (load_value 5 d, LocalAt (frame_end n - d)) in
-      let store : Instruction × Reached = (Sw 22 5 (at_private w), LocalAt (8 + w)) in
+      let store : Instruction × Reached = (Sw 22 5 (at_private w), LocalAt (7 + w)) in
       let place = here.fits.place in
       let h1 = after told load.0 load.1 h in
       let h2 = after told store.0 store.1 h1 in
       let new : Owner = owner_of (local_doing core image places setting i op (Set (OfFile w)) p) in
-      let found = ap (put h.local (8 + w)) (sym (top_at (Set (OfFile w)) here is.0)) in
+      let found = ap (put h.local (7 + w)) (sym (top_at (Set (OfFile w)) here is.0)) in
       code_does core image places bound i op (Set (OfFile w)) setting t p h (load ∷ store ∷ []) (KeepsMost (Set (OfFile w))) here.at here.enters here.block (omega arith) (omega arith)
       record { kind = refl; onward = refl }
       (reaches (Set (OfFile w)) d here is.0 is.1, (own_place (h.registers 22) w stands.local is.2, tt))
@@ -456,7 +456,7 @@ module _ (core : List CoreOp) (image : Image) (places : Places) (bound : ℕ →
       (subst (λ m. InMemory places m new) found
       (own_written core places h.local p i (suc i) w (last vs) d here.few waiting here.enters.index here.fits.room (omega arith) here.fits.place flows
       (in_memory places p h stands))))
-      record { node = refl; body = refl; words = λ j from lt apart. other_word h.local (8 + w) (h1.registers 5) j (λ e. omega arith) }
+      record { node = refl; body = refl; words = λ j from lt apart. other_word h.local (7 + w) (h1.registers 5) j (λ e. omega arith) }
 
   -- each of them
   pub block_does : (operation : Operation) → Here operation → IsDone operation

@@ -30,20 +30,20 @@ number_of_parts n small = parts_make_word n ∙ omega arith
 -- a memory that has got values, from the variable with a number on
 abbrev pub filled : Memory → (i : ℕ) → List ℕ → Memory
 filled m i [] = m
-filled m i (v ∷ vs) = filled (put m (8 + i) (word_sum (high_part v * 4096) (low_part v))) (suc i) vs
+filled m i (v ∷ vs) = filled (put m (7 + i) (word_sum (high_part v * 4096) (low_part v))) (suc i) vs
 
-filled_other : (m : Memory) (i : ℕ) (vs : List ℕ) (w : ℕ) → ((w < 8 + i) ⊎ (8 + i + length vs ≤ w)) → filled m i vs w ≡ m w
+filled_other : (m : Memory) (i : ℕ) (vs : List ℕ) (w : ℕ) → ((w < 7 + i) ⊎ (7 + i + length vs ≤ w)) → filled m i vs w ≡ m w
 filled_other m i [] w out = refl
-filled_other m i (v ∷ vs) w (inl lt) = filled_other (put m (8 + i) (word_sum (high_part v * 4096) (low_part v))) (suc i) vs w (inl (omega arith)) ∙ other_word m (8 + i) _ w (λ e. omega arith)
-filled_other m i (v ∷ vs) w (inr le) = filled_other (put m (8 + i) (word_sum (high_part v * 4096) (low_part v))) (suc i) vs w (inr (omega arith)) ∙ other_word m (8 + i) _ w (λ e. omega arith)
+filled_other m i (v ∷ vs) w (inl lt) = filled_other (put m (7 + i) (word_sum (high_part v * 4096) (low_part v))) (suc i) vs w (inl (omega arith)) ∙ other_word m (7 + i) _ w (λ e. omega arith)
+filled_other m i (v ∷ vs) w (inr le) = filled_other (put m (7 + i) (word_sum (high_part v * 4096) (low_part v))) (suc i) vs w (inr (omega arith)) ∙ other_word m (7 + i) _ w (λ e. omega arith)
 
-filled_at : (m : Memory) (i : ℕ) (vs : List ℕ) (j w : ℕ) → All (λ v. v < 2 ^ 32) vs → ((k : ℕ) → 8 + i ≤ k → m k ≡ 0) → w ≡ 8 + i + j → filled m i vs w ≡ slice_index vs j
+filled_at : (m : Memory) (i : ℕ) (vs : List ℕ) (j w : ℕ) → All (λ v. v < 2 ^ 32) vs → ((k : ℕ) → 7 + i ≤ k → m k ≡ 0) → w ≡ 7 + i + j → filled m i vs w ≡ slice_index vs j
 filled_at m i [] j w small zeros is = zeros w (omega arith)
 filled_at m i (v ∷ vs) zero w small zeros is =
-    filled_other (put m (8 + i) (word_sum (high_part v * 4096) (low_part v))) (suc i) vs w (inl (omega arith)) ∙ ap (put m (8 + i) (word_sum (high_part v * 4096) (low_part v))) (let e : w ≡ 8 + i = omega arith in e)
-    ∙ same_word m (8 + i) _ ∙ number_of_parts v (small 0 0 (omega arith))
+    filled_other (put m (7 + i) (word_sum (high_part v * 4096) (low_part v))) (suc i) vs w (inl (omega arith)) ∙ ap (put m (7 + i) (word_sum (high_part v * 4096) (low_part v))) (let e : w ≡ 7 + i = omega arith in e)
+    ∙ same_word m (7 + i) _ ∙ number_of_parts v (small 0 0 (omega arith))
 filled_at m i (v ∷ vs) (suc j) w small zeros is =
-    filled_at (put m (8 + i) (word_sum (high_part v * 4096) (low_part v))) (suc i) vs j w (λ k d lt. small (suc k) d (omega arith)) (λ k le. other_word m (8 + i) _ k (λ e. omega arith) ∙ zeros k (omega arith)) (omega arith)
+    filled_at (put m (7 + i) (word_sum (high_part v * 4096) (low_part v))) (suc i) vs j w (λ k d lt. small (suc k) d (omega arith)) (λ k le. other_word m (7 + i) _ k (λ e. omega arith) ∙ zeros k (omega arith)) (omega arith)
 
 -- how many cycles they take, with the jump behind them
 abbrev pub cycles_of : List ℕ → ℕ
@@ -67,13 +67,13 @@ firsts_come image bound number main (v ∷ vs) t i k h Goal few about lines le s
     let v2 = word_sum v1 (low_part v) in
     let h1 = writes h 5 v1 in
     let h2 = writes h1 5 v2 in
-    let h3 : Hart = record (moves h2) { local = put h.local (8 + i) v2 } in
+    let h3 : Hart = record (moves h2) { local = put h.local (7 + i) v2 } in
     let about1 = writing image t k h 5 v1 about lines.0.within in
     let about2 = writing image (later t) (suc k) h1 5 v2 about1 lines.1.0.within in
-    let about3 = storing image (later (later t)) (suc (suc k)) h2 (put h.local (8 + i) v2) about2 lines.1.1.0.within in
+    let about3 = storing image (later (later t)) (suc (suc k)) h2 (put h.local (7 + i) v2) about2 lines.1.1.0.within in
     first image t number (suc (suc (cycles_of vs))) k _ h h1 Goal about lines.0 (λ s. (s.reserved, refl))
     (first image (later t) number (suc (cycles_of vs)) (suc k) _ h1 h2 Goal about1 lines.1.0 (λ s. (s.reserved, refl))
-    (first image (later (later t)) number (cycles_of vs) (suc (suc k)) _ h2 h3 Goal about2 lines.1.1.0 (sw_goes (later (later t)) number 22 5 (at_private i) (8 + i) h2 (near_word 0 (8 + i) (8 + i) (h2.registers 22) (at_private i) start refl (omega arith) (omega arith)))
+    (first image (later (later t)) number (cycles_of vs) (suc (suc k)) _ h2 h3 Goal about2 lines.1.1.0 (sw_goes (later (later t)) number 22 5 (at_private i) (7 + i) h2 (near_word 0 (7 + i) (7 + i) (h2.registers 22) (at_private i) start refl (omega arith) (omega arith)))
     (firsts_come image bound number main vs (later (later (later t))) (suc i) (suc (suc (suc k))) h3 Goal (omega arith) about3 lines.1.1.1 le start
     (λ h' live pc local same. goal h' live pc local (λ r e. same r e ∙ rw e)))))
 
@@ -130,10 +130,10 @@ firsts_begin image bound places firsts main labels are is_main setting t number 
           running = record {
             home = is_main;
             values = tt;
-            privates = λ w e. ap (λ m. m (of_file + 8 + w)) memory ∙ filled_other (λ i. 0) 0 firsts (of_file + 8 + w) (inr (omega arith));
+            privates = λ w e. ap (λ m. m (of_file + 7 + w)) memory ∙ filled_other (λ i. 0) 0 firsts (of_file + 7 + w) (inr (omega arith));
           };
           waiting = tt;
-          own = λ j lt. ap (λ m. m (8 + j)) memory ∙ filled_at (λ i. 0) 0 firsts j (8 + j) are.words (λ k le. refl) (omega arith);
+          own = λ j lt. ap (λ m. m (7 + j)) memory ∙ filled_at (λ i. 0) 0 firsts j (7 + j) are.words (λ k le. refl) (omega arith);
           heap = λ j lt. ap (λ m. m (16384 + j)) memory ∙ filled_other (λ i. 0) 0 firsts (16384 + j) (inr (omega arith));
         };
       },

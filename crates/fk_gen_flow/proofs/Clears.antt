@@ -20,27 +20,27 @@ arguments_end zero vs a le = refl
 arguments_end (suc n) [] a le = refl
 arguments_end (suc n) (v ∷ vs) a le = other_word (arguments n vs) n v a (λ f. omega arith) ∙ arguments_end n vs a (omega arith)
 
--- a memory in which the last words of a frame, which begins at word e, are 0
+-- a memory in which the last of the private words of a frame, which begins at word e, are 0
 pub record Cleared (m m' : Memory) (e last : ℕ) : Type 0 where
-  pub zeros : (a : ℕ) → most_privates ≤ a + last → a < most_privates → m' (e + 8 + a) ≡ 0
-  pub others : (j : ℕ) → ((j + last < e + 64) ⊎ (e + 64 ≤ j)) → m' j ≡ m j
+  pub zeros : (a : ℕ) → most_privates ≤ a + last → a < most_privates → m' (e + 7 + a) ≡ 0
+  pub others : (j : ℕ) → ((j + last < e + 63) ⊎ (e + 63 ≤ j)) → m' j ≡ m j
 
-cleared_more : (m m' : Memory) (e k v : ℕ) → k < most_privates → v ≡ 0 → Cleared (put m (e + (8 + (most_privates - 1 - k))) v) m' e k → Cleared m m' e (suc k)
+cleared_more : (m m' : Memory) (e k v : ℕ) → k < most_privates → v ≡ 0 → Cleared (put m (e + (7 + (most_privates - 1 - k))) v) m' e k → Cleared m m' e (suc k)
 cleared_more m m' e k v few zero' rest = record {
   zeros = λ a from lt. by_case a from lt (cases_lt (a + k) most_privates);
   others = λ j out. apart j out;
 }
   where
     w : ℕ
-    w = e + (8 + (most_privates - 1 - k))
+    w = e + (7 + (most_privates - 1 - k))
 
-    by_case : (a : ℕ) → most_privates ≤ a + suc k → a < most_privates → ((a + k < most_privates) ⊎ (most_privates ≤ a + k)) → m' (e + 8 + a) ≡ 0
+    by_case : (a : ℕ) → most_privates ≤ a + suc k → a < most_privates → ((a + k < most_privates) ⊎ (most_privates ≤ a + k)) → m' (e + 7 + a) ≡ 0
     by_case a from lt (inl less) =
-        let here : w ≡ e + 8 + a = omega arith in
+        let here : w ≡ e + 7 + a = omega arith in
         subst (λ j. m' j ≡ 0) here (rest.others w (inl (omega arith)) ∙ same_word m w v ∙ zero')
     by_case a from lt (inr more) = rest.zeros a more lt
 
-    apart : (j : ℕ) → ((j + suc k < e + 64) ⊎ (e + 64 ≤ j)) → m' j ≡ m j
+    apart : (j : ℕ) → ((j + suc k < e + 63) ⊎ (e + 63 ≤ j)) → m' j ≡ m j
     apart j (inl lt) = rest.others j (inl (omega arith)) ∙ other_word m w v j (λ f. omega arith)
     apart j (inr le) = rest.others j (inr le) ∙ other_word m w v j (λ f. omega arith)
 
@@ -68,12 +68,12 @@ clears_come image bound number e rest Goal chain few (suc k) t h within about no
     let lines = chain.parts k (omega arith) in
     let below = chain.next k (omega arith) in
     let word = most_privates - 1 - k in
-    let w = e + (8 + word) in
+    let w = e + (7 + word) in
     let m = put h.local w (h.registers 0) in
     let h1 : Hart = record (moves h) { local = m } in
     let about1 = storing image t at h m about lines.0.within in
     let at1 = about1.at in
     let about2 : IsAbout image (later t) (bound (clear_label k)) h1 = record { code = about1.code; live = about1.live; at = omega arith } in
-    first image t number (clear_cycles k rest) at _ h h1 Goal about lines.0 (sw_goes t number 9 0 (at_private word) w h (near_word e (8 + word) w (h.registers 9) (at_private word) to refl refl (omega arith)))
+    first image t number (clear_cycles k rest) at _ h h1 Goal about lines.0 (sw_goes t number 9 0 (at_private word) w h (near_word e (7 + word) w (h.registers 9) (at_private word) to refl refl (omega arith)))
     (clears_come image bound number e rest Goal chain few k (later t) h1 (omega arith) about2 nought to
     (λ t' h' about' same cleared. next t' h' about' same (cleared_more h.local h'.local e k (h.registers 0) (omega arith) nought cleared)))

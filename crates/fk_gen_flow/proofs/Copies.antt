@@ -35,24 +35,24 @@ arguments_at m e (suc n) (v ∷ vs) a w held le few lt is = by_case (λ less. ar
 
 -- a memory in which so many words, which stand before word s, follow the header at word e, the last one first
 pub record Copied (m m' : Memory) (s e n : ℕ) : Type 0 where
-  pub copies : (a : ℕ) → a < n → m' (e + 8 + a) ≡ m (s - suc a)
-  pub others : (j : ℕ) → ((j < e + 8) ⊎ (e + 8 + n ≤ j)) → m' j ≡ m j
+  pub copies : (a : ℕ) → a < n → m' (e + 7 + a) ≡ m (s - suc a)
+  pub others : (j : ℕ) → ((j < e + 7) ⊎ (e + 7 + n ≤ j)) → m' j ≡ m j
 
-copied_more : (m m' : Memory) (s e n : ℕ) → s ≤ e → Copied (put m (e + 8 + n) (m (s - suc n))) m' s e n → Copied m m' s e (suc n)
+copied_more : (m m' : Memory) (s e n : ℕ) → s ≤ e → Copied (put m (e + 7 + n) (m (s - suc n))) m' s e n → Copied m m' s e (suc n)
 copied_more m m' s e n le rest = record {
   copies = λ a lt. by_case a lt (cases_lt a n);
   others = λ j out. apart j out;
 }
   where
-    by_case : (a : ℕ) → a < suc n → ((a < n) ⊎ (n ≤ a)) → m' (e + 8 + a) ≡ m (s - suc a)
-    by_case a lt (inl less) = rest.copies a less ∙ other_word m (e + 8 + n) (m (s - suc n)) (s - suc a) (λ f. omega arith)
+    by_case : (a : ℕ) → a < suc n → ((a < n) ⊎ (n ≤ a)) → m' (e + 7 + a) ≡ m (s - suc a)
+    by_case a lt (inl less) = rest.copies a less ∙ other_word m (e + 7 + n) (m (s - suc n)) (s - suc a) (λ f. omega arith)
     by_case a lt (inr more) =
         let last : n ≡ a = omega arith in
-        subst (λ b. m' (e + 8 + b) ≡ m (s - suc b)) last (rest.others (e + 8 + n) (inr (omega arith)) ∙ same_word m (e + 8 + n) (m (s - suc n)))
+        subst (λ b. m' (e + 7 + b) ≡ m (s - suc b)) last (rest.others (e + 7 + n) (inr (omega arith)) ∙ same_word m (e + 7 + n) (m (s - suc n)))
 
-    apart : (j : ℕ) → ((j < e + 8) ⊎ (e + 8 + suc n ≤ j)) → m' j ≡ m j
-    apart j (inl lt) = rest.others j (inl lt) ∙ other_word m (e + 8 + n) (m (s - suc n)) j (λ f. omega arith)
-    apart j (inr le') = rest.others j (inr (omega arith)) ∙ other_word m (e + 8 + n) (m (s - suc n)) j (λ f. omega arith)
+    apart : (j : ℕ) → ((j < e + 7) ⊎ (e + 7 + suc n ≤ j)) → m' j ≡ m j
+    apart j (inl lt) = rest.others j (inl lt) ∙ other_word m (e + 7 + n) (m (s - suc n)) j (λ f. omega arith)
+    apart j (inr le') = rest.others j (inr (omega arith)) ∙ other_word m (e + 7 + n) (m (s - suc n)) j (λ f. omega arith)
 
 -- how many cycles the copies take, and what follows them
 abbrev pub copy_cycles : (n rest : ℕ) → ℕ
@@ -85,14 +85,14 @@ copies_come image bound number s e rest most word Goal copying le few many (suc 
     let below = copying.next n (omega arith) in
     let v = h.local (s - suc n) in
     let h1 = writes h 5 v in
-    let m2 = put h.local (e + 8 + n) v in
+    let m2 = put h.local (e + 7 + n) v in
     let h2 : Hart = record (moves h1) { local = m2 } in
     let about1 = writing image t k h 5 v about lines.0.within in
     let about2 = storing image (later t) (suc k) h1 m2 about1 lines.1.0.within in
     let at2 = about2.at in
     let about3 : IsAbout image (later (later t)) (word n) h2 = record { code = about2.code; live = about2.live; at = omega arith } in
     first image t number (suc (copy_cycles n rest)) k _ h h1 Goal about lines.0 (lw_goes t number 5 7 (at_value n) (s - suc n) h (word_before s n (h.registers 7) from (omega arith) (omega arith)))
-    (first image (later t) number (copy_cycles n rest) (suc k) _ h1 h2 Goal about1 lines.1.0 (sw_goes (later t) number 9 5 (at_private n) (e + 8 + n) h1 (near_word e (8 + n) (e + 8 + n) (h1.registers 9) (at_private n) to refl (omega arith) (omega arith)))
+    (first image (later t) number (copy_cycles n rest) (suc k) _ h1 h2 Goal about1 lines.1.0 (sw_goes (later t) number 9 5 (at_private n) (e + 7 + n) h1 (near_word e (7 + n) (e + 7 + n) (h1.registers 9) (at_private n) to refl (omega arith) (omega arith)))
     (copies_come image bound number s e rest most word Goal copying le few many n (later (later t)) h2 (omega arith) (omega arith) about3 from to
     (λ t' h' about' same copied. next t' h' about' (λ r f. same r f ∙ rw f) (copied_more h.local h'.local s e n le copied))))
 

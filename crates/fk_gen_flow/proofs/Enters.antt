@@ -67,8 +67,8 @@ module _ (core : List CoreOp) (image : Image) (bound : ℕ → ℕ) (places : Pl
     pub code : m' e + 16 ≡ 4 * places.block (suc (suc i))
     pub frame : m' (e + 1) ≡ local_address (frame_start places (length p.runner.has.callers))
     pub result : m' (e + 2) ≡ local_address (s - 1)
-    pub copies : (a : ℕ) → a < n → m' (e + 8 + a) ≡ m (s - suc a)
-    pub zeros : clears ≡ true → (a : ℕ) → n ≤ a → a < 56 → m' (e + 8 + a) ≡ 0
+    pub copies : (a : ℕ) → a < n → m' (e + 7 + a) ≡ m (s - suc a)
+    pub zeros : clears ≡ true → (a : ℕ) → n ≤ a → a < 56 → m' (e + 7 + a) ≡ 0
     pub below : (j : ℕ) → j < e → m' j ≡ m j
     pub above : (j : ℕ) → e + 64 ≤ j → m' j ≡ m j
 
@@ -132,7 +132,7 @@ module _ (core : List CoreOp) (image : Image) (bound : ℕ → ℕ) (places : Pl
               frame_kept places h.local h'.local w (suc (suc i)) (length (before n vs)) call' few (room_below places (suc (suc i)) (length (before n vs)) (suc (length (before n vs))) (omega arith) room) (omega arith) (λ j a b. begun.below j b) flowed,
               waiting_kept places h.local h'.local p.runner.left.callers p.runner.has.callers few (λ j a b. begun.below j (omega arith)) stands.waiting,
             );
-            own = λ j lt. begun.below (8 + j) (omega arith) ∙ stands.own j lt;
+            own = λ j lt. begun.below (7 + j) (omega arith) ∙ stands.own j lt;
             heap = λ j lt. begun.above (16384 + j) (omega arith) ∙ stands.heap j lt;
           };
         };
@@ -234,9 +234,9 @@ module _ (core : List CoreOp) (image : Image) (bound : ℕ → ℕ) (places : Pl
 
     -- the private words of the new frame stand in it, and nothing else has changed
     record HasWords (m m' : Memory) : Type 0 where
-      pub copies : (a : ℕ) → a < n → m' (end + 8 + a) ≡ m (s - suc a)
-      pub zeros : clears ≡ true → (a : ℕ) → n ≤ a → a < 56 → m' (end + 8 + a) ≡ 0
-      pub others : (j : ℕ) → ((j < end + 8) ⊎ (end + 64 ≤ j)) → m' j ≡ m j
+      pub copies : (a : ℕ) → a < n → m' (end + 7 + a) ≡ m (s - suc a)
+      pub zeros : clears ≡ true → (a : ℕ) → n ≤ a → a < 56 → m' (end + 7 + a) ≡ 0
+      pub others : (j : ℕ) → ((j < end + 7) ⊎ (end + 64 ≤ j)) → m' j ≡ m j
 
     -- with them and the frame it has begun its call
     has_begun : (kf : ℕ) (hx hf : Hart) → HasStored → HasWords h4.local hx.local
@@ -255,8 +255,8 @@ module _ (core : List CoreOp) (image : Image) (bound : ℕ → ℕ) (places : Pl
                 code = omega (arith, code, next, behind);
                 frame = old (end + 1) (λ f. omega arith) ∙ words.others (end + 1) (inl (omega arith)) ∙ stored.frame ∙ stands.frame;
                 result = old (end + 2) (λ f. omega arith) ∙ words.others (end + 2) (inl (omega arith)) ∙ stored.result;
-                copies = λ a lt. old (end + 8 + a) (λ f. omega arith) ∙ words.copies a lt ∙ stored.others (s - suc a) (inl (omega arith));
-                zeros = λ does a le lt. old (end + 8 + a) (λ f. omega arith) ∙ words.zeros does a le lt;
+                copies = λ a lt. old (end + 7 + a) (λ f. omega arith) ∙ words.copies a lt ∙ stored.others (s - suc a) (inl (omega arith));
+                zeros = λ does a le lt. old (end + 7 + a) (λ f. omega arith) ∙ words.zeros does a le lt;
                 below = below;
                 above = λ j le. old j (λ f. omega arith) ∙ words.others j (inr le) ∙ stored.others j (inr (omega arith));
               })
@@ -317,11 +317,11 @@ module _ (core : List CoreOp) (image : Image) (bound : ℕ → ℕ) (places : Pl
         first image t' number 4 (bound (clear_label 0)) _ h' hx Goal about' shared.clearing.back.0 (jalr_goes t' number 0 6 0 (suc k) h' link (omega arith))
         (frame_begins (later t') (suc k) hx there' stored (subst (λ j. LinesAt image bound j frame_lines) here frame)
         (record {
-          copies = λ a lt. cleared.others (end + 8 + a) (inl (omega arith)) ∙ copied.copies a lt;
+          copies = λ a lt. cleared.others (end + 7 + a) (inl (omega arith)) ∙ copied.copies a lt;
           zeros = λ e a le lt. cleared.zeros a (omega arith) lt;
           others = λ j out. elim out [
             | inl lt ↦ cleared.others j (inl (omega arith)) ∙ copied.others j (inl lt)
-            | inr le ↦ cleared.others j (inr le) ∙ copied.others j (inr (omega arith))
+            | inr le ↦ cleared.others j (inr (omega arith)) ∙ copied.others j (inr (omega arith))
           ];
         })
         (λ r a b. same' r ∙ rw b (same r a b)) (omega arith))))

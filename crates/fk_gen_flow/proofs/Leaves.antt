@@ -55,13 +55,13 @@ pub record IsAfter (h h' : Hart) : Type 0 where
 
 -- the word of a result lies in the frame of the call that waits, behind its header and its private words
 record IsResult (places : Places) (m back : ℕ) (r : ℕ) : Type 0 where
-  pub header : 64 * m + 8 ≤ r
+  pub header : 64 * m + 7 ≤ r
   pub inside : r < 64 * suc m
-  pub own : (j : ℕ) → j < places.frames.of_file → 8 + j < r
-  pub privates : (w : ℕ) → places.frames.keeps back w ≡ true → frame_start places m + 8 + w < r
+  pub own : (j : ℕ) → j < places.frames.of_file → 7 + j < r
+  pub privates : (w : ℕ) → places.frames.keeps back w ≡ true → frame_start places m + 7 + w < r
 
 own_below : (places : Places) (m back n r : ℕ) → places.frames.is_main back ≡ (m == 0) → HasRoom places.frames back (suc n) → places.frames.of_file ≤ 56 → r ≡ 64 * suc m - suc n
-    → (j : ℕ) → j < places.frames.of_file → 8 + j < r
+    → (j : ℕ) → j < places.frames.of_file → 7 + j < r
 own_below places zero back n r home room few is j lt =
     let starts : places.frames.of_file ≡ _ = start_of places zero back home in
     let header = room.header in
@@ -135,10 +135,10 @@ module _ (core : List CoreOp) (image : Image) (bound : ℕ → ℕ) (places : Pl
             running = record {
               home = l.frame.home;
               values = values;
-              privates = λ w e. let below = word.privates w e in others (frame_start places m + 8 + w) (λ f. omega arith) ∙ l.frame.privates w e ∙ ap (λ f. f w) (sym privates);
+              privates = λ w e. let below = word.privates w e in others (frame_start places m + 7 + w) (λ f. omega arith) ∙ l.frame.privates w e ∙ ap (λ f. f w) (sym privates);
             };
             waiting = waiting_kept places h.local h'.local l.backs' l.calls' few (λ j a b. others j (λ f. omega arith)) l.others;
-            own = λ j lt. let below = word.own j lt in others (8 + j) (λ f. omega arith) ∙ stands.own j lt;
+            own = λ j lt. let below = word.own j lt in others (7 + j) (λ f. omega arith) ∙ stands.own j lt;
             heap = λ j lt. others (16384 + j) (λ f. omega arith) ∙ stands.heap j lt;
           };
         };

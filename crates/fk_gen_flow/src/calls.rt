@@ -146,7 +146,7 @@ pub fn emit_copy(into: &mut Assembler, argument: u32) -> Result<(), AllocError>
     )
 }
 
-/// Adds the line that clears a private word of the new frame, one of so many from the end of the frame on. In the code that
+/// Adds the line that clears a private word of the new frame, the one behind which so many others come. In the code that
 /// calls share it stands at the label of one word more.
 pub fn emit_clear(into: &mut Assembler, behind: u32) -> Result<(), AllocError>
     requires behind { behind < 56 }

@@ -29,9 +29,9 @@ nestings = record { levels = levels_at; behind = λ index. 0; start = gathering_
 setting : Setting
 setting = record { processors = 4; globals = 0; inputs = 0 }
 
--- a memory where word 8 begins the level of the group
+-- a memory where word 7 begins the level of the group
 saved : Memory
-saved i = if i == 9 then 2 else if i == 10 then 3 else if i == 11 then 0x18000000 else 0
+saved i = if i == 8 then 2 else if i == 9 then 3 else if i == 10 then 0x18000000 else 0
 
 -- processor 2 in the root, in the group of `start`, and in a part of it
 in_level : (index : ℕ) → Level → List Level → Owner

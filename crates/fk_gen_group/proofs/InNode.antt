@@ -216,7 +216,7 @@ module _ (core : List CoreOp) (image : Image) (places : Places) (nestings : Nest
       (subst (λ (l : Position). HasNestings places nestings setting.processors (number_of p) h'.local l.at l.callers (owner_of d).runner.has.callers p.runner.has.outer) (sym same.left)
       (on, subst (LieBelow places nestings callers) (sym same.same.callers) member.node.outer.1))
     where
-      starts : (n word : ℕ) → 64 * n + 8 + word ≤ frame_start places n + 8 + word
+      starts : (n word : ℕ) → 64 * n + 7 + word ≤ frame_start places n + 7 + word
       starts zero word = omega arith
       starts (suc n) word = omega arith
 

@@ -22,13 +22,13 @@ saved_kept m m' at (suc n) (l ∷ levels) same held = (
 )
 
 module _ (places : Places) (nestings : Nestings) where
-  pub starts_behind : (n index : ℕ) → places.frames.of_file ≤ 56 → places.frames.of_file + 8 ≤ saved_at places nestings n index
+  pub starts_behind : (n index : ℕ) → places.frames.of_file ≤ 56 → places.frames.of_file + 7 ≤ saved_at places nestings n index
   starts_behind zero index few = omega arith
   starts_behind (suc n) index few = omega arith
 
   -- those of calls that wait lie below the running call's frame, and behind the variables of file scope
   pub outer_kept : (processors number : ℕ) (m m' : Memory) (indices : List ℕ) (levels : List Level) → places.frames.of_file ≤ 56
-      → ((j : ℕ) → places.frames.of_file + 8 ≤ j → j < 64 * length indices → m' j ≡ m j)
+      → ((j : ℕ) → places.frames.of_file + 7 ≤ j → j < 64 * length indices → m' j ≡ m j)
       → HasOuter places nestings processors number m indices levels → HasOuter places nestings processors number m' indices levels
   outer_kept processors number m m' [] levels few same held = held
   outer_kept processors number m m' (i ∷ indices) levels few same held =
@@ -41,7 +41,7 @@ module _ (places : Places) (nestings : Nestings) where
 
   -- the running call goes on at another index with the same levels in its frame, and no word of theirs is written
   pub outer_by : (processors number : ℕ) (m m' : Memory) (i j : ℕ) (callers : List ℕ) (levels : List Level) → places.frames.of_file ≤ 56 → LevelsStay nestings i j
-      → ((x : ℕ) → places.frames.of_file + 8 ≤ x → x < 64 * length callers → m' x ≡ m x)
+      → ((x : ℕ) → places.frames.of_file + 7 ≤ x → x < 64 * length callers → m' x ≡ m x)
       → ((x : ℕ) → saved_at places nestings (length callers) i ≤ x → x < saved_at places nestings (length callers) i + 4 * nestings.levels i → m' x ≡ m x)
       → HasOuter places nestings processors number m (i ∷ callers) levels → HasOuter places nestings processors number m' (j ∷ callers) levels
   outer_by processors number m m' i j callers levels few stay low here held =
@@ -51,7 +51,7 @@ module _ (places : Places) (nestings : Nestings) where
       let room = held.0 in (
         subst (λ c. saved_at places nestings n j + 4 * c ≤ frame_end n) (sym e) (omega arith),
         subst (λ c. HasSaved m' (saved_at places nestings n j) c levels) (sym e)
-            (subst (λ b. HasSaved m' (frame_start places n + 8 + b) (nestings.levels i) levels) (sym f)
+            (subst (λ b. HasSaved m' (frame_start places n + 7 + b) (nestings.levels i) levels) (sym f)
             (saved_kept m m' (saved_at places nestings n i) (nestings.levels i) levels here held.1)),
         subst (λ c. HasOuter places nestings processors number m' callers (past_levels c levels)) (sym e)
             (outer_kept processors number m m' callers (past_levels (nestings.levels i) levels) few low held.2),

@@ -66,7 +66,7 @@ never : {A : Type 0} → false ≡ true → A
 never e = absurd (cc)
 
 pub shallow : (core : List CoreOp) (frames : Frames) (i : ℕ) (op : CoreOp) (operation : Operation) → Fits core frames i op operation → op.depth ≤ 56
-shallow core frames i op operation fits = let h = fits.room.header in omega arith
+shallow core frames i op operation fits = fits.few
 
 one_more : (frames : Frames) (i depth : ℕ) → HasRoom frames i (suc depth) → depth < 64
 one_more frames i depth room = let h = room.header in omega arith

@@ -7,7 +7,7 @@ use Rattle.fk_group_law.specs.Node.{Nestings, HasNestings, HasOuter, HasSaved, p
 use Rattle.fk_group_code.specs.Opening.{GroupsBegin}
 
 -- no level is round a processor in the root
-root_nestings : (places : Places) (nestings : Nestings) (processors number main : ℕ) (m : Memory) → nestings.levels main ≡ 0 → places.frames.of_file + 8 + nestings.behind main ≤ 64
+root_nestings : (places : Places) (nestings : Nestings) (processors number main : ℕ) (m : Memory) → nestings.levels main ≡ 0 → places.frames.of_file + 7 + nestings.behind main ≤ 64
     → HasNestings places nestings processors number m main [] [] []
 root_nestings places nestings processors number main m none room = (
   (
@@ -22,7 +22,7 @@ pub groups_begin : GroupsBegin
 groups_begin core image bound places nestings firsts main opening are is_main none level_room setting t number running lt =
     let of_file = places.frames.of_file in
     let begun = begins_in_root core image bound places firsts main opening are is_main setting t number running in
-    let main_room : of_file + 8 + nestings.behind main ≤ 64 =
+    let main_room : of_file + 7 + nestings.behind main ≤ 64 =
     let starts : ahead places.frames (places.frames.is_main main) ≡ of_file = ap (ahead places.frames) is_main in
     let r = level_room.room in
     omega arith in

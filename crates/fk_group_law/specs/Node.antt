@@ -74,7 +74,7 @@ pub record Nestings : Type 0 where
 
 -- the levels of a call have room in its frame, behind its private words and beside so many values
 pub record HasLevelRoom (frames : Frames) (nestings : Nestings) (index values : ℕ) : Type 0 where
-  pub room : ahead frames (frames.is_main index) + 8 + nestings.behind index + 4 * nestings.levels index + values ≤ 64
+  pub room : ahead frames (frames.is_main index) + 7 + nestings.behind index + 4 * nestings.levels index + values ≤ 64
   pub apart : 0 < nestings.levels index → (word : ℕ) → frames.keeps index word ≡ true → word < nestings.behind index
 
 -- the root's level: `@` is 0, and `$` the number of the processor
@@ -109,7 +109,7 @@ IsOutermost processors number (l ∷ m ∷ levels) = ⊥
 module _ (places : Places) (nestings : Nestings) where
   -- the first word of the levels of a frame, where so many calls wait for it
   abbrev pub saved_at : (waiting index : ℕ) → ℕ
-  saved_at waiting index = frame_start places waiting + 8 + nestings.behind index
+  saved_at waiting index = frame_start places waiting + 7 + nestings.behind index
 
   -- the levels round the running one, by the indices where the calls go on, the running one's first
   abbrev pub HasOuter : (processors number : ℕ) → Memory → (indices : List ℕ) → List Level → Type 0

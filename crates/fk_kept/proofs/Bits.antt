@@ -5,7 +5,7 @@ use Rattle.std.specs.Int.{bit_at, bit_not, w64}
 use Rattle.std.proofs.lemmas.Bool.{and_parts, and_from, ltb-true, lt-ltb, eqb-true, cases_lt}
 use Rattle.std.proofs.lemmas.Nat.{pow-add}
 use Rattle.std.proofs.Math.Nat.{div-div-eq-div-mul, mod-le}
-use Rattle.std.proofs.lemmas.Nat.Bits.{bit_at_and, bit_at_or, bit_at-lt, bit_at_above, bit_at_set_same, bit_at_set_other, bit_at_clear_same, bit_at_clear_other}
+use Rattle.std.proofs.lemmas.Nat.Bits.{bit_at_or, bit_at-lt, bit_at_set_same, bit_at_set_other, bit_at_clear_same, bit_at_clear_other}
 use Rattle.fk_kept.specs.Sets.{is_in}
 
 not_below : (n bound : ℕ) → bound ≤ n → nat_lt n bound ≡ false
@@ -24,14 +24,6 @@ is_bit mask n e = let b = and_parts _ _ e in record { low = ltb-true n 64 b.0; s
 
 pub bit_is : (mask n : ℕ) → n < 64 → bit_at mask n ≡ 1 → is_in mask n ≡ true
 bit_is mask n lt e = and_from _ _ (lt-ltb n 64 lt) (eq-eqb (bit_at mask n) 1 e)
-
-both : (x y : ℕ) → x ≡ 1 → min x y ≡ x → y < 2 → y ≡ 1
-both x y e f lt = omega arith
-
-pub within : (a b n : ℕ) → bit_and a b ≡ a → is_in a n ≡ true → is_in b n ≡ true
-within a b n e is =
-    let bit = is_bit a n is in
-    bit_is b n bit.low (both (bit_at a n) (bit_at b n) bit.set (sym (bit_at_and a b n) ∙ ap (λ m. bit_at m n) e) (bit_at-lt b n))
 
 apart : (n k : ℕ) → (n == k) ≡ false → n ≡ k → ⊥
 apart n k e same = let f = eq-eqb n k same in absurd (cc)
@@ -114,35 +106,5 @@ either_set a b n =
     by true = refl
     by false = refl
 
-pub below : (mask bound n : ℕ) → mask < 1 * 2 ^ bound % 2 ^ 64 → is_in mask n ≡ true → n < bound
-below mask bound n small is = by (cases_lt n bound)
-  where
-    by : ((n < bound) ⊎ (bound ≤ n)) → n < bound
-    by (inl lt) = lt
-    by (inr le) =
-        let bit = is_bit mask n is in
-        let most = mod-le (1 * 2 ^ bound) (2 ^ 64) in
-        let none = bit_at_above mask bound n (omega (arith, small, most)) le in
-        let set = bit.set in
-        absurd (omega (arith, none, set))
-
 pub shifted : (mask first n : ℕ) → bit_at (mask / 2 ^ first) n ≡ bit_at mask (first + n)
 shifted mask first n = ap (λ x. x % 2) (div-div-eq-div-mul mask (2 ^ first) (2 ^ n) ∙ ap (λ x. mask / x) (sym (pow-add 2 first n)))
-
-same_bool : (a b : Bool) → (a ≡ true → b ≡ true) → (b ≡ true → a ≡ true) → a ≡ b
-same_bool true b f g = sym (f refl)
-same_bool false true f g = g refl
-same_bool false false f g = refl
-
-pub from_first : (mask first n : ℕ) → mask < 2 ^ 64 → is_in (mask / 2 ^ first) n ≡ is_in mask (first + n)
-from_first mask first n few =
-    same_bool (is_in (mask / 2 ^ first) n) (is_in mask (first + n))
-    (λ is. let bit = is_bit (mask / 2 ^ first) n is in by bit.set (cases_lt (first + n) 64))
-    (λ is. let bit = is_bit mask (first + n) is in let low = bit.low in bit_is (mask / 2 ^ first) n (omega arith) (shifted mask first n ∙ bit.set))
-  where
-    by : bit_at (mask / 2 ^ first) n ≡ 1 → ((first + n < 64) ⊎ (64 ≤ first + n)) → is_in mask (first + n) ≡ true
-    by set (inl lt) = bit_is mask (first + n) lt (sym (shifted mask first n) ∙ set)
-    by set (inr le) =
-        let none = bit_at_above mask 64 (first + n) few le in
-        let same = shifted mask first n in
-        absurd (omega (arith, none, set, same))

@@ -1,4 +1,2 @@
-pub mod Words
 pub mod Bits
-pub mod Jumps
 pub mod Asked

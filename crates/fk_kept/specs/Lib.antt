@@ -1,4 +1,3 @@
 pub mod Sets
 pub mod Frames
 pub mod Live
-pub mod Free

@@ -1,6 +1,6 @@
 //! Sets of small numbers.
 
-ghost use Rattle.std.specs.Prelude.{◌≡◌, ◌==◌, ◌+◌, ◌<◌, ◌≤◌, ◌||◌, ◌&&◌, not, nat_lt, ℕ, true, false, IsTrue};
+ghost use Rattle.std.specs.Prelude.{◌≡◌, ◌==◌, ◌≤◌, ◌||◌, ◌&&◌, not, nat_lt, ℕ, false, IsTrue};
 ghost use Rattle.fk_kept.specs.Sets.{is_in};
 
 /// A set of numbers below 64.
@@ -17,11 +17,6 @@ impl Set {
         Set { mask: 0 }
     }
 
-    /// All numbers below 64.
-    pub fn all() -> Set {
-        Set { mask: u64::MAX }
-    }
-
     pub fn has(&self, number: u32) -> bool
         ensures { result ≡ is_in self.now.mask number }
     {
@@ -32,29 +27,6 @@ impl Set {
         ensures { IsTrue result → (n : ℕ) → is_in self.now.mask n ≡ false }
     {
         self.mask == 0
-    }
-
-    /// Whether all its numbers are in another set.
-    pub fn is_within(&self, other: Set) -> bool
-        ensures { IsTrue result → (n : ℕ) → is_in self.now.mask n ≡ true → is_in other.mask n ≡ true }
-    {
-        self.mask & other.mask == self.mask
-    }
-
-    /// Whether all its numbers are below a bound.
-    pub fn is_below(&self, bound: u64) -> bool
-        ensures { IsTrue result → (n : ℕ) → is_in self.now.mask n ≡ true → n < bound }
-    {
-        bound >= 64 || self.mask < 1 << bound
-    }
-
-    /// The numbers from one on, each by how far it stands behind that.
-    pub fn from(&self, first: u32) -> Set
-        ensures { (n : ℕ) → is_in result.mask n ≡ is_in self.now.mask (first + n) }
-    {
-        Set {
-            mask: if first < 64 { self.mask >> first } else { 0 },
-        }
     }
 
     /// The set with a number more, if that is below 64.
@@ -90,12 +62,6 @@ impl Set {
     {
         Set {
             mask: self.mask | other.mask,
-        }
-    }
-
-    pub fn intersection(&self, other: Set) -> Set {
-        Set {
-            mask: self.mask & other.mask,
         }
     }
 }

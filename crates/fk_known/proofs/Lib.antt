@@ -1,4 +1,3 @@
-pub mod Sets
 mod Values
 mod Steps
 mod Runs

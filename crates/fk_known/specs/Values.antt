@@ -73,7 +73,3 @@ called arguments gives = by arguments (if gives then unknown else None)
 
 abbrev pub unchanged : Change
 unchanged = by 0 None
-
-abbrev pub either : (usable shared : Change) → (shared_alone : Bool) → Change
-either usable shared false = usable
-either usable shared true = shared

@@ -9,9 +9,7 @@ pub mod Standing
 pub mod Sound
 pub mod Listed
 pub mod Valued
-mod Held
 pub mod Free
 pub mod Knowing
 pub mod Depths
-pub mod Suiting
 mod ListExample

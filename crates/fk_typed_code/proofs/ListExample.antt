@@ -15,8 +15,6 @@ use Rattle.fk_flat.specs.Flat.{extent}
 use Rattle.fk_flat.proofs.ListExamples.{f_code, main_code, of_binding, bodies, entry, is_flat, are_shaped}
 use Rattle.fk_block_law.specs.Ready.{is_alone}
 use Rattle.fk_block_law.specs.Lists.{IsFree}
-use Rattle.fk_block_law.specs.Stands.{Frames}
-use Rattle.fk_block_law.specs.Suits.{Suits}
 use Rattle.fk_depths.specs.Local.{HasLocalDepths}
 use Rattle.fk_kept.specs.declared.places.Place.{Place}
 use Rattle.fk_kept.specs.declared.places.Place.TheVariants.{Main, Called}
@@ -25,14 +23,12 @@ use Rattle.fk_known.specs.Values.{constants}
 use Rattle.fk_typed_code.specs.Values.{Unknown, State, bare, Grants}
 use Rattle.fk_typed_code.specs.Typed.{Typed, IsTyped, AreTyped}
 use Rattle.fk_typed_code.specs.Heights.{HasHeights}
-use Rattle.fk_typed_code.specs.Words.{Words, first_words, AreWritten, WritesFirst, IsLow, ahead_in, FitFrames}
 use Rattle.fk_typed_code.specs.Laws.{IsTypedList, IsLone, HasHeightsOf}
 use Rattle.fk_typed_code.proofs.Granting.{none_asked, good_as_itself, grants_itself}
 use Rattle.fk_typed_code.proofs.Examples.{may, at}
 use Rattle.fk_typed_code.proofs.Free.{typed_lists_are_free}
 use Rattle.fk_typed_code.proofs.Knowing.{typed_lists_know}
 use Rattle.fk_typed_code.proofs.Depths.{typed_lists_have_depths}
-use Rattle.fk_typed_code.proofs.Suiting.{typed_lists_suit}
 
 abbrev place_of : ℕ → Place
 place_of f = of_binding (Called true) Main (Called true) (f == 0) (f == 1)
@@ -170,67 +166,3 @@ has_knowledge = typed_lists_know bodies core entry place_of typed_list lone 1 re
 
 is_free : IsFree core
 is_free = typed_lists_are_free bodies core entry place_of typed_list lone
-
--- `f` has one private word, its parameter, and at most 3 values; `main` has none, and at most 1
-abbrev parameters : ℕ → ℕ
-parameters f = of_binding 1 0 0 (f == 0) (f == 1)
-
-abbrev most : ℕ → ℕ
-most f = of_binding 3 1 0 (f == 0) (f == 1)
-
-room_by : (is_f is_main : Bool)
-    → ahead_in 0 (of_binding (Called true) Main (Called true) is_f is_main) + 8 + of_binding 1 0 0 is_f is_main + of_binding 3 1 0 is_f is_main ≤ 64
-room_by true is_main = omega arith
-room_by false true = omega arith
-room_by false false = omega arith
-
-same_words : (written : Words) → AreWritten written written
-same_words written word e = e
-
-f_writes_first : WritesFirst 0 1 parameters None (first_words 1) f_code (first_words 1)
-f_writes_first = (
-  refl,
-  (
-    tt,
-    first_words 1,
-    (tt, (refl, (tt, (tt, (refl, omega arith, omega arith, (tt, same_words (first_words 1))))))),
-    (tt, same_words (first_words 1)),
-    (tt, (tt, (tt, same_words (first_words 1)))),
-  ),
-)
-
-main_writes_first : WritesFirst 0 0 parameters None (first_words 0) main_code (first_words 0)
-main_writes_first = (tt, (refl, omega arith, omega arith, (tt, (tt, same_words (first_words 0)))))
-
-written_by : (is_f is_main : Bool) → (end : Words)
-    × WritesFirst 0 (of_binding 1 0 0 is_f is_main) parameters None (first_words (of_binding 1 0 0 is_f is_main)) (of_binding f_code main_code done is_f is_main) end
-written_by true is_main = (first_words 1, f_writes_first)
-written_by false true = (first_words 0, main_writes_first)
-written_by false false = (first_words 0, same_words (first_words 0))
-
-low_by : (is_f is_main : Bool) → IsLow place_of (of_binding 3 1 0 is_f is_main) 0 (of_binding f_code main_code done is_f is_main)
-low_by true is_main = (
-  omega arith,
-  (
-    omega arith,
-    (omega arith, (omega arith, (omega arith, (omega arith, (omega arith, omega arith, (omega arith, omega arith)))))),
-    (omega arith, omega arith),
-    (omega arith, (omega arith, (omega arith, omega arith))),
-  ),
-)
-low_by false true = (omega arith, (omega arith, omega arith, (omega arith, (omega arith, omega arith))))
-low_by false false = omega arith
-
-fits : FitFrames bodies place_of 0
-fits = record {
-  parameters = parameters;
-  words = parameters;
-  most = most;
-  few = λ f. omega arith;
-  room = λ f. room_by (f == 0) (f == 1);
-  written = λ f. written_by (f == 0) (f == 1);
-  low = λ f. low_by (f == 0) (f == 1);
-}
-
-suits : (frames : Frames) × (frames.of_file ≡ 0) × Suits core frames 14
-suits = typed_lists_suit bodies core entry place_of 0 typed_list has_heights fits 1 refl

@@ -9,15 +9,12 @@ use Rattle.fk_flat.specs.Flat.{extent}
 use Rattle.fk_flat.specs.Laws.{AreShaped, IsFlat}
 use Rattle.fk_block_law.specs.Ready.{is_alone}
 use Rattle.fk_block_law.specs.Lists.{IsFree}
-use Rattle.fk_block_law.specs.Stands.{Frames}
-use Rattle.fk_block_law.specs.Suits.{Suits}
 use Rattle.fk_depths.specs.Local.{HasLocalDepths}
 use Rattle.fk_kept.specs.declared.places.Place.{Place}
 use Rattle.fk_kept.specs.declared.places.Place.TheVariants.{Main}
 use Rattle.fk_known.specs.Local.{HasKnowledge}
 use Rattle.fk_typed_code.specs.Typed.{AreTyped}
 use Rattle.fk_typed_code.specs.Heights.{HasHeights}
-use Rattle.fk_typed_code.specs.Words.{FitFrames}
 
 module _ (bodies : (binding : ℕ) → Code ℕ) (core : List CoreOp) (entry : ℕ → ℕ) (place_of : (binding : ℕ) → Place) where
   -- an index lies in the code of a function
@@ -60,10 +57,3 @@ TypedListsHaveDepths =
     (bodies : (binding : ℕ) → Code ℕ) (core : List CoreOp) (entry : ℕ → ℕ) (place_of : (binding : ℕ) → Place)
     → IsTypedList bodies core entry place_of → HasHeightsOf bodies core place_of
     → (main : ℕ) → place_of main ≡ Main → HasLocalDepths core (entry main)
-
--- frames that hold the words that are written, with so many private variables of file scope
-abbrev pub TypedListsSuit : Type 0
-TypedListsSuit =
-    (bodies : (binding : ℕ) → Code ℕ) (core : List CoreOp) (entry : ℕ → ℕ) (place_of : (binding : ℕ) → Place) (firsts : ℕ)
-    → IsTypedList bodies core entry place_of → HasHeightsOf bodies core place_of → FitFrames bodies place_of firsts
-    → (main : ℕ) → place_of main ≡ Main → (frames : Frames) × (frames.of_file ≡ firsts) × Suits core frames (entry main)

@@ -1,5 +1,4 @@
 pub mod Values
 pub mod Typed
 pub mod Heights
-pub mod Words
 pub mod Laws

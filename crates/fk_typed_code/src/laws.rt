@@ -1,6 +1,6 @@
 //! Laws of the flat lists of well typed code.
 
-ghost use Rattle.fk_typed_code.specs.Laws.{TypedListsAreFree, TypedListsKnow, TypedListsHaveDepths, TypedListsSuit};
+ghost use Rattle.fk_typed_code.specs.Laws.{TypedListsAreFree, TypedListsKnow, TypedListsHaveDepths};
 
 /// A flat list of well typed functions, of operations without groups, goes on within itself.
 pub fn typed_lists_are_free()
@@ -16,10 +16,4 @@ pub fn typed_lists_know()
 /// code, they go with the operations, and `main` begins without values.
 pub fn typed_lists_have_depths()
     ensures { TypedListsHaveDepths }
-{}
-
-/// Such a list, of functions that write each private word before they read it, and whose private
-/// words and values have room in frames, suits frames that hold the words that are written.
-pub fn typed_lists_suit()
-    ensures { TypedListsSuit }
 {}

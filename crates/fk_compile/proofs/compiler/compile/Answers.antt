@@ -104,21 +104,8 @@ returns-clause-faithful c =
           }));
     }
 
-pub certify-requires-clause-coded : goal.certify-requires-clause-coded
-certify-requires-clause-coded c =
+pub kept_words-requires-clause-coded : goal.kept_words-requires-clause-coded
+kept_words-requires-clause-coded c =
     let list = c.in_ok-list.list in
     subst (λ (firsts : List ℕ). CanBeCoded list.ops.items list.main (length firsts)) (sym (c.deref.ensures.value ∙ c.in_ok-text.ensures.laid.firsts))
     c.in_ok-list.ensures.coded
-
-pub certify-requires-clause-few : goal.certify-requires-clause-few
-certify-requires-clause-few c =
-    let text = c.in_ok-text.text in
-    let tree = program_of text.tree in
-    let few = c.firsts_are_few.ensures tree text.facts
-    (record { well_formed = c.in_ok-text.ensures.well_formed; small = c.in_ok-text.ensures.small; known = c.in_ok-text.ensures.checked.known }) c.in_ok-text.ensures.fits in
-    omega (
-      arith,
-      few,
-      ap (λ (ws : List ℕ). length ws) c.deref.ensures.value,
-      ap (λ (ws : List ℕ). length ws) c.in_ok-text.ensures.laid.firsts,
-    )
