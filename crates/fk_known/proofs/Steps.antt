@@ -1,5 +1,5 @@
 -- A processor whose values go with what is known, and what an operation makes of it.
-use Rattle.std.proofs.Common.{◌≡◌, ℕ, zero, suc, ◌+◌, ◌<◌, Bool, true, false, List, [], ◌∷◌, length, slice_get, Option, Some, None, if◌then◌else◌, refl, sym, subst, arith, ◌⊎◌, inl, inr}
+use Rattle.std.proofs.Common.{◌≡◌, ℕ, zero, suc, ◌+◌, ◌<◌, ◌==◌, Bool, true, false, List, [], ◌∷◌, length, slice_get, Option, Some, None, if◌then◌else◌, refl, sym, subst, arith}
 use Rattle.fk_operation.specs.declared.operation.Operation.{Operation}
 use Rattle.fk_operation.specs.declared.operation.Operation.TheVariants as o
 use Rattle.fk_operation.specs.declared.operation.Multiprefix.{Multiprefix}
@@ -9,14 +9,16 @@ use Rattle.fk_operation.specs.declared.kinds.Class.TheVariants.{Local, Request, 
 use Rattle.fk_operation.specs.Kinds.{class_of}
 use Rattle.fk_num.specs.Word.{word}
 use Rattle.fk_store.specs.Store.{Store}
-use Rattle.fk_store.specs.Serve.{Served, Faults, serve, may_use}
-use Rattle.fk_run.specs.Processor.{Call, Processor, Setting, values, last, before}
-use Rattle.fk_run.specs.Local.{local, is_onward, handed, to_caller, in_order}
+use Rattle.fk_store.specs.Serve.{Served, Faults, serve, may_use, words_of}
+use Rattle.fk_space.specs.Space.{Space, frame, block}
+use Rattle.fk_store.specs.Store.{address_of}
+use Rattle.fk_run.specs.Processor.{Call, Processor, Setting, values, last, before, in_place, drop_last, enter_level, to_outer, leave_level}
+use Rattle.fk_run.specs.Local.{local, is_onward, handed, to_caller, unframed, in_order}
 use Rattle.fk_run.specs.Request.{request, with_answer}
-use Rattle.fk_run.specs.Group.{does, goes_onward}
+use Rattle.fk_run.specs.Group.{does, goes_onward, stays as stays_in, is_taken, start_level, part, taken_by, enters, divided, with_size, framed, allotted}
 use Rattle.fk_core.specs.declared.op.CoreOp.{CoreOp}
 use Rattle.fk_core.specs.Next.{Position, is_jump, through, led_by, landing_by, landing, behind_jump, follows, returned}
-use Rattle.fk_block_law.specs.Ready.{is_alone, MayDo}
+use Rattle.fk_block_law.specs.Ready.{MayDo}
 use Rattle.fk_run.specs.Round.{Runner}
 use Rattle.fk_operation.specs.declared.kinds.FaultKind.TheVariants.{BadAddress}
 use Rattle.fk_kept.specs.declared.places.Place.{Place}
@@ -24,9 +26,10 @@ use Rattle.fk_kept.specs.declared.places.Place.TheVariants.{Main, Called}
 use Rattle.fk_known.specs.declared.change.Change.{Change}
 use Rattle.fk_known.specs.declared.constants.Constants.{Constants}
 use Rattle.fk_num.specs.Op.{applied}
-use Rattle.fk_known.specs.Values.{after, change, called, unchanged, no_constants, constants_behind, is_address, joined_constant}
+use Rattle.fk_known.specs.Values as ch
+use Rattle.fk_known.specs.Values.{after, change, pushed_by, called, unchanged, no_constants, constants_behind, is_address, joined_constant}
 use Rattle.fk_known.specs.Local.{AreSameIn, Leads, Calls, HasKnowledge, Fits as FitsAt}
-use Rattle.fk_known.proofs.Values.{Knows, nothing, dropped, all_kept, one_pushed, any_pushed, one_replaced, two_replaced, two_joined, any_joined, words_taken, passed, taken_callers, last_holds, second_holds, HasConstants, no_constant, fewer_constants, constant_pushed, constant_joined, joined_may, joined_two}
+use Rattle.fk_known.proofs.Values.{Knows, nothing, dropped, all_kept, one_pushed, any_pushed, one_replaced, two_replaced, two_joined, any_joined, words_taken, passed, taken_callers, outer_values, outer_callers, divides, last_holds, second_holds, HasConstants, no_constant, fewer_constants, constant_pushed, constant_joined, joined_may, joined_two}
 
 -- a multiprefix is a request
 no_local : (by : Multiprefix) → class_of (o.Combine by) ≡ Local → ⊥
@@ -40,24 +43,6 @@ no_step MpAdd e = absurd (cc)
 no_step MpMax e = absurd (cc)
 no_step MpAnd e = absurd (cc)
 no_step MpOr e = absurd (cc)
-
--- of the steps of the tree a processor without groups does the halt alone
-only_halt : (op : Operation) → class_of op ≡ Tree → (is_alone op ≡ true) ⊎ (op ≡ o.Halt) → op ≡ o.Halt
-only_halt op e (inr h) = h
-only_halt o.Halt e (inl a) = refl
-only_halt (o.Combine by) e (inl a) = absurd (no_step by e)
-only_halt o.Begin e (inl a) = absurd (cc)
-only_halt o.Agree e (inl a) = absurd (cc)
-only_halt (o.Frame nesting words) e (inl a) = absurd (cc)
-only_halt o.Block e (inl a) = absurd (cc)
-only_halt (o.Divide by) e (inl a) = absurd (cc)
-only_halt o.Shrink e (inl a) = absurd (cc)
-only_halt o.End e (inl a) = absurd (cc)
-only_halt o.Resume e (inl a) = absurd (cc)
-only_halt o.Farm e (inl a) = absurd (cc)
-only_halt o.Seq e (inl a) = absurd (cc)
-only_halt (o.Meet closing) e (inl a) = absurd (cc)
-only_halt op e (inl a) = absurd (cc)
 
 -- what is known of the caller's values stays so, with a result or without
 behind_call : (shared_alone : Bool) (known : ℕ → Bool) (n : ℕ) (gives : Bool) (v : ℕ) (p : Processor) → Knows shared_alone known (values p)
@@ -156,18 +141,15 @@ module _ (core : List CoreOp) (main : ℕ) (known : HasKnowledge core main) wher
     Going op onward q = let w = follows core op i target callers onward in Stands w.at w.callers q
 
     -- an operation that goes on in its call
+    on_way : (onward : Bool) (op : Operation) (j : ℕ) (q : Processor)
+        → Leads core known.within known.known known.constants (λ s. change s op onward (K s 0) C) (constants_behind op C) i j → q.callers ≡ p.callers
+        → ((s : Bool) → Knows s (after (change s op onward (K s 0) C) (K s)) (values q)) → HasConstants (constants_behind op C) (values q) → Stands j callers q
+    on_way onward op j q leads same knows has = goes (λ s. change s op onward (K s 0) C) (constants_behind op C) i j callers p q leads stands.waits same knows has
+
     on : (op : Operation) (j : ℕ) (q : Processor)
-        → Leads core known.within known.known known.constants (λ s. change s op (K s 0) C) (constants_behind op C) i j → q.callers ≡ p.callers
-        → ((s : Bool) → Knows s (after (change s op (K s 0) C) (K s)) (values q)) → HasConstants (constants_behind op C) (values q) → Stands j callers q
-    on op j q leads same knows has = goes (λ s. change s op (K s 0) C) (constants_behind op C) i j callers p q leads stands.waits same knows has
-
-    no_frame : (gives : Bool) → (is_alone (o.Leave gives true) ≡ true) ⊎ (o.Leave gives true ≡ o.Halt) → ⊥
-    no_frame gives (inl a) = absurd (cc)
-    no_frame gives (inr h) = absurd (cc)
-
-    no_heap : (is_alone o.Heap ≡ true) ⊎ (o.Heap ≡ o.Halt) → ⊥
-    no_heap (inl a) = absurd (cc)
-    no_heap (inr h) = absurd (cc)
+        → Leads core known.within known.known known.constants (λ s. change s op true (K s 0) C) (constants_behind op C) i j → q.callers ≡ p.callers
+        → ((s : Bool) → Knows s (after (change s op true (K s 0) C) (K s)) (values q)) → HasConstants (constants_behind op C) (values q) → Stands j callers q
+    on = on_way true
 
     pub by_local : (set : Setting) (op : Operation) → Fitting op → class_of op ≡ Local → Going op (is_onward op p) (local set op p)
     by_local set (o.Push n) f e =
@@ -202,12 +184,11 @@ module _ (core : List CoreOp) (main : ℕ) (known : HasKnowledge core main) wher
         branch true =
             on (o.Branch onward) (suc i) (local set (o.Branch onward) p) (f.goes_on true) refl (λ s. dropped s (K s) 1 (values p) (stands.knows s)) (no_constant _)
         branch false =
-            on (o.Branch onward) target (local set (o.Branch onward) p) (f.goes_on false) refl (λ s. dropped s (K s) 1 (values p) (stands.knows s)) (no_constant _)
+            on_way false (o.Branch onward) target (local set (o.Branch onward) p) (f.goes_on false) refl (λ s. dropped s (K s) 1 (values p) (stands.knows s)) (no_constant _)
     by_local set o.Take f e =
         on o.Take (suc i) (local set o.Take p) (f.goes_on true) (taken_callers _ p) (λ s. words_taken s (K s) _ p (stands.knows s)) (no_constant _)
-    by_local set (o.Leave gives false) f e =
-        returns gives (last (values p)) p callers p.callers (subst (λ (place : Place). Waits place callers p.callers) f.goes_on stands.waits)
-    by_local set (o.Leave gives true) f e = absurd (no_frame gives f.alone)
+    by_local set (o.Leave gives framed) f e =
+        returns gives (last (values p)) (unframed framed p) callers p.callers (subst (λ (place : Place). Waits place callers p.callers) f.goes_on stands.waits)
     by_local set (o.Combine by) f e = absurd (no_local by e)
     by_local set op f e = absurd (cc)
 
@@ -243,18 +224,73 @@ module _ (core : List CoreOp) (main : ℕ) (known : HasKnowledge core main) wher
     by_request s s' v (o.Combine by) f e served = on (o.Combine by) (suc i) (with_answer (o.Combine by) v p) (f.goes_on true) refl (λ s. two_replaced s (K s) v (values p) (stands.knows s)) (no_constant _)
     by_request s s' v o.PrintNumber f e served = on o.PrintNumber (suc i) (with_answer o.PrintNumber v p) (f.goes_on true) refl (λ s. dropped s (K s) 1 (values p) (stands.knows s)) (no_constant _)
     by_request s s' v o.PrintByte f e served = on o.PrintByte (suc i) (with_answer o.PrintByte v p) (f.goes_on true) refl (λ s. dropped s (K s) 1 (values p) (stands.knows s)) (no_constant _)
-    by_request s s' v o.Heap f e served = absurd (no_heap f.alone)
+    by_request s s' v o.Heap f e served = on o.Heap (suc i) (with_answer o.Heap v p) (f.goes_on true) refl (λ s. one_replaced s (K s) v (values p) (stands.knows s)) (no_constant _)
     by_request s s' v (o.Enter n) f e served = entering n v f.goes_on
     by_request s s' v op f e served = absurd (cc)
 
-    halts : (highest lowest size : ℕ) → Fitting o.Halt → Going o.Halt (goes_onward o.Halt highest lowest p) (does o.Halt highest size p)
-    halts highest lowest size f = stops callers p (subst (λ (place : Place). Waits place callers p.callers) f.goes_on stands.waits)
+    -- those that leave the values of a processor as they are
+    stays : (onward : Bool) (op : Operation) (j : ℕ) (q : Processor)
+        → Leads core known.within known.known known.constants (λ s. change s op onward (K s 0) C) (constants_behind op C) i j
+        → ((s : Bool) → change s op onward (K s 0) C ≡ unchanged) → constants_behind op C ≡ no_constants
+        → values q ≡ values p → q.callers ≡ p.callers → Stands j callers q
+    stays onward op j q leads no_change none same calls =
+        on_way onward op j q leads calls
+        (λ s. subst (λ (c : Change). Knows s (after c (K s)) (values q)) (sym (no_change s))
+        (subst (Knows s (after unchanged (K s))) (sym same) (all_kept s (K s) (values p) (stands.knows s))))
+        (subst (λ (c : Constants). HasConstants c (values q)) (sym none) (no_constant (values q)))
 
     pub by_tree : (highest lowest size : ℕ) (op : Operation) → Fitting op → class_of op ≡ Tree
         → Going op (goes_onward op highest lowest p) (does op highest size p)
-    by_tree highest lowest size op f e =
-        subst (λ (op : Operation). Fitting op → Going op (goes_onward op highest lowest p) (does op highest size p)) (sym (only_halt op e f.alone))
-        (halts highest lowest size) f
+    by_tree highest lowest size o.Begin f e = begin (is_taken highest p)
+      where
+        begin : (way : Bool) → Going o.Begin way (if way then enter_level (start_level p size) (drop_last 1 p) else drop_last 1 p)
+        begin true =
+            on o.Begin (suc i) (enter_level (start_level p size) (drop_last 1 p)) (f.goes_on true) refl (λ s. dropped s (K s) 1 (values p) (stands.knows s)) (no_constant _)
+        begin false = on_way false o.Begin target (drop_last 1 p) (f.goes_on false) refl (λ s. dropped s (K s) 1 (values p) (stands.knows s)) (no_constant _)
+    by_tree highest lowest size o.Agree f e =
+        on o.Agree (suc i) (in_place highest p) (f.goes_on true) refl (λ s. one_replaced s (K s) highest (values p) (stands.knows s)) (no_constant _)
+    by_tree highest lowest size (o.Frame nesting words) f e = frames (frame p.level.space words)
+      where
+        frames : (space : Option Space) → Going (o.Frame nesting words) true (framed nesting p space)
+        frames None = stays true (o.Frame nesting words) (suc i) (framed nesting p None) (f.goes_on true) (λ s. refl) refl refl refl
+        frames (Some space) = stays true (o.Frame nesting words) (suc i) (framed nesting p (Some space)) (f.goes_on true) (λ s. refl) refl refl refl
+    by_tree highest lowest size o.Block f e = blocks (words_of (last (values p)) == 0) (block p.level.space (words_of (last (values p))))
+      where
+        blocks : (none : Bool) (found : Option (ℕ × Space)) → Going o.Block true (if none then in_place 0 p else allotted p found)
+        blocks true found = on o.Block (suc i) (in_place 0 p) (f.goes_on true) refl (λ s. one_replaced s (K s) 0 (values p) (stands.knows s)) (no_constant _)
+        blocks false None = on o.Block (suc i) (in_place 0 p) (f.goes_on true) refl (λ s. one_replaced s (K s) 0 (values p) (stands.knows s)) (no_constant _)
+        blocks false (Some found) =
+            on o.Block (suc i) (allotted p (Some found)) (f.goes_on true) refl (λ s. one_replaced s (K s) (address_of found.0) (values p) (stands.knows s)) (no_constant _)
+    by_tree highest lowest size (o.Divide split) f e = divide (part split (values p))
+      where
+        parts : (way : Bool) (q : Processor) → q.callers ≡ p.callers → ((s : Bool) → Knows s (after (ch.by (taken_by split) (pushed_by split way)) (K s)) (values q))
+            → Going (o.Divide split) way q
+        parts true q same knows = on (o.Divide split) (suc i) q (f.goes_on true) same knows (no_constant (values q))
+        parts false q same knows = on_way false (o.Divide split) target q (f.goes_on false) same knows (no_constant (values q))
+
+        divide : (part : Option ℕ) → Going (o.Divide split) (enters split part) (divided split size p part)
+        divide None = parts (enters split None) (divided split size p None) refl (λ s. divides s (K s) split size p None (stands.knows s))
+        divide (Some n) = parts (enters split (Some n)) (divided split size p (Some n)) refl (λ s. divides s (K s) split size p (Some n) (stands.knows s))
+    by_tree highest lowest size o.Shrink f e = shrink (stays_in p)
+      where
+        shrink : (way : Bool) → Going o.Shrink way (if way then with_size size (drop_last 1 p) else leave_level (drop_last 1 p))
+        shrink true = on o.Shrink (suc i) (with_size size (drop_last 1 p)) (f.goes_on true) refl (λ s. dropped s (K s) 1 (values p) (stands.knows s)) (no_constant _)
+        shrink false =
+            on_way false o.Shrink target (to_outer (drop_last 1 p) p.outer) (f.goes_on false) (outer_callers (drop_last 1 p) p.outer)
+            (λ s. subst (Knows s (after (ch.by 1 None) (K s))) (sym (outer_values (drop_last 1 p) p.outer)) (dropped s (K s) 1 (values p) (stands.knows s))) (no_constant _)
+    by_tree highest lowest size o.End f e =
+        stays true o.End target (to_outer p p.outer) (f.goes_on true) (λ s. refl) refl (outer_values p p.outer) (outer_callers p p.outer)
+    by_tree highest lowest size o.Resume f e = stays true o.Resume (suc i) p (f.goes_on true) (λ s. refl) refl refl refl
+    by_tree highest lowest size o.Farm f e = stays true o.Farm (suc i) p (f.goes_on true) (λ s. refl) refl refl refl
+    by_tree highest lowest size o.Seq f e = body (goes_onward o.Seq highest lowest p)
+      where
+        body : (way : Bool) → Going o.Seq way p
+        body true = stays true o.Seq (suc i) p (f.goes_on true) (λ s. refl) refl refl refl
+        body false = stays false o.Seq target p (f.goes_on false) (λ s. refl) refl refl refl
+    by_tree highest lowest size (o.Meet closing) f e = stays true (o.Meet closing) (suc i) p (f.goes_on true) (λ s. refl) refl refl refl
+    by_tree highest lowest size o.Halt f e = stops callers p (subst (λ (place : Place). Waits place callers p.callers) f.goes_on stands.waits)
+    by_tree highest lowest size (o.Combine by) f e = absurd (no_step by e)
+    by_tree highest lowest size op f e = absurd (cc)
 
   waits_called : (gives : Bool) (callers : List ℕ) (calls : List Call) → Waits (Called gives) callers calls → 0 < length callers
   waits_called gives [] calls waits = absurd waits

@@ -2,12 +2,16 @@
 use Rattle.std.proofs.Common.{None, Option, Bool, List, Some, [], ap, arith, false, if◌then◌else◌, length, nat_lt, not, refl, slice_get, subst, suc, true, zero, ℕ, ◌+◌, ◌-◌, ◌==◌, ◌||◌, ◌∙◌, ◌∷◌, ◌≡◌, ◌≤◌}
 use Rattle.fk_store.specs.Store.{private_words, private_address}
 use Rattle.fk_store.specs.Serve.{may_use}
-use Rattle.fk_run.specs.Processor.{Processor, values, last, before, in_place}
+use Rattle.fk_run.specs.Processor.{Level, Processor, values, last, before, in_place, to_outer}
+use Rattle.fk_run.specs.Group.{taken_by, divided, enters}
+use Rattle.fk_operation.specs.declared.operation.Split.{Split}
+use Rattle.fk_operation.specs.declared.operation.Split.TheVariants as s
 use Rattle.fk_num.specs.Op.{applied}
 use Rattle.fk_num.specs.declared.operator.Op.{Op}
 use Rattle.fk_run.specs.Local.{joined, taken, in_order}
 use Rattle.fk_known.specs.declared.constants.Constants.{Constants}
-use Rattle.fk_known.specs.Values.{pushed, constants, no_constants, joined_constant, is_address}
+use Rattle.fk_known.specs.Values as ch
+use Rattle.fk_known.specs.Values.{pushed, after, pushed_by, constants, no_constants, joined_constant, is_address}
 use Rattle.fk_known.specs.Local.{AreSameIn}
 
 -- a value is there, and is an address
@@ -211,3 +215,28 @@ pub second_holds : (shared_alone : Bool) (vs : List ℕ) → Holds shared_alone 
 second_holds shared_alone [] h = absurd (past_none 1 shared_alone h)
 second_holds shared_alone (v ∷ vs) h =
     last_holds shared_alone vs (record { address = h.address; at = h.at; may = h.may })
+
+-- a level left for the one round it
+pub outer_values : (p : Processor) (levels : List Level) → values (to_outer p levels) ≡ values p
+outer_values p [] = refl
+outer_values p (l ∷ ls) = refl
+
+pub outer_callers : (p : Processor) (levels : List Level) → (to_outer p levels).callers ≡ p.callers
+outer_callers p [] = refl
+outer_callers p (l ∷ ls) = refl
+
+-- what a split leaves of the values of a member
+pub divides : (shared_alone : Bool) (known : ℕ → Bool) (split : Split) (size : ℕ) (p : Processor) (part : Option ℕ) → Knows shared_alone known (values p)
+    → Knows shared_alone (after (ch.by (taken_by split) (pushed_by split (enters split part))) known) (values (divided split size p part))
+divides sh known s.IfAlone size p None knows = dropped sh known 1 (values p) knows
+divides sh known s.IfElse size p None knows = dropped sh known 1 (values p) knows
+divides sh known s.AndThen size p None knows = one_replaced sh known 0 (values p) knows
+divides sh known s.OrElse size p None knows = one_replaced sh known 1 (values p) knows
+divides sh known s.Loop size p None knows = dropped sh known 0 (values p) knows
+divides sh known s.Fork size p None knows = dropped sh known 3 (values p) knows
+divides sh known s.IfAlone size p (Some i) knows = dropped sh known 1 (values p) knows
+divides sh known s.IfElse size p (Some i) knows = dropped sh known 1 (values p) knows
+divides sh known s.AndThen size p (Some i) knows = dropped sh known 1 (values p) knows
+divides sh known s.OrElse size p (Some i) knows = dropped sh known 1 (values p) knows
+divides sh known s.Loop size p (Some i) knows = dropped sh known 0 (values p) knows
+divides sh known s.Fork size p (Some i) knows = dropped sh known 3 (values p) knows

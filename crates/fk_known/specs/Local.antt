@@ -1,11 +1,10 @@
 -- Knowledge of addresses, told by each operation and those that follow it.
-use Rattle.std.specs.Prelude.{◌≡◌, ℕ, suc, Bool, true, false, List, [], length, Option, slice_get, Some, ◌⊎◌}
+use Rattle.std.specs.Prelude.{◌≡◌, ℕ, suc, Bool, true, false, List, [], length, Option, slice_get, Some}
 use Rattle.fk_operation.specs.declared.operation.Operation.{Operation}
 use Rattle.fk_operation.specs.declared.operation.Operation.TheVariants.{Enter, Leave, Halt, Read, Write, Combine}
 use Rattle.fk_core.specs.declared.op.CoreOp.{CoreOp}
 use Rattle.fk_core.specs.Numbers.{operation_of}
 use Rattle.fk_core.specs.Next.{is_jump, behind_jump, follows}
-use Rattle.fk_block_law.specs.Ready.{is_alone}
 use Rattle.fk_block_law.specs.Lists.{AlwaysMay}
 use Rattle.fk_kept.specs.declared.places.Place.{Place}
 use Rattle.fk_kept.specs.declared.places.Place.TheVariants.{Main, Called}
@@ -49,7 +48,7 @@ module _ (core : List CoreOp) (within : (index : ℕ) → Place) (known : (share
   GoesOn Halt i target = within i ≡ Main
   GoesOn operation i target =
       (onward : Bool)
-      → Leads (λ shared_alone. change shared_alone operation (known shared_alone i 0) (constants i))
+      → Leads (λ shared_alone. change shared_alone operation onward (known shared_alone i 0) (constants i))
       (constants_behind operation (constants i)) i (follows core operation i target [] onward).at
 
   -- the values that an operation uses as addresses
@@ -60,7 +59,6 @@ module _ (core : List CoreOp) (within : (index : ℕ) → Place) (known : (share
   Asks operation i = Unit {0}
 
   pub record Fits (i target : ℕ) (operation : Operation) : Type 0 where
-    pub alone : (is_alone operation ≡ true) ⊎ (operation ≡ Halt)
     pub asks : Asks operation i
     pub goes_on : GoesOn operation i target
 

@@ -4,9 +4,12 @@ use Rattle.fk_num.specs.Word.{word}
 use Rattle.fk_num.specs.Op.{applied}
 use Rattle.fk_num.specs.declared.operator.Op.{Op}
 use Rattle.fk_operation.specs.declared.operation.Operation.{Operation}
-use Rattle.fk_operation.specs.declared.operation.Operation.TheVariants.{Push, Get, DropLast, CopyLast, Apply, Join, Index, Branch, Take, Check, Read, Write, Combine, PrintNumber, PrintByte}
+use Rattle.fk_operation.specs.declared.operation.Operation.TheVariants.{Push, Get, DropLast, CopyLast, Apply, Join, Index, Branch, Take, Check, Read, Write, Combine, PrintNumber, PrintByte, Heap, Begin, Agree, Block, Divide, Shrink}
+use Rattle.fk_operation.specs.declared.operation.Split.{Split}
+use Rattle.fk_operation.specs.declared.operation.Split.TheVariants.{AndThen, OrElse}
 use Rattle.fk_store.specs.Serve.{may_use}
 use Rattle.fk_run.specs.Local.{in_order}
+use Rattle.fk_run.specs.Group.{taken_by}
 use Rattle.fk_known.specs.declared.change.Change.{Change}
 use Rattle.fk_known.specs.declared.constants.Constants.{Constants}
 
@@ -47,25 +50,38 @@ abbrev pub is_address : (shared_alone : Bool) → (constant : Option ℕ) → Bo
 is_address shared_alone None = false
 is_address shared_alone (Some n) = may_use shared_alone n
 
--- the change by an operation that goes on in its function. A constant may be an address, and a check passes only addresses
-abbrev pub change : (shared_alone : Bool) → Operation → (last : Bool) → Constants → Change
-change shared_alone (Push n) last known = by 0 (Some (may_use shared_alone (word n)))
-change shared_alone (Get variable) last known = by 0 unknown
-change shared_alone CopyLast last known = by 0 (Some last)
-change shared_alone DropLast last known = by 1 None
-change shared_alone (Branch onward) last known = by 1 None
-change shared_alone PrintNumber last known = by 1 None
-change shared_alone PrintByte last known = by 1 None
-change shared_alone (Apply sign) last known = by 1 unknown
-change shared_alone Take last known = by 1 unknown
-change shared_alone Read last known = by 1 unknown
-change shared_alone (Join sign turned) last known =
+-- those who wait at `&&` and `||` have the value of the whole
+abbrev pub pushed_by : Split → (onward : Bool) → Option Bool
+pushed_by AndThen false = unknown
+pushed_by OrElse false = unknown
+pushed_by split onward = None
+
+-- the change by an operation that goes on in its function, on the way on which it does. A constant may be an address, a check
+-- passes only addresses, and what a group agrees on may be another member's value
+abbrev pub change : (shared_alone : Bool) → Operation → (onward last : Bool) → Constants → Change
+change shared_alone (Push n) onward last known = by 0 (Some (may_use shared_alone (word n)))
+change shared_alone (Get variable) onward last known = by 0 unknown
+change shared_alone CopyLast onward last known = by 0 (Some last)
+change shared_alone DropLast onward last known = by 1 None
+change shared_alone (Branch way) onward last known = by 1 None
+change shared_alone PrintNumber onward last known = by 1 None
+change shared_alone PrintByte onward last known = by 1 None
+change shared_alone Begin onward last known = by 1 None
+change shared_alone Shrink onward last known = by 1 None
+change shared_alone (Apply sign) onward last known = by 1 unknown
+change shared_alone Take onward last known = by 1 unknown
+change shared_alone Heap onward last known = by 1 unknown
+change shared_alone Block onward last known = by 1 unknown
+change shared_alone Agree onward last known = by 1 unknown
+change shared_alone Read onward last known = by 1 unknown
+change shared_alone (Join sign turned) onward last known =
     by 2 (Some (is_address shared_alone (joined_constant sign turned known.second known.last)))
-change shared_alone (Index size) last known = by 2 unknown
-change shared_alone Write last known = by 2 unknown
-change shared_alone (Combine operator) last known = by 2 unknown
-change shared_alone (Check checked) last known = by 1 (Some (last || (checked || not shared_alone)))
-change shared_alone operation last known = by 0 None
+change shared_alone (Index size) onward last known = by 2 unknown
+change shared_alone Write onward last known = by 2 unknown
+change shared_alone (Combine operator) onward last known = by 2 unknown
+change shared_alone (Check checked) onward last known = by 1 (Some (last || (checked || not shared_alone)))
+change shared_alone (Divide split) onward last known = by (taken_by split) (pushed_by split onward)
+change shared_alone operation onward last known = by 0 None
 
 -- the change by a whole call
 abbrev pub called : (arguments : ℕ) → (gives : Bool) → Change
