@@ -131,3 +131,43 @@ loop_is_typed = (
     (may _ _ (omega arith, omega arith) tt, (may _ _ (omega arith, omega arith) tt, refl, grants_itself none)),
   ),
 )
+
+-- start (2) { if (c) barrier; farm; seq; } return; where the group agrees on c
+abbrev spread : Code ℕ
+spread = choose 6 o.Farm done done (perform 7 (o.Meet true) (choose 8 o.Seq done done (perform 9 (o.Meet true) (perform 10 o.End done))))
+
+spread_is_typed : Typed place_of None (at Main []) spread (at Main [])
+spread_is_typed = (
+  may _ _ (omega arith, omega arith) tt,
+  at Main [],
+  values Main [],
+  values Main [],
+  (may _ _ (omega arith, omega arith) tt, (may _ _ (omega arith, omega arith) tt, at Main [], values Main [], values Main [], (may _ _ (omega arith, omega arith) tt, (may _ _ (omega arith, omega arith) tt, values Main [])))),
+)
+
+abbrev in_group : Code ℕ
+in_group = perform 2 (get 0) (perform 3 o.Agree (choose 4 (o.Branch true) (perform 5 (o.Meet false) done) done spread))
+
+in_group_is_typed : Typed place_of None (at Main []) in_group (at Main [])
+in_group_is_typed = (
+  may _ _ (omega arith, omega arith) tt,
+  (may _ _ (omega arith, omega arith) tt, (may _ _ (omega arith, omega arith) tt, at Main [], (may _ _ (omega arith, omega arith) tt, values Main []), values Main [], spread_is_typed)),
+)
+
+abbrev grouped : Code ℕ
+grouped = perform 0 (o.Push 2) (choose 1 o.Begin in_group done (perform 11 o.Resume (ends 12 o.Halt done)))
+
+grouped_is_typed : IsTyped place_of 0 grouped
+grouped_is_typed = (
+  at Main [],
+  (
+    may _ _ (omega arith, omega arith) tt,
+    (
+      may _ _ (omega arith, omega arith) tt,
+      at Main [],
+      in_group_is_typed,
+      values Main [],
+      (may _ _ (omega arith, omega arith) tt, (may _ _ (omega arith, omega arith) tt, refl, values Main [])),
+    ),
+  ),
+)

@@ -1,9 +1,11 @@
 -- Flat lists of well typed code have knowledge of addresses.
-use Rattle.std.proofs.Common.{◌≡◌, ℕ, zero, suc, ◌+◌, ◌≤◌, Bool, true, false, true≢false, List, [], ◌∷◌, length, drop, Option, Some, None, inl, inr, refl, sym, ap, ◌∙◌, subst, arith}
+use Rattle.std.proofs.Common.{◌≡◌, ℕ, zero, suc, ◌+◌, ◌≤◌, Bool, true, false, List, [], ◌∷◌, length, drop, Option, Some, None, inl, inr, refl, sym, ap, ◌∙◌, subst, arith}
 use Rattle.std.specs.Prelude.{not, ◌&&◌, ◌||◌, ◌⊎◌, if◌then◌else◌}
 use Rattle.fk_num.specs.Word.{word}
 use Rattle.fk_operation.specs.declared.operation.Operation.{Operation}
 use Rattle.fk_operation.specs.declared.operation.Operation.TheVariants as o
+use Rattle.fk_operation.specs.declared.operation.Split.{Split}
+use Rattle.fk_operation.specs.declared.operation.Split.TheVariants as s
 use Rattle.fk_store.specs.Serve.{may_use}
 use Rattle.fk_forms.specs.Code.{Code}
 use Rattle.fk_kept.specs.declared.places.Place.{Place}
@@ -14,9 +16,9 @@ use Rattle.fk_core.specs.Stands.{Around}
 use Rattle.fk_flat.specs.Flat.{label}
 use Rattle.fk_flat.specs.Items.{way_of}
 use Rattle.fk_flat.specs.Shape.{is_done, is_closed}
-use Rattle.fk_block_law.specs.Ready.{is_alone}
 use Rattle.fk_block_law.specs.Suits.{looks_at}
-use Rattle.fk_depths.specs.Local.{is_ordinary, results}
+use Rattle.fk_sizes.specs.Operations.{takes}
+use Rattle.fk_depths.specs.Local.{is_ordinary, results, leaves}
 use Rattle.fk_known.specs.declared.change.Change.{Change}
 use Rattle.fk_known.specs.declared.constants.Constants.{Constants}
 use Rattle.fk_known.specs.Values.{by, is_address, joined_constant, constants_behind, no_constants, after, change, called, unchanged}
@@ -25,7 +27,7 @@ use Rattle.fk_known.specs.Local.{AreSameIn}
 use Rattle.fk_typed_code.specs.Values as u
 use Rattle.fk_typed_code.specs.Values.{Value, Unknown, Usable, Shared, State, is_known, of_number, of_constant, checked, changed, values_behind, bare, behind, behind_call, AreAsGood, May, Grants}
 use Rattle.fk_typed_code.specs.Heights.{HasHeights}
-use Rattle.fk_typed_code.specs.Laws.{IsTypedList, IsLone, TypedListsKnow}
+use Rattle.fk_typed_code.specs.Laws.{IsTypedList, TypedListsKnow}
 use Rattle.fk_typed_code.proofs.Done.{by_done}
 use Rattle.fk_typed_code.proofs.Granting.{same_both, grants_itself}
 use Rattle.fk_typed_code.proofs.Sound.{Comes, IsSound}
@@ -90,33 +92,63 @@ known_checked sh false Unknown e = e
 known_checked true false Usable e = e
 known_checked false false Usable e = refl
 
+-- behind a split
+split_known : (split : Split) (last : Bool) (known : Constants) (vs : List Value) (onward sh : Bool) (n : ℕ)
+    → known_at sh (changed (takes (o.Divide split)) (leaves (o.Divide split) onward) vs) n ≡ true
+    → after (change sh (o.Divide split) onward last known) (known_at sh vs) n ≡ true
+split_known s.IfAlone last known vs true sh n e = dropping sh 1 vs n e
+split_known s.IfAlone last known vs false sh n e = dropping sh 1 vs n e
+split_known s.IfElse last known vs true sh n e = dropping sh 1 vs n e
+split_known s.IfElse last known vs false sh n e = dropping sh 1 vs n e
+split_known s.AndThen last known vs true sh n e = dropping sh 1 vs n e
+split_known s.AndThen last known vs false sh n e = pushing sh 1 vs Unknown false (λ z. z) n e
+split_known s.OrElse last known vs true sh n e = dropping sh 1 vs n e
+split_known s.OrElse last known vs false sh n e = pushing sh 1 vs Unknown false (λ z. z) n e
+split_known s.Loop last known vs true sh n e = dropping sh 0 vs n e
+split_known s.Loop last known vs false sh n e = dropping sh 0 vs n e
+split_known s.Fork last known vs true sh n e = dropping sh 3 vs n e
+split_known s.Fork last known vs false sh n e = dropping sh 3 vs n e
+
 -- behind an operation no more is known than was, or than it makes
-change_known : (op : Operation) (known : Constants) (vs : List Value) (onward : Bool) → is_alone op ≡ true → is_ordinary op ≡ true → looks_at op ≤ length vs
-    → (sh : Bool) (n : ℕ) → known_at sh (values_behind op onward known vs) n ≡ true → after (change sh op (known_at sh vs 0) known) (known_at sh vs) n ≡ true
-change_known (o.Push m) known vs onward a r few sh n e = pushing sh 0 vs (of_number (word m)) (may_use sh (word m)) (known_number sh (word m)) n e
-change_known (o.Get variable) known vs onward a r few sh n e = pushing sh 0 vs Unknown false (λ z. z) n e
-change_known (o.Set variable) known vs onward a r few sh n e = dropping sh 0 vs n e
-change_known o.DropLast known vs onward a r few sh n e = dropping sh 1 vs n e
-change_known o.CopyLast known [] onward a r few sh n e = absurd (let z : ⊥ = omega arith in z)
-change_known o.CopyLast known (v ∷ vs) onward a r few sh n e = pushing sh 0 (v ∷ vs) v (is_known sh v) (λ z. z) n e
-change_known (o.Apply sign) known vs onward a r few sh n e = pushing sh 1 vs Unknown false (λ z. z) n e
-change_known (o.Join sign turned) known [] onward a r few sh n e = absurd (let z : ⊥ = omega arith in z)
-change_known (o.Join sign turned) known (x ∷ []) onward a r few sh n e = absurd (let z : ⊥ = omega arith in z)
-change_known (o.Join sign turned) known (x ∷ y ∷ vs) onward a r few sh n e =
+change_known : (op : Operation) (known : Constants) (vs : List Value) (onward : Bool) → is_ordinary op ≡ true → looks_at op ≤ length vs
+    → (sh : Bool) (n : ℕ) → known_at sh (values_behind op onward known vs) n ≡ true → after (change sh op onward (known_at sh vs 0) known) (known_at sh vs) n ≡ true
+change_known (o.Push m) known vs onward r few sh n e = pushing sh 0 vs (of_number (word m)) (may_use sh (word m)) (known_number sh (word m)) n e
+change_known (o.Get variable) known vs onward r few sh n e = pushing sh 0 vs Unknown false (λ z. z) n e
+change_known (o.Set variable) known vs onward r few sh n e = dropping sh 0 vs n e
+change_known o.DropLast known vs onward r few sh n e = dropping sh 1 vs n e
+change_known o.CopyLast known [] onward r few sh n e = absurd (let z : ⊥ = omega arith in z)
+change_known o.CopyLast known (v ∷ vs) onward r few sh n e = pushing sh 0 (v ∷ vs) v (is_known sh v) (λ z. z) n e
+change_known (o.Apply sign) known vs onward r few sh n e = pushing sh 1 vs Unknown false (λ z. z) n e
+change_known (o.Join sign turned) known [] onward r few sh n e = absurd (let z : ⊥ = omega arith in z)
+change_known (o.Join sign turned) known (x ∷ []) onward r few sh n e = absurd (let z : ⊥ = omega arith in z)
+change_known (o.Join sign turned) known (x ∷ y ∷ vs) onward r few sh n e =
     let c = joined_constant sign turned known.second known.last in
     pushing sh 2 (x ∷ y ∷ vs) (of_constant c) (is_address sh c) (known_constant sh c) n e
-change_known (o.Index size) known vs onward a r few sh n e = pushing sh 2 vs Unknown false (λ z. z) n e
-change_known (o.Branch way) known vs onward a r few sh n e = dropping sh 1 vs n e
-change_known o.Take known vs onward a r few sh n e = pushing sh 1 vs Unknown false (λ z. z) n e
-change_known (o.Check alone) known [] onward a r few sh n e = absurd (let z : ⊥ = omega arith in z)
-change_known (o.Check alone) known (v ∷ vs) onward a r few sh n e =
+change_known (o.Index size) known vs onward r few sh n e = pushing sh 2 vs Unknown false (λ z. z) n e
+change_known (o.Branch way) known vs onward r few sh n e = dropping sh 1 vs n e
+change_known o.Take known vs onward r few sh n e = pushing sh 1 vs Unknown false (λ z. z) n e
+change_known (o.Check alone) known [] onward r few sh n e = absurd (let z : ⊥ = omega arith in z)
+change_known (o.Check alone) known (v ∷ vs) onward r few sh n e =
     pushing sh 1 (v ∷ vs) (checked alone v) (is_known sh v || (alone || not sh)) (known_checked sh alone v) n e
-change_known o.Read known vs onward a r few sh n e = pushing sh 1 vs Unknown false (λ z. z) n e
-change_known o.Write known vs onward a r few sh n e = pushing sh 2 vs Unknown false (λ z. z) n e
-change_known (o.Combine by) known vs onward a r few sh n e = pushing sh 2 vs Unknown false (λ z. z) n e
-change_known o.PrintNumber known vs onward a r few sh n e = dropping sh 1 vs n e
-change_known o.PrintByte known vs onward a r few sh n e = dropping sh 1 vs n e
-change_known op known vs onward a r few sh n e = absurd (cc)
+change_known o.Read known vs onward r few sh n e = pushing sh 1 vs Unknown false (λ z. z) n e
+change_known o.Write known vs onward r few sh n e = pushing sh 2 vs Unknown false (λ z. z) n e
+change_known (o.Combine by) known vs onward r few sh n e = pushing sh 2 vs Unknown false (λ z. z) n e
+change_known o.PrintNumber known vs onward r few sh n e = dropping sh 1 vs n e
+change_known o.PrintByte known vs onward r few sh n e = dropping sh 1 vs n e
+change_known o.Heap known vs onward r few sh n e = pushing sh 1 vs Unknown false (λ z. z) n e
+change_known o.Begin known vs onward r few sh n e = dropping sh 1 vs n e
+change_known o.Agree known [] onward r few sh n e = absurd (cc)
+change_known o.Agree known (v ∷ vs) onward r few sh n e = pushing sh 1 (v ∷ vs) Unknown false (λ z. z) n e
+change_known (o.Frame nesting words) known vs onward r few sh n e = dropping sh 0 vs n e
+change_known o.Block known vs onward r few sh n e = pushing sh 1 vs Unknown false (λ z. z) n e
+change_known (o.Divide split) known vs onward r few sh n e = split_known split (known_at sh vs 0) known vs onward sh n e
+change_known o.Shrink known vs onward r few sh n e = dropping sh 1 vs n e
+change_known o.End known vs onward r few sh n e = dropping sh 0 vs n e
+change_known o.Resume known vs onward r few sh n e = dropping sh 0 vs n e
+change_known o.Farm known vs onward r few sh n e = dropping sh 0 vs n e
+change_known o.Seq known vs onward r few sh n e = dropping sh 0 vs n e
+change_known (o.Meet closing) known vs onward r few sh n e = dropping sh 0 vs n e
+change_known op known vs onward r few sh n e = absurd (cc)
 
 -- behind a call
 call_known : (arguments : ℕ) (gives : Bool) (vs : List Value) (sh : Bool) (n : ℕ) → known_at sh (changed arguments (results gives) vs) n ≡ true
@@ -143,14 +175,10 @@ combined_asked by [] few h = absurd (let z : ⊥ = omega arith in z)
 combined_asked by (x ∷ []) few h = absurd (let z : ⊥ = omega arith in z)
 combined_asked by (x ∷ a ∷ vs) few h = h
 
-alone_by : (op : Operation) → (is_alone op ≡ true) ⊎ (op ≡ o.Halt) → is_ordinary op ≡ true → is_alone op ≡ true
-alone_by op (inl a) r = a
-alone_by op (inr e) r = absurd (true≢false (sym r ∙ ap is_ordinary e))
-
 pub label_done : (code : Code ℕ) (c : Around) (i k : ℕ) → is_done code ≡ true → label c i k code ≡ k
 label_done code c i k e = by_done (λ x. label c i k x ≡ k) code e refl
 
-module _ (bodies : ℕ → Code ℕ) (core : List CoreOp) (entry : ℕ → ℕ) (place_of : ℕ → Place) (typed : IsTypedList bodies core entry place_of) (lone : IsLone core) where
+module _ (bodies : ℕ → Code ℕ) (core : List CoreOp) (entry : ℕ → ℕ) (place_of : ℕ → Place) (typed : IsTypedList bodies core entry place_of) where
   abbrev at : ℕ → State
   at = v.at bodies core entry place_of typed
 
@@ -185,7 +213,7 @@ module _ (bodies : ℕ → Code ℕ) (core : List CoreOp) (entry : ℕ → ℕ) 
   bare_at place i g = record { addresses = λ sh n. bare_known (at i).values g.values sh n; same = g.constants }
 
   ordinary : (op : Operation) (i target : ℕ) → is_ordinary op ≡ true
-      → ((onward : Bool) → k.Leads core within known constants (λ sh. change sh op (known sh i 0) (constants i)) (constants_behind op (constants i)) i (follows core op i target [] onward).at)
+      → ((onward : Bool) → k.Leads core within known constants (λ sh. change sh op onward (known sh i 0) (constants i)) (constants_behind op (constants i)) i (follows core op i target [] onward).at)
       → k.GoesOn core within known constants op i target
   ordinary (o.Enter n) i target r h = absurd (cc)
   ordinary (o.Leave gives framed) i target r h = absurd (cc)
@@ -195,26 +223,26 @@ module _ (bodies : ℕ → Code ℕ) (core : List CoreOp) (entry : ℕ → ℕ) 
   abbrev Sounds : (i n : ℕ) → Operation → (target : ℕ) → Type 0
   Sounds i n op target = IsSound core entry place_of (values place_of) (values_lawful place_of) at false none (at i) i n op target
 
-  by_ordinary : (op : Operation) (i n target : ℕ) → (is_alone op ≡ true) ⊎ (op ≡ o.Halt) → is_ordinary op ≡ true → Sounds i n op target
+  by_ordinary : (op : Operation) (i n target : ℕ) → is_ordinary op ≡ true → Sounds i n op target
       → k.GoesOn core within known constants op i target
-  by_ordinary op i n target a r s =
-      ordinary op i target r (λ onward. leads (λ sh. change sh op (known sh i 0) (constants i)) (constants_behind op (constants i))
+  by_ordinary op i n target r s =
+      ordinary op i target r (λ onward. leads (λ sh. change sh op onward (known sh i 0) (constants i)) (constants_behind op (constants i))
       (behind op onward (at i)) i (follows core op i target [] onward).at refl
-      (change_known op (constants i) (at i).values onward (alone_by op a r) r s.may.looks)
+      (change_known op (constants i) (at i).values onward r s.may.looks)
       (grants_itself (behind op onward (at i))).constants
       (goes_on bodies core entry place_of typed (values place_of) (values_lawful place_of) (all_judged bodies core entry place_of typed) (bare Main) false none untold op (at i) i target (way_of op) refl r (same_ways op (at i)) s.goes onward))
 
-  goes : (op : Operation) (i n target : ℕ) → (is_alone op ≡ true) ⊎ (op ≡ o.Halt) → Sounds i n op target → k.GoesOn core within known constants op i target
-  goes (o.Enter arguments) i n target a s = record {
+  goes : (op : Operation) (i n target : ℕ) → Sounds i n op target → k.GoesOn core within known constants op i target
+  goes (o.Enter arguments) i n target s = record {
     gives = s.goes.1;
     inside = sym s.goes.5.grants.place;
     begins = bare_at (Called s.goes.1) (suc i) s.goes.5.grants;
     back = leads (λ sh. called arguments s.goes.1) no_constants (behind_call arguments s.goes.1 (at i)) i (behind_jump core (suc i)) refl
         (call_known arguments s.goes.1 (at i).values) (grants_itself (bare Main)).constants s.goes.6;
   }
-  goes (o.Leave gives framed) i n target a s = s.goes
-  goes o.Halt i n target a s = s.goes
-  goes op i n target a s = by_ordinary op i n target a refl s
+  goes (o.Leave gives framed) i n target s = s.goes
+  goes o.Halt i n target s = s.goes
+  goes op i n target s = by_ordinary op i n target refl s
 
   asks : (op : Operation) (i : ℕ) → May op (at i) → k.Asks core within known constants op i
   asks o.Read i m = last_asked (at i).values m.looks m.asks
@@ -235,21 +263,20 @@ module _ (bodies : ℕ → Code ℕ) (core : List CoreOp) (entry : ℕ → ℕ) 
       subst (λ p. Grants (bare p) (at (entry main))) is (entries bodies core entry place_of typed (values place_of) (values_lawful place_of) (all_judged bodies core entry place_of typed) (bare Main) false none untold main c).grants
 
 pub typed_lists_know : TypedListsKnow
-typed_lists_know bodies core entry place_of typed lone main is = record {
-  within = within bodies core entry place_of typed lone;
-  known = known bodies core entry place_of typed lone;
-  constants = constants bodies core entry place_of typed lone;
-  begins = bare_main bodies core entry place_of typed lone (entry main) (begins bodies core entry place_of typed lone main is (typed.shaped main).1);
-  ends = bare_main bodies core entry place_of typed lone (length core) (end_is_bare bodies core entry place_of typed lone (length core) refl);
+typed_lists_know bodies core entry place_of typed main is = record {
+  within = within bodies core entry place_of typed;
+  known = known bodies core entry place_of typed;
+  constants = constants bodies core entry place_of typed;
+  begins = bare_main bodies core entry place_of typed (entry main) (begins bodies core entry place_of typed main is (typed.shaped main).1);
+  ends = bare_main bodies core entry place_of typed (length core) (end_is_bare bodies core entry place_of typed (length core) refl);
   jumps = λ i op e z.
-      leads bodies core entry place_of typed lone (λ sh. unchanged) (at bodies core entry place_of typed lone i).constants (at bodies core entry place_of typed lone i) i op.target
-      refl (λ sh n. dropping sh 0 (at bodies core entry place_of typed lone i).values n) (grants_itself (at bodies core entry place_of typed lone i)).constants
-      (of_jump bodies core entry place_of typed (values place_of) (values_lawful place_of) (all_judged bodies core entry place_of typed) (bare Main) false (none bodies core entry place_of typed lone) (untold bodies core entry place_of typed lone) i op e z);
+      leads bodies core entry place_of typed (λ sh. unchanged) (at bodies core entry place_of typed i).constants (at bodies core entry place_of typed i) i op.target
+      refl (λ sh n. dropping sh 0 (at bodies core entry place_of typed i).values n) (grants_itself (at bodies core entry place_of typed i)).constants
+      (of_jump bodies core entry place_of typed (values place_of) (values_lawful place_of) (all_judged bodies core entry place_of typed) (bare Main) false (none bodies core entry place_of typed) (untold bodies core entry place_of typed) i op e z);
   fits = λ i op operation e r.
-      (let s = of_operation bodies core entry place_of typed (values place_of) (values_lawful place_of) (all_judged bodies core entry place_of typed) (bare Main) false (none bodies core entry place_of typed lone) (untold bodies core entry place_of typed lone) i op operation e r in
+      (let s = of_operation bodies core entry place_of typed (values place_of) (values_lawful place_of) (all_judged bodies core entry place_of typed) (bare Main) false (none bodies core entry place_of typed) (untold bodies core entry place_of typed) i op operation e r in
       record {
-        alone = lone i op operation e r;
-        asks = asks bodies core entry place_of typed lone operation i s.may;
-        goes_on = goes bodies core entry place_of typed lone operation i op.site op.target (lone i op operation e r) s;
+        asks = asks bodies core entry place_of typed operation i s.may;
+        goes_on = goes bodies core entry place_of typed operation i op.site op.target s;
       });
 }

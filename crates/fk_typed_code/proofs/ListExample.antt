@@ -162,7 +162,7 @@ lone i op operation e r =
     lone_or_halt operation (ap is_lone_by (sym r) ∙ each_at (λ op. is_lone_by (operation_of op.kind op.number)) core i op refl e)
 
 has_knowledge : HasKnowledge core 14
-has_knowledge = typed_lists_know bodies core entry place_of typed_list lone 1 refl
+has_knowledge = typed_lists_know bodies core entry place_of typed_list 1 refl
 
 is_free : IsFree core
 is_free = typed_lists_are_free bodies core entry place_of typed_list lone

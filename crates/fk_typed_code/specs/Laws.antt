@@ -1,14 +1,16 @@
 -- What is so of the flat lists of well typed code.
-use Rattle.std.specs.Prelude.{◌≡◌, ℕ, ◌+◌, ◌<◌, ◌≤◌, ◌⊎◌, List, slice_get, true, false, Some}
+use Rattle.std.specs.Prelude.{◌≡◌, ℕ, ◌+◌, ◌<◌, ◌≤◌, ◌⊎◌, List, [], slice_get, Bool, true, false, Some}
 use Rattle.fk_operation.specs.declared.operation.Operation.{Operation}
 use Rattle.fk_operation.specs.declared.operation.Operation.TheVariants.{Halt}
 use Rattle.fk_forms.specs.Code.{Code}
 use Rattle.fk_core.specs.declared.op.CoreOp.{CoreOp}
 use Rattle.fk_core.specs.Numbers.{operation_of}
+use Rattle.fk_core.specs.Next.{is_jump, follows}
+use Rattle.fk_core.specs.WellFormed.{IsOperation}
 use Rattle.fk_flat.specs.Flat.{extent}
 use Rattle.fk_flat.specs.Laws.{AreShaped, IsFlat}
 use Rattle.fk_block_law.specs.Ready.{is_alone}
-use Rattle.fk_block_law.specs.Lists.{IsFree}
+use Rattle.fk_block_law.specs.Lists.{is_end, IsWithin, IsFree}
 use Rattle.fk_depths.specs.Local.{HasLocalDepths}
 use Rattle.fk_kept.specs.declared.places.Place.{Place}
 use Rattle.fk_kept.specs.declared.places.Place.TheVariants.{Main}
@@ -28,6 +30,13 @@ module _ (bodies : (binding : ℕ) → Code ℕ) (core : List CoreOp) (entry : �
     pub apart : (i f g : ℕ) → LiesIn flat.place i f → LiesIn flat.place i g → f ≡ g
     pub typed : AreTyped place_of bodies
 
+-- jumps lead to operations, and no operation but an end goes on outside the list
+pub record LeadsWithin (core : List CoreOp) : Type 0 where
+  pub jumps : (i : ℕ) (op : CoreOp) → slice_get core i ≡ Some op → is_jump op ≡ true → IsOperation core op.target
+  pub within : (i : ℕ) (op : CoreOp) (operation : Operation) → slice_get core i ≡ Some op
+      → operation_of op.kind op.number ≡ Some operation → is_end operation ≡ false
+      → (onward : Bool) → IsWithin core (follows core operation i op.target [] onward)
+
 -- each operation is one without a group, or a halt
 abbrev pub IsLone : List CoreOp → Type 0
 IsLone core =
@@ -41,6 +50,11 @@ pub record HasHeightsOf (bodies : (binding : ℕ) → Code ℕ) (core : List Cor
       → operation_of op.kind op.number ≡ Some operation → op.depth ≡ depth op.site
   pub heights : (binding : ℕ) → HasHeights place_of depth 0 (bodies binding)
 
+abbrev pub TypedListsLeadWithin : Type 0
+TypedListsLeadWithin =
+    (bodies : (binding : ℕ) → Code ℕ) (core : List CoreOp) (entry : ℕ → ℕ) (place_of : (binding : ℕ) → Place)
+    → IsTypedList bodies core entry place_of → LeadsWithin core
+
 abbrev pub TypedListsAreFree : Type 0
 TypedListsAreFree =
     (bodies : (binding : ℕ) → Code ℕ) (core : List CoreOp) (entry : ℕ → ℕ) (place_of : (binding : ℕ) → Place)
@@ -49,8 +63,7 @@ TypedListsAreFree =
 abbrev pub TypedListsKnow : Type 0
 TypedListsKnow =
     (bodies : (binding : ℕ) → Code ℕ) (core : List CoreOp) (entry : ℕ → ℕ) (place_of : (binding : ℕ) → Place)
-    → IsTypedList bodies core entry place_of → IsLone core
-    → (main : ℕ) → place_of main ≡ Main → HasKnowledge core (entry main)
+    → IsTypedList bodies core entry place_of → (main : ℕ) → place_of main ≡ Main → HasKnowledge core (entry main)
 
 abbrev pub TypedListsHaveDepths : Type 0
 TypedListsHaveDepths =

@@ -2,7 +2,7 @@
 use Rattle.std.specs.Prelude.{◌≡◌, ℕ, ◌≤◌, Bool, true, false, not, List, [], ◌∷◌, ◌++◌, length, drop, replicate, Option, Some, None, if◌then◌else◌}
 use Rattle.fk_num.specs.Word.{word}
 use Rattle.fk_operation.specs.declared.operation.Operation.{Operation}
-use Rattle.fk_operation.specs.declared.operation.Operation.TheVariants.{Push, CopyLast, Join, Check, Read, Write, Combine}
+use Rattle.fk_operation.specs.declared.operation.Operation.TheVariants.{Push, CopyLast, Join, Check, Read, Write, Combine, Agree}
 use Rattle.fk_store.specs.Serve.{may_use}
 use Rattle.fk_sizes.specs.Operations.{takes}
 use Rattle.fk_depths.specs.Local.{results, needs, leaves}
@@ -52,11 +52,12 @@ bare place = record { place = place; values = []; constants = no_constants }
 abbrev pub changed : (takes leaves : ℕ) → List Value → List Value
 changed takes leaves vs = replicate leaves Unknown ++ drop takes vs
 
--- the values behind an operation, on the way on which it goes on
+-- the values behind an operation, on the way on which it goes on. What a group agrees on may be another member's value
 abbrev pub values_behind : Operation → (onward : Bool) → Constants → List Value → List Value
 values_behind (Push n) onward known vs = of_number (word n) ∷ vs
 values_behind CopyLast onward known (v ∷ vs) = v ∷ v ∷ vs
 values_behind (Check shared_alone) onward known (v ∷ vs) = checked shared_alone v ∷ vs
+values_behind Agree onward known (v ∷ vs) = Unknown ∷ vs
 values_behind (Join sign turned) onward known (b ∷ a ∷ vs) = of_constant (joined_constant sign turned known.second known.last) ∷ vs
 values_behind operation onward known vs = changed (takes operation) (leaves operation onward) vs
 
