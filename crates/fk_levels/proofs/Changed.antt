@@ -1,7 +1,7 @@
 -- The steps of a round that change the tree, one node after the other, and what nodes keep of spaces and frames.
-use Rattle.std.proofs.Common.{◌≡◌, ◌≢◌, ⊎_elim, ℕ, zero, suc, ◌+◌, ◌<◌, ◌≤◌, ◌==◌, ◌&&◌, nat_lt, min, Bool, true, false, not, true≢false, List, [], ◌∷◌, length, slice_get, Option, Some, None, is_some, refl, sym, ap, ap₂, ◌∙◌, subst, subst₂, arith, if◌then◌else◌}
+use Rattle.std.proofs.Common.{◌≡◌, ◌≢◌, ⊎_elim, ℕ, zero, suc, ◌+◌, ◌<◌, ◌≤◌, ◌==◌, ◌&&◌, nat_lt, min, Bool, true, false, not, true≢false, List, [], ◌∷◌, length, slice_get, Option, Some, None, is_some, refl, sym, ap, ◌∙◌, subst, subst₂, arith, if◌then◌else◌}
 use Rattle.std.specs.Prelude.{option_map}
-use Rattle.std.proofs.lemmas.Bool.{cases_Bool, cases_eq, cases_lt, eqb-true, eq-eqb, lt-ltb, le-ltb, cond-true, cond-false}
+use Rattle.std.proofs.lemmas.Bool.{cases_Bool, cases_eq, cases_lt, eqb-true, eq-eqb, lt-ltb, le-ltb, cond-true}
 use Rattle.fk_operation.specs.declared.operation.Operation.{Operation}
 use Rattle.fk_operation.specs.declared.operation.Operation.TheVariants as o
 use Rattle.fk_operation.specs.declared.operation.Split.{Split}
@@ -10,7 +10,7 @@ use Rattle.fk_tree.specs.declared.node.Kind.{Kind}
 use Rattle.fk_tree.specs.declared.node.Kind.TheVariants.{Lockstep, Waiting, Asynchronous}
 use Rattle.fk_tree.specs.Tree as t
 use Rattle.fk_tree.specs.Tree.{Tree, members, parent, kind, is_member, first_part, kind_after}
-use Rattle.fk_tree.specs.Sound.{Has, awaits}
+use Rattle.fk_tree.specs.Sound.{Has}
 use Rattle.fk_tree.proofs.Shapes.{has_some}
 use Rattle.fk_tree.proofs.Turns.{IsLeaf, IsIdle, idle-lockstep, idle-asynchronous, idle-after, free-asynchronous, free-after}
 use Rattle.fk_tree.proofs.SplitSound.{CanSplit}
@@ -22,11 +22,11 @@ use Rattle.fk_run.specs.Round.{Step, Runner, State, Round, Acting, lowest, agree
 use Rattle.fk_lockstep.specs.Untouched.{changes_tree}
 use Rattle.fk_together.specs.Counts.{Counts, ArePending, CountsGoOn}
 use Rattle.fk_together.specs.Course.{InGroup, Waits, ByItself, Parts, Does, FollowsFor}
-use Rattle.fk_together.proofs.Acting.{untrue, Here, Out, told, lefts, within, is_changing, Is, Grouped, Parted, Loner, Apart, AtNode, ahead_of, does_so, counts_so, going_on}
-use Rattle.fk_together.proofs.Trees.{NodeIs, IsThere, ThereAt, Inv, inv_same, turned_here, turned_inv, shrunk_here, shrunk_inv, parted_here, parted_behind, parted_inv}
-use Rattle.fk_together.proofs.Round.{first_is, some_at, who_is, lowest_member, settle as settle_of, new as new_of, quiet as quiet_of, now_has as now_has_of, has_at, Sound, Ordered, Moving, all_move, number_at, acting_length}
-use Rattle.fk_together.proofs.Changes.{Stage, low, mid, mids, there, first_stage, clash, moves, in_i, n_given, nodes_n, had, has, low_of, place_of, leaf as leaf_of, Allowed, allowed, brought, stage_after, step_of_none, first_same, one_of_none}
-use Rattle.fk_levels.specs.Frames.{round_after, is_none_round, AsDeep, FramesGoOn, IsFramed}
+use Rattle.fk_together.proofs.Acting.{untrue, Here, Out, told, within, is_changing, Is, Grouped, Parted, Apart, AtNode, ahead_of, does_so, counts_so, going_on}
+use Rattle.fk_together.proofs.Trees.{NodeIs, IsThere, ThereAt, inv_same, turned_here, turned_inv, shrunk_here, shrunk_inv, parted_here, parted_behind, parted_inv}
+use Rattle.fk_together.proofs.Round.{first_is, who_is, lowest_member, settle as settle_of, new as new_of, quiet as quiet_of, has_at, Sound, Ordered, Moving, all_move, number_at, acting_length}
+use Rattle.fk_together.proofs.Changes.{Stage, low, mid, mids, there, first_stage, clash, moves, in_i, had, has, low_of, place_of, leaf as leaf_of, Allowed, allowed, brought, stage_after, step_of_none, first_same, one_of_none}
+use Rattle.fk_levels.specs.Frames.{is_none_round, AsDeep}
 use Rattle.fk_levels.proofs.Tiers.{Tier}
 use Rattle.fk_levels.proofs.Stands.{Tiers, all_of, At, InIt, Alone, GoOn, framed_so}
 use Rattle.fk_levels.proofs.Steps.{never_none, part_of, start_of, enters_part, enters_none, stays_in, leaves_part, opens_body, resumes_in, meets_in, starts_in, starts_out}
@@ -547,7 +547,7 @@ module _ {W : Type 0} (next : W → Option (Step W)) (outs : W → List W) (coun
               let onward = goes_onward o.Farm value i b.has in (
                 (round_lower n (k.round_it n) lower ordinary).0,
                 opens_body next outs depth y b f.in_it f.m.step'.rest o.Farm n lower onward (f.m.step'.rest false) (outs_by b.left f.m.step'.rest onward (f.does_op 0).0 (f.does_op 0).1) ((f.goes 0).calls false) ((f.goes 0).calls onward)
-                (λ j. (f.goes j).goes_on onward) r' f.left f.has_op,
+                    (λ j. (f.goes j).goes_on onward) r' f.left f.has_op,
               )
 
       sends_one : op ≡ o.Seq → After (changes o.Seq n (who actings) value i tree)
@@ -564,7 +564,7 @@ module _ {W : Type 0} (next : W → Option (Step W)) (outs : W → List W) (coun
               let onward = goes_onward o.Seq value i b.has in (
                 (round_lower n (k.round_it n) lower ordinary).0,
                 opens_body next outs depth y b f.in_it f.m.step'.rest o.Seq n lower onward (f.m.step'.rest false) (outs_by b.left f.m.step'.rest onward (f.does_op 0).0 (f.does_op 0).1) ((f.goes 0).calls false) ((f.goes 0).calls onward)
-                (λ j. (f.goes j).goes_on onward) r' f.left f.has_op,
+                    (λ j. (f.goes j).goes_on onward) r' f.left f.has_op,
               )
 
       in_group : (op' : Operation) → op ≡ op' → changes_tree op' ≡ true → After (changes op' n (who actings) value i tree)

@@ -1,14 +1,13 @@
 -- A program that keeps calls and frames so, as code: `start f();`, where `f` takes a frame in the group, and its group runs a
 -- body each by itself.
-use Rattle.std.proofs.Common.{◌≡◌, ℕ, zero, suc, ◌<◌, ◌≤◌, Bool, true, false, true≢false, List, [], ◌∷◌, length, map, Option, Some, None, refl, arith, if◌then◌else◌}
+use Rattle.std.proofs.Common.{ℕ, zero, suc, Bool, true, false, List, [], ◌∷◌, length, refl, arith, if◌then◌else◌}
 use Rattle.fk_operation.specs.declared.operation.Operation.TheVariants as o
 use Rattle.fk_operation.specs.declared.operation.Known.TheVariants as n
-use Rattle.fk_run.specs.Round.{Step}
-use Rattle.fk_forms.specs.Code.{Code, done, perform, choose, while, until, turn, again, quit, break, continue, call, ends, append}
+use Rattle.fk_forms.specs.Code.{Code, done, perform, choose, call, ends, append}
 use Rattle.fk_source.specs.Next.{Work, going, next}
 use Rattle.fk_nesting.specs.Behind.{outs}
 use Rattle.fk_together.proofs.Acting.{untrue}
-use Rattle.fk_levels.specs.Frames.{round_after, FramesGoOn, FramedFor, IsFramed}
+use Rattle.fk_levels.specs.Frames.{round_after, FramedFor, IsFramed}
 
 abbrev behind_all : Code ℕ
 behind_all = perform 10 o.Resume (ends 11 o.Halt done)

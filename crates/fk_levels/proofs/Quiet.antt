@@ -1,5 +1,5 @@
 -- What becomes of the spaces and frames that nodes keep by all that is done in a round before the steps that change the tree.
-use Rattle.std.proofs.Common.{◌≡◌, ◌≢◌, ◌⊎◌, inl, inr, ⊎_elim, ℕ, zero, suc, ◌+◌, ◌<◌, ◌==◌, ◌&&◌, Bool, true, false, true≢false, List, [], ◌∷◌, length, slice_get, Option, Some, None, is_some, refl, sym, ap, ap₂, ◌∙◌, subst, subst₂, arith, if◌then◌else◌}
+use Rattle.std.proofs.Common.{◌≡◌, ◌≢◌, ◌⊎◌, inl, inr, ⊎_elim, ℕ, zero, suc, ◌+◌, ◌<◌, ◌==◌, ◌&&◌, Bool, true, false, true≢false, List, [], ◌∷◌, length, slice_get, Option, Some, None, is_some, refl, sym, ap, ◌∙◌, subst, subst₂, arith, if◌then◌else◌}
 use Rattle.std.specs.Prelude.{slice_index, option_map, is_none}
 use Rattle.std.specs.List.{list_all}
 use Rattle.std.proofs.lemmas.Bool.{and_parts, eqb-true}
@@ -20,18 +20,18 @@ use Rattle.fk_run.specs.Processor.{Processor, Setting, values, last}
 use Rattle.fk_run.specs.Local.{local, is_onward}
 use Rattle.fk_run.specs.Request.{with_answer}
 use Rattle.fk_run.specs.Group.{does}
-use Rattle.fk_run.specs.Round.{Step, Runner, State, Round, Acting, taking, done, joint_at, do_local, fits_kind, fits, all_fit, lowest, agreed, settled_by, local_phase, after_locals, begin, begin_all, asking, may_act, all_may_act, result, is_allowed, is_possible}
+use Rattle.fk_run.specs.Round.{Step, Runner, State, Round, Acting, taking, done, joint_at, do_local, fits_kind, fits, all_fit, lowest, agreed, local_phase, after_locals, begin, begin_all, asking, may_act, all_may_act, result, is_allowed, is_possible}
 use Rattle.fk_lockstep.specs.Untouched.{changes_tree}
 use Rattle.fk_lockstep.proofs.Rounds.{Outcome, begin_at, map_at, asked_at}
 use Rattle.fk_lockstep.proofs.Moves.{local_number}
 use Rattle.fk_together.specs.Counts.{Counts}
 use Rattle.fk_together.specs.Course.{Stand, InGroup, ByItself, Does, FollowsFor}
-use Rattle.fk_together.proofs.Acting.{untrue, Here, Out, told, lefts, HasValue, Is, within, is_changing, Grouped, Parted, Loner, LonerOrNone, Apart, AtNode, ahead_of, does_so, going_on, taken_by, acting_elim, after_passing, closed, passing_grouped, passing_is, closed_grouped, closed_is, quietly, lone_many, wait_many, wait_closed, Settles, plain_way}
+use Rattle.fk_together.proofs.Acting.{untrue, Here, Out, told, HasValue, Is, within, Grouped, Parted, LonerOrNone, Apart, AtNode, ahead_of, does_so, going_on, taken_by, acting_elim, after_passing, passing_grouped, passing_is, closed_grouped, closed_is, quietly, lone_many, wait_many, wait_closed, Settles, plain_way}
 use Rattle.fk_together.proofs.Trees.{NodeIs, IsThere, Inv, leaf_place}
-use Rattle.fk_together.proofs.Round.{first_is, all_at, lowest_member, index_at, some_at, at_below, phases as phases_of, actings as actings_of, settle as settle_of, new as new_of, has_at, Sound, Ordered, no_fault, acting_length, number_at, quiet as quiet_of, now_has as now_has_of}
-use Rattle.fk_levels.specs.Frames.{Calling, Leaves, calling, takes_space, IsFramed}
+use Rattle.fk_together.proofs.Round.{first_is, all_at, lowest_member, index_at, some_at, actings as actings_of, settle as settle_of, new as new_of, has_at, Sound, Ordered, no_fault, quiet as quiet_of, now_has as now_has_of}
+use Rattle.fk_levels.specs.Frames.{Leaves, calling}
 use Rattle.fk_levels.proofs.Tiers.{Tier, plain_own}
-use Rattle.fk_levels.proofs.Stands.{Tiers, all_of, with_own, local_own, request_own, Marks, At, InIt, Alone, marked_of, GoOn, framed_so, in_local, in_request, in_plain, alone_local, alone_request, alone_plain}
+use Rattle.fk_levels.proofs.Stands.{Tiers, all_of, with_own, local_own, request_own, Marks, InIt, Alone, marked_of, GoOn, framed_so, in_local, in_request, in_plain, alone_local, alone_request, alone_plain}
 
 -- what a node keeps, beside those further out
 abbrev pub head_of : List (List Tier) → List Tier

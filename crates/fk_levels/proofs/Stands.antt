@@ -1,5 +1,5 @@
 -- What a processor has, beside what its node keeps of the spaces of groups and of the frames of calls.
-use Rattle.std.proofs.Common.{◌≡◌, ◌≢◌, ℕ, zero, suc, ◌+◌, ◌<◌, ◌≤◌, ◌==◌, Bool, true, false, true≢false, List, [], ◌∷◌, ◌++◌, length, map, Option, Some, None, refl, sym, ap, ap₂, ◌∙◌, subst, subst₂, arith, if◌then◌else◌}
+use Rattle.std.proofs.Common.{◌≡◌, ◌≢◌, ℕ, zero, suc, ◌<◌, ◌≤◌, ◌==◌, Bool, true, false, true≢false, List, [], ◌∷◌, ◌++◌, length, map, Option, Some, None, refl, sym, ap, ◌∙◌, subst, subst₂, arith, if◌then◌else◌}
 use Rattle.fk_space.specs.Space.{Space, frame, block}
 use Rattle.fk_store.specs.Serve.{words_of}
 use Rattle.fk_operation.specs.Kinds.{class_of}
@@ -7,15 +7,15 @@ use Rattle.fk_operation.specs.declared.operation.Operation.{Operation}
 use Rattle.fk_operation.specs.declared.operation.Operation.TheVariants as o
 use Rattle.fk_operation.specs.declared.kinds.Class.{Class}
 use Rattle.fk_operation.specs.declared.kinds.Class.TheVariants as class
-use Rattle.fk_run.specs.Processor.{Level, Processor, Setting, values, last}
+use Rattle.fk_run.specs.Processor.{Processor, Setting, values, last}
 use Rattle.fk_run.specs.Local.{local}
 use Rattle.fk_run.specs.Request.{with_answer}
 use Rattle.fk_run.specs.Group.{does}
 use Rattle.fk_run.specs.Round.{Step, Runner}
 use Rattle.fk_lockstep.specs.Untouched.{changes_tree}
 use Rattle.fk_together.proofs.Acting.{untrue, within}
-use Rattle.fk_levels.specs.Frames.{Calling, Enters, Leaves, Remains, calling, takes_space, is_own_frame, round_after, alone_after, NoDeeper, Higher, Calls, FramesGoOn, FramedNext, FramedFor, IsFramed}
-use Rattle.fk_levels.proofs.Tiers.{Tier, own_of, frames_in, spaces_in, top_of, rest_of, Kept, local_keeps, answer_keeps, plain_keeps, left_space, leave_makes, leave_outer, Makes, with_frame, with_allotted, with_words, plain_own, plain_makes, plain_same}
+use Rattle.fk_levels.specs.Frames.{Calling, Leaves, Remains, calling, takes_space, is_own_frame, round_after, alone_after, NoDeeper, Higher, Calls, FramesGoOn, FramedNext, FramedFor, IsFramed}
+use Rattle.fk_levels.proofs.Tiers.{Tier, own_of, spaces_in, rest_of, Kept, local_keeps, answer_keeps, plain_keeps, left_space, leave_makes, leave_outer, with_frame, with_allotted, with_words, plain_own, plain_makes}
 
 -- the own group's, and those of the groups round it
 pub record Tiers : Type 0 where

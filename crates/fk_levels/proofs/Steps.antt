@@ -1,5 +1,5 @@
 -- What the steps of the tree that change it make of what one processor has.
-use Rattle.std.proofs.Common.{◌≡◌, ◌≢◌, ℕ, zero, suc, ◌+◌, ◌<◌, ◌≤◌, ◌==◌, Bool, true, false, true≢false, List, [], ◌∷◌, ◌++◌, length, map, Option, Some, None, refl, sym, ap, ap₂, ◌∙◌, subst, subst₂, arith, if◌then◌else◌}
+use Rattle.std.proofs.Common.{◌≡◌, ◌≢◌, ℕ, zero, suc, ◌==◌, Bool, true, false, true≢false, List, [], ◌∷◌, ◌++◌, length, Option, Some, None, refl, sym, ap, ap₂, ◌∙◌, subst, subst₂, if◌then◌else◌}
 use Rattle.fk_space.specs.Space.{Space, child}
 use Rattle.fk_operation.specs.declared.operation.Operation.{Operation}
 use Rattle.fk_operation.specs.declared.operation.Operation.TheVariants as o
@@ -9,9 +9,9 @@ use Rattle.fk_run.specs.Processor.{Level, Processor, values, last, drop_last, en
 use Rattle.fk_run.specs.Group.{parts, part, enters, divided, start_level, with_size}
 use Rattle.fk_run.specs.Round.{Step, Runner}
 use Rattle.fk_together.proofs.Acting.{untrue, within}
-use Rattle.fk_levels.specs.Frames.{round_after, alone_after, one_less, is_none_round, AsDeep, FramesGoOn, FramedFor, IsFramed}
+use Rattle.fk_levels.specs.Frames.{round_after, alone_after, one_less, is_none_round, FramedFor, IsFramed}
 use Rattle.fk_levels.proofs.Tiers.{Tier, own_of, spaces_in}
-use Rattle.fk_levels.proofs.Stands.{Tiers, all_of, spaces_of, Link, Links, no_more, Marks, At, InIt, Alone, marked_of, GoOn}
+use Rattle.fk_levels.proofs.Stands.{Tiers, all_of, spaces_of, Link, Links, no_more, Marks, At, InIt, Alone, GoOn}
 
 abbrev pub part_of : Tiers → (k j : ℕ) → Tiers
 part_of x k j = record { own = record { space = child x.own.space k j; frames = x.own.frames }; round = all_of x }

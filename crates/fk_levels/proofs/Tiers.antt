@@ -1,5 +1,5 @@
 -- What a processor has of its own group's space and of its calls' frames, and what operations make of it.
-use Rattle.std.proofs.Common.{◌≡◌, ◌≢◌, ℕ, zero, suc, ◌+◌, ◌-◌, ◌<◌, ◌≤◌, ◌==◌, nat_lt, Bool, true, false, true≢false, List, [], ◌∷◌, ◌++◌, length, map, Option, Some, None, refl, sym, ap, ap₂, ◌∙◌, subst, arith, if◌then◌else◌}
+use Rattle.std.proofs.Common.{◌≡◌, ℕ, zero, suc, ◌+◌, ◌-◌, ◌≤◌, ◌==◌, nat_lt, Bool, true, false, true≢false, List, [], ◌∷◌, length, map, Option, Some, None, refl, ap, arith, if◌then◌else◌}
 use Rattle.std.proofs.lemmas.Bool.{ne_eqb}
 use Rattle.fk_space.specs.Space.{Space, frame, block}
 use Rattle.fk_store.specs.Store.{private_words, private_address}
@@ -9,12 +9,11 @@ use Rattle.fk_operation.specs.declared.operation.Operation.TheVariants as o
 use Rattle.fk_operation.specs.declared.operation.Variable.{Variable}
 use Rattle.fk_operation.specs.declared.operation.Variable.TheVariants as v
 use Rattle.fk_run.specs.Processor.{Level, Call, Processor, Setting, values, last, in_place}
-use Rattle.fk_run.specs.Local.{local, taken, stored, handed, unframed, to_caller}
+use Rattle.fk_run.specs.Local.{local, taken, stored, unframed, to_caller}
 use Rattle.fk_run.specs.Request.{with_answer}
 use Rattle.fk_run.specs.Group.{does, with_block, allotted, framed}
 use Rattle.fk_lockstep.specs.Untouched.{changes_tree}
-use Rattle.fk_together.proofs.Acting.{untrue}
-use Rattle.fk_levels.specs.Frames.{Calling, Enters, Leaves, Remains, calling, takes_space, is_own_frame}
+use Rattle.fk_levels.specs.Frames.{Remains, calling, takes_space}
 
 -- a group's space, and the frames of a processor's calls, the running one first
 pub record Tier : Type 0 where

@@ -1,11 +1,10 @@
 -- The law of one space, round after round.
-use Rattle.std.proofs.Common.{◌≡◌, ◌≢◌, ⊎_elim, inl, inr, ℕ, zero, suc, ◌+◌, ◌<◌, ◌≤◌, ◌==◌, ◌&&◌, nat_lt, Bool, true, false, not, List, [], ◌∷◌, length, map, slice_get, Option, Some, None, refl, sym, ap, ◌∙◌, subst, arith, if◌then◌else◌}
+use Rattle.std.proofs.Common.{◌≡◌, ◌≢◌, ⊎_elim, inr, ℕ, zero, suc, ◌+◌, ◌<◌, ◌≤◌, ◌&&◌, nat_lt, Bool, true, false, not, List, [], ◌∷◌, length, map, slice_get, Option, Some, None, refl, sym, ap, ◌∙◌, subst, arith, if◌then◌else◌}
 use Rattle.std.specs.Prelude.{option_map}
 use Rattle.std.proofs.lemmas.Bool.{lt-ltb}
 use Rattle.fk_num.specs.Word.{Memory}
-use Rattle.fk_operation.specs.declared.operation.Operation.{Operation}
 use Rattle.fk_tree.specs.declared.node.Kind.{Kind}
-use Rattle.fk_tree.specs.declared.node.Kind.TheVariants.{Lockstep, Waiting, Asynchronous}
+use Rattle.fk_tree.specs.declared.node.Kind.TheVariants.{Lockstep, Asynchronous}
 use Rattle.fk_tree.specs.Tree as t
 use Rattle.fk_tree.specs.Tree.{Tree, members, kind, is_member, below, root, node_of}
 use Rattle.fk_tree.specs.Sound.{Has}
@@ -17,7 +16,7 @@ use Rattle.fk_run.specs.Processor.{Level, Processor, Setting, setting_of, group_
 use Rattle.fk_run.specs.Round.{Step, Runner, Fault, State, Round, Acting, lowest, tree_phase, result, is_possible, IsStopped}
 use Rattle.fk_run.specs.Schedule.{Schedule, beginners, opening, run, ArePossible}
 use Rattle.fk_run.proofs.Stopped.{stopped_faults}
-use Rattle.fk_lockstep.specs.Together.{SameLevel, SameLevels}
+use Rattle.fk_lockstep.specs.Together.{SameLevels}
 use Rattle.fk_lockstep.proofs.Rounds.{settled_at}
 use Rattle.fk_together.specs.Counts.{Counts, ArePending, IsCounted}
 use Rattle.fk_together.specs.Course.{ByItself, Follows}
@@ -30,7 +29,7 @@ use Rattle.fk_together.proofs.Whole as together
 use Rattle.fk_levels.specs.Frames.{IsFramed}
 use Rattle.fk_levels.specs.OneSpace.{HaveSameLevels, MembersHaveOneSpace, WaitersHaveOneSpace, GroupsHaveOneSpace}
 use Rattle.fk_levels.proofs.Tiers.{Tier, own_of, spaces_in}
-use Rattle.fk_levels.proofs.Stands.{Tiers, all_of, InIt, Alone}
+use Rattle.fk_levels.proofs.Stands.{Tiers, all_of, InIt}
 use Rattle.fk_levels.proofs.Quiet.{Ordinary, Outer, Single}
 use Rattle.fk_levels.proofs.Numbers.{does_number}
 use Rattle.fk_levels.proofs.Changed.{Tiered, last_tiered}
