@@ -4,7 +4,7 @@ use Rattle.std.specs.Prelude.{option_map}
 use Rattle.std.proofs.lemmas.Bool.{lt-ltb}
 use Rattle.fk_num.specs.Word.{Memory}
 use Rattle.fk_tree.specs.declared.node.Kind.{Kind}
-use Rattle.fk_tree.specs.declared.node.Kind.TheVariants.{Lockstep, Asynchronous}
+use Rattle.fk_tree.specs.declared.node.Kind.TheVariants.{Lockstep, Waiting, Asynchronous}
 use Rattle.fk_tree.specs.Tree as t
 use Rattle.fk_tree.specs.Tree.{Tree, members, kind, is_member, below, root, node_of}
 use Rattle.fk_tree.specs.Sound.{Has}
@@ -27,9 +27,9 @@ use Rattle.fk_together.proofs.Round.{first_is, some_at, at_below, lowest_member,
 use Rattle.fk_together.proofs.Changes.{ends_none, mids}
 use Rattle.fk_together.proofs.Whole as together
 use Rattle.fk_levels.specs.Frames.{IsFramed}
-use Rattle.fk_levels.specs.OneSpace.{HaveSameLevels, MembersHaveOneSpace, WaitersHaveOneSpace, GroupsHaveOneSpace}
+use Rattle.fk_levels.specs.OneSpace.{HaveSameLevels, spaces_of, MembersHaveOneSpace, WaitersHaveOneSpace, NodesHaveOneSpace, GroupsHaveOneSpace}
 use Rattle.fk_levels.proofs.Tiers.{Tier, own_of, spaces_in}
-use Rattle.fk_levels.proofs.Stands.{Tiers, all_of, InIt}
+use Rattle.fk_levels.proofs.Stands.{Tiers, all_of, spaces_of as spaces_by, At, InIt, marked_of}
 use Rattle.fk_levels.proofs.Quiet.{Ordinary, Outer, Single}
 use Rattle.fk_levels.proofs.Numbers.{does_number}
 use Rattle.fk_levels.proofs.Changed.{Tiered, last_tiered}
@@ -105,6 +105,32 @@ module _ {W : Type 0} (next : W → Option (Step W)) (outs : W → List W) (coun
       (subst (λ (m : ℕ). ThereAt all_of (Ordinary next outs counts depth set) (Outer next outs counts depth set) (Single next outs counts depth set) (InIt next outs depth) p s.tree good.keeps good.round_it m u) (sym place)
       (good.levels.there k u lt' u_is)) in
       both_same (good.keeps (s.tree.places g)) r q (is_there g refl r r_is) (is_there h same q q_is) (one.waiters g h first parts r q same waits r_is q_is).1
+
+  -- all who are at one node
+  at_spaces : (marked : List Tier) (alone : Bool) (more : List ℕ) (x : Tiers) (r : Runner W) → At next outs depth marked alone more x r → spaces_of r.has ≡ spaces_by (all_of x)
+  at_spaces marked alone more x r a = both (ap (λ (u : Tier). u.space) a.own) a.outer
+    where
+      both : {s s' : Space} {ss ss' : List Space} → s ≡ s' → ss ≡ ss' → s ∷ ss ≡ s' ∷ ss'
+      both e f = cc
+
+  there_spaces : (p n : ℕ) (k : Option Kind) (b : List (List Tier)) (x : Tiers) (r : Runner W)
+      → IsThere all_of (Ordinary next outs counts depth set) (Outer next outs counts depth set) (Single next outs counts depth set) (InIt next outs depth) p n k b x r
+      → spaces_of r.has ≡ spaces_by (all_of x)
+  there_spaces p n None b x r a = at_spaces x.round false [] x r a
+  there_spaces p n (Some Lockstep) b x r a = at_spaces x.round false [] x r a
+  there_spaces p n (Some (Waiting first parts)) b x r a = at_spaces x.round false [] x r a
+  there_spaces p n (Some (Asynchronous alone)) b x r a = at_spaces (marked_of next outs depth n x) true a.1.more x r a.1.at
+
+  good_nodes : (p : ℕ) (s : State W) → Good p s → NodesHaveOneSpace s
+  good_nodes p s good g h r q same r_is q_is =
+      let spaces : (k : ℕ) (u : Runner W) → slice_get s.runners k ≡ Some u → spaces_of u.has ≡ spaces_by (all_of (good.keeps (s.tree.places k)))
+      = λ k u u_is.
+      let size = good.many in
+      let lt = at_below s.runners k u u_is in
+      let lt' : k < p = omega (arith, size, lt) in
+      let n = s.tree.places k in
+      there_spaces p n (kind s.tree n) (good.round_it n) (good.keeps n) u (good.levels.there k u lt' u_is) in
+      spaces g r r_is ∙ ap (λ (n : ℕ). spaces_by (all_of (good.keeps n))) same ∙ sym (spaces h q q_is)
 
   module _ (round : Round) (s : State W) (p : ℕ) (good : Good p s) (possible : is_possible next set round s ≡ true) where
     ordered : Ordered next outs counts set round s p
@@ -319,4 +345,4 @@ groups_have_one_space W next outs program follows counts nothing counted depth o
     let good = good_run next outs counts depth set schedule processors (opening processors globals input firsts program)
     (good_start next outs counts depth set program follows nothing counted outermost framed processors globals input firsts some) lawful.possible none in
     let one = together.groups_have_one_program W next outs program follows counts nothing counted set schedule processors globals input firsts some lawful none in
-    record { members = good_members next outs counts depth set processors end good one; waiters = good_waiters next outs counts depth set processors end good one }
+    record { members = good_members next outs counts depth set processors end good one; waiters = good_waiters next outs counts depth set processors end good one; nodes = good_nodes next outs counts depth set processors end good }

@@ -33,13 +33,9 @@ abbrev pub is_start : Operation → Bool
 is_start o.Begin = true
 is_start op = false
 
--- behind these there is where others are met
-abbrev pub opens : Operation → Bool
-opens (o.Divide by) = true
-opens o.Begin = true
-opens o.Farm = true
-opens o.Seq = true
-opens op = false
+abbrev pub is_split : Operation → Bool
+is_split (o.Divide by) = true
+is_split op = false
 
 abbrev pub one_less : ℕ → ℕ
 one_less zero = zero
@@ -92,13 +88,13 @@ module _ {W : Type 0} (next : W → Option (Step W)) (outs : W → List W) (dept
 
   module _ (Framed : (round : ℕ) → (alone : Bool) → W → Type 0) where
     -- who runs by itself takes no words of its group's space. A function takes its frame in the part that it was called in.
-    -- A `start` stands in `main`, and others are met in the same call
+    -- A `start` stands in `main`, and others wait for a part in the call in which it was entered
     pub record FramesGoOn (round : ℕ) (alone : Bool) (op : Operation) (here : W) (rest : Bool → W) : Type 0 where
       pub calls : Calls (calling op) here rest
       pub in_group : takes_space op ≡ true → alone ≡ false
       pub own : is_own_frame op ≡ true → Higher (depth here) (outs here)
       pub outermost : is_start op ≡ true → depth here ≡ 0
-      pub met : opens op ≡ true → AsDeep (depth here) (outs (rest true))
+      pub met : is_split op ≡ true → AsDeep (depth here) (outs (rest true))
       pub goes_on : (onward : Bool) → Framed (round_after op onward round) (alone_after op round alone) (rest onward)
 
     abbrev pub FramedNext : (round : ℕ) → (alone : Bool) → (here : W) → Option (Step W) → Type 0

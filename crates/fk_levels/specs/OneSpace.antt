@@ -1,6 +1,7 @@
 -- Groups whose members have one space.
-use Rattle.std.specs.Prelude.{◌≡◌, ℕ, ◌≤◌, true, false, List, [], Option, Some, None, slice_get}
+use Rattle.std.specs.Prelude.{◌≡◌, ℕ, ◌≤◌, true, false, List, [], ◌∷◌, map, Option, Some, None, slice_get}
 use Rattle.fk_num.specs.Word.{Memory}
+use Rattle.fk_space.specs.Space.{Space}
 use Rattle.fk_tree.specs.Tree as t
 use Rattle.fk_tree.specs.Tree.{is_member}
 use Rattle.fk_tree.specs.declared.node.Kind.TheVariants.{Lockstep, Waiting}
@@ -15,6 +16,10 @@ use Rattle.fk_levels.specs.Frames.{IsFramed}
 -- levels of the own group, and of each group round it, that differ in `$` alone
 abbrev pub HaveSameLevels : Processor → Processor → Type 0
 HaveSameLevels p q = SameLevel p.level q.level × SameLevels p.outer q.outer
+
+-- the space of the own group, and that of each group round it
+abbrev pub spaces_of : Processor → List Space
+spaces_of p = map (λ l. l.space) (p.level ∷ p.outer)
 
 module _ {W : Type 0} where
   -- two members of a group in lockstep have them
@@ -32,9 +37,17 @@ module _ {W : Type 0} where
       → slice_get s.runners g ≡ Some r → slice_get s.runners h ≡ Some q
       → HaveSameLevels r.has q.has
 
+  -- and all who are at one node, by themselves too, have the same spaces
+  abbrev pub NodesHaveOneSpace : State W → Type 0
+  NodesHaveOneSpace s =
+      (g h : ℕ) (r q : Runner W) → s.tree.places g ≡ s.tree.places h
+      → slice_get s.runners g ≡ Some r → slice_get s.runners h ≡ Some q
+      → spaces_of r.has ≡ spaces_of q.has
+
   pub record KeepOneSpace (s : State W) : Type 0 where
     pub members : MembersHaveOneSpace s
     pub waiters : WaitersHaveOneSpace s
+    pub nodes : NodesHaveOneSpace s
 
 -- after a lawful schedule without a stopped last round, which has a fault. In the beginning no call waits, no group is round
 -- that of all processors, and each of them runs by itself

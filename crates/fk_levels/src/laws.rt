@@ -4,7 +4,8 @@ ghost use Rattle.fk_levels.specs.OneSpace.{GroupsHaveOneSpace};
 
 /// After every lawful schedule without a stopped last round all members of a group in lockstep have
 /// levels that differ in `$` alone: of their group and of each group round it they have the same
-/// `@`, size and space. So have those who wait at one node.
+/// `@`, size and space. So have those who wait at one node. All who are at one node, by themselves
+/// too, have the same spaces.
 ///
 /// This is so in every form `W` in which it is kept what is left to do, of each program whose groups
 /// have one remaining program, and in which a function takes its group frame in a group that it was
