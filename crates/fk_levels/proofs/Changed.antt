@@ -533,13 +533,14 @@ module _ {W : Type 0} (next : W → Option (Step W)) (outs : W → List W) (coun
               leaves_part next outs depth y b f.in_it f.m.step'.rest (f.m.step'.rest true) (k.keeps up) b.has whole (f.does_op 0) ((f.goes 0).calls true)
               (λ j. (f.goes j).goes_on true) refl refl r' f.left f.has_op
 
+      -- either way leads into a body
+      outs_by : (here : W) (rest : Bool → W) (b : Bool) → outs (rest true) ≡ rest false ∷ outs here → outs (rest false) ≡ rest false ∷ outs here → outs (rest b) ≡ rest false ∷ outs here
+      outs_by here rest true e e' = e
+      outs_by here rest false e e' = e'
+
       sets_free : op ≡ o.Farm → After (changes o.Farm n (who actings) value i tree)
       sets_free e = turned (Asynchronous false) (idle-asynchronous false) (λ zero'. free-asynchronous false) tt inside
         where
-          outs_by : (here : W) (rest : Bool → W) (b : Bool) → outs (rest true) ≡ rest false ∷ outs here → outs (rest false) ≡ rest false ∷ outs here → outs (rest b) ≡ rest false ∷ outs here
-          outs_by here rest true e' e'' = e'
-          outs_by here rest false e' e'' = e''
-
           inside : (h : ℕ) (r' : Runner W) → Has tree n h → middles (suc i) h ≡ Some r' → HasKind (Some (Asynchronous false)) y r'
           inside h r' is e'' =
               let f = grouping o.Farm e h r' is e'' in
@@ -553,10 +554,6 @@ module _ {W : Type 0} (next : W → Option (Step W)) (outs : W → List W) (coun
       sends_one : op ≡ o.Seq → After (changes o.Seq n (who actings) value i tree)
       sends_one e = turned (Asynchronous true) (idle-asynchronous true) (λ zero'. free-asynchronous true) tt inside
         where
-          outs_by : (here : W) (rest : Bool → W) (b : Bool) → outs (rest true) ≡ rest false ∷ outs here → outs (rest false) ≡ rest false ∷ outs here → outs (rest b) ≡ rest false ∷ outs here
-          outs_by here rest true e' e'' = e'
-          outs_by here rest false e' e'' = e''
-
           inside : (h : ℕ) (r' : Runner W) → Has tree n h → middles (suc i) h ≡ Some r' → HasKind (Some (Asynchronous true)) y r'
           inside h r' is e'' =
               let f = grouping o.Seq e h r' is e'' in

@@ -31,7 +31,7 @@ use Rattle.fk_together.proofs.Trees.{NodeIs, IsThere, Inv, leaf_place}
 use Rattle.fk_together.proofs.Round.{first_is, all_at, lowest_member, index_at, some_at, actings as actings_of, settle as settle_of, new as new_of, has_at, Sound, Ordered, no_fault, quiet as quiet_of, now_has as now_has_of}
 use Rattle.fk_levels.specs.Frames.{Leaves, calling}
 use Rattle.fk_levels.proofs.Tiers.{Tier, plain_own}
-use Rattle.fk_levels.proofs.Stands.{Tiers, all_of, with_own, local_own, request_own, Marks, InIt, Alone, marked_of, GoOn, framed_so, in_local, in_request, in_plain, alone_local, alone_request, alone_plain}
+use Rattle.fk_levels.proofs.Stands.{Tiers, all_of, with_own, local_own, request_own, Marks, InIt, Alone, marked_of, GoOn, framed_so, in_local, in_request, in_plain, alone_local, alone_request, alone_plain, local_plain, local_not_tree, request_not_tree}
 
 -- what a node keeps, beside those further out
 abbrev pub head_of : List (List Tier) → List Tier
@@ -89,30 +89,6 @@ not_halt op is = λ e. cc
 not_halt' : (op : Operation) → class_of op ≡ class.Request → op ≢ o.Halt
 not_halt' o.Halt is = absurd (cc)
 not_halt' op is = λ e. cc
-
-plain_local : (op : Operation) → class_of op ≡ class.Local → changes_tree op ≡ false
-plain_local o.Begin is = absurd (cc)
-plain_local (o.Divide by) is = absurd (cc)
-plain_local o.Shrink is = absurd (cc)
-plain_local o.End is = absurd (cc)
-plain_local o.Farm is = absurd (cc)
-plain_local o.Seq is = absurd (cc)
-plain_local o.Resume is = absurd (cc)
-plain_local (o.Meet true) is = absurd (cc)
-plain_local (o.Meet false) is = refl
-plain_local op is = refl
-
-plain_request : (op : Operation) → class_of op ≡ class.Request → changes_tree op ≡ false
-plain_request o.Begin is = absurd (cc)
-plain_request (o.Divide by) is = absurd (cc)
-plain_request o.Shrink is = absurd (cc)
-plain_request o.End is = absurd (cc)
-plain_request o.Farm is = absurd (cc)
-plain_request o.Seq is = absurd (cc)
-plain_request o.Resume is = absurd (cc)
-plain_request (o.Meet true) is = absurd (cc)
-plain_request (o.Meet false) is = refl
-plain_request op is = refl
 
 abbrev value_of : Option ℕ → ℕ
 value_of None = 0
@@ -292,7 +268,7 @@ module _ {W : Type 0} (next : W → Option (Step W)) (outs : W → List W) (coun
         → Has1 (done step (is_onward step.operation r.has) (local set step.operation r.has)).runner
     one_local r h a step e c =
         alone_local next outs depth n y r a set step.operation step.rest (is_onward step.operation r.has) c (go_alone r a step e)
-        (alone_outs next outs (FollowsFor next outs 0) (within n) step.operation r.left step.rest (plain_local step.operation c) (not_halt step.operation c) (does_by_itself r h step e) (is_onward step.operation r.has))
+        (alone_outs next outs (FollowsFor next outs 0) (within n) step.operation r.left step.rest (local_plain step.operation class.Local c local_not_tree) (not_halt step.operation c) (does_by_itself r h step e) (is_onward step.operation r.has))
         (leave_onward step.operation r.has)
 
     pub lone_one : (r : Runner W) → Goes r → Has1 r → Has1 (after_locals next set 1 r)
@@ -326,7 +302,7 @@ module _ {W : Type 0} (next : W → Option (Step W)) (outs : W → List W) (coun
         one_request : (step : Step W) (w : ℕ) → next q.left ≡ Some step → class_of step.operation ≡ class.Request → Has1 (done step true (with_answer step.operation w q.has)).runner
         one_request step w e c =
             alone_request next outs depth n y q a w step.operation step.rest c (go_alone q a step e)
-            (alone_outs next outs (FollowsFor next outs 0) (within n) step.operation q.left step.rest (plain_request step.operation c) (not_halt' step.operation c) (does_by_itself q h step e) true)
+            (alone_outs next outs (FollowsFor next outs 0) (within n) step.operation q.left step.rest (local_plain step.operation class.Request c request_not_tree) (not_halt' step.operation c) (does_by_itself q h step e) true)
 
         outside : (m : ℕ) → within m ≡ false → (ws : List W) → Marks next outs depth ws (marked_of next outs depth m y)
         outside zero e ws = tt

@@ -62,7 +62,7 @@ pub no_more : (more fs : List ℕ) → length (more ++ fs) ≡ length fs → mor
 no_more [] fs e = refl
 no_more (m ∷ more) fs e = let more' = longer more fs in absurd (omega (arith, e, more'))
 
-local_plain : (op : Operation) (c : Class) → class_of op ≡ c → c ≢ class.Tree → changes_tree op ≡ false
+pub local_plain : (op : Operation) (c : Class) → class_of op ≡ c → c ≢ class.Tree → changes_tree op ≡ false
 local_plain o.Begin c is isnt = absurd (isnt (sym is))
 local_plain (o.Divide by) c is isnt = absurd (isnt (sym is))
 local_plain o.Shrink c is isnt = absurd (isnt (sym is))
@@ -90,10 +90,10 @@ alone_same (o.Meet true) n alone e = absurd (true≢false e)
 alone_same (o.Meet false) n alone e = refl
 alone_same op n alone e = refl
 
-local_not_tree : ◌≢◌ {A = Class} class.Local class.Tree
+pub local_not_tree : ◌≢◌ {A = Class} class.Local class.Tree
 local_not_tree e = cc
 
-request_not_tree : ◌≢◌ {A = Class} class.Request class.Tree
+pub request_not_tree : ◌≢◌ {A = Class} class.Request class.Tree
 request_not_tree e = cc
 
 allotted_frames : (t : Tier) (o' : Option (ℕ × Space)) → (with_allotted t o').frames ≡ t.frames

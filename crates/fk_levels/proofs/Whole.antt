@@ -11,7 +11,6 @@ use Rattle.fk_tree.specs.Sound.{Has}
 use Rattle.fk_tree.proofs.Shapes.{with_same, with_other, has_some, kind-node_of}
 use Rattle.fk_tree.proofs.RootSound.{root_sound}
 use Rattle.fk_tree.proofs.Turns.{leaf_by, idle-lockstep}
-use Rattle.fk_space.specs.Space.{Space}
 use Rattle.fk_run.specs.Processor.{Level, Processor, Setting, setting_of, group_space}
 use Rattle.fk_run.specs.Round.{Step, Runner, Fault, State, Round, Acting, lowest, tree_phase, result, is_possible, IsStopped}
 use Rattle.fk_run.specs.Schedule.{Schedule, beginners, opening, run, ArePossible}
@@ -40,6 +39,9 @@ first_same e = cc
 
 rest_same : {A : Type 0} {x y : A} {xs ys : List A} → x ∷ xs ≡ y ∷ ys → xs ≡ ys
 rest_same e = cc
+
+cons_same : {A : Type 0} {x y : A} {xs ys : List A} → x ≡ y → xs ≡ ys → x ∷ xs ≡ y ∷ ys
+cons_same e f = cc
 
 abbrev groups_in : List Level → List (ℕ × ℕ)
 groups_in ls = map (λ l. (l.number, l.size)) ls
@@ -77,10 +79,7 @@ module _ {W : Type 0} (next : W → Option (Step W)) (outs : W → List W) (coun
   both_same x r q a b e =
       let own : own_of r.has ≡ own_of q.has = a.own ∙ sym b.own in
       levels_same (r.has.level ∷ r.has.outer) (q.has.level ∷ q.has.outer) e
-      (two (ap (λ (u : Tier). u.space) own) (a.outer ∙ sym b.outer))
-    where
-      two : {s s' : Space} {ss ss' : List Space} → s ≡ s' → ss ≡ ss' → s ∷ ss ≡ s' ∷ ss'
-      two e' f' = cc
+      (cons_same (ap (λ (u : Tier). u.space) own) (a.outer ∙ sym b.outer))
 
   good_members : (p : ℕ) (s : State W) → Good p s → KeepOneProgram next p s → MembersHaveOneSpace s
   good_members p s good one n g h r q locked in_g in_h r_is q_is =
@@ -108,10 +107,7 @@ module _ {W : Type 0} (next : W → Option (Step W)) (outs : W → List W) (coun
 
   -- all who are at one node
   at_spaces : (marked : List Tier) (alone : Bool) (more : List ℕ) (x : Tiers) (r : Runner W) → At next outs depth marked alone more x r → spaces_of r.has ≡ spaces_by (all_of x)
-  at_spaces marked alone more x r a = both (ap (λ (u : Tier). u.space) a.own) a.outer
-    where
-      both : {s s' : Space} {ss ss' : List Space} → s ≡ s' → ss ≡ ss' → s ∷ ss ≡ s' ∷ ss'
-      both e f = cc
+  at_spaces marked alone more x r a = cons_same (ap (λ (u : Tier). u.space) a.own) a.outer
 
   there_spaces : (p n : ℕ) (k : Option Kind) (b : List (List Tier)) (x : Tiers) (r : Runner W)
       → IsThere all_of (Ordinary next outs counts depth set) (Outer next outs counts depth set) (Single next outs counts depth set) (InIt next outs depth) p n k b x r
