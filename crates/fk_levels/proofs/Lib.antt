@@ -1,0 +1,8 @@
+pub mod Tiers
+pub mod Stands
+pub mod Steps
+pub mod Quiet
+pub mod Changed
+pub mod Numbers
+pub mod Whole
+mod Example
