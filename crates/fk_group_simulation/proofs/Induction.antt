@@ -1,5 +1,5 @@
 -- Whole runs, over whatever is known of a machine beside a state: each cycle is a round, and the rounds so far are lawful.
-use Rattle.std.proofs.Common.{◌≡◌, ℕ, zero, suc, ◌+◌, ◌≤◌, List, [], ◌∷◌, ◌++◌, length, Option, Some, None, Bool, true, false, cond, sym, ap, subst, ◌∙◌, refl, arith, ◌⊎◌, inl, inr, ⊎_elim}
+use Rattle.std.proofs.Common.{◌≡◌, ℕ, zero, suc, List, [], ◌∷◌, ◌++◌, Some, None, Bool, true, false, cond, sym, ap, subst, ◌∙◌, refl, arith, ◌⊎◌, inl, inr, ⊎_elim}
 use Rattle.fk_run.specs.Processor.{Setting}
 use Rattle.fk_run.specs.Round.{State, Fault, Round, result, is_possible, IsStopped}
 use Rattle.fk_run.specs.Schedule.{Schedule, run, ArePossible, CouldAct, KeepsPace, IsLawful, all_done}

@@ -1,8 +1,7 @@
 -- The beginning: all harts are in the root, each on the way to its first commit.
-use Rattle.std.proofs.Common.{◌≡◌, ◌≢◌, ℕ, zero, suc, ◌+◌, ◌-◌, ◌≤◌, ◌<◌, List, [], ◌∷◌, length, Some, None, Bool, true, false, cond, sym, ap, subst, ◌∙◌, refl, arith, ◌⊎◌, ⊎_elim}
+use Rattle.std.proofs.Common.{◌≡◌, ◌≢◌, ℕ, zero, suc, ◌+◌, ◌-◌, ◌≤◌, ◌<◌, List, [], ◌∷◌, length, Some, None, Bool, true, false, cond, sym, ap, subst, ◌∙◌, refl, arith, ⊎_elim}
 use Rattle.std.specs.Prelude.{◌==◌, map, replicate, slice_index, is_some}
-use Rattle.std.proofs.lemmas.Bool.{cases_eq, ne_eqb, eqb-true, and_parts, cond-true, false≢true}
-use Rattle.fk_num.specs.Word.{Memory}
+use Rattle.std.proofs.lemmas.Bool.{cases_eq, ne_eqb, and_parts, cond-true, false≢true}
 use Rattle.fk_space.specs.Space.{Space}
 use Rattle.fk_tree.specs.declared.node.Kind.{Kind}
 use Rattle.fk_tree.specs.declared.node.Kind.TheVariants.{Asynchronous}
@@ -23,7 +22,7 @@ use Rattle.fk_machine.specs.Hart.{Hart, Setting as MachineSetting}
 use Rattle.fk_machine.specs.Cycle as machine
 use Rattle.fk_machine.specs.Cycle.{first_hart, all_ended}
 use Rattle.fk_nodes.specs.Node.{Member, numbered, add, of_node, AreAsMany}
-use Rattle.fk_meeting.specs.Phase.{Phase, Outside, Away, Coming, Waiting, Leaving, Each, IsIdle, Settled, members}
+use Rattle.fk_meeting.specs.Phase.{Phase, Outside, Away, Coming, Waiting, Leaving, Each, IsIdle, Settled}
 use Rattle.fk_meeting.proofs.Between.{words_open_at_zero}
 use Rattle.fk_plans.specs.Stage.{Stage, Ended, Acts, Meets, absent, kept, phase_of}
 use Rattle.fk_plans.specs.Plan.{Plan, Blocks, IsOpen, phases, phases_from, StandsAt, AllStandAt, Binds}

@@ -1,24 +1,24 @@
 -- The pace, from one round to the next.
-use Rattle.std.proofs.Common.{◌≡◌, ◌≢◌, ℕ, zero, suc, ◌+◌, ◌-◌, ◌≤◌, ◌<◌, List, [], ◌∷◌, ◌++◌, length, take, Option, Some, Bool, true, cond, sym, ap, subst, ◌∙◌, refl, arith, ◌⊎◌, inl, inr, ⊎_elim, length-append, eq-eqb}
-use Rattle.std.specs.Prelude.{◌==◌, slice_get, slice_index}
+use Rattle.std.proofs.Common.{◌≡◌, ◌≢◌, ℕ, zero, suc, ◌+◌, ◌-◌, ◌≤◌, ◌<◌, List, [], ◌∷◌, ◌++◌, length, take, Some, sym, ap, subst, refl, arith, ◌⊎◌, inl, inr, ⊎_elim, length-append}
+use Rattle.std.specs.Prelude.{slice_get, slice_index}
 use Rattle.std.proofs.lemmas.Bool.{cases_lt}
 use Rattle.std.proofs.lemmas.List.{take-append-le, take_all}
 use Rattle.std.proofs.lemmas.Option.{slice_get_within}
 use Rattle.fk_run.specs.Processor.{Setting}
 use Rattle.fk_run.specs.Round.{State, Round}
-use Rattle.fk_run.specs.Schedule.{Schedule, run, IsIn, CouldAct, KeepsPace}
+use Rattle.fk_run.specs.Schedule.{Schedule, run, CouldAct, KeepsPace}
 use Rattle.fk_core.specs.declared.op.CoreOp.{CoreOp}
 use Rattle.fk_core.specs.Next.{Position, next}
 use Rattle.fk_meeting.specs.Phase.{Phase, Outside, Away, Coming, Waiting, Leaving, Each, Leaves, IsDue}
 use Rattle.fk_meeting.specs.Meeting.{IsKept}
 use Rattle.fk_meeting.proofs.Leaving.{cycles_keep_arrivals}
-use Rattle.fk_plans.specs.Stage.{Ending, Commits, Unites, Stage, Meets, Acts, distance, counts_for, Pairwise, Nears, AllNear, kept, absent, phase_of}
-use Rattle.fk_plans.specs.Plan.{Plan, IsInside, phase_at, phases_from, phases}
+use Rattle.fk_plans.specs.Stage.{Ending, Commits, Unites, Stage, Meets, Acts, distance, counts_for, Nears, kept}
+use Rattle.fk_plans.specs.Plan.{Plan, IsInside, phases_from, phases}
 use Rattle.fk_plans.proofs.Pace.{who_is_near_acts}
 use Rattle.fk_group_law.specs.Joint.{lead}
 use Rattle.fk_group_rounds.specs.Comes.{most_between}
 use Rattle.fk_group_simulation.proofs.Stages.{related_at, kept_get, meets_get}
-use Rattle.fk_group_simulation.specs.Pace.{most_united, behind_leaving, Sight, StandsAtWord, MovesOn, HasUnited, Turns, IsNear, MeetsAll, ActsWithin, IsInSince, IsToCommit, CouldActSince, AreWaiting, PacesGoOn, PacesAreKept}
+use Rattle.fk_group_simulation.specs.Pace.{most_united, behind_leaving, Sight, StandsAtWord, MovesOn, Turns, ActsWithin, IsInSince, CouldActSince, AreWaiting, PacesGoOn, PacesAreKept}
 
 -- ---- elements of lists
 

@@ -1,23 +1,23 @@
 -- Behind a cycle those who meet have moved, and all are in time.
-use Rattle.std.proofs.Common.{◌≡◌, ◌≢◌, ℕ, zero, suc, ◌+◌, ◌≤◌, ◌<◌, ◌^◌, List, [], ◌∷◌, length, Option, Some, None, Bool, true, false, sym, ap, subst, ◌∙◌, refl, arith, ⊎_elim, eq-eqb}
+use Rattle.std.proofs.Common.{◌≡◌, ◌≢◌, ℕ, zero, suc, ◌+◌, ◌<◌, ◌^◌, List, [], ◌∷◌, length, Option, Some, None, Bool, true, false, sym, ap, subst, ◌∙◌, refl, arith, ⊎_elim, eq-eqb}
 use Rattle.std.specs.Prelude.{◌==◌, ◌&&◌, slice_get}
 use Rattle.std.proofs.lemmas.Option.{slice_get_within}
 use Rattle.fk_num.specs.Word.{Memory}
 use Rattle.fk_image.specs.declared.Image.{Image}
 use Rattle.fk_machine.specs.Hart.{Hart, Setting}
-use Rattle.fk_nodes.specs.Node.{Member, numbered, AreAsMany, Has}
+use Rattle.fk_nodes.specs.Node.{Member, numbered, Has}
 use Rattle.fk_nodes.specs.Source.{Source}
 use Rattle.fk_nodes.specs.Alone.{later}
-use Rattle.fk_meeting.specs.Phase.{Phase, Outside, Away, Coming, Waiting, Leaving, is_odd, word_after, polled, Moves, AllMove, Settled}
-use Rattle.fk_plans.specs.Stage.{Ending, Commits, Unites, Stage, Ended, Acts, Meets, distance, count_of_stage, IsOver, Remains, kept}
-use Rattle.fk_plans.specs.Plan.{Plan, Blocks, IsInside, IsOpen, phases, told_by, IsBound}
+use Rattle.fk_meeting.specs.Phase.{Phase, Outside, Away, Coming, Waiting, Leaving, is_odd, word_after, polled, Moves, AllMove}
+use Rattle.fk_plans.specs.Stage.{Ending, Commits, Unites, Stage, Ended, Acts, Meets, count_of_stage, IsOver, Remains, kept}
+use Rattle.fk_plans.specs.Plan.{Plan, Blocks, IsInside, phases, told_by, IsBound}
 use Rattle.fk_plans.specs.Cycle.{IsLeft}
-use Rattle.fk_plans.specs.Change.{AllAreNew, MeetingStays, Changes, AllChange, TreeChanges, GoesOn}
+use Rattle.fk_plans.specs.Change.{AllAreNew, Changes, AllChange, TreeChanges, GoesOn}
 use Rattle.fk_plans.proofs.Changes.{plan_goes_on}
 use Rattle.fk_group_law.specs.Joint.{lead}
 use Rattle.fk_group_rounds.proofs.Agreed.{some_elem}
 use Rattle.fk_group_rounds.proofs.Groups.{many_length}
-use Rattle.fk_group_simulation.specs.Pace.{IsInTime, AreInTime, Sight, StandsAtWord, MovesOn, Turns}
+use Rattle.fk_group_simulation.specs.Pace.{IsInTime, AreInTime, MovesOn, Turns}
 use Rattle.fk_group_simulation.specs.Turning.{AreFreshInTime, NobodyHasUnited, PlansTurn}
 use Rattle.fk_group_simulation.proofs.Stages.{related_at, kept_get, meets_get, free_there, meets_there}
 
