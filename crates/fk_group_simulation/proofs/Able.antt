@@ -1,11 +1,10 @@
 -- Who could act is to commit in time.
-use Rattle.std.proofs.Common.{◌≡◌, ◌≢◌, ℕ, zero, suc, ◌+◌, ◌-◌, ◌≤◌, ◌<◌, List, [], ◌∷◌, length, Option, Some, None, Bool, true, false, cond, sym, ap, subst, ◌∙◌, refl, arith, ◌⊎◌, inl, inr, ⊎_elim, eq-eqb}
+use Rattle.std.proofs.Common.{◌≡◌, ℕ, zero, suc, ◌+◌, ◌-◌, ◌≤◌, ◌<◌, List, [], ◌∷◌, length, Option, Some, None, Bool, true, false, cond, sym, ap, subst, ◌∙◌, refl, arith, inl, inr, ⊎_elim, eq-eqb}
 use Rattle.std.specs.Prelude.{◌%◌, ◌==◌, ◌&&◌, nat_lt, map, slice_get, slice_index, is_some, is_none}
 use Rattle.std.specs.List.{list_all}
-use Rattle.std.proofs.lemmas.Bool.{cases_Bool, cases_eq, eqb-true, ne_eqb, and_parts, or_cases, or_left, or_right, false≢true}
+use Rattle.std.proofs.lemmas.Bool.{cases_Bool, cases_eq, eqb-true, ne_eqb, and_parts, or_cases, or_left, false≢true}
 use Rattle.std.proofs.lemmas.List.{length-map}
 use Rattle.std.proofs.lemmas.Option.{slice_get_within}
-use Rattle.fk_num.specs.Word.{Memory}
 use Rattle.fk_space.specs.Space.{Space}
 use Rattle.fk_tree.specs.declared.node.Kind.{Kind}
 use Rattle.fk_tree.specs.declared.node.Kind.TheVariants.{Lockstep, Waiting, Asynchronous}
@@ -25,17 +24,17 @@ use Rattle.fk_core.specs.declared.op.CoreOp.{CoreOp}
 use Rattle.fk_core.specs.Next.{Position, next}
 use Rattle.fk_image.specs.declared.Image.{Image}
 use Rattle.fk_machine.specs.Hart.{Hart, Shared, Setting as MachineSetting}
-use Rattle.fk_nodes.specs.Node.{Member, numbered, add, of_node, AreAsMany}
+use Rattle.fk_nodes.specs.Node.{numbered, of_node}
 use Rattle.fk_meeting.specs.Phase.{Phase, Outside, Away, Coming, Waiting as Polling, Leaving, Each, HasTime}
-use Rattle.fk_plans.specs.Stage.{Ending, Commits, Unites, Stage, Ended, Acts, Meets, distance, kept, absent, phase_of}
-use Rattle.fk_plans.specs.Plan.{Plan, Blocks, IsInside, IsOpen, phase_at, phases_from, phases, StandsAt, AllStandAt, AllAct, Binds, InLockstep}
+use Rattle.fk_plans.specs.Stage.{Ending, Commits, Unites, Stage, Ended, Acts, Meets, distance, kept, phase_of}
+use Rattle.fk_plans.specs.Plan.{Plan, Blocks, IsInside, IsOpen, phase_at, phases_from, phases, InLockstep}
 use Rattle.fk_block_law.specs.Owner.{Owner, Doing, core_source}
 use Rattle.fk_block_law.specs.Stands.{Places}
 use Rattle.fk_group_law.specs.Node.{Nestings}
 use Rattle.fk_group_law.specs.Joint.{lead}
 use Rattle.fk_group_plans.specs.Nodes.{first_of, meeters_at, is_arrival, is_lockstep, plan_of, united}
 use Rattle.fk_group_plans.specs.Behind.{blocks_of}
-use Rattle.fk_group_plans.specs.Rounds.{closing_joint, joint_at_word, ending_of, MeetsAtWord, IsDueAt, AllDue}
+use Rattle.fk_group_plans.specs.Rounds.{joint_at_word, ending_of, MeetsAtWord, IsDueAt, AllDue}
 use Rattle.fk_group_plans.specs.Laws.{TellsMeeters}
 use Rattle.fk_group_plans.proofs.Nodes.{tells}
 use Rattle.fk_group_plans.proofs.Rounds.{alive, not_none, given}
@@ -48,7 +47,7 @@ use Rattle.fk_group_runs.specs.Beside.{landed_runner}
 use Rattle.fk_group_runs.specs.Union.{IsUnited}
 use Rattle.fk_group_runs.specs.Follow.{IsFollowed}
 use Rattle.fk_group_runs.proofs.Landed.{next_landed}
-use Rattle.fk_group_simulation.specs.Pace.{most_to_word, behind_leaving, IsInTime, AreInTime, Sight, StandsAtWord, ActsWithin}
+use Rattle.fk_group_simulation.specs.Pace.{behind_leaving, IsInTime, AreInTime, ActsWithin}
 use Rattle.fk_group_simulation.proofs.Stages.{acts_there, free_there, meets_there}
 use Rattle.fk_group_simulation.proofs.Turning.{in_time_at}
 use Rattle.fk_group_simulation.specs.Able.{WhoWaitsResumes, sight_of, united_sight_of, WhoCouldActWill, WhoHasUnitedWill}

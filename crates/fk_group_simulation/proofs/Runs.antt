@@ -1,12 +1,12 @@
 -- Machines follow core runs with groups.
-use Rattle.std.proofs.Common.{◌≡◌, ℕ, zero, suc, ◌+◌, ◌≤◌, ◌<◌, ◌^◌, List, [], ◌∷◌, ◌++◌, length, Option, Some, None, Bool, true, false, cond, sym, ap, subst, ◌∙◌, refl, arith, ◌⊎◌, inl, inr, ⊎_elim}
+use Rattle.std.proofs.Common.{◌≡◌, ℕ, zero, suc, ◌≤◌, ◌<◌, ◌^◌, List, [], ◌∷◌, ◌++◌, length, None, Bool, true, false, cond, sym, ap, subst, ◌∙◌, refl, arith, ◌⊎◌, inl, inr, ⊎_elim}
 use Rattle.std.specs.Prelude.{◌&&◌, map, replicate, is_none}
 use Rattle.std.proofs.lemmas.List.{append-nil}
 use Rattle.fk_space.specs.Space.{Space}
 use Rattle.fk_tree.specs.Tree.{Tree}
 use Rattle.fk_run.specs.Processor.{Setting, setting_of}
 use Rattle.fk_operation.specs.declared.operation.Operation.TheVariants.{Begin}
-use Rattle.fk_run.specs.Round.{Runner, State, cut, result, is_possible, IsStopped}
+use Rattle.fk_run.specs.Round.{Runner, State, result, is_possible, IsStopped}
 use Rattle.fk_run.specs.Schedule.{Schedule, SourceRunning, SourceFinished, SourceFaulted, run, CouldAct, IsLawful, all_done, stand_by}
 use Rattle.fk_core.specs.declared.op.CoreOp.{CoreOp}
 use Rattle.fk_core.specs.Next.{Position, position, landing, next, opening}
@@ -35,11 +35,10 @@ use Rattle.fk_group_runs.proofs.Landed.{next_landed}
 use Rattle.fk_group_runs.proofs.Follow.{cycles_follow_rounds}
 use Rattle.fk_group_runs.proofs.Starts.{cycles_follow_starts}
 use Rattle.fk_group_runs.proofs.Machines.{machines_follow_rounds, machines_follow_starts}
-use Rattle.fk_simulation.specs.Follows.{StandsAgree, Agrees, Follows}
-use Rattle.fk_group_simulation.specs.Opening.{OpensWith}
-use Rattle.fk_group_simulation.specs.Pace.{AreInTime, Sight, Turns, ActsWithin}
+use Rattle.fk_simulation.specs.Follows.{StandsAgree, Agrees}
+use Rattle.fk_group_simulation.specs.Pace.{AreInTime, Sight, ActsWithin}
 use Rattle.fk_group_simulation.specs.Able.{WhoWaitsResumes}
-use Rattle.fk_group_simulation.specs.Runs.{sight_in, GoesBeside, IsRound, AlwaysGoesFurther, MachinesFollowGroupRuns, places_in, tree_behind, IsOrderly, OrderlyRoundsGoFurther}
+use Rattle.fk_group_simulation.specs.Runs.{sight_in, GoesBeside, IsRound, AlwaysGoesFurther, MachinesFollowGroupRuns, places_in, tree_behind, OrderlyRoundsGoFurther}
 use Rattle.fk_group_simulation.proofs.Able.{who_could_act_will, who_has_united_will}
 use Rattle.fk_group_simulation.proofs.Induction.{IsGoing, IsOver, IsBroken, IsWhole, follows_from}
 
