@@ -3,6 +3,7 @@ use Rattle.std.proofs.Common.{◌≡◌, ℕ, zero, suc, ◌+◌, ◌-◌, ◌�
 use Rattle.std.specs.Prelude.{◌%◌, ◌==◌, ◌&&◌, nat_lt, map, slice_get, slice_index, is_some, is_none}
 use Rattle.std.specs.List.{list_all}
 use Rattle.std.proofs.lemmas.Bool.{cases_Bool, cases_eq, eqb-true, ne_eqb, and_parts, or_cases, or_left, false≢true}
+use Rattle.std.proofs.lemmas.List.{length-map}
 use Rattle.std.proofs.lemmas.Option.{slice_get_within}
 use Rattle.fk_space.specs.Space.{Space}
 use Rattle.fk_tree.specs.declared.node.Kind.{Kind}
@@ -23,14 +24,15 @@ use Rattle.fk_core.specs.declared.op.CoreOp.{CoreOp}
 use Rattle.fk_core.specs.Next.{Position, next}
 use Rattle.fk_image.specs.declared.Image.{Image}
 use Rattle.fk_machine.specs.Hart.{Hart, Shared, Setting as MachineSetting}
+use Rattle.fk_nodes.specs.Node.{numbered, of_node}
 use Rattle.fk_meeting.specs.Phase.{Phase, Outside, Away, Coming, Waiting as Polling, Leaving, Each, HasTime}
-use Rattle.fk_plans.specs.Stage.{Ending, Commits, Unites, Stage, Ended, Acts, Meets, kept, phase_of}
-use Rattle.fk_plans.specs.Plan.{Plan, Blocks, IsInside, IsOpen, phase_at, phases_from, phases}
+use Rattle.fk_plans.specs.Stage.{Ending, Commits, Unites, Stage, Ended, Acts, Meets, distance, kept, phase_of}
+use Rattle.fk_plans.specs.Plan.{Plan, Blocks, IsInside, IsOpen, phase_at, phases_from, phases, InLockstep}
 use Rattle.fk_block_law.specs.Owner.{Owner, Doing, core_source}
 use Rattle.fk_block_law.specs.Stands.{Places}
 use Rattle.fk_group_law.specs.Node.{Nestings}
 use Rattle.fk_group_law.specs.Joint.{lead}
-use Rattle.fk_group_plans.specs.Nodes.{first_of, meeters_at, is_arrival, is_lockstep, plan_of}
+use Rattle.fk_group_plans.specs.Nodes.{first_of, meeters_at, is_arrival, is_lockstep, plan_of, united}
 use Rattle.fk_group_plans.specs.Behind.{blocks_of}
 use Rattle.fk_group_plans.specs.Rounds.{joint_at_word, ending_of, MeetsAtWord, IsDueAt, AllDue}
 use Rattle.fk_group_plans.specs.Laws.{TellsMeeters}
@@ -38,14 +40,17 @@ use Rattle.fk_group_plans.proofs.Nodes.{tells}
 use Rattle.fk_group_plans.proofs.Rounds.{alive, not_none, given}
 use Rattle.fk_group_rounds.specs.Next.{JumpsLead}
 use Rattle.fk_group_rounds.specs.Comes.{most_between}
-use Rattle.fk_group_rounds.specs.After.{ArePlaces}
+use Rattle.fk_group_rounds.specs.After.{runners_of, ArePlaces}
+use Rattle.fk_group_rounds.proofs.Agreed.{place_at, some_elem}
 use Rattle.fk_group_rounds.proofs.Groups.{many_length}
 use Rattle.fk_group_runs.specs.Beside.{landed_runner}
+use Rattle.fk_group_runs.specs.Union.{IsUnited}
 use Rattle.fk_group_runs.specs.Follow.{IsFollowed}
 use Rattle.fk_group_runs.proofs.Landed.{next_landed}
 use Rattle.fk_group_simulation.specs.Pace.{behind_leaving, IsInTime, AreInTime, ActsWithin}
-use Rattle.fk_group_simulation.proofs.Stages.{free_there, meets_there}
-use Rattle.fk_group_simulation.specs.Able.{WhoWaitsResumes, sight_of, WhoCouldActWill}
+use Rattle.fk_group_simulation.proofs.Stages.{acts_there, free_there, meets_there}
+use Rattle.fk_group_simulation.proofs.Turning.{in_time_at}
+use Rattle.fk_group_simulation.specs.Able.{WhoWaitsResumes, sight_of, united_sight_of, WhoCouldActWill, WhoHasUnitedWill}
 
 -- ---- joint operations
 
@@ -304,6 +309,18 @@ module _ (core : List CoreOp) (tree : Tree) (spaces : ℕ → Space) where
       let y = here_at (suc number) ns stages rs h k (omega (arith, e)) (omega (arith, lt)) (omega (arith, many)) stand.1 due.2 few.1 in
       record { stage = y.stage; at = y.at; runner = y.runner; runs = y.runs; node = y.node; due = y.due; in_time = y.in_time }
 
+-- one in a round is one of the runners
+within_runners : (core : List CoreOp) (setting : Setting) (rs : List (Runner Position)) (round : Round) (h : ℕ) → all_may_act (next core) setting round rs ≡ true → 0 < slice_index round h → h < length rs
+within_runners core setting rs [] h may within = absurd (omega (arith, within))
+within_runners core setting [] (c ∷ round) h may within = absurd (false≢true may)
+within_runners core setting (r ∷ rs) (c ∷ round) zero may within = omega arith
+within_runners core setting (r ∷ rs) (c ∷ round) (suc h) may within =
+    let lt = within_runners core setting rs round h (and_parts (may_act (next core) setting c r) (all_may_act (next core) setting round rs) may).1 within in
+    omega (arith, lt)
+
+length_of : (core : List CoreOp) (ps : List Owner) (rs : List (Runner Position)) → runners_of ps ≡ map (landed_runner core) rs → length rs ≡ length ps
+length_of core ps rs same = sym (length-map rs (landed_runner core)) ∙ ap (λ l. length l) (sym same) ∙ length-map ps (λ p. p.runner)
+
 -- ---- in a followed state
 
 module _ (core : List CoreOp) (image : Image) (places : Places) (nestings : Nestings) (setting : Setting) (spaces : ℕ → Space) (s : State Position) (nodes : List ℕ) (t : MachineSetting) (printed : List ℕ)
@@ -516,26 +533,58 @@ module _ (core : List CoreOp) (image : Image) (places : Places) (nestings : Nest
         let k = kind_there (s.tree.nodes (s.tree.places h)) (alive (s.tree.nodes (s.tree.places h)) h (before.sound.placed h lt).member) in
         meets_all h lt within e w f there x due.0 due.1 k.0 k.1
 
-  within_processors : (number : ℕ) (stages' : List Stage) (rs : List (Runner Position)) (round : Round) (h : ℕ) → AllDue core s.tree spaces number stages' (map (landed_runner core) rs)
-      → all_may_act (next core) setting round rs ≡ true → 0 < slice_index round h → h < length stages'
-  within_processors number stages' rs [] h due may within = absurd (omega (arith, within))
-  within_processors number stages' [] (c ∷ round) h due may within = absurd (false≢true may)
-  within_processors number [] (r ∷ rs) (c ∷ round) h due may within = absurd due
-  within_processors number (x ∷ stages') (r ∷ rs) (c ∷ round) zero due may within = omega arith
-  within_processors number (x ∷ stages') (r ∷ rs) (c ∷ round) (suc h) due may within =
-      let le = within_processors (suc number) stages' rs round h due.2 (and_parts (may_act (next core) setting c r) (all_may_act (next core) setting round rs) may).1 within in
-      omega (arith, le)
-
   will : (h : ℕ) → CouldAct (next core) setting h s → ActsWithin (sight_of s.tree spaces nodes stages sh.control t.finished) h most_between
   will h c =
       let parts = and_parts (all_may_act (next core) setting c.round s.runners) (all_fit c.round (joint_at (begin_all (next core) setting c.round s.runners)) s.tree 0 c.round) c.allowed in
       let before = followed.before in
-      let below = within_processors 0 stages s.runners c.round h (subst (AllDue core s.tree spaces 0 stages) followed.beside.runners before.due) parts.0 c.within in
-      let as_many = (many_length nodes hs stages followed.bound.stages_as_many).1 in
+      let below = within_runners core setting s.runners c.round h parts.0 c.within in
+      let long = length_of core followed.ps s.runners followed.beside.runners in
+      let as_many = (many_length nodes hs followed.ps before.as_many).1 in
       let size = many in
-      let lt : h < setting.processors = omega (arith, below, as_many, size) in
+      let lt : h < setting.processors = omega (arith, below, long, as_many, size) in
       let x = does_one c.round parts.0 parts.1 h lt c.within in
       will_by c.round parts.0 parts.1 h lt c.within x x.stands.stage x.stands.at x.stands.due x.stands.in_time
+
+-- ---- where all have met at the beginning of `start`
+
+module _ (core : List CoreOp) (image : Image) (places : Places) (nestings : Nestings) (setting : Setting) (spaces : ℕ → Space) (s : State Position) (nodes : List ℕ) (t : MachineSetting) (printed : List ℕ)
+    (stages : List Stage) (hs : List Hart) (sh : Shared) (followed : IsUnited core image places nestings setting spaces s nodes t printed stages hs sh) (in_time : AreInTime stages) where
+  -- all are in lockstep in the root, at one distance from their commit
+  acts : (h : ℕ) → h < length nodes → (x : Stage) → slice_get stages h ≡ Some x → (d : ℕ) × (x ≡ Acts d)
+  acts h lt x at =
+      let before = followed.before in
+      let size = before.many in
+      let plan = united (plan_of s.tree spaces nodes) in
+      let blocks = blocks_of core image places nestings setting (united (plan_of s.tree spaces nodes)) (first_of spaces) in
+      let group : InLockstep (core_source core setting) image plan blocks t 0 (of_node 0 nodes stages) (of_node 0 nodes (numbered 0 hs)) (of_node 0 nodes followed.ps) sh.control = followed.bound.binds 0 in
+      let same : 0 + h ≡ h = omega arith in
+      let here = place_at s.tree 0 h nodes before.stand lt ∙ ap (λ k. Some (s.tree.places k)) same ∙ ap (λ k. Some k) (before.in_root h (omega (arith, lt, size))) in
+      (group.distance, acts_there (core_source core setting) image plan blocks t group.distance 0 0 nodes stages hs followed.ps h x followed.bound.as_many followed.bound.stages_as_many group.alike here at)
+
+  united_will : (h : ℕ) → CouldAct (next core) setting h s → ActsWithin (united_sight_of s.tree spaces nodes stages sh.control t.finished) h most_between
+  united_will h c =
+      let parts = and_parts (all_may_act (next core) setting c.round s.runners) (all_fit c.round (joint_at (begin_all (next core) setting c.round s.runners)) s.tree 0 c.round) c.allowed in
+      let below = within_runners core setting s.runners c.round h parts.0 c.within in
+      let long = length_of core followed.ps s.runners followed.beside.runners in
+      let many = many_length nodes hs followed.ps followed.bound.as_many in
+      let owners = many.1 in
+      let as_many = (many_length nodes hs stages followed.bound.stages_as_many).1 in
+      let lt : h < length nodes = omega (arith, below, long, owners) in
+      let x = some_elem stages h (omega (arith, lt, as_many)) in
+      let d = acts h lt x.is x.at in
+      let acts_is = d.1 in
+      inl
+      (record {
+        stage = x.is;
+        at = x.at;
+        left = d.0;
+        is = ap distance acts_is;
+        in_time = subst IsInTime acts_is (in_time_at stages h x.is in_time x.at);
+      })
+
+pub who_has_united_will : WhoHasUnitedWill
+who_has_united_will core image places nestings setting spaces s nodes t printed stages hs sh h followed in_time could =
+    united_will core image places nestings setting spaces s nodes t printed stages hs sh followed in_time h could
 
 pub who_could_act_will : WhoCouldActWill
 who_could_act_will core image places nestings setting spaces s nodes t printed stages hs sh h leads followed in_time waits could =

@@ -90,7 +90,7 @@ fresh_idle u w member (Meets e v (Leaving d)) fresh = absurd fresh
 
 module _ (core : List CoreOp) (image : Image) (places : Places) (nestings : Nestings) (cycles : Cycles) (firsts : List ℕ) (main : ℕ) (spaces : ℕ → Space) (input : List ℕ) (p : ℕ)
     (the_law : GroupLaw core image places nestings cycles firsts main) (leads : JumpsLead core) (some : 1 ≤ p) (few : p ≤ 1024) (few_inputs : length input ≤ 65536)
-    (has_next : (number : ℕ) → number < p → HasNext core (root p) number (landed core (beginner (setting_of p image.globals.items input) (slice_index firsts) main number))) where
+    (has_next : (number : ℕ) → number < p → HasNext core nestings (setting_of p image.globals.items input) (root p) number (landed core (beginner (setting_of p image.globals.items input) (slice_index firsts) main number))) where
   abbrev setting : Setting
   setting = setting_of p image.globals.items input
 

@@ -1,67 +1,101 @@
 -- Machines follow core runs with groups.
-use Rattle.std.proofs.Common.{◌≡◌, ℕ, zero, suc, ◌≤◌, ◌<◌, ◌^◌, List, [], ◌++◌, length, Bool, true, false, cond, sym, ap, subst, ◌∙◌, refl, arith, ◌⊎◌, inl, inr, ⊎_elim}
-use Rattle.std.specs.Prelude.{replicate}
+use Rattle.std.proofs.Common.{◌≡◌, ℕ, zero, suc, ◌≤◌, ◌<◌, ◌^◌, List, [], ◌∷◌, ◌++◌, length, None, Bool, true, false, cond, sym, ap, subst, ◌∙◌, refl, arith, ◌⊎◌, inl, inr, ⊎_elim}
+use Rattle.std.specs.Prelude.{◌&&◌, map, replicate, is_none}
 use Rattle.std.proofs.lemmas.List.{append-nil}
 use Rattle.fk_space.specs.Space.{Space}
 use Rattle.fk_tree.specs.Tree.{Tree}
 use Rattle.fk_run.specs.Processor.{Setting, setting_of}
-use Rattle.fk_run.specs.Round.{State, result, is_possible, IsStopped}
+use Rattle.fk_operation.specs.declared.operation.Operation.TheVariants.{Begin}
+use Rattle.fk_run.specs.Round.{Runner, State, result, is_possible, IsStopped}
 use Rattle.fk_run.specs.Schedule.{Schedule, SourceRunning, SourceFinished, SourceFaulted, run, CouldAct, IsLawful, all_done, stand_by}
 use Rattle.fk_core.specs.declared.op.CoreOp.{CoreOp}
-use Rattle.fk_core.specs.Next.{Position, next, opening}
+use Rattle.fk_core.specs.Next.{Position, position, landing, next, opening}
 use Rattle.fk_image.specs.declared.Image.{Image}
 use Rattle.fk_machine.specs.declared.stand.Stand.{Stand}
 use Rattle.fk_machine.specs.declared.stand.Stand.TheVariants.{Running, Finished, Faulted}
 use Rattle.fk_machine.specs.Cycle.{Machine, turns_of, all_ended, unprinted, is_running, stand_after, after_turns, cycle}
 use Rattle.fk_machine.specs.Cycle as machines
-use Rattle.fk_machine.specs.Run.{machine, output_of, rounds}
-use Rattle.fk_plans.specs.Stage.{Stage}
-use Rattle.fk_block_law.specs.Owner.{commons_of}
+use Rattle.fk_machine.specs.Run.{machine, output_of, round_of, rounds}
+use Rattle.fk_plans.specs.Stage.{Stage, counts_for}
+use Rattle.fk_nodes.specs.Node.{AreAsMany}
+use Rattle.fk_nodes.specs.Source.{Shows}
+use Rattle.fk_block_law.specs.Owner.{Commons, commons_of, Owner, core_source}
 use Rattle.fk_block_law.specs.Stands.{Places}
+use Rattle.fk_block_law.specs.Next.{StandsOp}
+use Rattle.fk_block_law.proofs.Standing.{next_here}
 use Rattle.fk_group_law.specs.Node.{Nestings}
 use Rattle.fk_group_law.specs.Law.{Cycles, GroupLaw}
-use Rattle.fk_group_rounds.specs.Next.{JumpsLead}
+use Rattle.fk_group_rounds.specs.Next.{JumpsLead, AllAbout}
 use Rattle.fk_group_rounds.specs.Comes.{most_between}
-use Rattle.fk_group_rounds.specs.After.{ArePlaces}
+use Rattle.fk_group_rounds.specs.After.{runners_of, ArePlaces}
 use Rattle.fk_group_rounds.proofs.Groups.{many_length}
+use Rattle.fk_group_runs.specs.Beside.{landed_runner, IsBeside}
 use Rattle.fk_group_runs.specs.Follow.{FollowsFault}
-use Rattle.fk_group_runs.specs.Machines.{GoesWith}
+use Rattle.fk_group_runs.proofs.Landed.{next_landed}
 use Rattle.fk_group_runs.proofs.Follow.{cycles_follow_rounds}
-use Rattle.fk_group_runs.proofs.Machines.{machines_follow_rounds}
+use Rattle.fk_group_runs.proofs.Starts.{cycles_follow_starts}
+use Rattle.fk_group_runs.proofs.Machines.{machines_follow_rounds, machines_follow_starts}
 use Rattle.fk_simulation.specs.Follows.{StandsAgree, Agrees}
 use Rattle.fk_group_simulation.specs.Pace.{AreInTime, Sight, ActsWithin}
-use Rattle.fk_group_simulation.specs.Able.{sight_of}
-use Rattle.fk_group_simulation.specs.Runs.{AlwaysGoesFurther, MachinesFollowGroupRuns, places_in, tree_behind, OrderlyRoundsGoFurther}
-use Rattle.fk_group_simulation.proofs.Able.{who_could_act_will}
+use Rattle.fk_group_simulation.specs.Able.{WhoWaitsResumes}
+use Rattle.fk_group_simulation.specs.Runs.{sight_in, GoesBeside, IsRound, AlwaysGoesFurther, MachinesFollowGroupRuns, places_in, tree_behind, OrderlyRoundsGoFurther}
+use Rattle.fk_group_simulation.proofs.Able.{who_could_act_will, who_has_united_will}
 use Rattle.fk_group_simulation.proofs.Induction.{IsGoing, IsOver, IsBroken, IsWhole, follows_from}
 
 module _ (core : List CoreOp) (image : Image) (places : Places) (nestings : Nestings) (cycles : Cycles) (firsts : List ℕ) (main : ℕ) (setting : Setting) (spaces : ℕ → Space)
     (the_law : GroupLaw core image places nestings cycles firsts main) (leads : JumpsLead core) (few : setting.processors ≤ 1024) where
-  -- a machine beside a state: all its harts are bound by the plan of the state's tree, and in time
+  -- a machine beside a state, all of whose harts are in time
   record Stands (s : State Position) (printed : List ℕ) (m : Machine) : Type 0 where
+    uniting : Bool
     nodes : List ℕ
     stages : List Stage
-    goes : GoesWith core image places nestings setting spaces s nodes printed stages m
+    goes : GoesBeside core image places nestings setting spaces uniting s nodes printed stages m
     in_time : AreInTime stages
 
   abbrev sight : (s : State Position) (printed : List ℕ) (m : Machine) → Stands s printed m → Sight
-  sight s printed m x = sight_of s.tree spaces x.nodes x.stages m.shared.control m.begun
+  sight s printed m x = sight_in x.uniting s.tree spaces x.nodes x.stages m.shared.control m.begun
 
-  is_going : (s : State Position) (printed : List ℕ) (m : Machine) → Stands s printed m → IsGoing core setting s printed m
-  is_going s printed m x =
-      let f = x.goes.followed in
-      let commons = f.beside.commons in
+  going_with : (s : State Position) (printed : List ℕ) (m : Machine) (ps : List Owner) (shared : Commons) → IsBeside core s ps shared → Shows (core_source core setting) printed (unprinted m.shared) shared
+      → m.stand ≡ cond (all_done (next core) setting s.runners) Finished Running → IsGoing core setting s printed m
+  going_with s printed m ps shared beside shows stand =
+      let commons = beside.commons in
       record {
-        going = f.beside.going;
-        output = sym (append-nil printed) ∙ f.shows.output ∙ ap (λ c. c.output) (sym commons);
-        words = f.shows.words ∙ ap (λ c. c.words) (sym commons);
-        stand = x.goes.stand;
+        going = beside.going;
+        output = sym (append-nil printed) ∙ shows.output ∙ ap (λ c. c.output) (sym commons);
+        words = shows.words ∙ ap (λ c. c.words) (sym commons);
+        stand = stand;
       }
 
+  -- who is at the beginning of `start` has something left to do
+  not_done : (i : ℕ) (op : CoreOp) (ps : List Owner) (rs : List (Runner Position)) → StandsOp core i op Begin → AllAbout i op Begin ps → runners_of ps ≡ map (landed_runner core) rs → 1 ≤ length ps
+      → all_done (next core) setting rs ≡ false
+  not_done i op [] rs stands about same some = absurd (omega (arith, some))
+  not_done i op (p ∷ ps) [] stands about same some = absurd (cc)
+  not_done i op (p ∷ ps) (r ∷ rs) stands about same some =
+      let first : p.runner ≡ landed_runner core r = cc in
+      let at : landing core r.left.at ≡ i = ap (λ x. x.left.at) (sym first) ∙ about.0 in
+      let ahead = sym (next_landed core leads r.left) ∙ ap (λ k. next core (position k r.left.callers)) at ∙ next_here core i op Begin r.left.callers stands in
+      ap (λ o. is_none o && all_done (next core) setting rs) ahead
+
+  is_going_by : (uniting : Bool) (s : State Position) (nodes : List ℕ) (printed : List ℕ) (stages : List Stage) (m : Machine) → GoesBeside core image places nestings setting spaces uniting s nodes printed stages m
+      → IsGoing core setting s printed m
+  is_going_by false s nodes printed stages m goes = let f = goes.followed in going_with s printed m f.ps f.shared f.beside f.shows goes.stand
+  is_going_by true s nodes printed stages m goes =
+      let f = goes.followed in
+      let before = f.before in
+      let some = before.sound.some in
+      let size = before.many in
+      let as_many = (many_length nodes m.harts f.ps before.as_many).1 in
+      going_with s printed m f.ps f.shared f.beside f.shows
+      (goes.stand ∙ ap (λ b. cond b Finished Running) (sym (not_done f.i f.op f.ps s.runners f.stands f.about f.beside.runners (omega (arith, some, size, as_many)))))
+
+  is_going : (s : State Position) (printed : List ℕ) (m : Machine) → Stands s printed m → IsGoing core setting s printed m
+  is_going s printed m x = is_going_by x.uniting s x.nodes printed x.stages m x.goes
+
   -- the round of its cycle is stopped
-  breaks : (s : State Position) (printed : List ℕ) (m : Machine) (x : Stands s printed m) → is_running m.stand ≡ true
-      → FollowsFault core image places nestings setting spaces s x.nodes (machines.setting_of m) printed x.stages m.harts (unprinted m.shared) → IsBroken core setting image s printed m
-  breaks s printed m x running c =
+  breaks : (s : State Position) (nodes : List ℕ) (printed : List ℕ) (stages : List Stage) (m : Machine) → is_running m.stand ≡ true
+      → FollowsFault core image places nestings setting spaces s nodes (machines.setting_of m) printed stages m.harts (unprinted m.shared) → IsBroken core setting image s printed m
+  breaks s nodes printed stages m running c =
       let step : after_turns m (turns_of m) ≡ cycle m = ap (λ b. cond b (after_turns m (turns_of m)) m) (sym running) in
       let commons = ap (λ r. commons_of (result (next core) setting r s).store) c.counts ∙ c.fault.commons in
       record {
@@ -79,12 +113,56 @@ module _ (core : List CoreOp) (image : Image) (places : Places) (nestings : Nest
   not_faulted true site place e = cc
   not_faulted false site place e = cc
 
-  few_harts : (s : State Position) (printed : List ℕ) (m : Machine) → Stands s printed m → length m.harts < 2 ^ 31
-  few_harts s printed m x =
-      let f = x.goes.followed in
-      let many = f.before.many in
-      let as_many = (many_length x.nodes m.harts f.ps f.before.as_many).0 in
-      omega (arith, many, as_many, few)
+  -- a cycle that a fault ends is no whole round
+  not_both : (m : Machine) (site place : ℕ) → is_running m.stand ≡ true → (turns_of m).stop ≡ None → (cycle m).stand ≡ Faulted site place → ⊥
+  not_both m site place running going stand =
+      let step : after_turns m (turns_of m) ≡ cycle m = ap (λ b. cond b (after_turns m (turns_of m)) m) (sym running) in
+      not_faulted (all_ended (turns_of m).harts) site place (sym (ap (λ stop. stand_after stop (turns_of m).harts) going) ∙ ap (λ n. n.stand) step ∙ stand)
+
+  few_harts : (nodes : List ℕ) (m : Machine) (ps : List Owner) → AreAsMany nodes m.harts ps → length nodes ≡ setting.processors → length m.harts < 2 ^ 31
+  few_harts nodes m ps as_many many = let harts = (many_length nodes m.harts ps as_many).0 in omega (arith, many, harts, few)
+
+  -- a cycle is a possible round, or a stopped one
+  cycle_is : (uniting : Bool) (s : State Position) (nodes : List ℕ) (printed : List ℕ) (stages : List Stage) (m : Machine) → GoesBeside core image places nestings setting spaces uniting s nodes printed stages m
+      → is_running m.stand ≡ true
+      → IsRound core image places nestings setting spaces uniting s nodes printed stages m ⊎ IsBroken core setting image s printed m
+  cycle_is false s nodes printed stages m goes running =
+      let f = goes.followed in
+      let before = f.before in
+      let short = few_harts nodes m f.ps before.as_many before.many in
+      ⊎_elim (λ on. inl (inl on))
+      (λ other.
+      ⊎_elim
+      (λ stops.
+      ⊎_elim (λ whole. absurd (not_both m stops.site stops.place running whole.going stops.stand))
+      (λ last.
+      ⊎_elim (λ fault. inr (breaks s nodes printed stages m running fault)) (λ union. absurd (not_both m stops.site stops.place running union.going stops.stand)) last)
+      (cycles_follow_rounds core image places nestings cycles firsts main setting spaces s nodes (machines.setting_of m) printed stages m.harts (unprinted m.shared) the_law leads short f).1)
+      (λ unites. inl (inr unites)) other)
+      (machines_follow_rounds core image places nestings cycles firsts main setting spaces s nodes printed stages m the_law leads short running goes)
+  cycle_is true s nodes printed stages m goes running =
+      let f = goes.followed in
+      let before = f.before in
+      let short = few_harts nodes m f.ps before.as_many before.many in
+      ⊎_elim (λ starts. inl starts)
+      (λ stops.
+      ⊎_elim (λ whole. absurd (not_both m stops.site stops.place running whole.going stops.stand)) (λ fault. inr (breaks s nodes printed stages m running fault))
+      (cycles_follow_starts core image places nestings cycles firsts main setting spaces s nodes (machines.setting_of m) printed stages m.harts (unprinted m.shared) the_law leads short f).1)
+      (machines_follow_starts core image places nestings cycles firsts main setting spaces s nodes printed stages m the_law leads short running goes)
+
+  round_is : (uniting : Bool) (s : State Position) (nodes : List ℕ) (printed : List ℕ) (stages : List Stage) (m : Machine) → IsRound core image places nestings setting spaces uniting s nodes printed stages m
+      → (round_of image m ≡ counts_for stages) × (is_possible (next core) setting (counts_for stages) s ≡ true)
+  round_is false s nodes printed stages m (inl r) = (r.round, subst (λ x. is_possible (next core) setting x s ≡ true) r.round r.possible)
+  round_is false s nodes printed stages m (inr r) = (r.round, subst (λ x. is_possible (next core) setting x s ≡ true) r.round r.possible)
+  round_is true s nodes printed stages m r = (r.round, subst (λ x. is_possible (next core) setting x s ≡ true) r.round r.possible)
+
+  will_by : (uniting : Bool) (s : State Position) (nodes : List ℕ) (printed : List ℕ) (stages : List Stage) (m : Machine) → GoesBeside core image places nestings setting spaces uniting s nodes printed stages m
+      → AreInTime stages → WhoWaitsResumes core s → (h : ℕ) → CouldAct (next core) setting h s
+      → ActsWithin (sight_in uniting s.tree spaces nodes stages m.shared.control m.begun) h most_between
+  will_by false s nodes printed stages m goes in_time waits h could =
+      who_could_act_will core image places nestings setting spaces s nodes (machines.setting_of m) printed stages m.harts (unprinted m.shared) h leads goes.followed in_time waits could
+  will_by true s nodes printed stages m goes in_time waits h could =
+      who_has_united_will core image places nestings setting spaces s nodes (machines.setting_of m) printed stages m.harts (unprinted m.shared) h goes.followed in_time could
 
   module _ (first : State Position) (always : AlwaysGoesFurther core image places nestings setting spaces first) where
     turns : (schedule : Schedule) (printed : List ℕ) (m : Machine) (x : Stands (run (next core) setting schedule first) printed m) → IsLawful (next core) setting schedule first
@@ -92,34 +170,24 @@ module _ (core : List CoreOp) (image : Image) (places : Places) (nestings : Nest
         → IsWhole core setting image first Stands sight schedule printed m x ⊎ IsBroken core setting image (run (next core) setting schedule first) printed m
     turns schedule printed m x lawful running =
         let s = run (next core) setting schedule first in
-        let f = x.goes.followed in
         ⊎_elim
         (λ g.
+        let round = round_is x.uniting s x.nodes printed x.stages m g in
         inl
         (record {
-          round = g.round;
-          possible = subst (λ r. is_possible (next core) setting r s ≡ true) g.round g.possible;
+          round = round.0;
+          possible = round.1;
           further = λ lawful'.
-              let y = always.further schedule x.nodes printed x.stages m x.goes x.in_time running g lawful' in
-              (record { nodes = y.nodes'; stages = y.stages'; goes = y.goes; in_time = y.in_time }, y.turns);
+              let y = always.further schedule x.uniting x.nodes printed x.stages m x.goes x.in_time running g lawful' in
+              (record { uniting = y.uniting'; nodes = y.nodes'; stages = y.stages'; goes = y.goes; in_time = y.in_time }, y.turns);
         }))
-        (λ c.
-        ⊎_elim
-        (λ whole.
-        let step : after_turns m (turns_of m) ≡ cycle m = ap (λ b. cond b (after_turns m (turns_of m)) m) (sym running) in
-        absurd
-        (not_faulted (all_ended (turns_of m).harts) c.site c.place
-        (sym (ap (λ stop. stand_after stop (turns_of m).harts) whole.going) ∙ ap (λ n. n.stand) step ∙ c.stand)))
-        (λ fault. inr (breaks s printed m x running fault))
-        (cycles_follow_rounds core image places nestings cycles firsts main setting spaces s x.nodes (machines.setting_of m) printed x.stages m.harts (unprinted m.shared) the_law leads
-        (few_harts s printed m x) f).1)
-        (machines_follow_rounds core image places nestings cycles firsts main setting spaces s x.nodes printed x.stages m the_law leads (few_harts s printed m x) running x.goes)
+        (λ broken. inr broken)
+        (cycle_is x.uniting s x.nodes printed x.stages m x.goes running)
 
     will : (schedule : Schedule) (printed : List ℕ) (m : Machine) (x : Stands (run (next core) setting schedule first) printed m) → IsLawful (next core) setting schedule first
         → (h : ℕ) → CouldAct (next core) setting h (run (next core) setting schedule first) → ActsWithin (sight (run (next core) setting schedule first) printed m x) h most_between
     will schedule printed m x lawful h could =
-        who_could_act_will core image places nestings setting spaces (run (next core) setting schedule first) x.nodes (machines.setting_of m) printed x.stages m.harts (unprinted m.shared) h leads
-        x.goes.followed x.in_time (always.waits schedule lawful) could
+        will_by x.uniting (run (next core) setting schedule first) x.nodes printed x.stages m x.goes x.in_time (always.waits schedule lawful) h could
 
     follows : (input : List ℕ) (p : ℕ) (x : Stands first [] (machine image input p 0)) (n : ℕ)
         → IsLawful (next core) setting (rounds image input p n) first
@@ -159,7 +227,7 @@ machines_follow_group_runs core image places nestings cycles firsts main spaces 
     let setting = setting_of p image.globals.items input in
     let first = opening main image.globals.items firsts input p in
     let r = follows core image places nestings cycles firsts main setting spaces the_law leads few first always input p
-    (record { nodes = replicate p 0; stages = opens.stages; goes = opens.goes; in_time = in_time }) n in
+    (record { uniting = false; nodes = replicate p 0; stages = opens.stages; goes = opens.goes; in_time = in_time }) n in
     record { lawful = r.0; agrees = agrees core image input p n (run (next core) setting (rounds image input p n) first) r.1 }
 
 -- ---- orderly rounds
@@ -181,4 +249,4 @@ orderly_rounds_go_further core image places nestings setting spaces s nodes prin
     let many : length nodes' ≡ length nodes = many_in tree 0 setting.processors ∙ sym before.many in
     let x = r.again nodes' orderly.known orderly.tree there many orderly.ahead orderly.groups in
     let timely = orderly.timely there many in
-    record { nodes' = nodes'; stages' = x.0; goes = x.3; in_time = timely.0; turns = timely.1 }
+    record { uniting' = false; nodes' = nodes'; stages' = x.0; goes = x.3; in_time = timely.0; turns = timely.1 }

@@ -23,7 +23,7 @@ use Rattle.fk_group_simulation.proofs.Stages.{related_at, kept_get, meets_get, f
 
 -- ---- elements
 
-in_time_at : (stages : List Stage) (h : ℕ) (s : Stage) → AreInTime stages → slice_get stages h ≡ Some s → IsInTime s
+pub in_time_at : (stages : List Stage) (h : ℕ) (s : Stage) → AreInTime stages → slice_get stages h ≡ Some s → IsInTime s
 in_time_at [] h s all at = absurd (cc)
 in_time_at (x ∷ stages) zero s all at = let same : x ≡ s = cc in subst IsInTime same all.0
 in_time_at (x ∷ stages) (suc h) s all at = in_time_at stages h s all.1 at

@@ -17,9 +17,10 @@ use Rattle.fk_machine.specs.Hart.{Hart, Shared, Setting as MachineSetting}
 use Rattle.fk_plans.specs.Stage.{Stage}
 use Rattle.fk_block_law.specs.Stands.{Places}
 use Rattle.fk_group_law.specs.Node.{Nestings}
-use Rattle.fk_group_plans.specs.Nodes.{plan_of}
+use Rattle.fk_group_plans.specs.Nodes.{plan_of, united}
 use Rattle.fk_group_rounds.specs.Next.{JumpsLead}
 use Rattle.fk_group_rounds.specs.Comes.{most_between}
+use Rattle.fk_group_runs.specs.Union.{IsUnited}
 use Rattle.fk_group_runs.specs.Follow.{IsFollowed}
 use Rattle.fk_group_simulation.specs.Pace.{AreInTime, Sight, ActsWithin}
 
@@ -33,9 +34,20 @@ WhoWaitsResumes core s =
 abbrev pub sight_of : Tree → (spaces : ℕ → Space) → (nodes : List ℕ) → List Stage → (control : Memory) → (finished : ℕ) → Sight
 sight_of tree spaces nodes stages control finished = record { plan = plan_of tree spaces nodes; stages = stages; control = control; finished = finished }
 
+-- those who have met at the beginning of `start` are in lockstep in the root
+abbrev pub united_sight_of : Tree → (spaces : ℕ → Space) → (nodes : List ℕ) → List Stage → (control : Memory) → (finished : ℕ) → Sight
+united_sight_of tree spaces nodes stages control finished = record { plan = united (plan_of tree spaces nodes); stages = stages; control = control; finished = finished }
+
 abbrev pub WhoCouldActWill : Type 0
 WhoCouldActWill =
     (core : List CoreOp) (image : Image) (places : Places) (nestings : Nestings) (setting : Setting) (spaces : ℕ → Space) (s : State Position) (nodes : List ℕ) (t : MachineSetting) (printed : List ℕ)
     (stages : List Stage) (hs : List Hart) (sh : Shared) (h : ℕ)
     → JumpsLead core → IsFollowed core image places nestings setting spaces s nodes t printed stages hs sh → AreInTime stages → WhoWaitsResumes core s
     → CouldAct (next core) setting h s → ActsWithin (sight_of s.tree spaces nodes stages sh.control t.finished) h most_between
+
+abbrev pub WhoHasUnitedWill : Type 0
+WhoHasUnitedWill =
+    (core : List CoreOp) (image : Image) (places : Places) (nestings : Nestings) (setting : Setting) (spaces : ℕ → Space) (s : State Position) (nodes : List ℕ) (t : MachineSetting) (printed : List ℕ)
+    (stages : List Stage) (hs : List Hart) (sh : Shared) (h : ℕ)
+    → IsUnited core image places nestings setting spaces s nodes t printed stages hs sh → AreInTime stages
+    → CouldAct (next core) setting h s → ActsWithin (united_sight_of s.tree spaces nodes stages sh.control t.finished) h most_between

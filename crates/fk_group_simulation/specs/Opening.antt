@@ -33,5 +33,5 @@ abbrev pub OpeningsAreFollowed : Type 0
 OpeningsAreFollowed =
     (core : List CoreOp) (image : Image) (places : Places) (nestings : Nestings) (cycles : Cycles) (firsts : List ℕ) (main : ℕ) (spaces : ℕ → Space) (input : List ℕ) (p : ℕ)
     → GroupLaw core image places nestings cycles firsts main → JumpsLead core → 1 ≤ p → p ≤ 1024 → length input ≤ 65536
-    → ((number : ℕ) → number < p → HasNext core (root p) number (landed core (beginner (setting_of p image.globals.items input) (slice_index firsts) main number)))
+    → ((number : ℕ) → number < p → HasNext core nestings (setting_of p image.globals.items input) (root p) number (landed core (beginner (setting_of p image.globals.items input) (slice_index firsts) main number)))
     → OpensWith core image places nestings spaces firsts main input p

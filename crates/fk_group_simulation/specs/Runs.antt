@@ -1,5 +1,6 @@
 -- Machines of an image that has the law of blocks of groups follow core runs with groups.
-use Rattle.std.specs.Prelude.{◌≡◌, ℕ, zero, suc, ◌≤◌, List, [], ◌∷◌, ◌++◌, length, true}
+use Rattle.std.specs.Prelude.{◌≡◌, ℕ, zero, suc, ◌≤◌, List, [], ◌∷◌, ◌++◌, length, Bool, true, false, ◌⊎◌}
+use Rattle.fk_num.specs.Word.{Memory}
 use Rattle.fk_space.specs.Space.{Space}
 use Rattle.fk_tree.specs.Tree.{Tree}
 use Rattle.fk_run.specs.Processor.{Setting, setting_of}
@@ -10,39 +11,61 @@ use Rattle.fk_core.specs.Next.{Position, next, opening}
 use Rattle.fk_image.specs.declared.Image.{Image}
 use Rattle.fk_machine.specs.Cycle.{Machine, is_running, cycle}
 use Rattle.fk_plans.specs.Stage.{Stage, counts_for}
+use Rattle.fk_plans.specs.Plan.{Plan}
 use Rattle.fk_block_law.specs.Stands.{Places}
 use Rattle.fk_group_law.specs.Node.{Nestings}
 use Rattle.fk_group_law.specs.Law.{Cycles, GroupLaw}
+use Rattle.fk_group_plans.specs.Nodes.{plan_of, united}
 use Rattle.fk_group_rounds.specs.Next.{JumpsLead}
 use Rattle.fk_group_rounds.specs.After.{owners_after, ArePlaces, GroupsGoOn}
 use Rattle.fk_group_rounds.specs.Rounds.{IsTree, IsKnownRound}
 use Rattle.fk_group_runs.specs.Homes.{AllNext}
-use Rattle.fk_group_runs.specs.Machines.{GoesWith, GoesOn}
+use Rattle.fk_group_runs.specs.Machines.{GoesWith, GoesToStart, GoesOn, Unites, Starts}
 use Rattle.fk_simulation.specs.Follows.{Follows}
 use Rattle.fk_group_simulation.specs.Opening.{OpensWith}
-use Rattle.fk_group_simulation.specs.Pace.{AreInTime, Turns}
+use Rattle.fk_group_simulation.specs.Pace.{AreInTime, Sight, Turns}
 use Rattle.fk_group_simulation.specs.Able.{WhoWaitsResumes, sight_of}
 
+-- the plan that binds harts: that of the state's tree, or where all have met at the beginning of `start`, with the root in lockstep
+abbrev pub plan_in : (uniting : Bool) → Plan → Plan
+plan_in false plan = plan
+plan_in true plan = united plan
+
+abbrev pub sight_in : (uniting : Bool) → Tree → (spaces : ℕ → Space) → (nodes : List ℕ) → List Stage → (control : Memory) → (finished : ℕ) → Sight
+sight_in uniting tree spaces nodes stages control finished =
+    record { plan = plan_in uniting (plan_of tree spaces nodes); stages = stages; control = control; finished = finished }
+
 module _ (core : List CoreOp) (image : Image) (places : Places) (nestings : Nestings) (setting : Setting) (spaces : ℕ → Space) where
-  -- after a cycle of a machine that goes with a state it goes with the state behind the round, all its harts are in time, and those
-  -- who meet have moved
-  pub record GoesFurther (s : State Position) (nodes : List ℕ) (printed : List ℕ) (stages : List Stage) (m : Machine) : Type 0 where
+  -- a machine beside a state: it goes with that, or to the beginning of `start`
+  abbrev pub GoesBeside : (uniting : Bool) → State Position → (nodes : List ℕ) → (printed : List ℕ) → List Stage → Machine → Type 0
+  GoesBeside false s nodes printed stages m = GoesWith core image places nestings setting spaces s nodes printed stages m
+  GoesBeside true s nodes printed stages m = GoesToStart core image places nestings setting spaces s nodes printed stages m
+
+  -- its cycle is a possible round
+  abbrev pub IsRound : (uniting : Bool) → State Position → (nodes : List ℕ) → (printed : List ℕ) → List Stage → Machine → Type 0
+  IsRound false s nodes printed stages m =
+      GoesOn core image places nestings setting spaces s nodes printed stages m ⊎ Unites core image places nestings setting spaces s nodes printed stages m
+  IsRound true s nodes printed stages m = Starts core image places nestings setting spaces s nodes printed stages m
+
+  -- after the cycle it is beside the state behind the round, all its harts are in time, and those who meet have moved
+  pub record GoesFurther (uniting : Bool) (s : State Position) (nodes : List ℕ) (printed : List ℕ) (stages : List Stage) (m : Machine) : Type 0 where
+    pub uniting' : Bool
     pub nodes' : List ℕ
     pub stages' : List Stage
-    pub goes : GoesWith core image places nestings setting spaces (result (next core) setting (counts_for stages) s) nodes' (printed ++ (cycle m).shared.output) stages' (cycle m)
+    pub goes : GoesBeside uniting' (result (next core) setting (counts_for stages) s) nodes' (printed ++ (cycle m).shared.output) stages' (cycle m)
     pub in_time : AreInTime stages'
-    pub turns : Turns (sight_of s.tree spaces nodes stages m.shared.control m.begun)
-        (sight_of (result (next core) setting (counts_for stages) s).tree spaces nodes' stages' (cycle m).shared.control (cycle m).begun)
+    pub turns : Turns (sight_in uniting s.tree spaces nodes stages m.shared.control m.begun)
+        (sight_in uniting' (result (next core) setting (counts_for stages) s).tree spaces nodes' stages' (cycle m).shared.control (cycle m).begun)
 
   -- in the run that begins with a state: so it is with each cycle whose round is possible and keeps the schedule lawful, and who
   -- waits for parts in a state behind a lawful schedule is to go on behind them
   pub record AlwaysGoesFurther (first : State Position) : Type 0 where
     pub waits : (schedule : Schedule) → IsLawful (next core) setting schedule first → WhoWaitsResumes core (run (next core) setting schedule first)
-    pub further : (schedule : Schedule) (nodes : List ℕ) (printed : List ℕ) (stages : List Stage) (m : Machine)
-        → GoesWith core image places nestings setting spaces (run (next core) setting schedule first) nodes printed stages m → AreInTime stages → is_running m.stand ≡ true
-        → GoesOn core image places nestings setting spaces (run (next core) setting schedule first) nodes printed stages m
+    pub further : (schedule : Schedule) (uniting : Bool) (nodes : List ℕ) (printed : List ℕ) (stages : List Stage) (m : Machine)
+        → GoesBeside uniting (run (next core) setting schedule first) nodes printed stages m → AreInTime stages → is_running m.stand ≡ true
+        → IsRound uniting (run (next core) setting schedule first) nodes printed stages m
         → IsLawful (next core) setting (schedule ++ counts_for stages ∷ []) first
-        → GoesFurther (run (next core) setting schedule first) nodes printed stages m
+        → GoesFurther uniting (run (next core) setting schedule first) nodes printed stages m
 
 -- so a machine with so many harts follows the run, for every input and every number of cycles
 abbrev pub MachinesFollowGroupRuns : Type 0
@@ -69,7 +92,7 @@ module _ (core : List CoreOp) (image : Image) (places : Places) (nestings : Nest
   pub record IsOrderly : Type 0 where
     pub known : IsKnownRound s.tree r.did
     pub tree : IsTree setting tree_behind spaces
-    pub ahead : AllNext core tree_behind 0 r.afters r.did (owners_after s.tree tree_behind r.did)
+    pub ahead : AllNext core nestings setting tree_behind 0 r.afters r.did (owners_after s.tree tree_behind r.did)
     pub groups : GroupsGoOn core nestings tree_behind (places_in tree_behind 0 setting.processors) r.afters (owners_after s.tree tree_behind r.did)
     -- harts are in time behind it, and those who meet have moved
     pub timely : (there : ArePlaces tree_behind 0 (places_in tree_behind 0 setting.processors)) (many : length (places_in tree_behind 0 setting.processors) ≡ length nodes)
@@ -84,4 +107,4 @@ OrderlyRoundsGoFurther =
     (core : List CoreOp) (image : Image) (places : Places) (nestings : Nestings) (setting : Setting) (spaces : ℕ → Space) (s : State Position) (nodes : List ℕ) (printed : List ℕ)
     (stages : List Stage) (m : Machine) (r : GoesOn core image places nestings setting spaces s nodes printed stages m)
     → GoesWith core image places nestings setting spaces s nodes printed stages m → IsOrderly core image places nestings setting spaces s nodes printed stages m r
-    → GoesFurther core image places nestings setting spaces s nodes printed stages m
+    → GoesFurther core image places nestings setting spaces false s nodes printed stages m

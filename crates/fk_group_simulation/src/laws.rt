@@ -3,7 +3,7 @@
 ghost use Rattle.fk_group_simulation.specs.Opening.{OpeningsAreFollowed};
 ghost use Rattle.fk_group_simulation.specs.Pace.{PacesGoOn, PacesAreKept};
 ghost use Rattle.fk_group_simulation.specs.Turning.{PlansTurn};
-ghost use Rattle.fk_group_simulation.specs.Able.{WhoCouldActWill};
+ghost use Rattle.fk_group_simulation.specs.Able.{WhoCouldActWill, WhoHasUnitedWill};
 ghost use Rattle.fk_group_simulation.specs.Runs.{MachinesFollowGroupRuns, OrderlyRoundsGoFurther};
 
 /// A machine of an image that has the law of blocks of groups goes with the core run from its first cycle on: each of its harts
@@ -33,6 +33,11 @@ pub fn plans_turn<S, P, D>()
 /// it is near its commit, or all whom it meets have entered, and have time to leave.
 pub fn who_could_act_will()
     ensures { WhoCouldActWill }
+{}
+
+/// So it is where all have met at the beginning of `start`, and are in lockstep in the root.
+pub fn who_has_united_will()
+    ensures { WhoHasUnitedWill }
 {}
 
 /// A machine of an image that has the law of blocks of groups follows a lawful schedule of the list's core runs, one round for
