@@ -1,0 +1,5 @@
+use Rattle.fk_group_facts.proofs.Reached.{runs_reach}
+use Rattle.fk_group_facts.proofs.laws.runs_reach.Goals as goal
+
+pub returns : goal.returns
+returns c = runs_reach

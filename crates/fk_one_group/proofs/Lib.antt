@@ -1,0 +1,14 @@
+-- operations, by where they stand
+pub mod Moves
+-- what each processor has done before the steps of the tree
+pub mod Acts
+-- who steps
+pub mod Known
+-- what a step makes of the tree
+pub mod Trees
+-- and of those who take it
+pub mod After
+-- the beginning
+pub mod Opening
+-- whole runs
+pub mod Runs

@@ -1,0 +1,33 @@
+-- Rounds of programs with one group at a time.
+use Rattle.std.specs.Prelude.{◌≡◌, ℕ, ◌≤◌, List, true, Option, slice_index}
+use Rattle.fk_tree.specs.Sound.{IsSound}
+use Rattle.fk_run.specs.Processor.{Setting}
+use Rattle.fk_run.specs.Round.{Step, State, Round, Acting, all_requests, asking, result, is_possible}
+use Rattle.fk_together.specs.OneProgram.{HaveOneProgram}
+use Rattle.fk_one_group.specs.Placed.{HasOneGroup}
+use Rattle.fk_one_group.specs.Steps.{AreKnown}
+
+-- each processor does one operation at most, as in a cycle of a machine
+abbrev pub IsSingle : Round → Type 0
+IsSingle round = (h : ℕ) → slice_index round h ≤ 1
+
+module _ {W : Type 0} (next : W → Option (Step W)) (set : Setting) (round : Round) (s : State W) where
+  -- those who stand before the steps of the tree
+  abbrev pub stepping : List (Acting W)
+  stepping = (all_requests 0 (asking next set round s.runners) s.store).acting
+
+  -- a possible round of this kind, of a state whose groups have one program
+  pub record IsRound : Type 0 where
+    pub sound : IsSound set.processors s.tree
+    pub one_program : HaveOneProgram next s
+    pub one_group : HasOneGroup next set s
+    pub single : IsSingle round
+    pub possible : is_possible next set round s ≡ true
+
+abbrev pub RoundsAreKnown : (W : Type 0) → Type 0
+RoundsAreKnown W =
+    (next : W → Option (Step W)) (set : Setting) (round : Round) (s : State W) → IsRound next set round s → AreKnown s.tree (stepping next set round s)
+
+abbrev pub RoundsKeepOneGroup : (W : Type 0) → Type 0
+RoundsKeepOneGroup W =
+    (next : W → Option (Step W)) (set : Setting) (round : Round) (s : State W) → IsRound next set round s → HasOneGroup next set (result next set round s)
