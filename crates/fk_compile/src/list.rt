@@ -128,7 +128,7 @@ fn have_words(ops: &[CoreOp])
 /// The private words that calls keep at each index of a list. Code is made of it, with the first values
 /// of private variables of file scope. Fails only for want of memory.
 pub(crate) fn kept_words(alloc: Global, list: &List, firsts: &[u32]) -> Result<Vec<Set>, Refusal>
-    requires coded { CanBeCoded list.now.ops.items list.now.main (length firsts.now) }
+    requires { CanBeCoded list.now.ops.items list.now.main (length firsts.now) }
     ensures certain { IfOk result (λ kept. IsCertain list.now.ops.items kept.items list.now.main (length firsts.now)) }
     ensures generable { IfOk result (λ kept. LeadsOn list.now.ops.items
         → IsGenerable list.now.ops.items kept.items list.now.main firsts.now) }

@@ -104,8 +104,8 @@ returns-clause-faithful c =
           }));
     }
 
-pub kept_words-requires-clause-coded : goal.kept_words-requires-clause-coded
-kept_words-requires-clause-coded c =
+pub kept_words-requires : goal.kept_words-requires
+kept_words-requires c =
     let list = c.in_ok-list.list in
     subst (λ (firsts : List ℕ). CanBeCoded list.ops.items list.main (length firsts)) (sym (c.deref.ensures.value ∙ c.in_ok-text.ensures.laid.firsts))
     c.in_ok-list.ensures.coded
