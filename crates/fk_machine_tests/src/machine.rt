@@ -39,26 +39,6 @@ fn run(
     Ok((machine, bytes))
 }
 
-// The same in one call.
-fn run_at_once(
-    alloc: Global,
-    image: &Image,
-    input: &[u32],
-    harts: u32,
-    bound: u32,
-) -> Result<(Machine, Vec<u8>), AllocError>
-    requires limits { IsWithinLimits image.now }
-    requires some_harts { 1 ≤ harts }
-    requires few_harts { harts ≤ 1024 }
-    requires few_inputs { length input.now ≤ 65536 }
-    requires room { vec_len image.now.globals + length input.now ≤ 524288 }
-{
-    let mut machine = Machine::make(alloc, image, input, harts)?;
-    let mut bytes = Vec::new(alloc);
-    machine.run(bound, &mut bytes)?;
-    Ok((machine, bytes))
-}
-
 // An image with this code and these globals.
 fn image_of(alloc: Global, code: &[u32], globals: &[u32]) -> Result<Image, AllocError>
     requires some_code { 1 ≤ length code.now }
@@ -104,14 +84,17 @@ fn one_call_keeps_the_output_of_all_cycles(rt: HostRuntime) -> Result<(), Fail> 
         0x0002a623, // sw zero, 12(t0)
     ];
     let image = image_of(alloc, &code, &[])?;
-    let (machine, bytes) = run_at_once(alloc, &image, &[], 2, 100)?;
+    let mut bytes = Vec::new(alloc);
+    let mut whole = Machine::make(alloc, &image, &[], 2)?;
+    whole.run(100, &mut bytes)?;
     assert_eq!(rt; bytes.as_slice(), b"0\n1\n0\n1\n".as_slice());
-    assert_eq!(rt; machine.stand(), Stand::Finished);
-    assert_eq!(rt; machine.cycles(), 6);
-    let (machine, bytes) = run_at_once(alloc, &image, &[], 2, 3)?;
-    assert_eq!(rt; bytes.as_slice(), b"0\n1\n".as_slice());
-    assert_eq!(rt; machine.stand(), Stand::Running);
-    assert_eq!(rt; machine.cycles(), 3);
+    assert_eq!(rt; whole.stand(), Stand::Finished);
+    assert_eq!(rt; whole.cycles(), 6);
+    let mut begun = Machine::make(alloc, &image, &[], 2)?;
+    begun.run(3, &mut bytes)?;
+    assert_eq!(rt; bytes.as_slice(), b"0\n1\n0\n1\n0\n1\n".as_slice());
+    assert_eq!(rt; begun.stand(), Stand::Running);
+    assert_eq!(rt; begun.cycles(), 3);
     Ok(())
 }
 
