@@ -91,7 +91,7 @@ module _ (places : Places) (nestings : Nestings) where
 
   -- a call begins, whose frame has no levels: all below it is as it was
   pub outer_of_call : (processors number : ℕ) (m m' : Memory) (i back entry : ℕ) (callers : List ℕ) (levels : List Level) → places.frames.of_file ≤ 56 → LevelsStay nestings i back
-      → nestings.levels entry ≡ 0 → nestings.behind entry ≤ 56 → ((x : ℕ) → x < frame_end (length callers) → m' x ≡ m x)
+      → nestings.levels entry ≡ 0 → nestings.behind entry ≤ 57 → ((x : ℕ) → x < frame_end (length callers) → m' x ≡ m x)
       → HasOuter places nestings processors number m (i ∷ callers) levels → HasOuter places nestings processors number m' (entry ∷ back ∷ callers) levels
   outer_of_call processors number m m' i back entry callers levels few stay none low same held =
       let room = held.0 in
