@@ -1,4 +1,5 @@
 pub mod Built
+pub mod Plain
 pub mod Building
 pub mod Text
 pub mod Refusal

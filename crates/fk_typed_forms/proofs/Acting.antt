@@ -64,6 +64,11 @@ check_good : (shared_alone : Bool) (known : Constants) (ws : List Value) (v w : 
 check_good shared_alone known [] v w vs h k = absurd h
 check_good shared_alone known (u ∷ ws) v w vs h k = (k u, h.1)
 
+agree_good : (known : Constants) (ws : List Value) (v : Value) (vs : List Value) → AreAsGood ws (v ∷ vs)
+    → AreAsGood (values_behind o.Agree true known ws) (Unknown ∷ vs)
+agree_good known [] v vs h = absurd h
+agree_good known (w ∷ ws) v vs h = (as_unknown Unknown, h.1)
+
 read_asks : (ws : List Value) (v : Value) (vs : List Value) → AreAsGood ws (v ∷ vs) → is_known false v ≡ true → Asks o.Read ws
 read_asks [] v vs h e = absurd h
 read_asks (w ∷ ws) v vs h e = h.0 false e
@@ -195,4 +200,9 @@ module _ {p : Place} {vs : List Value} where
   index size = simply p true (o.Index size) (Unknown ∷ Unknown ∷ vs) (omega arith) (omega arith) (λ ws. tt) (λ c ws. refl)
 
   pub agree : Does p o.Agree (Unknown ∷ vs) (Unknown ∷ vs)
-  agree = simply p true o.Agree (Unknown ∷ vs) (omega arith) (omega arith) (λ ws. tt) (λ c ws. refl)
+  agree = record {
+    acts = λ s g. (
+      may o.Agree s (level p (Unknown ∷ vs)) g.values (omega arith) (omega arith) tt,
+      record { place = g.place; values = agree_good s.constants s.values Unknown vs g.values; constants = none_asked _ },
+    );
+  }

@@ -1,5 +1,5 @@
 -- A program that is as it is asked: struct pair { int a; int b; }; sh int x; sh struct pair q; int f(int n) { return n; }
--- void main(void) { int i; for (;;) break; q.b = f(2); x += *&x; putint(x); }
+-- void main(void) { int i; for (;;) break; q.b = f(2); x += *&x; putint(x); start farm barrier; }
 use Rattle.std.proofs.Common.{◌≡◌, ℕ, zero, suc, true, false, inl, inr, List, [], ◌∷◌, All, Some, None, refl, subst, arith}
 use Rattle.std.specs.Prelude.{codes}
 use Rattle.std.proofs.lemmas.Bool.{false≢true}
@@ -19,13 +19,14 @@ use Rattle.fk_forms.specs.Tables.{Tables}
 use Rattle.fk_forms.proofs.Short.{place, sp, nm, ty, dc, nn, nt, kd, sl, function}
 use Rattle.fk_forms.specs.Program.{functions_of, signature_in, bodies_of, main_of}
 use Rattle.fk_forms.specs.Expressions.{Signature}
-use Rattle.fk_text.specs.Built.{is_built, operations_of, AreBuilt}
+use Rattle.fk_text.specs.Built.{operations_of}
+use Rattle.fk_text.specs.Plain.{is_plain, ArePlain}
 use Rattle.fk_kept.specs.declared.places.Place.TheVariants.{Main}
 use Rattle.fk_typed_code.specs.Typed.{AreTyped}
 use Rattle.fk_typed_forms.specs.Ways.{Word, way}
 use Rattle.fk_typed_forms.specs.Asked.{Asked, place_of, ProgramAsked}
 use Rattle.fk_typed_forms.specs.Typed.{StandsAs, Known}
-use Rattle.fk_typed_forms.proofs.Built.{AreAllBuilt}
+use Rattle.fk_typed_forms.proofs.Along.{EachOf}
 use Rattle.fk_typed_forms.proofs.Mains.{main_has_its_place}
 use Rattle.fk_typed_forms.proofs.Programs.{forms_are_typed}
 use Rattle.fk_typed_forms.proofs.Typing.{typed_is_asked}
@@ -49,7 +50,7 @@ abbrev program : ProgramTree
 program = record {
   items =
       (p.FunctionItem (function k.Async (ty t.Int 0) (nm (codes "f") 2 1 1) (dc false (ty t.Int 0) (nm (codes "n") 3 1 1) None None ∷ []) (Some (p.statement (p.Return (sp 0 1 1) (Some n)) p.no_statements))))
-      ∷ (p.FunctionItem (function k.Async (ty t.Void 0) (nm (codes "main") 1 1 1) [] (Some (p.statement (p.Declare (dc false (ty t.Int 0) (nm (codes "i") 4 1 1) None None ∷ [])) (p.statement (p.For (sp 0 1 1) None None None (p.Break (sp 0 1 1))) (p.statement (p.Expression assigned) (p.statement (p.Expression added) (p.statement (p.Expression printed) p.no_statements))))))))
+      ∷ (p.FunctionItem (function k.Async (ty t.Void 0) (nm (codes "main") 1 1 1) [] (Some (p.statement (p.Declare (dc false (ty t.Int 0) (nm (codes "i") 4 1 1) None None ∷ [])) (p.statement (p.For (sp 0 1 1) None None None (p.Break (sp 0 1 1))) (p.statement (p.Expression assigned) (p.statement (p.Expression added) (p.statement (p.Expression printed) (p.statement (p.Start (sp 0 1 1) None (p.Farm (sp 0 1 1) (p.Barrier (sp 0 1 1)))) p.no_statements)))))))))
       ∷ [];
   end = place 1 1;
   tokens = 10;
@@ -76,7 +77,7 @@ asked = (
           (((refl, (refl, tt)), tt, (tt, (record { called = tt; enough = tt }, (tt, refl, tt), tt)), refl), refl),
           (
             ((refl, tt, ((refl, tt), refl), refl), refl),
-            (((tt, (refl, (refl, refl, tt), tt)), refl), tt),
+            (((tt, (refl, (refl, refl, tt), tt)), refl), ((tt, tt), tt)),
           ),
         ),
       ),
@@ -85,17 +86,17 @@ asked = (
   ),
 )
 
-all_of : (ops : List Operation) → AreAllBuilt ops → All (λ op. is_built op ≡ true) ops
+all_of : (ops : List Operation) → EachOf is_plain ops → All (λ op. is_plain op ≡ true) ops
 all_of [] h i d less = absurd (omega (arith, less))
 all_of (op ∷ ops) h zero d less = h.0
 all_of (op ∷ ops) h (suc i) d less = all_of ops h.1 i d (omega (arith, less))
 
-are_built : AreBuilt tables program
-are_built = all_of (operations_of tables program)
-    (refl, (refl, (refl, (refl, (refl, (refl, (refl, (refl, (refl, (refl, (refl, (refl, (refl, (refl, (refl, (refl, (refl, (refl, (refl, (refl, (refl, (refl, (refl, (refl, (refl, (refl, (refl, (refl, (refl, tt)))))))))))))))))))))))))))))
+are_plain : ArePlain tables program
+are_plain = all_of (operations_of tables program)
+    (refl, (refl, (refl, (refl, (refl, (refl, (refl, (refl, (refl, (refl, (refl, (refl, (refl, (refl, (refl, (refl, (refl, (refl, (refl, (refl, (refl, (refl, (refl, (refl, (refl, (refl, (refl, (refl, (refl, (refl, (refl, (refl, (refl, (refl, (refl, (refl, tt))))))))))))))))))))))))))))))))))))
 
 typed : AreTyped (place_of tables program) (bodies_of tables program)
-typed = forms_are_typed tables program asked are_built
+typed = forms_are_typed tables program asked are_plain
 
 begins : place_of tables program (main_of tables program) ≡ Main
 begins = (main_has_its_place tables program (inr (inl refl)) (refl, (refl, tt))).0

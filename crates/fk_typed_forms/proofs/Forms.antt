@@ -37,7 +37,7 @@ use Rattle.fk_typed_code.specs.Values.{Value, Unknown, Usable, Shared, State}
 use Rattle.fk_typed_code.proofs.Granting.{none_asked, good_as_itself, as_long}
 use Rattle.fk_typed_forms.specs.Ways.{Way, Valued, Absent, Unchecked, Constant, Array, Grouped, Word, Function, gives, result, predeclared_gives, place_gives, predeclared_way, placed_way, prefix_way, joined_way, named_way, called_way, dotted_way, way, chain_way, suffixed_way}
 use Rattle.fk_typed_forms.specs.Asked.{IsTarget, HasAddress, PrefixAsks, AreEnough, IsCalled, NameAsks, DotAsks, JoinAsks, TakesAll, NameTakes, CallAsks, Asked, LinksAsked, SuffixesAsked, AllAsked}
-use Rattle.fk_typed_forms.proofs.Ok.{level, noted, Acts, Ok, as_unknown, weaken, ended, on, unbuilt, branch, enters}
+use Rattle.fk_typed_forms.proofs.Ok.{level, noted, Acts, Ok, as_unknown, weaken, ended, on, not_plain, branch, enters}
 use Rattle.fk_typed_forms.proofs.Acting.{simply, push, push_address, push_offset, add_offset, join, copy, check, check_shared, read, write, combine, get, set, drop_last, apply, index, agree}
 
 -- values with one more, of which nothing is known, or without
@@ -247,7 +247,7 @@ module _ (tables : Tables) (functions : (binding : ℕ) → Signature) (place_of
   places h.Global i name asks l vs k e q = on (push_address (0x10000000 + 4 * i) asks) (q (AtAddress false (spot_of name)) tt)
   places h.FilePrivate i name asks l vs k e q = q (InWord (v.OfFile i)) tt
   places h.Private i name asks l vs k e q = q (InWord (v.Private i)) tt
-  places (h.Group r) i name asks l vs k e q = unbuilt refl
+  places (h.Group r) i name asks l vs k e q = not_plain refl
   places h.NoWord i name asks l vs k e q = q (ToCall name) refl
 
   pub names : (name : Named) → NameAsks tables functions place_of name.at (named_way tables place_of name) → Good (variable tables functions name) (named_way tables place_of name)
@@ -439,7 +439,7 @@ module _ (tables : Tables) (functions : (binding : ℕ) → Signature) (place_of
   -- the beginning of a call has nothing to do with values
   opens : (q : Place) (i : ℕ) (xs : List DeclaredTree) → Ok place_of None (level q []) (parameters tables functions i xs) (level q [])
   opens q i [] = ended
-  opens q i (x ∷ xs) = either x.shared _ (parameters tables functions (suc i) xs) (unbuilt refl) (opens q (suc i) xs)
+  opens q i (x ∷ xs) = either x.shared _ (parameters tables functions (suc i) xs) (not_plain refl) (opens q (suc i) xs)
 
   pub frame_of : (q : Place) (vs : List Value) (levels words : ℕ) → Acts true (o.Frame levels words) (level q vs) (level q vs)
   frame_of q vs levels words = simply q true (o.Frame levels words) vs (omega arith) (omega arith) (λ ws. tt) (λ c ws. refl)

@@ -1,4 +1,4 @@
-pub mod Built
+pub mod Along
 mod Ok
 mod Acting
 mod Forms

@@ -1,4 +1,4 @@
--- Code of places that is well typed, whichever numbers it gets, in each state that grants one, if all its operations are built.
+-- Code of places that is well typed, whichever numbers it gets, in each state that grants one, if all its operations are plain.
 use Rattle.std.proofs.Common.{◌≡◌, ℕ, zero, suc, ◌+◌, ◌≤◌, Bool, true, false, List, [], ◌∷◌, ◌++◌, length, drop, replicate, Option, Some, None, sym, subst, ◌∙◌}
 use Rattle.std.proofs.lemmas.Bool.{false≢true}
 use Rattle.fk_syntax.specs.declared.place.Place as y
@@ -8,12 +8,12 @@ use Rattle.fk_depths.specs.Local.{needs, leaves, results}
 use Rattle.fk_block_law.specs.Suits.{looks_at}
 use Rattle.fk_forms.specs.Code.{done, perform, choose, while, until, quit, break, continue, call, ends, size, numbered}
 use Rattle.fk_forms.specs.Expressions.{Coded}
-use Rattle.fk_typed_forms.proofs.Built.{AllBuilt}
+use Rattle.fk_typed_forms.proofs.Along.{AllOf}
 use Rattle.fk_kept.specs.declared.places.Place.{Place}
 use Rattle.fk_kept.specs.declared.places.Place.TheVariants.{Called}
 use Rattle.fk_known.specs.declared.constants.Constants.{Constants}
 use Rattle.fk_known.specs.Values.{constants, no_constants}
-use Rattle.fk_text.specs.Built.{is_built}
+use Rattle.fk_text.specs.Plain.{is_plain}
 use Rattle.fk_typed_code.specs.Values.{Value, Unknown, Shared, State, bare, changed, values_behind, behind, behind_call, Asks, May, IsAsGood, AreAsGood, Grants}
 use Rattle.fk_typed_code.specs.Typed.{EndsIn, Typed}
 use Rattle.fk_typed_code.proofs.Granting.{none_asked, as_long, grants_itself, grants_both}
@@ -30,7 +30,7 @@ pub record Acts (onward : Bool) (op : Operation) (t u : State) : Type 0 where
   pub acts : (s : State) → Grants s t → May op s × Grants (behind op onward s) u
 
 pub record Ok (place_of : ℕ → Place) (l : Option State) (t : State) (code : Coded) (e : State) : Type 0 where
-  pub typed : (s : State) → Grants s t → AllBuilt code → (n : ℕ) → Typed place_of l s (numbered n code) e
+  pub typed : (s : State) → Grants s t → AllOf is_plain code → (n : ℕ) → Typed place_of l s (numbered n code) e
 
 pub as_unknown : (v : Value) → IsAsGood v Unknown
 as_unknown v shared_alone e = absurd (false≢true e)
@@ -83,9 +83,9 @@ module _ {place_of : ℕ → Place} where
       → Ok place_of l t (perform tag op rest) e
   on {op = op} a p = record { typed = λ s g b n. ((a.acts s g).0, p.typed (behind op true s) (a.acts s g).1 b.1 (suc n)) }
 
-  -- what isn't built doesn't stand there
-  pub unbuilt : {l : Option State} {t e : State} {tag : y.Place} {op : Operation} {rest : Coded} → is_built op ≡ false → Ok place_of l t (perform tag op rest) e
-  unbuilt is = record { typed = λ s g b n. absurd (false≢true (sym is ∙ b.0)) }
+  -- what isn't plain doesn't stand there
+  pub not_plain : {l : Option State} {t e : State} {tag : y.Place} {op : Operation} {rest : Coded} → is_plain op ≡ false → Ok place_of l t (perform tag op rest) e
+  not_plain is = record { typed = λ s g b n. absurd (false≢true (sym is ∙ b.0)) }
 
   pub branch : {l : Option State} {t u v w e : State} {tag : y.Place} {op : Operation} {x z rest : Coded}
       → Acts true op t u → Acts false op t v → Ok place_of l u x w → Ok place_of l v z w → Ok place_of l w rest e

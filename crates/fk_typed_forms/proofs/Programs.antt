@@ -15,7 +15,8 @@ use Rattle.fk_typed_code.specs.Typed.{Typed}
 use Rattle.fk_typed_code.proofs.Granting.{grants_itself}
 use Rattle.fk_typed_forms.specs.Asked.{BodyAsked, place_by, place_in, place_of, FunctionsAsked}
 use Rattle.fk_typed_forms.specs.Laws.{FormsAreTyped}
-use Rattle.fk_typed_forms.proofs.Built.{AreAllBuilt, each_of, front, back, built}
+use Rattle.fk_text.specs.Plain.{is_plain}
+use Rattle.fk_typed_forms.proofs.Along.{EachOf, each_of, front, back, along}
 use Rattle.fk_typed_forms.proofs.Ok.{level, Ok, ended}
 use Rattle.fk_typed_forms.proofs.Statements.{body_fine}
 
@@ -35,12 +36,12 @@ module _ (tables : Tables) (everyone : List FunctionTree) (places : (binding : �
   function_fine f asks = function_by f.mode f.result f.name f.parameters f.body asks
 
   bodies : (fs : List FunctionTree) (first binding : ℕ) → FunctionsAsked tables (signature_in tables everyone) places fs
-      → AreAllBuilt (operations_in tables everyone fs)
+      → EachOf is_plain (operations_in tables everyone fs)
       → (end : State) × Typed places None (bare (place_in tables fs binding)) (body_in tables everyone first fs binding) end
   bodies [] first binding asks all = (bare (place_in tables [] binding), grants_itself (bare (place_in tables [] binding)))
   bodies (f ∷ fs) first binding asks all =
       by (binding_of tables f == binding)
-      (bodies fs (first + size (code_of tables everyone f)) binding asks.1 (back (operations (code_of tables everyone f)) (operations_in tables everyone fs) all))
+      (bodies fs (first + size (code_of tables everyone f)) binding asks.1 (back is_plain (operations (code_of tables everyone f)) (operations_in tables everyone fs) all))
     where
       by : (is : Bool)
           → (end : State) × Typed places None (bare (place_in tables fs binding)) (body_in tables everyone (first + size (code_of tables everyone f)) fs binding) end
@@ -49,11 +50,11 @@ module _ (tables : Tables) (everyone : List FunctionTree) (places : (binding : �
       by true others = (
         level (place_by f) [],
         (function_fine f asks.0).typed (bare (place_by f)) (grants_itself (bare (place_by f)))
-            (built (code_of tables everyone f) (front (operations (code_of tables everyone f)) (operations_in tables everyone fs) all)) first,
+            (along is_plain (code_of tables everyone f) (front is_plain (operations (code_of tables everyone f)) (operations_in tables everyone fs) all)) first,
       )
       by false others = others
 
 pub forms_are_typed : FormsAreTyped
 forms_are_typed tables program asks all binding =
     let fs = functions_of program.items in
-    bodies tables fs (place_of tables program) fs 0 binding asks (each_of (operations_of tables program) all)
+    bodies tables fs (place_of tables program) fs 0 binding asks (each_of is_plain (operations_of tables program) all)

@@ -1,5 +1,5 @@
 -- What is asked of a program so that its code is well typed: where a value is needed, there is one, what is assigned to has a
--- place, calls have their arguments and a function, and constant addresses are those of shared data. Nothing is asked of group variables, of which no built text has one.
+-- place, calls have their arguments and a function, and constant addresses are those of shared data. Nothing is asked of group variables, of which no text with plain operations has one.
 use Rattle.std.specs.Prelude.{◌≡◌, ℕ, ◌==◌, Bool, true, false, not, List, [], ◌∷◌, Option, Some, None, if◌then◌else◌}
 use Rattle.fk_store.specs.Serve.{may_use}
 use Rattle.fk_syntax.specs.declared.sign.Sign.{Sign}

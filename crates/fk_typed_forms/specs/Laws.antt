@@ -1,16 +1,16 @@
--- Such programs of which all operations are built come to well typed code; and `main` is where it begins.
+-- Such programs of which all operations are plain come to well typed code; and `main` is where it begins.
 use Rattle.std.specs.Prelude.{◌≡◌, ◌⊎◌, ℕ, ◌==◌, true, List, [], ◌∷◌}
 use Rattle.fk_syntax.specs.Program.{FunctionTree, ProgramTree}
 use Rattle.fk_forms.specs.Tables.{Tables}
 use Rattle.fk_forms.specs.Program.{functions_of, binding_of, is_main, bodies_of, main_of}
-use Rattle.fk_text.specs.Built.{AreBuilt}
+use Rattle.fk_text.specs.Plain.{ArePlain}
 use Rattle.fk_kept.specs.declared.places.Place.TheVariants.{Main}
 use Rattle.fk_typed_code.specs.Typed.{AreTyped}
 use Rattle.fk_typed_forms.specs.Asked.{place_of, ProgramAsked}
 
 abbrev pub FormsAreTyped : Type 0
 FormsAreTyped =
-    (tables : Tables) (program : ProgramTree) → ProgramAsked tables program → AreBuilt tables program
+    (tables : Tables) (program : ProgramTree) → ProgramAsked tables program → ArePlain tables program
     → AreTyped (place_of tables program) (bodies_of tables program)
 
 -- there is a `main`, and no other function has its binding

@@ -3,7 +3,7 @@
 ghost use Rattle.fk_typed_forms.specs.Laws.{FormsAreTyped, MainHasItsPlace};
 ghost use Rattle.fk_typed_forms.specs.Typed.{TypedIsAsked};
 
-/// The code of a program of which all operations are built is well typed, where there is a value
+/// The code of a program of which all operations are plain is well typed, where there is a value
 /// wherever one is needed, a place where something is assigned, each call has its arguments, and
 /// `break` and `continue` stand in loops.
 pub fn forms_are_typed()
