@@ -36,7 +36,8 @@ use Rattle.fk_nesting.specs.Calls.{takes_two, TakesEnough, CallFits, LinksFit, F
 use Rattle.fk_nesting.proofs.Spine.{both_ways}
 use Rattle.fk_nesting.proofs.Kept.{is_predeclared, entered}
 use Rattle.fk_shapes.specs.Fitting.{NameFits, Takes, Fits, OptionFits}
-use Rattle.fk_typed_forms.proofs.Built.{AllBuilt}
+use Rattle.fk_text.specs.Plain.{is_plain}
+use Rattle.fk_typed_forms.proofs.Along.{AllOf}
 use Rattle.fk_certain.specs.Named.{HasWord, IsNamed, AreNamed}
 use Rattle.fk_certain.proofs.Ok.{names_none, HasItsWord, freely, gets, sets, Ok, ended, on, branch, enters}
 
@@ -278,19 +279,19 @@ module _ (tables : Tables) (functions : (binding : ℕ) → Signature) (has_body
   frames None place rest p = p
   frames (Some r) place rest p = (goes refl p)
 
-  puts_none : (i : ℕ) (xs : List DeclaredTree) → AllBuilt (parameters tables functions i xs) → (first : ℕ) → is_done (numbered first (parameters tables functions i xs)) ≡ true
+  puts_none : (i : ℕ) (xs : List DeclaredTree) → AllOf is_plain (parameters tables functions i xs) → (first : ℕ) → is_done (numbered first (parameters tables functions i xs)) ≡ true
   puts_none i [] all first = refl
   puts_none i (y ∷ ys) all first =
       let others = parameters tables functions (suc i) ys in
       let shared = plain (o.Get (n.FrameAddress 0 (slot tables (note tables y.name.at).binding).index)) (plain (o.Get (n.Value (v.Private i))) (plain o.Write (plain o.DropLast others))) in
       by y.shared shared others (λ b. absurd (true≢false (sym b.0))) (λ b. puts_none (suc i) ys b first) all
     where
-      by : (b : Bool) (c d : Coded) → (AllBuilt c → is_done (numbered first c) ≡ true) → (AllBuilt d → is_done (numbered first d) ≡ true)
-          → AllBuilt (if b then c else d) → is_done (numbered first (if b then c else d)) ≡ true
+      by : (b : Bool) (c d : Coded) → (AllOf is_plain c → is_done (numbered first c) ≡ true) → (AllOf is_plain d → is_done (numbered first d) ≡ true)
+          → AllOf is_plain (if b then c else d) → is_done (numbered first (if b then c else d)) ≡ true
       by true c d f g all' = f all'
       by false c d f g all' = g all'
 
-  opens_empty : (r : Option Region) (place : Place) (xs : List DeclaredTree) → AllBuilt (framed tables functions r place (parameters tables functions 0 xs))
+  opens_empty : (r : Option Region) (place : Place) (xs : List DeclaredTree) → AllOf is_plain (framed tables functions r place (parameters tables functions 0 xs))
       → (first : ℕ) → is_done (numbered first (framed tables functions r place (parameters tables functions 0 xs))) ≡ true
   opens_empty (Some r) place xs all first = absurd (true≢false (sym all.0))
   opens_empty None place xs all first = puts_none 0 xs all first

@@ -17,7 +17,8 @@ use Rattle.fk_typed_code.specs.Typed.{Typed}
 use Rattle.fk_certain.specs.Rooms.{ahead_in}
 use Rattle.fk_typed_forms.specs.Ways.{place_gives}
 use Rattle.fk_typed_forms.specs.Asked.{place_by, place_in}
-use Rattle.fk_typed_forms.proofs.Built.{AreAllBuilt, front, back, built}
+use Rattle.fk_text.specs.Plain.{is_plain}
+use Rattle.fk_typed_forms.proofs.Along.{EachOf, front, back, along}
 use Rattle.fk_certain.specs.Named.{words_in}
 use Rattle.fk_certain.specs.Room.{HasFew, own_words, HaveRoom}
 use Rattle.fk_certain.proofs.Low.{low, counted, lows}
@@ -67,23 +68,23 @@ module _ (tables : Tables) (items : List ItemTree) where
     places' b = place_in tables everyone b
 
     function_few : (f : FunctionTree) (first : ℕ) (l : Option State) (s e : State) → IsShaped has_body false (numbered first (code_of tables everyone f))
-        → Typed places' l s (numbered first (code_of tables everyone f)) e → AreAllBuilt (operations (code_of tables everyone f))
+        → Typed places' l s (numbered first (code_of tables everyone f)) e → EachOf is_plain (operations (code_of tables everyone f))
         → HasFew places' (values_of tables items f) 0 (numbered first (code_of tables everyone f))
     function_few f first l s e shaped typed all =
         let code = code_of tables everyone f in
         let functions = signature_in tables everyone in
         let most = values_of tables items f in
         lows functions places' most code beginning first
-        (counted functions places' (agree_in tables everyone) has_body code first false l s e shaped typed (built code all))
+        (counted functions places' (agree_in tables everyone) has_body code first false l s e shaped typed (along is_plain code all))
         (low most (places functions beginning code) (omega arith))
 
-    pub bodies_few : (fs : List FunctionTree) (first b : ℕ) (l : Option State) (s e : State) → AreAllBuilt (operations_in tables everyone fs)
+    pub bodies_few : (fs : List FunctionTree) (first b : ℕ) (l : Option State) (s e : State) → EachOf is_plain (operations_in tables everyone fs)
         → IsShaped has_body false (body_in tables everyone first fs b) → Typed places' l s (body_in tables everyone first fs b) e
         → HasFew places' (words_in tables (values_of tables items) fs b) 0 (body_in tables everyone first fs b)
     bodies_few [] first b l s e all shaped typed = omega arith
     bodies_few (f ∷ fs) first b l s e all shaped typed =
         by (binding_of tables f == b)
-        (bodies_few fs (first + size (code_of tables everyone f)) b l s e (back (operations (code_of tables everyone f)) (operations_in tables everyone fs) all))
+        (bodies_few fs (first + size (code_of tables everyone f)) b l s e (back is_plain (operations (code_of tables everyone f)) (operations_in tables everyone fs) all))
         shaped typed
       where
         by : (is : Bool)
@@ -95,5 +96,5 @@ module _ (tables : Tables) (items : List ItemTree) where
             → HasFew places' (if is then values_of tables items f else words_in tables (values_of tables items) fs b) 0
             (if is then numbered first (code_of tables everyone f) else body_in tables everyone (first + size (code_of tables everyone f)) fs b)
         by true more shaped' typed' =
-            function_few f first l s e shaped' typed' (front (operations (code_of tables everyone f)) (operations_in tables everyone fs) all)
+            function_few f first l s e shaped' typed' (front is_plain (operations (code_of tables everyone f)) (operations_in tables everyone fs) all)
         by false more shaped' typed' = more shaped' typed'

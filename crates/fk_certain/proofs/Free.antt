@@ -1,9 +1,8 @@
 -- The flat lists of programs stay within themselves.
-use Rattle.std.proofs.Common.{◌≡◌, ℕ, ◌+◌, ◌<◌, ◌≤◌, true, false, true≢false, List, slice_get, Option, Some, inl, inr, sym, ◌∙◌, subst}
+use Rattle.std.proofs.Common.{◌≡◌, ℕ, ◌+◌, ◌<◌, ◌≤◌, Bool, true, false, true≢false, List, slice_get, All, Option, Some, inl, inr, sym, ◌∙◌, subst}
 use Rattle.std.specs.Prelude.{◌⊎◌}
 use Rattle.std.proofs.lemmas.Option.{slice_get_within}
 use Rattle.fk_operation.specs.declared.operation.Operation.{Operation}
-use Rattle.fk_operation.specs.declared.operation.Operation.TheVariants.{Halt}
 use Rattle.fk_syntax.specs.Program.{ProgramTree}
 use Rattle.fk_forms.specs.Tables.{Tables}
 use Rattle.fk_forms.specs.Program.{bodies_of, main_of}
@@ -12,26 +11,29 @@ use Rattle.fk_core.specs.Numbers.{operation_of}
 use Rattle.fk_core.proofs.Leading.{op_stops}
 use Rattle.fk_flat.specs.Flat.{extent}
 use Rattle.fk_flat.specs.Laws.{AreShaped, IsFlat}
-use Rattle.fk_block_law.specs.Ready.{is_alone}
-use Rattle.fk_text.specs.Built.{AreBuilt}
+use Rattle.fk_text.specs.Built.{is_built, operations_of, AreBuilt}
+use Rattle.fk_text.specs.Plain.{is_plain, ArePlain}
+use Rattle.fk_certain.proofs.Plain.{built_texts_are_plain}
 use Rattle.fk_typed_code.specs.Laws.{IsTypedList, IsLone}
-use Rattle.fk_typed_code.proofs.Free.{typed_lists_are_free, entries_are_within}
+use Rattle.fk_typed_code.proofs.Free.{typed_lists_lead_within, typed_lists_are_free, entries_are_within}
 use Rattle.fk_typed_forms.specs.Asked.{place_of, ProgramAsked}
 use Rattle.fk_typed_forms.proofs.Programs.{forms_are_typed}
-use Rattle.fk_certain.specs.FreeLaws.{ListsAreFree}
+use Rattle.fk_certain.specs.FreeLaws.{ListsArePlain, ListsGoOnWithin, ListsAreFree}
 use Rattle.fk_certain.proofs.Items.{built_alone, OperationAt, JumpAt}
-use Rattle.fk_certain.proofs.Apart.{Own, at_index, apart}
+use Rattle.fk_certain.proofs.Apart.{Own, at_index, flat_lists_are_apart}
 
-module _ (tables : Tables) (program : ProgramTree) (core : List CoreOp) (entry : ℕ → ℕ) (are_built : AreBuilt tables program)
-    (flat : IsFlat (bodies_of tables program) core entry) where
+module _ (which : Operation → Bool) (tables : Tables) (program : ProgramTree) (core : List CoreOp) (entry : ℕ → ℕ)
+    (all_are : All (λ op. which op ≡ true) (operations_of tables program)) (flat : IsFlat (bodies_of tables program) core entry) where
   same_op : (a b : CoreOp) (o : Option CoreOp) → o ≡ Some a → o ≡ Some b → a ≡ b
   same_op a b o p q = cc
 
   same_operation : (a b : Operation) (o : Option Operation) → o ≡ Some a → o ≡ Some b → a ≡ b
   same_operation a b o p q = cc
 
-  pub lone : IsLone core
-  lone i op operation stands is_read = by (at_index tables program core entry are_built flat i f (lies.1, lies.2))
+  -- what is so of all operations of a text is so of all of its list
+  of_list : (i : ℕ) (op : CoreOp) (operation : Operation) → slice_get core i ≡ Some op → operation_of op.kind op.number ≡ Some operation
+      → which operation ≡ true
+  of_list i op operation stands is_read = by (at_index which tables program core entry all_are flat i f (lies.1, lies.2))
     where
       lies : (binding : ℕ) × (flat.place binding ≤ i) × (i < flat.place binding + extent false (bodies_of tables program binding))
       lies = flat.covers i (slice_get_within core i op stands)
@@ -39,31 +41,44 @@ module _ (tables : Tables) (program : ProgramTree) (core : List CoreOp) (entry :
       f : ℕ
       f = lies.0
 
-      by : OperationAt (Own tables program core entry are_built flat f) core entry i ⊎ (JumpAt (Own tables program core entry are_built flat f) core entry i × (flat.place f < i))
-          → (is_alone operation ≡ true) ⊎ (operation ≡ Halt)
+      by : OperationAt (Own which tables program core entry all_are flat f) core entry i
+          ⊎ (JumpAt (Own which tables program core entry all_are flat f) core entry i × (flat.place f < i)) → which operation ≡ true
       by (inl x) =
           let same : x.op ≡ op = same_op x.op op (slice_get core i) x.stands stands in
           let read : x.operation ≡ operation =
           same_operation x.operation operation (operation_of op.kind op.number)
           (subst (λ (o : CoreOp). operation_of o.kind o.number ≡ Some x.operation) same x.is_read) is_read in
-          subst (λ o. (is_alone o ≡ true) ⊎ (o ≡ Halt)) read (built_alone x.operation x.own.built)
+          subst (λ o. which o ≡ true) read x.own.is
       by (inr x) = absurd (true≢false (sym x.0.leads ∙ op_stops core entry i op operation stands is_read x.0.op x.0.stands))
 
+pub lists_are_plain : ListsArePlain
+lists_are_plain tables program core entry plain flat = of_list is_plain tables program core entry plain flat
+
+lone : (tables : Tables) (program : ProgramTree) (core : List CoreOp) (entry : ℕ → ℕ) → AreBuilt tables program
+    → IsFlat (bodies_of tables program) core entry → IsLone core
+lone tables program core entry built flat i op operation stands is_read =
+    built_alone operation (of_list is_built tables program core entry built flat i op operation stands is_read)
+
 -- the list of a program is one of well typed functions
-pub typed_list : (tables : Tables) (program : ProgramTree) (core : List CoreOp) (entry : ℕ → ℕ) → ProgramAsked tables program → AreBuilt tables program
+pub typed_list : (tables : Tables) (program : ProgramTree) (core : List CoreOp) (entry : ℕ → ℕ) → ProgramAsked tables program → ArePlain tables program
     → AreShaped (bodies_of tables program) → IsFlat (bodies_of tables program) core entry
     → IsTypedList (bodies_of tables program) core entry (place_of tables program)
-typed_list tables program core entry asked are_built shaped flat = record {
+typed_list tables program core entry asked plain shaped flat = record {
   shaped = shaped;
   flat = flat;
-  apart = apart tables program core entry are_built flat;
-  typed = forms_are_typed tables program asked are_built;
+  apart = flat_lists_are_apart tables program core entry flat;
+  typed = forms_are_typed tables program asked plain;
 }
 
-pub lists_are_free : ListsAreFree
-lists_are_free tables program core entry asked are_built shaped flat has_main =
-    let typed = typed_list tables program core entry asked are_built shaped flat in
+pub lists_go_on_within : ListsGoOnWithin
+lists_go_on_within tables program core entry asked plain shaped flat has_main =
+    let typed = typed_list tables program core entry asked plain shaped flat in
     record {
       begins = entries_are_within (bodies_of tables program) core entry (place_of tables program) typed (main_of tables program) has_main;
-      free = typed_lists_are_free (bodies_of tables program) core entry (place_of tables program) typed (lone tables program core entry are_built flat);
+      leads = typed_lists_lead_within (bodies_of tables program) core entry (place_of tables program) typed;
     }
+
+pub lists_are_free : ListsAreFree
+lists_are_free tables program core entry asked built shaped flat =
+    typed_lists_are_free (bodies_of tables program) core entry (place_of tables program)
+    (typed_list tables program core entry asked (built_texts_are_plain tables program built) shaped flat) (lone tables program core entry built flat)

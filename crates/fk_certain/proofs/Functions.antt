@@ -12,7 +12,8 @@ use Rattle.fk_forms.specs.Statements.{Inside, is_nothing}
 use Rattle.fk_forms.specs.Program.{functions_of, binding_of, signature_of, signature_in, is_main, code_of, body_in}
 use Rattle.fk_shapes.specs.Fitting.{is_defined, BodyFits, FunctionsFit}
 use Rattle.fk_text.specs.Built.{operations, operations_in, operations_of}
-use Rattle.fk_typed_forms.proofs.Built.{AllBuilt, AreAllBuilt, each_of, front, back, built}
+use Rattle.fk_text.specs.Plain.{is_plain}
+use Rattle.fk_typed_forms.proofs.Along.{AllOf, EachOf, each_of, front, back, along}
 use Rattle.fk_certain.specs.Rooms.{HasWords}
 use Rattle.fk_certain.proofs.Forms as forms
 use Rattle.fk_certain.proofs.NamedStatements.{body_fine}
@@ -36,7 +37,7 @@ module _ (tables : Tables) (everyone : List FunctionTree) (has_body : (binding :
   function_by : (words : ℕ) (mode : Mode) (kind : TypeTree) (name : Named) (parameters : List DeclaredTree) (body : Option Statements)
       → BodyFits tables functions has_body body → AreNamed tables firsts words (variables_marks parameters ++ body_marks body)
       → let f : FunctionTree = record { mode = mode; result = kind; name = name; parameters = parameters; body = body } in
-      AllBuilt (code_of tables everyone f) → (first : ℕ) → HasWords firsts words (numbered first (code_of tables everyone f))
+      AllOf is_plain (code_of tables everyone f) → (first : ℕ) → HasWords firsts words (numbered first (code_of tables everyone f))
   function_by words mode kind name parameters None fits names built' first = absurd fits
   function_by words mode kind name parameters (Some statements) fits names built' first =
       let f : FunctionTree = record { mode = mode; result = kind; name = name; parameters = parameters; body = Some statements } in
@@ -46,26 +47,26 @@ module _ (tables : Tables) (everyone : List FunctionTree) (has_body : (binding :
       fine.names built' first
 
   function_names : (words : ℕ) (f : FunctionTree) → BodyFits tables functions has_body f.body → FunctionNames tables firsts words f
-      → AllBuilt (code_of tables everyone f) → (first : ℕ) → HasWords firsts words (numbered first (code_of tables everyone f))
+      → AllOf is_plain (code_of tables everyone f) → (first : ℕ) → HasWords firsts words (numbered first (code_of tables everyone f))
   function_names words f fits names built' first = function_by words f.mode f.result f.name f.parameters f.body fits names.names built' first
 
   module _ (words : FunctionTree → ℕ) where
     bodies : (fs : List FunctionTree) (first binding : ℕ) → FunctionsFit tables functions has_body fs → FunctionsName tables words firsts fs
-        → AreAllBuilt (operations_in tables everyone fs)
+        → EachOf is_plain (operations_in tables everyone fs)
         → HasWords firsts (words_in tables words fs binding) (body_in tables everyone first fs binding)
     bodies [] first binding fits names built' = tt
     bodies (f ∷ fs) first binding fits names built' =
         by (binding_of tables f == binding)
-        (bodies fs (first + size (code_of tables everyone f)) binding fits.1 names.1 (back (operations (code_of tables everyone f)) (operations_in tables everyone fs) built'))
+        (bodies fs (first + size (code_of tables everyone f)) binding fits.1 names.1 (back is_plain (operations (code_of tables everyone f)) (operations_in tables everyone fs) built'))
       where
         by : (is : Bool) → HasWords firsts (words_in tables words fs binding) (body_in tables everyone (first + size (code_of tables everyone f)) fs binding)
             → HasWords firsts (if is then words f else words_in tables words fs binding)
             (if is then numbered first (code_of tables everyone f) else body_in tables everyone (first + size (code_of tables everyone f)) fs binding)
         by true others =
-            function_names (words f) f fits.0 names.0 (built (code_of tables everyone f) (front (operations (code_of tables everyone f)) (operations_in tables everyone fs) built')) first
+            function_names (words f) f fits.0 names.0 (along is_plain (code_of tables everyone f) (front is_plain (operations (code_of tables everyone f)) (operations_in tables everyone fs) built')) first
         by false others = others
 
 pub code_names_words : CodeNamesWords
 code_names_words tables program words firsts fits all' names binding =
     let fs = functions_of program.items in
-    bodies tables fs (is_defined tables fs) firsts (room_in tables words firsts fs names) words fs 0 binding fits names (each_of (operations_of tables program) all')
+    bodies tables fs (is_defined tables fs) firsts (room_in tables words firsts fs names) words fs 0 binding fits names (each_of is_plain (operations_of tables program) all')

@@ -15,7 +15,7 @@ use Rattle.fk_flat.specs.Flat.{begins_here, skip, gap, label, flat}
 use Rattle.fk_flat.proofs.Parts.{choice_at, turns_at, rounds_at, entering_at}
 use Rattle.fk_block_law.specs.Ready.{is_alone}
 use Rattle.fk_text.specs.Built.{is_built}
-use Rattle.fk_typed_forms.proofs.Built.{AllBuilt}
+use Rattle.fk_typed_forms.proofs.Along.{AllOf}
 
 -- an operation that is built is one without a group, or a halt
 pub built_alone : (op : Operation) → is_built op ≡ true → (is_alone op ≡ true) ⊎ (op ≡ o.Halt)
@@ -78,9 +78,9 @@ module _ (P : ℕ → Operation → Type 0) where
   skip_none true target = tt
   skip_none false target = tt
 
-  -- so it is of code that is numbered between two numbers, and all of which is built
-  module _ (entry : ℕ → ℕ) (low high : ℕ) (own : (n : ℕ) (op : Operation) → low ≤ n → n < high → is_built op ≡ true → P n op) where
-    pub all_acts : (code : Coded) (n : ℕ) → low ≤ n → n + size code ≤ high → AllBuilt code
+  -- so it is of code that is numbered between two numbers, and of which all operations are of some kind
+  module _ (which : Operation → Bool) (entry : ℕ → ℕ) (low high : ℕ) (own : (n : ℕ) (op : Operation) → low ≤ n → n < high → which op ≡ true → P n op) where
+    pub all_acts : (code : Coded) (n : ℕ) → low ≤ n → n + size code ≤ high → AllOf which code
         → (near : Bool) (c : Around) (i k : ℕ) → AllActs (flat entry near c i k (numbered n code))
     all_acts done n l h b near c i k = tt
     all_acts (perform t op rest) n l h b near c i k =

@@ -48,3 +48,4 @@ pub mod Texts
 mod Heights
 pub mod TallLists
 pub mod Lists
+pub mod Plain

@@ -19,7 +19,7 @@ use Rattle.fk_fitting.proofs.Programs.{correct_programs_fit}
 use Rattle.fk_typed_code.proofs.Knowing.{typed_lists_know}
 use Rattle.fk_typed_forms.specs.Asked.{place_by, place_in, place_of}
 use Rattle.fk_certain.proofs.Programs.{correct_programs_are_asked, mains_have_their_place}
-use Rattle.fk_certain.proofs.Free.{lone, typed_list, lists_are_free}
+use Rattle.fk_certain.proofs.Free.{typed_list, lists_are_plain, lists_go_on_within, lists_are_free}
 use Rattle.fk_certain.proofs.Suiting.{live_words_suit}
 use Rattle.fk_certain.proofs.Room.{correct_programs_have_room}
 use Rattle.fk_core.specs.declared.op.CoreOp.{CoreOp}
@@ -32,7 +32,8 @@ use Rattle.fk_lower.specs.Depths.{AreTold}
 use Rattle.fk_lower_text.specs.Depths.{depths_of}
 use Rattle.fk_layout.specs.Refusal.{Fits}
 use Rattle.fk_parsed.specs.Trim.{ProgramIsTrim}
-use Rattle.fk_text.specs.Built.{AreBuilt}
+use Rattle.fk_text.specs.Plain.{ArePlain}
+use Rattle.fk_certain.proofs.Plain.{built_texts_are_plain}
 use Rattle.fk_shapes.specs.Fitting.{ProgramFits}
 use Rattle.fk_fitting.specs.Correct.{IsCorrect}
 use Rattle.fk_typed_code.specs.Typed.{AreTyped}
@@ -42,7 +43,7 @@ use Rattle.fk_typed_forms.proofs.Programs.{forms_are_typed}
 use Rattle.fk_certain.specs.Proper.{ProgramIsProper}
 use Rattle.fk_certain.specs.LoweringLaws.{IsKnownOf}
 use Rattle.fk_certain.proofs.TallLists.{lists_have_heights}
-use Rattle.fk_certain.specs.Laws.{CorrectListsAreSafe, CorrectListsAreCertain, LoweredListsCanBeCoded}
+use Rattle.fk_certain.specs.Laws.{CorrectListsAreSteady, CorrectListsAreSafe, CorrectListsHaveFrames, CorrectListsAreCertain, LoweredListsCanHaveGroups, LoweredListsCanBeCoded}
 
 -- what has the place of `main` is defined
 is_there : (tables : Tables) (fs : List FunctionTree) (b : ℕ) → place_in tables fs b ≡ Main → is_defined tables fs b ≡ true
@@ -54,8 +55,8 @@ is_there tables (f ∷ fs) b is = by (binding_of tables f == b) (is_there tables
     by true others is = refl
     by false others is = others is
 
-pub correct_lists_are_safe : CorrectListsAreSafe
-correct_lists_are_safe program facts valid trim proper fits built core entry flat =
+pub correct_lists_are_steady : CorrectListsAreSteady
+correct_lists_are_steady program facts valid trim proper fits plain core entry flat =
     let tables = tables_by program facts in
     let main = main_of tables program in
     let asked = correct_programs_are_asked program facts valid trim proper fits in
@@ -63,63 +64,83 @@ correct_lists_are_safe program facts valid trim proper fits built core entry fla
     let shaped = forms_are_shaped tables program fitting in
     let place = (mains_have_their_place program facts valid).0 in
     let closed = functions_are_closed tables program fitting main (is_there tables (functions_of program.items) main place) in
-    let within = lists_are_free tables program core entry asked built shaped flat closed in
-    let typed = typed_list tables program core entry asked built shaped flat in
+    let typed = typed_list tables program core entry asked plain shaped flat in
     record {
-      begins = within.begins;
-      free = within.free;
-      may =
-          knowledge_is_enough core (entry main)
-          (typed_lists_know (bodies_of tables program) core entry (place_of tables program) typed (lone tables program core entry built flat) main place);
+      within = lists_go_on_within tables program core entry asked plain shaped flat closed;
+      plain = lists_are_plain tables program core entry plain flat;
+      may = knowledge_is_enough core (entry main) (typed_lists_know (bodies_of tables program) core entry (place_of tables program) typed main place);
     }
 
-pub correct_lists_are_certain : CorrectListsAreCertain
-correct_lists_are_certain program facts valid trim proper fits built core entry kept lowered =
+-- and where all is built it has no groups
+pub correct_lists_are_safe : CorrectListsAreSafe
+correct_lists_are_safe program facts valid trim proper fits built core entry flat =
+    let tables = tables_by program facts in
+    let plain = built_texts_are_plain tables program built in
+    let asked = correct_programs_are_asked program facts valid trim proper fits in
+    let shaped = forms_are_shaped tables program (correct_programs_fit program facts valid trim) in
+    let steady = correct_lists_are_steady program facts valid trim proper fits plain core entry flat in
+    let within = steady.within in
+    record { begins = within.begins; free = lists_are_free tables program core entry asked built shaped flat; may = steady.may }
+
+pub correct_lists_have_frames : CorrectListsHaveFrames
+correct_lists_have_frames program facts valid trim proper fits plain core entry kept lowered =
     let tables = tables_by program facts in
     let main = main_of tables program in
     let asked = correct_programs_are_asked program facts valid trim proper fits in
     let shaped = forms_are_shaped tables program (correct_programs_fit program facts valid trim) in
     let place = (mains_have_their_place program facts valid).0 in
-    let typed = typed_list tables program core entry asked built shaped lowered.flat in
+    let typed = typed_list tables program core entry asked plain shaped lowered.flat in
     let count = length-map (variables_of false program.items) (first_of (told facts.notes.items facts.kinds.items)) in
     let suits = live_words_suit (bodies_of tables program) core entry (place_of tables program) (file_privates program.items) typed lowered.tall
-    (correct_programs_have_room program facts valid trim proper fits built) (words_in kept) lowered.live lowered.least main place in
+    (correct_programs_have_room program facts valid trim proper fits plain) (words_in kept) lowered.live lowered.least main place in
     record {
-      safe = correct_lists_are_safe program facts valid trim proper fits built core entry lowered.flat;
       frames = record { keeps = words_in kept; is_main = suits.0; of_file = file_privates program.items };
       of_file = sym count;
       suits = suits.1;
       keeps = λ index word held. held;
     }
 
+pub correct_lists_are_certain : CorrectListsAreCertain
+correct_lists_are_certain program facts valid trim proper fits built core entry kept lowered = record {
+  safe = correct_lists_are_safe program facts valid trim proper fits built core entry lowered.flat;
+  held = correct_lists_have_frames program facts valid trim proper fits (built_texts_are_plain (tables_by program facts) program built) core entry kept lowered;
+}
+
 module _ (program : ProgramTree) (facts : Facts) (known : Known) (of : IsKnownOf program facts known) (valid : IsCorrect program facts) (trim : ProgramIsTrim program)
-    (proper : ProgramIsProper program) (fits : Fits (tables_by program facts) program.items) (built : AreBuilt (tables_by program facts) program) where
+    (proper : ProgramIsProper program) (fits : Fits (tables_by program facts) program.items) (plain : ArePlain (tables_by program facts) program) where
   -- the depths that are told of the text are those of its code
   tall : (core : List CoreOp) → AreTold (depths_of known (functions_in known)) core
       → HasHeightsOf (bodies_of (tables_by program facts) program) core (place_of (tables_by program facts) program)
   tall core told =
       let tables = tables_by program facts in
       let fitting = correct_programs_fit program facts valid trim in
-      let typed = forms_are_typed tables program (correct_programs_are_asked program facts valid trim proper fits) built in
+      let typed = forms_are_typed tables program (correct_programs_are_asked program facts valid trim proper fits) plain in
       subst
       (λ (t : Tables).
-      ProgramFits t program → AreBuilt t program → AreTyped (place_of t program) (bodies_of t program) → HasHeightsOf (bodies_of t program) core (place_of t program))
-      of.tables (λ f b t. lists_have_heights known program core (sym of.items) f b t told) fitting built typed
+      ProgramFits t program → ArePlain t program → AreTyped (place_of t program) (bodies_of t program) → HasHeightsOf (bodies_of t program) core (place_of t program))
+      of.tables (λ f b t. lists_have_heights known program core (sym of.items) f b t told) fitting plain typed
 
-pub lowered_lists_can_be_coded : LoweredListsCanBeCoded
-lowered_lists_can_be_coded program facts known of valid trim proper fits built core entry flat told =
+pub lowered_lists_can_have_groups : LoweredListsCanHaveGroups
+lowered_lists_can_have_groups program facts known of valid trim proper fits plain core entry flat told =
     let tables = tables_by program facts in
     let main = main_of tables program in
     let asked = correct_programs_are_asked program facts valid trim proper fits in
     let shaped = forms_are_shaped tables program (correct_programs_fit program facts valid trim) in
     let place = (mains_have_their_place program facts valid).0 in
-    let typed = typed_list tables program core entry asked built shaped flat in
-    let high = tall program facts known of valid trim proper fits built core told in
+    let typed = typed_list tables program core entry asked plain shaped flat in
+    let high = tall program facts known of valid trim proper fits plain core told in
+    let deep = typed_lists_have_depths (bodies_of tables program) core entry (place_of tables program) typed high main place in
     record {
-      depths =
-          local_depths_are_depths core (entry main)
-          (typed_lists_have_depths (bodies_of tables program) core entry (place_of tables program) typed high main place);
-      safe = correct_lists_are_safe program facts valid trim proper fits built core entry flat;
-      certain = λ kept live least.
-          correct_lists_are_certain program facts valid trim proper fits built core entry kept (record { flat = flat; tall = high; live = live; least = least });
+      depths = local_depths_are_depths core (entry main) deep;
+      enough = λ i op operation stands is_read. (deep.fits i op operation stands is_read).0;
+      steady = correct_lists_are_steady program facts valid trim proper fits plain core entry flat;
+      held = λ kept live least.
+          correct_lists_have_frames program facts valid trim proper fits plain core entry kept (record { flat = flat; tall = high; live = live; least = least });
     }
+
+pub lowered_lists_can_be_coded : LoweredListsCanBeCoded
+lowered_lists_can_be_coded program facts known of valid trim proper fits built core entry flat told =
+    let plain = built_texts_are_plain (tables_by program facts) program built in
+    let able = lowered_lists_can_have_groups program facts known of valid trim proper fits plain core entry flat told in
+    let safe = correct_lists_are_safe program facts valid trim proper fits built core entry flat in
+    record { depths = able.depths; safe = safe; certain = λ kept live least. record { safe = safe; held = able.held kept live least } }

@@ -13,16 +13,16 @@ use Rattle.fk_kept.specs.declared.places.Place.{Place}
 use Rattle.fk_kept.specs.declared.places.Place.TheVariants.{Called}
 use Rattle.fk_flat.specs.Items.{into, way_of}
 use Rattle.fk_flat.specs.Shape.{IsShaped}
-use Rattle.fk_text.specs.Built.{is_built}
+use Rattle.fk_text.specs.Plain.{is_plain}
 use Rattle.fk_typed_code.specs.Values.{State}
 use Rattle.fk_typed_code.specs.Values as w
 use Rattle.fk_typed_code.specs.Typed.{Typed}
 use Rattle.fk_typed_code.specs.Heights.{raised, results_of, height}
-use Rattle.fk_typed_forms.proofs.Built.{AllBuilt}
+use Rattle.fk_typed_forms.proofs.Along.{AllOf}
 use Rattle.fk_certain.specs.Room.{HasFew}
 
--- an operation that is built leaves as many values on both ways
-leaves_so : (op : Operation) (onward : Bool) → is_built op ≡ true → leaves op onward ≡ pushes op
+-- an operation that is plain leaves as many values on both ways
+leaves_so : (op : Operation) (onward : Bool) → is_plain op ≡ true → leaves op onward ≡ pushes op
 leaves_so (o.Divide by) onward e = absurd (true≢false (sym e))
 leaves_so op onward e = refl
 
@@ -60,18 +60,18 @@ pushes_none o.Block e = absurd (cc)
 pushes_none op e = refl
 
 module _ (functions : (binding : ℕ) → Signature) (place_of : (binding : ℕ) → Place) where
-  -- code of operations that are built, whose calls give what is told of the functions
+  -- code of operations that are plain, whose calls give what is told of the functions
   abbrev pub Counted : Coded → Type 0
   Counted done = Unit {0}
-  Counted (perform t op rest) = (is_built op ≡ true) × Counted rest
-  Counted (choose t op a b rest) = (is_built op ≡ true) × Counted a × Counted b × Counted rest
+  Counted (perform t op rest) = (is_plain op ≡ true) × Counted rest
+  Counted (choose t op a b rest) = (is_plain op ≡ true) × Counted a × Counted b × Counted rest
   Counted (while test body step rest) = Counted test × Counted body × Counted step × Counted rest
   Counted (until body test rest) = Counted body × Counted test × Counted rest
-  Counted (quit t op rest) = (is_built op ≡ true) × Counted rest
+  Counted (quit t op rest) = (is_plain op ≡ true) × Counted rest
   Counted (break rest) = Counted rest
   Counted (continue rest) = Counted rest
   Counted (call t op f opening rest) = (pushes op ≡ 0) × (results_of (place_of f) ≡ z.results (functions f).void) × Counted rest
-  Counted (ends t op rest) = (is_built op ≡ true) × Counted rest
+  Counted (ends t op rest) = (is_plain op ≡ true) × Counted rest
   Counted code = ⊥
 
   called : ((f : ℕ) (gives : Bool) → place_of f ≡ Called gives → gives ≡ not (functions f).void)
@@ -84,7 +84,7 @@ module _ (functions : (binding : ℕ) → Signature) (place_of : (binding : ℕ)
 
   pub counted : ((f : ℕ) (gives : Bool) → place_of f ≡ Called gives → gives ≡ not (functions f).void) → (has_body : ℕ → Bool)
       → (code : Coded) (n : ℕ) (i : Bool) (l : Option State) (s e : State)
-      → IsShaped has_body i (numbered n code) → Typed place_of l s (numbered n code) e → AllBuilt code → Counted code
+      → IsShaped has_body i (numbered n code) → Typed place_of l s (numbered n code) e → AllOf is_plain code → Counted code
   counted agree has done n i l s e sh ty b = tt
   counted agree has (perform t op rest) n i l s e sh ty b = (b.0, counted agree has rest (suc n) i l (w.behind op true s) e sh.1 ty.1 b.1)
   counted agree has (choose t op x y rest) n i l s e sh ty b = (
@@ -116,7 +116,7 @@ module _ (functions : (binding : ℕ) → Signature) (place_of : (binding : ℕ)
   )
   counted agree has (ends t op rest) n i l s e sh ty b = (b.0, counted agree has rest (suc n) i l (w.behind op true s) e sh.1 ty.2 b.1)
 
-  pub raised_so : (op : Operation) (onward : Bool) → is_built op ≡ true → (p : At) → raised p.values op onward ≡ (behind_operation p op).values
+  pub raised_so : (op : Operation) (onward : Bool) → is_plain op ≡ true → (p : At) → raised p.values op onward ≡ (behind_operation p op).values
   raised_so op onward e p = ap (λ k. p.values - takes op + k) (leaves_so op onward e)
 
   pub called_so : (op : Operation) (f : ℕ) → pushes op ≡ 0 → results_of (place_of f) ≡ z.results (functions f).void → (p : At)

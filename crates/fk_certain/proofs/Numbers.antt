@@ -1,4 +1,4 @@
--- Operations that are built, and name private words that are there, have numbers.
+-- Operations that are plain, and name private words that are there, have numbers.
 use Rattle.std.proofs.Common.{◌≡◌, ℕ, suc, ◌+◌, ◌≤◌, Bool, true, arith}
 use Rattle.fk_operation.specs.declared.operation.Operation.{Operation}
 use Rattle.fk_operation.specs.declared.operation.Operation.TheVariants as o
@@ -9,9 +9,9 @@ use Rattle.fk_core.specs.Numbers.{HasNumber}
 use Rattle.fk_flat.specs.Items.{into, way_of}
 use Rattle.fk_flat.specs.Shape.{is_done, IsShaped}
 use Rattle.fk_lower.specs.Faults.{HaveNumbers}
-use Rattle.fk_text.specs.Built.{is_built}
+use Rattle.fk_text.specs.Plain.{is_plain}
 use Rattle.fk_certain.specs.Rooms.{HasWord, HasWords}
-use Rattle.fk_typed_forms.proofs.Built.{AllBuilt}
+use Rattle.fk_typed_forms.proofs.Along.{AllOf}
 
 entered : (op : Operation) → way_of op ≡ into → HasNumber op
 entered (o.Get known) is = absurd (cc)
@@ -25,42 +25,42 @@ nothing code n is = absurd (cc)
 
 -- there are so many private variables of file scope, and so many private words of a function
 module _ (firsts words : ℕ) (few_firsts : firsts ≤ 56) (few_words : words ≤ 56) where
-  one : (op : Operation) → is_built op ≡ true → HasWord firsts words op → HasNumber op
-  one (o.Get (k.Value (v.Private word))) built less = omega (arith, less, few_words)
-  one (o.Get (k.Value (v.OfFile word))) built less = omega (arith, less, few_firsts)
-  one (o.Get (k.FrameAddress nesting word)) built less = absurd (cc)
-  one (o.Get known) built less = tt
-  one (o.Set (v.Private word)) built less = omega (arith, less, few_words)
-  one (o.Set (v.OfFile word)) built less = omega (arith, less, few_firsts)
-  one (o.Frame nesting word) built less = absurd (cc)
-  one op built less = tt
+  one : (op : Operation) → is_plain op ≡ true → HasWord firsts words op → HasNumber op
+  one (o.Get (k.Value (v.Private word))) plain less = omega (arith, less, few_words)
+  one (o.Get (k.Value (v.OfFile word))) plain less = omega (arith, less, few_firsts)
+  one (o.Get (k.FrameAddress nesting word)) plain less = absurd (cc)
+  one (o.Get known) plain less = tt
+  one (o.Set (v.Private word)) plain less = omega (arith, less, few_words)
+  one (o.Set (v.OfFile word)) plain less = omega (arith, less, few_firsts)
+  one (o.Frame nesting word) plain less = absurd (cc)
+  one op plain less = tt
 
-  pub have_numbers : {A : Type 0} (has_body : ℕ → Bool) (code : Code A) (n : ℕ) (l : Bool) → AllBuilt code → HasWords firsts words (numbered n code)
+  pub have_numbers : {A : Type 0} (has_body : ℕ → Bool) (code : Code A) (n : ℕ) (l : Bool) → AllOf is_plain code → HasWords firsts words (numbered n code)
       → IsShaped has_body l (numbered n code) → HaveNumbers code
-  have_numbers b done n l built named shaped = tt
-  have_numbers b (perform t op rest) n l built named shaped = (one op built.0 named.0, have_numbers b rest (suc n) l built.1 named.1 shaped.1)
-  have_numbers b (choose t op x y rest) n l built named shaped = (
-    one op built.0 named.0,
-    have_numbers b x (suc n) l built.1 named.1 shaped.1,
-    have_numbers b y (suc n + size x) l built.2 named.2 shaped.2,
-    have_numbers b rest (suc n + size x + size y) l built.3 named.3 shaped.3,
+  have_numbers b done n l plain named shaped = tt
+  have_numbers b (perform t op rest) n l plain named shaped = (one op plain.0 named.0, have_numbers b rest (suc n) l plain.1 named.1 shaped.1)
+  have_numbers b (choose t op x y rest) n l plain named shaped = (
+    one op plain.0 named.0,
+    have_numbers b x (suc n) l plain.1 named.1 shaped.1,
+    have_numbers b y (suc n + size x) l plain.2 named.2 shaped.2,
+    have_numbers b rest (suc n + size x + size y) l plain.3 named.3 shaped.3,
   )
-  have_numbers b (while test body step rest) n l built named shaped = (
-    have_numbers b test n true built.0 named.0 shaped.2,
-    have_numbers b body (n + size test) true built.1 named.1 shaped.3,
-    have_numbers b step (n + size test + size body) true built.2 named.2 shaped.4,
-    have_numbers b rest (n + size test + size body + size step) l built.3 named.3 shaped.5,
+  have_numbers b (while test body step rest) n l plain named shaped = (
+    have_numbers b test n true plain.0 named.0 shaped.2,
+    have_numbers b body (n + size test) true plain.1 named.1 shaped.3,
+    have_numbers b step (n + size test + size body) true plain.2 named.2 shaped.4,
+    have_numbers b rest (n + size test + size body + size step) l plain.3 named.3 shaped.5,
   )
-  have_numbers b (until body test rest) n l built named shaped = (
-    have_numbers b body n true built.0 named.0 shaped.1,
-    have_numbers b test (n + size body) true built.1 named.1 shaped.2,
-    have_numbers b rest (n + size body + size test) l built.2 named.2 shaped.3,
+  have_numbers b (until body test rest) n l plain named shaped = (
+    have_numbers b body n true plain.0 named.0 shaped.1,
+    have_numbers b test (n + size body) true plain.1 named.1 shaped.2,
+    have_numbers b rest (n + size body + size test) l plain.2 named.2 shaped.3,
   )
-  have_numbers b (turn test body step rest) n l built named shaped = absurd named
-  have_numbers b (again test body step rest) n l built named shaped = absurd named
-  have_numbers b (quit t op rest) n l built named shaped = (one op built.0 named.0, have_numbers b rest (suc n) l built.1 named.1 shaped.2)
-  have_numbers b (break rest) n l built named shaped = have_numbers b rest n l built named shaped.1
-  have_numbers b (continue rest) n l built named shaped = have_numbers b rest n l built named shaped.1
-  have_numbers b (call t op f opening rest) n l built named shaped =
-      (entered op shaped.0, nothing opening (suc n) named.0, have_numbers b rest (suc n + size opening) l built.2 named.2 shaped.3)
-  have_numbers b (ends t op rest) n l built named shaped = (one op built.0 named.0, have_numbers b rest (suc n) l built.1 named.1 shaped.1)
+  have_numbers b (turn test body step rest) n l plain named shaped = absurd named
+  have_numbers b (again test body step rest) n l plain named shaped = absurd named
+  have_numbers b (quit t op rest) n l plain named shaped = (one op plain.0 named.0, have_numbers b rest (suc n) l plain.1 named.1 shaped.2)
+  have_numbers b (break rest) n l plain named shaped = have_numbers b rest n l plain named shaped.1
+  have_numbers b (continue rest) n l plain named shaped = have_numbers b rest n l plain named shaped.1
+  have_numbers b (call t op f opening rest) n l plain named shaped =
+      (entered op shaped.0, nothing opening (suc n) named.0, have_numbers b rest (suc n + size opening) l plain.2 named.2 shaped.3)
+  have_numbers b (ends t op rest) n l plain named shaped = (one op plain.0 named.0, have_numbers b rest (suc n) l plain.1 named.1 shaped.1)

@@ -10,7 +10,8 @@ use Rattle.fk_sizes.specs.Operations.{takes}
 use Rattle.fk_forms.specs.Code.{done, perform, choose, while, until, quit, break, continue, call, ends, size, numbered}
 use Rattle.fk_forms.specs.Expressions.{Coded}
 use Rattle.fk_flat.specs.Shape.{is_done}
-use Rattle.fk_typed_forms.proofs.Built.{AllBuilt}
+use Rattle.fk_text.specs.Plain.{is_plain}
+use Rattle.fk_typed_forms.proofs.Along.{AllOf}
 use Rattle.fk_certain.specs.Rooms.{HasWord, HasWords}
 
 -- it reads and writes no variable
@@ -39,7 +40,7 @@ module _ (firsts words : ℕ) where
   sets (v.OfFile i) h = h
 
   pub record Ok (code : Coded) : Type 0 where
-    pub names : AllBuilt code → (n : ℕ) → HasWords firsts words (numbered n code)
+    pub names : AllOf is_plain code → (n : ℕ) → HasWords firsts words (numbered n code)
 
 module _ {firsts words : ℕ} where
   pub ended : Ok firsts words done
@@ -77,6 +78,6 @@ module _ {firsts words : ℕ} where
   pub left : {tag : Place} {op : Operation} {rest : Coded} → HasWord firsts words op → Ok firsts words rest → Ok firsts words (ends tag op rest)
   left there p = record { names = λ b n. (there, p.names b.1 (suc n)) }
 
-  pub enters : {tag : Place} {op : Operation} {f : ℕ} {opening rest : Coded} → (AllBuilt opening → (n : ℕ) → is_done (numbered n opening) ≡ true) → takes op ≤ 56
+  pub enters : {tag : Place} {op : Operation} {f : ℕ} {opening rest : Coded} → (AllOf is_plain opening → (n : ℕ) → is_done (numbered n opening) ≡ true) → takes op ≤ 56
       → Ok firsts words rest → Ok firsts words (call tag op f opening rest)
   enters {opening = opening} empty few p = record { names = λ b n. (empty b.1 (suc n), few, p.names b.2 (suc n + size opening)) }

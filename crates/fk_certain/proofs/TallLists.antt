@@ -19,13 +19,14 @@ use Rattle.fk_lower.specs.Depths.{depth_at, AreTold}
 use Rattle.fk_lower_text.specs.Depths.{depths_from, depths_of}
 use Rattle.fk_lower_text.proofs.Deep.{many}
 use Rattle.fk_lower_text.proofs.Opened.{opened}
-use Rattle.fk_text.specs.Built.{AreBuilt, operations, operations_in, operations_of}
+use Rattle.fk_text.specs.Built.{operations, operations_in, operations_of}
 use Rattle.fk_typed_code.specs.Values.{State, bare}
 use Rattle.fk_typed_code.specs.Typed.{Typed, AreTyped}
 use Rattle.fk_typed_code.specs.Heights.{HasHeights}
 use Rattle.fk_typed_code.specs.Laws.{HasHeightsOf}
 use Rattle.fk_typed_forms.specs.Asked.{place_in, place_of}
-use Rattle.fk_typed_forms.proofs.Built.{AreAllBuilt, each_of, front, back, built}
+use Rattle.fk_text.specs.Plain.{is_plain, ArePlain}
+use Rattle.fk_typed_forms.proofs.Along.{EachOf, each_of, front, back, along}
 use Rattle.fk_shapes.specs.Fitting.{ProgramFits}
 use Rattle.fk_shapes.proofs.Programs.{forms_are_shaped}
 use Rattle.fk_certain.proofs.Low.{counted}
@@ -66,7 +67,7 @@ module _ (known : Known) (has_body : ℕ → Bool) where
   places b = place_in tables everyone b
 
   function_tall : (depth : ℕ → ℕ) (f : FunctionTree) (site : ℕ) (l : Option State) (s e : State)
-      → AreAllBuilt (operations (code_of tables everyone f)) → IsShaped has_body false (numbered site (code_of tables everyone f))
+      → EachOf is_plain (operations (code_of tables everyone f)) → IsShaped has_body false (numbered site (code_of tables everyone f))
       → Typed places l s (numbered site (code_of tables everyone f)) e
       → Tell depth site (depths_from (signature_in tables everyone) beginning (code_of tables everyone f))
       → HasHeights places depth 0 (numbered site (code_of tables everyone f))
@@ -74,7 +75,7 @@ module _ (known : Known) (has_body : ℕ → Bool) where
       let code = code_of tables everyone f in
       let functions = signature_in tables everyone in
       tall functions places depth code beginning site
-      (counted functions places (agree_in tables everyone) has_body code site false l s e shaped typed (built code all))
+      (counted functions places (agree_in tables everyone) has_body code site false l s e shaped typed (along is_plain code all))
       (opened has_body code site false shaped) told
 
   abbrev code : FunctionTree → Coded
@@ -86,13 +87,13 @@ module _ (known : Known) (has_body : ℕ → Bool) where
   abbrev behind : FunctionTree → List FunctionTree → (site b : ℕ) → Code ℕ
   behind f fs site b = body_in tables everyone (site + size (code f)) fs b
 
-  bodies_tall : (depth : ℕ → ℕ) (fs : List FunctionTree) (site b : ℕ) (l : Option State) (s e : State) → AreAllBuilt (operations_in tables everyone fs)
+  bodies_tall : (depth : ℕ → ℕ) (fs : List FunctionTree) (site b : ℕ) (l : Option State) (s e : State) → EachOf is_plain (operations_in tables everyone fs)
       → IsShaped has_body false (body_in tables everyone site fs b) → Typed places l s (body_in tables everyone site fs b) e
       → Tell depth site (depths_of known fs) → HasHeights places depth 0 (body_in tables everyone site fs b)
   bodies_tall depth [] site b l s e all shaped typed told = tt
   bodies_tall depth (f ∷ fs) site b l s e all shaped typed told =
       by (binding_of tables f == b)
-      (λ shaped typed. bodies_tall depth fs (site + size (code f)) b l s e (back (operations (code f)) (operations_in tables everyone fs) all) shaped typed
+      (λ shaped typed. bodies_tall depth fs (site + size (code f)) b l s e (back is_plain (operations (code f)) (operations_in tables everyone fs) all) shaped typed
       (t.back depth (own f) (depths_of known fs) site (site + size (code f)) (ap (λ k. site + k) (many (signature_in tables everyone) (code f) beginning)) told))
       shaped typed
     where
@@ -101,12 +102,12 @@ module _ (known : Known) (has_body : ℕ → Bool) where
           → Typed places l s (if is then numbered site (code f) else behind f fs site b) e
           → HasHeights places depth 0 (if is then numbered site (code f) else behind f fs site b)
       by true more shaped' typed' =
-          function_tall depth f site l s e (front (operations (code f)) (operations_in tables everyone fs) all) shaped' typed' (t.front depth (own f) (depths_of known fs) site told)
+          function_tall depth f site l s e (front is_plain (operations (code f)) (operations_in tables everyone fs) all) shaped' typed' (t.front depth (own f) (depths_of known fs) site told)
       by false more shaped' typed' = more shaped' typed'
 
 abbrev Holds : Known → List CoreOp → ProgramTree → Type 0
 Holds known core program =
-    ProgramFits (tables_of known) program → AreBuilt (tables_of known) program
+    ProgramFits (tables_of known) program → ArePlain (tables_of known) program
     → AreTyped (place_of (tables_of known) program) (bodies_of (tables_of known) program)
     → AreTold (depths_of known (functions_in known)) core
     → HasHeightsOf (bodies_of (tables_of known) program) core (place_of (tables_of known) program)
@@ -123,7 +124,7 @@ own_heights known program core fits all typed told =
           let end = typed b in
           let shaped = forms_are_shaped (tables_of known) own fits b in
           bodies_tall known (λ f. is_closed (bodies_of (tables_of known) own f)) (depth_at depths) (functions_in known) 0 b None
-          (bare (place_of (tables_of known) own b)) end.0 (each_of (operations_of (tables_of known) own) all) shaped.0 end.1
+          (bare (place_of (tables_of known) own b)) end.0 (each_of is_plain (operations_of (tables_of known) own) all) shaped.0 end.1
           (tell_behind [] depths);
     }
 

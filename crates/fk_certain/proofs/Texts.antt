@@ -24,7 +24,8 @@ use Rattle.fk_lower_text.proofs.Laying.{same, other, none_below}
 use Rattle.fk_fitting.proofs.Each.{Each}
 use Rattle.fk_fitting.proofs.Programs.{correct_programs_fit}
 use Rattle.fk_text.specs.Built.{operations, operations_in, operations_of}
-use Rattle.fk_typed_forms.proofs.Built.{AreAllBuilt, each_of, front, back, built}
+use Rattle.fk_text.specs.Plain.{is_plain}
+use Rattle.fk_typed_forms.proofs.Along.{EachOf, each_of, front, back, along}
 use Rattle.fk_certain.proofs.Firsts.{small, firsts_are_few}
 use Rattle.fk_certain.proofs.Bindings.{bindings_go_up}
 use Rattle.fk_certain.specs.Rooms.{HasWords}
@@ -59,7 +60,7 @@ module _ (tables : Tables) (items : List ItemTree) where
 
 -- what is known of the code of all functions
 record AreFine (firsts : ℕ) (words : ℕ → ℕ) (has_body : ℕ → Bool) (tables : Tables) (everyone : List FunctionTree) (site : ℕ) (fs : List FunctionTree) : Type 0 where
-  all_built : AreAllBuilt (operations_in tables everyone fs)
+  all_built : EachOf is_plain (operations_in tables everyone fs)
   named : (b : ℕ) → HasWords firsts (words b) (body_in tables everyone site fs b)
   shaped : (b : ℕ) → IsShaped has_body false (body_in tables everyone site fs b)
 
@@ -94,10 +95,10 @@ module _ (firsts : ℕ) (words : ℕ → ℕ) (has_body : ℕ → Bool) (few_fir
       let first = operations code in
       let others = operations_in (tables_of known) (functions_in known) fs in
       let here = same b b own rest refl in (
-        have_numbers firsts (words b) few_firsts (few_words b) has_body code site false (built code (front first others fine.all_built))
+        have_numbers firsts (words b) few_firsts (few_words b) has_body code site false (along is_plain code (front is_plain first others fine.all_built))
             (subst (HasWords firsts (words b)) here (fine.named b)) (subst (IsShaped has_body false) here (fine.shaped b)),
         each_numbered fs (suc b) (site + size code) up.1 (record {
-          all_built = back first others fine.all_built;
+          all_built = back is_plain first others fine.all_built;
           named = λ j. later (HasWords firsts (words j)) tt f fs site j up.1 (fine.named j);
           shaped = λ j. later (IsShaped has_body false) tt f fs site j up.1 (fine.shaped j);
         }),
@@ -116,7 +117,7 @@ operations_have_numbers program facts known valid trim fits all_built of =
     let has_body : ℕ → Bool = λ f. is_closed (bodies f) in
     let shaped = forms_are_shaped tables program (correct_programs_fit program facts valid trim) in
     let fine : AreFine firsts words has_body tables fs 0 fs = record {
-      all_built = each_of (operations_of tables program) all_built;
+      all_built = each_of is_plain (operations_of tables program) all_built;
       named = names_have_words program facts valid trim fits all_built;
       shaped = λ b. (shaped b).0;
     } in

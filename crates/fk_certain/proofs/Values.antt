@@ -9,7 +9,8 @@ use Rattle.fk_fitting.proofs.Each.{Each}
 use Rattle.fk_fitting.proofs.Programs.{correct_programs_fit}
 use Rattle.fk_shapes.proofs.Programs.{forms_are_shaped}
 use Rattle.fk_text.specs.Built.{operations_of}
-use Rattle.fk_typed_forms.proofs.Built.{each_of}
+use Rattle.fk_text.specs.Plain.{is_plain}
+use Rattle.fk_typed_forms.proofs.Along.{each_of}
 use Rattle.fk_typed_forms.proofs.Programs.{forms_are_typed}
 use Rattle.fk_certain.proofs.Firsts.{small}
 use Rattle.fk_certain.specs.Named.{words_in}
@@ -35,5 +36,5 @@ values_have_room program facts valid trim proper fits built =
       few = λ b.
           let own = typed b in
           let shape = shaped b in
-          bodies_few tables items _ fs 0 b None _ own.0 (each_of (operations_of tables program) built) shape.0 own.1;
+          bodies_few tables items _ fs 0 b None _ own.0 (each_of is_plain (operations_of tables program) built) shape.0 own.1;
     }

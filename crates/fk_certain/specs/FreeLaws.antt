@@ -1,15 +1,19 @@
 -- What is so of the flat lists of programs.
-use Rattle.std.specs.Prelude.{◌≡◌, ℕ, ◌+◌, ◌<◌, ◌≤◌, true, List, length, false}
+use Rattle.std.specs.Prelude.{◌≡◌, ℕ, ◌+◌, ◌<◌, ◌≤◌, true, List, length, slice_get, false, Some}
+use Rattle.fk_operation.specs.declared.operation.Operation.{Operation}
 use Rattle.fk_syntax.specs.Program.{ProgramTree}
 use Rattle.fk_forms.specs.Code.{Code}
 use Rattle.fk_forms.specs.Tables.{Tables}
 use Rattle.fk_forms.specs.Program.{bodies_of, main_of}
 use Rattle.fk_core.specs.declared.op.CoreOp.{CoreOp}
+use Rattle.fk_core.specs.Numbers.{operation_of}
 use Rattle.fk_flat.specs.Flat.{extent}
 use Rattle.fk_flat.specs.Shape.{is_closed}
 use Rattle.fk_flat.specs.Laws.{AreShaped, IsFlat}
 use Rattle.fk_block_law.specs.Lists.{IsFree}
 use Rattle.fk_text.specs.Built.{AreBuilt}
+use Rattle.fk_text.specs.Plain.{is_plain, ArePlain}
+use Rattle.fk_typed_code.specs.Laws.{LeadsWithin}
 use Rattle.fk_typed_forms.specs.Asked.{ProgramAsked}
 
 -- an index lies in the code of a function that is written from a place on
@@ -21,16 +25,33 @@ AreApart bodies place = (i f g : ℕ) → LiesIn bodies place i f → LiesIn bod
 
 abbrev pub FlatListsAreApart : Type 0
 FlatListsAreApart =
-    (tables : Tables) (program : ProgramTree) (core : List CoreOp) (entry : ℕ → ℕ) → AreBuilt tables program
+    (tables : Tables) (program : ProgramTree) (core : List CoreOp) (entry : ℕ → ℕ)
     → (flat : IsFlat (bodies_of tables program) core entry) → AreApart (bodies_of tables program) flat.place
 
--- a list that goes on within itself from `main` on
-pub record StaysWithin (core : List CoreOp) (main : ℕ) : Type 0 where
-  pub begins : main < length core
-  pub free : IsFree core
+-- each operation of a list is plain
+abbrev pub IsPlain : List CoreOp → Type 0
+IsPlain core =
+    (i : ℕ) (op : CoreOp) (operation : Operation) → slice_get core i ≡ Some op → operation_of op.kind op.number ≡ Some operation
+    → is_plain operation ≡ true
 
+abbrev pub ListsArePlain : Type 0
+ListsArePlain =
+    (tables : Tables) (program : ProgramTree) (core : List CoreOp) (entry : ℕ → ℕ) → ArePlain tables program
+    → IsFlat (bodies_of tables program) core entry → IsPlain core
+
+-- a list that goes on within itself from `main` on
+pub record GoesOnWithin (core : List CoreOp) (main : ℕ) : Type 0 where
+  pub begins : main < length core
+  pub leads : LeadsWithin core
+
+abbrev pub ListsGoOnWithin : Type 0
+ListsGoOnWithin =
+    (tables : Tables) (program : ProgramTree) (core : List CoreOp) (entry : ℕ → ℕ) → ProgramAsked tables program → ArePlain tables program
+    → AreShaped (bodies_of tables program) → IsFlat (bodies_of tables program) core entry
+    → is_closed (bodies_of tables program (main_of tables program)) ≡ true → GoesOnWithin core (entry (main_of tables program))
+
+-- where all is built it has operations without groups alone
 abbrev pub ListsAreFree : Type 0
 ListsAreFree =
     (tables : Tables) (program : ProgramTree) (core : List CoreOp) (entry : ℕ → ℕ) → ProgramAsked tables program → AreBuilt tables program
-    → AreShaped (bodies_of tables program) → IsFlat (bodies_of tables program) core entry
-    → is_closed (bodies_of tables program (main_of tables program)) ≡ true → StaysWithin core (entry (main_of tables program))
+    → AreShaped (bodies_of tables program) → IsFlat (bodies_of tables program) core entry → IsFree core

@@ -9,16 +9,16 @@ use Rattle.fk_core.specs.declared.op.CoreOp.{CoreOp}
 use Rattle.fk_shapes.specs.Fitting.{ProgramFits}
 use Rattle.fk_lower.specs.Depths.{AreTold}
 use Rattle.fk_lower_text.specs.Depths.{depths_of}
-use Rattle.fk_text.specs.Built.{AreBuilt}
+use Rattle.fk_text.specs.Plain.{ArePlain}
 use Rattle.fk_typed_code.specs.Typed.{AreTyped}
 use Rattle.fk_typed_code.specs.Laws.{HasHeightsOf}
 use Rattle.fk_typed_forms.specs.Asked.{place_of}
 
--- so where the code is well typed, and all its operations are built
+-- so where the code is well typed, and all its operations are plain
 abbrev pub ListsHaveHeights : Type 0
 ListsHaveHeights =
     (known : Known) (program : ProgramTree) (core : List CoreOp) → program.items ≡ items_in known
-    → ProgramFits (tables_of known) program → AreBuilt (tables_of known) program
+    → ProgramFits (tables_of known) program → ArePlain (tables_of known) program
     → AreTyped (place_of (tables_of known) program) (bodies_of (tables_of known) program)
     → AreTold (depths_of known (functions_in known)) core
     → HasHeightsOf (bodies_of (tables_of known) program) core (place_of (tables_of known) program)

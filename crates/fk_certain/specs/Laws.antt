@@ -18,13 +18,14 @@ use Rattle.fk_lower_text.specs.Depths.{depths_of}
 use Rattle.fk_kept.specs.declared.set.Set.{Set}
 use Rattle.fk_kept.specs.Live.{IsLive, IsLeast, words_in}
 use Rattle.fk_text.specs.Built.{AreBuilt}
+use Rattle.fk_text.specs.Plain.{ArePlain}
 use Rattle.fk_parsed.specs.Trim.{ProgramIsTrim}
 use Rattle.fk_fitting.specs.Correct.{IsCorrect}
 use Rattle.fk_typed_code.specs.Laws.{HasHeightsOf}
 use Rattle.fk_typed_forms.specs.Asked.{place_of}
 use Rattle.fk_certain.specs.Proper.{ProgramIsProper}
 use Rattle.fk_certain.specs.LoweringLaws.{IsKnownOf}
-use Rattle.fk_certain.specs.Certain.{IsSafe, IsCertain}
+use Rattle.fk_certain.specs.Certain.{IsSafe, IsSteady, HasEnough, HasFrames, IsCertain}
 
 -- the code of each function stands at its entry in a list, with its depths, and these words are those that are live in it
 pub record IsLowered (tables : Tables) (program : ProgramTree) (core : List CoreOp) (entry : (binding : ℕ) → ℕ) (kept : List Set) : Type 0 where
@@ -32,6 +33,13 @@ pub record IsLowered (tables : Tables) (program : ProgramTree) (core : List Core
   pub tall : HasHeightsOf (bodies_of tables program) core (place_of tables program)
   pub live : IsLive core (words_in kept)
   pub least : IsLeast core (words_in kept)
+
+abbrev pub CorrectListsAreSteady : Type 0
+CorrectListsAreSteady =
+    (program : ProgramTree) (facts : Facts) → IsCorrect program facts → ProgramIsTrim program → ProgramIsProper program
+    → let tables = tables_by program facts in
+    Fits tables program.items → ArePlain tables program
+    → (core : List CoreOp) (entry : (binding : ℕ) → ℕ) → IsFlat (bodies_of tables program) core entry → IsSteady core (entry (main_of tables program))
 
 abbrev pub CorrectListsAreSafe : Type 0
 CorrectListsAreSafe =
@@ -43,6 +51,14 @@ CorrectListsAreSafe =
 -- how many private variables of file scope a text has
 abbrev pub count_of_file : ProgramTree → Facts → ℕ
 count_of_file program facts = length (firsts (told facts.notes.items facts.kinds.items) program.items)
+
+abbrev pub CorrectListsHaveFrames : Type 0
+CorrectListsHaveFrames =
+    (program : ProgramTree) (facts : Facts) → IsCorrect program facts → ProgramIsTrim program → ProgramIsProper program
+    → let tables = tables_by program facts in
+    Fits tables program.items → ArePlain tables program
+    → (core : List CoreOp) (entry : (binding : ℕ) → ℕ) (kept : List Set) → IsLowered tables program core entry kept
+    → HasFrames core kept (entry (main_of tables program)) (count_of_file program facts)
 
 abbrev pub CorrectListsAreCertain : Type 0
 CorrectListsAreCertain =
@@ -66,3 +82,19 @@ LoweredListsCanBeCoded =
     Fits tables program.items → AreBuilt tables program
     → (core : List CoreOp) (entry : (binding : ℕ) → ℕ) → IsFlat (bodies_of tables program) core entry → AreTold (depths_of known (functions_in known)) core
     → CanBeCoded core (entry (main_of tables program)) (count_of_file program facts)
+
+-- what code with groups is made of, where none splits: the depths of a list are those of all runs, each operation finds its values, and
+-- the list is steady and has frames that keep the words that are live in it
+pub record CanHaveGroups (core : List CoreOp) (main firsts : ℕ) : Type 0 where
+  pub depths : HasDepths core main
+  pub enough : HasEnough core
+  pub steady : IsSteady core main
+  pub held : (kept : List Set) → IsLive core (words_in kept) → IsLeast core (words_in kept) → HasFrames core kept main firsts
+
+abbrev pub LoweredListsCanHaveGroups : Type 0
+LoweredListsCanHaveGroups =
+    (program : ProgramTree) (facts : Facts) (known : Known) → IsKnownOf program facts known → IsCorrect program facts → ProgramIsTrim program → ProgramIsProper program
+    → let tables = tables_by program facts in
+    Fits tables program.items → ArePlain tables program
+    → (core : List CoreOp) (entry : (binding : ℕ) → ℕ) → IsFlat (bodies_of tables program) core entry → AreTold (depths_of known (functions_in known)) core
+    → CanHaveGroups core (entry (main_of tables program)) (count_of_file program facts)

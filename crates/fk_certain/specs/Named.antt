@@ -8,7 +8,7 @@ use Rattle.fk_forms.specs.declared.tables.Home.TheVariants as h
 use Rattle.fk_forms.specs.Tables.{Tables, no_binding, note, slot}
 use Rattle.fk_forms.specs.Program.{functions_of, binding_of, bodies_of}
 use Rattle.fk_shapes.specs.Fitting.{ProgramFits}
-use Rattle.fk_text.specs.Built.{AreBuilt}
+use Rattle.fk_text.specs.Plain.{ArePlain}
 use Rattle.fk_certain.specs.Rooms.{HasWords}
 
 -- there are so many private variables of file scope, and so many private words of a function
@@ -52,9 +52,9 @@ abbrev pub words_in : Tables → (words : FunctionTree → ℕ) → List Functio
 words_in tables words [] b = 0
 words_in tables words (f ∷ fs) b = if binding_of tables f == b then words f else words_in tables words fs b
 
--- such programs of which all operations are built come to code that names words that are there
+-- such programs of which all operations are plain come to code that names words that are there
 abbrev pub CodeNamesWords : Type 0
 CodeNamesWords =
     (tables : Tables) (program : ProgramTree) (words : FunctionTree → ℕ) (firsts : ℕ)
-    → ProgramFits tables program → AreBuilt tables program → FunctionsName tables words firsts (functions_of program.items)
+    → ProgramFits tables program → ArePlain tables program → FunctionsName tables words firsts (functions_of program.items)
     → (binding : ℕ) → HasWords firsts (words_in tables words (functions_of program.items) binding) (bodies_of tables program binding)

@@ -8,11 +8,11 @@ use Rattle.fk_walk_statements.specs.Texts.{functions_in}
 use Rattle.fk_lower_text.specs.Whole.{AreNumbered}
 use Rattle.fk_parsed.specs.Trim.{ProgramIsTrim}
 use Rattle.fk_fitting.specs.Correct.{IsCorrect}
-use Rattle.fk_text.specs.Built.{AreBuilt}
+use Rattle.fk_text.specs.Plain.{ArePlain}
 use Rattle.fk_certain.specs.LoweringLaws.{IsKnownOf}
 
--- where all are built, each operation of a program that keeps all rules and has a layout has one
+-- where all are plain, each operation of a program that keeps all rules and has a layout has one
 abbrev pub OperationsHaveNumbers : Type 0
 OperationsHaveNumbers =
     (program : ProgramTree) (facts : Facts) (known : Known) → IsCorrect program facts → ProgramIsTrim program → Fits (tables_by program facts) program.items
-    → AreBuilt (tables_by program facts) program → IsKnownOf program facts known → AreNumbered known (functions_in known)
+    → ArePlain (tables_by program facts) program → IsKnownOf program facts known → AreNumbered known (functions_in known)

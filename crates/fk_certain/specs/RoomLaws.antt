@@ -9,7 +9,7 @@ use Rattle.fk_layout.specs.Frames.{file_privates}
 use Rattle.fk_layout.specs.Layout.{tables_by}
 use Rattle.fk_layout.specs.Refusal.{Fits}
 use Rattle.fk_kept.specs.declared.places.Place.{Place}
-use Rattle.fk_text.specs.Built.{AreBuilt}
+use Rattle.fk_text.specs.Plain.{ArePlain}
 use Rattle.fk_certain.specs.Rooms.{HasWords, ahead_in, HaveRoom}
 use Rattle.fk_parsed.specs.Trim.{ProgramIsTrim}
 use Rattle.fk_fitting.specs.Correct.{IsCorrect}
@@ -32,7 +32,7 @@ abbrev pub ValuesHaveRoom : Type 0
 ValuesHaveRoom =
     (program : ProgramTree) (facts : Facts) → IsCorrect program facts → ProgramIsTrim program → ProgramIsProper program
     → let tables = tables_by program facts in
-    Fits tables program.items → AreBuilt tables program
+    Fits tables program.items → ArePlain tables program
     → HaveValues (bodies_of tables program) (place_of tables program) (file_privates program.items) (words_of tables program)
 
 -- and each private word that is named in the code of a function is there, among its own or those of file scope
@@ -40,7 +40,7 @@ abbrev pub NamesHaveWords : Type 0
 NamesHaveWords =
     (program : ProgramTree) (facts : Facts) → IsCorrect program facts → ProgramIsTrim program
     → let tables = tables_by program facts in
-    Fits tables program.items → AreBuilt tables program
+    Fits tables program.items → ArePlain tables program
     → (binding : ℕ) → HasWords (file_privates program.items) (words_of tables program binding) (bodies_of tables program binding)
 
 -- so both have room in frames
@@ -48,5 +48,5 @@ abbrev pub CorrectProgramsHaveRoom : Type 0
 CorrectProgramsHaveRoom =
     (program : ProgramTree) (facts : Facts) → IsCorrect program facts → ProgramIsTrim program → ProgramIsProper program
     → let tables = tables_by program facts in
-    Fits tables program.items → AreBuilt tables program
+    Fits tables program.items → ArePlain tables program
     → HaveRoom (bodies_of tables program) (place_of tables program) (file_privates program.items)

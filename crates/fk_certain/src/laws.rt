@@ -4,13 +4,13 @@ ghost use Rattle.fk_certain.specs.WordLaws.{MembersAreClose, NumbersHaveRoom};
 ghost use Rattle.fk_certain.specs.LoweringLaws.{BindingsGoUp, TextsCanBeLaid, FirstsAreFew, ListsAreSmall};
 ghost use Rattle.fk_certain.specs.Proper.{TextsAreProper};
 ghost use Rattle.fk_certain.specs.AskedLaws.{CorrectProgramsAreAsked, MainsHaveTheirPlace};
-ghost use Rattle.fk_certain.specs.FreeLaws.{FlatListsAreApart, ListsAreFree};
+ghost use Rattle.fk_certain.specs.FreeLaws.{FlatListsAreApart, ListsArePlain, ListsGoOnWithin, ListsAreFree};
 ghost use Rattle.fk_certain.specs.Suiting.{LiveWordsSuit};
 ghost use Rattle.fk_certain.specs.RoomLaws.{ValuesHaveRoom, NamesHaveWords, CorrectProgramsHaveRoom};
 ghost use Rattle.fk_certain.specs.Named.{CodeNamesWords};
 ghost use Rattle.fk_certain.specs.NumberLaws.{OperationsHaveNumbers};
 ghost use Rattle.fk_certain.specs.HeightLaws.{ListsHaveHeights};
-ghost use Rattle.fk_certain.specs.Laws.{CorrectListsAreSafe, CorrectListsAreCertain, LoweredListsCanBeCoded};
+ghost use Rattle.fk_certain.specs.Laws.{CorrectListsAreSteady, CorrectListsAreSafe, CorrectListsHaveFrames, CorrectListsAreCertain, LoweredListsCanHaveGroups, LoweredListsCanBeCoded};
 
 /// The members in a program that keeps all rules lie near the first words of their structs, and no
 /// function has too many parameters.
@@ -71,9 +71,20 @@ pub fn flat_lists_are_apart()
     ensures { FlatListsAreApart }
 {}
 
+/// The flat list of a program of which all operations are plain has plain operations alone.
+pub fn lists_are_plain()
+    ensures { ListsArePlain }
+{}
+
+/// The flat list of a program with well typed code, of which all operations are plain, goes on within
+/// itself: its jumps lead to operations, none but an end goes on outside it, and its `main` begins in
+/// it.
+pub fn lists_go_on_within()
+    ensures { ListsGoOnWithin }
+{}
+
 /// The flat list of a program with well typed code, of which all operations are built, has operations
-/// without groups alone, its jumps lead to operations, and none but an end goes on outside it. Its
-/// `main` begins in it.
+/// without groups alone, its jumps lead to operations, and none but an end goes on outside it.
 pub fn lists_are_free()
     ensures { ListsAreFree }
 {}
@@ -85,12 +96,12 @@ pub fn live_words_suit()
 {}
 
 /// A program that keeps all rules, as a text spells it, and has a layout, has room in the frame of
-/// each function for its private words and for its values, where all operations are built.
+/// each function for its private words and for its values, where all operations are plain.
 pub fn values_have_room()
     ensures { ValuesHaveRoom }
 {}
 
-/// The code of a program of which all operations are built names private words that are there, and
+/// The code of a program of which all operations are plain names private words that are there, and
 /// its calls have few arguments and begin with nothing, where so it is with the names of its text.
 pub fn code_names_words()
     ensures { CodeNamesWords }
@@ -104,21 +115,28 @@ pub fn names_have_words()
 
 /// A program that keeps all rules, as a text spells it, and has a layout, has room in the frame of
 /// each function for its private words and its values, and for a result behind each call, where all
-/// operations are built.
+/// operations are plain.
 pub fn correct_programs_have_room()
     ensures { CorrectProgramsHaveRoom }
 {}
 
 /// Each operation of a program that keeps all rules and has a layout has a number, where all are
-/// built: each private word that it names is among the 56 of its function or of file scope.
+/// plain: each private word that it names is among the 56 of its function or of file scope.
 pub fn operations_have_numbers()
     ensures { OperationsHaveNumbers }
 {}
 
 /// A list whose operations have the depths that a text tells of their sites has the heights of the
-/// text's code, where that is well typed and all its operations are built.
+/// text's code, where that is well typed and all its operations are plain.
 pub fn lists_have_heights()
     ensures { ListsHaveHeights }
+{}
+
+/// A flat list of a program that keeps all rules, as a text spells it, and has a layout, has plain
+/// operations alone, goes on within itself from `main` on, and may do each operation in every run, with
+/// groups too, where all operations are plain.
+pub fn correct_lists_are_steady()
+    ensures { CorrectListsAreSteady }
 {}
 
 /// A flat list of a program that keeps all rules, as a text spells it, and has a layout, has operations
@@ -129,10 +147,24 @@ pub fn correct_lists_are_safe()
 {}
 
 /// A flat list of a program that keeps all rules, as a text spells it, and has a layout, with the
+/// depths of its code and its live words, suits frames that hold these words, where all operations are
+/// plain.
+pub fn correct_lists_have_frames()
+    ensures { CorrectListsHaveFrames }
+{}
+
+/// A flat list of a program that keeps all rules, as a text spells it, and has a layout, with the
 /// depths of its code and its live words, has operations without groups alone, may do each of them in
 /// every run, and suits frames that hold the live words, where all operations are built.
 pub fn correct_lists_are_certain()
     ensures { CorrectListsAreCertain }
+{}
+
+/// A flat list of a program that keeps all rules, as a text spells it, and has a layout, with the
+/// depths that lowering tells of the text, has the depths of all runs, finds the values that each
+/// operation needs, is steady, and has frames that hold its live words, where all operations are plain.
+pub fn lowered_lists_can_have_groups()
+    ensures { LoweredListsCanHaveGroups }
 {}
 
 /// A flat list of a program that keeps all rules, as a text spells it, and has a layout, with the

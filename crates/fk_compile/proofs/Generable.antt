@@ -34,10 +34,10 @@ certain_is_generable core kept main firsts certain words first_words leads = rec
   blocks = free_has_blocks core certain.safe.free;
   operations = are_operations core leads;
   begins = certain.safe.begins;
-  frames = certain.frames;
-  suits = certain.suits;
-  keeps = certain.keeps;
-  of_file = certain.of_file;
+  frames = certain.held.frames;
+  suits = certain.held.suits;
+  keeps = certain.held.keeps;
+  of_file = certain.held.of_file;
   words = words;
   first_words = first_words;
 }

@@ -99,8 +99,8 @@ module _ (program : ProgramTree) (facts : Facts) (layout : Layout) (laid : IsLay
             commits = ap (λ v. v.items) p.has_commits;
             globals_of = let held = layout.words.ok.0 in let same = ap (λ v. length v.items) p.has_globals in omega (arith, held, same);
           } in
-          let given = p.blocks image p.certain.frames has p.certain.suits p.certain.keeps p.certain.of_file in
-          let all : Places = record { block = given.0; frames = p.certain.frames } in
+          let given = p.blocks image p.certain.held.frames has p.certain.held.suits p.certain.held.keeps p.certain.held.of_file in
+          let all : Places = record { block = given.0; frames = p.certain.held.frames } in
           (all, subst (λ (firsts : List ℕ). BlockLaw core image all firsts main) laid.firsts given.1)
 
       pub is_compiled : IsCompiled program facts core kept main image

@@ -5,6 +5,8 @@ use Rattle.fk_walk.specs.Known.{tables_of}
 use Rattle.fk_lower_text.specs.Lowered.{HasSites}
 use Rattle.fk_generate.specs.Generable.{most_words}
 use Rattle.fk_fitting.specs.Correct.{IsCorrect}
+use Rattle.fk_certain.proofs.Plain.{built_texts_are_plain}
+use Rattle.fk_layout.specs.Layout.{tables_by}
 use Rattle.fk_certain.specs.LoweringLaws.{IsKnownOf}
 use Rattle.fk_lower.specs.Depths.{AreTold}
 use Rattle.fk_lower_text.specs.Depths.{depths_of}
@@ -90,4 +92,5 @@ lowered-requires-clause-numbered c =
     let of : IsKnownOf tree facts c.complete-known.result = record { tables = tables; items = items } in
     let valid : IsCorrect tree facts = record { well_formed = c.requires.well_formed; small = c.requires.tokens; known = checked.known } in
     let trim = c.texts_are_trim.ensures c.requires.checked.0 checked.parsed.tokens tree checked.parsed.spelled checked.parsed.derived in
-    c.operations_have_numbers.ensures tree facts c.complete-known.result valid trim c.requires.fits c.requires.built of
+    c.operations_have_numbers.ensures tree facts c.complete-known.result valid trim c.requires.fits
+    (built_texts_are_plain (tables_by tree facts) tree c.requires.built) of
