@@ -10,6 +10,7 @@ use Rattle.fk_nodes.specs.Node.{Member}
 use Rattle.fk_block_law.specs.Stands.{Frames, Places, StandsAt}
 use Rattle.fk_group_law.specs.Node.{Nestings, HasLevelRoom, root_words}
 use Rattle.fk_group_law.specs.Lockstep.{IsMember}
+use Rattle.fk_gen_group.specs.Start.{gathering_of}
 
 -- no variables, and code of one block a word; at index 9 one level is saved
 frames : Frames
@@ -22,7 +23,7 @@ levels_at : ℕ → ℕ
 levels_at index = if index == 9 then 1 else 0
 
 nestings : Nestings
-nestings = record { levels = levels_at; behind = λ index. 0 }
+nestings = record { levels = levels_at; behind = λ index. 0; start = gathering_of [] (λ label. 0) }
 
 -- 4 processors, no globals and no input
 setting : Setting

@@ -31,9 +31,9 @@ use Rattle.fk_gen.proofs.Values.{values_before, number_of_parts}
 use Rattle.fk_gen.proofs.Standing.{SameRegisters, with_list}
 use Rattle.fk_gen.proofs.Walk.{Quiets, Plain, LocalAt, TellsInputs, quiet_lines, walk, told_of, walked, lines_split, runs_join, private, can_run_goes}
 use Rattle.fk_gen.proofs.Jumps.{jumps, goes_to_pc, jal_private, jalr_goes}
-use Rattle.fk_group_law.specs.Node.{Nestings, IsRoot, HasOuter, HasNestings, HasSaved, OwnsHeader, past_levels, saved_at, first_word, root_words, closing_word, agreed_word, control_address}
+use Rattle.fk_group_law.specs.Node.{Polling, Nestings, IsRoot, HasOuter, HasNestings, HasSaved, OwnsHeader, past_levels, saved_at, first_word, root_words, closing_word, agreed_word, control_address}
 use Rattle.fk_group_law.specs.Lockstep.{IsMember, LevelsStay, NoneSaved, highest_value, is_due}
-use Rattle.fk_group_law.specs.Joint.{Polling, Polls}
+use Rattle.fk_group_law.specs.Joint.{Polls}
 use Rattle.fk_group_law.specs.Start.{IsInRoot, MeetsUntil, HasMet, AllHaveMet, ComesToPart, AllComeToParts, HaveStarted, size_of_start, runs_behind_start}
 use Rattle.fk_gen_group.specs.Meeting.{IsMeeting, HasMeeting, IsReadyToMeet, HasLeft}
 use Rattle.fk_gen_group.specs.Blocks.{HasStart, start_label, gathering, meet_lines, telling_lines, size_lines, parting_lines, group_words}
@@ -586,8 +586,6 @@ module _ (core : List CoreOp) (image : Image) (bound : ℕ → ℕ) (places : Pl
 
 pub groups_start : GroupsStart
 groups_start core image bound places nestings i op shared place leads = record {
-  there = there core image bound places nestings i op shared place leads;
-  coming = coming core image bound places nestings i op shared place leads;
   meets = λ setting t mine m p owns en member root. comes core image bound places nestings i op shared place leads setting t mine m p owns en member root;
   starts = λ setting t mine lowest ms ps own owns running all.
       together core image bound places nestings i op shared place leads setting t mine lowest owns running ms ps own

@@ -11,6 +11,7 @@ use Rattle.fk_gen.specs.InPlace.{HasBlock}
 use Rattle.fk_group_law.specs.Node.{Nestings, HasLevelRoom}
 use Rattle.fk_group_law.specs.Lockstep.{LevelsStay, StepTogether, PartTogether, EndTogether, AreOfSize, IsLowest, one_runs, values_of_step}
 use Rattle.fk_gen_group.specs.Blocks.{block_of, HasStart}
+use Rattle.fk_gen_group.specs.Start.{gathered_at, who_comes}
 use Rattle.fk_group_law.specs.Joint.{is_meeting, BlockMeets}
 use Rattle.fk_group_law.specs.Start.{BlockStarts}
 
@@ -66,4 +67,4 @@ abbrev pub GroupsStart : Type 0
 GroupsStart =
     (core : List CoreOp) (image : Image) (bound : ℕ → ℕ) (places : Places) (nestings : Nestings) (i : ℕ) (op : CoreOp)
     → HasStart image bound → IsInPlace core image bound places nestings i op Begin → LevelsStay nestings i op.target
-    → BlockStarts core image places nestings i op 9 1 (λ onward. if onward then 16 else 11)
+    → BlockStarts core image places nestings i op (gathered_at bound) (who_comes bound op.depth) 9 1 (λ onward. if onward then 16 else 11)

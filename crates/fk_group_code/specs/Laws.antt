@@ -19,10 +19,11 @@ use Rattle.fk_gen_flow.specs.Laws.{JumpsStand}
 use Rattle.fk_generate.specs.Kinds.{block_in, block_of}
 use Rattle.fk_generate.specs.Layout.{placed}
 use Rattle.fk_generate.specs.Generable.{AreKept}
-use Rattle.fk_group_law.specs.Node.{Nestings, HasLevelRoom}
+use Rattle.fk_group_law.specs.Node.{Gathering, Nestings, HasLevelRoom}
 use Rattle.fk_group_law.specs.Lockstep.{LevelsStay, values_of_step}
 use Rattle.fk_group_law.specs.Law.{Cycles, GroupLaw, BlockDoesInNode, BlockJumpsInNode, BeginsInNode}
 use Rattle.fk_gen_group.specs.Blocks.{HasStart, block_of as block_of_step, is_group_step}
+use Rattle.fk_gen_group.specs.Start.{gathering_of}
 use Rattle.fk_gen_group.specs.InNode.{LevelsFit}
 use Rattle.fk_group_code.specs.Cycles.{lone_kind, cycles_of}
 
@@ -113,17 +114,17 @@ ListsHaveTheLaw =
     (core : List CoreOp) (kept : List Set) (image : Image) (bound : ℕ → ℕ) (places : Places) (nestings : Nestings) (firsts : List ℕ) (main : ℕ)
     → Suits core places.frames main → AreKept places.frames kept → AreInRange core image → HasLoneCode core kept image bound places
     → HaveLevels core places nestings → HasGroupCode core image bound places → StepsHaveValues core → HaveStepLevels core places nestings
-    → HartsBeginInNode core image places nestings firsts main
+    → nestings.start ≡ gathering_of core bound → HartsBeginInNode core image places nestings firsts main
     → GroupLaw core image places nestings (cycles_of core (length image.globals.items) kept) firsts main
 
 -- ---- without levels
 
 -- no level stands in a frame
-abbrev pub none_saved : Nestings
-none_saved = record { levels = λ index. 0; behind = λ index. 0 }
+abbrev pub none_saved : (start : Gathering) → Nestings
+none_saved start = record { levels = λ index. 0; behind = λ index. 0; start = start }
 
 -- these fit each list that suits frames
 abbrev pub LevelsNeedNoRoom : Type 0
 LevelsNeedNoRoom =
-    (core : List CoreOp) (places : Places) (main : ℕ) → Suits core places.frames main
-    → HaveLevels core places none_saved × HaveStepLevels core places none_saved
+    (core : List CoreOp) (places : Places) (start : Gathering) (main : ℕ) → Suits core places.frames main
+    → HaveLevels core places (none_saved start) × HaveStepLevels core places (none_saved start)

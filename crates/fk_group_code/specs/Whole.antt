@@ -8,6 +8,7 @@ use Rattle.fk_kept.specs.declared.set.Set.{Set}
 use Rattle.fk_gen_flow.specs.Opening.{AreFirsts}
 use Rattle.fk_generate.specs.Generable.{AreKept}
 use Rattle.fk_group_law.specs.Law.{GroupLaw}
+use Rattle.fk_gen_group.specs.Start.{gathering_of}
 use Rattle.fk_group_code.specs.Cycles.{cycles_of}
 use Rattle.fk_group_code.specs.Laws.{AreInRange, HasLoneCode, HasGroupCode, StepsHaveValues, none_saved}
 use Rattle.fk_group_code.specs.Opening.{HasGroupOpening}
@@ -24,4 +25,4 @@ CodeHasTheLaw =
     (core : List CoreOp) (kept : List Set) (image : Image) (bound : ℕ → ℕ) (places : Places) (firsts : List ℕ) (main : ℕ)
     → Suits core places.frames main → AreKept places.frames kept → AreInRange core image → StepsHaveValues core → AreFirsts places.frames.of_file firsts
     → HasAllCode core kept image bound places firsts main
-    → GroupLaw core image places none_saved (cycles_of core (length image.globals.items) kept) firsts main
+    → GroupLaw core image places (none_saved (gathering_of core bound)) (cycles_of core (length image.globals.items) kept) firsts main

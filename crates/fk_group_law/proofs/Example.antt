@@ -43,9 +43,13 @@ places = record {
   frames = record { keeps = λ i word. false; is_main = λ i. true; of_file = 0 };
 }
 
--- no levels in frames
+-- no levels in frames, and nobody begins a group
 abbrev nestings : Nestings
-nestings = record { levels = λ i. 0; behind = λ i. 0 }
+nestings = record {
+  levels = λ i. 0;
+  behind = λ i. 0;
+  start = record { there = λ i. record { at = 0; changes = λ r. false }; coming = λ i h. h };
+}
 
 abbrev cycles : Cycles
 cycles = record { before = λ i. 0; behind = λ i onward. 0 }

@@ -13,7 +13,7 @@ use Rattle.fk_meeting.specs.Phase.{Phase, Outside, Away, Coming, Waiting, Leavin
 use Rattle.fk_block_law.specs.Owner.{Owner}
 use Rattle.fk_block_law.specs.Stands.{Places, StandsAt}
 use Rattle.fk_block_law.specs.Block.{Enters, gone_to}
-use Rattle.fk_group_law.specs.Node.{Nestings, StandsInNode, OwnsHeader, barrier_word, closing_word}
+use Rattle.fk_group_law.specs.Node.{Polling, Nestings, StandsInNode, OwnsHeader, barrier_word, closing_word}
 use Rattle.fk_group_law.specs.Lockstep.{IsMember}
 
 -- a barrier, the end of a body, and where members wait for parts to end
@@ -37,11 +37,6 @@ abbrev pub lead : ℕ
 lead = 1
 
 -- ---- one member
-
--- where in the code it polls, and which registers change meanwhile
-pub record Polling : Type 0 where
-  pub at : ℕ
-  pub changes : (register : ℕ) → Bool
 
 -- it polls with all else that it had at first
 pub record Polls (polling : Polling) (first h : Hart) : Type 0 where

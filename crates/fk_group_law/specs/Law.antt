@@ -117,4 +117,4 @@ module _ (core : List CoreOp) (image : Image) (places : Places) (nestings : Nest
           → BlockMeets core image places nestings i op operation most_before
       -- at the beginning of `start` all processors meet in the root
       pub starts : (i : ℕ) (op : CoreOp) → StandsOp core i op Begin
-          → BlockStarts core image places nestings i op most_before (cycles.before i) (cycles.behind i)
+          → BlockStarts core image places nestings i op (nestings.start.there i) (nestings.start.coming i) most_before (cycles.before i) (cycles.behind i)

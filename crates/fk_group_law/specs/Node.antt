@@ -1,5 +1,5 @@
 -- Where a hart finds the control words of its node, and what it keeps of the groups round it.
-use Rattle.std.specs.Prelude.{◌≡◌, ℕ, zero, suc, ◌+◌, ◌*◌, ◌^◌, ◌<◌, ◌≤◌, List, [], ◌∷◌, length, true, Option, IfSome}
+use Rattle.std.specs.Prelude.{◌≡◌, ℕ, zero, suc, ◌+◌, ◌*◌, ◌^◌, ◌<◌, ◌≤◌, List, [], ◌∷◌, length, Bool, true, Option, IfSome}
 use Rattle.fk_num.specs.Word.{Memory}
 use Rattle.fk_run.specs.Processor.{Call, Level, Setting}
 use Rattle.fk_machine.specs.Hart.{Hart}
@@ -52,12 +52,25 @@ node_register = 10
 abbrev pub body_register : ℕ
 body_register = 11
 
+-- where in the code a hart polls, and which registers change meanwhile
+pub record Polling : Type 0 where
+  pub at : ℕ
+  pub changes : (register : ℕ) → Bool
+
+-- Where those who begin the group of `start` are when they have met, by the index where they do so, and what their own lines made
+-- of a hart before it met
+pub record Gathering : Type 0 where
+  pub there : (index : ℕ) → Polling
+  pub coming : (index : ℕ) → Hart → Hart
+
 -- Where the levels round a processor stand in frames. The outermost is that of the root, and is known without words
 pub record Nestings : Type 0 where
   -- how many levels stand in the frame of a call that goes on at an index
   pub levels : (index : ℕ) → ℕ
   -- the word behind the header of that frame where the first of them begins
   pub behind : (index : ℕ) → ℕ
+  -- where processors meet that begin the group of `start`, whose level is the first of these
+  pub start : Gathering
 
 -- the levels of a call have room in its frame, behind its private words and beside so many values
 pub record HasLevelRoom (frames : Frames) (nestings : Nestings) (index values : ℕ) : Type 0 where

@@ -15,9 +15,9 @@ use Rattle.fk_meeting.specs.Phase.{Phase, Coming}
 use Rattle.fk_block_law.specs.Owner.{Owner, number_of, core_source}
 use Rattle.fk_block_law.specs.Stands.{Places}
 use Rattle.fk_block_law.specs.Block.{IsRunning, Enters}
-use Rattle.fk_group_law.specs.Node.{Nestings, IsRoot, OwnsHeader, first_word, root_words, closing_word, agreed_word}
+use Rattle.fk_group_law.specs.Node.{Polling, Nestings, IsRoot, OwnsHeader, first_word, root_words, closing_word, agreed_word}
 use Rattle.fk_group_law.specs.Lockstep.{IsMember, NoneSaved, highest_value, is_due, stepped}
-use Rattle.fk_group_law.specs.Joint.{Polling, Polls, KeepsPolling, StandsByPhase}
+use Rattle.fk_group_law.specs.Joint.{Polls, KeepsPolling, StandsByPhase}
 
 -- a processor in the root, whose group space is whole
 pub record IsInRoot (nestings : Nestings) (setting : Setting) (p : Owner) : Type 0 where
@@ -81,9 +81,7 @@ module _ (core : List CoreOp) (image : Image) (places : Places) (nestings : Nest
 
   -- The block. Each meets all others at the root's closing word, which it comes to after so many private steps. Who have met, in
   -- one cycle, commit so many cycles later, and then go each to its part
-  pub record BlockStarts (most before : ℕ) (behind : (onward : Bool) → ℕ) : Type 0 where
-    pub there : Polling
-    pub coming : Hart → Hart
+  pub record BlockStarts (there : Polling) (coming : Hart → Hart) (most before : ℕ) (behind : (onward : Bool) → ℕ) : Type 0 where
     pub meets : (setting : Setting) (t : MachineSetting) (mine : Words) (m : Member) (p : Owner)
         → OwnsHeader mine root_words → Enters core image places setting t i op Begin p m.hart
         → IsMember places nestings setting (Some setting.processors) root_words m p → IsInRoot nestings setting p

@@ -1,5 +1,8 @@
 -- nodes own words apart
 pub mod Nodes
+-- what somebody's turn makes of it who meets, and what is so whether anybody unites or not
+pub mod Turned
+pub mod Joining
 -- who meets has the turns of its phases
 pub mod Meeters
 -- the round of a cycle is allowed

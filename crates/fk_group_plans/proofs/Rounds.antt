@@ -47,7 +47,7 @@ counts_at [] h x at = absurd (cc)
 counts_at (y ∷ stages) zero x at = let e : y ≡ x = cc in ap count_of_stage e
 counts_at (y ∷ stages) (suc h) x at = counts_at stages h x at
 
-all_true : (f : ℕ → Bool) (ms : List ℕ) → ((m : ℕ) → is_member m ms ≡ true → f m ≡ true) → list_all f ms ≡ true
+pub all_true : (f : ℕ → Bool) (ms : List ℕ) → ((m : ℕ) → is_member m ms ≡ true → f m ≡ true) → list_all f ms ≡ true
 all_true f [] g = refl
 all_true f (m ∷ ms) g =
     and_from (f m) (list_all f ms) (g m (or_left (m == m) (is_member m ms) (eq-eqb m m refl)))
@@ -64,7 +64,7 @@ same_joints AtBarrier = refl
 same_joints Closing = refl
 same_joints Resuming = refl
 
-all_fit_by : (round : Round) (does : ℕ → Joint) (tree : Tree) (h : ℕ) (counts : List ℕ) → ((i : ℕ) → i < length counts → fits round does tree (h + i) (slice_index counts i) ≡ true)
+pub all_fit_by : (round : Round) (does : ℕ → Joint) (tree : Tree) (h : ℕ) (counts : List ℕ) → ((i : ℕ) → i < length counts → fits round does tree (h + i) (slice_index counts i) ≡ true)
     → all_fit round does tree h counts ≡ true
 all_fit_by round does tree h [] f = refl
 all_fit_by round does tree h (c ∷ counts) f =

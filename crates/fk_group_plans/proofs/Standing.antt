@@ -23,15 +23,15 @@ use Rattle.fk_block_law.specs.Next.{StandsOp, step_at}
 use Rattle.fk_block_law.specs.Ready.{MayDo, is_alone}
 use Rattle.fk_block_law.specs.Block.{most_behind, IsRunning, member_of}
 use Rattle.fk_block_law.proofs.Standing.{next_here, operations_are_next}
-use Rattle.fk_group_law.specs.Node.{Nestings, OwnsHeader, IsAtRest, agreed_word, root_words}
+use Rattle.fk_group_law.specs.Node.{Polling, Nestings, OwnsHeader, IsAtRest, closing_word, agreed_word, root_words}
 use Rattle.fk_group_law.specs.Lockstep.{is_due, stepped, highest_value, AllComeAlone, AllEnter, HaveStepped, HaveParted, AreInStart}
-use Rattle.fk_group_law.specs.Joint.{word_of, Polling, MeetsAt}
-use Rattle.fk_group_law.specs.Start.{AllHaveMet, HaveStarted}
+use Rattle.fk_group_law.specs.Joint.{word_of, Polls, MeetsAt}
+use Rattle.fk_group_law.specs.Start.{MeetsUntil, AllHaveMet, HaveStarted}
 use Rattle.fk_group_law.specs.Law.{Cycles, GroupLaw, HasDoneInNode, way_of, runs_behind, is_shared_step, sets_apart, IsAskedOf}
 use Rattle.fk_group_law.specs.Laws.{AllGo}
 use Rattle.fk_group_law.proofs.Together.{members_do_together}
 use Rattle.fk_group_plans.specs.Behind.{IsBehind, AllHaveGone, IsGroupBehind, HaveActed, runs_of, blocks_of}
-use Rattle.fk_group_plans.specs.Standing.{all_act, MembersStandAtStages, MembersHaltAtStages, MeetersSetOut, GroupsActTogether, GroupsStepTogether, GroupsEndTogether, GroupsStartTogether}
+use Rattle.fk_group_plans.specs.Standing.{all_act, MembersStandAtStages, MembersHaltAtStages, MeetersSetOut, StartersSetOut, GroupsActTogether, GroupsStepTogether, GroupsEndTogether, GroupsStartTogether}
 
 -- ---- by itself
 
@@ -143,6 +143,33 @@ meeters_set_out core image places nestings cycles firsts main setting plan first
               (next_here core i op operation p.runner.left.callers stands);
           word_is = word ∙ ap (λ b. b + word_of operation) (sym member.words);
           meets = subst (λ k. MeetsAt image places nestings setting runs i k (plan.size w) t (Coming comes.0) m p) (sym word) at;
+        },
+      ),
+    )
+
+pub starters_set_out : StartersSetOut
+starters_set_out core image places nestings cycles firsts main setting plan first t i w op m p law stands en member root owns word is_open is_member size =
+    let Left : Hart → Type 0 = λ h. Polls (nestings.start.there i) (nestings.start.coming i m.hart) h in
+    let comes = (law.starts i op stands).meets setting t (plan.words 0) m p owns en member root in
+    let at = comes.2 in (
+      comes.0,
+      comes.1,
+      at.stands.0,
+      (
+        tt,
+        is_open,
+        is_member,
+        record {
+          i = i;
+          op = op;
+          cycle = t;
+          first = m.hart;
+          stands = stands;
+          enters = en;
+          member = member;
+          root = root;
+          meets = subst (λ k. MeetsUntil image k (plan.size w) 0 Left t (Coming comes.0) m) (sym word)
+              (subst (λ n. MeetsUntil image (root_words + closing_word) n 0 Left t (Coming comes.0) m) (sym size) at);
         },
       ),
     )
@@ -310,14 +337,14 @@ module _ (core : List CoreOp) (image : Image) (places : Places) (nestings : Nest
   }
 
   pub start_together : (cycles : Cycles) (firsts : List ℕ) (main : ℕ) (t : MachineSetting) (i : ℕ) (op : CoreOp) (law : GroupLaw core image places nestings cycles firsts main) (ms : List Member) (ps : List Owner) (own : Memory)
-      → (stands : StandsOp core i op Begin) → OwnsHeader (plan.words 0) root_words → IsRunning image setting t
-      → AllHaveMet core image places nestings i op (law.starts i op stands).there (law.starts i op stands).coming setting ms ps → IsAtRest root_words own
+      → StandsOp core i op Begin → OwnsHeader (plan.words 0) root_words → IsRunning image setting t
+      → AllHaveMet core image places nestings i op (nestings.start.there i) (nestings.start.coming i) setting ms ps → IsAtRest root_words own
       → InLockstep (core_source core setting) image plan (blocks_of core image places nestings setting plan first) t 0 (all_act (cycles.before i) ms) ms ps own
   start_together cycles firsts main t i op law ms ps own stands owns running met rest =
       let start = law.starts i op stands in
       let b = cycles.before i in
       let u = later (in_cycles b t) in
-      in_lockstep core image places nestings setting plan first t 0 b ms ps own (have_met i op start.there start.coming ms ps met)
+      in_lockstep core image places nestings setting plan first t 0 b ms ps own (have_met i op (nestings.start.there i) (nestings.start.coming i) ms ps met)
       (together_map (core_source core setting) image (plan.words 0) t 1 b ms ps own
       (λ ms' ds own'. (ds ≡ map (is_due core i op Begin) ps) × HaveStarted core image places nestings i op setting u (cycles.behind i) 0 ps own ms' own')
       (Behind core image places nestings setting plan first u 0)

@@ -8,7 +8,7 @@ use Rattle.fk_run.specs.Round.{Step}
 use Rattle.fk_core.specs.declared.op.CoreOp.{CoreOp}
 use Rattle.fk_core.specs.Next.{Position, position, next}
 use Rattle.fk_image.specs.declared.Image.{Image}
-use Rattle.fk_machine.specs.Hart.{Setting as MachineSetting}
+use Rattle.fk_machine.specs.Hart.{Hart, Setting as MachineSetting}
 use Rattle.fk_nodes.specs.Node.{Member, Words}
 use Rattle.fk_nodes.specs.Alone.{NodeRun}
 use Rattle.fk_meeting.specs.Phase.{Phase}
@@ -17,11 +17,12 @@ use Rattle.fk_plans.specs.Plan.{Plan, Blocks}
 use Rattle.fk_block_law.specs.Owner.{Owner, Doing, idle}
 use Rattle.fk_block_law.specs.Stands.{Places}
 use Rattle.fk_block_law.specs.Next.{StandsOp, step_at}
-use Rattle.fk_block_law.specs.Block.{most_behind}
+use Rattle.fk_block_law.specs.Block.{most_behind, Enters}
 use Rattle.fk_group_law.specs.Node.{Nestings, IsAtRest, first_word, root_words, barrier_word}
-use Rattle.fk_group_law.specs.Lockstep.{is_due, stepped, highest_value, AreMembers, AllComeAlone}
-use Rattle.fk_group_law.specs.Joint.{is_meeting, word_of, lead, MeetsAt, StandsBehind}
-use Rattle.fk_group_law.specs.Start.{AllComeToParts}
+use Rattle.fk_group_law.specs.Lockstep.{IsMember, is_due, stepped, highest_value, AreMembers, AllComeAlone}
+use Rattle.fk_group_law.specs.Joint.{is_meeting, word_of, lead, Polls, MeetsAt, StandsBehind}
+use Rattle.fk_group_law.specs.Start as starts
+use Rattle.fk_group_law.specs.Start.{IsInRoot, MeetsUntil, AllComeToParts}
 use Rattle.fk_group_law.specs.Law.{HasDoneInNode, sets_apart, IsAskedOf, runs_behind}
 
 -- how many run the body of a node beside a member that does: those who meet at the node's first word
@@ -42,10 +43,28 @@ module _ (core : List CoreOp) (image : Image) (places : Places) (nestings : Nest
     pub word_is : word ≡ first_word p.runner.has.level p.runner.has.outer + word_of operation
     pub meets : MeetsAt image places nestings setting runs i word n t f m p
 
-  -- nobody unites yet: the beginning of `start` is still to come
+  -- or it is about to begin the group of `start`: it came to that in some cycle, in the root, and is in a phase of meeting all others
+  pub record StandsInStart (word n : ℕ) (t : MachineSetting) (f : Phase) (m : Member) (p : Owner) : Type 0 where
+    pub i : ℕ
+    pub op : CoreOp
+    pub cycle : MachineSetting
+    pub first : Hart
+    pub stands : StandsOp core i op Begin
+    pub enters : Enters core image places setting cycle i op Begin p first
+    pub member : IsMember places nestings setting (Some setting.processors) root_words (record m { hart = first }) p
+    pub root : IsInRoot nestings setting p
+    pub meets : MeetsUntil image word n 0 (λ h. Polls (nestings.start.there i) (nestings.start.coming i first) h) t f m
+
   abbrev pub StandsByEnding : Ending → (runs : Option ℕ) → (word n : ℕ) → MachineSetting → Phase → Member → Owner → Type 0
   StandsByEnding Commits runs word n t f m p = StandsInMeeting runs word n t f m p
-  StandsByEnding Unites runs word n t f m p = ⊥
+  StandsByEnding Unites runs word n t f m p = StandsInStart word n t f m p
+
+  -- so it has met all of them
+  pub record HasJoined (m : Member) (p : Owner) : Type 0 where
+    pub i : ℕ
+    pub op : CoreOp
+    pub stands : StandsOp core i op Begin
+    pub met : starts.HasMet core image places nestings i op (nestings.start.there i) (nestings.start.coming i) setting m p
 
   -- its commit has ended it, and its processor's run is to end
   pub record HasEnded (m : Member) (d : Doing) : Type 0 where
@@ -135,7 +154,7 @@ module _ (core : List CoreOp) (image : Image) (places : Places) (nestings : Nest
   HaveActed mine first t behind ds ms own =
       NodeRun image mine t behind ms own (λ ms' own'. IsGroupBehind first ds ms' own') ⊎ (HaveParted first t behind ds ms own ⊎ (HaveEnded t behind ds ms ⊎ HaveBegun t ds ms own))
 
-  -- what the law of blocks says of members of the nodes of a plan
+  -- what the law of blocks says of members of the nodes of a plan, behind a cycle in which nobody unites with others
   abbrev pub blocks_of : Plan → (first : ℕ → ℕ) → Blocks Owner Doing
   blocks_of plan first = record {
     lead = lead;
@@ -145,3 +164,7 @@ module _ (core : List CoreOp) (image : Image) (places : Places) (nestings : Nest
     StandsIn = λ g t e w f m p. StandsByEnding e (runs_of plan (first g) m.number) w (plan.size w) t f m p;
     Joins = λ t g m p. ⊥;
   }
+
+  -- and behind any cycle
+  abbrev pub joining_blocks_of : Plan → (first : ℕ → ℕ) → Blocks Owner Doing
+  joining_blocks_of plan first = record (blocks_of plan first) { Joins = λ t g m p. HasJoined m p }

@@ -16,7 +16,7 @@ use Rattle.fk_block_law.specs.Owner.{Commons, Owner, core_source}
 use Rattle.fk_block_law.specs.Stands.{Places}
 use Rattle.fk_group_law.specs.Node.{Nestings}
 use Rattle.fk_group_plans.specs.Nodes.{first_of, owns, HaveSpaces, meeters_at, is_arrival, plan_of}
-use Rattle.fk_group_plans.specs.Behind.{blocks_of}
+use Rattle.fk_group_plans.specs.Behind.{blocks_of, joining_blocks_of}
 
 -- a tree has one group at most, with a space
 pub record HasOneGroup (tree : Tree) (spaces : ℕ → Space) (group : ℕ) : Type 0 where
@@ -45,7 +45,7 @@ WordsTellMeeters =
 abbrev pub MeetersTurn : Type 0
 MeetersTurn =
     (core : List CoreOp) (image : Image) (places : Places) (nestings : Nestings) (setting : Setting) (plan : Plan) (first : ℕ → ℕ)
-    → JointBlocksTurn (core_source core setting) image plan (blocks_of core image places nestings setting plan first)
+    → JointBlocksTurn (core_source core setting) image plan (joining_blocks_of core image places nestings setting plan first)
 
 abbrev pub CyclesAreRounds : Type 0
 CyclesAreRounds =
@@ -55,4 +55,4 @@ CyclesAreRounds =
     let blocks = blocks_of core image places nestings setting plan (first_of spaces) in
     HaveSpaces tree spaces → Shows (core_source core setting) earlier sh s → ((g : ℕ) → Has (plan.words g) sh.control (own g))
     → IsBound (core_source core setting) image plan blocks t stages hs ps own
-    → IsPlanned (core_source core setting) image plan blocks t earlier stages hs ps own sh s
+    → IsPlanned (core_source core setting) image plan (joining_blocks_of core image places nestings setting plan (first_of spaces)) t earlier stages hs ps own sh s

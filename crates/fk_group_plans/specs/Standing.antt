@@ -1,5 +1,5 @@
 -- Who stands at the beginning of a block is at a stage.
-use Rattle.std.specs.Prelude.{◌≡◌, ℕ, ◌+◌, ◌≤◌, List, map, Bool, true, None}
+use Rattle.std.specs.Prelude.{◌≡◌, ℕ, ◌+◌, ◌≤◌, List, map, Bool, true, Some, None}
 use Rattle.fk_num.specs.Word.{Memory}
 use Rattle.fk_operation.specs.declared.operation.Operation.{Operation}
 use Rattle.fk_operation.specs.declared.operation.Operation.TheVariants.{Begin, End, Halt}
@@ -9,7 +9,7 @@ use Rattle.fk_image.specs.declared.Image.{Image}
 use Rattle.fk_machine.specs.Hart.{Setting as MachineSetting}
 use Rattle.fk_nodes.specs.Node.{Member}
 use Rattle.fk_meeting.specs.Phase.{Coming}
-use Rattle.fk_plans.specs.Stage.{Commits, Stage, Acts, Meets}
+use Rattle.fk_plans.specs.Stage.{Commits, Unites, Stage, Acts, Meets}
 use Rattle.fk_plans.specs.Plan.{Plan, IsOpen, StandsAt, InLockstep}
 use Rattle.fk_plans.specs.Change.{IsFresh}
 use Rattle.fk_block_law.specs.Owner.{Owner, number_of, core_source}
@@ -17,10 +17,10 @@ use Rattle.fk_block_law.specs.Stands.{Places}
 use Rattle.fk_block_law.specs.Next.{StandsOp}
 use Rattle.fk_block_law.specs.Ready.{is_alone}
 use Rattle.fk_block_law.specs.Block.{most_before, IsRunning, Enters}
-use Rattle.fk_group_law.specs.Node.{Nestings, OwnsHeader, IsAtRest, root_words}
+use Rattle.fk_group_law.specs.Node.{Nestings, OwnsHeader, IsAtRest, root_words, closing_word}
 use Rattle.fk_group_law.specs.Lockstep.{IsMember, AllEnter, AreInStart}
 use Rattle.fk_group_law.specs.Joint.{is_meeting, word_of, AreSoMany}
-use Rattle.fk_group_law.specs.Start.{AllHaveMet}
+use Rattle.fk_group_law.specs.Start.{IsInRoot, AllHaveMet}
 use Rattle.fk_group_law.specs.Law.{Cycles, GroupLaw, is_shared_step, IsAskedOf}
 use Rattle.fk_group_law.specs.Laws.{AllGo}
 use Rattle.fk_group_plans.specs.Behind.{runs_of, blocks_of}
@@ -57,6 +57,17 @@ MeetersSetOut =
     → (d : ℕ) × (d ≤ most_before) × IsFresh t (Meets Commits w (Coming d))
     × StandsAt (core_source core setting) image plan (blocks_of core image places nestings setting plan first) t g (Meets Commits w (Coming d)) m p
 
+-- so it is at the beginning of `start`, in the root, where it meets all others
+abbrev pub StartersSetOut : Type 0
+StartersSetOut =
+    (core : List CoreOp) (image : Image) (places : Places) (nestings : Nestings) (cycles : Cycles) (firsts : List ℕ) (main : ℕ) (setting : Setting) (plan : Plan) (first : ℕ → ℕ)
+    (t : MachineSetting) (i w : ℕ) (op : CoreOp) (m : Member) (p : Owner)
+    → GroupLaw core image places nestings cycles firsts main → StandsOp core i op Begin
+    → Enters core image places setting t i op Begin p m.hart → IsMember places nestings setting (Some setting.processors) root_words m p → IsInRoot nestings setting p
+    → OwnsHeader (plan.words 0) root_words → w ≡ root_words + closing_word → IsOpen plan 0 w → plan.member w m.number ≡ true → plan.size w ≡ setting.processors
+    → (d : ℕ) × (d ≤ most_before) × IsFresh t (Meets Unites w (Coming d))
+    × StandsAt (core_source core setting) image plan (blocks_of core image places nestings setting plan first) t 0 (Meets Unites w (Coming d)) m p
+
 -- members in lockstep at a local operation or a request, with nobody at the words of their node
 abbrev pub GroupsActTogether : Type 0
 GroupsActTogether =
@@ -90,6 +101,6 @@ abbrev pub GroupsStartTogether : Type 0
 GroupsStartTogether =
     (core : List CoreOp) (image : Image) (places : Places) (nestings : Nestings) (cycles : Cycles) (firsts : List ℕ) (main : ℕ) (setting : Setting) (plan : Plan) (first : ℕ → ℕ)
     (t : MachineSetting) (i : ℕ) (op : CoreOp) (ms : List Member) (ps : List Owner) (own : Memory)
-    → (law : GroupLaw core image places nestings cycles firsts main) → (stands : StandsOp core i op Begin) → OwnsHeader (plan.words 0) root_words → IsRunning image setting t
-    → AllHaveMet core image places nestings i op (law.starts i op stands).there (law.starts i op stands).coming setting ms ps → IsAtRest root_words own
+    → GroupLaw core image places nestings cycles firsts main → StandsOp core i op Begin → OwnsHeader (plan.words 0) root_words → IsRunning image setting t
+    → AllHaveMet core image places nestings i op (nestings.start.there i) (nestings.start.coming i) setting ms ps → IsAtRest root_words own
     → InLockstep (core_source core setting) image plan (blocks_of core image places nestings setting plan first) t 0 (all_act (cycles.before i) ms) ms ps own

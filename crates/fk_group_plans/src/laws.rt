@@ -1,7 +1,8 @@
 //! Laws of the definitions.
 
 ghost use Rattle.fk_group_plans.specs.Rounds.{RoundsAreAllowed};
-ghost use Rattle.fk_group_plans.specs.Standing.{MembersStandAtStages, MembersHaltAtStages, MeetersSetOut, GroupsActTogether, GroupsStepTogether, GroupsEndTogether, GroupsStartTogether};
+ghost use Rattle.fk_group_plans.specs.Uniting.{CyclesLeaveApart};
+ghost use Rattle.fk_group_plans.specs.Standing.{MembersStandAtStages, MembersHaltAtStages, MeetersSetOut, StartersSetOut, GroupsActTogether, GroupsStepTogether, GroupsEndTogether, GroupsStartTogether};
 ghost use Rattle.fk_group_plans.specs.Laws.{OneGroupHasSpace, NodesOwnApart, WordsTellMeeters, MeetersTurn, CyclesAreRounds};
 
 /// While the root has one group at most, the spaces of all groups are apart.
@@ -19,7 +20,7 @@ pub fn words_tell_meeters()
     ensures { WordsTellMeeters }
 {}
 
-/// The turn of a member that meets is that of its phase: who leaves commits its operation.
+/// The turn of a member that meets is that of its phase: who leaves commits its operation, or unites with all others.
 pub fn meeters_turn()
     ensures { MeetersTurn }
 {}
@@ -28,6 +29,11 @@ pub fn meeters_turn()
 /// stages commit.
 pub fn cycles_are_rounds()
     ensures { CyclesAreRounds }
+{}
+
+/// In a cycle in which nobody unites with others, whoever leaves its stage has committed.
+pub fn cycles_leave_apart()
+    ensures { CyclesLeaveApart }
 {}
 
 /// That round is allowed: a group in lockstep acts whole, and where one of those who meet commits, all do, the same operation.
@@ -48,6 +54,11 @@ pub fn members_halt_at_stages()
 /// One that stands at the block of an operation by meeting is on its way to its arrival word.
 pub fn meeters_set_out()
     ensures { MeetersSetOut }
+{}
+
+/// So is one that stands at that of the beginning of `start`, in the root: it is on its way to meet all others there.
+pub fn starters_set_out()
+    ensures { StartersSetOut }
 {}
 
 /// A group that stands at the block of a local operation or a request, and goes one way, is in lockstep.

@@ -107,7 +107,7 @@ module _ (core : List CoreOp) (image : Image) (places : Places) (nestings : Nest
     (left : IsLeft (core_source core setting) image (plan_of old spaces nodes) (blocks_of core image places nestings setting (plan_of old spaces nodes) (first_of spaces)) t stages hs ps ds own own')
     (has : (g : ℕ) → Has ((plan_of old spaces nodes).words g) control (own' g)) (g : ℕ) (alone : Bool) (operation : Operation) (is : runs_alone operation ≡ Some alone)
     (kind : trees.kind old g ≡ Some Lockstep) (steps : StepsAt old g 0 operation ds) (behind : IsTree setting (with_kind g (Asynchronous alone) old) spaces)
-    (on : AllGoOn core (with_kind g (Asynchronous alone) old) spaces 0 left.afters ds (owners_after old (with_kind g (Asynchronous alone) old) ds))
+    (on : AllGoOn core nestings setting (with_kind g (Asynchronous alone) old) spaces 0 left.afters ds (owners_after old (with_kind g (Asynchronous alone) old) ds))
     (next : GroupsGoOn core nestings (with_kind g (Asynchronous alone) old) nodes left.afters (owners_after old (with_kind g (Asynchronous alone) old) ds)) where
   abbrev new : Tree
   new = with_kind g (Asynchronous alone) old
@@ -466,7 +466,7 @@ rounds_set_free core image places nestings cycles firsts main setting tree space
     = step_is_brought setting.processors tree before.sound g Lockstep Farm ds kind (all_stand setting.processors tree before.sound g kind) (omega (arith, many, long)) steps in
     subst
     (λ x.
-    IsTree setting x spaces → AllGoOn core x spaces 0 left.afters ds (owners_after tree x ds) → GroupsGoOn core nestings x nodes left.afters (owners_after tree x ds)
+    IsTree setting x spaces → AllGoOn core nestings setting x spaces 0 left.afters ds (owners_after tree x ds) → GroupsGoOn core nestings x nodes left.afters (owners_after tree x ds)
     → BindsAgain core image places nestings setting tree spaces nodes x spaces nodes t hs left.afters ps (all_landed core (owners_after tree x ds)) control) (sym same)
     (λ behind' on' next'.
     apart core image places nestings cycles firsts main setting tree spaces nodes t stages hs ps ds own own' control the_law leads before left has g false Farm refl kind steps behind' on' next')
@@ -481,7 +481,7 @@ rounds_send_one core image places nestings cycles firsts main setting tree space
     = step_is_brought setting.processors tree before.sound g Lockstep Seq ds kind (all_stand setting.processors tree before.sound g kind) (omega (arith, many, long)) steps in
     subst
     (λ x.
-    IsTree setting x spaces → AllGoOn core x spaces 0 left.afters ds (owners_after tree x ds) → GroupsGoOn core nestings x nodes left.afters (owners_after tree x ds)
+    IsTree setting x spaces → AllGoOn core nestings setting x spaces 0 left.afters ds (owners_after tree x ds) → GroupsGoOn core nestings x nodes left.afters (owners_after tree x ds)
     → BindsAgain core image places nestings setting tree spaces nodes x spaces nodes t hs left.afters ps (all_landed core (owners_after tree x ds)) control) (sym same)
     (λ behind' on' next'.
     apart core image places nestings cycles firsts main setting tree spaces nodes t stages hs ps ds own own' control the_law leads before left has g true Seq refl kind steps behind' on' next')

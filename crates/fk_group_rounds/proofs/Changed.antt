@@ -85,7 +85,7 @@ module _ (core : List CoreOp) (image : Image) (places : Places) (nestings : Nest
     (left : IsLeft (core_source core setting) image (plan_of old spaces nodes) (blocks_of core image places nestings setting (plan_of old spaces nodes) (first_of spaces)) t stages hs ps ds own own')
     (has : (g : ℕ) → Has ((plan_of old spaces nodes).words g) control (own' g)) (sound : IsSound setting.processors tree) (spaced : HaveSpaces tree spaces)
     (g0 : ℕ) (operation : Operation) (steps : StepsAt old g0 0 operation ds) (changed : ℕ → Bool) (move : TreeMoves old tree setting.processors g0 nodes nodes' changed)
-    (on : AllGoOn core tree spaces 0 left.afters ds (owners_after old tree ds)) (next : GroupsGoOn core nestings tree nodes' left.afters (owners_after old tree ds)) where
+    (on : AllGoOn core nestings setting tree spaces 0 left.afters ds (owners_after old tree ds)) (next : GroupsGoOn core nestings tree nodes' left.afters (owners_after old tree ds)) where
   abbrev plan : Plan
   plan = plan_of old spaces nodes
 

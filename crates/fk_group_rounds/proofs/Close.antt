@@ -78,7 +78,7 @@ committed_parts : (b : Bool) (a : Option Stage) (afters : List (Option Stage)) �
 committed_parts true a afters all = (λ e. all.0, all.1)
 committed_parts false a afters all = (λ e. absurd (false≢true e), all)
 
-none_arrived : (plan : Plan) (g w number : ℕ) (ns : List ℕ) (afters : List (Option Stage)) → AllHaveCommitted (of_node g ns afters) → arrived (phases_from plan g w number ns afters) ≡ 0
+pub none_arrived : (plan : Plan) (g w number : ℕ) (ns : List ℕ) (afters : List (Option Stage)) → AllHaveCommitted (of_node g ns afters) → arrived (phases_from plan g w number ns afters) ≡ 0
 none_arrived plan g w number [] afters all = refl
 none_arrived plan g w number (n ∷ ns) [] all = refl
 none_arrived plan g w number (n ∷ ns) (a ∷ afters) all =
@@ -96,7 +96,7 @@ module _ (core : List CoreOp) (image : Image) (places : Places) (nestings : Nest
     (left : IsLeft (core_source core setting) image (plan_of old spaces nodes) (blocks_of core image places nestings setting (plan_of old spaces nodes) (first_of spaces)) t stages hs ps ds own own')
     (has : (g : ℕ) → Has ((plan_of old spaces nodes).words g) control (own' g)) (g : ℕ) (alone : Bool) (kind : trees.kind old g ≡ Some (Asynchronous alone)) (steps : StepsAt old g 0 (Meet true) ds)
     (behind : IsTree setting (trees.meet g old) spaces)
-    (on : AllGoOn core (trees.meet g old) spaces 0 left.afters ds (owners_after old (trees.meet g old) ds))
+    (on : AllGoOn core nestings setting (trees.meet g old) spaces 0 left.afters ds (owners_after old (trees.meet g old) ds))
     (next : GroupsGoOn core nestings (trees.meet g old) nodes left.afters (owners_after old (trees.meet g old) ds)) where
   abbrev new : Tree
   new = trees.meet g old
@@ -298,7 +298,7 @@ rounds_close core image places nestings cycles firsts main setting tree spaces n
     = step_is_brought setting.processors tree before.sound g (Asynchronous alone) (Meet true) ds kind stand (omega (arith, many, long)) steps in
     subst
     (λ x.
-    IsTree setting x spaces → AllGoOn core x spaces 0 left.afters ds (owners_after tree x ds) → GroupsGoOn core nestings x nodes left.afters (owners_after tree x ds)
+    IsTree setting x spaces → AllGoOn core nestings setting x spaces 0 left.afters ds (owners_after tree x ds) → GroupsGoOn core nestings x nodes left.afters (owners_after tree x ds)
     → BindsAgain core image places nestings setting tree spaces nodes x spaces nodes t hs left.afters ps (all_landed core (owners_after tree x ds)) control) (sym same)
     (λ behind' on' next'.
     closed core image places nestings cycles firsts main setting tree spaces nodes t stages earlier hs ps ds own own' control the_law leads before few binds left has g alone kind steps behind' on' next')

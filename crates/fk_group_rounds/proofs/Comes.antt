@@ -1,15 +1,17 @@
 -- Who has committed comes to its next stage.
 use Rattle.std.proofs.Common.{◌≡◌, ℕ, zero, suc, ◌+◌, ◌≤◌, ◌<◌, List, [], ◌∷◌, length, true, false, Some, None, sym, ap, subst, ◌∙◌, refl, arith, inl, inr, ⊎_elim}
-use Rattle.std.specs.Prelude.{is_some, slice_get, Option}
+use Rattle.std.specs.Prelude.{is_some, slice_get, Option, if◌then◌else◌}
 use Rattle.std.proofs.lemmas.Bool.{cond-true}
 use Rattle.fk_num.specs.Word.{Memory}
 use Rattle.fk_space.specs.Space.{Space}
 use Rattle.fk_tree.specs.Tree as trees
-use Rattle.fk_tree.specs.Tree.{Tree}
+use Rattle.fk_tree.specs.Tree.{Tree, is_member}
 use Rattle.fk_operation.specs.Kinds.{joint_of}
 use Rattle.fk_operation.specs.declared.operation.Operation.{Operation}
 use Rattle.fk_operation.specs.declared.operation.Operation.TheVariants.{End, Halt, Meet, Resume}
+use Rattle.fk_operation.specs.declared.kinds.Joint.TheVariants.{Starting}
 use Rattle.fk_run.specs.Processor.{Setting}
+use Rattle.fk_run.specs.Round.{body_of}
 use Rattle.fk_core.specs.declared.op.CoreOp.{CoreOp}
 use Rattle.fk_core.specs.Next.{is_jump, landing, next}
 use Rattle.fk_image.specs.declared.Image.{Image}
@@ -20,7 +22,7 @@ use Rattle.fk_nodes.specs.Together.{Together}
 use Rattle.fk_nodes.proofs.Runs.{run_map, run_join, private_run}
 use Rattle.fk_nodes.proofs.Members.{run_leads}
 use Rattle.fk_meeting.specs.Phase.{Coming}
-use Rattle.fk_plans.specs.Stage.{Commits, Acts, Meets}
+use Rattle.fk_plans.specs.Stage.{Commits, Unites, Acts, Meets}
 use Rattle.fk_plans.specs.Plan.{Plan, Blocks, IsOpen, StandsAt}
 use Rattle.fk_plans.proofs.Changes.{does_later}
 use Rattle.fk_block_law.specs.Owner.{Owner, Doing, core_source}
@@ -30,16 +32,16 @@ use Rattle.fk_block_law.specs.Next.{StandsOp, step_at}
 use Rattle.fk_block_law.specs.Ready.{is_alone, IsReady}
 use Rattle.fk_block_law.specs.Block.{most_before, most_behind, IsRunning, Enters, gone_to}
 use Rattle.fk_block_law.proofs.Standing.{next_here}
-use Rattle.fk_group_law.specs.Node.{Nestings, StandsInNode, OwnsHeader, IsAtRest, root_words, barrier_word}
+use Rattle.fk_group_law.specs.Node.{Nestings, StandsInNode, OwnsHeader, IsAtRest, root_words, barrier_word, closing_word}
 use Rattle.fk_group_law.specs.Lockstep.{IsMember, AreMembers, AllEnter, AreInStart}
-use Rattle.fk_group_law.specs.Joint.{is_meeting, word_of, AreSoMany, IsArriving, StandsBehind}
+use Rattle.fk_group_law.specs.Joint.{is_meeting, word_of, AreSoMany, Polls, IsArriving, StandsBehind}
 use Rattle.fk_group_law.specs.Law.{Cycles, GroupLaw}
 use Rattle.fk_group_plans.specs.Nodes.{first_of, HaveSpaces, meeters_at, is_arrival, is_lockstep, plan_of}
 use Rattle.fk_group_plans.specs.Behind.{runs_of, blocks_of}
 use Rattle.fk_group_plans.proofs.Nodes.{tells}
-use Rattle.fk_group_plans.proofs.Standing.{members_stand_at_stages, members_halt_at_stages, meeters_set_out, act_together, step_together, end_together}
-use Rattle.fk_group_plans.specs.Rounds.{ending_of}
-use Rattle.fk_group_rounds.specs.Next.{JumpsLead, landed, all_landed, IsHome, MayMeet, HasNext, AllAt, AllAbout, ActsAlike, StepsAlike, HaveNext}
+use Rattle.fk_group_plans.proofs.Standing.{members_stand_at_stages, members_halt_at_stages, meeters_set_out, starters_set_out, act_together, step_together, end_together}
+use Rattle.fk_group_plans.specs.Rounds.{closing_joint, joint_at_word, ending_of}
+use Rattle.fk_group_rounds.specs.Next.{JumpsLead, landed, all_landed, IsHome, MayMeet, MayStart, HasNext, AllAt, AllAbout, ActsAlike, StepsAlike, HaveNext}
 use Rattle.fk_group_rounds.specs.Comes.{AllBelow, IsNode, ComesTo, ComeTo, MembersComeToStages, GroupsComeToCommits}
 use Rattle.fk_simulation.proofs.Linked.{in_cycles_join, runs_join, runs_later, alone_joint}
 use Rattle.fk_group_rounds.proofs.Cycles.{finished_in}
@@ -170,6 +172,41 @@ module _ (core : List CoreOp) (image : Image) (places : Places) (nestings : Nest
         },
       )
 
+  starts_earlier : (t : MachineSetting) (n d w : ℕ) (m : Member) (hart : Hart) (p : Owner) → IsRunning image setting t → RunsPrivately image t m.number n m.hart hart
+      → StandsAt (core_source core setting) image plan blocks (in_cycles n t) 0 (Meets Unites w (Coming d)) (record m { hart = hart }) p
+      → StandsAt (core_source core setting) image plan blocks t 0 (Meets Unites w (Coming (n + d))) m p
+  starts_earlier t n d w m hart p running private stands =
+      let x = stands.3 in
+      let s = x.meets.stands in
+      let even = s.0 in
+      let at = finished_in n t in
+      let Arrives : MachineSetting → Type 0
+      = λ u. IsArriving image w m.number x.meets.polling x.meets.first (plan.size w) (λ h. Polls (nestings.start.there x.i) (nestings.start.coming x.i x.first) h) u s.1.0 in (
+        tt,
+        stands.1,
+        stands.2,
+        record {
+          i = x.i;
+          op = x.op;
+          cycle = x.cycle;
+          first = x.first;
+          stands = x.stands;
+          enters = x.enters;
+          member = x.member;
+          root = x.root;
+          meets = record {
+            polling = x.meets.polling;
+            first = x.meets.first;
+            code = running.code;
+            polls = x.meets.polls;
+            stands = (
+              omega (arith, even, at),
+              (s.1.0, runs_join image m.number n d t m.hart hart s.1.0 private s.1.1, subst (λ u. Arrives u) (sym (in_cycles_join n d t)) s.1.2),
+            );
+          };
+        },
+      )
+
   -- ---- to a stage
 
   module _ (t : MachineSetting) (m : Member) (p : Owner) (node : IsNode tree spaces (tree.places m.number)) (running : IsRunning image setting t) (lt : m.number < setting.processors)
@@ -265,10 +302,61 @@ module _ (core : List CoreOp) (image : Image) (places : Places) (nestings : Nest
           soon = omega (arith, few, le);
         }
 
+    comes_to_start : MayStart nestings setting tree g m.number operation p → Comes
+    comes_to_start may =
+        let i = p.runner.left.at in
+        let e = may.root in
+        let root : IsNode tree spaces 0 = subst (IsNode tree spaces) e node in
+        let w = first_of spaces 0 + closing_word in
+        let tell = tells tree spaces node.spaced nodes 0 closing_word root.there root.given (omega arith) in
+        let all = tells tree spaces node.spaced nodes 0 barrier_word root.there root.given (omega arith) in
+        let processors : length (trees.members tree 0) ≡ setting.processors
+        = sym (home.size ∙ ap (λ k. length (trees.members tree k)) e) ∙ may.in_root.level.size in
+        let body : meeters_at tree 0 barrier_word ≡ trees.members tree 0 = ap (λ k. body_of k (trees.members tree 0)) may.kind in
+        let runs : runs_of plan (first_of spaces g) m.number ≡ Some setting.processors
+        = ap (λ k. runs_of plan (first_of spaces k) m.number) e
+        ∙ ap (λ b. if b then Some (plan.size (first_of spaces 0 + barrier_word)) else None) (all.member m.number ∙ ap (λ l. is_member m.number l) body ∙ may.member)
+        ∙ ap (λ n. Some n) (all.size ∙ ap (λ l. length l) body ∙ processors) in
+        let here_root : IsMember places nestings setting (Some setting.processors) root_words here p
+        = record {
+          number = member.number;
+          at = a.at;
+          node = subst (λ r. StandsInNode places nestings setting r p a.hart) runs a.node;
+          words = home.words ∙ ap (first_of spaces) e;
+        } in
+        let sets = starters_set_out core image places nestings cycles firsts main setting plan (first_of spaces) u i w op here p the_law (subst (λ o. StandsOp core i op o) may.begins stands)
+        (subst (λ o. Enters core image places setting u i op o p a.hart) may.begins enters) here_root may.in_root (owns_header tree spaces nodes 0 root) refl (tell.own, tell.arrival)
+        (tell.member m.number ∙ may.member) (tell.size ∙ processors) in
+        let joint : joint_at_word g (trees.kind tree g) closing_word ≡ Starting
+        = ap (λ k. joint_at_word k (trees.kind tree k) closing_word) e ∙ ap (closing_joint 0) may.kind in
+        let few = sets.1 in
+        let le = a.few in
+        let even = sets.2 in
+        let at = finished_in a.to_block t in
+        record {
+          stage = Meets Unites w (Coming (a.to_block + sets.0));
+          fresh = omega (arith, even, at);
+          stands = subst (λ k. StandsAt (core_source core setting) image plan blocks t k (Meets Unites w (Coming (a.to_block + sets.0))) m p) (sym e)
+              (starts_earlier t a.to_block sets.0 w m a.hart p running a.private sets.3);
+          due = (
+            tt,
+            record {
+              offset = closing_word;
+              step = step_at core i op operation p.runner.left.callers;
+              next_is = is_next;
+              word_is = ap (λ k. first_of spaces k + closing_word) (sym e);
+              arrival = refl;
+              joint = ap joint_of may.begins ∙ sym joint;
+              ends = sym (ap ending_of joint);
+            },
+          );
+          soon = omega (arith, few, le);
+        }
+
   pub comes : (t : MachineSetting) (b : ℕ) (m : Member) (hart : Hart) (p : Owner) → IsNode tree spaces (tree.places m.number) → is_lockstep (trees.kind tree (tree.places m.number)) ≡ false
       → IsRunning image setting t → m.number < setting.processors → b ≤ most_behind → RunsPrivately image t m.number b m.hart hart → law.StandsAt places p hart
       → StandsInNode places nestings setting (runs_of (plan_of tree spaces nodes) (first_of spaces (tree.places m.number)) m.number) p hart
-      → IsHome tree spaces m.number p → HasNext core tree m.number (landed core p)
+      → IsHome tree spaces m.number p → HasNext core nestings setting tree m.number (landed core p)
       → ComesTo core image places nestings setting tree spaces nodes t (tree.places m.number) m (landed core p)
   comes t b m hart p node free running lt few private at stands home has =
       let runs = runs_of (plan_of tree spaces nodes) (first_of spaces (tree.places m.number)) m.number in
@@ -279,7 +367,8 @@ module _ (core : List CoreOp) (image : Image) (places : Places) (nestings : Nest
       let home' : IsHome tree spaces m.number q = record { number_is = home.number_is; words = home.words; size = home.size } in
       ⊎_elim (λ alone. comes_alone t m q node running lt home' has.op has.operation has.stands has.ready a alone)
       (λ other. ⊎_elim (λ e. comes_to_halt t m q node running lt home' has.op has.operation has.stands has.ready a e)
-      (λ may. comes_to_meet t m q node running lt home' has.op has.operation has.stands has.ready a may) other) (has.may free)
+      (λ several. ⊎_elim (λ may. comes_to_meet t m q node running lt home' has.op has.operation has.stands has.ready a may)
+      (λ may. comes_to_start t m q node running lt home' has.op has.operation has.stands has.ready a may) several) other) (has.may free)
 
   -- ---- in lockstep, to the block of their operation
 

@@ -76,7 +76,7 @@ module _ (core : List CoreOp) (image : Image) (places : Places) (nestings : Nest
     (left : IsLeft (core_source core setting) image (plan_of old spaces nodes) (blocks_of core image places nestings setting (plan_of old spaces nodes) (first_of spaces)) t stages hs ps ds own own')
     (has : (g : ℕ) → Has ((plan_of old spaces nodes).words g) control (own' g)) (g : ℕ) (kind : trees.kind old g ≡ Some Lockstep) (steps : StepsAt old g 0 End ds)
     (behind : IsTree setting (trees.finish g old) spaces) (there : ArePlaces (trees.finish g old) 0 nodes') (many' : length nodes' ≡ length nodes)
-    (on : AllGoOn core (trees.finish g old) spaces 0 left.afters ds (owners_after old (trees.finish g old) ds))
+    (on : AllGoOn core nestings setting (trees.finish g old) spaces 0 left.afters ds (owners_after old (trees.finish g old) ds))
     (next : GroupsGoOn core nestings (trees.finish g old) nodes' left.afters (owners_after old (trees.finish g old) ds)) where
   abbrev new : Tree
   new = trees.finish g old
@@ -286,7 +286,7 @@ rounds_end core image places nestings cycles firsts main setting tree spaces nod
     = step_is_brought setting.processors tree before.sound g Lockstep End ds kind (λ h member. leaf_place setting.processors tree before.sound g h kind member) (omega (arith, many, long)) steps in
     subst
     (λ x.
-    IsTree setting x spaces → ArePlaces x 0 nodes' → AllGoOn core x spaces 0 left.afters ds (owners_after tree x ds) → GroupsGoOn core nestings x nodes' left.afters (owners_after tree x ds)
+    IsTree setting x spaces → ArePlaces x 0 nodes' → AllGoOn core nestings setting x spaces 0 left.afters ds (owners_after tree x ds) → GroupsGoOn core nestings x nodes' left.afters (owners_after tree x ds)
     → BindsAgain core image places nestings setting tree spaces nodes x spaces nodes' t hs left.afters ps (all_landed core (owners_after tree x ds)) control) (sym same)
     (λ behind' there' on' next'.
     ends core image places nestings cycles firsts main setting tree spaces nodes nodes' t stages hs ps ds own own' control the_law leads before left has g kind steps behind' there' many' on' next')

@@ -108,7 +108,7 @@ module _ (core : List CoreOp) (image : Image) (places : Places) (nestings : Nest
   home_add g false m ms d xs one rest = rest
 
   pub at_home : (g number : ℕ) (ns : List ℕ) (hs : List Hart) (afters : List (Option Stage)) (xs : List Doing) → ArePlaces old number ns → ((h : ℕ) → h < setting.processors → old.places h ≡ g → tree.places h ≡ g) → number + length ns ≡ setting.processors
-      → AreAsMany ns hs afters → AreAsMany ns hs xs → AllGoOn core tree spaces number afters xs (map settle xs)
+      → AreAsMany ns hs afters → AreAsMany ns hs xs → AllGoOn core nestings setting tree spaces number afters xs (map settle xs)
       → AllAtHome core image places nestings cycles firsts main setting old tree spaces nodes nodes' the_law leads spaced sound t running (actings ds) g (of_node g ns (numbered number hs)) (of_node g ns xs)
   at_home g number [] [] [] [] here stay many as_a as_d on = tt
   at_home g number (n ∷ ns) (h ∷ hs) (a ∷ afters) (d ∷ xs) here stay many as_a as_d on =
@@ -119,7 +119,7 @@ module _ (core : List CoreOp) (image : Image) (places : Places) (nestings : Nest
 
   module _ (hs : List Hart) (ps : List Owner) (afters : List (Option Stage)) (own' : ℕ → Memory) (control : Memory)
       (here : ArePlaces old 0 nodes) (many : length nodes ≡ setting.processors) (as_a : AreAsMany nodes hs afters) (as_d : AreAsMany nodes hs ds)
-      (on : AllGoOn core tree spaces 0 afters ds (map settle ds)) (has : (g : ℕ) → Has (plan.words g) control (own' g))
+      (on : AllGoOn core nestings setting tree spaces 0 afters ds (map settle ds)) (has : (g : ℕ) → Has (plan.words g) control (own' g))
       (sound_old : IsSound setting.processors old)
       (is_left : (g : ℕ) → NodeIsLeft (core_source core setting) image plan blocks (plan.in_lockstep g) t g (of_node g nodes afters) (of_node g nodes (numbered 0 hs)) (of_node g nodes ps)
       (of_node g nodes ds) (own' g)) where

@@ -187,7 +187,7 @@ module _ (core : List CoreOp) (image : Image) (places : Places) (nestings : Nest
         }
 
     in_group : (s0 : Stage) (a : Option Stage) → plan.in_lockstep g ≡ true → OneLeft a p d → IsDueAt core old spaces g s0 p.runner → Remains s0 a
-        → (a ≡ None → halts d.acting.due ≡ false → HasNext core tree m.number (becomes d)) → HartGoes m a p d
+        → (a ≡ None → halts d.acting.due ≡ false → HasNext core nestings setting tree m.number (becomes d)) → HartGoes m a p d
     in_group s0 a lock (inl x) due remains has =
         subst (λ b. HartGoes m b p d) (sym x.1) (kept s0 (Acts x.0) x.2 due (subst (λ b. Remains s0 b) x.1 remains).2 tt tt)
     in_group s0 a lock (inr x) due remains has =
@@ -207,7 +207,7 @@ module _ (core : List CoreOp) (image : Image) (places : Places) (nestings : Nest
         })
 
     by_itself : (s0 : Stage) (a : Option Stage) → plan.in_lockstep g ≡ false → Went (core_source core setting) image plan blocks t g a m p d → IsDueAt core old spaces g s0 p.runner → Remains s0 a
-        → (a ≡ None → halts d.acting.due ≡ false → HasNext core tree m.number (becomes d)) → HartGoes m a p d
+        → (a ≡ None → halts d.acting.due ≡ false → HasNext core nestings setting tree m.number (becomes d)) → HartGoes m a p d
     by_itself s0 None free went due remains has =
         let free' = lock_same ∙ free in
         let comes = member_comes core image places nestings cycles firsts main setting old tree spaces nodes nodes' the_law leads spaced sound t running acting m p d free' lt
@@ -226,7 +226,7 @@ module _ (core : List CoreOp) (image : Image) (places : Places) (nestings : Nest
     -- at a node that stays as it was
     pub hart_goes : (s0 : Stage) (a : Option Stage) → (plan.in_lockstep g ≡ true → OneLeft a p d)
         → (plan.in_lockstep g ≡ false → Went (core_source core setting) image plan blocks t g a m p d) → IsDueAt core old spaces g s0 p.runner → Remains s0 a
-        → (a ≡ None → halts d.acting.due ≡ false → HasNext core tree m.number (becomes d)) → HartGoes m a p d
+        → (a ≡ None → halts d.acting.due ≡ false → HasNext core nestings setting tree m.number (becomes d)) → HartGoes m a p d
     hart_goes s0 a lock alone due remains has =
         ⊎_elim (λ e. in_group s0 a e (lock e) due remains has) (λ e. by_itself s0 a e (alone e) due remains has) (cases_Bool (plan.in_lockstep g))
 
@@ -237,7 +237,7 @@ module _ (core : List CoreOp) (image : Image) (places : Places) (nestings : Nest
       → plan'.in_lockstep (tree.places m.number) ≡ false
       → runs_of (plan_of old spaces nodes) (first_of spaces (old.places m.number)) m.number ≡ runs_of (plan_of tree spaces nodes') (first_of spaces (tree.places m.number)) m.number
       → Went (core_source core setting) image plan blocks t (old.places m.number) a m p d
-      → (a ≡ None → halts d.acting.due ≡ false → HasNext core tree m.number (becomes d)) → HartGoes m a p d
+      → (a ≡ None → halts d.acting.due ≡ false → HasNext core nestings setting tree m.number (becomes d)) → HartGoes m a p d
   steps_alone m p d lt home busy None free runs went has =
       let comes = member_comes core image places nestings cycles firsts main setting old tree spaces nodes nodes' the_law leads spaced sound t running acting m p d free lt runs home (has refl) went in
       record {
@@ -251,7 +251,7 @@ module _ (core : List CoreOp) (image : Image) (places : Places) (nestings : Nest
 
   -- or in a group
   pub steps_into_group : (m : Member) (p : Owner) (d : Doing) → (d ≡ idle p → ⊥) → (a : Option Stage) → plan'.in_lockstep (tree.places m.number) ≡ true
-      → Went (core_source core setting) image plan blocks t (old.places m.number) a m p d → (a ≡ None → HasNext core tree m.number (becomes d)) → HartGoes m a p d
+      → Went (core_source core setting) image plan blocks t (old.places m.number) a m p d → (a ≡ None → HasNext core nestings setting tree m.number (becomes d)) → HartGoes m a p d
   steps_into_group m p d busy None lock went has =
       let next = has refl in
       let q = becomes d in
@@ -273,7 +273,7 @@ module _ (core : List CoreOp) (image : Image) (places : Places) (nestings : Nest
       → plan'.in_lockstep (tree.places m.number) ≡ false → OneLeft a p d → (b : ℕ) (hart : Hart) → b ≤ most_behind → RunsPrivately image t m.number b m.hart hart
       → law.StandsAt places (settle d) hart
       → StandsInNode places nestings setting (runs_of (plan_of tree spaces nodes') (first_of spaces (tree.places m.number)) m.number) (settle d) hart
-      → (a ≡ None → halts d.acting.due ≡ false → HasNext core tree m.number (becomes d)) → HartGoes m a p d
+      → (a ≡ None → halts d.acting.due ≡ false → HasNext core nestings setting tree m.number (becomes d)) → HartGoes m a p d
   steps_apart m p d lt home busy a free (inl x) b hart few private at node has = absurd (busy x.2)
   steps_apart m p d lt home busy a free (inr x) b hart few private at node has =
       let come = comes core image places nestings cycles firsts main setting tree spaces nodes' the_law leads t b m hart (settle d) (node_is_there core image places nestings cycles firsts main setting old tree spaces nodes nodes' the_law leads spaced sound t running acting m.number lt) free running lt few private at node home
@@ -317,13 +317,13 @@ module _ (core : List CoreOp) (image : Image) (places : Places) (nestings : Nest
       → (s0 : Stage) (a : Option Stage) → (plan.in_lockstep (old.places m.number) ≡ true → OneLeft a p d)
       → (plan.in_lockstep (old.places m.number) ≡ false → Went (core_source core setting) image plan blocks t (old.places m.number) a m p d)
       → IsDueAt core old spaces (old.places m.number) s0 p.runner → Remains s0 a
-      → (a ≡ None → halts d.acting.due ≡ false → HasNext core tree m.number (becomes d)) → HartGoes m a p d
+      → (a ≡ None → halts d.acting.due ≡ false → HasNext core nestings setting tree m.number (becomes d)) → HartGoes m a p d
 
   pub harts_go : (Fact : Member → Doing → Type 0) → EachGoes Fact → (number : ℕ) (ns : List ℕ) (hs : List Hart) (ns' : List ℕ) (afters : List (Option Stage)) (stages : List Stage) (ps : List Owner) (ds : List Doing)
       → AllAre Fact number hs ds → ArePlaces old number ns → ArePlaces tree number ns' → number + length ns ≡ setting.processors
       → AreAsMany ns hs afters → AreAsMany ns hs ps → AreAsMany ns hs ds → AreAsMany ns hs ns'
       → Pairwise Remains stages afters → AllDue core old spaces number stages (runners_of ps) → AllLanded core ps
-      → AllGoOn core tree spaces number afters ds (map settle ds)
+      → AllGoOn core nestings setting tree spaces number afters ds (map settle ds)
       → ((g : ℕ) → plan.in_lockstep g ≡ true → LockLeft (of_node g ns afters) (of_node g ns ps) (of_node g ns ds))
       → ((g : ℕ) → plan.in_lockstep g ≡ false
       → AllAreLeft (core_source core setting) image plan blocks t g (of_node g ns afters) (of_node g ns (numbered number hs)) (of_node g ns ps) (of_node g ns ds))

@@ -97,7 +97,7 @@ module _ (core : List CoreOp) (image : Image) (places : Places) (nestings : Nest
 
   module _ (m : Member) (p : Owner) (d : Doing) (free : is_lockstep (trees.kind tree (tree.places m.number)) ≡ false) (lt : m.number < setting.processors)
       (same_runs : runs_of (plan_of old spaces nodes) (first_of spaces (old.places m.number)) m.number ≡ runs_of (plan_of tree spaces nodes') (first_of spaces (tree.places m.number)) m.number)
-      (home : IsHome tree spaces m.number (settle d)) (has : halts d.acting.due ≡ false → HasNext core tree m.number (landed core (settle d))) where
+      (home : IsHome tree spaces m.number (settle d)) (has : halts d.acting.due ≡ false → HasNext core nestings setting tree m.number (landed core (settle d))) where
     abbrev g : ℕ
     g = tree.places m.number
 

@@ -36,9 +36,12 @@ pub mod Apart
 -- at the end of the group of `start`
 pub mod Ends
 -- where the group of `start` begins
+pub mod Begun
 pub mod Starts
 -- and before it
 pub mod Nearer
+-- where all have met for it
+pub mod Unite
 -- each known round
 pub mod Sum
 -- one program in a group

@@ -14,7 +14,7 @@ use Rattle.fk_machine.specs.Cycle.{turns}
 use Rattle.fk_nodes.specs.Node.{Member, numbered, of_node, AreAsMany, Has}
 use Rattle.fk_nodes.specs.Alone.{later}
 use Rattle.fk_plans.specs.Stage.{Stage, Acts, AllNear}
-use Rattle.fk_plans.specs.Plan.{Plan, Blocks, IsBound}
+use Rattle.fk_plans.specs.Plan.{Plan, Blocks, AllAct, InLockstep, IsBound}
 use Rattle.fk_plans.specs.Cycle.{AllHaveCommitted, AllKeep, IsLeft}
 use Rattle.fk_plans.specs.Change.{Changes, AllChange, TreeChanges}
 use Rattle.fk_plans.proofs.Changes.{plan_goes_on}
@@ -24,7 +24,9 @@ use Rattle.fk_block_law.specs.Owner.{Owner, Doing, idle, core_source}
 use Rattle.fk_block_law.specs.Stands.{Places}
 use Rattle.fk_group_law.specs.Node.{Nestings}
 use Rattle.fk_group_plans.specs.Nodes.{first_of, is_lockstep, plan_of, united}
-use Rattle.fk_group_plans.specs.Behind.{blocks_of}
+use Rattle.fk_group_plans.specs.Behind.{blocks_of, joining_blocks_of}
+use Rattle.fk_group_plans.specs.Uniting.{unites_now, NobodyUnites}
+use Rattle.fk_group_plans.proofs.Joining.{joins_bound, cycles_leave_apart}
 use Rattle.fk_group_plans.proofs.Nodes.{own_apart}
 use Rattle.fk_group_plans.proofs.Rounds.{lockstep_kind}
 use Rattle.fk_group_plans.proofs.Meeters.{is_idle, meeters_turn}
@@ -130,18 +132,43 @@ module _ (core : List CoreOp) (image : Image) (places : Places) (nestings : Nest
         ⊎_elim (λ x. inr (subst AllHaveCommitted all_afters x.0))
         (λ x. inl (nearer_by x.0 (subst (AllKeep (Acts x.0)) all_afters x.1) (sym all_doings ∙ x.2 ∙ ap (map idle) all_owners))) (left.nodes 0)
 
+-- none of them unites with others
+nobody_acts : (core : List CoreOp) (image : Image) (setting : Setting) (plan : Plan) (blocks : Blocks Owner Doing) (d : ℕ) (stages : List Stage) (ms : List Member) (ps : List Owner)
+    → AllAct (core_source core setting) image plan blocks d stages ms ps → NobodyUnites stages
+nobody_acts core image setting plan blocks d [] [] [] all = tt
+nobody_acts core image setting plan blocks d (s ∷ stages) (m ∷ ms) (p ∷ ps) all = (ap unites_now all.0, nobody_acts core image setting plan blocks d stages ms ps all.1)
+nobody_acts core image setting plan blocks d stages ms ps all = absurd (assumption all)
+
+all_act_apart : (core : List CoreOp) (image : Image) (places : Places) (nestings : Nestings) (setting : Setting) (old : Tree) (spaces : ℕ → Space) (nodes : List ℕ) (t : MachineSetting) (stages : List Stage)
+    (hs : List Hart) (ps : List Owner) (before : IsBeforeStart image setting old spaces nodes t hs ps) (own : ℕ → Memory)
+    → IsBound (core_source core setting) image (united (plan_of old spaces nodes)) (blocks_of core image places nestings setting (united (plan_of old spaces nodes)) (first_of spaces)) t stages hs ps own
+    → NobodyUnites stages
+all_act_apart core image places nestings setting old spaces nodes t stages hs ps before own binds =
+    let plan = united (plan_of old spaces nodes) in
+    let all : of_node 0 nodes stages ≡ stages
+    = of_all old 0 nodes hs stages (λ h le lt. let many = before.many in before.in_root h (omega (arith, lt, many))) before.stand binds.stages_as_many in
+    let group : InLockstep (core_source core setting) image plan (blocks_of core image places nestings setting plan (first_of spaces)) t 0 (of_node 0 nodes stages) (of_node 0 nodes (numbered 0 hs))
+    (of_node 0 nodes ps) (own 0) = binds.binds 0 in
+    subst NobodyUnites all
+    (nobody_acts core image setting plan (blocks_of core image places nestings setting plan (first_of spaces)) group.distance (of_node 0 nodes stages) (of_node 0 nodes (numbered 0 hs)) (of_node 0 nodes ps)
+    group.alike)
+
 pub cycles_come_to_start : CyclesComeToStart
 cycles_come_to_start core image places nestings setting tree spaces nodes t earlier stages hs ps own sh s before few shows has binds =
     let plan = united (plan_of tree spaces nodes) in
     let blocks = blocks_of core image places nestings setting plan (first_of spaces) in
     let source = core_source core setting in
     let done = turns t 0 hs sh in
-    let planned = cycle_is_planned source image plan blocks t earlier stages hs ps own sh s (is_idle core setting) (meeters_turn core image places nestings setting plan (first_of spaces))
-    (own_apart tree spaces before.spaced) shows has binds in (
+    let joining = joining_blocks_of core image places nestings setting plan (first_of spaces) in
+    let joined = joins_bound core image places nestings setting plan (first_of spaces) t stages hs ps own binds in
+    let planned = cycle_is_planned source image plan joining t earlier stages hs ps own sh s (is_idle core setting) (meeters_turn core image places nestings setting plan (first_of spaces))
+    (own_apart tree spaces before.spaced) shows has joined in (
       planned.counts,
       ⊎_elim
           (λ whole.
-          let left = what_is_left source image plan blocks t stages hs done.harts ps whole.did own whole.own binds whole.as_many whole.after in
+          let left = cycles_leave_apart core image places nestings setting plan (first_of spaces) t stages done.harts ps whole.did own whole.own
+          (all_act_apart core image places nestings setting tree spaces nodes t stages hs ps before own binds)
+          (what_is_left source image plan joining t stages hs done.harts ps whole.did own whole.own joined whole.as_many whole.after) in
           let many : AreAsMany nodes done.harts ps
           = both_alike nodes done.harts ps (first_alike nodes done.harts whole.did whole.as_many) (second_alike nodes hs ps before.as_many) in
           let behind : IsBeforeStart image setting tree spaces nodes t done.harts ps
@@ -152,6 +179,7 @@ cycles_come_to_start core image places nestings setting tree spaces nodes t earl
             stand = before.stand;
             many = before.many;
             as_many = many;
+            alone = before.alone;
             kind = before.kind;
             in_root = before.in_root;
           } in

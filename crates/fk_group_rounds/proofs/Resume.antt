@@ -68,7 +68,7 @@ module _ (core : List CoreOp) (image : Image) (places : Places) (nestings : Nest
     (left : IsLeft (core_source core setting) image (plan_of old spaces nodes) (blocks_of core image places nestings setting (plan_of old spaces nodes) (first_of spaces)) t stages hs ps ds own own')
     (has : (g : ℕ) → Has ((plan_of old spaces nodes).words g) control (own' g)) (first parts : ℕ) (kind : trees.kind old 0 ≡ Some (Waiting first parts)) (steps : StepsAt old 0 0 Resume ds)
     (behind : IsTree setting (trees.resume 0 old) spaces)
-    (on : AllGoOn core (trees.resume 0 old) spaces 0 left.afters ds (owners_after old (trees.resume 0 old) ds))
+    (on : AllGoOn core nestings setting (trees.resume 0 old) spaces 0 left.afters ds (owners_after old (trees.resume 0 old) ds))
     (next : GroupsGoOn core nestings (trees.resume 0 old) nodes left.afters (owners_after old (trees.resume 0 old) ds)) where
   abbrev new : Tree
   new = trees.resume 0 old
@@ -165,7 +165,7 @@ rounds_resume core image places nestings cycles firsts main setting tree spaces 
     = step_is_brought setting.processors tree before.sound 0 (Waiting first parts) Resume ds kind stand (omega (arith, many, long)) steps in
     subst
     (λ x.
-    IsTree setting x spaces → AllGoOn core x spaces 0 left.afters ds (owners_after tree x ds) → GroupsGoOn core nestings x nodes left.afters (owners_after tree x ds)
+    IsTree setting x spaces → AllGoOn core nestings setting x spaces 0 left.afters ds (owners_after tree x ds) → GroupsGoOn core nestings x nodes left.afters (owners_after tree x ds)
     → BindsAgain core image places nestings setting tree spaces nodes x spaces nodes t hs left.afters ps (all_landed core (owners_after tree x ds)) control) (sym same)
     (λ behind' on' next'.
     resumed core image places nestings cycles firsts main setting tree spaces nodes t stages hs ps ds own own' control the_law leads before left has first parts kind steps behind' on' next')

@@ -2,16 +2,16 @@
 use Rattle.std.proofs.Common.{◌≡◌, ◌≢◌, ℕ, zero, suc, ◌+◌, ◌-◌, ◌^◌, ◌≤◌, ◌<◌, List, [], ◌∷◌, length, Option, Some, None, Bool, true, false, sym, ap, subst, ◌∙◌, refl, arith, ◌⊎◌, inl, inr, ⊎_elim, eq-eqb, filter}
 use Rattle.std.specs.Prelude.{◌==◌, ◌||◌, map, min, is_some, nat_lt, if◌then◌else◌}
 use Rattle.std.proofs.Math.Nat.{min-le_right}
-use Rattle.std.proofs.lemmas.Bool.{cases_Bool, cases_eq, cases_lt, cond-true, cond-false, ne_eqb, eqb-true, and_parts, lt-ltb, le-ltb, false≢true}
+use Rattle.std.proofs.lemmas.Bool.{cases_Bool, cases_eq, ne_eqb, eqb-true, and_parts, lt-ltb, le-ltb, false≢true}
 use Rattle.fk_num.specs.Word.{Memory}
 use Rattle.fk_space.specs.Space.{Space}
 use Rattle.fk_tree.specs.declared.node.Kind.TheVariants.{Lockstep, Waiting, Asynchronous}
 use Rattle.fk_tree.specs.Tree as trees
-use Rattle.fk_tree.specs.Tree.{Tree, Node, kind_of, members_of, node_of, below, with_kind, with_node, turned, is_member, is_in, is_from, place_in, first_part}
+use Rattle.fk_tree.specs.Tree.{Tree, kind_of, members_of, node_of, below, is_member, is_in, is_from, first_part}
 use Rattle.fk_tree.specs.Sound.{is_ascending, IsSound}
 use Rattle.fk_tree.proofs.Lists.{length-below}
-use Rattle.fk_tree.proofs.Begins.{length-root, root_some}
-use Rattle.fk_tree.proofs.Shapes.{with_same, with_other, members-node_of, kind-node_of, members-turned, kind-turned, has_some, some-given, from_parts, from_within, from_below, from_above}
+use Rattle.fk_tree.proofs.Begins.{length-root}
+use Rattle.fk_tree.proofs.Shapes.{members-node_of, kind-node_of, has_some, some-given, from_parts}
 use Rattle.fk_operation.specs.declared.operation.Operation.{Operation}
 use Rattle.fk_operation.specs.declared.operation.Operation.TheVariants.{Begin, End}
 use Rattle.fk_run.specs.Processor.{Processor, Setting, values, last}
@@ -31,7 +31,6 @@ use Rattle.fk_plans.specs.Plan.{Plan, Blocks, IsOpen, StandsAt, AllAct, InLockst
 use Rattle.fk_plans.specs.Cycle.{AllHaveCommitted, IsLeft}
 use Rattle.fk_plans.specs.Change.{IsFresh, AllChange, MeetingStays, MeetingOpens, TreeChanges}
 use Rattle.fk_plans.proofs.Changes.{plan_goes_on}
-use Rattle.fk_together.proofs.Changes.{first_same}
 use Rattle.fk_block_law.specs.Owner.{Owner, Doing, number_of, core_source}
 use Rattle.fk_block_law.specs.Stands as law
 use Rattle.fk_block_law.specs.Stands.{Places}
@@ -54,6 +53,7 @@ use Rattle.fk_group_rounds.specs.Rounds.{IsTree, AreBoundAgain}
 use Rattle.fk_group_rounds.specs.Start.{IsBeforeStart, RoundsStart}
 use Rattle.fk_simulation.proofs.Linked.{runs_later}
 use Rattle.fk_group_rounds.proofs.Lists.{of_map, map_map}
+use Rattle.fk_group_rounds.proofs.Begun as tree_behind
 use Rattle.fk_group_rounds.proofs.Agreed.{agreed_at}
 use Rattle.fk_group_rounds.proofs.Comes.{comes, groups_come_to_commits}
 use Rattle.fk_group_rounds.proofs.Same.{same_node, own_there, opened_before, member_still, size_still}
@@ -105,7 +105,7 @@ committed_add : (b : Bool) (a : Option Stage) (afters : List (Option Stage)) →
 committed_add true a afters e all = (e, all)
 committed_add false a afters e all = all
 
-node_committed : (g : ℕ) (ns : List ℕ) (afters : List (Option Stage)) → AllHaveCommitted afters → AllHaveCommitted (of_node g ns afters)
+pub node_committed : (g : ℕ) (ns : List ℕ) (afters : List (Option Stage)) → AllHaveCommitted afters → AllHaveCommitted (of_node g ns afters)
 node_committed g [] afters all = tt
 node_committed g (n ∷ ns) [] all = tt
 node_committed g (n ∷ ns) (a ∷ afters) all = committed_add (n == g) a (of_node g ns afters) all.0 (node_committed g ns afters all.1)
@@ -138,7 +138,7 @@ module _ (core : List CoreOp) (image : Image) (places : Places) (nestings : Nest
     (value_is : value ≡ agreed (actings ds) (trees.members old 0)) (count_is_min : count ≡ min (not_negative value) (length (trees.members old 0)))
     (rest : IsAtRest (first_of spaces old.given) control)
     (behind : IsTree setting (trees.begin count old) spaces) (there : ArePlaces (trees.begin count old) 0 nodes') (many' : length nodes' ≡ length nodes)
-    (on : AllGoOn core (trees.begin count old) spaces 0 left.afters ds (owners_after old (trees.begin count old) ds))
+    (on : AllGoOn core nestings setting (trees.begin count old) spaces 0 left.afters ds (owners_after old (trees.begin count old) ds))
     (next : GroupsGoOn core nestings (trees.begin count old) nodes' left.afters (owners_after old (trees.begin count old) ds)) where
   abbrev new : Tree
   new = trees.begin count old
@@ -173,36 +173,25 @@ module _ (core : List CoreOp) (image : Image) (places : Places) (nestings : Nest
   group = old.given
 
   abbrev taken : List ℕ
-  taken = filter (λ h. is_in (old.given - old.given) (first_part count h)) (trees.members old 0)
+  taken = tree_behind.taken setting.processors old before.sound count
 
   some_root : old.nodes 0 ≢ None
-  some_root = root_some setting.processors old before.sound
+  some_root = tree_behind.some_root setting.processors old before.sound count
 
   positive : 0 < old.given
-  positive = some-given setting.processors old before.sound 0 some_root
-
-  root_node : (trees.begin count old).nodes 0 ≡ turned (Waiting old.given 1) (old.nodes 0)
-  root_node =
-      cond-false (is_from old.given 1 0) (node_of (filter (λ h. is_in (0 - old.given) (first_part count h)) (trees.members old 0)) 0 Lockstep) ((with_kind 0 (Waiting old.given 1) old).nodes 0)
-      (from_below old.given 1 0 positive)
-      ∙ with_same 0 (turned (Waiting old.given 1) (old.nodes 0)) old.nodes 0 refl
+  positive = tree_behind.positive setting.processors old before.sound count
 
   group_node : (trees.begin count old).nodes old.given ≡ node_of taken 0 Lockstep
-  group_node =
-      cond-true (is_from old.given 1 old.given) (node_of taken 0 Lockstep) ((with_kind 0 (Waiting old.given 1) old).nodes old.given)
-      (from_within old.given 1 old.given (omega arith) (omega arith))
+  group_node = tree_behind.group_node setting.processors old before.sound count
 
   other_node : (k : ℕ) → k ≢ 0 → k ≢ old.given → (trees.begin count old).nodes k ≡ old.nodes k
-  other_node k ne ne' =
-      cond-false (is_from old.given 1 k) (node_of (filter (λ h. is_in (k - old.given) (first_part count h)) (trees.members old 0)) 0 Lockstep) ((with_kind 0 (Waiting old.given 1) old).nodes k)
-      (⊎_elim (λ lt. from_below old.given 1 k lt) (λ le. from_above old.given 1 k (omega (arith, le, ne'))) (cases_lt k old.given))
-      ∙ with_other 0 (turned (Waiting old.given 1) (old.nodes 0)) old.nodes k ne
+  other_node k ne ne' = tree_behind.other_node setting.processors old before.sound count k ne ne'
 
   kind_root : trees.kind (trees.begin count old) 0 ≡ Some (Waiting old.given 1)
-  kind_root = ap kind_of root_node ∙ kind-turned (Waiting old.given 1) (old.nodes 0) some_root
+  kind_root = tree_behind.kind_root setting.processors old before.sound count
 
   members_root : trees.members (trees.begin count old) 0 ≡ trees.members old 0
-  members_root = ap members_of root_node ∙ members-turned (Waiting old.given 1) (old.nodes 0)
+  members_root = tree_behind.members_root setting.processors old before.sound count
 
   there_root : is_some ((trees.begin count old).nodes 0) ≡ true
   there_root = kind_there ((trees.begin count old).nodes 0) (Waiting old.given 1) kind_root
@@ -214,16 +203,13 @@ module _ (core : List CoreOp) (image : Image) (places : Places) (nestings : Nest
   given_root = some-given setting.processors new behind.sound 0 (not_none (new.nodes 0) there_root)
 
   all_members : (h : ℕ) → h < setting.processors → is_member h (trees.members old 0) ≡ true
-  all_members h lt = subst (λ k. is_member h (trees.members old k) ≡ true) (before.in_root h lt) (before.sound.placed h lt).member
-
-  goes : (h : ℕ) → h < setting.processors → (trees.begin count old).places h ≡ place_in (old.places h) old.given (first_part count h)
-  goes h lt = cond-true (is_member h (trees.members old 0)) (place_in (old.places h) old.given (first_part count h)) (old.places h) (all_members h lt)
+  all_members h lt = tree_behind.all_members setting.processors old before.sound count before.in_root h lt
 
   goes_in : (h : ℕ) → h < setting.processors → nat_lt h count ≡ true → (trees.begin count old).places h ≡ old.given
-  goes_in h lt is = goes h lt ∙ ap (λ b. place_in (old.places h) old.given (if b then Some 0 else None)) is ∙ omega arith
+  goes_in h lt is = tree_behind.goes_in setting.processors old before.sound count before.in_root h lt is
 
   goes_back : (h : ℕ) → h < setting.processors → nat_lt h count ≡ false → (trees.begin count old).places h ≡ 0
-  goes_back h lt is = goes h lt ∙ ap (λ b. place_in (old.places h) old.given (if b then Some 0 else None)) is ∙ before.in_root h lt
+  goes_back h lt is = tree_behind.goes_back setting.processors old before.sound count before.in_root h lt is
 
   -- who is there has been taken
   is_taken_there : (h : ℕ) → h < setting.processors → (trees.begin count old).places h ≡ old.given → nat_lt h count ≡ true
@@ -327,7 +313,7 @@ module _ (core : List CoreOp) (image : Image) (places : Places) (nestings : Nest
   count_min = count_is_min ∙ ap (λ n. min (not_negative value) n) size_root
 
   taken_by_number : (h : ℕ) → h < setting.processors → nat_lt h (not_negative value) ≡ nat_lt h count
-  taken_by_number h lt = sym (ap (λ n. nat_lt h n) count_min ∙ first_same h setting.processors (not_negative value) lt)
+  taken_by_number h lt = tree_behind.taken_below setting.processors old before.sound count (not_negative value) count_min h lt
 
   group_size : length (trees.members (trees.begin count old) old.given) ≡ count
   group_size =
@@ -443,7 +429,7 @@ module _ (core : List CoreOp) (image : Image) (places : Places) (nestings : Nest
       }
 
   group_runs : (number : ℕ) (gs : List Hart) (ns' : List ℕ) (afters : List (Option Stage)) (xs : List Doing) → number + length gs ≡ setting.processors → ArePlaces (trees.begin count old) number ns' → AreAsMany ns' gs afters → AreAsMany ns' gs xs
-      → AllGoOn core (trees.begin count old) spaces number afters xs (map settle xs) → Both Comes (numbered number gs) xs
+      → AllGoOn core nestings setting (trees.begin count old) spaces number afters xs (map settle xs) → Both Comes (numbered number gs) xs
       → GroupRuns ns' (of_node old.given ns' (numbered number gs)) (of_node old.given ns' xs)
   group_runs number [] [] [] [] many here as_a as_d on' come = record { harts = []; runs = tt; members = tt; below_all = tt }
   group_runs number (h ∷ gs) (n' ∷ ns') (a ∷ afters) (d ∷ xs) many here as_a as_d on' come =
@@ -518,7 +504,7 @@ module _ (core : List CoreOp) (image : Image) (places : Places) (nestings : Nest
       ap (λ b. if b then Some (plan'.size w) else None) (tell.member h ∙ ap (λ l. is_member h l) body ∙ all_members h lt)
       ∙ ap (λ n. Some n) (tell.size ∙ ap (λ l. length l) body ∙ size_root)
 
-  one : (m : Member) (d : Doing) → m.number < setting.processors → IsHome (trees.begin count old) spaces m.number (settle d) → HasNext core (trees.begin count old) m.number (becomes d) → Comes m d → One m d
+  one : (m : Member) (d : Doing) → m.number < setting.processors → IsHome (trees.begin count old) spaces m.number (settle d) → HasNext core nestings setting (trees.begin count old) m.number (becomes d) → Comes m d → One m d
   one m d lt home has_next come =
       ⊎_elim
       (λ is.
@@ -572,7 +558,7 @@ module _ (core : List CoreOp) (image : Image) (places : Places) (nestings : Nest
   act_first false s ss m ms p qs is all = all
 
   start_all : (number : ℕ) (gs : List Hart) (ns ns' : List ℕ) (afters : List (Option Stage)) (qs : List Owner) (xs : List Doing) → number + length gs ≡ setting.processors → AreAsMany ns gs qs → AreAsMany ns gs xs
-      → AreAsMany ns' gs xs → AreAsMany ns' gs afters → ArePlaces (trees.begin count old) number ns' → AllHaveCommitted afters → AllGoOn core (trees.begin count old) spaces number afters xs (map settle xs) → Both Comes (numbered number gs) xs
+      → AreAsMany ns' gs xs → AreAsMany ns' gs afters → ArePlaces (trees.begin count old) number ns' → AllHaveCommitted afters → AllGoOn core nestings setting (trees.begin count old) spaces number afters xs (map settle xs) → Both Comes (numbered number gs) xs
       → Starts number ns ns' afters gs qs xs
   start_all number [] [] [] [] [] [] many as_p as_d as_n as_a here gone on' come = record { stages' = []; many = tt; changes = tt; due = tt; soon = tt; alike = λ lock. tt }
   start_all number (h ∷ gs) (n ∷ ns) (n' ∷ ns') (None ∷ afters) (q ∷ qs) (d ∷ xs) many as_p as_d as_n as_a here gone on' come =
@@ -712,10 +698,10 @@ rounds_start core image places nestings cycles firsts main setting tree spaces n
     let count = min (not_negative value) (length (trees.members tree 0)) in
     let stand : (h : ℕ) → is_member h (trees.members tree 0) ≡ true → tree.places h ≡ 0 = λ h is. before.in_root h (before.sound.within 0 h is) in
     let same : tree_after tree ds ≡ trees.begin count tree
-    = step_is_brought setting.processors tree before.sound 0 (Asynchronous false) Begin ds before.kind stand (omega (arith, many, long)) steps in
+    = step_is_brought setting.processors tree before.sound 0 (Asynchronous before.alone) Begin ds before.kind stand (omega (arith, many, long)) steps in
     subst
     (λ x.
-    IsTree setting x spaces → ArePlaces x 0 nodes' → AllGoOn core x spaces 0 left.afters ds (owners_after tree x ds) → GroupsGoOn core nestings x nodes' left.afters (owners_after tree x ds)
+    IsTree setting x spaces → ArePlaces x 0 nodes' → AllGoOn core nestings setting x spaces 0 left.afters ds (owners_after tree x ds) → GroupsGoOn core nestings x nodes' left.afters (owners_after tree x ds)
     → AreBoundAgain core image places nestings setting x spaces nodes' (later t) stages hs left.afters (all_landed core (owners_after tree x ds)) control) (sym same)
     (λ behind' there' on' next'.
     again core image places nestings cycles firsts main setting tree spaces nodes nodes' t stages hs ps ds own own' control the_law leads before left has steps count value refl refl rest behind' there' many'

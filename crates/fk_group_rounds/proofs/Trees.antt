@@ -67,7 +67,7 @@ change_keeps actors old h (Some step) tree keeps =
     same_either (h == lowest members) (changes step.operation n (who actors) (agreed actors members) h tree) tree
     (step_keeps step.operation n (who actors) (agreed actors members) h tree keeps)
 
-all_keep : (actors : List (Acting Position)) (old : Tree) (ds : List Doing) (tree : Tree) → AllKeep ds → all_changes actors old (actings ds) tree ≡ tree
+pub all_keep : (actors : List (Acting Position)) (old : Tree) (ds : List Doing) (tree : Tree) → AllKeep ds → all_changes actors old (actings ds) tree ≡ tree
 all_keep actors old [] tree keep = refl
 all_keep actors old (d ∷ ds) tree keep =
     ap (λ x. all_changes actors old (actings ds) x) (change_keeps actors old d.acting.runner.has.number d.acting.due tree keep.0) ∙ all_keep actors old ds tree keep.1
@@ -114,7 +114,7 @@ module _ (core : List CoreOp) (image : Image) (places : Places) (nestings : Nest
     (the_law : GroupLaw core image places nestings cycles firsts main) (leads : JumpsLead core) (before : IsBefore core image setting tree spaces nodes t stages hs ps)
     (left : IsLeft (core_source core setting) image (plan_of tree spaces nodes) (blocks_of core image places nestings setting (plan_of tree spaces nodes) (first_of spaces)) t stages hs ps ds own own')
     (has : (g : ℕ) → Has ((plan_of tree spaces nodes).words g) control (own' g)) (keep : AllKeep ds)
-    (on : AllGoOn core tree spaces 0 left.afters ds (owners_after tree tree ds)) (next : GroupsGoOn core nestings tree nodes left.afters (owners_after tree tree ds)) where
+    (on : AllGoOn core nestings setting tree spaces 0 left.afters ds (owners_after tree tree ds)) (next : GroupsGoOn core nestings tree nodes left.afters (owners_after tree tree ds)) where
   abbrev plan : Plan
   plan = plan_of tree spaces nodes
 
@@ -205,6 +205,6 @@ rounds_keep_trees core image places nestings cycles firsts main setting tree spa
     let same = all_keep (actings ds) tree ds tree keep in
     subst
     (λ x.
-    AllGoOn core x spaces 0 left.afters ds (owners_after tree x ds) → GroupsGoOn core nestings x nodes left.afters (owners_after tree x ds)
+    AllGoOn core nestings setting x spaces 0 left.afters ds (owners_after tree x ds) → GroupsGoOn core nestings x nodes left.afters (owners_after tree x ds)
     → BindsAgain core image places nestings setting tree spaces nodes x spaces nodes t hs left.afters ps (all_landed core (owners_after tree x ds)) control) (sym same)
     (λ on' next'. bound core image places nestings cycles firsts main setting tree spaces nodes t stages hs ps ds own own' control the_law leads before left has keep on' next') on next

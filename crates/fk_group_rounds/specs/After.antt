@@ -85,11 +85,11 @@ halts (Some step) = is_halt step.operation
 
 -- each processor has of its group what is that of its node, and who has committed anything but a halt is about to do another
 -- operation
-abbrev pub AllGoOn : List CoreOp → Tree → (spaces : ℕ → Space) → (number : ℕ) → (afters : List (Option Stage)) → List Doing → List Owner → Type 0
-AllGoOn core tree spaces number [] [] [] = Unit {0}
-AllGoOn core tree spaces number (a ∷ afters) (d ∷ ds) (p ∷ ps) =
-    IsHome tree spaces number p × (a ≡ None → halts d.acting.due ≡ false → HasNext core tree number (landed core p)) × AllGoOn core tree spaces (suc number) afters ds ps
-AllGoOn core tree spaces number afters ds ps = ⊥
+abbrev pub AllGoOn : List CoreOp → Nestings → Setting → Tree → (spaces : ℕ → Space) → (number : ℕ) → (afters : List (Option Stage)) → List Doing → List Owner → Type 0
+AllGoOn core nestings setting tree spaces number [] [] [] = Unit {0}
+AllGoOn core nestings setting tree spaces number (a ∷ afters) (d ∷ ds) (p ∷ ps) =
+    IsHome tree spaces number p × (a ≡ None → halts d.acting.due ≡ false → HasNext core nestings setting tree number (landed core p)) × AllGoOn core nestings setting tree spaces (suc number) afters ds ps
+AllGoOn core nestings setting tree spaces number afters ds ps = ⊥
 
 -- so it is with each group all of which has committed
 abbrev pub GroupsGoOn : List CoreOp → Nestings → Tree → (nodes : List ℕ) → (afters : List (Option Stage)) → List Owner → Type 0

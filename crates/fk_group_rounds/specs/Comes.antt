@@ -74,7 +74,7 @@ MembersComeToStages =
     → IsRunning image setting t → m.number < setting.processors
     → b ≤ most_behind → RunsPrivately image t m.number b m.hart hart → law.StandsAt places p hart
     → StandsInNode places nestings setting (runs_of (plan_of tree spaces nodes) (first_of spaces g) m.number) p hart
-    → IsHome tree spaces m.number p → HasNext core tree m.number (landed core p)
+    → IsHome tree spaces m.number p → HasNext core nestings setting tree m.number (landed core p)
     → ComesTo core image places nestings setting tree spaces nodes t g m (landed core p)
 
 -- in lockstep: a run of their node leads them there, and leaves its arrival words 0

@@ -20,7 +20,8 @@ use Rattle.fk_block_law.specs.Stands.{Places}
 use Rattle.fk_group_law.specs.Node.{Nestings}
 use Rattle.fk_group_law.specs.Law.{Cycles, GroupLaw}
 use Rattle.fk_group_plans.specs.Nodes.{first_of, plan_of}
-use Rattle.fk_group_plans.specs.Behind.{blocks_of}
+use Rattle.fk_group_plans.specs.Behind.{blocks_of, joining_blocks_of}
+use Rattle.fk_group_plans.specs.Uniting.{NobodyUnites}
 use Rattle.fk_group_rounds.specs.Next.{JumpsLead, all_landed}
 use Rattle.fk_group_rounds.specs.After.{tree_after, owners_after, ArePlaces, AllGoOn, GroupsGoOn}
 use Rattle.fk_group_rounds.specs.Rounds.{IsBefore, IsTree, IsKnownRound, AreBoundAgain}
@@ -30,19 +31,19 @@ module _ (core : List CoreOp) (image : Image) (places : Places) (nestings : Nest
   -- the cycle is a whole round. If it is one of the known rounds, and its processors go on as is told, all are bound again
   pub record IsWholeRound : Type 0 where
     pub whole : IsWhole (core_source core setting) image (plan_of tree spaces nodes).words
-        (DoneIn (core_source core setting) image (plan_of tree spaces nodes) (blocks_of core image places nestings setting (plan_of tree spaces nodes) (first_of spaces)) t stages ps own) earlier 0
+        (DoneIn (core_source core setting) image (plan_of tree spaces nodes) (joining_blocks_of core image places nestings setting (plan_of tree spaces nodes) (first_of spaces)) t stages ps own) earlier 0
         nodes hs ps s (turns t 0 hs sh)
     pub left : IsLeft (core_source core setting) image (plan_of tree spaces nodes)
         (blocks_of core image places nestings setting (plan_of tree spaces nodes) (first_of spaces)) t stages (turns t 0 hs sh).harts ps whole.did own whole.own
     pub again : (nodes' : List ℕ) → IsKnownRound tree whole.did → IsTree setting (tree_after tree whole.did) spaces
         → ArePlaces (tree_after tree whole.did) 0 nodes' → length nodes' ≡ length nodes
-        → AllGoOn core (tree_after tree whole.did) spaces 0 left.afters whole.did (owners_after tree (tree_after tree whole.did) whole.did)
+        → AllGoOn core nestings setting (tree_after tree whole.did) spaces 0 left.afters whole.did (owners_after tree (tree_after tree whole.did) whole.did)
         → GroupsGoOn core nestings (tree_after tree whole.did) nodes' left.afters (owners_after tree (tree_after tree whole.did) whole.did)
         → AreBoundAgain core image places nestings setting (tree_after tree whole.did) spaces nodes' (later t) stages (turns t 0 hs sh).harts left.afters
         (all_landed core (owners_after tree (tree_after tree whole.did) whole.did)) (turns t 0 hs sh).shared.control
 
--- where the plan binds all harts before a cycle, it is a round of the counts that the stages tell: a whole one, or one up to its
--- first fault
+-- where the plan binds all harts before a cycle in which nobody unites with others, it is a round of the counts that the stages tell:
+-- a whole one, or one up to its first fault
 abbrev pub CyclesBindAgain : Type 0
 CyclesBindAgain =
     (core : List CoreOp) (image : Image) (places : Places) (nestings : Nestings) (cycles : Cycles) (firsts : List ℕ) (main : ℕ) (setting : Setting) (tree : Tree)
@@ -51,6 +52,7 @@ CyclesBindAgain =
     → length hs < 2 ^ 31 → Shows (core_source core setting) earlier sh s → ((g : ℕ) → Has ((plan_of tree spaces nodes).words g) sh.control (own g))
     → IsBound (core_source core setting) image (plan_of tree spaces nodes)
     (blocks_of core image places nestings setting (plan_of tree spaces nodes) (first_of spaces)) t stages hs ps own
+    → NobodyUnites stages
     → (planned image hs ≡ counts_for stages)
     × (IsWholeRound core image places nestings setting tree spaces nodes t earlier stages hs ps own sh s
     ⊎ IsCut (core_source core setting) image (plan_of tree spaces nodes).words earlier 0 hs ps s (turns t 0 hs sh))

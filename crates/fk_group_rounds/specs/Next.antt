@@ -1,11 +1,13 @@
 -- What is known of processors that are about to do their next operations, in the nodes where they stand.
 use Rattle.std.specs.Prelude.{◌≡◌, ℕ, List, [], ◌∷◌, length, slice_get, Bool, true, false, Some, map, ◌⊎◌}
 use Rattle.fk_space.specs.Space.{Space}
+use Rattle.fk_tree.specs.declared.node.Kind.TheVariants.{Asynchronous}
 use Rattle.fk_tree.specs.Tree as trees
 use Rattle.fk_tree.specs.Tree.{Tree, is_member}
 use Rattle.fk_operation.specs.Kinds.{joint_of}
 use Rattle.fk_operation.specs.declared.operation.Operation.{Operation}
-use Rattle.fk_operation.specs.declared.operation.Operation.TheVariants.{End, Halt}
+use Rattle.fk_operation.specs.declared.operation.Operation.TheVariants.{Begin, End, Halt}
+use Rattle.fk_run.specs.Processor.{Setting}
 use Rattle.fk_core.specs.declared.op.CoreOp.{CoreOp}
 use Rattle.fk_core.specs.Next.{is_jump, landing}
 use Rattle.fk_core.specs.WellFormed.{IsOperation}
@@ -16,6 +18,7 @@ use Rattle.fk_block_law.specs.Block.{gone_to}
 use Rattle.fk_group_law.specs.Node.{Nestings, first_word}
 use Rattle.fk_group_law.specs.Lockstep.{AreInStart}
 use Rattle.fk_group_law.specs.Joint.{is_meeting, word_of}
+use Rattle.fk_group_law.specs.Start.{IsInRoot}
 use Rattle.fk_group_law.specs.Law.{is_shared_step, IsAskedOf}
 use Rattle.fk_group_law.specs.Laws.{AllGo}
 use Rattle.fk_group_plans.specs.Nodes.{first_of, meeters_at, is_lockstep}
@@ -46,17 +49,26 @@ pub record MayMeet (tree : Tree) (g number : ℕ) (operation : Operation) : Type
   pub joint : joint_of operation ≡ joint_at_word g (trees.kind tree g) (word_of operation)
   pub member : is_member number (meeters_at tree g (word_of operation)) ≡ true
 
+-- or all others in the root, to begin the group of `start`
+pub record MayStart (nestings : Nestings) (setting : Setting) (tree : Tree) (g number : ℕ) (operation : Operation) (p : Owner) : Type 0 where
+  pub begins : operation ≡ Begin
+  pub root : g ≡ 0
+  pub kind : trees.kind tree 0 ≡ Some (Asynchronous false)
+  pub member : is_member number (trees.members tree 0) ≡ true
+  pub in_root : IsInRoot nestings setting p
+
 -- or does an operation alone, or ends
-abbrev pub MayByItself : Tree → (g number : ℕ) → Operation → Type 0
-MayByItself tree g number operation = (is_alone operation ≡ true) ⊎ ((operation ≡ Halt) ⊎ MayMeet tree g number operation)
+abbrev pub MayByItself : Nestings → Setting → Tree → (g number : ℕ) → Operation → Owner → Type 0
+MayByItself nestings setting tree g number operation p =
+    (is_alone operation ≡ true) ⊎ ((operation ≡ Halt) ⊎ (MayMeet tree g number operation ⊎ MayStart nestings setting tree g number operation p))
 
 -- a processor is about to do this
-pub record HasNext (core : List CoreOp) (tree : Tree) (number : ℕ) (p : Owner) : Type 0 where
+pub record HasNext (core : List CoreOp) (nestings : Nestings) (setting : Setting) (tree : Tree) (number : ℕ) (p : Owner) : Type 0 where
   pub op : CoreOp
   pub operation : Operation
   pub stands : StandsOp core p.runner.left.at op operation
   pub ready : IsReady op operation p.runner
-  pub may : is_lockstep (trees.kind tree (tree.places number)) ≡ false → MayByItself tree (tree.places number) number operation
+  pub may : is_lockstep (trees.kind tree (tree.places number)) ≡ false → MayByItself nestings setting tree (tree.places number) number operation p
 
 -- ---- in a group
 

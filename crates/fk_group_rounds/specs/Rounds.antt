@@ -50,7 +50,7 @@ RoundsKeepTrees =
     let qs = owners_after tree next ds in
     GroupLaw core image places nestings cycles firsts main → JumpsLead core → IsBefore core image setting tree spaces nodes t stages hs ps
     → (left : IsLeft (core_source core setting) image plan blocks t stages hs ps ds own own') → ((g : ℕ) → Has (plan.words g) control (own' g))
-    → AllKeep ds → AllGoOn core next spaces 0 left.afters ds qs → GroupsGoOn core nestings next nodes left.afters qs
+    → AllKeep ds → AllGoOn core nestings setting next spaces 0 left.afters ds qs → GroupsGoOn core nestings next nodes left.afters qs
     → BindsAgain core image places nestings setting tree spaces nodes next spaces nodes t hs left.afters ps (all_landed core qs) control
 
 -- ---- one step of the tree
@@ -77,7 +77,7 @@ RoundsResume =
     GroupLaw core image places nestings cycles firsts main → JumpsLead core → IsBefore core image setting tree spaces nodes t stages hs ps
     → (left : IsLeft (core_source core setting) image plan blocks t stages hs ps ds own own') → ((g : ℕ) → Has (plan.words g) control (own' g))
     → trees.kind tree 0 ≡ Some (Waiting first parts) → AllStandIn tree 0 → StepsAt tree 0 0 Resume ds → IsTree setting next spaces
-    → AllGoOn core next spaces 0 left.afters ds qs → GroupsGoOn core nestings next nodes left.afters qs
+    → AllGoOn core nestings setting next spaces 0 left.afters ds qs → GroupsGoOn core nestings next nodes left.afters qs
     → BindsAgain core image places nestings setting tree spaces nodes next spaces nodes t hs left.afters ps (all_landed core qs) control
 
 -- those of a group whose body has ended are in lockstep again
@@ -94,7 +94,7 @@ RoundsClose =
     → length before < 2 ^ 31 → IsBound (core_source core setting) image plan blocks t stages before ps own
     → (left : IsLeft (core_source core setting) image plan blocks t stages hs ps ds own own') → ((k : ℕ) → Has (plan.words k) control (own' k))
     → trees.kind tree g ≡ Some (Asynchronous alone) → AllStandIn tree g → StepsAt tree g 0 (Meet true) ds → IsTree setting next spaces
-    → AllGoOn core next spaces 0 left.afters ds qs → GroupsGoOn core nestings next nodes left.afters qs
+    → AllGoOn core nestings setting next spaces 0 left.afters ds qs → GroupsGoOn core nestings next nodes left.afters qs
     → BindsAgain core image places nestings setting tree spaces nodes next spaces nodes t hs left.afters ps (all_landed core qs) control
 
 -- the members of a group come to a body, which each runs by itself
@@ -110,7 +110,7 @@ RoundsSetFree =
     GroupLaw core image places nestings cycles firsts main → JumpsLead core → IsBefore core image setting tree spaces nodes t stages hs ps
     → (left : IsLeft (core_source core setting) image plan blocks t stages hs ps ds own own') → ((k : ℕ) → Has (plan.words k) control (own' k))
     → trees.kind tree g ≡ Some Lockstep → StepsAt tree g 0 Farm ds → IsTree setting next spaces
-    → AllGoOn core next spaces 0 left.afters ds qs → GroupsGoOn core nestings next nodes left.afters qs
+    → AllGoOn core nestings setting next spaces 0 left.afters ds qs → GroupsGoOn core nestings next nodes left.afters qs
     → BindsAgain core image places nestings setting tree spaces nodes next spaces nodes t hs left.afters ps (all_landed core qs) control
 
 -- or which the lowest runs alone, while the others come to its end
@@ -126,7 +126,7 @@ RoundsSendOne =
     GroupLaw core image places nestings cycles firsts main → JumpsLead core → IsBefore core image setting tree spaces nodes t stages hs ps
     → (left : IsLeft (core_source core setting) image plan blocks t stages hs ps ds own own') → ((k : ℕ) → Has (plan.words k) control (own' k))
     → trees.kind tree g ≡ Some Lockstep → StepsAt tree g 0 Seq ds → IsTree setting next spaces
-    → AllGoOn core next spaces 0 left.afters ds qs → GroupsGoOn core nestings next nodes left.afters qs
+    → AllGoOn core nestings setting next spaces 0 left.afters ds qs → GroupsGoOn core nestings next nodes left.afters qs
     → BindsAgain core image places nestings setting tree spaces nodes next spaces nodes t hs left.afters ps (all_landed core qs) control
 
 -- the group of `start` ends: its members come back to the root, in which nobody else moves
@@ -142,7 +142,7 @@ RoundsEnd =
     GroupLaw core image places nestings cycles firsts main → JumpsLead core → IsBefore core image setting tree spaces nodes t stages hs ps
     → (left : IsLeft (core_source core setting) image plan blocks t stages hs ps ds own own') → ((k : ℕ) → Has (plan.words k) control (own' k))
     → trees.kind tree g ≡ Some Lockstep → StepsAt tree g 0 End ds → IsTree setting next spaces → ArePlaces next 0 nodes' → length nodes' ≡ length nodes
-    → AllGoOn core next spaces 0 left.afters ds qs → GroupsGoOn core nestings next nodes' left.afters qs
+    → AllGoOn core nestings setting next spaces 0 left.afters ds qs → GroupsGoOn core nestings next nodes' left.afters qs
     → BindsAgain core image places nestings setting tree spaces nodes next spaces nodes' t hs left.afters ps (all_landed core qs) control
 
 -- ---- all of these
@@ -201,5 +201,5 @@ RoundsBindAgain =
     → length before < 2 ^ 31 → IsBound (core_source core setting) image plan blocks t stages before ps own
     → (left : IsLeft (core_source core setting) image plan blocks t stages hs ps ds own own') → ((k : ℕ) → Has (plan.words k) control (own' k))
     → IsKnownRound tree ds → IsTree setting next spaces → ArePlaces next 0 nodes' → length nodes' ≡ length nodes
-    → AllGoOn core next spaces 0 left.afters ds qs → GroupsGoOn core nestings next nodes' left.afters qs
+    → AllGoOn core nestings setting next spaces 0 left.afters ds qs → GroupsGoOn core nestings next nodes' left.afters qs
     → AreBoundAgain core image places nestings setting next spaces nodes' (later t) stages hs left.afters (all_landed core qs) control

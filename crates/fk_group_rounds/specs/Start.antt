@@ -1,5 +1,5 @@
 -- The round in which the group of `start` begins.
-use Rattle.std.specs.Prelude.{◌≡◌, ℕ, ◌^◌, ◌<◌, List, length, map, Some, false, ◌⊎◌}
+use Rattle.std.specs.Prelude.{◌≡◌, ℕ, ◌^◌, ◌<◌, List, length, map, Bool, Some, ◌⊎◌}
 use Rattle.fk_num.specs.Word.{Memory}
 use Rattle.fk_space.specs.Space.{Space}
 use Rattle.fk_tree.specs.declared.node.Kind.TheVariants.{Asynchronous}
@@ -25,7 +25,7 @@ use Rattle.fk_block_law.specs.Block.{IsRunning}
 use Rattle.fk_group_law.specs.Node.{Nestings, IsAtRest}
 use Rattle.fk_group_law.specs.Law.{Cycles, GroupLaw}
 use Rattle.fk_group_plans.specs.Nodes.{first_of, HaveSpaces, plan_of, united}
-use Rattle.fk_group_plans.specs.Behind.{blocks_of}
+use Rattle.fk_group_plans.specs.Behind.{blocks_of, joining_blocks_of}
 use Rattle.fk_group_rounds.specs.Next.{JumpsLead, all_landed}
 use Rattle.fk_group_rounds.specs.After.{tree_after, owners_after, StepsAt, ArePlaces, AllGoOn, GroupsGoOn}
 use Rattle.fk_group_rounds.specs.Rounds.{IsTree, AreBoundAgain}
@@ -38,7 +38,8 @@ pub record IsBeforeStart (image : Image) (setting : Setting) (tree : Tree) (spac
   pub stand : ArePlaces tree 0 nodes
   pub many : length nodes ≡ setting.processors
   pub as_many : AreAsMany nodes hs ps
-  pub kind : trees.kind tree 0 ≡ Some (Asynchronous false)
+  pub alone : Bool
+  pub kind : trees.kind tree 0 ≡ Some (Asynchronous alone)
   pub in_root : (h : ℕ) → h < setting.processors → tree.places h ≡ 0
 
 -- Who have met there are in lockstep. Where the plan binds them so before a cycle that is a whole round, nobody is in it, and they
@@ -54,7 +55,7 @@ module _ (core : List CoreOp) (image : Image) (places : Places) (nestings : Nest
 
   pub record IsStartRound : Type 0 where
     pub whole : IsWhole (core_source core setting) image (plan_of tree spaces nodes).words
-        (DoneIn (core_source core setting) image (united (plan_of tree spaces nodes)) (blocks_of core image places nestings setting (united (plan_of tree spaces nodes)) (first_of spaces)) t stages ps own)
+        (DoneIn (core_source core setting) image (united (plan_of tree spaces nodes)) (joining_blocks_of core image places nestings setting (united (plan_of tree spaces nodes)) (first_of spaces)) t stages ps own)
         earlier 0 nodes hs ps s (turns t 0 hs sh)
     pub left : IsLeft (core_source core setting) image (united (plan_of tree spaces nodes))
         (blocks_of core image places nestings setting (united (plan_of tree spaces nodes)) (first_of spaces)) t stages (turns t 0 hs sh).harts ps whole.did own whole.own
@@ -86,5 +87,5 @@ RoundsStart =
     → length before < 2 ^ 31 → IsBound (core_source core setting) image plan blocks t stages before ps own
     → (left : IsLeft (core_source core setting) image plan blocks t stages hs ps ds own own') → ((k : ℕ) → Has (plan.words k) control (own' k))
     → StepsAt tree 0 0 Begin ds → IsAtRest (first_of spaces tree.given) control → IsTree setting next spaces → ArePlaces next 0 nodes' → length nodes' ≡ length nodes
-    → AllGoOn core next spaces 0 left.afters ds qs → GroupsGoOn core nestings next nodes' left.afters qs
+    → AllGoOn core nestings setting next spaces 0 left.afters ds qs → GroupsGoOn core nestings next nodes' left.afters qs
     → AreBoundAgain core image places nestings setting next spaces nodes' (later t) stages hs left.afters (all_landed core qs) control

@@ -4,6 +4,7 @@ ghost use Rattle.fk_group_rounds.specs.Comes.{MembersComeToStages, GroupsComeToC
 ghost use Rattle.fk_group_rounds.specs.Cycle.{CyclesBindAgain};
 ghost use Rattle.fk_group_rounds.specs.Program.{GroupsHaveNext};
 ghost use Rattle.fk_group_rounds.specs.Start.{CyclesComeToStart, RoundsStart};
+ghost use Rattle.fk_group_rounds.specs.Unite.{CyclesUnite};
 ghost use Rattle.fk_group_rounds.specs.Rounds.{RoundsKeepTrees, RoundsResume, RoundsClose, RoundsSetFree, RoundsSendOne, RoundsEnd, RoundsBindAgain};
 
 /// A member by itself that has committed comes to the stage of its next operation, by a jump or straight: at a distance of at
@@ -53,6 +54,12 @@ pub fn rounds_end()
     ensures { RoundsEnd }
 {}
 
+/// Where the plan of a tree binds all harts before the cycle in which the last of all processors leaves the word where they meet at
+/// the beginning of `start`, nobody is in that round, and behind it all are in the root, in lockstep.
+pub fn cycles_unite()
+    ensures { CyclesUnite }
+{}
+
 /// Where those who have met for a `start` in the root are bound in lockstep before a cycle, it is a round of the counts that the
 /// stages tell, up to its first fault: nobody is in it, and all are one cycle nearer to their commit, or all are.
 pub fn cycles_come_to_start()
@@ -69,7 +76,7 @@ pub fn rounds_bind_again()
     ensures { RoundsBindAgain }
 {}
 
-/// So from one cycle of the machine to the next: it is a round of the counts that the stages tell, up to its first fault, and where
+/// So from one cycle of the machine to the next, where nobody unites with others: it is a round of the counts that the stages tell, up to its first fault, and where
 /// it is one of these rounds, all are bound again.
 pub fn cycles_bind_again()
     ensures { CyclesBindAgain }

@@ -22,8 +22,9 @@ use Rattle.fk_plans.specs.Stage.{Stage, Ended, Acts, Meets}
 use Rattle.fk_plans.specs.Plan.{Plan, Blocks, StandsAt, AllStandAt, AllAct, Binds, JointBlocksTurn}
 use Rattle.fk_block_law.specs.Owner.{core_source}
 use Rattle.fk_group_plans.specs.Nodes.{first_of, plan_of}
-use Rattle.fk_group_plans.specs.Behind.{blocks_of}
+use Rattle.fk_group_plans.specs.Behind.{joining_blocks_of}
 use Rattle.fk_group_plans.specs.Rounds.{AllDue}
+use Rattle.fk_group_plans.proofs.Joining.{joins_bound}
 use Rattle.fk_group_plans.proofs.Meeters.{meeters_turn}
 use Rattle.fk_group_rounds.specs.Next.{JumpsLead}
 use Rattle.fk_group_runs.specs.Beside.{landed_runner}
@@ -41,7 +42,7 @@ AllLive [] [] = Unit {0}
 AllLive (s ∷ stages) (m ∷ ms) = IsLive s m.hart × AllLive stages ms
 AllLive stages ms = ⊥
 
-abbrev NoneEnded : List Member → Type 0
+abbrev pub NoneEnded : List Member → Type 0
 NoneEnded [] = Unit {0}
 NoneEnded (m ∷ ms) = (m.hart.ended ≡ false) × NoneEnded ms
 
@@ -60,7 +61,7 @@ cycle_live image mine t [] own Then x = tt
 cycle_live image mine t (m ∷ ms) own Then x = (x.2.live, cycle_live image mine t ms x.1 (λ ms' own'. Then (record m { hart = x.0 } ∷ ms') own') x.3)
 
 module _ {S P D : Type 0} (source : Source S P D) (image : Image) (plan : Plan) (blocks : Blocks P D) where
-  together_live : (mine : Words) (t : MachineSetting) (d : ℕ) (ms : List Member) (ps : List P) (own : Memory) (Then : List Member → List D → Memory → Type 0) → Together source image mine t 1 d ms ps own Then → NoneEnded ms
+  pub together_live : (mine : Words) (t : MachineSetting) (d : ℕ) (ms : List Member) (ps : List P) (own : Memory) (Then : List Member → List D → Memory → Type 0) → Together source image mine t 1 d ms ps own Then → NoneEnded ms
   together_live mine t zero ms ps own Then x = all_counted image ms x.counted
   together_live mine t (suc d) ms ps own Then x = cycle_live image mine t ms own _ x
 
@@ -120,10 +121,11 @@ module _ (core : List CoreOp) (setting : Setting) (leads : JumpsLead core) (tree
 pub harts_end_with_processors : HartsEndWithProcessors
 harts_end_with_processors core image places nestings setting spaces s nodes t printed stages hs sh leads f =
     let plan = plan_of s.tree spaces nodes in
-    let blocks = blocks_of core image places nestings setting plan (first_of spaces) in
+    let blocks = joining_blocks_of core image places nestings setting plan (first_of spaces) in
+    let bound = joins_bound core image places nestings setting plan (first_of spaces) t stages hs f.ps (λ g. sh.control) f.bound in
     let source = core_source core setting in
     let joint = meeters_turn core image places nestings setting plan (first_of spaces) in
     ended_done core setting leads s.tree spaces 0 stages hs s.runners
-    (harts_live 0 nodes stages hs f.bound.stages_as_many
-    (λ g. node_live source image plan blocks (plan.in_lockstep g) t g (of_node g nodes stages) (of_node g nodes (numbered 0 hs)) (of_node g nodes f.ps) sh.control joint (f.bound.binds g)))
+    (harts_live 0 nodes stages hs bound.stages_as_many
+    (λ g. node_live source image plan blocks (plan.in_lockstep g) t g (of_node g nodes stages) (of_node g nodes (numbered 0 hs)) (of_node g nodes f.ps) sh.control joint (bound.binds g)))
     (subst (AllDue core s.tree spaces 0 stages) f.beside.runners f.before.due)

@@ -28,7 +28,7 @@ use Rattle.fk_nodes.specs.Source as nodes
 use Rattle.fk_plans.specs.Stage.{Stage, counts_for}
 use Rattle.fk_block_law.specs.Owner.{Commons, Owner, Doing, number_of, found, as_part, part, core_source}
 use Rattle.fk_simulation.proofs.Rounds.{IsUnit, AreUnits}
-use Rattle.fk_group_law.specs.Node.{first_word}
+use Rattle.fk_group_law.specs.Node.{Nestings, first_word}
 use Rattle.fk_group_plans.specs.Nodes.{first_of}
 use Rattle.fk_group_plans.proofs.Rounds.{not_none, leaf_place}
 use Rattle.fk_group_rounds.specs.After.{actings, tree_after, owner_after, owners_after, DoesStep, StepsAt, AllGoOn}
@@ -360,13 +360,13 @@ at_home : (tree : Tree) (spaces : ℕ → Space) (n : ℕ) (l : Level) (outer : 
 at_home tree spaces n l [] is = (ap (first_of spaces) (sym is.0), is.1)
 at_home tree spaces n l (k ∷ outer) is = (home_words spaces n l.space.low is.0 is.1, is.2)
 
-all_on : (core : List CoreOp) (tree : Tree) (spaces : ℕ → Space) (number : ℕ) (afters : List (Option Stage)) (ds : List Doing) (ps : List Owner) → AllHome tree spaces number ps → AllNext core tree number afters ds ps
-    → AllGoOn core tree spaces number afters ds ps
-all_on core tree spaces number [] [] [] home on = tt
-all_on core tree spaces number (a ∷ afters) (d ∷ ds) (p ∷ ps) home on =
+all_on : (core : List CoreOp) (nestings : Nestings) (setting : Setting) (tree : Tree) (spaces : ℕ → Space) (number : ℕ) (afters : List (Option Stage)) (ds : List Doing) (ps : List Owner) → AllHome tree spaces number ps → AllNext core nestings setting tree number afters ds ps
+    → AllGoOn core nestings setting tree spaces number afters ds ps
+all_on core nestings setting tree spaces number [] [] [] home on = tt
+all_on core nestings setting tree spaces number (a ∷ afters) (d ∷ ds) (p ∷ ps) home on =
     let at = at_home tree spaces (tree.places number) p.runner.has.level p.runner.has.outer home.1 in
-    (record { number_is = home.0; words = at.0; size = at.1 }, on.0, all_on core tree spaces (suc number) afters ds ps home.2 on.1)
-all_on core tree spaces number afters ds ps home on = absurd (assumption on)
+    (record { number_is = home.0; words = at.0; size = at.1 }, on.0, all_on core nestings setting tree spaces (suc number) afters ds ps home.2 on.1)
+all_on core nestings setting tree spaces number afters ds ps home on = absurd (assumption on)
 
 pub homes_go_on : HomesGoOn
-homes_go_on core tree spaces afters ds ps home on = all_on core tree spaces 0 afters ds ps home on
+homes_go_on core nestings setting tree spaces afters ds ps home on = all_on core nestings setting tree spaces 0 afters ds ps home on

@@ -4,8 +4,12 @@ pub mod Landed
 pub mod Results
 -- levels of groups
 pub mod Homes
+pub mod HomesBegin
 -- from one cycle to the next
 pub mod Follow
+-- to the round in which the group of `start` begins
+pub mod Allowed
+pub mod Starts
 -- where harts have ended
 pub mod Ended
 -- cycle by cycle

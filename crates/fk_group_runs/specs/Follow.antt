@@ -27,6 +27,7 @@ use Rattle.fk_group_rounds.specs.Rounds.{IsBefore, IsTree, IsKnownRound}
 use Rattle.fk_group_runs.specs.Beside.{AreInOrder, IsBeside}
 use Rattle.fk_group_runs.specs.Homes.{AllHome, AllNext}
 use Rattle.fk_group_runs.specs.Results.{IsFault}
+use Rattle.fk_group_runs.specs.Union.{AllLandAt, IsUnited}
 
 module _ (core : List CoreOp) (image : Image) (places : Places) (nestings : Nestings) (setting : Setting) (spaces : ℕ → Space) where
   -- a state of a run that goes on stands beside the processors of harts, all of which the plan of its tree binds, and each of which
@@ -60,7 +61,7 @@ module _ (core : List CoreOp) (image : Image) (places : Places) (nestings : Nest
       pub tree : next_state.tree ≡ tree_after s.tree did
       pub afters : List (Option Stage)
       pub again : (nodes' : List ℕ) → IsKnownRound s.tree did → IsTree setting next_state.tree spaces → ArePlaces next_state.tree 0 nodes' → length nodes' ≡ length nodes
-          → AllNext core next_state.tree 0 afters did (owners_after s.tree next_state.tree did) → GroupsGoOn core nestings next_state.tree nodes' afters (owners_after s.tree next_state.tree did)
+          → AllNext core nestings setting next_state.tree 0 afters did (owners_after s.tree next_state.tree did) → GroupsGoOn core nestings next_state.tree nodes' afters (owners_after s.tree next_state.tree did)
           → (stages' : List Stage) × AllNear stages stages' × AllSoon afters stages'
           × IsFollowed next_state nodes' (later t) (printed ++ done.shared.output) stages' done.harts (unprinted done.shared)
 
@@ -75,6 +76,15 @@ module _ (core : List CoreOp) (image : Image) (places : Places) (nestings : Nest
       pub shows : Shows (core_source core setting) printed done.shared shared
       pub fault : IsFault core setting stages s place site shared
 
+    -- or nobody is in the round, since all processors have met at the beginning of `start`. Where jumps lead all to one index, the state
+    -- behind it is one in which they are in lockstep
+    pub record FollowsUnion : Type 0 where
+      pub going : done.stop ≡ None
+      pub counts : counted image done ≡ counts_for stages
+      pub possible : is_possible (next core) setting (counts_for stages) s ≡ true
+      pub again : (i : ℕ) → AllLandAt core i s.runners
+          → (stages' : List Stage) × AllNear stages stages' × IsUnited core image places nestings setting spaces next_state nodes (later t) (printed ++ done.shared.output) stages' done.harts (unprinted done.shared)
+
 abbrev pub CyclesFollowRounds : Type 0
 CyclesFollowRounds =
     (core : List CoreOp) (image : Image) (places : Places) (nestings : Nestings) (cycles : Cycles) (firsts : List ℕ) (main : ℕ) (setting : Setting) (spaces : ℕ → Space)
@@ -82,7 +92,8 @@ CyclesFollowRounds =
     → GroupLaw core image places nestings cycles firsts main → JumpsLead core → length hs < 2 ^ 31
     → IsFollowed core image places nestings setting spaces s nodes t printed stages hs sh
     → (planned image hs ≡ counts_for stages)
-    × (FollowsRound core image places nestings setting spaces s nodes t printed stages hs sh ⊎ FollowsFault core image places nestings setting spaces s nodes t printed stages hs sh)
+    × (FollowsRound core image places nestings setting spaces s nodes t printed stages hs sh
+    ⊎ (FollowsFault core image places nestings setting spaces s nodes t printed stages hs sh ⊎ FollowsUnion core image places nestings setting spaces s nodes t printed stages hs sh))
 
 -- all harts have ended exactly where all processors of the state have nothing left to do
 abbrev pub HartsEndWithProcessors : Type 0

@@ -1,7 +1,7 @@
 -- A machine follows a core run with groups, cycle by cycle.
 use Rattle.std.specs.Prelude.{◌≡◌, ℕ, suc, ◌^◌, ◌<◌, List, ◌++◌, length, true, cond, Option, ◌⊎◌}
 use Rattle.fk_space.specs.Space.{Space}
-use Rattle.fk_run.specs.Processor.{Setting}
+use Rattle.fk_run.specs.Processor.{Setting, group_space}
 use Rattle.fk_run.specs.Round.{State, cut, result, is_possible, IsStopped}
 use Rattle.fk_run.specs.Schedule.{all_done}
 use Rattle.fk_core.specs.declared.op.CoreOp.{CoreOp}
@@ -13,12 +13,14 @@ use Rattle.fk_machine.specs.Run.{round_of}
 use Rattle.fk_plans.specs.Stage.{Stage, AllNear, counts_for}
 use Rattle.fk_block_law.specs.Owner.{Doing}
 use Rattle.fk_block_law.specs.Stands.{Places}
-use Rattle.fk_group_law.specs.Node.{Nestings}
+use Rattle.fk_group_law.specs.Node.{Nestings, IsAtRest}
 use Rattle.fk_group_law.specs.Law.{Cycles, GroupLaw}
+use Rattle.fk_group_plans.specs.Nodes.{first_of}
 use Rattle.fk_group_rounds.specs.Next.{JumpsLead}
 use Rattle.fk_group_rounds.specs.After.{owners_after, ArePlaces, GroupsGoOn, AllSoon}
 use Rattle.fk_group_rounds.specs.Rounds.{IsTree, IsKnownRound}
 use Rattle.fk_group_runs.specs.Homes.{AllNext}
+use Rattle.fk_group_runs.specs.Union.{AllLandAt, IsUnited}
 use Rattle.fk_group_runs.specs.Follow.{IsFollowed}
 
 module _ (core : List CoreOp) (image : Image) (places : Places) (nestings : Nestings) (setting : Setting) (spaces : ℕ → Space) where
@@ -26,6 +28,11 @@ module _ (core : List CoreOp) (image : Image) (places : Places) (nestings : Nest
   pub record GoesWith (s : State Position) (nodes : List ℕ) (printed : List ℕ) (stages : List Stage) (m : Machine) : Type 0 where
     pub followed : IsFollowed core image places nestings setting spaces s nodes (setting_of m) printed stages m.harts (unprinted m.shared)
     pub stand : m.stand ≡ cond (all_done (next core) setting s.runners) Finished Running
+
+  -- it follows a state whose processors are in lockstep at the beginning of `start`
+  pub record GoesToStart (s : State Position) (nodes : List ℕ) (printed : List ℕ) (stages : List Stage) (m : Machine) : Type 0 where
+    pub followed : IsUnited core image places nestings setting spaces s nodes (setting_of m) printed stages m.harts (unprinted m.shared)
+    pub stand : m.stand ≡ Running
 
   module _ (s : State Position) (nodes : List ℕ) (printed : List ℕ) (stages : List Stage) (m : Machine) where
     abbrev pub next_state : State Position
@@ -39,7 +46,7 @@ module _ (core : List CoreOp) (image : Image) (places : Places) (nestings : Nest
       pub did : List Doing
       pub afters : List (Option Stage)
       pub again : (nodes' : List ℕ) → IsKnownRound s.tree did → IsTree setting next_state.tree spaces → ArePlaces next_state.tree 0 nodes' → length nodes' ≡ length nodes
-          → AllNext core next_state.tree 0 afters did (owners_after s.tree next_state.tree did) → GroupsGoOn core nestings next_state.tree nodes' afters (owners_after s.tree next_state.tree did)
+          → AllNext core nestings setting next_state.tree 0 afters did (owners_after s.tree next_state.tree did) → GroupsGoOn core nestings next_state.tree nodes' afters (owners_after s.tree next_state.tree did)
           → (stages' : List Stage) × AllNear stages stages' × AllSoon afters stages' × GoesWith next_state nodes' (printed ++ (cycle m).shared.output) stages' (cycle m)
 
     -- or it is a stopped round, whose fault ends the machine
@@ -50,10 +57,42 @@ module _ (core : List CoreOp) (image : Image) (places : Places) (nestings : Nest
       pub round : round_of image m ≡ cut (suc place) (counts_for stages)
       pub stopped : IsStopped (next core) setting (round_of image m) s
 
+    -- or nobody is in it, since all processors have met at the beginning of `start`. Where jumps lead all to one index, the machine
+    -- follows a state in which they are in lockstep
+    pub record Unites : Type 0 where
+      pub round : round_of image m ≡ counts_for stages
+      pub possible : is_possible (next core) setting (round_of image m) s ≡ true
+      pub again : (i : ℕ) → AllLandAt core i s.runners
+          → (stages' : List Stage) × AllNear stages stages' × GoesToStart next_state nodes (printed ++ (cycle m).shared.output) stages' (cycle m)
+
+    -- From a state whose processors are in lockstep at the beginning of `start`: nobody is in the round, and all are nearer to their
+    -- commit; or all are, and the group begins. Where nobody is at its words, it has the whole group space, and all go on as is told, the
+    -- machine follows the state behind it
+    pub record Starts : Type 0 where
+      pub round : round_of image m ≡ counts_for stages
+      pub possible : is_possible (next core) setting (round_of image m) s ≡ true
+      pub did : List Doing
+      pub afters : List (Option Stage)
+      pub goes : ((stages' : List Stage) × AllNear stages stages' × GoesToStart next_state nodes (printed ++ (cycle m).shared.output) stages' (cycle m))
+          ⊎ ((nodes' : List ℕ) → IsTree setting next_state.tree spaces → ArePlaces next_state.tree 0 nodes' → length nodes' ≡ length nodes
+          → IsAtRest (first_of spaces s.tree.given) (cycle m).shared.control → (spaces s.tree.given).low ≡ (group_space setting).low
+          → AllNext core nestings setting next_state.tree 0 afters did (owners_after s.tree next_state.tree did) → GroupsGoOn core nestings next_state.tree nodes' afters (owners_after s.tree next_state.tree did)
+          → (stages' : List Stage) × AllNear stages stages' × AllSoon afters stages' × GoesWith next_state nodes' (printed ++ (cycle m).shared.output) stages' (cycle m))
+
 abbrev pub MachinesFollowRounds : Type 0
 MachinesFollowRounds =
     (core : List CoreOp) (image : Image) (places : Places) (nestings : Nestings) (cycles : Cycles) (firsts : List ℕ) (main : ℕ) (setting : Setting) (spaces : ℕ → Space)
     (s : State Position) (nodes : List ℕ) (printed : List ℕ) (stages : List Stage) (m : Machine)
     → GroupLaw core image places nestings cycles firsts main → JumpsLead core → length m.harts < 2 ^ 31 → is_running m.stand ≡ true
     → GoesWith core image places nestings setting spaces s nodes printed stages m
-    → GoesOn core image places nestings setting spaces s nodes printed stages m ⊎ StopsWith core image places nestings setting spaces s nodes printed stages m
+    → GoesOn core image places nestings setting spaces s nodes printed stages m
+    ⊎ (StopsWith core image places nestings setting spaces s nodes printed stages m ⊎ Unites core image places nestings setting spaces s nodes printed stages m)
+
+-- so it goes on to the beginning of the group
+abbrev pub MachinesFollowStarts : Type 0
+MachinesFollowStarts =
+    (core : List CoreOp) (image : Image) (places : Places) (nestings : Nestings) (cycles : Cycles) (firsts : List ℕ) (main : ℕ) (setting : Setting) (spaces : ℕ → Space)
+    (s : State Position) (nodes : List ℕ) (printed : List ℕ) (stages : List Stage) (m : Machine)
+    → GroupLaw core image places nestings cycles firsts main → JumpsLead core → length m.harts < 2 ^ 31 → is_running m.stand ≡ true
+    → GoesToStart core image places nestings setting spaces s nodes printed stages m
+    → Starts core image places nestings setting spaces s nodes printed stages m ⊎ StopsWith core image places nestings setting spaces s nodes printed stages m

@@ -11,9 +11,9 @@ use Rattle.fk_nodes.specs.Alone.{later}
 use Rattle.fk_meeting.specs.Phase.{Phase, word_after, AllMove}
 use Rattle.fk_meeting.specs.Meeting.{IsKept}
 use Rattle.fk_meeting.proofs.Leaving.{cycles_keep_arrivals}
-use Rattle.fk_plans.specs.Stage.{Stage, Acts, distance, count_of_stage, IsOver, Nears, Pairwise, SameKind, Remains, kept, phase_of}
+use Rattle.fk_plans.specs.Stage.{Stage, Acts, distance, count_of_stage, IsOver, is_over, Nears, Pairwise, SameKind, Remains, kept, phase_of}
 use Rattle.fk_plans.specs.Plan.{Plan, IsOpen, phase_at, phases_from, phases, phases_of, Blocks, told_by, IsBound}
-use Rattle.fk_plans.specs.Cycle.{AllHaveCommitted, AllKeep, AllWent, AllActIn, GroupDone, Done, DoneIn, AllAreLeft, NodeIsLeft, IsLeft, CyclesLeave, MeetingsAreKept}
+use Rattle.fk_plans.specs.Cycle.{AllLeave, AllHaveCommitted, AllKeep, AllWent, AllActIn, GroupDone, Done, DoneIn, AllAreLeft, NodeIsLeft, IsLeft, CyclesLeave, MeetingsAreKept}
 
 -- ---- lists by hart, and by node
 
@@ -157,6 +157,7 @@ module _ {S P D : Type 0} (source : Source S P D) (image : Image) (plan : Plan) 
     size : length afters ≡ length stages
     stay : Pairwise Remains stages afters
     is_left : NodeIsLeft source image plan blocks b (later t) g afters ms' ps ds own'
+    leave : b ≡ false → AllLeave source image plan blocks (later t) g stages ms' ps ds
     moved : b ≡ false → (w : ℕ) → IsOpen plan g w
         → AllMove t.finished (plan.size w) blocks.lead (phases_of plan w ms' (kept stages)) (own w) (phases_of plan w ms' afters) (own' w)
     others : b ≡ false → (i : ℕ) → plan.arrivals i ≡ false → own' i ≡ own i
@@ -184,7 +185,7 @@ module _ {S P D : Type 0} (source : Source S P D) (image : Image) (plan : Plan) 
   stay_some : (d : ℕ) (stages : List Stage) → AllActIn source image plan blocks (suc d) stages → Pairwise Remains stages (all_are (Some (Acts d)) stages)
   stay_some d [] all = tt
   stay_some d (s ∷ stages) all = (
-    (ap count_of_stage all.0, subst (λ x. Nears (distance x) (Some d)) (sym all.0) refl, subst (λ x. SameKind x (Acts d)) (sym all.0) tt),
+    (ap count_of_stage all.0, subst (λ x. Nears (distance x) (Some d)) (sym all.0) refl, subst (λ x. SameKind x (Acts d)) (sym all.0) tt, ap is_over all.0),
     stay_some d stages all.1,
   )
 
@@ -195,6 +196,7 @@ module _ {S P D : Type 0} (source : Source S P D) (image : Image) (plan : Plan) 
     size = length_are None stages;
     stay = stay_none stages all;
     is_left = inl (committed stages, done);
+    leave = λ e. absurd (cc);
     moved = λ e. absurd (cc);
     others = λ e. absurd (cc);
   }
@@ -203,6 +205,7 @@ module _ {S P D : Type 0} (source : Source S P D) (image : Image) (plan : Plan) 
     size = length_are (Some (Acts d)) stages;
     stay = stay_some d stages all;
     is_left = inr (d, keep d stages, done.0, done.1);
+    leave = λ e. absurd (cc);
     moved = λ e. absurd (cc);
     others = λ e. absurd (cc);
   }
@@ -234,6 +237,7 @@ module _ {S P D : Type 0} (source : Source S P D) (image : Image) (plan : Plan) 
     size = length_went (later t) g stages x.afters ms' ps ds x.went;
     stay = stay_went (later t) g stages x.afters ms' ps ds x.went;
     is_left = left_went (later t) g stages x.afters ms' ps ds x.went;
+    leave = λ e. x.leave;
     moved = λ e. x.moves;
     others = λ e. x.others;
   }
@@ -258,6 +262,7 @@ module _ {S P D : Type 0} (source : Source S P D) (image : Image) (plan : Plan) 
         nodes = λ g.
             subst (λ l. NodeIsLeft source image plan blocks (plan.in_lockstep g) (later t) g l (of_node g ns (numbered 0 hs')) (of_node g ns ps) (of_node g ns ds) (own' g))
             (sym (r.are g)) (every g).is_left;
+        leave = λ g e. (every g).leave e;
         moved = λ g w e is_open.
             let ms = of_node g ns (numbered 0 hs') in
             let alike' = first_alike ns hs' ds many in

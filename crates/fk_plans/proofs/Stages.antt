@@ -18,7 +18,7 @@ use Rattle.fk_nodes.proofs.OneHart.{one_passes}
 use Rattle.fk_meeting.specs.Phase.{Phase, Outside, Away, Coming, Waiting, Leaving, is_odd, word_after, polled, Moves, AllMove}
 use Rattle.fk_plans.specs.Stage.{Ending, Commits, Unites, Stage, Ended, Acts, Meets, distance, count_of_stage, kept, absent, phase_of, Remains}
 use Rattle.fk_plans.specs.Plan.{Plan, IsOpen, phases_of, Blocks, told_by, IsInside, IsIdle, StandsAt, AllStandAt, Turn, JointBlocksTurn}
-use Rattle.fk_plans.specs.Cycle.{Went, HaveMoved, StagesAreChains}
+use Rattle.fk_plans.specs.Cycle.{Went, Leaves, HaveMoved, StagesAreChains}
 
 -- who is in no phase at a word leaves it as it is
 absent_word : (member : Bool) (v : ℕ) → word_after (absent member) v ≡ v
@@ -43,6 +43,7 @@ module _ {S P D : Type 0} (source : Source S P D) (image : Image) (plan : Plan) 
     after : Option Stage
     stays : Remains s after
     went : Went source image plan blocks (later t) g after m' p d
+    leaves : Leaves source image plan blocks (later t) g s m' p d
     moves : (w : ℕ) → IsOpen plan g w → Moves t.finished (plan.size w) blocks.lead (own w) (here_at w m' (Some s)) (here_at w m' after)
     here : (w : ℕ) → own' w ≡ word_after (here_at w m' (Some s)) (own w)
     others : (i : ℕ) → plan.arrivals i ≡ false → own' i ≡ own i
@@ -50,11 +51,12 @@ module _ {S P D : Type 0} (source : Source S P D) (image : Image) (plan : Plan) 
   -- who is free leaves the node's words
   free : (t : Setting) (g : ℕ) (s : Stage) (a : Option Stage) (p : P) (own : Memory) (m' : Member) (d : D)
       → ((w : ℕ) (member : Bool) → phase_of w member (Some s) ≡ absent member) → ((w : ℕ) (member : Bool) → phase_of w member a ≡ absent member)
-      → Remains s a → Went source image plan blocks (later t) g a m' p d → One t g s p own m' d own
-  free t g s a p own m' d e f stays went = record {
+      → Remains s a → Went source image plan blocks (later t) g a m' p d → Leaves source image plan blocks (later t) g s m' p d → One t g s p own m' d own
+  free t g s a p own m' d e f stays went leaves = record {
     after = a;
     stays = stays;
     went = went;
+    leaves = leaves;
     moves = λ w is_open.
         let member = plan.member w m'.number in
         subst (λ x. Moves t.finished (plan.size w) blocks.lead (own w) x (phase_of w member a)) (sym (e w member))
@@ -96,13 +98,15 @@ module _ {S P D : Type 0} (source : Source S P D) (image : Image) (plan : Plan) 
   met_by : (t : Setting) (g : ℕ) (ending : Ending) (v : ℕ) (f : Phase) (a : Option Stage) (m : Member) (p : P) (own : Memory) → IsOpen plan g v → plan.member v m.number ≡ true
       → (took : Turn source image plan blocks t g ending v f m p own) → Remains (Meets ending v f) a → IsAfter v a took.phase
       → Went source image plan blocks (later t) g a (record m { hart = took.hart }) p took.done
+      → Leaves source image plan blocks (later t) g (Meets ending v f) (record m { hart = took.hart }) p took.done
       → One t g (Meets ending v f) p own (record m { hart = took.hart }) took.done took.words
-  met_by t g ending v f a m p own is_open member took stays after went =
+  met_by t g ending v f a m p own is_open member took stays after went leaves =
       let is : (w : ℕ) → v ≡ w → plan.member w m.number ≡ true = λ w e. subst (λ k. plan.member k m.number ≡ true) e member in
       record {
         after = a;
         stays = stays;
         went = went;
+        leaves = leaves;
         moves = λ w o. moves_at ending t v w (plan.member w m.number) f took.phase a own (cases_eq v w) (is w) after took.moves;
         here = λ w. after_at ending v w (plan.member w m.number) f (cases_eq v w) (is w) own took.words took.arrivals took.others;
         others = λ i no_arrival. took.others i (λ e. let x : false ≡ true = sym no_arrival ∙ ap plan.arrivals e ∙ is_open.1 in cc);
@@ -121,24 +125,24 @@ module _ {S P D : Type 0} (source : Source S P D) (image : Image) (plan : Plan) 
   met t g ending v Outside m p own inside is_open member took = absurd inside
   met t g ending v Away m p own inside is_open member took = absurd inside
   met t g ending v (Coming zero) m p own inside is_open member took =
-      met_by t g ending v (Coming zero) (Some (Meets ending v took.phase)) m p own is_open member took (refl, tt, (refl, refl)) (is_after_some ending v took.phase)
-      (took.follows.0, (subst IsInside (sym took.moves) tt, is_open, member, took.follows.1))
+      met_by t g ending v (Coming zero) (Some (Meets ending v took.phase)) m p own is_open member took (refl, tt, (refl, refl), refl) (is_after_some ending v took.phase)
+      (took.follows.0, (subst IsInside (sym took.moves) tt, is_open, member, took.follows.1)) tt
   met t g ending v (Coming (suc d)) m p own inside is_open member took =
-      met_by t g ending v (Coming (suc d)) (Some (Meets ending v took.phase)) m p own is_open member took (refl, tt, (refl, refl)) (is_after_some ending v took.phase)
-      (took.follows.0, (subst IsInside (sym took.moves) tt, is_open, member, took.follows.1))
+      met_by t g ending v (Coming (suc d)) (Some (Meets ending v took.phase)) m p own is_open member took (refl, tt, (refl, refl), refl) (is_after_some ending v took.phase)
+      (took.follows.0, (subst IsInside (sym took.moves) tt, is_open, member, took.follows.1)) tt
   met t g ending v Waiting m p own inside is_open member took =
-      met_by t g ending v Waiting (Some (Meets ending v took.phase)) m p own is_open member took (refl, tt, (refl, refl)) (is_after_some ending v took.phase)
-      (took.follows.0, (subst IsInside (sym took.moves) (inside_polled (is_odd t.finished && own v == plan.size v)), is_open, member, took.follows.1))
+      met_by t g ending v Waiting (Some (Meets ending v took.phase)) m p own is_open member took (refl, tt, (refl, refl), refl) (is_after_some ending v took.phase)
+      (took.follows.0, (subst IsInside (sym took.moves) (inside_polled (is_odd t.finished && own v == plan.size v)), is_open, member, took.follows.1)) tt
   met t g Commits v (Leaving zero) m p own inside is_open member took =
-      met_by t g Commits v (Leaving zero) None m p own is_open member took refl (subst (IsAfter v None) (sym took.follows.0) (is_after_none v)) (inl took.follows.1)
+      met_by t g Commits v (Leaving zero) None m p own is_open member took refl (subst (IsAfter v None) (sym took.follows.0) (is_after_none v)) (inl took.follows.1) took.follows.1
   met t g Unites v (Leaving zero) m p own inside is_open member took =
-      met_by t g Unites v (Leaving zero) None m p own is_open member took refl (subst (IsAfter v None) (sym took.follows.0) (is_after_none v)) (inr took.follows.1)
+      met_by t g Unites v (Leaving zero) None m p own is_open member took refl (subst (IsAfter v None) (sym took.follows.0) (is_after_none v)) (inr took.follows.1) took.follows.1
   met t g Commits v (Leaving (suc d)) m p own inside is_open member took =
-      met_by t g Commits v (Leaving (suc d)) (Some (Meets Commits v took.phase)) m p own is_open member took (refl, ap (λ f. distance (Meets Commits v f)) took.moves, (refl, refl))
-      (is_after_some Commits v took.phase) (took.follows.0, (subst IsInside (sym took.moves) tt, is_open, member, took.follows.1))
+      met_by t g Commits v (Leaving (suc d)) (Some (Meets Commits v took.phase)) m p own is_open member took (refl, ap (λ f. distance (Meets Commits v f)) took.moves, (refl, refl), refl)
+      (is_after_some Commits v took.phase) (took.follows.0, (subst IsInside (sym took.moves) tt, is_open, member, took.follows.1)) tt
   met t g Unites v (Leaving (suc d)) m p own inside is_open member took =
-      met_by t g Unites v (Leaving (suc d)) (Some (Meets Unites v took.phase)) m p own is_open member took (refl, tt, (refl, refl)) (is_after_some Unites v took.phase)
-      (took.follows.0, (subst IsInside (sym took.moves) tt, is_open, member, took.follows.1))
+      met_by t g Unites v (Leaving (suc d)) (Some (Meets Unites v took.phase)) m p own is_open member took (refl, tt, (refl, refl), refl) (is_after_some Unites v took.phase)
+      (took.follows.0, (subst IsInside (sym took.moves) tt, is_open, member, took.follows.1)) tt
 
   one_turn : (t : Setting) (g : ℕ) (s : Stage) (m : Member) (p : P) (own : Memory) (earlier : List ℕ) (sh : Shared) (st : S) (Then : Hart → D → Memory → Type 0)
       → IsIdle source blocks.idle → JointBlocksTurn source image plan blocks → AreApart (plan.words g) source.common
@@ -158,21 +162,21 @@ module _ {S P D : Type 0} (source : Source S P D) (image : Image) (plan : Plan) 
         shows = shows;
         has = has;
         keeps = λ i e f. refl;
-        follows = follows m.hart (blocks.idle p) own (free t g Ended (Some Ended) p own m (blocks.idle p) (λ w b. refl) (λ w b. refl) (refl, tt, tt) (refl, stands));
+        follows = follows m.hart (blocks.idle p) own (free t g Ended (Some Ended) p own m (blocks.idle p) (λ w b. refl) (λ w b. refl) (refl, tt, tt, refl) (refl, stands) tt);
       })
   one_turn t g (Acts (suc d)) m p own earlier sh st Then idle joint apart stands shows has follows =
       let l = stands.1 in
       inl (stays_passing source image (plan.words g) t 0 m p (blocks.idle p) own l.runs.0 own earlier sh st Then apart shows has
       (private_stays image (plan.words g) t m own l.runs.0 l.runs.1) (idle st p)
       (follows l.runs.0 (blocks.idle p) own
-      (free t g (Acts (suc d)) (Some (Acts d)) p own (record m { hart = l.runs.0 }) (blocks.idle p) (λ w b. refl) (λ w b. refl) (refl, refl, tt)
-      (refl, (stands.0, record { committing = l.committing; runs = l.runs.2; commits = l.commits })))))
+      (free t g (Acts (suc d)) (Some (Acts d)) p own (record m { hart = l.runs.0 }) (blocks.idle p) (λ w b. refl) (λ w b. refl) (refl, refl, tt, refl)
+      (refl, (stands.0, record { committing = l.committing; runs = l.runs.2; commits = l.commits })) tt)))
   one_turn t g (Acts zero) m p own earlier sh st Then idle joint apart stands shows has follows =
       let l = stands.1 in
       let After : Hart → D → Type 0 = λ h x. (h' : Hart) × RunsPrivately image (later t) m.number stands.0 h h' × blocks.AfterOne g stands.0 (record m { hart = h' }) p x in
       let c = subst (λ h. OneCommits source image t 1 (record m { hart = h }) p After) (sym l.runs) l.commits in
       one_passes source image (plan.words g) t 1 m p own earlier sh st After Then apart shows has c
-      (λ h d x. follows h d own (free t g (Acts zero) None p own (record m { hart = h }) d (λ w b. refl) (λ w b. refl) refl (inl (stands.0, x.0, x.1, x.2)))) (c.does st)
+      (λ h d x. follows h d own (free t g (Acts zero) None p own (record m { hart = h }) d (λ w b. refl) (λ w b. refl) refl (inl (stands.0, x.0, x.1, x.2)) (stands.0, x.0, x.1, x.2))) (c.does st)
   one_turn t g (Meets ending v f) m p own earlier sh st Then idle joint apart stands shows has follows =
       let took = joint t g ending v f m p own stands.0 stands.1 stands.3 in
       inl (stays_passing source image (plan.words g) t (count_of_stage (Meets ending v f)) m p took.done own took.hart took.words earlier sh st Then apart shows has took.stays (took.takes st)
@@ -181,7 +185,7 @@ module _ {S P D : Type 0} (source : Source S P D) (image : Image) (plan : Plan) 
   -- ---- all members
 
   no_one : (t : Setting) (g : ℕ) (own : Memory) → HaveMoved source image plan blocks t g [] [] own [] [] own
-  no_one t g own = record { afters = []; went = tt; moves = λ w is_open. refl; others = λ i no_arrival. refl }
+  no_one t g own = record { afters = []; went = tt; leave = tt; moves = λ w is_open. refl; others = λ i no_arrival. refl }
 
   one_more : (t : Setting) (g : ℕ) (s : Stage) (stages : List Stage) (p : P) (ps : List P) (own own1 own' : Memory) (m' : Member) (ms' : List Member) (d : D) (ds : List D)
       → One t g s p own m' d own1 → HaveMoved source image plan blocks t g stages ps own1 ms' ds own'
@@ -189,6 +193,7 @@ module _ {S P D : Type 0} (source : Source S P D) (image : Image) (plan : Plan) 
   one_more t g s stages p ps own own1 own' m' ms' d ds o r = record {
     afters = o.after ∷ r.afters;
     went = (o.stays, o.went, r.went);
+    leave = (o.leaves, r.leave);
     moves = λ w is_open. (
       o.moves w is_open,
       subst (λ v. AllMove t.finished (plan.size w) blocks.lead (phases_of plan w ms' (kept stages)) v (phases_of plan w ms' r.afters) (own' w)) (o.here w) (r.moves w is_open),

@@ -10,10 +10,10 @@ use Rattle.fk_nodes.specs.Chain.{Chain}
 use Rattle.fk_nodes.specs.Alone.{later, in_cycles}
 use Rattle.fk_nodes.specs.Together.{Together}
 use Rattle.fk_nodes.specs.Whole.{planned, IsRound}
-use Rattle.fk_meeting.specs.Phase.{AllMove}
+use Rattle.fk_meeting.specs.Phase.{Leaving, AllMove}
 use Rattle.fk_meeting.specs.Meeting.{IsKept}
-use Rattle.fk_plans.specs.Stage.{Stage, Acts, Pairwise, Remains, counts_for, kept}
-use Rattle.fk_plans.specs.Plan.{Plan, IsOpen, phases, phases_of, Blocks, Tests, told_by, IsIdle, HasCommitted, HasUnited, StandsAt, AllStandAt, JointBlocksTurn, IsBound}
+use Rattle.fk_plans.specs.Stage.{Stage, Acts, Meets, Pairwise, Remains, counts_for, kept}
+use Rattle.fk_plans.specs.Plan.{Plan, IsOpen, phases, phases_of, Blocks, Tests, told_by, IsIdle, HasCommitted, HasUnited, HasLeft, StandsAt, AllStandAt, JointBlocksTurn, IsBound}
 
 -- the stages of all are over: all have committed, or united. Or all keep a stage
 abbrev pub AllHaveCommitted : List (Option Stage) → Type 0
@@ -31,6 +31,17 @@ module _ {S P D : Type 0} (source : Source S P D) (image : Image) (plan : Plan) 
   Went t g None m p d = HasCommitted source image plan blocks t g m p d ⊎ HasUnited source image plan blocks t g m p d
   Went t g (Some s) m p d = (d ≡ blocks.idle p) × StandsAt source image plan blocks t g s m p
 
+  -- whose stage is over leaves it as that tells
+  abbrev pub Leaves : Setting → (g : ℕ) → Stage → Member → P → D → Type 0
+  Leaves t g (Acts zero) m p d = HasCommitted source image plan blocks t g m p d
+  Leaves t g (Meets e w (Leaving zero)) m p d = HasLeft source image plan blocks e t g m p d
+  Leaves t g s m p d = Unit {0}
+
+  abbrev pub AllLeave : Setting → (g : ℕ) → List Stage → List Member → List P → List D → Type 0
+  AllLeave t g [] [] [] [] = Unit {0}
+  AllLeave t g (s ∷ stages) (m ∷ ms) (p ∷ ps) (d ∷ ds) = Leaves t g s m p d × AllLeave t g stages ms ps ds
+  AllLeave t g stages ms ps ds = ⊥
+
   -- each member by itself
   abbrev pub AllWent : Setting → (g : ℕ) → List Stage → List (Option Stage) → List Member → List P → List D → Type 0
   AllWent t g [] [] [] [] [] = Unit {0}
@@ -41,6 +52,7 @@ module _ {S P D : Type 0} (source : Source S P D) (image : Image) (plan : Plan) 
   pub record HaveMoved (t : Setting) (g : ℕ) (stages : List Stage) (ps : List P) (own : Memory) (ms' : List Member) (ds : List D) (own' : Memory) : Type 0 where
     pub afters : List (Option Stage)
     pub went : AllWent (later t) g stages afters ms' ps ds
+    pub leave : AllLeave (later t) g stages ms' ps ds
     pub moves : (w : ℕ) → IsOpen plan g w
         → AllMove t.finished (plan.size w) blocks.lead (phases_of plan w ms' (kept stages)) (own w) (phases_of plan w ms' afters) (own' w)
     pub others : (i : ℕ) → plan.arrivals i ≡ false → own' i ≡ own i
@@ -95,6 +107,8 @@ module _ {S P D : Type 0} (source : Source S P D) (image : Image) (plan : Plan) 
     pub stay : Pairwise Remains stages afters
     pub nodes : (g : ℕ)
         → NodeIsLeft (plan.in_lockstep g) (later t) g (of_node g plan.nodes afters) (of_node g plan.nodes (numbered 0 hs')) (of_node g plan.nodes ps) (of_node g plan.nodes ds) (own' g)
+    pub leave : (g : ℕ) → plan.in_lockstep g ≡ false
+        → AllLeave (later t) g (of_node g plan.nodes stages) (of_node g plan.nodes (numbered 0 hs')) (of_node g plan.nodes ps) (of_node g plan.nodes ds)
     pub moved : (g w : ℕ) → HaveMovedAt t g w stages afters (own g) (own' g)
     pub others : (g i : ℕ) → plan.in_lockstep g ≡ false → plan.arrivals i ≡ false → own' g i ≡ own g i
 

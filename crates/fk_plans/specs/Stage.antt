@@ -66,10 +66,15 @@ abbrev pub IsOver : Stage → Type 0
 IsOver (Meets Unites w f) = f ≡ Leaving 0
 IsOver s = distance s ≡ Some 0
 
+abbrev pub is_over : Stage → Bool
+is_over (Acts zero) = true
+is_over (Meets e w (Leaving zero)) = true
+is_over s = false
+
 -- what a cycle leaves of a stage, none where it is over
 abbrev pub Remains : Stage → Option Stage → Type 0
 Remains s None = IsOver s
-Remains s (Some s') = (count_of_stage s ≡ 0) × Nears (distance s) (distance s') × SameKind s s'
+Remains s (Some s') = (count_of_stage s ≡ 0) × Nears (distance s) (distance s') × SameKind s s' × (is_over s ≡ false)
 
 -- stages that all keep
 abbrev pub kept : List Stage → List (Option Stage)

@@ -1,0 +1,48 @@
+-- A state of a core run beside harts that have met at the beginning of `start`.
+use Rattle.std.specs.Prelude.{◌≡◌, ℕ, List, [], ◌∷◌}
+use Rattle.fk_space.specs.Space.{Space}
+use Rattle.fk_operation.specs.declared.operation.Operation.TheVariants.{Begin}
+use Rattle.fk_run.specs.Processor.{Setting}
+use Rattle.fk_run.specs.Round.{Runner, State}
+use Rattle.fk_core.specs.declared.op.CoreOp.{CoreOp}
+use Rattle.fk_core.specs.Next.{Position, landing}
+use Rattle.fk_image.specs.declared.Image.{Image}
+use Rattle.fk_machine.specs.Hart.{Hart, Shared, Setting as MachineSetting}
+use Rattle.fk_nodes.specs.Source.{Shows}
+use Rattle.fk_plans.specs.Stage.{Stage}
+use Rattle.fk_plans.specs.Plan.{IsBound}
+use Rattle.fk_block_law.specs.Owner.{Commons, Owner, core_source}
+use Rattle.fk_block_law.specs.Stands.{Places}
+use Rattle.fk_block_law.specs.Next.{StandsOp}
+use Rattle.fk_group_law.specs.Node.{Nestings}
+use Rattle.fk_group_plans.specs.Nodes.{first_of, plan_of, united}
+use Rattle.fk_group_plans.specs.Behind.{blocks_of}
+use Rattle.fk_group_rounds.specs.Next.{AllAbout}
+use Rattle.fk_group_rounds.specs.After.{AllLanded}
+use Rattle.fk_group_rounds.specs.Start.{IsBeforeStart}
+use Rattle.fk_group_rounds.specs.Unite.{AreInRoot}
+use Rattle.fk_group_runs.specs.Beside.{AreInOrder, IsBeside}
+use Rattle.fk_group_runs.specs.Homes.{AllHome}
+
+-- jumps lead all to one index
+abbrev pub AllLandAt : List CoreOp → (i : ℕ) → List (Runner Position) → Type 0
+AllLandAt core i [] = Unit {0}
+AllLandAt core i (r ∷ rs) = (landing core r.left.at ≡ i) × AllLandAt core i rs
+
+-- All its processors are about to begin the group of `start`, in the root, where their harts are in lockstep
+pub record IsUnited (core : List CoreOp) (image : Image) (places : Places) (nestings : Nestings) (setting : Setting) (spaces : ℕ → Space) (s : State Position) (nodes : List ℕ) (t : MachineSetting) (printed : List ℕ) (stages : List Stage) (hs : List Hart) (sh : Shared) : Type 0 where
+  pub ps : List Owner
+  pub shared : Commons
+  pub before : IsBeforeStart image setting s.tree spaces nodes t hs ps
+  pub landed : AllLanded core ps
+  pub i : ℕ
+  pub op : CoreOp
+  pub stands : StandsOp core i op Begin
+  pub about : AllAbout i op Begin ps
+  pub order : AreInOrder 0 s.runners
+  pub beside : IsBeside core s ps shared
+  pub roots : AreInRoot nestings setting ps
+  pub homes : AllHome s.tree spaces 0 ps
+  pub shows : Shows (core_source core setting) printed sh shared
+  pub bound : IsBound (core_source core setting) image (united (plan_of s.tree spaces nodes))
+      (blocks_of core image places nestings setting (united (plan_of s.tree spaces nodes)) (first_of spaces)) t stages hs ps (λ g. sh.control)
