@@ -20,7 +20,7 @@ use Rattle.fk_one_group.specs.Where.{Where, InRoot, Waits, InGroup, InBody, Behi
 use Rattle.fk_one_group.specs.Placed.{where_at, HasLevels, IsPlaced}
 use Rattle.fk_one_group.proofs.Moves.{goes_on}
 use Rattle.fk_block_law.specs.Owner.{Owner}
-use Rattle.fk_block_law.specs.Next.{StandsOp, step_at}
+use Rattle.fk_block_law.specs.Next.{step_at}
 use Rattle.fk_block_law.specs.Ready.{is_no_step, MayDo, IsInRange, IsReady}
 use Rattle.fk_group_law.specs.Node.{Nestings}
 use Rattle.fk_group_law.specs.Lockstep.{NoneSaved}
