@@ -64,7 +64,11 @@ abbrev core : List CoreOp
 core = counts ∷ begins ∷ pushes ∷ agrees ∷ drops ∷ farms ∷ waits ∷ meets ∷ ends ∷ resumes ∷ halts ∷ []
 
 abbrev nestings : Nestings
-nestings = record { levels = λ i. 0; behind = λ i. 0 }
+nestings = record {
+  levels = λ i. 0;
+  behind = λ i. 0;
+  start = record { there = λ i. record { at = 0; changes = λ r. false }; coming = λ i h. h };
+}
 
 -- ---- groups and bodies in their order
 

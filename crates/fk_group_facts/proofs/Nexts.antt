@@ -20,7 +20,7 @@ use Rattle.fk_one_group.specs.Where.{Where, InRoot, Waits, InGroup, InBody, Behi
 use Rattle.fk_one_group.specs.Placed.{where_at, HasLevels, IsPlaced}
 use Rattle.fk_one_group.proofs.Moves.{goes_on}
 use Rattle.fk_block_law.specs.Owner.{Owner}
-use Rattle.fk_block_law.specs.Next.{StandsOp, step_at}
+use Rattle.fk_block_law.specs.Next.{step_at}
 use Rattle.fk_block_law.specs.Ready.{is_no_step, MayDo, IsInRange, IsReady}
 use Rattle.fk_group_law.specs.Node.{Nestings}
 use Rattle.fk_group_law.specs.Lockstep.{NoneSaved}
@@ -30,7 +30,7 @@ use Rattle.fk_group_plans.specs.Rounds.{joint_at_word}
 use Rattle.fk_group_rounds.specs.Next.{landed, MayMeet, MayByItself, HasNext}
 use Rattle.fk_group_facts.specs.Lists.{IsOfOneGroup}
 use Rattle.fk_group_facts.specs.Reached.{the_end, IsReached}
-use Rattle.fk_group_facts.specs.Facts.{IsAtStart, ReachedProcessorsHaveNext}
+use Rattle.fk_group_facts.specs.Facts.{ReachedProcessorsHaveNext}
 use Rattle.fk_group_facts.proofs.Ways.{StepOf, step_of_place, in_root, in_waiting, in_group, in_body, behind_body, Leading, leading}
 
 -- ---- meetings
@@ -112,13 +112,13 @@ module _ (core : List CoreOp) (nestings : Nestings) (main : ℕ) (setting : Sett
     does = step_of_place placed.place operation true way.0 way.1
 
     abbrev Next : Type 0
-    Next = HasNext core s.tree h (landed core p) ⊎ IsAtStart core nestings setting s.tree h (landed core p)
+    Next = HasNext core nestings setting s.tree h (landed core p)
 
-    by_itself : MayByItself s.tree g h operation → Next
-    by_itself may = inl (record { op = leads.op; operation = operation; stands = leads.at; ready = ready; may = λ unlocked. may })
+    by_itself : MayByItself nestings setting s.tree g h operation (landed core p) → Next
+    by_itself may = record { op = leads.op; operation = operation; stands = leads.at; ready = ready; may = λ unlocked. may }
 
     meets : (op : Operation) → operation ≡ op → MayMeet s.tree g h op → Next
-    meets op e may = by_itself (inr (inr (subst (MayMeet s.tree g h) (sym e) may)))
+    meets op e may = by_itself (inr (inr (inl (subst (MayMeet s.tree g h) (sym e) may))))
 
     -- what the root is when nobody waits there
     root_kind : (alone : Bool) → trees.kind s.tree 0 ≡ Some (Asynchronous alone) → trees.kind s.tree 0 ≡ Some (Asynchronous false)
@@ -127,13 +127,12 @@ module _ (core : List CoreOp) (nestings : Nestings) (main : ℕ) (setting : Sett
 
     at_start : operation ≡ o.Begin → g ≡ 0 → trees.kind s.tree 0 ≡ Some (Asynchronous false) → HasLevels setting InRoot r.has → Next
     at_start e none kind levels =
-        inr (record {
-          op = leads.op;
-          stands = subst (StandsOp core (landing core r.left.at) leads.op) e leads.at;
-          ready = subst (λ (x : Operation). IsReady leads.op x (landed core p).runner) e ready;
-          place = none;
+        by_itself (inr (inr (inr (record {
+          begins = e;
+          root = none;
           kind = kind;
-          root = record {
+          member = subst (λ (n : ℕ). Has s.tree n h) none has;
+          in_root = record {
             outer = levels.0;
             level = record {
               number = ap (λ (l : Level). l.number) levels.1;
@@ -143,7 +142,7 @@ module _ (core : List CoreOp) (nestings : Nestings) (main : ℕ) (setting : Sett
             space = ap (λ (l : Level). l.space) levels.1;
             none = none_saved nestings list.levels (landing core r.left.at ∷ r.left.callers);
           };
-        })
+        }))))
 
     by_place : (place : Where) → where_at s.tree h ≡ Some place → HasLevels setting place r.has → StepOf place operation → Next
     by_place InRoot there levels step =
@@ -165,13 +164,13 @@ module _ (core : List CoreOp) (nestings : Nestings) (main : ℕ) (setting : Sett
         meets o.Resume step (meets_to_resume s.tree h node.1.0 node.1.1 node.1.2 has)
     by_place InGroup there levels step =
         let kind = in_group g (trees.kind s.tree g) runs there in
-        inl (record {
+        record {
           op = leads.op;
           operation = operation;
           stands = leads.at;
           ready = ready;
           may = λ unlocked. absurd (false≢true (sym unlocked ∙ ap is_lockstep kind));
-        })
+        }
     by_place InBody there levels step =
         let node = in_body g (trees.kind s.tree g) runs there in
         ⊎_elim (λ e. meets (o.Meet true) e (meets_at_end s.tree h node.2.0 node.0 node.2.1 has)) (λ e. meets (o.Meet false) e (meets_at_barrier s.tree h node.1)) step

@@ -14,10 +14,8 @@ use Rattle.fk_nodes.specs.Node.{of_node}
 use Rattle.fk_nodes.specs.Source.{AllPass}
 use Rattle.fk_plans.specs.Stage.{Stage, counts_for}
 use Rattle.fk_block_law.specs.Owner.{Commons, Owner, Doing, core_source}
-use Rattle.fk_block_law.specs.Next.{StandsOp}
-use Rattle.fk_block_law.specs.Ready.{IsInRange, IsReady}
+use Rattle.fk_block_law.specs.Ready.{IsInRange}
 use Rattle.fk_group_law.specs.Node.{Nestings}
-use Rattle.fk_group_law.specs.Start.{IsInRoot}
 use Rattle.fk_group_rounds.specs.Next.{landed, HasNext, HaveNext}
 use Rattle.fk_group_rounds.specs.After.{runners_of, StepsAt, ArePlaces}
 use Rattle.fk_group_rounds.specs.Rounds.{IsTree, IsKnownRound}
@@ -40,22 +38,13 @@ ReachedTreesHaveSpaces =
 
 -- ---- one processor
 
--- it is at the beginning of a `start`, in the root, which has no group
-pub record IsAtStart (core : List CoreOp) (nestings : Nestings) (setting : Setting) (tree : Tree) (number : ℕ) (p : Owner) : Type 0 where
-  pub op : CoreOp
-  pub stands : StandsOp core p.runner.left.at op Begin
-  pub ready : IsReady op Begin p.runner
-  pub place : tree.places number ≡ 0
-  pub kind : trees.kind tree 0 ≡ Some (Asynchronous false)
-  pub root : IsInRoot nestings setting p
-
--- who is not at its end is about to do something by itself, with those whom it meets, or with its group; or it is at a `start`
+-- who is not at its end is about to do something by itself, with those whom it meets, or with its group
 abbrev pub ReachedProcessorsHaveNext : Type 0
 ReachedProcessorsHaveNext =
     (core : List CoreOp) (nestings : Nestings) (main : ℕ) (setting : Setting) (s : State Position) (h : ℕ) (r : Runner Position) (heap : Memory)
     → IsOfOneGroup core nestings main → IsReached core setting s → slice_get s.runners h ≡ Some r → r.left ≢ the_end core → IsInRange r.has
     → let p : Owner = record { runner = r; heap = heap } in
-    HasNext core s.tree h (landed core p) ⊎ IsAtStart core nestings setting s.tree h (landed core p)
+    HasNext core nestings setting s.tree h (landed core p)
 
 -- ---- a group
 

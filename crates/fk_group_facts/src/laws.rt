@@ -15,7 +15,7 @@ pub fn reached_trees_have_spaces()
 {}
 
 /// Who is not at its end in it is about to do an operation by itself, with those whom it meets at a word of its node, or with its
-/// group in lockstep; or it is at a `start`.
+/// group in lockstep.
 pub fn reached_processors_have_next()
     ensures { ReachedProcessorsHaveNext }
 {}
