@@ -80,11 +80,11 @@ suits = record {
   jumps = λ i op stands jump. flows i op.target;
   fits = λ i op operation stands.
       each (λ i op operation. Fits core frames i op operation)
-      (record { values = omega arith; room = room 0 0 (omega arith); place = room 0 1 (omega arith); goes_on = λ onward. flows 0 _ })
-      (record { values = omega arith; room = room 1 1 (omega arith); place = tt; goes_on = λ onward. flows 1 _ })
-      (record { values = omega arith; room = room 2 0 (omega arith); place = tt; goes_on = λ onward. flows 2 _ })
-      (record { values = omega arith; room = room 3 0 (omega arith); place = tt; goes_on = λ onward. flows 3 _ })
-      (record { values = omega arith; room = room 4 0 (omega arith); place = tt; goes_on = refl })
+      (record { values = omega arith; few = omega arith; room = room 0 0 (omega arith); place = room 0 1 (omega arith); goes_on = λ onward. flows 0 _ })
+      (record { values = omega arith; few = omega arith; room = room 1 1 (omega arith); place = tt; goes_on = λ onward. flows 1 _ })
+      (record { values = omega arith; few = omega arith; room = room 2 0 (omega arith); place = tt; goes_on = λ onward. flows 2 _ })
+      (record { values = omega arith; few = omega arith; room = room 3 0 (omega arith); place = tt; goes_on = λ onward. flows 3 _ })
+      (record { values = omega arith; few = omega arith; room = room 4 0 (omega arith); place = tt; goes_on = refl })
       i op operation stands.stands stands.is_read;
 }
 
