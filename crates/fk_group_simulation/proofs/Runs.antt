@@ -8,6 +8,7 @@ use Rattle.fk_run.specs.Processor.{Setting, setting_of}
 use Rattle.fk_operation.specs.declared.operation.Operation.TheVariants.{Begin}
 use Rattle.fk_run.specs.Round.{Runner, State, result, is_possible, IsStopped}
 use Rattle.fk_run.specs.Schedule.{Schedule, SourceRunning, SourceFinished, SourceFaulted, run, CouldAct, IsLawful, all_done, stand_by}
+use Rattle.fk_one_group.specs.Runs.{AreSingle}
 use Rattle.fk_core.specs.declared.op.CoreOp.{CoreOp}
 use Rattle.fk_core.specs.Next.{Position, position, landing, next, opening}
 use Rattle.fk_image.specs.declared.Image.{Image}
@@ -38,7 +39,7 @@ use Rattle.fk_group_runs.proofs.Machines.{machines_follow_rounds, machines_follo
 use Rattle.fk_simulation.specs.Follows.{StandsAgree, Agrees}
 use Rattle.fk_group_simulation.specs.Pace.{AreInTime, Sight, ActsWithin}
 use Rattle.fk_group_simulation.specs.Able.{WhoWaitsResumes}
-use Rattle.fk_group_simulation.specs.Runs.{sight_in, GoesBeside, IsRound, AlwaysGoesFurther, MachinesFollowGroupRuns, places_in, tree_behind, OrderlyRoundsGoFurther}
+use Rattle.fk_group_simulation.specs.Runs.{sight_in, GoesBeside, StandsBeside, IsRound, AlwaysGoesFurther, MachinesFollowGroupRuns, places_in, tree_behind, OrderlyRoundsGoFurther}
 use Rattle.fk_group_simulation.proofs.Able.{who_could_act_will, who_has_united_will}
 use Rattle.fk_group_simulation.proofs.Induction.{IsGoing, IsOver, IsBroken, IsWhole, follows_from}
 
@@ -49,8 +50,7 @@ module _ (core : List CoreOp) (image : Image) (places : Places) (nestings : Nest
     uniting : Bool
     nodes : List ℕ
     stages : List Stage
-    goes : GoesBeside core image places nestings setting spaces uniting s nodes printed stages m
-    in_time : AreInTime stages
+    beside : StandsBeside core image places nestings setting spaces uniting s nodes printed stages m
 
   abbrev sight : (s : State Position) (printed : List ℕ) (m : Machine) → Stands s printed m → Sight
   sight s printed m x = sight_in x.uniting s.tree spaces x.nodes x.stages m.shared.control m.begun
@@ -90,7 +90,7 @@ module _ (core : List CoreOp) (image : Image) (places : Places) (nestings : Nest
       (goes.stand ∙ ap (λ b. cond b Finished Running) (sym (not_done f.i f.op f.ps s.runners f.stands f.about f.beside.runners (omega (arith, some, size, as_many)))))
 
   is_going : (s : State Position) (printed : List ℕ) (m : Machine) → Stands s printed m → IsGoing core setting s printed m
-  is_going s printed m x = is_going_by x.uniting s x.nodes printed x.stages m x.goes
+  is_going s printed m x = is_going_by x.uniting s x.nodes printed x.stages m x.beside.goes
 
   -- the round of its cycle is stopped
   breaks : (s : State Position) (nodes : List ℕ) (printed : List ℕ) (stages : List Stage) (m : Machine) → is_running m.stand ≡ true
@@ -166,9 +166,9 @@ module _ (core : List CoreOp) (image : Image) (places : Places) (nestings : Nest
 
   module _ (first : State Position) (always : AlwaysGoesFurther core image places nestings setting spaces first) where
     turns : (schedule : Schedule) (printed : List ℕ) (m : Machine) (x : Stands (run (next core) setting schedule first) printed m) → IsLawful (next core) setting schedule first
-        → is_running m.stand ≡ true
+        → AreSingle schedule → is_running m.stand ≡ true
         → IsWhole core setting image first Stands sight schedule printed m x ⊎ IsBroken core setting image (run (next core) setting schedule first) printed m
-    turns schedule printed m x lawful running =
+    turns schedule printed m x lawful single running =
         let s = run (next core) setting schedule first in
         ⊎_elim
         (λ g.
@@ -178,16 +178,17 @@ module _ (core : List CoreOp) (image : Image) (places : Places) (nestings : Nest
           round = round.0;
           possible = round.1;
           further = λ lawful'.
-              let y = always.further schedule x.uniting x.nodes printed x.stages m x.goes x.in_time running g lawful' in
-              (record { uniting = y.uniting'; nodes = y.nodes'; stages = y.stages'; goes = y.goes; in_time = y.in_time }, y.turns);
+              let y = always.further schedule x.uniting x.nodes printed x.stages m lawful single x.beside running g lawful' in
+              (record { uniting = y.uniting'; nodes = y.nodes'; stages = y.stages'; beside = y.stands }, y.turns);
         }))
         (λ broken. inr broken)
-        (cycle_is x.uniting s x.nodes printed x.stages m x.goes running)
+        (cycle_is x.uniting s x.nodes printed x.stages m x.beside.goes running)
 
     will : (schedule : Schedule) (printed : List ℕ) (m : Machine) (x : Stands (run (next core) setting schedule first) printed m) → IsLawful (next core) setting schedule first
-        → (h : ℕ) → CouldAct (next core) setting h (run (next core) setting schedule first) → ActsWithin (sight (run (next core) setting schedule first) printed m x) h most_between
-    will schedule printed m x lawful h could =
-        will_by x.uniting (run (next core) setting schedule first) x.nodes printed x.stages m x.goes x.in_time (always.waits schedule lawful) h could
+        → AreSingle schedule → (h : ℕ) → CouldAct (next core) setting h (run (next core) setting schedule first) → ActsWithin (sight (run (next core) setting schedule first) printed m x) h most_between
+    will schedule printed m x lawful single h could =
+        let s = run (next core) setting schedule first in
+        will_by x.uniting s x.nodes printed x.stages m x.beside.goes x.beside.in_time (always.waits schedule lawful single (is_going s printed m x).going) h could
 
     follows : (input : List ℕ) (p : ℕ) (x : Stands first [] (machine image input p 0)) (n : ℕ)
         → IsLawful (next core) setting (rounds image input p n) first
@@ -227,7 +228,12 @@ machines_follow_group_runs core image places nestings cycles firsts main spaces 
     let setting = setting_of p image.globals.items input in
     let first = opening main image.globals.items firsts input p in
     let r = follows core image places nestings cycles firsts main setting spaces the_law leads few first always input p
-    (record { uniting = false; nodes = replicate p 0; stages = opens.stages; goes = opens.goes; in_time = in_time }) n in
+    (record {
+      uniting = false;
+      nodes = replicate p 0;
+      stages = opens.stages;
+      beside = record { goes = opens.goes; in_time = in_time; vacant = λ root. record { barrier = refl; closing = refl } };
+    }) n in
     record { lawful = r.0; agrees = agrees core image input p n (run (next core) setting (rounds image input p n) first) r.1 }
 
 -- ---- orderly rounds
@@ -249,4 +255,4 @@ orderly_rounds_go_further core image places nestings setting spaces s nodes prin
     let many : length nodes' ≡ length nodes = many_in tree 0 setting.processors ∙ sym before.many in
     let x = r.again nodes' orderly.known orderly.tree there many orderly.ahead orderly.groups in
     let timely = orderly.timely there many in
-    record { uniting' = false; nodes' = nodes'; stages' = x.0; goes = x.3; in_time = timely.0; turns = timely.1 }
+    record { uniting' = false; nodes' = nodes'; stages' = x.0; stands = record { goes = x.3; in_time = timely.0; vacant = orderly.vacant }; turns = timely.1 }

@@ -1,11 +1,12 @@
 -- Machines of an image that has the law of blocks of groups follow core runs with groups.
-use Rattle.std.specs.Prelude.{◌≡◌, ℕ, zero, suc, ◌≤◌, List, [], ◌∷◌, ◌++◌, length, Bool, true, false, ◌⊎◌}
+use Rattle.std.specs.Prelude.{◌≡◌, ℕ, zero, suc, ◌≤◌, ◌<◌, List, [], ◌∷◌, ◌++◌, length, Bool, true, false, None, ◌⊎◌}
 use Rattle.fk_num.specs.Word.{Memory}
 use Rattle.fk_space.specs.Space.{Space}
 use Rattle.fk_tree.specs.Tree.{Tree}
 use Rattle.fk_run.specs.Processor.{Setting, setting_of}
 use Rattle.fk_run.specs.Round.{State, result}
 use Rattle.fk_run.specs.Schedule.{Schedule, run, IsLawful}
+use Rattle.fk_one_group.specs.Runs.{AreSingle}
 use Rattle.fk_core.specs.declared.op.CoreOp.{CoreOp}
 use Rattle.fk_core.specs.Next.{Position, next, opening}
 use Rattle.fk_image.specs.declared.Image.{Image}
@@ -13,9 +14,9 @@ use Rattle.fk_machine.specs.Cycle.{Machine, is_running, cycle}
 use Rattle.fk_plans.specs.Stage.{Stage, counts_for}
 use Rattle.fk_plans.specs.Plan.{Plan}
 use Rattle.fk_block_law.specs.Stands.{Places}
-use Rattle.fk_group_law.specs.Node.{Nestings}
+use Rattle.fk_group_law.specs.Node.{Nestings, IsAtRest}
 use Rattle.fk_group_law.specs.Law.{Cycles, GroupLaw}
-use Rattle.fk_group_plans.specs.Nodes.{plan_of, united}
+use Rattle.fk_group_plans.specs.Nodes.{first_of, plan_of, united}
 use Rattle.fk_group_rounds.specs.Next.{JumpsLead}
 use Rattle.fk_group_rounds.specs.After.{owners_after, ArePlaces, GroupsGoOn}
 use Rattle.fk_group_rounds.specs.Rounds.{IsTree, IsKnownRound}
@@ -35,11 +36,21 @@ abbrev pub sight_in : (uniting : Bool) → Tree → (spaces : ℕ → Space) →
 sight_in uniting tree spaces nodes stages control finished =
     record { plan = plan_in uniting (plan_of tree spaces nodes); stages = stages; control = control; finished = finished }
 
+-- while all processors stand in the root, nobody is at the words of the group to come
+abbrev pub IsVacant : (processors : ℕ) → Tree → (spaces : ℕ → Space) → (control : Memory) → Type 0
+IsVacant processors tree spaces control = ((h : ℕ) → h < processors → tree.places h ≡ 0) → IsAtRest (first_of spaces tree.given) control
+
 module _ (core : List CoreOp) (image : Image) (places : Places) (nestings : Nestings) (setting : Setting) (spaces : ℕ → Space) where
   -- a machine beside a state: it goes with that, or to the beginning of `start`
   abbrev pub GoesBeside : (uniting : Bool) → State Position → (nodes : List ℕ) → (printed : List ℕ) → List Stage → Machine → Type 0
   GoesBeside false s nodes printed stages m = GoesWith core image places nestings setting spaces s nodes printed stages m
   GoesBeside true s nodes printed stages m = GoesToStart core image places nestings setting spaces s nodes printed stages m
+
+  -- so that it may go further: all its harts are in time, and nobody is where a group is to begin
+  pub record StandsBeside (uniting : Bool) (s : State Position) (nodes : List ℕ) (printed : List ℕ) (stages : List Stage) (m : Machine) : Type 0 where
+    pub goes : GoesBeside uniting s nodes printed stages m
+    pub in_time : AreInTime stages
+    pub vacant : IsVacant setting.processors s.tree spaces m.shared.control
 
   -- its cycle is a possible round
   abbrev pub IsRound : (uniting : Bool) → State Position → (nodes : List ℕ) → (printed : List ℕ) → List Stage → Machine → Type 0
@@ -47,22 +58,23 @@ module _ (core : List CoreOp) (image : Image) (places : Places) (nestings : Nest
       GoesOn core image places nestings setting spaces s nodes printed stages m ⊎ Unites core image places nestings setting spaces s nodes printed stages m
   IsRound true s nodes printed stages m = Starts core image places nestings setting spaces s nodes printed stages m
 
-  -- after the cycle it is beside the state behind the round, all its harts are in time, and those who meet have moved
+  -- after the cycle it is so beside the state behind the round, and those who meet have moved
   pub record GoesFurther (uniting : Bool) (s : State Position) (nodes : List ℕ) (printed : List ℕ) (stages : List Stage) (m : Machine) : Type 0 where
     pub uniting' : Bool
     pub nodes' : List ℕ
     pub stages' : List Stage
-    pub goes : GoesBeside uniting' (result (next core) setting (counts_for stages) s) nodes' (printed ++ (cycle m).shared.output) stages' (cycle m)
-    pub in_time : AreInTime stages'
+    pub stands : StandsBeside uniting' (result (next core) setting (counts_for stages) s) nodes' (printed ++ (cycle m).shared.output) stages' (cycle m)
     pub turns : Turns (sight_in uniting s.tree spaces nodes stages m.shared.control m.begun)
         (sight_in uniting' (result (next core) setting (counts_for stages) s).tree spaces nodes' stages' (cycle m).shared.control (cycle m).begun)
 
-  -- in the run that begins with a state: so it is with each cycle whose round is possible and keeps the schedule lawful, and who
-  -- waits for parts in a state behind a lawful schedule is to go on behind them
+  -- In the run that begins with a state, behind a lawful schedule of rounds of machines: so it is with each cycle whose round is
+  -- possible and keeps the schedule lawful, and who waits for parts is to go on behind them
   pub record AlwaysGoesFurther (first : State Position) : Type 0 where
-    pub waits : (schedule : Schedule) → IsLawful (next core) setting schedule first → WhoWaitsResumes core (run (next core) setting schedule first)
+    pub waits : (schedule : Schedule) → IsLawful (next core) setting schedule first → AreSingle schedule → (run (next core) setting schedule first).fault ≡ None
+        → WhoWaitsResumes core (run (next core) setting schedule first)
     pub further : (schedule : Schedule) (uniting : Bool) (nodes : List ℕ) (printed : List ℕ) (stages : List Stage) (m : Machine)
-        → GoesBeside uniting (run (next core) setting schedule first) nodes printed stages m → AreInTime stages → is_running m.stand ≡ true
+        → IsLawful (next core) setting schedule first → AreSingle schedule
+        → StandsBeside uniting (run (next core) setting schedule first) nodes printed stages m → is_running m.stand ≡ true
         → IsRound uniting (run (next core) setting schedule first) nodes printed stages m
         → IsLawful (next core) setting (schedule ++ counts_for stages ∷ []) first
         → GoesFurther uniting (run (next core) setting schedule first) nodes printed stages m
@@ -94,6 +106,7 @@ module _ (core : List CoreOp) (image : Image) (places : Places) (nestings : Nest
     pub tree : IsTree setting tree_behind spaces
     pub ahead : AllNext core nestings setting tree_behind 0 r.afters r.did (owners_after s.tree tree_behind r.did)
     pub groups : GroupsGoOn core nestings tree_behind (places_in tree_behind 0 setting.processors) r.afters (owners_after s.tree tree_behind r.did)
+    pub vacant : IsVacant setting.processors tree_behind spaces (cycle m).shared.control
     -- harts are in time behind it, and those who meet have moved
     pub timely : (there : ArePlaces tree_behind 0 (places_in tree_behind 0 setting.processors)) (many : length (places_in tree_behind 0 setting.processors) ≡ length nodes)
         → AreInTime (r.again (places_in tree_behind 0 setting.processors) known tree there many ahead groups).0
