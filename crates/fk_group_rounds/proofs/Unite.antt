@@ -508,7 +508,7 @@ cycles_unite core image places nestings cycles firsts main setting tree spaces n
                   about = about core image places nestings setting tree spaces nodes t stages hs ps own before binds some done.harts whole.did whole.own many left cycles firsts main done.shared.control i the_law
                       few whole.has at;
                   distance = cycles.before i;
-                  few = the_law.few_before i;
+                  few = the_law.few_to_begin i begins.op begins.stands;
                   bound = on.bound;
                   near = on.near;
                 };

@@ -19,9 +19,8 @@ use Rattle.fk_plans.specs.Cycle.{DoneIn}
 use Rattle.fk_block_law.specs.Owner.{Commons, Owner, idle, core_source}
 use Rattle.fk_block_law.specs.Stands.{Places}
 use Rattle.fk_block_law.specs.Next.{StandsOp}
-use Rattle.fk_block_law.specs.Block.{most_before}
 use Rattle.fk_group_law.specs.Node.{Nestings}
-use Rattle.fk_group_law.specs.Start.{IsInRoot}
+use Rattle.fk_group_law.specs.Start.{most_united, IsInRoot}
 use Rattle.fk_group_law.specs.Law.{Cycles, GroupLaw}
 use Rattle.fk_group_plans.specs.Nodes.{first_of, plan_of, united}
 use Rattle.fk_group_plans.specs.Behind.{blocks_of, joining_blocks_of}
@@ -44,7 +43,7 @@ module _ (core : List CoreOp) (image : Image) (places : Places) (nestings : Nest
     pub stands : StandsOp core i op Begin
     pub about : AllAbout i op Begin ps
     pub distance : ℕ
-    pub few : distance ≤ most_before
+    pub few : distance < most_united
     pub bound : IsBound (core_source core setting) image (united (plan_of tree spaces nodes)) (blocks_of core image places nestings setting (united (plan_of tree spaces nodes)) (first_of spaces))
         (later t) (all_act distance (numbered 0 (turns t 0 hs sh).harts)) (turns t 0 hs sh).harts ps (λ g. (turns t 0 hs sh).shared.control)
     pub near : AllNear stages (all_act distance (numbered 0 (turns t 0 hs sh).harts))

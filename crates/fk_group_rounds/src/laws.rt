@@ -8,7 +8,7 @@ ghost use Rattle.fk_group_rounds.specs.Unite.{CyclesUnite};
 ghost use Rattle.fk_group_rounds.specs.Rounds.{RoundsKeepTrees, RoundsResume, RoundsClose, RoundsSetFree, RoundsSendOne, RoundsEnd, RoundsBindAgain};
 
 /// A member by itself that has committed comes to the stage of its next operation, by a jump or straight: at a distance of at
-/// most 254 from its commit, or on its way to the word where it meets others.
+/// most 254 from its commit, or of 251 from the word where it meets others, 211 where it unites with them.
 pub fn members_come_to_stages()
     ensures { MembersComeToStages }
 {}

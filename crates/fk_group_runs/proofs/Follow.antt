@@ -16,7 +16,7 @@ use Rattle.fk_machine.specs.Hart.{Hart, Shared, Setting as MachineSetting}
 use Rattle.fk_machine.specs.Cycle.{turns}
 use Rattle.fk_nodes.specs.Source.{AllPass, FaultsAfter}
 use Rattle.fk_nodes.specs.Alone.{later}
-use Rattle.fk_nodes.specs.Node.{numbered}
+use Rattle.fk_nodes.specs.Node.{Member, numbered}
 use Rattle.fk_nodes.specs.Whole.{planned, first_of}
 use Rattle.fk_plans.specs.Stage.{Stage, counts_for}
 use Rattle.fk_plans.specs.Plan.{IsBound}
@@ -26,6 +26,7 @@ use Rattle.fk_block_law.specs.Block.{gone_to}
 use Rattle.fk_simulation.proofs.Linked.{runs_later}
 use Rattle.fk_simulation.proofs.Rounds.{first_cut}
 use Rattle.fk_group_law.specs.Node.{Nestings}
+use Rattle.fk_group_law.specs.Start.{most_united}
 use Rattle.fk_group_law.specs.Law.{Cycles, GroupLaw}
 use Rattle.fk_group_plans.specs.Nodes as plans
 use Rattle.fk_group_plans.specs.Nodes.{nodes_of, plan_of, united}
@@ -45,7 +46,7 @@ use Rattle.fk_group_rounds.proofs.Trees.{all_keep}
 use Rattle.fk_group_rounds.proofs.Unite.{cycles_unite}
 use Rattle.fk_group_rounds.proofs.Cycle.{cycles_bind_again}
 use Rattle.fk_group_runs.specs.Beside.{landed_runner, landed_state, HaveHeaps, AreInOrder, IsBeside}
-use Rattle.fk_group_runs.specs.Union.{AllLandAt}
+use Rattle.fk_group_runs.specs.Union.{AreNearBegin, AllLandAt}
 use Rattle.fk_group_runs.specs.Follow.{IsFollowed, FollowsRound, FollowsFault, FollowsUnion, CyclesFollowRounds}
 use Rattle.fk_group_runs.proofs.Landed.{landing_twice, allowed_land}
 use Rattle.fk_group_runs.specs.Homes.{AllHome, AllNext}
@@ -255,6 +256,10 @@ lands_at core i (p ∷ ps) (r ∷ rs) same at =
 lands_at core i [] (r ∷ rs) same at = absurd (cc)
 lands_at core i (p ∷ ps) [] same at = absurd (cc)
 
+acts_near : (d : ℕ) → d < most_united → (ms : List Member) → AreNearBegin (all_act d ms)
+acts_near d few [] = tt
+acts_near d few (m ∷ ms) = (few, acts_near d few ms)
+
 -- where all have met
 follows_union : (core : List CoreOp) (image : Image) (places : Places) (nestings : Nestings) (cycles : Cycles) (firsts : List ℕ) (main : ℕ) (setting : Setting) (spaces : ℕ → Space) (s : State Position) (nodes : List ℕ)
     (t : MachineSetting) (printed : List ℕ) (stages : List Stage) (hs : List Hart) (sh : Shared) → GroupLaw core image places nestings cycles firsts main → JumpsLead core → length hs < 2 ^ 31
@@ -296,6 +301,7 @@ follows_union core image places nestings cycles firsts main setting spaces s nod
                 op = y.op;
                 stands = y.stands;
                 about = y.about;
+                near = acts_near y.distance y.few (numbered 0 done.harts);
                 roots = x.roots;
                 order = in_order_back core 0 next_state.runners (subst (AreInOrder 0) beside.runners (many_runners core 0 s.tree spaces stages (runners_of f.ps) f.before.due));
                 beside = beside;

@@ -1,5 +1,5 @@
 -- Those who have met at the beginning of `start` come to the round in which the group begins.
-use Rattle.std.proofs.Common.{◌≡◌, ℕ, suc, ◌+◌, ◌≤◌, ◌<◌, List, [], ◌∷◌, ◌++◌, length, Option, Some, None, true, ◌&&◌, sym, ap, subst, ◌∙◌, refl, arith, inl, inr, ⊎_elim}
+use Rattle.std.proofs.Common.{◌≡◌, ℕ, zero, suc, ◌+◌, ◌≤◌, ◌<◌, List, [], ◌∷◌, ◌++◌, length, Option, Some, None, true, ◌&&◌, sym, ap, subst, ◌∙◌, refl, arith, inl, inr, ⊎_elim}
 use Rattle.std.specs.Prelude.{map, is_none}
 use Rattle.std.proofs.lemmas.Bool.{and_from}
 use Rattle.std.proofs.lemmas.List.{append-nil}
@@ -18,7 +18,7 @@ use Rattle.fk_nodes.specs.Node.{Member, numbered, of_node, AreAsMany}
 use Rattle.fk_nodes.specs.Source.{AllPass, FaultsAfter, Passes, Shows}
 use Rattle.fk_nodes.specs.Alone.{later}
 use Rattle.fk_nodes.specs.Whole.{first_of}
-use Rattle.fk_plans.specs.Stage.{Stage, IsOver, Pairwise, Remains, count_of_stage, counts_for}
+use Rattle.fk_plans.specs.Stage.{Stage, Ended, Acts, Meets, IsOver, Pairwise, Remains, count_of_stage, counts_for, kept}
 use Rattle.fk_plans.specs.Plan.{Plan, Blocks, AllAct, InLockstep, IsBound}
 use Rattle.fk_plans.specs.Cycle.{AllHaveCommitted}
 use Rattle.fk_plans.proofs.Left.{first_alike, second_alike, both_alike}
@@ -44,7 +44,7 @@ use Rattle.fk_group_rounds.proofs.Starts.{of_all, many_numbered, rounds_start}
 use Rattle.fk_group_rounds.proofs.Nearer.{cycles_come_to_start}
 use Rattle.fk_group_runs.specs.Beside.{landed_runner, AreInOrder, IsBeside}
 use Rattle.fk_group_runs.specs.Homes.{AllHome, AllNext, AllFrom}
-use Rattle.fk_group_runs.specs.Union.{IsUnited}
+use Rattle.fk_group_runs.specs.Union.{IsNearBegin, AreNearBegin, IsUnited}
 use Rattle.fk_group_runs.specs.Starts.{CyclesFollowStarts}
 use Rattle.fk_group_runs.proofs.Landed.{allowed_land}
 use Rattle.fk_group_runs.proofs.Results.{is_after, is_fault}
@@ -79,6 +79,21 @@ module _ (core : List CoreOp) (image : Image) (setting : Setting) (plan : Plan) 
       let does : d ≡ is_due core i op Begin p = let e = sym one ∙ took in cc in
       ap (λ y. y ∷ ds) does ∙ ap (λ l. is_due core i op Begin p ∷ l) (begun stages ms ps pass.0 s' ds all.1 about.2 pass.2)
   begun stages ms ps s s' ds all about pass = absurd (assumption (all, pass))
+
+-- who does not commit stays near its commit
+stays_near : (s s' : Stage) → Remains s (Some s') → IsNearBegin s → IsNearBegin s'
+stays_near (Acts zero) s' remains near = absurd (let over = remains.3 in cc)
+stays_near (Acts (suc d)) (Acts e) remains near = let same : e ≡ d = let nearer = remains.1 in cc in omega (arith, same, near)
+stays_near (Acts (suc d)) Ended remains near = absurd remains.2
+stays_near (Acts (suc d)) (Meets e w f) remains near = absurd remains.2
+stays_near Ended s' remains near = absurd near
+stays_near (Meets e w f) s' remains near = absurd near
+
+all_stay_near : (stages stages' : List Stage) → Pairwise Remains stages (kept stages') → AreNearBegin stages → AreNearBegin stages'
+all_stay_near [] [] remain near = tt
+all_stay_near (s ∷ stages) (s' ∷ stages') remain near = (stays_near s s' remain.0 near.0, all_stay_near stages stages' remain.1 near.1)
+all_stay_near [] (s' ∷ stages') remain near = absurd remain
+all_stay_near (s ∷ stages) [] remain near = absurd remain
 
 -- the space of the root
 from_roots : (nestings : Nestings) (setting : Setting) (low : ℕ) (ps : List Owner) → low ≡ (group_space setting).low → AreInRoot nestings setting ps → AllFrom low ps
@@ -197,6 +212,7 @@ cycles_follow_starts core image places nestings cycles firsts main setting space
                     op = f.op;
                     stands = f.stands;
                     about = f.about;
+                    near = all_stay_near stages x.stages' (subst (Pairwise Remains stages) x.are r.left.stay) f.near;
                     roots = f.roots;
                     order = order_next core image places nestings setting spaces s nodes t printed stages hs sh leads f next_state (runners_of f.ps)
                         (order_here core image places nestings setting spaces s nodes t printed stages hs sh leads f) beside.runners;

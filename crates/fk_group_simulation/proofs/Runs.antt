@@ -40,6 +40,7 @@ use Rattle.fk_simulation.specs.Follows.{StandsAgree, Agrees}
 use Rattle.fk_group_simulation.specs.Pace.{AreInTime, Sight, ActsWithin}
 use Rattle.fk_group_simulation.specs.Able.{WhoWaitsResumes}
 use Rattle.fk_group_simulation.specs.Runs.{sight_in, GoesBeside, StandsBeside, IsRound, AlwaysGoesFurther, MachinesFollowGroupRuns, places_in, tree_behind, OrderlyRoundsGoFurther}
+use Rattle.fk_group_simulation.proofs.Soon.{are_soon_in_time}
 use Rattle.fk_group_simulation.proofs.Able.{who_could_act_will, who_has_united_will}
 use Rattle.fk_group_simulation.proofs.Induction.{IsGoing, IsOver, IsBroken, IsWhole, follows_from}
 
@@ -162,7 +163,7 @@ module _ (core : List CoreOp) (image : Image) (places : Places) (nestings : Nest
   will_by false s nodes printed stages m goes in_time waits h could =
       who_could_act_will core image places nestings setting spaces s nodes (machines.setting_of m) printed stages m.harts (unprinted m.shared) h leads goes.followed in_time waits could
   will_by true s nodes printed stages m goes in_time waits h could =
-      who_has_united_will core image places nestings setting spaces s nodes (machines.setting_of m) printed stages m.harts (unprinted m.shared) h goes.followed in_time could
+      who_has_united_will core image places nestings setting spaces s nodes (machines.setting_of m) printed stages m.harts (unprinted m.shared) h goes.followed could
 
   module _ (first : State Position) (always : AlwaysGoesFurther core image places nestings setting spaces first) where
     turns : (schedule : Schedule) (printed : List ℕ) (m : Machine) (x : Stands (run (next core) setting schedule first) printed m) → IsLawful (next core) setting schedule first
@@ -224,7 +225,7 @@ agrees core image input p n last (inr over) = record {
 }
 
 pub machines_follow_group_runs : MachinesFollowGroupRuns
-machines_follow_group_runs core image places nestings cycles firsts main spaces input p n the_law leads few opens in_time always =
+machines_follow_group_runs core image places nestings cycles firsts main spaces input p n the_law leads few opens always =
     let setting = setting_of p image.globals.items input in
     let first = opening main image.globals.items firsts input p in
     let r = follows core image places nestings cycles firsts main setting spaces the_law leads few first always input p
@@ -232,7 +233,7 @@ machines_follow_group_runs core image places nestings cycles firsts main spaces 
       uniting = false;
       nodes = replicate p 0;
       stages = opens.stages;
-      beside = record { goes = opens.goes; in_time = in_time; vacant = λ root. record { barrier = refl; closing = refl } };
+      beside = record { goes = opens.goes; in_time = are_soon_in_time opens.stages opens.soon; vacant = λ root. record { barrier = refl; closing = refl } };
     }) n in
     record { lawful = r.0; agrees = agrees core image input p n (run (next core) setting (rounds image input p n) first) r.1 }
 

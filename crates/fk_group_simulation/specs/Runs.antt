@@ -84,7 +84,7 @@ abbrev pub MachinesFollowGroupRuns : Type 0
 MachinesFollowGroupRuns =
     (core : List CoreOp) (image : Image) (places : Places) (nestings : Nestings) (cycles : Cycles) (firsts : List ℕ) (main : ℕ) (spaces : ℕ → Space) (input : List ℕ) (p n : ℕ)
     → GroupLaw core image places nestings cycles firsts main → JumpsLead core → p ≤ 1024
-    → (opens : OpensWith core image places nestings spaces firsts main input p) → AreInTime opens.stages
+    → OpensWith core image places nestings spaces firsts main input p
     → AlwaysGoesFurther core image places nestings (setting_of p image.globals.items input) spaces (opening main image.globals.items firsts input p)
     → Follows (next core) image input p n (opening main image.globals.items firsts input p)
 

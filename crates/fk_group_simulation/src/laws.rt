@@ -7,7 +7,7 @@ ghost use Rattle.fk_group_simulation.specs.Able.{WhoCouldActWill, WhoHasUnitedWi
 ghost use Rattle.fk_group_simulation.specs.Runs.{MachinesFollowGroupRuns, OrderlyRoundsGoFurther};
 
 /// A machine of an image that has the law of blocks of groups goes with the core run from its first cycle on: each of its harts
-/// is at most 254 private instructions before its first commit, or before it arrives where it meets others.
+/// is at most 254 private instructions before its first commit, or 251 before it arrives where it meets others, 211 at `start`.
 pub fn openings_are_followed()
     ensures { OpeningsAreFollowed }
 {}
