@@ -36,6 +36,7 @@ use Rattle.fk_group_runs.proofs.Landed.{next_landed}
 use Rattle.fk_group_runs.proofs.Follow.{cycles_follow_rounds}
 use Rattle.fk_group_runs.proofs.Starts.{cycles_follow_starts}
 use Rattle.fk_group_runs.proofs.Machines.{machines_follow_rounds, machines_follow_starts}
+use Rattle.fk_group_runs.proofs.Rest.{openings_are_ready}
 use Rattle.fk_simulation.specs.Follows.{StandsAgree, Agrees}
 use Rattle.fk_group_simulation.specs.Pace.{AreInTime, Sight, ActsWithin}
 use Rattle.fk_group_simulation.specs.Able.{WhoWaitsResumes}
@@ -233,7 +234,7 @@ machines_follow_group_runs core image places nestings cycles firsts main spaces 
       uniting = false;
       nodes = replicate p 0;
       stages = opens.stages;
-      beside = record { goes = opens.goes; in_time = are_soon_in_time opens.stages opens.soon; vacant = λ root. record { barrier = refl; closing = refl } };
+      beside = record { goes = opens.goes; in_time = are_soon_in_time opens.stages opens.soon; ready = openings_are_ready image input p first.tree (first_of spaces 1) };
     }) n in
     record { lawful = r.0; agrees = agrees core image input p n (run (next core) setting (rounds image input p n) first) r.1 }
 
@@ -256,4 +257,4 @@ orderly_rounds_go_further core image places nestings setting spaces s nodes prin
     let many : length nodes' ≡ length nodes = many_in tree 0 setting.processors ∙ sym before.many in
     let x = r.again nodes' orderly.known orderly.tree there many orderly.ahead orderly.groups in
     let timely = orderly.timely there many in
-    record { uniting' = false; nodes' = nodes'; stages' = x.0; stands = record { goes = x.3; in_time = timely.0; vacant = orderly.vacant }; turns = timely.1 }
+    record { uniting' = false; nodes' = nodes'; stages' = x.0; stands = record { goes = x.3; in_time = timely.0; ready = orderly.ready }; turns = timely.1 }

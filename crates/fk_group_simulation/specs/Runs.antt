@@ -1,5 +1,5 @@
 -- Machines of an image that has the law of blocks of groups follow core runs with groups.
-use Rattle.std.specs.Prelude.{◌≡◌, ℕ, zero, suc, ◌≤◌, ◌<◌, List, [], ◌∷◌, ◌++◌, length, Bool, true, false, None, ◌⊎◌}
+use Rattle.std.specs.Prelude.{◌≡◌, ℕ, zero, suc, ◌≤◌, List, [], ◌∷◌, ◌++◌, length, Bool, true, false, None, ◌⊎◌}
 use Rattle.fk_num.specs.Word.{Memory}
 use Rattle.fk_space.specs.Space.{Space}
 use Rattle.fk_tree.specs.Tree.{Tree}
@@ -14,13 +14,14 @@ use Rattle.fk_machine.specs.Cycle.{Machine, is_running, cycle}
 use Rattle.fk_plans.specs.Stage.{Stage, counts_for}
 use Rattle.fk_plans.specs.Plan.{Plan}
 use Rattle.fk_block_law.specs.Stands.{Places}
-use Rattle.fk_group_law.specs.Node.{Nestings, IsAtRest}
+use Rattle.fk_group_law.specs.Node.{Nestings}
 use Rattle.fk_group_law.specs.Law.{Cycles, GroupLaw}
 use Rattle.fk_group_plans.specs.Nodes.{first_of, plan_of, united}
 use Rattle.fk_group_rounds.specs.Next.{JumpsLead}
 use Rattle.fk_group_rounds.specs.After.{owners_after, ArePlaces, GroupsGoOn}
 use Rattle.fk_group_rounds.specs.Rounds.{IsTree, IsKnownRound}
 use Rattle.fk_group_runs.specs.Homes.{AllNext}
+use Rattle.fk_group_runs.specs.Rest.{IsReadyForGroup}
 use Rattle.fk_group_runs.specs.Machines.{GoesWith, GoesToStart, GoesOn, Unites, Starts}
 use Rattle.fk_simulation.specs.Follows.{Follows}
 use Rattle.fk_group_simulation.specs.Opening.{OpensWith}
@@ -36,21 +37,17 @@ abbrev pub sight_in : (uniting : Bool) → Tree → (spaces : ℕ → Space) →
 sight_in uniting tree spaces nodes stages control finished =
     record { plan = plan_in uniting (plan_of tree spaces nodes); stages = stages; control = control; finished = finished }
 
--- while all processors stand in the root, nobody is at the words of the group to come
-abbrev pub IsVacant : (processors : ℕ) → Tree → (spaces : ℕ → Space) → (control : Memory) → Type 0
-IsVacant processors tree spaces control = ((h : ℕ) → h < processors → tree.places h ≡ 0) → IsAtRest (first_of spaces tree.given) control
-
 module _ (core : List CoreOp) (image : Image) (places : Places) (nestings : Nestings) (setting : Setting) (spaces : ℕ → Space) where
   -- a machine beside a state: it goes with that, or to the beginning of `start`
   abbrev pub GoesBeside : (uniting : Bool) → State Position → (nodes : List ℕ) → (printed : List ℕ) → List Stage → Machine → Type 0
   GoesBeside false s nodes printed stages m = GoesWith core image places nestings setting spaces s nodes printed stages m
   GoesBeside true s nodes printed stages m = GoesToStart core image places nestings setting spaces s nodes printed stages m
 
-  -- so that it may go further: all its harts are in time, and nobody is where a group is to begin
+  -- so that it may go further: all its harts are in time, and nobody is at the words of the group to come
   pub record StandsBeside (uniting : Bool) (s : State Position) (nodes : List ℕ) (printed : List ℕ) (stages : List Stage) (m : Machine) : Type 0 where
     pub goes : GoesBeside uniting s nodes printed stages m
     pub in_time : AreInTime stages
-    pub vacant : IsVacant setting.processors s.tree spaces m.shared.control
+    pub ready : IsReadyForGroup s.tree (first_of spaces 1) m.shared.control
 
   -- its cycle is a possible round
   abbrev pub IsRound : (uniting : Bool) → State Position → (nodes : List ℕ) → (printed : List ℕ) → List Stage → Machine → Type 0
@@ -106,7 +103,7 @@ module _ (core : List CoreOp) (image : Image) (places : Places) (nestings : Nest
     pub tree : IsTree setting tree_behind spaces
     pub ahead : AllNext core nestings setting tree_behind 0 r.afters r.did (owners_after s.tree tree_behind r.did)
     pub groups : GroupsGoOn core nestings tree_behind (places_in tree_behind 0 setting.processors) r.afters (owners_after s.tree tree_behind r.did)
-    pub vacant : IsVacant setting.processors tree_behind spaces (cycle m).shared.control
+    pub ready : IsReadyForGroup tree_behind (first_of spaces 1) (cycle m).shared.control
     -- harts are in time behind it, and those who meet have moved
     pub timely : (there : ArePlaces tree_behind 0 (places_in tree_behind 0 setting.processors)) (many : length (places_in tree_behind 0 setting.processors) ≡ length nodes)
         → AreInTime (r.again (places_in tree_behind 0 setting.processors) known tree there many ahead groups).0

@@ -6,11 +6,13 @@ use Rattle.fk_machine.specs.Hart.{Hart, Setting}
 use Rattle.fk_nodes.specs.Node.{Has}
 use Rattle.fk_nodes.specs.Source.{Source}
 use Rattle.fk_meeting.specs.Phase.{Leaving}
-use Rattle.fk_plans.specs.Stage.{Unites, Stage, Meets}
+use Rattle.fk_plans.specs.Stage.{Unites, Stage, Meets, AllNear}
 use Rattle.fk_plans.specs.Plan.{Plan, Tests, told_by, IsBound}
 use Rattle.fk_plans.specs.Cycle.{IsLeft}
 use Rattle.fk_plans.specs.Change.{TreeChanges}
 use Rattle.fk_group_law.specs.Joint.{lead}
+use Rattle.fk_group_rounds.specs.Unite.{AllUnite}
+use Rattle.fk_group_runs.specs.Union.{AreNearBegin}
 use Rattle.fk_group_simulation.specs.Pace.{IsInTime, AreInTime, Turns}
 
 -- who has committed is at a stage in time
@@ -34,3 +36,20 @@ PlansTurn S P D =
     → NobodyHasUnited stages → AreInTime stages → AreFreshInTime left.afters stages'
     → AreInTime stages'
     × Turns (record { plan = plan; stages = stages; control = control; finished = t.finished }) (record { plan = plan'; stages = stages'; control = control'; finished = t.finished + 1 })
+
+-- ---- where all have met at the beginning of `start`
+
+-- behind the cycle in which they leave, near their common commit, all are in time, and nobody meets others
+abbrev pub UnionsTurn : Type 0
+UnionsTurn =
+    (plan plan' : Plan) (stages stages' : List Stage) (control control' : Memory) (finished : ℕ)
+    → length stages < 2 ^ 31 → AllUnite stages → AllNear stages stages' → AreNearBegin stages'
+    → AreInTime stages'
+    × Turns (record { plan = plan; stages = stages; control = control; finished = finished }) (record { plan = plan'; stages = stages'; control = control'; finished = finished + 1 })
+
+-- nor does anybody in the cycles from there on, in the last of which all commit
+abbrev pub UnitedTurn : Type 0
+UnitedTurn =
+    (plan plan' : Plan) (stages stages' : List Stage) (control control' : Memory) (finished : ℕ)
+    → length stages < 2 ^ 31 → AreNearBegin stages → AllNear stages stages'
+    → Turns (record { plan = plan; stages = stages; control = control; finished = finished }) (record { plan = plan'; stages = stages'; control = control'; finished = finished + 1 })

@@ -2,7 +2,7 @@
 
 ghost use Rattle.fk_group_simulation.specs.Opening.{OpeningsAreFollowed};
 ghost use Rattle.fk_group_simulation.specs.Pace.{PacesGoOn, PacesAreKept};
-ghost use Rattle.fk_group_simulation.specs.Turning.{PlansTurn};
+ghost use Rattle.fk_group_simulation.specs.Turning.{PlansTurn, UnionsTurn, UnitedTurn};
 ghost use Rattle.fk_group_simulation.specs.Able.{WhoCouldActWill, WhoHasUnitedWill};
 ghost use Rattle.fk_group_simulation.specs.Runs.{MachinesFollowGroupRuns, OrderlyRoundsGoFurther};
 
@@ -27,6 +27,17 @@ pub fn paces_are_kept()
 /// a distance from its commit is one cycle nearer, and those who meet at a word have moved.
 pub fn plans_turn<S, P, D>()
     ensures { PlansTurn S P D }
+{}
+
+/// Behind the cycle in which all leave the word where they meet at the beginning of `start` they are in time, fewer than 40 cycles
+/// from their common commit, and nobody meets others.
+pub fn unions_turn()
+    ensures { UnionsTurn }
+{}
+
+/// From there to their commit nobody meets others.
+pub fn united_turn()
+    ensures { UnitedTurn }
 {}
 
 /// Where the plan of a state's tree binds all harts, at stages in time, who could act in that state is to commit within 254 cycles:

@@ -1,0 +1,6 @@
+-- who unites is about to begin
+pub mod Begin
+-- states that the machine comes to
+pub mod Reached
+-- whole runs
+pub mod Whole
