@@ -11,18 +11,14 @@ use Rattle.fk_core.specs.Next.{Position, position, next, opening}
 use Rattle.fk_one_group.specs.Runs.{AreSingle}
 use Rattle.fk_image.specs.declared.Image.{Image}
 use Rattle.fk_block_law.specs.Stands.{Places}
-use Rattle.fk_block_law.specs.Ready.{IsInRange}
 use Rattle.fk_block_law.specs.Block.{beginner}
+use Rattle.fk_simulation.specs.InRange.{AreGiven}
 use Rattle.fk_simulation.specs.Follows.{IsInput}
-use Rattle.fk_simulation.proofs.Ranges.{lists_stay_in_range}
 use Rattle.fk_group_law.specs.Node.{Nestings}
 use Rattle.fk_group_law.specs.Law.{Cycles}
 use Rattle.fk_group_rounds.specs.Next.{landed, HasNext}
-use Rattle.fk_group_rounds.specs.Rounds.{IsTree}
-use Rattle.fk_group_facts.specs.Reached.{the_end, IsReached}
+use Rattle.fk_group_facts.specs.Reached.{IsReached, RunsReach}
 use Rattle.fk_group_facts.specs.Facts.{spaces_of}
-use Rattle.fk_group_facts.proofs.Reached.{runs_reach}
-use Rattle.fk_group_facts.proofs.Trees.{reached_trees_have_spaces}
 use Rattle.fk_group_facts.proofs.Nexts.{reached_processors_have_next}
 use Rattle.fk_group_simulation.specs.Opening.{OpensWith}
 use Rattle.fk_group_simulation.proofs.Opening.{openings_are_followed}
@@ -36,7 +32,7 @@ beginner_at set firsts left h (suc count) zero lt =
 beginner_at set firsts left h (suc count) (suc i) lt =
     beginner_at set firsts left (suc h) count i (omega (arith, lt)) ∙ ap (λ k. Some (let r : Runner Position = record { left = left; has = first_processor set firsts k } in r)) (omega arith)
 
-module _ (core : List CoreOp) (main : ℕ) (firsts : List ℕ) (places : Places) (nestings : Nestings) (cycles : Cycles) (image : Image) (carries : CarriesGroups core main firsts places nestings cycles image)
+module _ (runs_reach : RunsReach) (core : List CoreOp) (main : ℕ) (firsts : List ℕ) (places : Places) (nestings : Nestings) (cycles : Cycles) (image : Image) (carries : CarriesGroups core main firsts places nestings cycles image)
     (input : List ℕ) (p : ℕ) (is_input : IsInput image input) (some : 1 ≤ p) (few : p ≤ 1024) where
   abbrev pub setting : Setting
   setting = setting_of p image.globals.items input
@@ -48,14 +44,10 @@ module _ (core : List CoreOp) (main : ℕ) (firsts : List ℕ) (places : Places)
   state schedule = run (next core) (setting_of p image.globals.items input) schedule (opening main image.globals.items firsts input p)
 
   pub reached : (schedule : Schedule) → IsLawful (next core) setting schedule first → AreSingle schedule → (state schedule).fault ≡ None → IsReached core setting (state schedule)
-  reached schedule lawful single none = runs_reach core nestings main carries.one_group image.globals.items firsts input p schedule some lawful single none
-
-  pub in_range : (schedule : Schedule) (h : ℕ) (r : Runner Position) → slice_get (state schedule).runners h ≡ Some r → IsInRange r.has
-  in_range schedule h r at =
-      lists_stay_in_range core main carries.allots image.globals.items firsts input p schedule few is_input.few is_input.room carries.globals_are_words carries.firsts_are_words is_input.words h r at
-
-  pub has_tree : (schedule : Schedule) → IsReached core setting (state schedule) → IsTree setting (state schedule).tree (spaces_of setting)
-  has_tree schedule is = reached_trees_have_spaces core setting (state schedule) is is_input.room
+  reached schedule lawful single none =
+      let given : AreGiven image.globals.items firsts input p
+      = record { few = few; room = is_input.room; globals_are_words = carries.globals_are_words; firsts_are_words = carries.firsts_are_words; input_are_words = is_input.words } in
+      runs_reach core nestings main carries.one_group image.globals.items firsts input p schedule some given lawful single none
 
   -- ---- the opening
 
@@ -68,7 +60,7 @@ module _ (core : List CoreOp) (main : ℕ) (firsts : List ℕ) (places : Places)
       let at : slice_get first.runners number ≡ Some r = beginner_at setting (slice_index firsts) (position main []) 0 p number lt in
       let within = carries.one_group.begins in
       reached_processors_have_next core nestings main setting first number r (λ i. 0) carries.one_group (reached [] nothing_yet tt refl) at
-      (λ e. let same : main ≡ length core = ap (λ w. w.at) e in omega (arith, within, same)) (in_range [] number r at)
+      (λ e. let same : main ≡ length core = ap (λ w. w.at) e in omega (arith, within, same))
 
   pub opens : OpensWith core image places nestings (spaces_of setting) firsts main input p
   opens =

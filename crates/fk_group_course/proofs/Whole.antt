@@ -3,11 +3,6 @@ use Rattle.std.proofs.Common.{◌≡◌, ◌≢◌, ℕ, zero, suc, ◌+◌, ◌
 use Rattle.std.specs.Prelude.{slice_get, is_none, ◌&&◌}
 use Rattle.std.proofs.lemmas.Bool.{and_parts}
 use Rattle.fk_space.specs.Space.{Space}
-use Rattle.fk_tree.specs.declared.node.Kind.TheVariants.{Waiting, Asynchronous}
-use Rattle.fk_tree.specs.Tree as trees
-use Rattle.fk_tree.specs.Tree.{Tree}
-use Rattle.fk_tree.proofs.Begins.{root_some}
-use Rattle.fk_tree.proofs.Shapes.{some-given}
 use Rattle.fk_run.specs.Processor.{Setting}
 use Rattle.fk_run.specs.Round.{Runner, Fault, State, Round, result, is_allowed, is_possible}
 use Rattle.fk_run.specs.Schedule.{Schedule, IsLawful}
@@ -17,30 +12,21 @@ use Rattle.fk_one_group.specs.Runs.{AreSingle}
 use Rattle.fk_image.specs.declared.Image.{Image}
 use Rattle.fk_machine.specs.Cycle.{Machine, is_running, cycle}
 use Rattle.fk_plans.specs.Stage.{Stage, counts_for}
-use Rattle.fk_nodes.specs.Source.{AllPass}
-use Rattle.fk_block_law.specs.Owner.{Commons, Owner, Doing, core_source}
 use Rattle.fk_block_law.specs.Stands.{Places}
 use Rattle.fk_simulation.specs.Follows.{IsInput}
-use Rattle.fk_group_law.specs.Node.{Nestings, IsAtRest}
+use Rattle.fk_group_law.specs.Node.{Nestings}
 use Rattle.fk_group_law.specs.Law.{Cycles}
-use Rattle.fk_group_plans.specs.Nodes.{first_of}
 use Rattle.fk_group_plans.specs.Rounds.{AllDue}
-use Rattle.fk_group_rounds.specs.After.{runners_of, tree_after}
-use Rattle.fk_group_rounds.specs.Rounds.{EndsGroup}
-use Rattle.fk_group_rounds.specs.Rest.{HasNoGroup}
-use Rattle.fk_group_rounds.proofs.Rest.{known_rounds_keep_groups}
-use Rattle.fk_group_runs.specs.Beside.{AreInOrder, IsBeside}
-use Rattle.fk_group_runs.specs.Results.{Makes}
+use Rattle.fk_group_rounds.specs.After.{runners_of}
 use Rattle.fk_group_runs.specs.Machines.{GoesWith, GoesToStart, GoesOn, Unites, Starts}
-use Rattle.fk_group_runs.specs.Rest.{HaveOneHeader, IsReadyForGroup}
-use Rattle.fk_group_runs.proofs.Rest.{cycles_stay_ready, starts_stay_ready}
-use Rattle.fk_group_facts.specs.Reached.{IsReached}
+use Rattle.fk_group_facts.specs.Reached.{IsReached, RunsReach}
 use Rattle.fk_group_facts.specs.Facts.{spaces_of}
 use Rattle.fk_group_facts.specs.Behind.{IsRoundOf, AreReached}
-use Rattle.fk_group_facts.proofs.Known.{reached_rounds_are_known}
+use Rattle.fk_group_facts.specs.Ready.{IsReady}
 use Rattle.fk_group_facts.proofs.Begins.{reached_beginners_land_at_one_index, reached_waiters_resume}
 use Rattle.fk_group_facts.proofs.Behind.{reached_rounds_go_on}
 use Rattle.fk_group_facts.proofs.Stages.{reached_stages_go_on}
+use Rattle.fk_group_facts.proofs.Ready.{reached_cycles_stay_ready, reached_starts_find_headers}
 use Rattle.fk_group_simulation.specs.Pace.{AreInTime}
 use Rattle.fk_group_simulation.specs.Runs.{StandsBeside, IsRound, GoesFurther, AlwaysGoesFurther, places_in, IsBehind}
 use Rattle.fk_group_simulation.proofs.Induction.{run_then, single_then, counts_single}
@@ -56,54 +42,31 @@ no_fault x fault e = by fault (and_parts x (is_none fault) e).1
     by None e = refl
     by (Some f) e = absurd (cc)
 
-module _ (core : List CoreOp) (main : ℕ) (firsts : List ℕ) (places : Places) (nestings : Nestings) (cycles : Cycles) (image : Image) (carries : CarriesGroups core main firsts places nestings cycles image)
+module _ (runs_reach : RunsReach) (core : List CoreOp) (main : ℕ) (firsts : List ℕ) (places : Places) (nestings : Nestings) (cycles : Cycles) (image : Image) (carries : CarriesGroups core main firsts places nestings cycles image)
     (input : List ℕ) (p : ℕ) (is_input : IsInput image input) (some : 1 ≤ p) (few : p ≤ 1024) where
   abbrev setting : Setting
-  setting = reaching.setting core main firsts places nestings cycles image carries input p is_input some few
+  setting = reaching.setting runs_reach core main firsts places nestings cycles image carries input p is_input some few
 
   abbrev first : State Position
-  first = reaching.first core main firsts places nestings cycles image carries input p is_input some few
+  first = reaching.first runs_reach core main firsts places nestings cycles image carries input p is_input some few
 
   abbrev state : Schedule → State Position
-  state schedule = reaching.state core main firsts places nestings cycles image carries input p is_input some few schedule
+  state schedule = reaching.state runs_reach core main firsts places nestings cycles image carries input p is_input some few schedule
 
   abbrev spaces : ℕ → Space
-  spaces = spaces_of (reaching.setting core main firsts places nestings cycles image carries input p is_input some few)
-
-  -- ---- the words of the group to come
-
-  one_header : HaveOneHeader spaces (first_of spaces 1)
-  one_header = record { same = same; within = let room = is_input.room in omega (arith, room) }
-    where
-      same : (g : ℕ) → g ≢ 0 → first_of spaces g ≡ first_of spaces 1
-      same zero ne = absurd (ne refl)
-      same (suc g) ne = refl
-
-  no_group : (s : State Position) (alone : Bool) → IsReached core setting s → trees.kind s.tree 0 ≡ Some (Asynchronous alone) → HasNoGroup s.tree
-  no_group s alone is kind =
-      ⊎_elim (λ none. none.none) (λ one. absurd (let clash : Some (Asynchronous alone) ≡ Some (Waiting one.0 1) = sym kind ∙ one.1.root in cc)) is.one_group.tree
-
-  -- in a round that is possible a group that is there stays, or ends
-  keeps : (s : State Position) (stages : List Stage) (ps : List Owner) (shared : Commons) → IsReached core setting s → AreInOrder 0 s.runners → IsBeside core s ps shared
-      → is_possible (next core) setting (counts_for stages) s ≡ true → (did : List Doing) (shared' : Commons)
-      → AllPass (core_source core setting) (counts_for stages) ps shared did shared' → EndsGroup s.tree did ⊎ (HasNoGroup (tree_after s.tree did) → HasNoGroup s.tree)
-  keeps s stages ps shared is order beside possible did shared' passes =
-      ⊎_elim (λ known. known_rounds_keep_groups s.tree did known) (λ begins. inr (λ none. no_group s false is begins.kind))
-      (reached_rounds_are_known core nestings main setting stages s ps did shared shared' carries.one_group is order beside possible passes)
+  spaces = spaces_of (reaching.setting runs_reach core main firsts places nestings cycles image carries input p is_input some few)
 
   -- ---- one cycle
 
   module _ (s : State Position) (nodes : List ℕ) (printed : List ℕ) (stages : List Stage) (m : Machine) (are : AreReached core setting s stages) (running : is_running m.stand ≡ true) where
     ready_behind : GoesWith core image places nestings setting spaces s nodes printed stages m → is_possible (next core) setting (counts_for stages) s ≡ true
-        → IsReadyForGroup s.tree (first_of spaces 1) m.shared.control
-        → IsReadyForGroup (result (next core) setting (counts_for stages) s).tree (first_of spaces 1) (cycle m).shared.control
+        → IsReady setting s.tree m.shared.control → IsReady setting (result (next core) setting (counts_for stages) s).tree (cycle m).shared.control
     ready_behind with possible ready =
         let f = with.followed in
-        cycles_stay_ready core image places nestings cycles firsts main setting spaces s nodes printed stages m (first_of spaces 1) carries.blocks carries.one_group.jumps
-        (few_harts setting nodes m f.ps few f.before.as_many f.before.many) running with possible one_header
-        (keeps s stages f.ps f.shared are.before f.order f.beside possible) ready
+        reached_cycles_stay_ready core image places nestings cycles firsts main setting s nodes printed stages m carries.blocks carries.one_group are.before is_input.room
+        (few_harts setting nodes m f.ps few f.before.as_many f.before.many) running with possible ready
 
-    goes_on : GoesWith core image places nestings setting spaces s nodes printed stages m → AreInTime stages → IsReadyForGroup s.tree (first_of spaces 1) m.shared.control
+    goes_on : GoesWith core image places nestings setting spaces s nodes printed stages m → AreInTime stages → IsReady setting s.tree m.shared.control
         → GoesOn core image places nestings setting spaces s nodes printed stages m → GoesFurther core image places nestings setting spaces false s nodes printed stages m
     goes_on with in_time ready r =
         let f = with.followed in
@@ -122,7 +85,7 @@ module _ (core : List CoreOp) (main : ℕ) (firsts : List ℕ) (places : Places)
         } in
         orderly_rounds_go_further core image places nestings setting spaces s nodes printed stages m r running with in_time go.0 behind
 
-    unites : GoesWith core image places nestings setting spaces s nodes printed stages m → IsReadyForGroup s.tree (first_of spaces 1) m.shared.control
+    unites : GoesWith core image places nestings setting spaces s nodes printed stages m → IsReady setting s.tree m.shared.control
         → Unites core image places nestings setting spaces s nodes printed stages m → GoesFurther core image places nestings setting spaces false s nodes printed stages m
     unites with ready r =
         let f = with.followed in
@@ -131,15 +94,14 @@ module _ (core : List CoreOp) (main : ℕ) (firsts : List ℕ) (places : Places)
         let land = reached_beginners_land_at_one_index core setting s are.before (λ h q at. begins_at core s.runners h q begin at) in
         unions_go_further core image places nestings setting spaces s nodes printed stages m land.0 r running with few land.1 (ready_behind with possible ready)
 
-    starts : GoesToStart core image places nestings setting spaces s nodes printed stages m → IsReadyForGroup s.tree (first_of spaces 1) m.shared.control
+    starts : GoesToStart core image places nestings setting spaces s nodes printed stages m → IsReady setting s.tree m.shared.control
         → Starts core image places nestings setting spaces s nodes printed stages m → GoesFurther core image places nestings setting spaces true s nodes printed stages m
     starts to ready r =
         let f = to.followed in
         let before = f.before in
         let possible = subst (λ x. is_possible (next core) setting x s ≡ true) r.round r.possible in
-        let none = no_group s before.alone are.before before.kind in
-        let rest = starts_stay_ready core image places nestings setting spaces s nodes printed stages m (first_of spaces 1) carries.one_group.jumps
-        (few_harts setting nodes m f.ps few before.as_many before.many) running to possible one_header none ready in
+        let found = reached_starts_find_headers core image places nestings main setting s nodes printed stages m carries.one_group are.before is_input.room
+        (few_harts setting nodes m f.ps few before.as_many before.many) running to possible ready in
         let round : IsRoundOf core setting s stages r.did
         = record { ps = r.makes.ps; shared = r.makes.shared; shared' = r.makes.store; order = r.makes.order; beside = r.makes.beside; possible = possible; passes = r.makes.passes } in
         let had = had_next core carries.one_group.jumps f.i f.op f.stands nodes m.harts stages f.ps s.runners r.afters f.bound.stages_as_many before.as_many r.makes.stay f.about f.beside.runners in
@@ -150,11 +112,9 @@ module _ (core : List CoreOp) (main : ℕ) (firsts : List ℕ) (places : Places)
           tree = go.tree;
           ahead = go.ahead;
           groups = go.groups (places_in tree 0 setting.processors) (stand_in tree 0 setting.processors) (many_in tree 0 setting.processors);
-          ready = λ empty. rest;
+          ready = found.1;
         } in
-        let given = some-given setting.processors s.tree before.sound 0 (root_some setting.processors s.tree before.sound) in
-        let same = one_header.same s.tree.given (λ e. omega (arith, given, e)) in
-        starts_go_further core image places nestings setting spaces s nodes printed stages m r running to few behind (subst (λ w. IsAtRest w (cycle m).shared.control) (sym same) rest) refl
+        starts_go_further core image places nestings setting spaces s nodes printed stages m r running to few behind found.0.rest found.0.low
 
     further : (uniting : Bool) → StandsBeside core image places nestings setting spaces uniting s nodes printed stages m → IsRound core image places nestings setting spaces uniting s nodes printed stages m
         → GoesFurther core image places nestings setting spaces uniting s nodes printed stages m
@@ -179,12 +139,12 @@ module _ (core : List CoreOp) (main : ℕ) (firsts : List ℕ) (places : Places)
       let then = run_then core setting schedule round first in
       let none' : (state schedule').fault ≡ None
       = ap (λ u. u.fault) then ∙ no_fault (is_none s.fault && is_allowed (next core) setting round s) (result (next core) setting round s).fault possible in
+      let after = subst (IsReached core setting) then
+      (reaching.reached runs_reach core main firsts places nestings cycles image carries input p is_input some few schedule' lawful' (single_then core setting schedule round single (counts_single stages)) none') in
       record {
-        before = reaching.reached core main firsts places nestings cycles image carries input p is_input some few schedule lawful single none;
-        after = subst (IsReached core setting) then
-            (reaching.reached core main firsts places nestings cycles image carries input p is_input some few schedule' lawful' (single_then core setting schedule round single (counts_single stages)) none');
-        small = λ h r at.
-            reaching.in_range core main firsts places nestings cycles image carries input p is_input some few schedule' h r (ap (λ u. slice_get u.runners h) then ∙ at);
+        before = reaching.reached runs_reach core main firsts places nestings cycles image carries input p is_input some few schedule lawful single none;
+        after = after;
+        small = after.in_range;
       }
 
   going : (uniting : Bool) (s : State Position) (nodes : List ℕ) (printed : List ℕ) (stages : List Stage) (m : Machine) → StandsBeside core image places nestings setting spaces uniting s nodes printed stages m
@@ -196,16 +156,16 @@ module _ (core : List CoreOp) (main : ℕ) (firsts : List ℕ) (places : Places)
   always = record {
     waits = λ schedule lawful single none h group parts r step kind at next_is.
         reached_waiters_resume core setting (state schedule) h group parts r step
-        (reaching.reached core main firsts places nestings cycles image carries input p is_input some few schedule lawful single none) kind at next_is;
+        (reaching.reached runs_reach core main firsts places nestings cycles image carries input p is_input some few schedule lawful single none) kind at next_is;
     further = λ schedule uniting nodes printed stages m lawful single stands running r lawful'.
         let s = state schedule in
         further s nodes printed stages m
         (are_reached schedule stages lawful single (going uniting s nodes printed stages m stands) (possible_of uniting s nodes printed stages m r) lawful') running uniting stands r;
   }
 
-pub machines_follow_groups : MachinesFollowGroups
-machines_follow_groups core main firsts places nestings cycles image carries input p n is_input some few =
-    let setting = reaching.setting core main firsts places nestings cycles image carries input p is_input some few in
+pub machines_follow_groups : RunsReach → MachinesFollowGroups
+machines_follow_groups runs_reach core main firsts places nestings cycles image carries input p n is_input some few =
+    let setting = reaching.setting runs_reach core main firsts places nestings cycles image carries input p is_input some few in
     machines_follow_group_runs core image places nestings cycles firsts main (spaces_of setting) input p n carries.blocks carries.one_group.jumps few
-    (reaching.opens core main firsts places nestings cycles image carries input p is_input some few)
-    (always core main firsts places nestings cycles image carries input p is_input some few)
+    (reaching.opens runs_reach core main firsts places nestings cycles image carries input p is_input some few)
+    (always runs_reach core main firsts places nestings cycles image carries input p is_input some few)

@@ -4,7 +4,6 @@ use Rattle.fk_core.specs.declared.op.CoreOp.{CoreOp}
 use Rattle.fk_core.specs.Next.{next, opening}
 use Rattle.fk_image.specs.declared.Image.{Image}
 use Rattle.fk_block_law.specs.Stands.{Places}
-use Rattle.fk_simulation.specs.InRange.{AllotsNothing}
 use Rattle.fk_simulation.specs.Follows.{IsInput, Follows}
 use Rattle.fk_group_law.specs.Node.{Nestings}
 use Rattle.fk_group_law.specs.Law.{Cycles, GroupLaw}
@@ -13,7 +12,6 @@ use Rattle.fk_group_facts.specs.Lists.{IsOfOneGroup}
 -- an image has the blocks of such a list, and these words at first
 pub record CarriesGroups (core : List CoreOp) (main : ℕ) (firsts : List ℕ) (places : Places) (nestings : Nestings) (cycles : Cycles) (image : Image) : Type 0 where
   pub one_group : IsOfOneGroup core nestings main
-  pub allots : AllotsNothing core
   pub blocks : GroupLaw core image places nestings cycles firsts main
   pub firsts_are_words : All (λ w. w < 2 ^ 32) firsts
   pub globals_are_words : All (λ w. w < 2 ^ 32) image.globals.items

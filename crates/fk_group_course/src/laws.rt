@@ -9,4 +9,6 @@ ghost use Rattle.fk_group_course.specs.Follow.{MachinesFollowGroups};
 /// So it is for every input, 1 to 1,024 harts and every number of cycles.
 pub fn machines_follow_groups()
     ensures { MachinesFollowGroups }
-{}
+{
+    fk_group_facts::laws::runs_reach();
+}
