@@ -1,5 +1,5 @@
 -- As long as there is no group, nobody is at the words of the one to come.
-use Rattle.std.proofs.Common.{◌≡◌, ◌≢◌, ℕ, zero, suc, ◌+◌, ◌^◌, ◌<◌, List, length, Option, None, Some, Bool, true, false, cond, ◌&&◌, sym, ap, subst, ◌∙◌, refl, arith, ◌⊎◌, ⊎_elim}
+use Rattle.std.proofs.Common.{◌≡◌, ℕ, zero, suc, ◌+◌, ◌^◌, ◌<◌, List, length, Option, None, Some, Bool, true, false, cond, ◌&&◌, sym, ap, subst, ◌∙◌, refl, arith, ◌⊎◌, ⊎_elim}
 use Rattle.std.specs.Prelude.{is_none, is_some}
 use Rattle.std.proofs.lemmas.Bool.{and_parts, false≢true}
 use Rattle.fk_num.specs.Word.{Memory}
