@@ -10,5 +10,7 @@ pub mod Groups
 pub mod Reached
 -- rounds
 pub mod Known
+-- the words of the group to come
+pub mod Ready
 -- a list that is as is asked
 mod Example

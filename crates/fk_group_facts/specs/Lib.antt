@@ -1,3 +1,4 @@
 pub mod Lists
 pub mod Reached
 pub mod Facts
+pub mod Ready

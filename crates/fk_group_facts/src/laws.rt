@@ -2,6 +2,7 @@
 
 ghost use Rattle.fk_group_facts.specs.Reached.{RunsReach};
 ghost use Rattle.fk_group_facts.specs.Facts.{ReachedTreesHaveSpaces, ReachedProcessorsHaveNext, ReachedGroupsHaveNext, ReachedRoundsAreKnown};
+ghost use Rattle.fk_group_facts.specs.Ready.{ReachedCyclesStayReady, ReachedStartsFindHeaders};
 
 /// After every lawful schedule in whose rounds each processor does one operation at most it is known of each processor where it
 /// stands, that it is in the list or at its end, and that it may do its next operation.
@@ -29,4 +30,15 @@ pub fn reached_groups_have_next()
 /// it, or ends.
 pub fn reached_rounds_are_known()
     ensures { ReachedRoundsAreKnown }
+{}
+
+/// In a state without a group nobody is at the words of the one to come, which begin with the group space: a cycle of a machine that
+/// follows such a state leaves the next state so.
+pub fn reached_cycles_stay_ready()
+    ensures { ReachedCyclesStayReady }
+{}
+
+/// Where all have met at the beginning of `start`, the group that is to begin finds its words at 0, and has all of the group space.
+pub fn reached_starts_find_headers()
+    ensures { ReachedStartsFindHeaders }
 {}
