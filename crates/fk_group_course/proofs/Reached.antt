@@ -24,13 +24,15 @@ use Rattle.fk_group_simulation.specs.Opening.{OpensWith}
 use Rattle.fk_group_simulation.proofs.Opening.{openings_are_followed}
 use Rattle.fk_group_course.specs.Follow.{CarriesGroups}
 
-beginner_at : (set : Setting) (firsts : Memory) (left : Position) (h count i : ℕ) → i < count
-    → slice_get (beginners set firsts left h count) i ≡ Some (let r : Runner Position = record { left = left; has = first_processor set firsts (h + i) } in r)
+-- a processor before the first round
+abbrev first_runner : Setting → (firsts : Memory) → (left : Position) → (number : ℕ) → Runner Position
+first_runner set firsts left number = record { left = left; has = first_processor set firsts number }
+
+beginner_at : (set : Setting) (firsts : Memory) (left : Position) (h count i : ℕ) → i < count → slice_get (beginners set firsts left h count) i ≡ Some (first_runner set firsts left (h + i))
 beginner_at set firsts left h zero i lt = absurd (omega (arith, lt))
-beginner_at set firsts left h (suc count) zero lt =
-    ap (λ k. Some (let r : Runner Position = record { left = left; has = first_processor set firsts k } in r)) (omega arith)
+beginner_at set firsts left h (suc count) zero lt = ap (λ k. Some (first_runner set firsts left k)) (omega arith)
 beginner_at set firsts left h (suc count) (suc i) lt =
-    beginner_at set firsts left (suc h) count i (omega (arith, lt)) ∙ ap (λ k. Some (let r : Runner Position = record { left = left; has = first_processor set firsts k } in r)) (omega arith)
+    beginner_at set firsts left (suc h) count i (omega (arith, lt)) ∙ ap (λ k. Some (first_runner set firsts left k)) (omega arith)
 
 module _ (runs_reach : RunsReach) (core : List CoreOp) (main : ℕ) (firsts : List ℕ) (places : Places) (nestings : Nestings) (cycles : Cycles) (image : Image) (carries : CarriesGroups core main firsts places nestings cycles image)
     (input : List ℕ) (p : ℕ) (is_input : IsInput image input) (some : 1 ≤ p) (few : p ≤ 1024) where
@@ -56,8 +58,10 @@ module _ (runs_reach : RunsReach) (core : List CoreOp) (main : ℕ) (firsts : Li
 
   begins_at : (number : ℕ) → number < p → HasNext core nestings setting (root p) number (landed core (beginner setting (slice_index firsts) main number))
   begins_at number lt =
-      let r : Runner Position = record { left = position main []; has = first_processor setting (slice_index firsts) number } in
-      let at : slice_get first.runners number ≡ Some r = beginner_at setting (slice_index firsts) (position main []) 0 p number lt in
+      let r = first_runner setting (slice_index firsts) (position main []) number in
+      let none : 0 + number ≡ number = omega arith in
+      let at : slice_get first.runners number ≡ Some r
+      = beginner_at setting (slice_index firsts) (position main []) 0 p number lt ∙ ap (λ k. Some (first_runner setting (slice_index firsts) (position main []) k)) none in
       let within = carries.one_group.begins in
       reached_processors_have_next core nestings main setting first number r (λ i. 0) carries.one_group (reached [] nothing_yet tt refl) at
       (λ e. let same : main ≡ length core = ap (λ w. w.at) e in omega (arith, within, same))
