@@ -1,50 +1,22 @@
--- Who unites with all others is about to begin the group of `start`.
-use Rattle.std.proofs.Common.{◌≡◌, ◌≢◌, ℕ, zero, suc, List, [], ◌∷◌, Option, Some, None, Bool, true, false, sym, ap, subst, ◌∙◌, refl}
-use Rattle.std.specs.Prelude.{map, slice_get}
+-- Who leave the word where all processors meet are about to begin the group of `start`.
+use Rattle.std.proofs.Common.{◌≡◌, ℕ, zero, suc, List, [], ◌∷◌, Some, sym, ap, subst, ◌∙◌, refl}
+use Rattle.std.specs.Prelude.{map, slice_get, true}
 use Rattle.fk_space.specs.Space.{Space}
 use Rattle.fk_tree.specs.Tree.{Tree}
-use Rattle.fk_operation.specs.Kinds.{joint_of}
-use Rattle.fk_operation.specs.declared.operation.Operation.{Operation}
-use Rattle.fk_operation.specs.declared.operation.Operation.TheVariants.{Begin, Meet, Resume}
-use Rattle.fk_operation.specs.declared.kinds.Joint.{Joint}
-use Rattle.fk_operation.specs.declared.kinds.Joint.TheVariants.{Alone, Starting, AtBarrier, Closing, Resuming}
-use Rattle.fk_run.specs.Round.{Step, Runner}
+use Rattle.fk_run.specs.Round.{Runner}
 use Rattle.fk_core.specs.declared.op.CoreOp.{CoreOp}
-use Rattle.fk_core.specs.Next.{Position, position, landing, next}
-use Rattle.fk_machine.specs.Hart.{Hart}
-use Rattle.fk_nodes.specs.Node.{AreAsMany}
-use Rattle.fk_meeting.specs.Phase.{Phase, Leaving}
-use Rattle.fk_plans.specs.Stage.{Ending, Commits, Unites, Stage, Meets, Pairwise, Remains}
-use Rattle.fk_block_law.specs.Owner.{Owner}
-use Rattle.fk_block_law.specs.Next.{StandsOp}
-use Rattle.fk_block_law.proofs.Standing.{next_here}
+use Rattle.fk_core.specs.Next.{Position, next}
+use Rattle.fk_meeting.specs.Phase.{Leaving}
+use Rattle.fk_plans.specs.Stage.{Stage}
 use Rattle.fk_group_plans.specs.Uniting.{unites_now}
-use Rattle.fk_group_plans.specs.Rounds.{ending_of, IsDueAt, AllDue}
-use Rattle.fk_group_rounds.specs.Next.{JumpsLead, AllAbout}
-use Rattle.fk_group_rounds.specs.After.{runners_of}
+use Rattle.fk_group_plans.specs.Rounds.{IsDueAt, AllDue}
+use Rattle.fk_group_rounds.specs.Next.{JumpsLead}
 use Rattle.fk_group_rounds.specs.Unite.{AllUnite}
+use Rattle.fk_group_rounds.proofs.Unite.{unites_is}
 use Rattle.fk_group_runs.specs.Beside.{landed_runner}
 use Rattle.fk_group_runs.proofs.Landed.{next_landed}
 use Rattle.fk_group_facts.specs.Begins.{Begins}
-use Rattle.fk_group_facts.specs.Behind.{HadNext}
-
-starting : (j : Joint) → Unites ≡ ending_of j → j ≡ Starting
-starting Starting e = refl
-starting Alone e = absurd (cc)
-starting AtBarrier e = absurd (cc)
-starting Closing e = absurd (cc)
-starting Resuming e = absurd (cc)
-
-begin_is : (operation : Operation) → joint_of operation ≡ Starting → operation ≡ Begin
-begin_is Begin e = refl
-begin_is (Meet false) e = absurd (cc)
-begin_is (Meet true) e = absurd (cc)
-begin_is Resume e = absurd (cc)
-begin_is operation e = absurd (cc)
-
-unites_is : (s : Stage) → unites_now s ≡ true → (w : ℕ) × (s ≡ Meets Unites w (Leaving 0))
-unites_is (Meets Unites w (Leaving zero)) is = (w, refl)
-unites_is s is = absurd (cc)
+use Rattle.fk_group_facts.proofs.Begins.{uniters_begin}
 
 module _ (core : List CoreOp) where
   abbrev pub AllBegin : List (Runner Position) → Type 0
@@ -55,11 +27,8 @@ module _ (core : List CoreOp) where
     begins : (g : ℕ) (s : Stage) (r q : Runner Position) → unites_now s ≡ true → IsDueAt core tree spaces g s q → q ≡ landed_runner core r → Begins core r
     begins g s r q is due same =
         let u = unites_is s is in
-        let meets = (subst (λ x. IsDueAt core tree spaces g x q) u.1 due).1 in (
-          meets.step,
-          sym (next_landed core leads r.left) ∙ ap (λ x. next core x.left) (sym same) ∙ meets.next_is,
-          begin_is meets.step.operation (meets.joint ∙ starting _ meets.ends),
-        )
+        let b = uniters_begin core tree spaces g u.0 (Leaving 0) q (subst (λ x. IsDueAt core tree spaces g x q) u.1 due) in
+        (b.0, sym (next_landed core leads r.left) ∙ ap (λ x. next core x.left) (sym same) ∙ b.1, b.2)
 
     pub all_begin : (number : ℕ) (stages : List Stage) (rs qs : List (Runner Position)) → AllUnite stages → AllDue core tree spaces number stages qs → qs ≡ map (landed_runner core) rs → AllBegin rs
     all_begin number stages [] qs all due same = tt
@@ -74,22 +43,3 @@ module _ (core : List CoreOp) where
   begins_at [] h r all at = absurd (cc)
   begins_at (x ∷ rs) zero r all at = let same : x ≡ r = cc in subst (Begins core) same all.0
   begins_at (x ∷ rs) (suc h) r all at = begins_at rs h r all.1 at
-
-  -- who is at the beginning has something left to do
-  module _ (leads : JumpsLead core) (i : ℕ) (op : CoreOp) (stands : StandsOp core i op Begin) where
-    next_is : (r : Runner Position) (p : Owner) → p.runner.left.at ≡ i → p.runner ≡ landed_runner core r → next core r.left ≢ None
-    next_is r p at same none =
-        let here : landing core r.left.at ≡ i = ap (λ x. x.left.at) (sym same) ∙ at in
-        let ahead = sym (next_landed core leads r.left) ∙ ap (λ k. next core (position k r.left.callers)) here ∙ next_here core i op Begin r.left.callers stands in
-        cc
-
-    pub had_next : (ns : List ℕ) (hs : List Hart) (stages : List Stage) (ps : List Owner) (rs : List (Runner Position)) (afters : List (Option Stage)) → AreAsMany ns hs stages → AreAsMany ns hs ps
-        → Pairwise Remains stages afters → AllAbout i op Begin ps → runners_of ps ≡ map (landed_runner core) rs → HadNext core afters rs
-    had_next [] [] [] [] [] [] as_stages as_ps stay about same = tt
-    had_next (n ∷ ns) (h ∷ hs) (s ∷ stages) (p ∷ ps) (r ∷ rs) (a ∷ afters) as_stages as_ps stay about same =
-        let first : p.runner ≡ landed_runner core r = cc in
-        let others : runners_of ps ≡ map (landed_runner core) rs = cc in
-        (λ gone. next_is r p about.0 first, had_next ns hs stages ps rs afters as_stages as_ps stay.1 about.2 others)
-    had_next [] [] [] [] (r ∷ rs) afters as_stages as_ps stay about same = absurd (cc)
-    had_next (n ∷ ns) (h ∷ hs) (s ∷ stages) (p ∷ ps) [] afters as_stages as_ps stay about same = absurd (cc)
-    had_next ns hs stages ps rs afters as_stages as_ps stay about same = absurd (assumption (as_stages, as_ps, stay))

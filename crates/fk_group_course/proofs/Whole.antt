@@ -18,6 +18,7 @@ use Rattle.fk_group_law.specs.Node.{Nestings}
 use Rattle.fk_group_law.specs.Law.{Cycles}
 use Rattle.fk_group_plans.specs.Rounds.{AllDue}
 use Rattle.fk_group_rounds.specs.After.{runners_of}
+use Rattle.fk_group_rounds.proofs.Groups.{many_length}
 use Rattle.fk_group_runs.specs.Machines.{GoesWith, GoesToStart, GoesOn, Unites, Starts}
 use Rattle.fk_group_facts.specs.Reached.{IsReached, RunsReach}
 use Rattle.fk_group_facts.specs.Facts.{spaces_of}
@@ -25,14 +26,15 @@ use Rattle.fk_group_facts.specs.Behind.{IsRoundOf, AreReached}
 use Rattle.fk_group_facts.specs.Ready.{IsReady}
 use Rattle.fk_group_facts.proofs.Begins.{reached_beginners_land_at_one_index, reached_waiters_resume}
 use Rattle.fk_group_facts.proofs.Behind.{reached_rounds_go_on}
-use Rattle.fk_group_facts.proofs.Stages.{reached_stages_go_on}
+use Rattle.fk_group_facts.proofs.Stages.{united_had_next, reached_stages_go_on}
 use Rattle.fk_group_facts.proofs.Ready.{reached_cycles_stay_ready, reached_starts_find_headers}
 use Rattle.fk_group_simulation.specs.Pace.{AreInTime}
 use Rattle.fk_group_simulation.specs.Runs.{StandsBeside, IsRound, GoesFurther, AlwaysGoesFurther, places_in, IsBehind}
+use Rattle.fk_group_simulation.proofs.Turning.{stay_length}
 use Rattle.fk_group_simulation.proofs.Induction.{run_then, single_then, counts_single}
 use Rattle.fk_group_simulation.proofs.Runs.{few_harts, stand_in, many_in, machines_follow_group_runs, orderly_rounds_go_further, unions_go_further, starts_go_further}
 use Rattle.fk_group_course.specs.Follow.{CarriesGroups, MachinesFollowGroups}
-use Rattle.fk_group_course.proofs.Begin.{all_begin, begins_at, had_next}
+use Rattle.fk_group_course.proofs.Begin.{all_begin, begins_at}
 use Rattle.fk_group_course.proofs.Reached as reaching
 
 no_fault : (x : Bool) (fault : Option Fault) → (x && is_none fault) ≡ true → fault ≡ None
@@ -104,7 +106,11 @@ module _ (runs_reach : RunsReach) (core : List CoreOp) (main : ℕ) (firsts : Li
         (few_harts setting nodes m f.ps few before.as_many before.many) running to possible ready in
         let round : IsRoundOf core setting s stages r.did
         = record { ps = r.makes.ps; shared = r.makes.shared; shared' = r.makes.store; order = r.makes.order; beside = r.makes.beside; possible = possible; passes = r.makes.passes } in
-        let had = had_next core carries.one_group.jumps f.i f.op f.stands nodes m.harts stages f.ps s.runners r.afters f.bound.stages_as_many before.as_many r.makes.stay f.about f.beside.runners in
+        let kept = stay_length stages r.afters r.makes.stay in
+        let staged = (many_length nodes m.harts stages f.bound.stages_as_many).1 in
+        let many = before.many in
+        let runners = are.before.one_group.many in
+        let had = united_had_next core s f.ps f.shared f.i f.op r.afters carries.one_group.jumps f.beside f.stands f.about (omega (arith, kept, staged, many, runners)) in
         let go = reached_rounds_go_on core nestings main setting s stages r.afters r.did carries.one_group is_input.room few are round had in
         let tree = (result (next core) setting (counts_for stages) s).tree in
         let behind : IsBehind core nestings setting spaces s stages m r.did r.afters
@@ -144,7 +150,6 @@ module _ (runs_reach : RunsReach) (core : List CoreOp) (main : ℕ) (firsts : Li
       record {
         before = reaching.reached runs_reach core main firsts places nestings cycles image carries input p is_input some few schedule lawful single none;
         after = after;
-        small = after.in_range;
       }
 
   going : (uniting : Bool) (s : State Position) (nodes : List ℕ) (printed : List ℕ) (stages : List Stage) (m : Machine) → StandsBeside core image places nestings setting spaces uniting s nodes printed stages m

@@ -282,7 +282,7 @@ module _ (core : List CoreOp) (nestings : Nestings) (main : ℕ) (setting : Sett
       → HasNext core nestings setting last.tree h (landed core st.owner)
   has_next h st lt had d at more =
       let r = runner_by here st.mark in
-      let have = reached_processors_have_next core nestings main setting last h r st.owner.heap list reached.after st.after (is_going h st lt had d at more) (reached.small h r st.after) in
+      let have = reached_processors_have_next core nestings main setting last h r st.owner.heap list reached.after st.after (is_going h st lt had d at more) in
       subst (HasNext core nestings setting last.tree h)
       (landed_alike core list.jumps st.mark st.owner.heap ∙ ap (λ x. let q : Owner = record { runner = x; heap = st.owner.heap } in landed core q) (sym st.runs)) have
 
@@ -316,7 +316,7 @@ module _ (core : List CoreOp) (nestings : Nestings) (main : ℕ) (setting : Sett
     seats_run = sym (seated_runners last.runners owners (reached.after.one_group.many ∙ sym owners_many))
 
     have : HaveNext core nestings (of_node g nodes seats)
-    have = reached_groups_have_next core nestings main setting last nodes seats g list reached.after limit places few seats_run reached.small locked
+    have = reached_groups_have_next core nestings main setting last nodes seats g list reached.after limit places few seats_run locked
 
     same_landed : all_landed core (of_node g nodes seats) ≡ all_landed core (of_node g nodes owners)
     same_landed =

@@ -21,7 +21,7 @@ use Rattle.fk_one_group.specs.Placed.{where_at, HasLevels, IsPlaced}
 use Rattle.fk_one_group.proofs.Moves.{goes_on}
 use Rattle.fk_block_law.specs.Owner.{Owner}
 use Rattle.fk_block_law.specs.Next.{step_at}
-use Rattle.fk_block_law.specs.Ready.{is_no_step, MayDo, IsInRange, IsReady}
+use Rattle.fk_block_law.specs.Ready.{is_no_step, MayDo, IsReady}
 use Rattle.fk_group_law.specs.Node.{Nestings}
 use Rattle.fk_group_law.specs.Lockstep.{NoneSaved}
 use Rattle.fk_group_law.specs.Joint.{word_of}
@@ -92,7 +92,7 @@ module _ (core : List CoreOp) (nestings : Nestings) (main : ℕ) (setting : Sett
   pub leads_to : (h : ℕ) (r : Runner Position) → slice_get s.runners h ≡ Some r → r.left ≢ the_end core → Leading core r.left
   leads_to h r at going = ⊎_elim (λ w. leading core list.well_formed.leads_on r.left w.at) (λ e. absurd (going e)) (is.within h r at)
 
-  module _ (h : ℕ) (r : Runner Position) (heap : Memory) (at : slice_get s.runners h ≡ Some r) (leads : Leading core r.left) (in_range : IsInRange r.has) where
+  module _ (h : ℕ) (r : Runner Position) (heap : Memory) (at : slice_get s.runners h ≡ Some r) (leads : Leading core r.left) where
     abbrev p : Owner
     p = record { runner = r; heap = heap }
 
@@ -109,7 +109,7 @@ module _ (core : List CoreOp) (nestings : Nestings) (main : ℕ) (setting : Sett
     ready = record {
       depth = is.depth h r leads.op at leads.at.stands;
       may = may_same operation r (landing core r.left.at) (is.may h r leads.op operation at leads.at.stands leads.at.is_read);
-      in_range = in_range;
+      in_range = is.in_range h r at;
     }
 
     has : Has s.tree g h
@@ -188,5 +188,5 @@ module _ (core : List CoreOp) (nestings : Nestings) (main : ℕ) (setting : Sett
         (λ step. by_place placed.place placed.there placed.levels step) does
 
 pub reached_processors_have_next : ReachedProcessorsHaveNext
-reached_processors_have_next core nestings main setting s h r heap list is at going in_range =
-    next_is core nestings main setting s list is h r heap at (leads_to core nestings main setting s list is h r at going) in_range
+reached_processors_have_next core nestings main setting s h r heap list is at going =
+    next_is core nestings main setting s list is h r heap at (leads_to core nestings main setting s list is h r at going)

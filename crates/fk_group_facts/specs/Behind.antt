@@ -1,5 +1,5 @@
 -- What is known behind a round of a machine, in the state that it leaves, as laws of machines that follow it ask it.
-use Rattle.std.specs.Prelude.{◌≡◌, ◌≢◌, ℕ, ◌≤◌, List, [], ◌∷◌, length, true, Option, Some, None, slice_get}
+use Rattle.std.specs.Prelude.{◌≡◌, ◌≢◌, ℕ, ◌≤◌, List, [], ◌∷◌, length, true, Option, Some, None}
 use Rattle.fk_space.specs.Space.{Space}
 use Rattle.fk_operation.specs.declared.operation.Operation.TheVariants.{Begin}
 use Rattle.fk_run.specs.Processor.{Setting}
@@ -10,7 +10,6 @@ use Rattle.fk_nodes.specs.Source.{AllPass}
 use Rattle.fk_plans.specs.Stage.{Stage, counts_for, Pairwise, Remains}
 use Rattle.fk_block_law.specs.Owner.{Commons, Owner, Doing, core_source}
 use Rattle.fk_block_law.specs.Next.{StandsOp}
-use Rattle.fk_block_law.specs.Ready.{IsInRange}
 use Rattle.fk_group_law.specs.Node.{Nestings}
 use Rattle.fk_group_plans.specs.Rounds.{AllDue}
 use Rattle.fk_group_rounds.specs.Next.{JumpsLead, AllAbout}
@@ -48,11 +47,10 @@ module _ (core : List CoreOp) (setting : Setting) (s : State Position) (stages :
     pub possible : is_possible (next core) setting (counts_for stages) s ≡ true
     pub passes : AllPass (core_source core setting) (counts_for stages) ps shared did shared'
 
-  -- both states are reached, and the one behind has small values
+  -- both states are reached
   pub record AreReached : Type 0 where
     pub before : IsReached core setting s
     pub after : IsReached core setting behind
-    pub small : (h : ℕ) (r : Runner Position) → slice_get behind.runners h ≡ Some r → IsInRange r.has
 
   -- its tree is sound, and its nodes own words apart; all who have committed go on, and so do groups all of which have committed
   pub record GoAhead (nestings : Nestings) (did : List Doing) (afters : List (Option Stage)) : Type 0 where

@@ -7,10 +7,12 @@ ghost use Rattle.fk_group_facts.specs.Facts.{ReachedTreesHaveSpaces, ReachedProc
 ghost use Rattle.fk_group_facts.specs.Ready.{ReachedCyclesStayReady, ReachedStartsFindHeaders};
 
 /// After every lawful schedule in whose rounds each processor does one operation at most it is known of each processor where it
-/// stands, that it is in the list or at its end, and that it may do its next operation.
+/// stands, that it is in the list or at its end, that it may do its next operation, and that its values and variables are words.
 pub fn runs_reach()
     ensures { RunsReach }
-{}
+{
+    fk_simulation::laws::lists_stay_in_range();
+}
 
 /// The tree of such a state is sound, and its nodes own words apart.
 pub fn reached_trees_have_spaces()

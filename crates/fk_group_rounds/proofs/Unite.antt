@@ -98,7 +98,7 @@ due_unites core tree spaces g w f r due =
       kind = ap (λ k. trees.kind tree k) (sym s.root) ∙ s.is;
     }
 
-unites_is : (s : Stage) → unites_now s ≡ true → (w : ℕ) × (s ≡ Meets Unites w (Leaving 0))
+pub unites_is : (s : Stage) → unites_now s ≡ true → (w : ℕ) × (s ≡ Meets Unites w (Leaving 0))
 unites_is (Meets Unites w (Leaving zero)) is = (w, refl)
 unites_is s is = absurd (cc)
 

@@ -88,7 +88,7 @@ acts_in_time d (Meets e w f) r few = absurd r.2
 acts_in_time zero (Acts d') r few = absurd (let one = r.0 in omega (arith, one))
 acts_in_time (suc d) (Acts d') r few = let near = r.1 in let e : d' ≡ d = cc in omega (arith, few, e)
 
-stay_length : (stages : List Stage) (afters : List (Option Stage)) → Pairwise Remains stages afters → length stages ≡ length afters
+pub stay_length : (stages : List Stage) (afters : List (Option Stage)) → Pairwise Remains stages afters → length stages ≡ length afters
 stay_length [] [] stay = refl
 stay_length (s ∷ stages) (a ∷ afters) stay = ap suc (stay_length stages afters stay.1)
 stay_length stages afters stay = absurd (assumption stay)
