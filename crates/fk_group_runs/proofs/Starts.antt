@@ -180,6 +180,7 @@ cycles_follow_starts core image places nestings cycles firsts main setting space
             did = whole.did;
             tree = e;
             afters = r.left.afters;
+            makes = record { ps = f.ps; shared = f.shared; store = whole.store; order = f.order; beside = f.beside; passes = parts; stay = r.left.stay };
             goes =
                 ⊎_elim
                 (λ x.
@@ -270,12 +271,12 @@ cycles_follow_starts core image places nestings cycles firsts main setting space
                   spaced = tree'.spaced;
                   stand = there;
                   many = many' ∙ f.before.many;
-                  as_many = b.bound.as_many;
+                  as_many = b.on.goes.bound.as_many;
                   landed = all_land core leads (owners_after s.tree new whole.did);
                   due = subst (λ x. AllDue core x spaces 0 b.stages' (runners_of ps')) (sym e) b.due;
                 } in (
                   b.stages',
-                  b.near,
+                  b.on.goes.near,
                   b.soon,
                   record {
                     ps = ps';
@@ -289,7 +290,7 @@ cycles_follow_starts core image places nestings cycles firsts main setting space
                         subst
                         (λ x.
                         IsBound source image (plan_of x spaces nodes') (blocks_of core image places nestings setting (plan_of x spaces nodes') (plans.first_of spaces)) (later t) b.stages' done.harts ps'
-                        (λ g. done.shared.control)) (sym e) b.bound;
+                        (λ g. done.shared.control)) (sym e) b.on.goes.bound;
                   },
                 )))
                 r.goes;

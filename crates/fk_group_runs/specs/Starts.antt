@@ -20,6 +20,7 @@ use Rattle.fk_group_rounds.specs.Next.{JumpsLead}
 use Rattle.fk_group_rounds.specs.After.{tree_after, owners_after, ArePlaces, GroupsGoOn, AllSoon}
 use Rattle.fk_group_rounds.specs.Rounds.{IsTree}
 use Rattle.fk_group_runs.specs.Homes.{AllNext}
+use Rattle.fk_group_runs.specs.Results.{Makes}
 use Rattle.fk_group_runs.specs.Union.{IsUnited}
 use Rattle.fk_group_runs.specs.Follow.{IsFollowed, FollowsFault}
 
@@ -53,6 +54,7 @@ module _ (core : List CoreOp) (image : Image) (places : Places) (nestings : Nest
     pub did : List Doing
     pub tree : next_state.tree ≡ tree_after s.tree did
     pub afters : List (Option Stage)
+    pub makes : Makes core setting stages s did afters
     pub goes : StillUnited ⊎ BeginGroup did afters
 
 abbrev pub CyclesFollowStarts : Type 0
