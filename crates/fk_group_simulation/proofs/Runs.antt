@@ -25,9 +25,11 @@ use Rattle.fk_block_law.specs.Next.{StandsOp}
 use Rattle.fk_block_law.proofs.Standing.{next_here}
 use Rattle.fk_group_law.specs.Node.{Nestings}
 use Rattle.fk_group_law.specs.Law.{Cycles, GroupLaw}
-use Rattle.fk_group_rounds.specs.Next.{JumpsLead, AllAbout}
+use Rattle.fk_group_plans.specs.Nodes.{first_of, plan_of}
+use Rattle.fk_group_plans.specs.Behind.{blocks_of}
+use Rattle.fk_group_rounds.specs.Next.{JumpsLead, all_landed, AllAbout}
 use Rattle.fk_group_rounds.specs.Comes.{most_between}
-use Rattle.fk_group_rounds.specs.After.{runners_of, ArePlaces}
+use Rattle.fk_group_rounds.specs.After.{runners_of, owners_after, ArePlaces}
 use Rattle.fk_group_rounds.proofs.Groups.{many_length}
 use Rattle.fk_group_runs.specs.Beside.{landed_runner, IsBeside}
 use Rattle.fk_group_runs.specs.Follow.{FollowsFault}
@@ -36,12 +38,16 @@ use Rattle.fk_group_runs.proofs.Follow.{cycles_follow_rounds}
 use Rattle.fk_group_runs.proofs.Starts.{cycles_follow_starts}
 use Rattle.fk_group_runs.proofs.Machines.{machines_follow_rounds, machines_follow_starts}
 use Rattle.fk_simulation.specs.Follows.{StandsAgree, Agrees}
-use Rattle.fk_group_simulation.specs.Pace.{AreInTime, Sight, ActsWithin}
-use Rattle.fk_group_simulation.specs.Able.{WhoWaitsResumes}
+use Rattle.fk_group_simulation.specs.Pace.{AreInTime, Sight, Turns, ActsWithin}
+use Rattle.fk_group_simulation.specs.Able.{WhoWaitsResumes, sight_of}
 use Rattle.fk_group_simulation.specs.Runs.{sight_in, GoesBeside, IsRound, AlwaysGoesFurther, MachinesFollowGroupRuns, places_in, tree_behind, OrderlyRoundsGoFurther}
-use Rattle.fk_group_simulation.proofs.Soon.{are_soon_in_time}
+use Rattle.fk_group_simulation.proofs.Soon.{are_soon_in_time, all_soon_in_time}
 use Rattle.fk_group_simulation.proofs.Able.{who_could_act_will, who_has_united_will}
+use Rattle.fk_group_simulation.proofs.Turning.{turns as turned, nobody_has_united}
 use Rattle.fk_group_simulation.proofs.Induction.{IsGoing, IsOver, IsBroken, IsWhole, follows_from}
+
+few_harts : (setting : Setting) (nodes : List ℕ) (m : Machine) (ps : List Owner) → setting.processors ≤ 1024 → AreAsMany nodes m.harts ps → length nodes ≡ setting.processors → length m.harts < 2 ^ 31
+few_harts setting nodes m ps few as_many many = let harts = (many_length nodes m.harts ps as_many).0 in omega (arith, many, harts, few)
 
 module _ (core : List CoreOp) (image : Image) (places : Places) (nestings : Nestings) (cycles : Cycles) (firsts : List ℕ) (main : ℕ) (setting : Setting) (spaces : ℕ → Space)
     (the_law : GroupLaw core image places nestings cycles firsts main) (leads : JumpsLead core) (few : setting.processors ≤ 1024) where
@@ -120,9 +126,6 @@ module _ (core : List CoreOp) (image : Image) (places : Places) (nestings : Nest
       let step : after_turns m (turns_of m) ≡ cycle m = ap (λ b. cond b (after_turns m (turns_of m)) m) (sym running) in
       not_faulted (all_ended (turns_of m).harts) site place (sym (ap (λ stop. stand_after stop (turns_of m).harts) going) ∙ ap (λ n. n.stand) step ∙ stand)
 
-  few_harts : (nodes : List ℕ) (m : Machine) (ps : List Owner) → AreAsMany nodes m.harts ps → length nodes ≡ setting.processors → length m.harts < 2 ^ 31
-  few_harts nodes m ps as_many many = let harts = (many_length nodes m.harts ps as_many).0 in omega (arith, many, harts, few)
-
   -- a cycle is a possible round, or a stopped one
   cycle_is : (uniting : Bool) (s : State Position) (nodes : List ℕ) (printed : List ℕ) (stages : List Stage) (m : Machine) → GoesBeside core image places nestings setting spaces uniting s nodes printed stages m
       → is_running m.stand ≡ true
@@ -130,7 +133,7 @@ module _ (core : List CoreOp) (image : Image) (places : Places) (nestings : Nest
   cycle_is false s nodes printed stages m goes running =
       let f = goes.followed in
       let before = f.before in
-      let short = few_harts nodes m f.ps before.as_many before.many in
+      let short = few_harts setting nodes m f.ps few before.as_many before.many in
       ⊎_elim (λ on. inl (inl on))
       (λ other.
       ⊎_elim
@@ -144,7 +147,7 @@ module _ (core : List CoreOp) (image : Image) (places : Places) (nestings : Nest
   cycle_is true s nodes printed stages m goes running =
       let f = goes.followed in
       let before = f.before in
-      let short = few_harts nodes m f.ps before.as_many before.many in
+      let short = few_harts setting nodes m f.ps few before.as_many before.many in
       ⊎_elim (λ starts. inl starts)
       (λ stops.
       ⊎_elim (λ whole. absurd (not_both m stops.site stops.place running whole.going stops.stand)) (λ fault. inr (breaks s nodes printed stages m running fault))
@@ -242,12 +245,29 @@ many_in tree number zero = refl
 many_in tree number (suc n) = ap suc (many_in tree (suc number) n)
 
 pub orderly_rounds_go_further : OrderlyRoundsGoFurther
-orderly_rounds_go_further core image places nestings setting spaces s nodes printed stages m r goes orderly =
+orderly_rounds_go_further core image places nestings setting spaces s nodes printed stages m r running in_time goes orderly =
     let tree = tree_behind core image places nestings setting spaces s nodes printed stages m r in
     let nodes' = places_in tree 0 setting.processors in
     let there = stand_in tree 0 setting.processors in
     let before = goes.followed.before in
     let many : length nodes' ≡ length nodes = many_in tree 0 setting.processors ∙ sym before.many in
     let x = r.again nodes' orderly.known orderly.tree there many orderly.ahead orderly.groups in
-    let timely = orderly.timely there many in
-    record { uniting' = false; nodes' = nodes'; stages' = x.0; goes = x.3; in_time = timely.0; turns = timely.1 }
+    let few = few_harts setting nodes m goes.followed.ps before.running.few before.as_many before.many in
+    let source = core_source core setting in
+    let plan = plan_of s.tree spaces nodes in
+    let plan' = plan_of tree spaces nodes' in
+    let blocks = blocks_of core image places nestings setting plan (first_of spaces) in
+    let blocks' = blocks_of core image places nestings setting plan' (first_of spaces) in
+    let t = machines.setting_of m in
+    let ps' = all_landed core (owners_after s.tree tree r.did) in
+    let y = turned source image plan blocks plan' blocks' t stages x.0 r.afters m.harts (cycle m).harts goes.followed.ps r.makes.ps ps' m.shared.control (cycle m).shared.control few refl goes.followed.bound
+    r.makes.stay x.4.changes x.4.goes (nobody_has_united stages r.nobody) in_time (all_soon_in_time r.afters x.0 x.2) in
+    let step : after_turns m (turns_of m) ≡ cycle m = ap (λ b. cond b (after_turns m (turns_of m)) m) (sym running) in
+    record {
+      uniting' = false;
+      nodes' = nodes';
+      stages' = x.0;
+      goes = x.3;
+      in_time = y.0;
+      turns = subst (λ k. Turns (sight_of s.tree spaces nodes stages m.shared.control m.begun) (sight_of tree spaces nodes' x.0 (cycle m).shared.control k)) (ap (λ n. n.begun) step) y.1;
+    }

@@ -1,5 +1,5 @@
 -- Machines of an image that has the law of blocks of groups follow core runs with groups.
-use Rattle.std.specs.Prelude.{◌≡◌, ℕ, zero, suc, ◌≤◌, List, [], ◌∷◌, ◌++◌, length, Bool, true, false, ◌⊎◌}
+use Rattle.std.specs.Prelude.{◌≡◌, ℕ, zero, suc, ◌≤◌, List, [], ◌∷◌, ◌++◌, Bool, true, false, ◌⊎◌}
 use Rattle.fk_num.specs.Word.{Memory}
 use Rattle.fk_space.specs.Space.{Space}
 use Rattle.fk_tree.specs.Tree.{Tree}
@@ -17,14 +17,14 @@ use Rattle.fk_group_law.specs.Node.{Nestings}
 use Rattle.fk_group_law.specs.Law.{Cycles, GroupLaw}
 use Rattle.fk_group_plans.specs.Nodes.{plan_of, united}
 use Rattle.fk_group_rounds.specs.Next.{JumpsLead}
-use Rattle.fk_group_rounds.specs.After.{owners_after, ArePlaces, GroupsGoOn}
+use Rattle.fk_group_rounds.specs.After.{owners_after, GroupsGoOn}
 use Rattle.fk_group_rounds.specs.Rounds.{IsTree, IsKnownRound}
 use Rattle.fk_group_runs.specs.Homes.{AllNext}
 use Rattle.fk_group_runs.specs.Machines.{GoesWith, GoesToStart, GoesOn, Unites, Starts}
 use Rattle.fk_simulation.specs.Follows.{Follows}
 use Rattle.fk_group_simulation.specs.Opening.{OpensWith}
 use Rattle.fk_group_simulation.specs.Pace.{AreInTime, Sight, Turns}
-use Rattle.fk_group_simulation.specs.Able.{WhoWaitsResumes, sight_of}
+use Rattle.fk_group_simulation.specs.Able.{WhoWaitsResumes}
 
 -- the plan that binds harts: that of the state's tree, or where all have met at the beginning of `start`, with the root in lockstep
 abbrev pub plan_in : (uniting : Bool) → Plan → Plan
@@ -94,17 +94,12 @@ module _ (core : List CoreOp) (image : Image) (places : Places) (nestings : Nest
     pub tree : IsTree setting tree_behind spaces
     pub ahead : AllNext core nestings setting tree_behind 0 r.afters r.did (owners_after s.tree tree_behind r.did)
     pub groups : GroupsGoOn core nestings tree_behind (places_in tree_behind 0 setting.processors) r.afters (owners_after s.tree tree_behind r.did)
-    -- harts are in time behind it, and those who meet have moved
-    pub timely : (there : ArePlaces tree_behind 0 (places_in tree_behind 0 setting.processors)) (many : length (places_in tree_behind 0 setting.processors) ≡ length nodes)
-        → AreInTime (r.again (places_in tree_behind 0 setting.processors) known tree there many ahead groups).0
-        × Turns (sight_of s.tree spaces nodes stages m.shared.control m.begun)
-        (sight_of tree_behind spaces (places_in tree_behind 0 setting.processors) (r.again (places_in tree_behind 0 setting.processors) known tree there many ahead groups).0 (cycle m).shared.control
-        (cycle m).begun)
 
--- then the machine goes further
+-- then the machine goes further, if its harts are in time
 abbrev pub OrderlyRoundsGoFurther : Type 0
 OrderlyRoundsGoFurther =
     (core : List CoreOp) (image : Image) (places : Places) (nestings : Nestings) (setting : Setting) (spaces : ℕ → Space) (s : State Position) (nodes : List ℕ) (printed : List ℕ)
     (stages : List Stage) (m : Machine) (r : GoesOn core image places nestings setting spaces s nodes printed stages m)
+    → is_running m.stand ≡ true → AreInTime stages
     → GoesWith core image places nestings setting spaces s nodes printed stages m → IsOrderly core image places nestings setting spaces s nodes printed stages m r
     → GoesFurther core image places nestings setting spaces false s nodes printed stages m

@@ -23,8 +23,8 @@ pub fn paces_are_kept()
     ensures { PacesAreKept }
 {}
 
-/// Where the tree changes behind a cycle as `fk_plans` asks, and all who have committed are at stages in time, so all are: who is at
-/// a distance from its commit is one cycle nearer, and those who meet at a word have moved.
+/// Where a plan goes on behind a cycle, and all who have committed are at stages in time, so all are: who is at a distance from its
+/// commit is one cycle nearer, and those who meet at a word have moved.
 pub fn plans_turn<S, P, D>()
     ensures { PlansTurn S P D }
 {}
@@ -47,7 +47,8 @@ pub fn machines_follow_group_runs()
     ensures { MachinesFollowGroupRuns }
 {}
 
-/// A cycle goes further where its round is a known one and its processors go on as is told (`IsOrderly`).
+/// A cycle goes further where its round is a known one, the tree behind it is sound, and its processors go on as is told
+/// (`IsOrderly`): then harts that were in time are so behind it, and those who meet have moved.
 pub fn orderly_rounds_go_further()
     ensures { OrderlyRoundsGoFurther }
 {}
