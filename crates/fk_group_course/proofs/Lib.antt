@@ -4,3 +4,5 @@ pub mod Begin
 pub mod Reached
 -- whole runs
 pub mod Whole
+-- images with the code of a list
+pub mod Generated
