@@ -13,7 +13,7 @@ use Rattle.fk_group_simulation.specs.Turning.{AreFreshInTime}
 soon_in_time : (s : Stage) → IsSoon s → IsInTime s
 soon_in_time Ended soon = tt
 soon_in_time (Acts d) soon = soon
-soon_in_time (Meets e w (Coming d)) soon = soon
+soon_in_time (Meets e w (Coming d)) soon = omega (arith, soon)
 soon_in_time (Meets e w f) soon = absurd (assumption soon)
 
 pub are_soon_in_time : (stages : List Stage) → AreSoon stages → AreInTime stages
