@@ -1,0 +1,9 @@
+//! Laws of code whose calls and frames are in order.
+
+ghost use Rattle.fk_framing.specs.Framed.{CodeIsFramed};
+
+/// Code in which groups alone take words of their space, and functions their frames in the openings of
+/// calls, takes them, and enters and leaves calls, in the group that it is in, whichever ways it goes.
+pub fn code_is_framed()
+    ensures { CodeIsFramed }
+{}
