@@ -75,11 +75,11 @@ is_in_place = record {
   noted = ((λ e. tt), ((λ e. (tt, tt)), ((λ e. untrue e), tt)));
   in_place = (
     (λ e. (refl, tt)),
-    (λ e. (refl, tt, (tt, refl))),
+    (λ e. (refl, tt, tt)),
     (λ e. untrue e),
     (
       (λ e. (refl, ((refl, tt), tt))),
-      (λ e. (refl, ((refl, tt), tt), (tt, refl))),
+      (λ e. (refl, ((refl, tt), tt), tt)),
       (λ e. untrue e),
       (
         (λ e. untrue e),

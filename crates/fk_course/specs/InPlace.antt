@@ -5,7 +5,7 @@ use Rattle.std.specs.Prelude.{◌≡◌, ℕ, ◌≤◌, ◌==◌, Bool, true, f
 use Rattle.fk_syntax.specs.Tree.{Named, Tree}
 use Rattle.fk_syntax.specs.Program as p
 use Rattle.fk_syntax.specs.Program.{DeclaredTree, Statement, Statements, FunctionTree, ProgramTree}
-use Rattle.fk_forms.specs.Tables.{Tables, note, frame_at}
+use Rattle.fk_forms.specs.Tables.{Tables, note}
 use Rattle.fk_forms.specs.Program.{functions_of, binding_of, signature_in, is_main, main_of}
 use Rattle.fk_run.specs.Processor.{Setting}
 use Rattle.fk_run.specs.Schedule.{Schedule, run, IsLawful}
@@ -81,20 +81,17 @@ module _ (tables : Tables) (may_call : (in_group : Bool) → (function : ℕ) �
   BodyInPlace main who None = Unit {0}
   BodyInPlace main who (Some statements) = StatementsInPlace main who statements
 
-  -- functions that processors by themselves call have no words in a group's frame
+  -- functions that processors by themselves call have no `sh` parameters
   abbrev pub NoneShared : List DeclaredTree → Type 0
   NoneShared [] = Unit {0}
   NoneShared (x ∷ xs) = (x.shared ≡ false) × NoneShared xs
-
-  abbrev pub IsFrameless : FunctionTree → Type 0
-  IsFrameless f = NoneShared f.parameters × (frame_at tables f.name.at 0 ≡ None)
 
   -- functions that may be called, none of which is `main`; and `main`
   abbrev pub FunctionsInPlace : (main : ℕ) → List FunctionTree → Type 0
   FunctionsInPlace main [] = Unit {0}
   FunctionsInPlace main (f ∷ fs) =
       (may_call true (binding_of tables f) ≡ true → (is_main f ≡ false) × BodyInPlace false OfGroup f.body)
-      × (may_call false (binding_of tables f) ≡ true → (is_main f ≡ false) × BodyInPlace false OfBody f.body × IsFrameless f)
+      × (may_call false (binding_of tables f) ≡ true → (is_main f ≡ false) × BodyInPlace false OfBody f.body × NoneShared f.parameters)
       × ((binding_of tables f == main) ≡ true → (is_main f ≡ true) × BodyInPlace true (OfMain true) f.body)
       × FunctionsInPlace main fs
 
