@@ -36,6 +36,7 @@ use Rattle.fk_lockstep.specs.Allots.{one_of, is_value_name, is_other_call, Allot
 abbrev pub is_plain : Operation → Bool
 is_plain o.Resume = false
 is_plain o.Block = false
+is_plain (o.Frame nesting words) = false
 is_plain op = is_inner op
 
 -- the splits of expressions
@@ -287,10 +288,6 @@ module _ {tables : Tables} {functions : (binding : ℕ) → Signature} {W : Type
   takes who (x ∷ xs) (e ∷ es) good rest p =
       let others = arguments tables functions xs es rest in
       value_is who e good.0 (agreed x.shared others) (agrees_or who x.shared others (takes who xs es good.1 rest p))
-
-  pub frames : (who : W) → (r : Option Region) (place : Place) (rest : Coded) → Ok who rest → Ok who (framed tables functions r place rest)
-  frames who None place rest p = p
-  frames who (Some r) place rest p = (on refl p)
 
   calls : (who : W) → (name : Named) (es : List Stands) → AllGood who es → Means who name → Good who (called tables functions name es)
   calls who name es good means k p =
