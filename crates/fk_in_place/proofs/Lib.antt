@@ -6,3 +6,5 @@ pub mod Statements
 pub mod Returning
 pub mod NoForks
 pub mod Programs
+pub mod Frames
+pub mod Spaces

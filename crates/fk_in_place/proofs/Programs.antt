@@ -168,7 +168,7 @@ module _ (program : ProgramTree) (facts : Facts) (valid : IsValid program facts)
     fine_pieces ps u.1 (rest_of (Refers program facts valid functions) (piece_references x) (pieces_references ps) c),
   )
 
-  fine : Each IsFine fs
+  pub fine : Each IsFine fs
   fine = all_fine program.items (λ j x is. (j, is)) (all_right program facts valid) (λ thing. all_ours program facts valid thing)
       (each (Stands program facts valid functions) (outline program) (λ i x is. (i, is)))
       (fine_pieces (pieces program) (unbroken_pieces program facts (correct program facts valid))
@@ -219,7 +219,7 @@ module _ (program : ProgramTree) (facts : Facts) (valid : IsValid program facts)
   number_of : (f : FunctionTree) (k : IsFine f) → slice_get (declarations program) (binding_of (tables program facts valid) f) ≡ Some (n.Header f)
   number_of f k = function_number program facts (correct program facts valid) k.index f k.there (ap is_some k.has)
 
-  called : (in_group : Bool) (f : FunctionTree) (k : IsFine f) → may_call program in_group (binding_of (tables program facts valid) f) ≡ true → (is_main f ≡ false) × (may_run in_group f.mode ≡ true)
+  pub called : (in_group : Bool) (f : FunctionTree) (k : IsFine f) → may_call program in_group (binding_of (tables program facts valid) f) ≡ true → (is_main f ≡ false) × (may_run in_group f.mode ≡ true)
   called in_group f k may =
       let both = and_parts (not (is_main f)) (may_run in_group f.mode) (sym (ap (callable in_group) (number_of f k)) ∙ may) in
       (not-true (is_main f) both.0, both.1)
@@ -288,12 +288,12 @@ module _ (program : ProgramTree) (facts : Facts) (valid : IsValid program facts)
   ]
 
   -- a function that runs by itself has no `sh` parameters
-  not_sync : (mode : Mode) → may_run false mode ≡ true → mode ≢ Sync
+  pub not_sync : (mode : Mode) → may_run false mode ≡ true → mode ≢ Sync
   not_sync Sync may e = false≢true may
   not_sync Async may e = cc
   not_sync Straight may e = cc
 
-  none_shared : (mode : Mode) → may_run false mode ≡ true → (xs : List DeclaredTree)
+  pub none_shared : (mode : Mode) → may_run false mode ≡ true → (xs : List DeclaredTree)
       → Each (Mine program facts valid functions (thing program valid.well_formed)) (s.parameters_tokens [] mode xs) → NoneShared xs
   none_shared mode may [] h = tt
   none_shared mode may (x ∷ xs) h = (
