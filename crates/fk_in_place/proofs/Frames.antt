@@ -10,7 +10,7 @@ use Rattle.fk_syntax.specs.Nodes.{tree_indices, optional_indices, type_indices, 
 use Rattle.fk_syntax.specs.Program as p
 use Rattle.fk_syntax.specs.Program.{DeclaredTree, Statement, Statements, FunctionTree, ItemTree}
 use Rattle.fk_forms.specs.declared.tables.Region.{Region}
-use Rattle.fk_forms.specs.Tables.{frame_in}
+use Rattle.fk_forms.specs.Tables.{Tables, frame_in}
 use Rattle.fk_slots.specs.Told.{Told, splits_at}
 use Rattle.fk_slots.specs.Words.{statement_words, own_words}
 use Rattle.fk_slots.specs.Frames.{last_word, frame, deeper, body_frame, frames_in, all_frames_in, body_frames, item_frames, regions_of}
@@ -198,8 +198,10 @@ module _ (told : Told) where
   OfText items r = Within (bodies items) r ⊎ IsOwn items r
 
   behind : (item : ItemTree) (items : List ItemTree) (r : Region) → OfText items r → OfText (item ∷ items) r
-  behind (p.StructItem name members) items r h = h
-  behind (p.VariablesItem variables) items r h = h
+  behind (p.StructItem name members) items r (inl w) = inl w
+  behind (p.StructItem name members) items r (inr o) = inr (record { function = o.function; index = o.index; there = o.there; body = o.body; has = o.has; same = o.same; words = o.words })
+  behind (p.VariablesItem variables) items r (inl w) = inl w
+  behind (p.VariablesItem variables) items r (inr o) = inr (record { function = o.function; index = o.index; there = o.there; body = o.body; has = o.has; same = o.same; words = o.words })
   behind (p.FunctionItem f) items r (inl w) = inl (w.0, right r.at (body_indices f.body) (bodies items) w.1)
   behind (p.FunctionItem f) items r (inr o) = inr (record { function = o.function; index = suc o.index; there = o.there; body = o.body; has = o.has; same = o.same; words = o.words })
 
@@ -218,26 +220,28 @@ module _ (told : Told) where
 
   pub of_text : (items : List ItemTree) → Each (OfText items) (regions_of told items)
   of_text [] = tt
-  of_text (p.StructItem name members ∷ items) = of_text items
-  of_text (p.VariablesItem variables ∷ items) = of_text items
+  of_text (p.StructItem name members ∷ items) =
+      each_map (OfText items) (OfText (p.StructItem name members ∷ items)) (λ r h. behind (p.StructItem name members) items r h) (regions_of told items) (of_text items)
+  of_text (p.VariablesItem variables ∷ items) =
+      each_map (OfText items) (OfText (p.VariablesItem variables ∷ items)) (λ r h. behind (p.VariablesItem variables) items r h) (regions_of told items) (of_text items)
   of_text (p.FunctionItem f ∷ items) =
       each_append (OfText (p.FunctionItem f ∷ items)) (body_frames told f.name.at f.parameters f.body) (regions_of told items) (of_function f items f.body refl)
       (each_map (OfText items) (OfText (p.FunctionItem f ∷ items)) (λ r h. behind (p.FunctionItem f) items r h) (regions_of told items) (of_text items))
 
 -- ---- the frame at a token
 
-pub found_deep : (P : Region → Type 0) (at part : ℕ) → ((r : Region) → P r → r.at ≡ at → IsDeep r) → (rs : List Region) → Each P rs → is_own (frame_in rs at part) ≡ false
-found_deep P at part deep [] h = refl
-found_deep P at part deep (r ∷ rs) h = by (found_deep P at part deep rs h.1) ((r.at == at) && (r.part == part)) refl
+pub found_deep : (tables : Tables) (P : Region → Type 0) (at part : ℕ) → ((r : Region) → P r → r.at ≡ at → IsDeep r) → (rs : List Region) → Each P rs → is_own (frame_in tables rs at part) ≡ false
+found_deep tables P at part deep [] h = refl
+found_deep tables P at part deep (r ∷ rs) h = by (found_deep tables P at part deep rs h.1) ((r.at == at) && (r.part == part)) refl
   where
-    by : is_own (frame_in rs at part) ≡ false → (b : Bool) → ((r.at == at) && (r.part == part)) ≡ b → is_own (if b then Some r else frame_in rs at part) ≡ false
+    by : is_own (frame_in tables rs at part) ≡ false → (b : Bool) → ((r.at == at) && (r.part == part)) ≡ b → is_own (if b then Some r else frame_in tables rs at part) ≡ false
     by others true e = deep r h.0 (eqb-true r.at at (and_parts (r.at == at) (r.part == part) e).0)
     by others false e = others
 
-pub found_none : (P : Region → Type 0) (at part : ℕ) → ((r : Region) → P r → r.at ≡ at → ⊥) → (rs : List Region) → Each P rs → frame_in rs at part ≡ None
-found_none P at part never [] h = refl
-found_none P at part never (r ∷ rs) h = by (found_none P at part never rs h.1) ((r.at == at) && (r.part == part)) refl
+pub found_none : (tables : Tables) (P : Region → Type 0) (at part : ℕ) → ((r : Region) → P r → r.at ≡ at → ⊥) → (rs : List Region) → Each P rs → frame_in tables rs at part ≡ None
+found_none tables P at part never [] h = refl
+found_none tables P at part never (r ∷ rs) h = by (found_none tables P at part never rs h.1) ((r.at == at) && (r.part == part)) refl
   where
-    by : frame_in rs at part ≡ None → (b : Bool) → ((r.at == at) && (r.part == part)) ≡ b → (if b then Some r else frame_in rs at part) ≡ None
+    by : frame_in tables rs at part ≡ None → (b : Bool) → ((r.at == at) && (r.part == part)) ≡ b → (if b then Some r else frame_in tables rs at part) ≡ None
     by others true e = absurd (never r h.0 (eqb-true r.at at (and_parts (r.at == at) (r.part == part) e).0))
     by others false e = others

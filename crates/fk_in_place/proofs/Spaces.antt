@@ -64,7 +64,7 @@ module _ (program : ProgramTree) (facts : Facts) (valid : IsValid program facts)
 
   -- the frames of parts
   inner_at : (at : ℕ) → Covers at (bodies told items) → Inner (tables_by program facts) at
-  inner_at at covers part = found_deep (OfText told items) at part deep (regions_of told items) (of_text told items)
+  inner_at at covers part = found_deep (tables_by program facts) (OfText told items) at part deep (regions_of told items) (of_text told items)
     where
       deep : (r : _) → OfText told items r → r.at ≡ at → IsDeep r
       deep r (inl w) e = w.0
@@ -232,7 +232,7 @@ module _ (program : ProgramTree) (facts : Facts) (valid : IsValid program facts)
       ∙ none_in_all (h.Body (region_by f.mode) ∷ []) (not_synchronous f.mode may) refl k.body (k.ours thing') 0
 
   frameless : (f : FunctionTree) (k : IsFine program facts valid f) → may_run false f.mode ≡ true → frame_at (tables_by program facts) f.name.at 0 ≡ None
-  frameless f k may = found_none (OfText told items) f.name.at 0 never (regions_of told items) (of_text told items)
+  frameless f k may = found_none (tables_by program facts) (OfText told items) f.name.at 0 never (regions_of told items) (of_text told items)
     where
       own : (j : ℕ) × (slice_get (all_functions told items) j ≡ Some f)
       own = function_index items k.index f k.there
