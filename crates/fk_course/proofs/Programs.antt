@@ -212,23 +212,23 @@ programs_follow tables program may_call h =
     code_follows may_call (bodies_of tables program) (main_of tables program) (are_courses tables program may_call h)
 
 module _ (tables : Tables) (program : ProgramTree) (may_call : (in_group : Bool) → (function : ℕ) → Bool) (h : IsInPlace tables program may_call) where
-  abbrev all : List FunctionTree
+  abbrev pub all : List FunctionTree
   all = functions_of program.items
 
-  abbrev gives_of : (function : ℕ) → Bool
+  abbrev pub gives_of : (function : ℕ) → Bool
   gives_of f = gives_value (signature_in tables all) f
 
   main_idle : Idle (anyone may_call) gives_of None (bodies_of tables program (main_of tables program))
   main_idle = bodies_idle tables may_call all None (main_of tables program) (main_of tables program) all 0 refl h.in_place h.valued h.returning
 
-  programs_are_counted : IsCounted (next_in tables program) all_outs (fork_counts gives_of) (main_work tables program)
+  pub programs_are_counted : IsCounted (next_in tables program) all_outs (fork_counts gives_of) (main_work tables program)
   programs_are_counted =
       code_is_counted (anyone may_call) gives_of (bodies_of tables program) (programs_are_nested tables program h.shaped)
       (λ f may. bodies_idle tables may_call all (Some (gives_of f)) (main_of tables program) f all 0 (may, refl) h.in_place h.valued h.returning)
       (main_of tables program) main_idle
 
   -- at the beginning nothing is pending
-  none_pending : (p : Processor) → ArePending (next_in tables program) all_outs (fork_counts gives_of) (main_work tables program) p []
+  pub none_pending : (p : Processor) → ArePending (next_in tables program) all_outs (fork_counts gives_of) (main_work tables program) p []
   none_pending p =
       subst (λ (x : Option ℕ). has_number x p.call.values (λ ns. is_none ns) [] ≡ true)
       (sym (settled_idle (anyone may_call) gives_of None (bodies_of tables program (main_of tables program)) main_idle).0) refl

@@ -1,7 +1,10 @@
 pub mod RegionTokens
 pub mod SharingTokens
-pub mod Notes
+pub mod Spelled
+mod Notes
 pub mod Statements
 pub mod Returning
 pub mod NoForks
 pub mod Programs
+pub mod Frames
+pub mod Spaces

@@ -16,7 +16,9 @@ use Rattle.fk_regions.specs.declared.token.Word.TheVariants.{Fork}
 use Rattle.fk_regions.specs.Tokens.{Standing, tokens}
 use Rattle.fk_check.specs.Known.{AreAllFacts}
 use Rattle.fk_layout.specs.Layout.{tables_by}
+use Rattle.fk_forms.specs.Tables.{frame_at}
 use Rattle.fk_together.specs.OneProgram.{KeepOneProgram}
+use Rattle.fk_levels.specs.OneSpace.{KeepOneSpace}
 use Rattle.fk_course.specs.Forks.{ForksAreValued}
 use Rattle.fk_course.specs.InPlace.{IsInPlace}
 
@@ -67,3 +69,14 @@ ValidProgramsHaveOneProgram =
     IsLawful next setting schedule first
     → (run next setting schedule first).fault ≡ None
     → KeepOneProgram next processors (run next setting schedule first)
+
+-- and all members of a group in lockstep have levels that differ in `$` alone, as have all who wait at one node. No function, and
+-- no statement with a frame, stands at the first token of a text
+abbrev pub ValidProgramsHaveOneSpace : Type 0
+ValidProgramsHaveOneSpace =
+    (program : ProgramTree) (facts : Facts) → IsValid program facts → frame_at (tables_by program facts) 0 0 ≡ None
+    → (setting : Setting) (schedule : Schedule) (words firsts input : List ℕ) (processors : ℕ) → 1 ≤ processors
+    → let first = opening (tables_by program facts) program words firsts input processors in
+    IsLawful (next_in (tables_by program facts) program) setting schedule first
+    → (run (next_in (tables_by program facts) program) setting schedule first).fault ≡ None
+    → KeepOneSpace (run (next_in (tables_by program facts) program) setting schedule first)

@@ -1,6 +1,6 @@
 //! Laws of programs that keep all rules.
 
-ghost use Rattle.fk_in_place.specs.Valid.{ForkFreeProgramsAreValued, ValidProgramsAreInPlace, ValidProgramsHaveOneProgram};
+ghost use Rattle.fk_in_place.specs.Valid.{ForkFreeProgramsAreValued, ValidProgramsAreInPlace, ValidProgramsHaveOneProgram, ValidProgramsHaveOneSpace};
 
 /// Where no token of a program is a `fork`, nothing else is asked of what it computes for one.
 pub fn fork_free_programs_are_valued()
@@ -19,4 +19,10 @@ pub fn valid_programs_are_in_place()
 /// in lockstep have the same left to do, and where a branch stands in it, the same last value.
 pub fn valid_programs_have_one_program()
     ensures { ValidProgramsHaveOneProgram }
+{}
+
+/// And they have levels that differ in `$` alone: of their group and of each group round it they have
+/// the same `@`, size and space. So have those who wait at one node.
+pub fn valid_programs_have_one_space()
+    ensures { ValidProgramsHaveOneSpace }
 {}
