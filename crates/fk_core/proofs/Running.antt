@@ -1,5 +1,5 @@
 -- What is left to do and an index where it stands have the same next operation.
-use Rattle.std.proofs.Common.{◌≡◌, ℕ, Bool, true, false, List, [], ◌∷◌, length, slice_get, Option, Some, None, ap, ◌∙◌, sym, refl, subst}
+use Rattle.std.proofs.Common.{◌≡◌, ℕ, suc, Bool, true, false, List, [], ◌∷◌, length, slice_get, Option, Some, None, ap, ◌∙◌, sym, refl, subst}
 use Rattle.std.specs.Prelude.{if◌then◌else◌}
 use Rattle.fk_operation.specs.declared.operation.Operation.{Operation}
 use Rattle.fk_run.specs.Round.{Step}
@@ -342,6 +342,16 @@ module _ (core : List CoreOp) (entry : ℕ → ℕ) where
 
     pub same_next : (w : Work) (at : Position) → IsAt w at → Same IsAt (source.next bodies w) (next core at)
     same_next w at h = step_same w.left w.callers at.at at.callers h.ready h.callers
+
+    -- as many calls are under way
+    pub as_many_callers : (w : Work) (at : Position) → IsAt w at → length at.callers ≡ length w.callers
+    as_many_callers w at h = by w.callers at.callers h.callers
+      where
+        by : (codes : List (Code ℕ)) (is : List ℕ) → Waiting codes is → length is ≡ length codes
+        by [] [] a = refl
+        by (code ∷ codes) (i ∷ is) a = ap suc (by codes is a.1)
+        by [] (i ∷ is) a = absurd a
+        by (code ∷ codes) [] a = absurd a
 
     pub body_at : (f : ℕ) → IsAt (going (bodies f) []) (position (entry f) [])
     body_at f = goes (bodies f) None (entry f) [] [] (whole (bodies f) (entry f) (bodies_stand f)) tt

@@ -35,9 +35,9 @@ reached_beginners_are_in_root core nestings main setting s h p list is at begins
     let levels : HasLevels setting InRoot p.runner.has = subst (λ (q : Where). HasLevels setting q p.runner.has) place placed.levels in
     root_levels core nestings setting p list.levels levels
 
-land_alike : (core : List CoreOp) (w : Position) (rs : List (Runner Position)) → ((h : ℕ) (r : Runner Position) → slice_get rs h ≡ Some r → r.left ≡ w) → AllLandAt core (landing core w.at) rs
+land_alike : (core : List CoreOp) (w : Position) (rs : List (Runner Position)) → ((h : ℕ) (r : Runner Position) → slice_get rs h ≡ Some r → landing core r.left.at ≡ landing core w.at) → AllLandAt core (landing core w.at) rs
 land_alike core w [] each = tt
-land_alike core w (r ∷ rs) each = (ap (λ (v : Position). landing core v.at) (each 0 r refl), land_alike core w rs (λ h q at. each (suc h) q at))
+land_alike core w (r ∷ rs) each = (each 0 r refl, land_alike core w rs (λ h q at. each (suc h) q at))
 
 unites_to_start : (j : Joint) → Unites ≡ ending_of j → j ≡ joint.Starting
 unites_to_start joint.Starting e = refl

@@ -8,7 +8,7 @@ use Rattle.fk_operation.specs.declared.operation.Operation.TheVariants as o
 use Rattle.fk_run.specs.Round.{Step}
 
 -- where it stands: by itself in the root; there, until the group of a `start` has ended; in that group, in lockstep; in a body
--- of the group, by itself; at the end of a body that the lowest member runs alone
+-- of the group, by itself; at the end of a body, where those wait who don't enter it
 pub data Where : Type 0 where
   InRoot : Where
   Waits : Where
@@ -32,7 +32,7 @@ goes InRoot operation onward = stays (class_of operation) InRoot
 goes Waits o.Resume onward = Some InRoot
 goes Waits operation onward = None
 goes InGroup o.Agree onward = Some InGroup
-goes InGroup o.Farm onward = Some InBody
+goes InGroup o.Farm onward = Some (if onward then InBody else BehindBody)
 goes InGroup o.Seq onward = Some (if onward then InBody else BehindBody)
 goes InGroup o.End onward = Some Waits
 goes InGroup operation onward = stays (class_of operation) InGroup

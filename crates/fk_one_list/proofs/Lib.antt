@@ -1,0 +1,4 @@
+pub mod Held
+pub mod Beside
+pub mod Carried
+pub mod Lists
