@@ -75,11 +75,11 @@ is_in_place = record {
   noted = ((λ e. tt), ((λ e. (tt, tt)), ((λ e. untrue e), tt)));
   in_place = (
     (λ e. (refl, tt)),
-    (λ e. (refl, tt)),
+    (λ e. (refl, tt, tt)),
     (λ e. untrue e),
     (
       (λ e. (refl, ((refl, tt), tt))),
-      (λ e. (refl, ((refl, tt), tt))),
+      (λ e. (refl, ((refl, tt), tt), tt)),
       (λ e. untrue e),
       (
         (λ e. untrue e),
@@ -87,10 +87,10 @@ is_in_place = record {
         (λ e. (
           refl,
           (
-            ((λ f. untrue f), tt, tt),
+            (((λ f. untrue f), (λ f. untrue f)), tt, tt),
             (
-              (refl, tt, (((λ f. refl), tt, ((λ f. refl), tt, (refl, (tt, tt)))), ((refl, ((refl, (tt, tt)), (tt, tt))), ((refl, tt, (tt, ((λ e f. refl), (refl, (tt, tt)), tt)), tt, (refl, (tt, tt))), tt))), ((refl, tt, (refl, tt, (refl, (tt, tt)))), (tt, ((tt, (tt, ((λ e. refl), (refl, (tt, tt)), tt)), tt, (refl, (tt, tt))), tt)))),
-              ((refl, tt, (refl, (tt, tt)), (refl, (tt, tt))), tt),
+              (refl, tt, ((((λ f. refl), (λ f. refl)), tt, (((λ f. refl), (λ f. refl)), tt, ((refl, (λ a. refl)), (tt, tt)))), ((refl, (((refl, (λ a. untrue a.predeclared)), (tt, tt)), (refl, tt))), ((refl, tt, (tt, ((λ e. ((λ f. refl), (λ f. refl))), ((refl, (λ a. refl)), (tt, tt)), tt)), tt, ((refl, (λ a. refl)), (tt, tt))), tt))), ((refl, tt, (refl, tt, (refl, (tt, tt)))), (tt, ((tt, (tt, ((λ e. refl), (refl, (tt, tt)), tt)), tt, (refl, (tt, tt))), tt)))),
+              ((refl, tt, ((refl, (λ a. refl)), (tt, tt)), (refl, (tt, tt))), tt),
             ),
           ),
         )),

@@ -58,7 +58,7 @@ module _ (tables : Tables) (functions : (binding : ℕ) → Signature) (may_call
   enters who name rest means p =
       let function = functions (note tables name.at).binding in
       let opening = parameters tables functions 0 function.parameters in
-      (refl, refl, means, frames (callee_of who) (frame_at tables function.at 0) name.place opening (puts_in (callee_of who) 0 function.parameters), p)
+      (refl, refl, means.0, frames (callee_of who) (frame_at tables function.at 0) name.place opening (puts_in (callee_of who) 0 function.parameters), p)
 
   performs : (who : Who) (t : Place) (op : Operation) (rest : Coded) → is_plain op ≡ true → Ok who rest → Ok who (perform t op rest)
   performs who t o.Resume rest e p = untrue e
@@ -67,9 +67,9 @@ module _ (tables : Tables) (functions : (binding : ℕ) → Signature) (may_call
 
   divides : (who : Who) (spot : Spot) (by : Split) (a b rest : Coded) → is_of_value by ≡ true → Splits tables may_call (is_group who) spot.at → (note tables spot.at).splits ≡ true
       → Ok (inner who) a → Ok (inner who) b → Ok who rest → Ok who (choose spot.place (o.Divide by) a b (plain o.Resume rest))
-  divides who spot IfElse a b rest e splits is p q r = (refl, splits is, p, q, (λ f. untrue f), (refl, r))
-  divides who spot AndThen a b rest e splits is p q r = (refl, splits is, p, q, (λ f. untrue f), (refl, r))
-  divides who spot OrElse a b rest e splits is p q r = (refl, splits is, p, q, (λ f. untrue f), (refl, r))
+  divides who spot IfElse a b rest e splits is p q r = (refl, splits.0 is, p, q, (λ f. untrue f), (refl, r))
+  divides who spot AndThen a b rest e splits is p q r = (refl, splits.0 is, p, q, (λ f. untrue f), (refl, r))
+  divides who spot OrElse a b rest e splits is p q r = (refl, splits.0 is, p, q, (λ f. untrue f), (refl, r))
   divides who spot IfAlone a b rest e splits is p q r = untrue e
   divides who spot Loop a b rest e splits is p q r = untrue e
   divides who spot Fork a b rest e splits is p q r = untrue e
@@ -79,7 +79,7 @@ module _ (tables : Tables) (functions : (binding : ℕ) → Signature) (may_call
     inner = inner;
     told = λ who e h. subst (λ b. InPlace tables may_call b e) (sym (inner_group who)) h;
     performs = performs;
-    allots = λ who rest p. (refl, (refl, p));
+    allots = λ who name rest means a p. (refl, (refl, p));
     ends = λ who. refl;
     part_ends = λ who. (refl, refl);
     divides = divides;

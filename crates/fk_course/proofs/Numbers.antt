@@ -124,7 +124,7 @@ module _ (may_call : (in_group : Bool) → (function : ℕ) → Bool) (functions
           ap (before_call (results b) (o.Enter (length function.parameters))) p.0,
           (
             refl,
-            anyone_may (is_group who) b means,
+            anyone_may (is_group who) b means.0,
             front.opening_idle (anyone may_call) results (Some (results b)) tables functions (frame_at tables function.at 0) name.place function.parameters,
             (subst (MayCall (results b) (o.Enter (length function.parameters))) (sym p.0) tt, p.1),
           ),
@@ -147,7 +147,7 @@ module _ (may_call : (in_group : Bool) → (function : ℕ) → Bool) (functions
       inner = inner;
       told = λ who e h. subst (λ b. InPlace tables may_call b e) (sym (inner_group who)) h;
       performs = performs;
-      allots = λ who rest p. goes nowhere o.Agree (plain o.Block rest) refl (goes nowhere o.Block rest refl p);
+      allots = λ who name rest means a p. goes nowhere o.Agree (plain o.Block rest) refl (goes nowhere o.Block rest refl p);
       ends = λ who. idle_done;
       part_ends = λ who. goes nowhere o.End done refl idle_done;
       divides = divides;
@@ -249,7 +249,7 @@ module _ (may_call : (in_group : Bool) → (function : ℕ) → Bool) (functions
 
     -- what is told of each name in what a `fork` computes
     told_name : (who : Who) (name : Named) → Calls tables may_call (is_group who) name → anyone may_call (note tables name.at).binding ≡ true
-    told_name who name means = anyone_may (is_group who) (note tables name.at).binding means
+    told_name who name means = anyone_may (is_group who) (note tables name.at).binding means.0
 
     ranked : (who : Who) (rank : Option Tree) → OptionInPlace tables may_call (is_group who) rank → OptionValued tables functions rank → (rest : Coded) → At (anyone may_call) results caller true None 2 rest → At (anyone may_call) results caller true None 1 (value_or tables functions (plain (o.Get n.Rank)) rank rest)
     ranked who None o' h rest a = record {

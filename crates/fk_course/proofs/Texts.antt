@@ -83,13 +83,13 @@ module _ (tables : Tables) (functions : (binding : ℕ) → Signature) (may_call
 
   tests : (who : Who) (spot : Spot) (condition : Option Tree) → Splits tables may_call (is_group who) spot.at → TellsIf who condition → Fine who (tested tables functions spot condition)
   tests who spot condition splits' h =
-      gives_or who (plain (o.Push 1)) (λ rest q. (refl, q)) condition h (leaving tables functions (note tables spot.at)) (leaves who (note tables spot.at) splits')
+      gives_or who (plain (o.Push 1)) (λ rest q. (refl, q)) condition h (leaving tables functions (note tables spot.at)) (leaves who (note tables spot.at) splits'.0)
 
   loops : (who : Who) (spot : Spot) → Splits tables may_call (is_group who) spot.at → (loop : Coded → Coded) → Keeps (inner who) loop → Keeps who loop → Keeps who (looping tables functions spot loop)
   loops who spot splits' loop keeps_in keeps rest q =
       let part = part_frame tables functions spot 0 (loop done) in
       splits_to tables functions may_call (note tables spot.at).splits who (choose spot.place (o.Divide Loop) part done (plain o.Resume rest)) (loop rest)
-      (λ e. (refl, splits' e, part_frames (inner who) spot 0 (loop done) (keeps_in done refl), refl, (λ f. untrue f), (refl, q))) (keeps rest q)
+      (λ e. (refl, splits'.0 e, part_frames (inner who) spot 0 (loop done) (keeps_in done refl), refl, (λ f. untrue f), (refl, q))) (keeps rest q)
 
   -- the loop itself, within its part or not
   whiles : (who : Who) (test body step : Coded) → Fine (inner who) test → Fine (inner who) body → Fine (inner who) step → Keeps who (c.while test body step)
@@ -141,7 +141,7 @@ module _ (tables : Tables) (functions : (binding : ℕ) → Signature) (may_call
   farms who g body h rest q = ((refl, g, h, refl, (λ f. untrue f), (refl, q)), (refl, g, h, refl, (λ f. untrue f), (refl, q)))
 
   inner_splits : (who : Who) (spot : Spot) → Splits tables may_call (is_group who) spot.at → Splits tables may_call (is_group (inner who)) spot.at
-  inner_splits who spot h e = inner_group who ∙ h e
+  inner_splits who spot h = (λ e. inner_group who ∙ h.0 e, λ e. inner_group who ∙ h.1 e)
 
   -- the part of a `start`
   starts_in_step : (spot : Spot) (inside : Inside) (body : Statement) → StatementNoted tables (may_call true) body
@@ -163,7 +163,7 @@ module _ (tables : Tables) (functions : (binding : ℕ) → Signature) (may_call
         let branched = choose nowhere (o.Branch true) (body done) done rest in
         value_in_place tables functions may_call who condition h.1 (if here.splits then parted else agreed here.sync branched)
         (splits_to tables functions may_call here.splits who parted (agreed here.sync branched)
-        (λ e. (refl, h.0 e, parts (inner who) spot 0 body (statement (inner who) inside first h.2), refl, (λ f. untrue f), (refl, q)))
+        (λ e. (refl, h.0.0 e, parts (inner who) spot 0 body (statement (inner who) inside first h.2), refl, (λ f. untrue f), (refl, q)))
         (agrees_or tables functions may_call who here.sync branched (refl, refl, statement (inner who) inside first h.2 done refl, refl, (λ f. untrue f), q)))
     statement who inside (p.IfElse spot condition first second) h rest q =
         let here = note tables spot.at in
@@ -173,7 +173,7 @@ module _ (tables : Tables) (functions : (binding : ℕ) → Signature) (may_call
         let branched = choose nowhere (o.Branch true) (a done) (b done) rest in
         value_in_place tables functions may_call who condition h.1 (if here.splits then parted else agreed here.sync branched)
         (splits_to tables functions may_call here.splits who parted (agreed here.sync branched)
-        (λ e. (refl, h.0 e, parts (inner who) spot 0 a (statement (inner who) inside first h.2), parts (inner who) spot 1 b (statement (inner who) inside second h.3), (λ f. untrue f), (refl, q)))
+        (λ e. (refl, h.0.0 e, parts (inner who) spot 0 a (statement (inner who) inside first h.2), parts (inner who) spot 1 b (statement (inner who) inside second h.3), (λ f. untrue f), (refl, q)))
         (agrees_or tables functions may_call who here.sync branched
         (refl, refl, statement (inner who) inside first h.2 done refl, statement (inner who) inside second h.3 done refl, (λ f. untrue f), q)))
     statement who inside (p.While spot condition body) h rest q =

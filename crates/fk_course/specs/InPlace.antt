@@ -12,6 +12,7 @@ use Rattle.fk_run.specs.Schedule.{Schedule, run, IsLawful}
 use Rattle.fk_source.specs.Program.{next_in, main_work, opening}
 use Rattle.fk_nesting.specs.Shaped.{ProgramShaped}
 use Rattle.fk_lockstep.specs.Told as told
+use Rattle.fk_lockstep.specs.Allots.{Allots}
 use Rattle.fk_lockstep.specs.Noted.{StatementNoted, FunctionsNoted}
 use Rattle.fk_together.specs.Course.{ByItself, Follows}
 use Rattle.fk_together.specs.OneProgram.{KeepOneProgram}
@@ -23,12 +24,13 @@ use Rattle.fk_course.specs.Ahead.{all_outs}
 
 module _ (tables : Tables) (may_call : (in_group : Bool) → (function : ℕ) → Bool) where
   module _ (in_group : Bool) where
-    -- a form splits in a group alone, and no name means a function that may not be called there
+    -- a form splits or agrees in a group alone; no name means a function that may not be called there, and `shalloc` is called in
+    -- a group alone
     abbrev pub Splits : (at : ℕ) → Type 0
-    Splits at = (note tables at).splits ≡ true → in_group ≡ true
+    Splits at = ((note tables at).splits ≡ true → in_group ≡ true) × ((note tables at).sync ≡ true → in_group ≡ true)
 
     abbrev pub Calls : Named → Type 0
-    Calls name = may_call in_group (note tables name.at).binding ≡ true
+    Calls name = (may_call in_group (note tables name.at).binding ≡ true) × (Allots tables name → in_group ≡ true)
 
     abbrev pub InPlace : Tree → Type 0
     InPlace e = told.Told Splits Calls e
@@ -66,7 +68,7 @@ module _ (tables : Tables) (may_call : (in_group : Bool) → (function : ℕ) �
     StatementInPlace main who (p.Fork spot parts part rank body) =
         (is_group who ≡ true) × InPlace (is_group who) parts × InPlace (is_group who) part × OptionInPlace (is_group who) rank
         × StatementInPlace main OfGroup body
-    StatementInPlace main who (p.Barrier spot) = Unit {0}
+    StatementInPlace main who (p.Barrier spot) = is_group who ≡ false
     StatementInPlace main who (p.Break spot) = Unit {0}
     StatementInPlace main who (p.Continue spot) = Unit {0}
     StatementInPlace main who (p.Return spot e) = (g.is_main who ≡ main) × OptionInPlace (is_group who) e
@@ -79,12 +81,17 @@ module _ (tables : Tables) (may_call : (in_group : Bool) → (function : ℕ) �
   BodyInPlace main who None = Unit {0}
   BodyInPlace main who (Some statements) = StatementsInPlace main who statements
 
+  -- functions that processors by themselves call have no `sh` parameters
+  abbrev pub NoneShared : List DeclaredTree → Type 0
+  NoneShared [] = Unit {0}
+  NoneShared (x ∷ xs) = (x.shared ≡ false) × NoneShared xs
+
   -- functions that may be called, none of which is `main`; and `main`
   abbrev pub FunctionsInPlace : (main : ℕ) → List FunctionTree → Type 0
   FunctionsInPlace main [] = Unit {0}
   FunctionsInPlace main (f ∷ fs) =
       (may_call true (binding_of tables f) ≡ true → (is_main f ≡ false) × BodyInPlace false OfGroup f.body)
-      × (may_call false (binding_of tables f) ≡ true → (is_main f ≡ false) × BodyInPlace false OfBody f.body)
+      × (may_call false (binding_of tables f) ≡ true → (is_main f ≡ false) × BodyInPlace false OfBody f.body × NoneShared f.parameters)
       × ((binding_of tables f == main) ≡ true → (is_main f ≡ true) × BodyInPlace true (OfMain true) f.body)
       × FunctionsInPlace main fs
 

@@ -1,6 +1,7 @@
 pub mod RegionTokens
 pub mod SharingTokens
-pub mod Notes
+pub mod Spelled
+mod Notes
 pub mod Statements
 pub mod Returning
 pub mod NoForks

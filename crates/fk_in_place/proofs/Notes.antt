@@ -46,6 +46,15 @@ module _ (program : ProgramTree) (facts : Facts) (valid : IsValid program facts)
       many : length facts.notes.items ≡ program.tokens
       many = valid.known.sharing.length ∙ valid.known.regions.length ∙ valid.known.types.known.tokens
 
+  sync_to : (at : ℕ) → (note tables at).sync ≡ true → IsSynchronous program at
+  sync_to at is = elim (cases_lt at program.tokens) [
+    | inl low ↦ let n = note_at program facts correct at low in n.sync_is.0 (sym (ap (λ (m : Note). m.sync) n.is) ∙ is)
+    | inr past ↦ absurd (false≢true (sym (ap (λ (m : Note). m.sync) (nth_past no_note facts.notes.items at (omega (arith, past, many)))) ∙ is))
+  ]
+    where
+      many : length facts.notes.items ≡ program.tokens
+      many = valid.known.sharing.length ∙ valid.known.regions.length ∙ valid.known.types.known.tokens
+
   -- ---- the tokens by which regions are told
 
   region_nodes : (at : ℕ) → times regions.place at (r.tokens program) ≤ node_times at (items_indices program.items)
@@ -64,6 +73,7 @@ module _ (program : ProgramTree) (facts : Facts) (valid : IsValid program facts)
     pub unbroken : Unmisplaced program facts correct x
     pub sync : region x.around ≡ Synchronous → (note tables x.spot.at).sync ≡ true
     pub alone : (note tables x.spot.at).splits ≡ true → region x.around ≡ Synchronous
+    pub agrees : (note tables x.spot.at).sync ≡ true → region x.around ≡ Synchronous
 
   right : (i : ℕ) (x : Theirs program facts correct) → slice_get (r.tokens program) i ≡ Some x → IsRight x
   right i x is = record {
@@ -71,6 +81,9 @@ module _ (program : ProgramTree) (facts : Facts) (valid : IsValid program facts)
     sync = λ e. sync_from x.spot.at (region_low i x is) (i, x, is, refl, e);
     alone = λ e.
         let h = splits-synchronous program x.spot.at (splits_from x.spot.at e) in
+        subst (λ (y : Theirs program facts correct). region y.around ≡ Synchronous) (region_same h.0 i h.1 x h.2 is h.3) h.4;
+    agrees = λ e.
+        let h = sync_to x.spot.at e in
         subst (λ (y : Theirs program facts correct). region y.around ≡ Synchronous) (region_same h.0 i h.1 x h.2 is h.3) h.4;
   }
 

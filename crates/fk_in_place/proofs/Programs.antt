@@ -1,13 +1,13 @@
 -- The functions of a valid program are in place.
-use Rattle.std.proofs.Common.{◌≡◌, ◌⊎◌, inl, inr, ℕ, zero, suc, Bool, true, false, not, List, [], ◌∷◌, ◌++◌, codes, Option, Some, None, slice_get, refl, sym, ap, subst, ◌∙◌}
+use Rattle.std.proofs.Common.{◌≡◌, ◌≢◌, ◌⊎◌, inl, inr, ℕ, zero, suc, Bool, true, false, not, List, [], ◌∷◌, ◌++◌, codes, Option, Some, None, slice_get, refl, sym, ap, subst, ◌∙◌}
 use Rattle.std.specs.Prelude.{◌==◌, IsSome, is_some, if◌then◌else◌}
-use Rattle.std.proofs.lemmas.Bool.{false≢true, and_parts, not-true, eqb-true}
+use Rattle.std.proofs.lemmas.Bool.{false≢true, false_from_ne_true, and_parts, not-true, eqb-true}
 use Rattle.std.proofs.lemmas.Option.{same_Some}
 use Rattle.std.proofs.lemmas.Slice.Eq.{bytes_eq-Decides}
 use Rattle.fk_syntax.specs.declared.facts.Facts.{Facts}
 use Rattle.fk_syntax.specs.declared.program.Mode.{Mode}
 use Rattle.fk_syntax.specs.declared.program.Mode.TheVariants.{Sync, Async, Straight}
-use Rattle.fk_syntax.specs.Program.{Statements, FunctionTree, ItemTree, ProgramTree, StructItem, VariablesItem, FunctionItem}
+use Rattle.fk_syntax.specs.Program.{DeclaredTree, Statements, FunctionTree, ItemTree, ProgramTree, StructItem, VariablesItem, FunctionItem}
 use Rattle.fk_rules.specs.declared.rule.Rule.TheVariants as rules
 use Rattle.fk_class.specs.declared.thing.Thing.{Thing}
 use Rattle.fk_names.specs.Outline as n
@@ -25,6 +25,8 @@ use Rattle.fk_regions.specs.Tokens as r
 use Rattle.fk_sharing.specs.declared.around.Holder as hh
 use Rattle.fk_sharing.specs.declared.around.Holder.TheVariants as h
 use Rattle.fk_sharing.specs.Tokens as s
+use Rattle.fk_sharing.specs.declared.token.Word.TheVariants as sw
+use Rattle.fk_sharing.specs.Broken as sb
 use Rattle.fk_forms.specs.Expressions.{Signature}
 use Rattle.fk_forms.specs.Program.{functions_of, with_body, binding_of, signature_in, is_main, main_in, main_of}
 use Rattle.fk_nesting.specs.Shape.{Exits, of_function}
@@ -32,7 +34,7 @@ use Rattle.fk_nesting.specs.Shaped.{StatementsShaped, BodyShaped, FunctionsShape
 use Rattle.fk_lockstep.specs.Noted.{BodyNoted, FunctionsNoted}
 use Rattle.fk_course.specs.Placed.{Who, OfGroup, OfBody, OfMain}
 use Rattle.fk_forms.specs.Statements.{is_nothing}
-use Rattle.fk_course.specs.InPlace.{BodyInPlace, FunctionsInPlace}
+use Rattle.fk_course.specs.InPlace.{BodyInPlace, NoneShared, FunctionsInPlace}
 use Rattle.fk_course.specs.Returns.{BodyReturns, FunctionsReturn}
 use Rattle.fk_layout.specs.Layout.{tables_by}
 use Rattle.fk_course.proofs.Programs.{programs_have_one_program}
@@ -119,15 +121,17 @@ module _ (program : ProgramTree) (facts : Facts) (valid : IsValid program facts)
     pub ours : (thing : ℕ → Option Thing) → Each (Mine program facts valid functions thing) (s.statements_tokens thing ◌∷◌ (h.Body (region_by f.mode) ∷ []) body)
     pub marks : Each (Stands program facts valid functions) (statements_marks body)
     pub parts : Each (Fine program facts valid functions) (statements_pieces f.result body)
+    pub parameters : (thing : ℕ → Option Thing) → Each (Mine program facts valid functions thing) (s.parameters_tokens [] f.mode f.parameters)
 
   fine_of : (f : FunctionTree) (index : ℕ) → slice_get program.items index ≡ Some (FunctionItem f) → (o : Option Statements) → f.body ≡ o
       → Each (Right program facts valid functions) (r.body_tokens ◌∷◌ (r.holder_of f ∷ []) o)
       → ((thing : ℕ → Option Thing) → Each (Mine program facts valid functions thing) (s.body_tokens thing ◌∷◌ (h.Body (region_by f.mode) ∷ []) o))
       → Each (Stands program facts valid functions) (body_marks o) → Each (Fine program facts valid functions) (body_pieces f.result o)
+      → ((thing : ℕ → Option Thing) → Each (Mine program facts valid functions thing) (s.parameters_tokens [] f.mode f.parameters))
       → (others : List FunctionTree) → Each IsFine others → Each IsFine (with_body f o others)
-  fine_of f index there None has a o b k others rest = rest
-  fine_of f index there (Some body) has a o b k others rest =
-      (record { index = index; there = there; body = body; has = has; tokens = a; ours = o; marks = b; parts = k }, rest)
+  fine_of f index there None has a o b k p others rest = rest
+  fine_of f index there (Some body) has a o b k p others rest =
+      (record { index = index; there = there; body = body; has = has; tokens = a; ours = o; marks = b; parts = k; parameters = p }, rest)
 
   all_fine : (xs : List ItemTree) → ((j : ℕ) (x : ItemTree) → slice_get xs j ≡ Some x → (i : ℕ) × (slice_get program.items i ≡ Some x))
       → Each (Right program facts valid functions) (r.items_tokens ◌∷◌ [] xs) → ((thing : ℕ → Option Thing) → Each (Mine program facts valid functions thing) (s.items_tokens thing ◌∷◌ [] xs))
@@ -150,6 +154,8 @@ module _ (program : ProgramTree) (facts : Facts) (valid : IsValid program facts)
       (front_of (Mine program facts valid functions thing) (s.item_tokens thing ◌∷◌ [] x) (s.items_tokens thing ◌∷◌ [] xs) (o thing)))
       (rest_of (Stands program facts valid functions) (variables_marks f.parameters) (body_marks f.body) marks')
       (rest_of (Fine program facts valid functions) (parameters_pieces f.parameters) (body_pieces f.result f.body) pieces')
+      (λ thing. front_of (Mine program facts valid functions thing) (s.parameters_tokens [] f.mode f.parameters) (s.body_tokens thing ◌∷◌ (h.Body (region_by f.mode) ∷ []) f.body)
+      (front_of (Mine program facts valid functions thing) (s.item_tokens thing ◌∷◌ [] x) (s.items_tokens thing ◌∷◌ [] xs) (o thing)))
       (functions_of xs)
       (all_fine xs (λ j y is. at (suc j) y is) (rest_of (Right program facts valid functions) (r.item_tokens ◌∷◌ [] x) (r.items_tokens ◌∷◌ [] xs) a)
       (λ thing. rest_of (Mine program facts valid functions thing) (s.item_tokens thing ◌∷◌ [] x) (s.items_tokens thing ◌∷◌ [] xs) (o thing))
@@ -281,13 +287,30 @@ module _ (program : ProgramTree) (facts : Facts) (valid : IsValid program facts)
     | inr none ↦ absurd (there_is_main none)
   ]
 
+  -- a function that runs by itself has no `sh` parameters
+  not_sync : (mode : Mode) → may_run false mode ≡ true → mode ≢ Sync
+  not_sync Sync may e = false≢true may
+  not_sync Async may e = cc
+  not_sync Straight may e = cc
+
+  none_shared : (mode : Mode) → may_run false mode ≡ true → (xs : List DeclaredTree)
+      → Each (Mine program facts valid functions (thing program valid.well_formed)) (s.parameters_tokens [] mode xs) → NoneShared xs
+  none_shared mode may [] h = tt
+  none_shared mode may (x ∷ xs) h = (
+    false_from_ne_true x.shared (λ e.
+        h.0.unbroken (thing_tells program valid.well_formed) rules.SharedParameter
+        (subst (λ b. sb.BreaksRule [] (sw.Parameter b mode) rules.SharedParameter) (sym e) (sb.shared_parameter mode (not_sync mode may)))),
+    none_shared mode may xs h.1,
+  )
+
   in_place : (gs : List FunctionTree) → Each IsFine gs → FunctionsInPlace (tables program facts valid) (may_call program) (main_of (tables program facts valid) program) gs
   in_place [] h = tt
   in_place (f ∷ gs) h = (
     (λ may. let is = called true f h.0 may in
         (is.0, subst (BodyInPlace (tables program facts valid) (may_call program) false OfGroup) (sym h.0.has) (good_in OfGroup f h.0 is.0 (of_group f.mode is.1)).in_place)),
     (λ may. let is = called false f h.0 may in
-        (is.0, subst (BodyInPlace (tables program facts valid) (may_call program) false OfBody) (sym h.0.has) (good_in OfBody f h.0 is.0 (of_body f.mode is.1)).in_place)),
+        (is.0, subst (BodyInPlace (tables program facts valid) (may_call program) false OfBody) (sym h.0.has) (good_in OfBody f h.0 is.0 (of_body f.mode is.1)).in_place,
+          none_shared f.mode is.1 f.parameters (h.0.parameters (thing program valid.well_formed)))),
     (λ e. let is = is_the_main f h.0 e in
         (is, subst (BodyInPlace (tables program facts valid) (may_call program) true (OfMain true)) (sym h.0.has) (good_main f h.0 is).in_place)),
     in_place gs h.1,

@@ -1,7 +1,7 @@
 -- A statement of a valid program is shaped, noted and in place as it stands.
 use Rattle.std.proofs.Common.{◌≡◌, ◌⊎◌, inl, inr, ℕ, Bool, true, false, not, List, [], ◌∷◌, ◌++◌, codes, Option, Some, None, slice_get, refl, sym, ap, subst, ◌∙◌, arith}
 use Rattle.std.specs.Prelude.{if◌then◌else◌}
-use Rattle.std.proofs.lemmas.Bool.{false≢true, true_from_ne_false, false_from_ne_true, and_cases, or_left, or_right, not-false}
+use Rattle.std.proofs.lemmas.Bool.{false≢true, true_from_ne_false, false_from_ne_true, and_cases, or_left, or_right, not-false, eqb-true}
 use Rattle.fk_syntax.specs.declared.facts.Facts.{Facts}
 use Rattle.fk_syntax.specs.declared.place.Spot.{Spot}
 use Rattle.fk_syntax.specs.declared.program.Mode.{Mode}
@@ -18,7 +18,7 @@ use Rattle.fk_names.specs.declared.names.Meaning.{Meaning}
 use Rattle.fk_names.specs.declared.names.Meaning.TheVariants as m
 use Rattle.fk_names.specs.Outline as n
 use Rattle.fk_names.specs.Outline.{DeclarationTree, MarkTree, Declares, Uses, declarations, outline, tree_marks, optional_marks, variable_marks, variables_marks, statement_marks, statements_marks}
-use Rattle.fk_names.specs.Means.{binding}
+use Rattle.fk_names.specs.Means.{binding, MeansAt}
 use Rattle.fk_typing.specs.Term.{term_of}
 use Rattle.fk_typing.specs.Names.{Meant, Main, is_text, IsDeclared}
 use Rattle.fk_typing.specs.Broken.{Broken, is_main as is_main_meant}
@@ -54,7 +54,8 @@ use Rattle.fk_sharing.specs.Around as sa
 use Rattle.fk_sharing.specs.Around.{is_in_split, is_split_to_loop, is_split_in_loop}
 use Rattle.fk_sharing.specs.Broken as sb
 use Rattle.fk_sharing.specs.Tokens as s
-use Rattle.fk_forms.specs.Tables.{note}
+use Rattle.fk_forms.specs.Tables.{no_binding, note}
+use Rattle.fk_lockstep.specs.Allots.{Allots}
 use Rattle.fk_forms.specs.Program.{is_main}
 use Rattle.fk_forms.specs.Expressions.{Signature}
 use Rattle.fk_nesting.specs.Calls as c
@@ -74,8 +75,9 @@ use Rattle.fk_fitting.proofs.Typed.{Unbroken}
 use Rattle.fk_fitting.proofs.Notes.{among, binding_is, Theirs}
 use Rattle.fk_fitting.proofs.Statements as fit
 use Rattle.fk_fitting.proofs.Statements.{inside, never_inside}
+use Rattle.fk_in_place.proofs.Spelled.{spelled}
 use Rattle.fk_in_place.proofs.Notes.{tables, correct, splits_from, IsRight, Ours, IsOurs}
-use Rattle.fk_fitting.proofs.Named.{env, Known, IsKnown, known, declared_low, takes}
+use Rattle.fk_fitting.proofs.Named.{env, Known, IsKnown, known, meant_at, declared_low, takes}
 use Rattle.fk_fitting.proofs.Expressions.{told}
 use Rattle.fk_fitting.proofs.Read.{NoMain, Any, IsNamed, read}
 
@@ -153,7 +155,8 @@ module _ (program : ProgramTree) (facts : Facts) (valid : IsValid program facts)
 
   module _ (in_group : Bool) (outer : List gh.Holder) (runs : Runs in_group outer) where
     pub splits_in_group : (spot : Spot) (word : Word) → Right (stands outer spot word) → Splits (tables program facts valid) (may_call program) in_group spot.at
-    splits_in_group spot word x e = true_from_ne_false in_group (λ no. runs.alone no (x.alone e))
+    splits_in_group spot word x =
+        (λ e. true_from_ne_false in_group (λ no. runs.alone no (x.alone e)), λ e. true_from_ne_false in_group (λ no. runs.alone no (x.agrees e)))
 
     pub decides : in_group ≡ true → (spot : Spot) (word : Word) → mis.Decides (Calls program spot.at) word → Right (stands outer spot word) → Decides (tables program facts valid) (may_call program true) spot.at
     decides within spot word deciding x = elim (runs.group within) [
@@ -176,8 +179,22 @@ module _ (program : ProgramTree) (facts : Facts) (valid : IsValid program facts)
         by false runs' mode.Async calls wrong = false≢true (sym wrong)
         by g runs' mode.Straight calls wrong = false≢true (sym wrong)
 
+    -- nor does one that runs by itself call `shalloc`
+    allots : (name : Named) (from : ℕ) → Right (stands outer (spot_of name) (w.Name (spelling_of name.bytes)))
+        → (meaning : Meaning) → MeansAt (outline program) name.bytes from meaning → IsKnown program facts proper name meaning
+        → Allots (tables program facts valid) name → in_group ≡ true
+    allots name from x (m.Declared number) means k a =
+        let low = declared_low program facts proper number k.meant.0 k.meant.1 in
+        let same = eqb-true (note (tables program facts valid) name.at).binding no_binding a.predeclared in
+        absurd (omega (arith, same, k.binds, low))
+    allots name from x m.Predeclared means k a = true_from_ne_false in_group (λ no.
+        x.unbroken rules.ShallocOutside
+            (inl (subst (λ (s' : Spelling). mis.Misplaced outer (Calls program name.at) (w.Name s') rules.ShallocOutside)
+            (sym (spelled name means.1 a.no_value a.no_other)) (mis.shalloc_outside k.means (λ e. runs.alone no e)))))
+    allots name from x m.Undeclared means k a = absurd k.binds
+
     may : (name : Named) → Right (stands outer (spot_of name) (w.Name (spelling_of name.bytes))) → Known program facts proper name
-        → NoMain program facts proper functions name → ip.Calls (tables program facts valid) (may_call program) in_group name
+        → NoMain program facts proper functions name → may_call program in_group (note (tables program facts valid) name.at).binding ≡ true
     may name x is_known no_main = true_from_ne_false _ (λ wrong. is_known (by wrong))
       where
         at : ℕ
@@ -208,7 +225,9 @@ module _ (program : ProgramTree) (facts : Facts) (valid : IsValid program facts)
         let is_read = read program facts proper functions (Takes (tables program facts valid)) (takes program facts proper) x un named in
         let each_may : (name : Named) → Right (stands outer (spot_of name) (w.Name (spelling_of name.bytes))) → Stands (Uses name) → Refers (Name name)
         → NoMain program facts proper functions name → ip.Calls (tables program facts valid) (may_call program) in_group name =
-        λ name y used referred. may name y (known program facts proper name used.0 used.1 referred) in
+        λ name y used referred no_main.
+        let m' = meant_at program facts proper name used.0 used.1 referred in
+        (may name y (known program facts proper name used.0 used.1 referred) no_main, allots name used.0 y m'.0 m'.1 m'.2) in
         record {
           fits = is_read.fits;
           in_place = both_told (Splits (tables program facts valid) (may_call program) in_group) (NoMain program facts proper functions) (ip.Calls (tables program facts valid) (may_call program) in_group) x
@@ -218,7 +237,7 @@ module _ (program : ProgramTree) (facts : Facts) (valid : IsValid program facts)
           noted = λ within. both_told (Decides (tables program facts valid) (may_call program true)) (NoMain program facts proper functions) (Means (tables program facts valid) (may_call program true)) x
               (told Right Stands Refers outer (Decides (tables program facts valid) (may_call program true))
               (λ name. NoMain program facts proper functions name → Means (tables program facts valid) (may_call program true) name) (λ spot y. decides within spot w.Branching mis.sign_decides y)
-              (λ name y used referred no_main. subst (λ g'. may_call program g' (note (tables program facts valid) name.at).binding ≡ true) within (each_may name y used referred no_main)) x a b' c')
+              (λ name y used referred no_main. subst (λ g'. may_call program g' (note (tables program facts valid) name.at).binding ≡ true) within (each_may name y used referred no_main).0) x a b' c')
               is_read.plain;
         }
 
@@ -244,8 +263,13 @@ module _ (program : ProgramTree) (facts : Facts) (valid : IsValid program facts)
     declared_may g' x there =
         let number = declared_here (outline program) there.0 (n.Variable x) there.1 in
         let low = declared_below program valid.well_formed (n.Variable x) (among (declarations program) (binding (outline program) there.0) (n.Variable x) number) in
-        let is = binding_is program facts proper x.name.at (binding (outline program) there.0) low (b.declares (n.Variable x) there.0 there.0 there.1 refl refl) in
-        ap (λ i. callable g' (slice_get (declarations program) i)) is ∙ ap (callable g') number
+        let is = binding_is program facts proper x.name.at (binding (outline program) there.0) low (b.declares (n.Variable x) there.0 there.0 there.1 refl refl) in (
+          ap (λ i. callable g' (slice_get (declarations program) i)) is ∙ ap (callable g') number,
+          (λ a.
+          let same = eqb-true (note (tables program facts valid) x.name.at).binding no_binding a.predeclared in
+          let below = declared_low program facts proper (binding (outline program) there.0) (n.Variable x) number in
+          absurd (omega (arith, same, is, below))),
+        )
 
     pub record AreGood (xs : List DeclaredTree) : Type 0 where
       pub fits : c.VariablesFit (tables program facts valid) functions (Takes (tables program facts valid)) xs
@@ -282,7 +306,7 @@ module _ (program : ProgramTree) (facts : Facts) (valid : IsValid program facts)
         record {
           fits = (option_fits x.first first, others.fits);
           in_place = (declared_may in_group x b'.0, option_in_place x.first first, others.in_place);
-          noted = λ within. (declared_may true x b'.0, option_noted x.first first within, others.noted within);
+          noted = λ within. ((declared_may true x b'.0).0, option_noted x.first first within, others.noted within);
         }
 
   -- ---- statements
@@ -637,7 +661,14 @@ module _ (program : ProgramTree) (facts : Facts) (valid : IsValid program facts)
           );
           noted = λ e. (v1.noted e, v2.noted e, option_noted (is_group who) outer at.runs rank v3 e, s'.noted refl);
         }
-    statement_good result who main x outer held at (p.Barrier spot) a o b' f = record { shaped = tt; in_place = tt; noted = λ e. tt }
+    statement_good result who main x outer held at (p.Barrier spot) a o b' f = record {
+      shaped = tt;
+      in_place = false_from_ne_true (is_group who) (λ e. elim (at.runs.group e) [
+        | inl sync ↦ a.0.unbroken rules.BarrierInside (inl (mis.barrier_inside sync))
+        | inr straight ↦ a.0.unbroken rules.NotStraight (inr (refl, straight, mis.barrier_waits))
+      ]);
+      noted = λ e. tt;
+    }
     statement_good result who main x outer held at (p.Break spot) a o b' f = record {
       shaped = true_from_ne_false x.breaks (λ e.
           let k = at.breaks (inside (loops outer) (λ is. a.0.unbroken rules.NoLoop (inl (mis.break_outside is))) (λ is. a.0.unbroken rules.LoopLeavesBody (inl (mis.break_leaves is)))) e in

@@ -60,7 +60,7 @@ module _ (tables : Tables) (functions : (binding : ℕ) → Signature) (may_call
     inner = λ who. who;
     told = λ who e h. h;
     performs = λ who. performs;
-    allots = λ who rest p. (refl, (refl, p));
+    allots = λ who name rest means a p. (refl, (refl, p));
     ends = λ who. tt;
     part_ends = λ who. (refl, tt);
     divides = λ who spot by a b rest of_value decides splits p q r. (refl, p, q, (refl, r));

@@ -1,5 +1,5 @@
 -- The code of expressions is as wanted before code that is, where it is told of their tokens what is asked there.
-use Rattle.std.proofs.Common.{◌≡◌, ℕ, Bool, true, false, List, [], ◌∷◌, Option, Some, None, refl}
+use Rattle.std.proofs.Common.{◌≡◌, ℕ, Bool, true, false, true≢false, List, [], ◌∷◌, Option, Some, None, ◌∙◌, sym, refl}
 use Rattle.std.specs.Prelude.{◌==◌, ◌*◌, ◌||◌, codes, if◌then◌else◌}
 use Rattle.fk_num.specs.declared.operator.Op.TheVariants as f
 use Rattle.fk_syntax.specs.declared.place.Place.{Place}
@@ -30,11 +30,13 @@ use Rattle.fk_forms.specs.Texts.{text_of}
 use Rattle.fk_forms.specs.Expressions.{Coded, nowhere, plain, Standing, OnList, AtAddress, InWord, ToCall, Stands, token, spot_of, is_name, Signature, put_bytes, moved, agreed, checked, valued, addressed, fetched, assigned, value_of, dropped, predeclared, placed, variable, operate, updated, one, prefixed, truth, logical, chosen, joined, assignment, member, is_deep, indexed, dotted, pointed, step_back, raised, arguments, framed, called, multiprefix, with_one, called_predeclared, calling, stands, linked, suffixed, all_stand, value}
 use Rattle.fk_nesting.proofs.Kept.{is_inner, entered}
 use Rattle.fk_lockstep.specs.Told.{is_logical, Told, LinksTold, SuffixesTold, AllTold}
+use Rattle.fk_lockstep.specs.Allots.{one_of, is_value_name, is_other_call, Allots}
 
 -- the operations that expressions perform by themselves
 abbrev pub is_plain : Operation → Bool
 is_plain o.Resume = false
 is_plain o.Block = false
+is_plain (o.Frame nesting words) = false
 is_plain op = is_inner op
 
 -- the splits of expressions
@@ -51,7 +53,7 @@ pub record IsKept (tables : Tables) (functions : (binding : ℕ) → Signature) 
   pub inner : W → W
   pub told : (who : W) (e : Tree) → Told (Decides who) (Means who) e → Told (Decides (inner who)) (Means (inner who)) e
   pub performs : (who : W) (t : Place) (op : Operation) (rest : Coded) → is_plain op ≡ true → Fine who rest → Fine who (perform t op rest)
-  pub allots : (who : W) (rest : Coded) → Fine who rest → Fine who (plain o.Agree (plain o.Block rest))
+  pub allots : (who : W) (name : Named) (rest : Coded) → Means who name → Allots tables name → Fine who rest → Fine who (plain o.Agree (plain o.Block rest))
   pub ends : (who : W) → Fine who done
   pub part_ends : (who : W) → Fine who (plain o.End done)
   pub divides : (who : W) (spot : Spot) (by : Split) (a b rest : Coded) → is_of_value by ≡ true → Decides who spot.at → (note tables spot.at).splits ≡ true
@@ -72,9 +74,13 @@ module _ {tables : Tables} {functions : (binding : ℕ) → Signature} {W : Type
   either who true x y p q = p
   either who false x y p q = q
 
+  either_told : (who : W) → (b : Bool) (x y : Coded) → (b ≡ true → Ok who x) → (b ≡ false → Ok who y) → Ok who (if b then x else y)
+  either_told who true x y p q = p refl
+  either_told who false x y p q = q refl
+
   -- a name stands as one of a function only where it means one that may be called
   abbrev Fits : (who : W) → Standing → Type 0
-  Fits who (ToCall name) = Means who name
+  Fits who (ToCall name) = Means who name × (((note tables name.at).binding == no_binding) ≡ true → is_value_name name ≡ false)
   Fits who standing = Unit {0}
 
   abbrev Follows : (who : W) → (Standing → Coded) → Type 0
@@ -139,32 +145,32 @@ module _ {tables : Tables} {functions : (binding : ℕ) → Signature} {W : Type
   -- names
   predeclares : (who : W) → (name : Named) → Means who name → Good who (predeclared tables functions name)
   predeclares who name means k p =
-      by (is_name name (codes "__PROC_NR__")) (is_name name (codes "__STARTED_PROCS__")) (is_name name (codes "__inputs")) (is_name name (codes "__input"))
+      by (is_name name (codes "__PROC_NR__")) (is_name name (codes "__STARTED_PROCS__")) (is_name name (codes "__inputs")) (is_name name (codes "__input")) refl
     where
-      by : (a b c d : Bool) → Ok who (
+      by : (a b c d : Bool) → is_value_name name ≡ one_of a b c d → Ok who (
           if a then plain (o.Get n.ProcessorNumber) (k OnList)
           else if b then plain (o.Get n.Processors) (k OnList)
           else if c then plain (o.Get n.InputLength) (k OnList)
           else if d then plain (o.Get n.InputAddress) (k (AtAddress false (spot_of name)))
           else k (ToCall name))
-      by true b c d = (on refl (p OnList tt))
-      by false true c d = (on refl (p OnList tt))
-      by false false true d = (on refl (p OnList tt))
-      by false false false true = (on refl (p (AtAddress false (spot_of name)) tt))
-      by false false false false = p (ToCall name) means
+      by true b c d e = (on refl (p OnList tt))
+      by false true c d e = (on refl (p OnList tt))
+      by false false true d e = (on refl (p OnList tt))
+      by false false false true e = (on refl (p (AtAddress false (spot_of name)) tt))
+      by false false false false e = p (ToCall name) (means, (λ f. e))
 
-  places : (who : W) → (home : Home) (i : ℕ) (name : Named) → Means who name → Good who (placed tables functions home i name)
-  places who h.Global i name means k p = (on refl (p (AtAddress false (spot_of name)) tt))
-  places who h.FilePrivate i name means k p = p (InWord (v.OfFile i)) tt
-  places who h.Private i name means k p = p (InWord (v.Private i)) tt
-  places who (h.Group r) i name means k p = (on refl (p (AtAddress false (spot_of name)) tt))
-  places who h.NoWord i name means k p = p (ToCall name) means
+  places : (who : W) → (home : Home) (i : ℕ) (name : Named) → Means who name → ((note tables name.at).binding == no_binding) ≡ false → Good who (placed tables functions home i name)
+  places who h.Global i name means own k p = (on refl (p (AtAddress false (spot_of name)) tt))
+  places who h.FilePrivate i name means own k p = p (InWord (v.OfFile i)) tt
+  places who h.Private i name means own k p = p (InWord (v.Private i)) tt
+  places who (h.Group r) i name means own k p = (on refl (p (AtAddress false (spot_of name)) tt))
+  places who h.NoWord i name means own k p = p (ToCall name) (means, (λ f. absurd (true≢false (sym f ∙ own))))
 
   pub names : (who : W) → (name : Named) → Means who name → Good who (variable tables functions name)
   names who name means k p =
       let b = (note tables name.at).binding in
-      either who (b == no_binding) (predeclared tables functions name k) (placed tables functions (slot tables b).home (slot tables b).index name k)
-      (predeclares who name means k p) (places who (slot tables b).home (slot tables b).index name means k p)
+      either_told who (b == no_binding) (predeclared tables functions name k) (placed tables functions (slot tables b).home (slot tables b).index name k)
+      (λ e. predeclares who name means k p) (λ e. places who (slot tables b).home (slot tables b).index name means e k p)
 
   -- operators
   operates : (who : W) → (sign : Sign) (left right : ℕ) (rest : Coded) → Ok who rest → Ok who (operate tables functions sign left right rest)
@@ -283,10 +289,6 @@ module _ {tables : Tables} {functions : (binding : ℕ) → Signature} {W : Type
       let others = arguments tables functions xs es rest in
       value_is who e good.0 (agreed x.shared others) (agrees_or who x.shared others (takes who xs es good.1 rest p))
 
-  pub frames : (who : W) → (r : Option Region) (place : Place) (rest : Coded) → Ok who rest → Ok who (framed tables functions r place rest)
-  frames who None place rest p = p
-  frames who (Some r) place rest p = (on refl p)
-
   calls : (who : W) → (name : Named) (es : List Stands) → AllGood who es → Means who name → Good who (called tables functions name es)
   calls who name es good means k p =
       takes who (functions (note tables name.at).binding).parameters es good (entered tables functions name (k OnList)) (kept.enters who name (k OnList) means (p OnList tt))
@@ -302,23 +304,41 @@ module _ {tables : Tables} {functions : (binding : ℕ) → Signature} {W : Type
   with_ones who after keeps [] good k p = kept.ends who
   with_ones who after keeps (e ∷ es) good k p = value_is who e good.0 (after (k OnList)) (keeps (k OnList) (p OnList tt))
 
-  calls_predeclared : (who : W) → (name : Named) (es : List Stands) → AllGood who es → Good who (called_predeclared tables functions name es)
-  calls_predeclared who name es good k p =
-      either who (is_name name (codes "mpadd")) _ _ (multiprefixes who name MpAdd es good k p)
-      (either who (is_name name (codes "mpmax")) _ _ (multiprefixes who name MpMax es good k p)
-      (either who (is_name name (codes "mpand")) _ _ (multiprefixes who name MpAnd es good k p)
-      (either who (is_name name (codes "mpor")) _ _ (multiprefixes who name MpOr es good k p)
-      (either who (is_name name (codes "groupsize")) _ _ (on refl (p OnList tt))
-      (either who (is_name name (codes "putint")) _ _ (with_ones who (plain o.PrintNumber) (λ rest q. (on refl q)) es good k p)
-      (either who (is_name name (codes "putchar")) _ _ (with_ones who (plain o.PrintByte) (λ rest q. (on refl q)) es good k p)
-      (either who (is_name name (codes "malloc")) _ _ (with_ones who (plain o.Take) (λ rest q. (on refl q)) es good k p)
-      (either who (is_name name (codes "shmalloc")) _ _ (with_ones who (plain o.Heap) (λ rest q. (on refl q)) es good k p)
-      (with_ones who (λ rest. plain o.Agree (plain o.Block rest)) (λ rest q. kept.allots who rest q) es good k p)))))))))
+  calls_predeclared : (who : W) → (name : Named) (es : List Stands) → AllGood who es → Means who name → ((note tables name.at).binding == no_binding) ≡ true
+      → is_value_name name ≡ false → Good who (called_predeclared tables functions name es)
+  calls_predeclared who name es good means own value k p =
+      by (is_name name (codes "mpadd")) (is_name name (codes "mpmax")) (is_name name (codes "mpand")) (is_name name (codes "mpor")) (is_name name (codes "groupsize"))
+      (is_name name (codes "putint")) (is_name name (codes "putchar")) (is_name name (codes "malloc")) (is_name name (codes "shmalloc")) refl
+    where
+      by : (a b c d e f g h i : Bool)
+          → is_other_call name ≡ (if a then true else if b then true else if c then true else if d then true else if e then true else one_of f g h i) → Ok who (
+          if a then multiprefix tables functions name MpAdd es k
+          else if b then multiprefix tables functions name MpMax es k
+          else if c then multiprefix tables functions name MpAnd es k
+          else if d then multiprefix tables functions name MpOr es k
+          else if e then plain (o.Get n.GroupSize) (k OnList)
+          else if f then with_one tables functions (plain o.PrintNumber) es k
+          else if g then with_one tables functions (plain o.PrintByte) es k
+          else if h then with_one tables functions (plain o.Take) es k
+          else if i then with_one tables functions (plain o.Heap) es k
+          else with_one tables functions (λ rest. plain o.Agree (plain o.Block rest)) es k)
+      by true b c d e f g h i is = multiprefixes who name MpAdd es good k p
+      by false true c d e f g h i is = multiprefixes who name MpMax es good k p
+      by false false true d e f g h i is = multiprefixes who name MpAnd es good k p
+      by false false false true e f g h i is = multiprefixes who name MpOr es good k p
+      by false false false false true f g h i is = (on refl (p OnList tt))
+      by false false false false false true g h i is = with_ones who (plain o.PrintNumber) (λ rest q. (on refl q)) es good k p
+      by false false false false false false true h i is = with_ones who (plain o.PrintByte) (λ rest q. (on refl q)) es good k p
+      by false false false false false false false true i is = with_ones who (plain o.Take) (λ rest q. (on refl q)) es good k p
+      by false false false false false false false false true is = with_ones who (plain o.Heap) (λ rest q. (on refl q)) es good k p
+      by false false false false false false false false false is =
+          with_ones who (λ rest. plain o.Agree (plain o.Block rest))
+          (λ rest q. kept.allots who name rest means (record { predeclared = own; no_value = value; no_other = is }) q) es good k p
 
   all_calls : (who : W) → (es : List Stands) → AllGood who es → (k : Standing → Coded) → Follows who k → (s : Standing) → Fits who s → Ok who (calling tables functions es k s)
   all_calls who es good k p (ToCall name) means =
-      either who ((note tables name.at).binding == no_binding) (called_predeclared tables functions name es k) (called tables functions name es k)
-      (calls_predeclared who name es good k p) (calls who name es good means k p)
+      either_told who ((note tables name.at).binding == no_binding) (called_predeclared tables functions name es k) (called tables functions name es k)
+      (λ e. calls_predeclared who name es good means.0 e (means.1 e) k p) (λ e. calls who name es good means.0 k p)
   all_calls who es good k p s fits = kept.ends who
 
   -- expressions

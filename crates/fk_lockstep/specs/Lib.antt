@@ -1,5 +1,6 @@
 pub mod InStep
 pub mod Told
+pub mod Allots
 pub mod Noted
 pub mod Together
 pub mod AnyForm
