@@ -9,11 +9,11 @@ use Rattle.fk_regions.specs.Tokens.{spelling_of}
 use Rattle.fk_lockstep.specs.Allots.{is_value_name, is_other_call}
 
 module _ (name : Named) where
-  abbrev as : List ℕ → Named
-  as bytes = record name { bytes = bytes }
+  abbrev spelt : List ℕ → Named
+  spelt bytes = record name { bytes = bytes }
 
   abbrev Spelled : List ℕ → Type 0
-  Spelled bytes = is_value_name (as bytes) ≡ false → is_other_call (as bytes) ≡ false → spelling_of bytes ≡ Shalloc
+  Spelled bytes = is_value_name (spelt bytes) ≡ false → is_other_call (spelt bytes) ≡ false → spelling_of bytes ≡ Shalloc
 
   at_number : (k : ℕ) → k < 14 → Spelled (get_or predeclared k [])
   at_number zero low v c = absurd (true≢false c)
