@@ -20,6 +20,7 @@ use Rattle.fk_core.specs.WellFormed.{LeadsOn, HasDepths}
 use Rattle.fk_together.specs.Course.{InGroup, Waits, ByItself, FollowsFor, Follows}
 use Rattle.fk_one_group.specs.Where as w
 use Rattle.fk_one_group.specs.Where.{GoesFor, Goes}
+use Rattle.fk_one_group.proofs.Runs.{runs_have_one_group}
 use Rattle.fk_block_law.specs.Next.{StandsOp, step_at}
 use Rattle.fk_block_law.specs.Ready.{is_no_step, is_alone, MayDo}
 use Rattle.fk_block_law.specs.Lists.{IsWithin, AlwaysMay, is_end}
@@ -196,6 +197,14 @@ goes_7 (suc n) = by
     by true = (w.InGroup, refl, goes_8 n)
     by false = (w.InGroup, refl, goes_8 n)
 
+behind_7 : Goes (next core) w.BehindBody (At 7)
+behind_7 zero = tt
+behind_7 (suc n) = by
+  where
+    by : (onward : Bool) → (to : w.Where) × (w.goes w.BehindBody (o.Meet true) onward ≡ Some to) × GoesFor (next core) n to (follows core (o.Meet true) 7 0 [] onward)
+    by true = (w.InGroup, refl, goes_8 n)
+    by false = (w.InGroup, refl, goes_8 n)
+
 goes_6 : Goes (next core) w.InBody (At 6)
 goes_6 zero = tt
 goes_6 (suc n) = by
@@ -210,7 +219,7 @@ goes_5 (suc n) = by
   where
     by : (onward : Bool) → (to : w.Where) × (w.goes w.InGroup (o.Farm) onward ≡ Some to) × GoesFor (next core) n to (follows core (o.Farm) 5 7 [] onward)
     by true = (w.InBody, refl, goes_6 n)
-    by false = (w.InBody, refl, goes_7 n)
+    by false = (w.BehindBody, refl, behind_7 n)
 
 goes_4 : Goes (next core) w.InGroup (At 4)
 goes_4 zero = tt
@@ -530,9 +539,9 @@ list = record {
   within = within;
   alone = alone;
   levels = λ i. refl;
-  outs = outs;
-  follows_course = follows_0;
-  goes = goes_0;
+  one_group = λ processors globals input firsts schedule some lawful single none.
+      let both = runs_have_one_group Position (next core) outs (At 0) processors globals input firsts schedule follows_0 goes_0 some lawful single none in
+      (both.0.tree, both.0.members, both.1);
   well_formed = record { leads_on = leads; depths = depths };
   may = may;
 }

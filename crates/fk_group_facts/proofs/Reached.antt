@@ -16,7 +16,7 @@ use Rattle.fk_one_group.specs.Rounds.{IsSingle, stepping}
 use Rattle.fk_one_group.specs.Runs.{AreSingle}
 use Rattle.fk_one_group.proofs.Acts.{Acts, acts, stepping_length, result_is}
 use Rattle.fk_one_group.proofs.Opening.{begins_at}
-use Rattle.fk_one_group.proofs.Runs.{are_all, round_by_round, runs_have_one_group}
+use Rattle.fk_one_group.proofs.Runs.{are_all, round_by_round}
 use Rattle.fk_block_law.specs.Next.{step_at}
 use Rattle.fk_block_law.specs.Lists.{IsWithin}
 use Rattle.fk_group_law.specs.Node.{Nestings}
@@ -102,11 +102,11 @@ module _ (core : List CoreOp) (nestings : Nestings) (main : ℕ) (list : IsOfOne
 
 pub runs_reach : RunsReach
 runs_reach core nestings main list words firsts input p schedule some lawful single none =
-    let both = runs_have_one_group Position (next core) list.outs (position main []) p words input (slice_index firsts) schedule list.follows_course list.goes some lawful single none in
+    let known = list.one_group p words input (slice_index firsts) schedule some lawful single none in
     record {
-      sound = both.0.tree;
-      one_program = both.0.members;
-      one_group = both.1;
+      sound = known.0;
+      one_program = known.1;
+      one_group = known.2;
       within = all_there core nestings main list words firsts input p schedule lawful single none;
       depth = λ h r op at stands. list.well_formed.depths words firsts input p schedule lawful none h r op at stands;
       may = λ h r op operation at stands is_read. list.may words firsts input p schedule lawful none h r op operation at stands is_read;

@@ -3,10 +3,9 @@ use Rattle.std.specs.Prelude.{◌≡◌, ℕ, ◌<◌, List, [], length, Bool, t
 use Rattle.fk_operation.specs.Kinds.{class_of}
 use Rattle.fk_operation.specs.declared.operation.Operation.{Operation}
 use Rattle.fk_core.specs.declared.op.CoreOp.{CoreOp}
-use Rattle.fk_core.specs.Next.{Position, position, is_jump, follows, next}
+use Rattle.fk_core.specs.Next.{position, is_jump, follows, next}
 use Rattle.fk_core.specs.WellFormed.{IsOperation, IsWellFormed}
-use Rattle.fk_together.specs.Course.{ByItself, Follows}
-use Rattle.fk_one_group.specs.Where.{InRoot, Goes}
+use Rattle.fk_one_group.specs.Runs.{AlwaysOneGroup}
 use Rattle.fk_block_law.specs.Next.{StandsOp}
 use Rattle.fk_block_law.specs.Ready.{is_no_step, is_alone}
 use Rattle.fk_block_law.specs.Lists.{IsWithin, is_end, AlwaysMay}
@@ -24,10 +23,8 @@ pub record IsOfOneGroup (core : List CoreOp) (nestings : Nestings) (main : ℕ) 
   pub alone : (i : ℕ) (op : CoreOp) (operation : Operation) → StandsOp core i op operation → is_no_step (class_of operation) ≡ true → is_alone operation ≡ true
   -- no level stands in a frame: round a group there is the root alone
   pub levels : (i : ℕ) → nestings.levels i ≡ 0
-  -- processors go through groups and bodies in their order, one group at a time
-  pub outs : Position → List Position
-  pub follows_course : Follows (next core) outs (ByItself false) (position main [])
-  pub goes : Goes (next core) InRoot (position main [])
+  -- in every lawful run the members of a group in lockstep are at one index, and there is one group at a time
+  pub one_group : AlwaysOneGroup (next core) (position main [])
   -- in every lawful run each has as many values as its operation expects, and may do it
   pub well_formed : IsWellFormed core main
   pub may : AlwaysMay core main
