@@ -18,7 +18,7 @@ use Rattle.fk_forms.specs.Expressions.{Coded, nowhere, plain, Standing, Signatur
 use Rattle.fk_nesting.proofs.Spine.{untrue}
 use Rattle.fk_nesting.proofs.Kept.{entered}
 use Rattle.fk_lockstep.proofs.Kept as k
-use Rattle.fk_lockstep.proofs.Kept.{is_plain, is_of_value, IsKept}
+use Rattle.fk_lockstep.proofs.Kept.{is_quiet, is_of_value, IsKept}
 use Rattle.fk_course.specs.Placed.{Who, OfGroup, OfBody, OfMain, is_group, inner, callee_of, Placed}
 use Rattle.fk_course.specs.InPlace.{Splits, Calls, InPlace}
 
@@ -60,7 +60,7 @@ module _ (tables : Tables) (functions : (binding : ℕ) → Signature) (may_call
       let opening = parameters tables functions 0 function.parameters in
       (refl, refl, means.0, frames (callee_of who) (frame_at tables function.at 0) name.place opening (puts_in (callee_of who) 0 function.parameters), p)
 
-  performs : (who : Who) (t : Place) (op : Operation) (rest : Coded) → is_plain op ≡ true → Ok who rest → Ok who (perform t op rest)
+  performs : (who : Who) (t : Place) (op : Operation) (rest : Coded) → is_quiet op ≡ true → Ok who rest → Ok who (perform t op rest)
   performs who t o.Resume rest e p = untrue e
   performs who t o.Halt rest e p = untrue e
   performs who t op rest e p = (refl, p)
@@ -84,6 +84,7 @@ module _ (tables : Tables) (functions : (binding : ℕ) → Signature) (may_call
     part_ends = λ who. (refl, refl);
     divides = divides;
     branches = λ who spot onward a b rest splits p q r. agrees_or who (note tables spot.at).sync (choose nowhere (o.Branch onward) a b rest) (refl, refl, p, q, (λ f. untrue f), r);
+    shares = λ who name means. k.all_agree Ok who (λ rest p. (refl, p)) (functions (note tables name.at).binding).parameters;
     enters = enters;
   }
 

@@ -22,7 +22,7 @@ use Rattle.fk_nesting.specs.Shape.{ends_part}
 use Rattle.fk_nesting.proofs.Spine.{untrue}
 use Rattle.fk_nesting.proofs.Kept.{entered}
 use Rattle.fk_lockstep.proofs.Kept as k
-use Rattle.fk_lockstep.proofs.Kept.{is_plain, is_of_value, IsKept}
+use Rattle.fk_lockstep.proofs.Kept.{is_quiet, is_of_value, IsKept}
 use Rattle.fk_course.specs.Placed.{Who, OfGroup, OfBody, OfMain, is_group, is_main, is_outermost, inner}
 use Rattle.fk_course.specs.InPlace.{Splits, Calls, InPlace, OptionInPlace, VariablesInPlace, StatementInPlace, StatementsInPlace}
 use Rattle.fk_course.specs.Pending as pending
@@ -130,7 +130,7 @@ module _ (may_call : (in_group : Bool) → (function : ℕ) → Bool) (functions
           ),
         )
 
-    performs : (who : Who) (t : Place) (op : Operation) (rest : Coded) → is_plain op ≡ true → Idle rest → Idle (perform t op rest)
+    performs : (who : Who) (t : Place) (op : Operation) (rest : Coded) → is_quiet op ≡ true → Idle rest → Idle (perform t op rest)
     performs who t (o.Divide by) rest e p = untrue e
     performs who t (o.Enter n') rest e p = untrue e
     performs who t (o.Leave result framed') rest e p = untrue e
@@ -152,6 +152,7 @@ module _ (may_call : (in_group : Bool) → (function : ℕ) → Bool) (functions
       part_ends = λ who. goes nowhere o.End done refl idle_done;
       divides = divides;
       branches = λ who spot onward a b rest splits p q r. agrees_or (note tables spot.at).sync (choose nowhere (o.Branch onward) a b rest) (chooses nowhere (o.Branch onward) a b rest refl (may_begin caller (o.Branch onward) refl) p q r);
+      shares = λ who name means. k.all_agree (λ (w : Who). Idle) who (λ rest p. goes nowhere o.Agree rest refl p) (functions (note tables name.at).binding).parameters;
       enters = enters;
     }
 

@@ -18,7 +18,7 @@ use Rattle.fk_forms.specs.Expressions.{Coded, nowhere, plain, Standing, Signatur
 use Rattle.fk_nesting.proofs.Spine.{untrue}
 use Rattle.fk_nesting.proofs.Kept.{entered}
 use Rattle.fk_lockstep.proofs.Kept as k
-use Rattle.fk_lockstep.proofs.Kept.{is_plain, is_of_value, IsKept}
+use Rattle.fk_lockstep.proofs.Kept.{is_plain, quiet_plain, is_of_value, IsKept}
 use Rattle.fk_course.specs.Placed.{Who, OfGroup, OfBody, OfMain, is_group, callee_of}
 use Rattle.fk_course.specs.InPlace.{Splits, Calls, InPlace}
 use Rattle.fk_framing.specs.Framed.{is_body, Stays, Chooses, Opens, Framed}
@@ -132,12 +132,13 @@ module _ (tables : Tables) (functions : (binding : ℕ) → Signature) (may_call
   kept = record {
     inner = λ who. who;
     told = λ who e h. h;
-    performs = λ who t op rest e p. plain_is_no_frame op e who t rest p;
+    performs = λ who t op rest e p. plain_is_no_frame op (quiet_plain op e) who t rest p;
     allots = λ who name rest means a p. allots who rest (means.1 a) p;
     ends = λ who. tt;
     part_ends = λ who. (ends_part who, refl, tt);
     divides = divides;
     branches = λ who spot onward a b rest splits p q r. agrees_or who (note tables spot.at).sync (choose nowhere (o.Branch onward) a b rest) (no_choice who onward, p, q, (λ i. untrue i), r);
+    shares = λ who name means. k.all_agree Ok who (λ rest p. (stays who o.Agree refl, refl, p)) (functions (note tables name.at).binding).parameters;
     enters = enters;
   }
 

@@ -18,7 +18,7 @@ use Rattle.fk_lockstep.specs.InStep.{InStep}
 use Rattle.fk_lockstep.specs.Noted.{Decides, Means, Noted}
 use Rattle.fk_lockstep.proofs.Weaken.{weaken}
 use Rattle.fk_lockstep.proofs.Kept as k
-use Rattle.fk_lockstep.proofs.Kept.{is_plain, IsKept}
+use Rattle.fk_lockstep.proofs.Kept.{is_quiet, IsKept}
 
 module _ (tables : Tables) (functions : (binding : ℕ) → Signature) (may_call : (function : ℕ) → Bool) where
   abbrev pub Ok : Coded → Type 0
@@ -49,10 +49,10 @@ module _ (tables : Tables) (functions : (binding : ℕ) → Signature) (may_call
       let function = functions (note tables name.at).binding in
       (refl, means, frames (frame_at tables function.at 0) name.place (parameters tables functions 0 function.parameters) (puts_in 0 function.parameters), p)
 
-  performs : (t : Place) (op : Operation) (rest : Coded) → is_plain op ≡ true → Ok rest → Ok (perform t op rest)
+  performs : (t : Place) (op : Operation) (rest : Coded) → is_quiet op ≡ true → Ok rest → Ok (perform t op rest)
   performs t (o.Branch onward) rest e p = untrue e
   performs t o.Block rest e p = untrue e
-  performs t o.Agree rest e p = (refl, weaken may_call true rest p)
+  performs t o.Agree rest e p = untrue e
   performs t op rest e p = (refl, p)
 
   pub kept : IsKept tables functions (Unit {0}) (λ who. Ok) (λ who. Decides tables may_call) (λ who. Means tables may_call)
@@ -65,6 +65,7 @@ module _ (tables : Tables) (functions : (binding : ℕ) → Signature) (may_call
     part_ends = λ who. (refl, tt);
     divides = λ who spot by a b rest of_value decides splits p q r. (refl, p, q, (refl, r));
     branches = λ who spot onward a b rest decides p q r. agrees (note tables spot.at).sync decides (choose nowhere (o.Branch onward) a b rest) (refl, p, q, r);
+    shares = λ who name means. k.all_agree (λ (w : Unit {0}). Ok) who (λ rest p. (refl, weaken may_call true rest p)) (functions (note tables name.at).binding).parameters;
     enters = λ who. enters;
   }
 

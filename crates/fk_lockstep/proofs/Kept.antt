@@ -39,6 +39,15 @@ is_plain o.Block = false
 is_plain (o.Frame nesting words) = false
 is_plain op = is_inner op
 
+-- and which don't agree
+abbrev pub is_quiet : Operation → Bool
+is_quiet o.Agree = false
+is_quiet op = is_plain op
+
+pub quiet_plain : (op : Operation) → is_quiet op ≡ true → is_plain op ≡ true
+quiet_plain o.Agree e = absurd (true≢false (sym e))
+quiet_plain op e = e
+
 -- the splits of expressions
 abbrev pub is_of_value : Split → Bool
 is_of_value IfElse = true
@@ -46,13 +55,23 @@ is_of_value AndThen = true
 is_of_value OrElse = true
 is_of_value by = false
 
+-- an agree may stand behind the argument of each parameter with `sh`
+module _ {W : Type 0} (Fine : W → Coded → Type 0) where
+  abbrev pub SharesAgree : W → List DeclaredTree → Type 0
+  SharesAgree who [] = Unit {0}
+  SharesAgree who (x ∷ xs) = (x.shared ≡ true → (rest : Coded) → Fine who rest → Fine who (plain o.Agree rest)) × SharesAgree who xs
+
+  pub all_agree : (who : W) → ((rest : Coded) → Fine who rest → Fine who (plain o.Agree rest)) → (xs : List DeclaredTree) → SharesAgree who xs
+  all_agree who agrees [] = tt
+  all_agree who agrees (x ∷ xs) = ((λ e rest p. agrees rest p), all_agree who agrees xs)
+
 -- What is wanted of code is one of W, and `Fine` says which code is so. In an arm or a part another is wanted, of which as much
--- is told. An agree stands before a branch, and before `shalloc`
+-- is told. An agree stands before a branch, before `shalloc`, and behind arguments
 pub record IsKept (tables : Tables) (functions : (binding : ℕ) → Signature) (W : Type 0) (Fine : W → Coded → Type 0)
     (Decides : W → (at : ℕ) → Type 0) (Means : W → Named → Type 0) : Type 0 where
   pub inner : W → W
   pub told : (who : W) (e : Tree) → Told (Decides who) (Means who) e → Told (Decides (inner who)) (Means (inner who)) e
-  pub performs : (who : W) (t : Place) (op : Operation) (rest : Coded) → is_plain op ≡ true → Fine who rest → Fine who (perform t op rest)
+  pub performs : (who : W) (t : Place) (op : Operation) (rest : Coded) → is_quiet op ≡ true → Fine who rest → Fine who (perform t op rest)
   pub allots : (who : W) (name : Named) (rest : Coded) → Means who name → Allots tables name → Fine who rest → Fine who (plain o.Agree (plain o.Block rest))
   pub ends : (who : W) → Fine who done
   pub part_ends : (who : W) → Fine who (plain o.End done)
@@ -60,11 +79,12 @@ pub record IsKept (tables : Tables) (functions : (binding : ℕ) → Signature) 
       → Fine (inner who) a → Fine (inner who) b → Fine who rest → Fine who (choose spot.place (o.Divide by) a b (plain o.Resume rest))
   pub branches : (who : W) (spot : Spot) (onward : Bool) (a b rest : Coded) → Decides who spot.at → Fine (inner who) a → Fine (inner who) b → Fine who rest
       → Fine who (agreed (note tables spot.at).sync (choose nowhere (o.Branch onward) a b rest))
+  pub shares : (who : W) (name : Named) → Means who name → SharesAgree Fine who (functions (note tables name.at).binding).parameters
   pub enters : (who : W) (name : Named) (rest : Coded) → Means who name → Fine who rest → Fine who (entered tables functions name rest)
 
 module _ {tables : Tables} {functions : (binding : ℕ) → Signature} {W : Type 0} {Fine : W → Coded → Type 0} {Decides : W → (at : ℕ) → Type 0} {Means : W → Named → Type 0}
     (kept : IsKept tables functions W Fine Decides Means) where
-  on : {who : W} {t : Place} {op : Operation} {rest : Coded} → is_plain op ≡ true → Fine who rest → Fine who (perform t op rest)
+  on : {who : W} {t : Place} {op : Operation} {rest : Coded} → is_quiet op ≡ true → Fine who rest → Fine who (perform t op rest)
   on {who = who} {t = t} {op = op} {rest = rest} e p = kept.performs who t op rest e p
 
   abbrev pub Ok : W → Coded → Type 0
@@ -106,9 +126,9 @@ module _ {tables : Tables} {functions : (binding : ℕ) → Signature} {W : Type
   moves who Back step sign unsigned rest p = (on refl (on refl p))
   moves who NoMove step sign unsigned rest p = operator who sign unsigned rest p
 
-  pub agrees_or : (who : W) → (sync : Bool) (rest : Coded) → Ok who rest → Ok who (agreed sync rest)
-  agrees_or who true rest p = (on refl p)
-  agrees_or who false rest p = p
+  agrees_or : (who : W) → (sync : Bool) (rest : Coded) → (sync ≡ true → (rest' : Coded) → Ok who rest' → Ok who (plain o.Agree rest')) → Ok who rest → Ok who (agreed sync rest)
+  agrees_or who true rest agrees p = agrees refl rest p
+  agrees_or who false rest agrees p = p
 
   -- how an expression stands
   checks : (who : W) → (deep : Bool) (spot : Spot) (rest : Coded) → Ok who rest → Ok who (checked tables functions deep spot rest)
@@ -281,17 +301,17 @@ module _ {tables : Tables} {functions : (binding : ℕ) → Signature} {W : Type
       (λ s fits. (on refl (operator who back false (k OnList) (p OnList tt))))
 
   -- calls
-  takes : (who : W) → (xs : List DeclaredTree) (es : List Stands) → AllGood who es → (rest : Coded) → Ok who rest → Ok who (arguments tables functions xs es rest)
-  takes who [] [] good rest p = p
-  takes who [] (e ∷ es) good rest p = p
-  takes who (x ∷ xs) [] good rest p = p
-  takes who (x ∷ xs) (e ∷ es) good rest p =
+  takes : (who : W) → (xs : List DeclaredTree) (es : List Stands) → SharesAgree Fine who xs → AllGood who es → (rest : Coded) → Ok who rest → Ok who (arguments tables functions xs es rest)
+  takes who [] [] agree good rest p = p
+  takes who [] (e ∷ es) agree good rest p = p
+  takes who (x ∷ xs) [] agree good rest p = p
+  takes who (x ∷ xs) (e ∷ es) agree good rest p =
       let others = arguments tables functions xs es rest in
-      value_is who e good.0 (agreed x.shared others) (agrees_or who x.shared others (takes who xs es good.1 rest p))
+      value_is who e good.0 (agreed x.shared others) (agrees_or who x.shared others agree.0 (takes who xs es agree.1 good.1 rest p))
 
   calls : (who : W) → (name : Named) (es : List Stands) → AllGood who es → Means who name → Good who (called tables functions name es)
   calls who name es good means k p =
-      takes who (functions (note tables name.at).binding).parameters es good (entered tables functions name (k OnList)) (kept.enters who name (k OnList) means (p OnList tt))
+      takes who (functions (note tables name.at).binding).parameters es (kept.shares who name means) good (entered tables functions name (k OnList)) (kept.enters who name (k OnList) means (p OnList tt))
 
   multiprefixes : (who : W) → (name : Named) (by : Multiprefix) (es : List Stands) → AllGood who es → Good who (multiprefix tables functions name by es)
   multiprefixes who name by [] good k p = kept.ends who
