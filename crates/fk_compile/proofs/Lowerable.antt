@@ -19,11 +19,12 @@ use Rattle.fk_parsed.specs.Trim.{ProgramIsTrim}
 use Rattle.fk_fitting.specs.Correct.{IsCorrect}
 use Rattle.fk_fitting.specs.Laws.{CorrectProgramsFit}
 use Rattle.fk_certain.specs.LoweringLaws.{IsKnownOf}
-use Rattle.fk_text.specs.Built.{AreBuilt}
+use Rattle.fk_text.specs.Plain.{ArePlain}
 use Rattle.fk_certain.specs.Proper.{ProgramIsProper}
 use Rattle.fk_lower.specs.Depths.{AreTold}
 use Rattle.fk_lower_text.specs.Depths.{depths_of}
-use Rattle.fk_certain.specs.Laws.{CanBeCoded, LoweredListsCanBeCoded, count_of_file}
+use Rattle.fk_certain.specs.Laws.{count_of_file}
+use Rattle.fk_grouped.specs.Lists.{IsGrouped, LoweredListsAreGrouped}
 use Rattle.fk_compile.specs.Lists.{HasListOf}
 
 module _ (program : ProgramTree) (facts : Facts) (known : Known) (of : IsKnownOf program facts known) where
@@ -39,15 +40,15 @@ module _ (program : ProgramTree) (facts : Facts) (known : Known) (of : IsKnownOf
       subst (λ (items : List ItemTree). length (sites_in (tables_of known) (functions_of items) (functions_of items)) ≤ 16000) (sym of.items)
       (subst (λ (t : Tables). length (sites_in t (functions_of program.items) (functions_of program.items)) ≤ 16000) (sym of.tables) fits.sites)
 
--- and code is made of its list
-pub coded_list : (program : ProgramTree) (facts : Facts) (known : Known) → IsKnownOf program facts known → LoweredListsCanBeCoded → IsCorrect program facts → ProgramIsTrim program
-    → ProgramIsProper program → Fits (tables_by program facts) program.items → AreBuilt (tables_by program facts) program
+-- and its list has one group at a time
+pub grouped_list : (program : ProgramTree) (facts : Facts) (known : Known) → IsKnownOf program facts known → LoweredListsAreGrouped → IsCorrect program facts → ProgramIsTrim program
+    → ProgramIsProper program → Fits (tables_by program facts) program.items → ArePlain (tables_by program facts) program
     → (core : List CoreOp) (main : ℕ) → HasListOf (tables_of known) program core main → AreTold (depths_of known (functions_in known)) core
-    → CanBeCoded core main (count_of_file program facts)
-coded_list program facts known of law valid trim proper fits built core main list told =
+    → IsGrouped core main (count_of_file program facts)
+grouped_list program facts known of law valid trim proper fits plain core main list told =
     let own = subst (λ (t : Tables). HasListOf t program core main) of.tables list in
-    subst (λ (m : ℕ). CanBeCoded core m (count_of_file program facts)) (sym own.begins)
-    (law program facts known of valid trim proper fits built core own.entry own.flat told)
+    subst (λ (m : ℕ). IsGrouped core m (count_of_file program facts)) (sym own.begins)
+    (law program facts known of valid trim proper fits plain core own.entry own.flat own.code told)
 
 -- what is so of what is answered
 pub answered : {A E : Type 0} (P Q : A → Type 0) (r : Result A E) → ((a : A) → P a → Q a) → IfOk r P → IfOk r Q

@@ -1,0 +1,3 @@
+mod Aims
+mod Blocks
+mod Lists

@@ -1,0 +1,35 @@
+//! Laws of lists with one group at a time.
+
+ghost use Rattle.fk_grouped.specs.Lists.{StraightHasNoTarget, PlainListsHaveBlocks, StepsFindValues, GroupedListsAreGenerable, LoweredListsAreGrouped};
+ghost use Rattle.fk_grouped.specs.Machines.{MachinesFollowOneGroup};
+
+/// In the flat list of code an operation that goes straight on has the target 0.
+pub fn straight_has_no_target()
+    ensures { StraightHasNoTarget }
+{}
+
+/// Each operation of a flat list of plain operations, which goes on within itself, has a block, and its target is in the list.
+pub fn plain_lists_have_blocks()
+    ensures { PlainListsHaveBlocks }
+{}
+
+/// Where each operation of a list finds the values that it needs, each step of a group finds the one that it looks at.
+pub fn steps_find_values()
+    ensures { StepsFindValues }
+{}
+
+/// Code can be made of a flat list that is steady, with the words that are live in it.
+pub fn grouped_lists_are_generable()
+    ensures { GroupedListsAreGenerable }
+{}
+
+/// The list of a text that keeps all rules, has a layout and in which no group splits is such that code with groups can be made of
+/// it, its operations have blocks, and in all its runs there is one group at a time.
+pub fn lowered_lists_are_grouped()
+    ensures { LoweredListsAreGrouped }
+{}
+
+/// A machine of an image that has the law of blocks of such a list follows the list's core runs.
+pub fn machines_follow_one_group()
+    ensures { MachinesFollowOneGroup }
+{}
