@@ -15,7 +15,7 @@
        666666 */
 #include <io.h>
 
-sh int size[5 * 8];
+sh int size[40];
 
 void show(int row) {
   int i;

@@ -9,7 +9,7 @@
 #include <io.h>
 
 sh int letter[8];
-sh int picture[7 * 8];
+sh int picture[56];
 sh int rows;
 
 /* Waits for so long, and draws a row. */
@@ -36,8 +36,8 @@ void main(void) {
       letter[$] = 'f';
       if ($ == 2) draw(100);
       if ($ > 3) for (i = 0; i < 200; i++) ;
-      letter[$] = 'b';
       if ($ == 4) draw(100);
+      letter[$] = 'b';
       barrier;
       letter[$] = 'f';
       if ($ == 1) draw(100);

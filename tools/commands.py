@@ -430,7 +430,7 @@ for title, (harts, text, show, out) in groups.ENDLESS.items():
     ROWS.append(Row(words, 7, out, r"stopped after 100000 cycles\n"))
 ROWS += [
     Row(run("group start.f95", harts=4, cycles=0) + ["--show", "x"], 7, b"x = 0\n", AT_ONCE),
-    # a group, its code and its end: const or get for who is in it, the group, what it does, end, resume, halt
+    # a group, its code and its end: get for who is in it, begin, what it does, end, resume, halt
     Row(
         build("group start.f95", "kinds.image"),
         0,

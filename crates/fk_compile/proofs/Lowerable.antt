@@ -13,7 +13,7 @@ use Rattle.fk_flat.specs.Laws.{AreShaped}
 use Rattle.fk_layout.specs.Layout.{tables_by}
 use Rattle.fk_layout.specs.Refusal.{Fits}
 use Rattle.fk_lower_text.specs.Whole.{AreWhole}
-use Rattle.fk_lower_text.specs.Lowered.{IsLowerable}
+use Rattle.fk_lower_text.specs.Lowered.{IsLowerable, HasSites}
 use Rattle.fk_shapes.specs.Fitting.{FormsAreShaped}
 use Rattle.fk_parsed.specs.Trim.{ProgramIsTrim}
 use Rattle.fk_fitting.specs.Correct.{IsCorrect}
@@ -43,18 +43,18 @@ module _ (program : ProgramTree) (facts : Facts) (known : Known) (of : IsKnownOf
 -- and its list has one group at a time
 pub grouped_list : (program : ProgramTree) (facts : Facts) (known : Known) → IsKnownOf program facts known → LoweredListsAreGrouped → IsCorrect program facts → ProgramIsTrim program
     → ProgramIsProper program → Fits (tables_by program facts) program.items → ArePlain (tables_by program facts) program
-    → (core : List CoreOp) (main : ℕ) → HasListOf (tables_of known) program core main → AreTold (depths_of known (functions_in known)) core
+    → (core : List CoreOp) (main : ℕ) → HasListOf (tables_of known) program core main → HasSites known core → AreTold (depths_of known (functions_in known)) core
     → IsGrouped core main (count_of_file program facts)
-grouped_list program facts known of law valid trim proper fits plain core main list told =
+grouped_list program facts known of law valid trim proper fits plain core main list sites told =
     let own = subst (λ (t : Tables). HasListOf t program core main) of.tables list in
     subst (λ (m : ℕ). IsGrouped core m (count_of_file program facts)) (sym own.begins)
-    (law program facts known of valid trim proper fits plain core own.entry own.flat own.code told)
+    (law program facts known of valid trim proper fits plain core own.entry own.flat own.code sites told)
 
 -- what is so of what is answered
 pub answered : {A E : Type 0} (P Q : A → Type 0) (r : Result A E) → ((a : A) → P a → Q a) → IfOk r P → IfOk r Q
 answered P Q (Ok a) go h = go a h
 answered P Q (Err e) go h = tt
 
-pub answered_both : {A E : Type 0} (P Q R : A → Type 0) (r : Result A E) → ((a : A) → P a → Q a → R a) → IfOk r P → IfOk r Q → IfOk r R
-answered_both P Q R (Ok a) go h k = go a h k
-answered_both P Q R (Err e) go h k = tt
+pub answered_all : {A E : Type 0} (P Q R S : A → Type 0) (r : Result A E) → ((a : A) → P a → Q a → R a → S a) → IfOk r P → IfOk r Q → IfOk r R → IfOk r S
+answered_all P Q R S (Ok a) go h k l = go a h k l
+answered_all P Q R S (Err e) go h k l = tt

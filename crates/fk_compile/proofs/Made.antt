@@ -20,13 +20,14 @@ use Rattle.fk_image.specs.declared.Image.{Image}
 use Rattle.fk_image.specs.Limits.{IsSite, IsCommit, Rise}
 use Rattle.fk_asm.specs.Commits.{IsCommitTable}
 use Rattle.fk_asm.specs.declared.code.Code.{Code}
-use Rattle.fk_group_law.specs.Node.{Gathering}
+use Rattle.fk_block_law.specs.Stands.{Places}
+use Rattle.fk_group_law.specs.Node.{Nestings, Gathering}
 use Rattle.fk_group_law.specs.Law.{GroupLaw}
 use Rattle.fk_group_code.specs.Cycles.{cycles_of}
 use Rattle.fk_group_code.specs.Laws.{none_saved}
 use Rattle.fk_group_code.specs.Whole.{GivesGroupLaw}
 use Rattle.fk_grouped.specs.Lists.{StepsFindValues, IsGrouped}
-use Rattle.fk_grouped.specs.Machines.{CarriesGroups}
+use Rattle.fk_group_course.specs.Follow.{CarriesGroups}
 use Rattle.fk_kept.specs.declared.set.Set.{Set}
 use Rattle.fk_certain.specs.Certain.{HasFrames}
 use Rattle.fk_text.specs.declared.refusal.Refusal.{Refusal}
@@ -96,28 +97,34 @@ module _ (program : ProgramTree) (facts : Facts) (layout : Layout) (laid : IsLay
           p.has_sites ∙ ap (λ (sites : List Site). map in_table sites) laid.sites
           ∙ as_in_image (sites_of (tables_by program facts) program)
 
-      carries : StepsFindValues → CarriesGroups core main layout.firsts.items image
-      carries values =
-          let has : HasCode code (vec_len layout.words) image = record {
-            words = ap (λ v. v.items) p.has_code;
-            commits = ap (λ v. v.items) p.has_commits;
-            globals_of = let held = layout.words.ok.0 in let same = ap (λ v. length v.items) p.has_globals in omega (arith, held, same);
-          } in
-          let given = p.law image p.held.frames has p.held.suits p.held.keeps p.held.of_file (values core p.grouped.can.enough) in
-          record {
-            places = record { block = given.0; frames = p.held.frames };
-            nestings = none_saved given.1;
-            cycles = cycles_of core (vec_len layout.words) kept;
-            one_group = p.grouped.one_group given.1;
-            blocks = given.2;
-            firsts_are_words = p.firsts_are_words;
-            globals_are_words = subst (λ v. All (λ w. w < 2 ^ 32) v.items) (sym p.has_globals) p.globals_are_words;
-          }
+      has : HasCode code (vec_len layout.words) image
+      has = record {
+        words = ap (λ v. v.items) p.has_code;
+        commits = ap (λ v. v.items) p.has_commits;
+        globals_of = let held = layout.words.ok.0 in let same = ap (λ v. length v.items) p.has_globals in omega (arith, held, same);
+      }
+
+      given : StepsFindValues → (block : (index : ℕ) → ℕ) × (start : Gathering)
+          × GroupLaw core image (record { block = block; frames = p.held.frames }) (none_saved start) (cycles_of core (vec_len layout.words) kept) layout.firsts.items main
+      given values = p.law image p.held.frames has p.held.suits p.held.keeps p.held.of_file (values core p.grouped.can.enough)
 
       pub is_compiled : StepsFindValues → IsCompiled program facts core main image
-      is_compiled values = record {
+      is_compiled values = let law = given values in record {
         list = p.list;
-        carries = subst (λ (firsts : List ℕ). CarriesGroups core main firsts image) laid.firsts (carries values);
+        places = record { block = law.0; frames = p.held.frames };
+        nestings = none_saved law.1;
+        cycles = cycles_of core (vec_len layout.words) kept;
+        carries =
+            subst
+            (λ (firsts : List ℕ).
+            CarriesGroups core main firsts (record { block = law.0; frames = p.held.frames }) (none_saved law.1) (cycles_of core (vec_len layout.words) kept) image)
+            laid.firsts
+            (record {
+              one_group = p.grouped.one_group law.1;
+              blocks = law.2;
+              firsts_are_words = p.firsts_are_words;
+              globals_are_words = subst (λ v. All (λ w. w < 2 ^ 32) v.items) (sym p.has_globals) p.globals_are_words;
+            });
         limits = record {
           some_code = let same = ap (λ v. vec_len v) p.has_code in omega (arith, same, p.some);
           code = let same = ap (λ v. vec_len v) p.has_code in omega (arith, same, p.few);

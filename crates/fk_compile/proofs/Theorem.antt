@@ -11,7 +11,10 @@ use Rattle.fk_image.specs.declared.Image.{Image}
 use Rattle.fk_image.specs.Limits.{IsWithinLimits}
 use Rattle.fk_simulation.specs.Follows.{Follows}
 use Rattle.fk_simulation.specs.Simulation.{ProgramsAreFollowed}
-use Rattle.fk_grouped.specs.Machines.{CarriesGroups, MachinesFollowOneGroup}
+use Rattle.fk_block_law.specs.Stands.{Places}
+use Rattle.fk_group_law.specs.Node.{Nestings}
+use Rattle.fk_group_law.specs.Law.{Cycles}
+use Rattle.fk_group_course.specs.Follow.{CarriesGroups, MachinesFollowGroups}
 use Rattle.fk_compile.specs.Lists.{HasListOf}
 use Rattle.fk_compile.specs.Faithful.{in_image, words_by, firsts_by, IsFaithfulTo}
 
@@ -19,12 +22,15 @@ module _ (program : ProgramTree) (facts : Facts) (core : List CoreOp) (main : �
   -- what the parts of the compiler say of the list and the image
   pub record IsCompiled : Type 0 where
     pub list : HasListOf (tables_by program facts) program core main
-    pub carries : CarriesGroups core main (firsts_by program facts) image
+    pub places : Places
+    pub nestings : Nestings
+    pub cycles : Cycles
+    pub carries : CarriesGroups core main (firsts_by program facts) places nestings cycles image
     pub limits : IsWithinLimits image
     pub sites_are : image.sites.items ≡ map in_image (sites_of (tables_by program facts) program)
     pub globals_are : image.globals.items ≡ words_by program facts
 
-  pub is_faithful : MachinesFollowOneGroup → ProgramsAreFollowed → IsCompiled → IsFaithfulTo program facts image
+  pub is_faithful : MachinesFollowGroups → ProgramsAreFollowed → IsCompiled → IsFaithfulTo program facts image
   is_faithful law programs c = record {
     limits = c.limits;
     sites_are = c.sites_are;
@@ -33,8 +39,8 @@ module _ (program : ProgramTree) (facts : Facts) (core : List CoreOp) (main : �
         let entry = c.list.entry in
         let tables = tables_by program facts in
         let firsts = firsts_by program facts in
-        let carries = subst (λ (m : ℕ). CarriesGroups core m firsts image) c.list.begins c.carries in
-        let follows = law core (entry (main_of tables program)) firsts image carries input p n within some few bound in
+        let carries = subst (λ (m : ℕ). CarriesGroups core m firsts c.places c.nestings c.cycles image) c.list.begins c.carries in
+        let follows = law core (entry (main_of tables program)) firsts c.places c.nestings c.cycles image carries input p n within some few in
         subst (λ (words : List ℕ). Follows (next_in tables program) image input p n (opening tables program words firsts input p)) c.globals_are
         (programs tables program core entry firsts image input p n c.list.code follows);
   }

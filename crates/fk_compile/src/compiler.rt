@@ -10,7 +10,8 @@ ghost use Rattle.fk_compile.specs.Faithful.{IsFaithful};
 use crate::image::{are_words, site_table};
 use crate::list::{kept_words, list_of};
 use fk_group_code::generate;
-use fk_grouped::laws::{machines_follow_one_group, steps_find_values};
+use fk_group_course::laws::machines_follow_groups;
+use fk_grouped::laws::steps_find_values;
 use fk_image::Image;
 use fk_simulation::laws::programs_are_followed;
 use fk_text::{Refusal, built_text};
@@ -43,7 +44,7 @@ pub fn compile(alloc: Global, source: &[u8]) -> Result<Image, Refusal>
     are_words(&layout.firsts);
     are_words(&layout.words);
     steps_find_values();
-    machines_follow_one_group();
+    machines_follow_groups();
     programs_are_followed();
     Ok(Image {
         code: code.words,

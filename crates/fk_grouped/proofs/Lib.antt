@@ -1,3 +1,4 @@
 mod Aims
 mod Blocks
 mod Lists
+mod Sites

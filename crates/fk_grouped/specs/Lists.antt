@@ -26,6 +26,8 @@ use Rattle.fk_layout.specs.Layout.{tables_by}
 use Rattle.fk_layout.specs.Refusal.{Fits}
 use Rattle.fk_lower.specs.Depths.{AreTold}
 use Rattle.fk_lower_text.specs.Depths.{depths_of}
+use Rattle.fk_lower_text.specs.Lowered.{HasSites}
+use Rattle.fk_one_list.specs.Lists.{HasOwnSites}
 use Rattle.fk_parsed.specs.Trim.{ProgramIsTrim}
 use Rattle.fk_syntax.specs.Program.{ProgramTree}
 use Rattle.fk_syntax.specs.declared.facts.Facts.{Facts}
@@ -55,6 +57,10 @@ GroupedListsAreGenerable =
     → All (λ op. (op.site < 2 ^ 32) × (op.number < 2 ^ 32)) core → All (λ v. v < 2 ^ 32) firsts
     → IsGenerable core kept main firsts
 
+-- no two operations of the list of a text have one site
+abbrev pub TextsHaveOwnSites : Type 0
+TextsHaveOwnSites = (known : Known) (core : List CoreOp) → HasSites known core → HasOwnSites core
+
 -- what is known of the list of a text in which no group splits: code with groups can be made of it, its operations have blocks, and its
 -- processors are in one group at a time
 pub record IsGrouped (core : List CoreOp) (main firsts : ℕ) : Type 0 where
@@ -68,5 +74,5 @@ LoweredListsAreGrouped =
     → let tables = tables_by program facts in
     Fits tables program.items → ArePlain tables program
     → (core : List CoreOp) (entry : (binding : ℕ) → ℕ) → IsFlat (bodies_of tables program) core entry → HasCodeOf tables program core entry
-    → AreTold (depths_of known (functions_in known)) core
+    → HasSites known core → AreTold (depths_of known (functions_in known)) core
     → IsGrouped core (entry (main_of tables program)) (count_of_file program facts)

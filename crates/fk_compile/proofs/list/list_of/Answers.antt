@@ -10,9 +10,10 @@ use Rattle.fk_certain.specs.LoweringLaws.{IsKnownOf}
 use Rattle.fk_lower.specs.Depths.{AreTold}
 use Rattle.fk_lower_text.specs.Depths.{depths_of}
 use Rattle.fk_walk_statements.specs.Texts.{functions_in}
-use Rattle.fk_certain.specs.Laws.{IsGrouped, count_of_file}
+use Rattle.fk_certain.specs.Laws.{count_of_file}
+use Rattle.fk_grouped.specs.Lists.{IsGrouped}
 use Rattle.fk_compile.specs.Lists.{HasListOf}
-use Rattle.fk_compile.proofs.Lowerable.{lowerable, few_sites, grouped_list, answered, answered_both}
+use Rattle.fk_compile.proofs.Lowerable.{lowerable, few_sites, grouped_list, answered, answered_all}
 use Rattle.fk_compile.proofs.list.list_of.Goals as goal
 
 pub returns-clause-list : goal.returns-clause-list
@@ -75,11 +76,12 @@ returns-clause-grouped c =
     let words = c.texts_have_words.ensures c.requires.checked.0 checked.parsed.tokens tree checked.parsed.spelled checked.parsed.derived in
     let whole = c.numbers_have_room.ensures tree facts known valid c.requires.fits words tables items in
     let can = lowerable tree facts known of valid trim c.correct_programs_fit.ensures c.forms_are_shaped.ensures whole in
-    answered_both (λ list. HasListOf (tables_of known) tree list.ops.items list.main) (λ list. AreTold (depths_of known (functions_in known)) list.ops.items)
+    answered_all (λ list. HasListOf (tables_of known) tree list.ops.items list.main) (λ list. HasSites known list.ops.items)
+    (λ list. AreTold (depths_of known (functions_in known)) list.ops.items)
     (λ list. IsGrouped list.ops.items list.main (count_of_file tree facts)) c.lowered.result
-    (λ list is told.
-    grouped_list tree facts known of c.lowered_lists_are_grouped.ensures valid trim proper c.requires.fits c.requires.plain list.ops.items list.main is told)
-    (c.lowered.ensures.list tree can) (c.lowered.ensures.told tree can)
+    (λ list is sites told.
+    grouped_list tree facts known of c.lowered_lists_are_grouped.ensures valid trim proper c.requires.fits c.requires.plain list.ops.items list.main is sites told)
+    (c.lowered.ensures.list tree can) (c.lowered.ensures.sites tree can) (c.lowered.ensures.told tree can)
 
 pub lowered-requires-clause-numbered : goal.lowered-requires-clause-numbered
 lowered-requires-clause-numbered c =
