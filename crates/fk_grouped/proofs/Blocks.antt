@@ -1,5 +1,5 @@
 -- Plain operations have blocks, with their targets in the list, and find their values.
-use Rattle.std.proofs.Common.{◌≡◌, ℕ, zero, suc, ◌<◌, ◌≤◌, List, [], length, Bool, true, false, Some, slice_get, sym, subst, ◌∙◌, arith, refl, inl, inr}
+use Rattle.std.proofs.Common.{◌≡◌, ℕ, ◌<◌, ◌≤◌, List, length, true, false, arith, refl, inl, inr}
 use Rattle.std.proofs.lemmas.Option.{slice_get_within}
 use Rattle.fk_operation.specs.Kinds.{class_of}
 use Rattle.fk_operation.specs.declared.operation.Known.TheVariants.{FrameAddress}
@@ -7,18 +7,15 @@ use Rattle.fk_operation.specs.declared.operation.Multiprefix.{Multiprefix}
 use Rattle.fk_operation.specs.declared.operation.Multiprefix.TheVariants.{MpAdd, MpMax, MpAnd, MpOr}
 use Rattle.fk_operation.specs.declared.operation.Operation.{Operation}
 use Rattle.fk_operation.specs.declared.operation.Operation.TheVariants.{Get, Branch, Leave, Combine, Heap, Begin, Agree, Frame, Block, Divide, Shrink, End, Resume, Farm, Seq, Meet, Halt}
-use Rattle.fk_forms.specs.Code.{Code}
 use Rattle.fk_core.specs.declared.op.CoreOp.{CoreOp}
 use Rattle.fk_flat.specs.Items.{straight, way_of}
-use Rattle.fk_flat.specs.Laws.{AreShaped, IsFlat}
 use Rattle.fk_depths.specs.Local.{needs}
 use Rattle.fk_block_law.specs.Next.{StandsOp}
 use Rattle.fk_block_law.specs.Ready.{is_no_step, is_alone}
 use Rattle.fk_typed_code.specs.Laws.{LeadsWithin}
-use Rattle.fk_generate.specs.Generable.{HasOwnBlock, HasBlocks, has_target}
+use Rattle.fk_generate.specs.Generable.{HasOwnBlock, has_target}
 use Rattle.fk_group_law.specs.Lockstep.{values_of_step}
 use Rattle.fk_text.specs.Plain.{is_plain}
-use Rattle.fk_certain.specs.FreeLaws.{IsPlain}
 use Rattle.fk_grouped.specs.Lists.{PlainListsHaveBlocks, StepsFindValues}
 use Rattle.fk_grouped.proofs.Aims.{straight_has_no_target}
 

@@ -1,5 +1,5 @@
 -- No two operations of the list of a text have one site.
-use Rattle.std.proofs.Common.{◌≡◌, ℕ, zero, suc, ◌+◌, ◌<◌, ◌≤◌, Bool, true, false, List, [], ◌∷◌, length, Option, Some, None, slice_get, sym, ap, subst, ◌∙◌, arith, refl, ◌⊎◌, inl, inr}
+use Rattle.std.proofs.Common.{◌≡◌, ℕ, zero, suc, ◌+◌, ◌<◌, ◌≤◌, true, List, [], ◌∷◌, length, Option, Some, slice_get, sym, ap, subst, ◌∙◌, arith, refl}
 use Rattle.std.proofs.lemmas.Option.{slice_get_within}
 use Rattle.fk_operation.specs.declared.operation.Operation.{Operation}
 use Rattle.fk_operation.specs.Kinds.{kind_of}
@@ -10,7 +10,6 @@ use Rattle.fk_core.specs.Numbers.{operation_of}
 use Rattle.fk_core.specs.Next.{is_jump}
 use Rattle.fk_flat.specs.Items.{Item, jump, act, IsItem, Has, acts}
 use Rattle.fk_generate.proofs.Suited.{jump_none}
-use Rattle.fk_one_list.specs.Lists.{HasOwnSites}
 use Rattle.fk_grouped.specs.Lists.{TextsHaveOwnSites}
 
 -- the item at an index is an operation with this site
@@ -20,15 +19,21 @@ HasSite (jump target ∷ items) zero s = ⊥
 HasSite (act n op target ∷ items) zero s = n ≡ s
 HasSite (item ∷ items) (suc d) s = HasSite items d s
 
+head_is : (x y : ℕ × ℕ) (xs ys : List (ℕ × ℕ)) → x ∷ xs ≡ y ∷ ys → x ≡ y
+head_is x y xs ys e = cc
+
+tail_is : (x y : ℕ × ℕ) (xs ys : List (ℕ × ℕ)) → x ∷ xs ≡ y ∷ ys → xs ≡ ys
+tail_is x y xs ys e = cc
+
 -- sites go up from a first one on, so each is one of these, and none comes twice
 not_before : (items : List Item) (first : ℕ) (sites : List (ℕ × Place)) (d s : ℕ) → acts items ≡ ranked first sites → HasSite items d s → first ≤ s
 not_before [] first sites d s e h = absurd h
 not_before (jump target ∷ items) first sites zero s e h = absurd h
 not_before (jump target ∷ items) first sites (suc d) s e h = not_before items first sites d s e h
 not_before (act n op target ∷ items) first [] d s e h = absurd (cc)
-not_before (act n op target ∷ items) first (site ∷ sites) zero s e h = let same : n ≡ first = cc in omega (arith, same, h)
+not_before (act n op target ∷ items) first (site ∷ sites) zero s e h = let same = ap (λ (x : ℕ × ℕ). x.1) (head_is (kind_of op, n) (site.0, first) (acts items) (ranked (suc first) sites) e) in omega (arith, same, h)
 not_before (act n op target ∷ items) first (site ∷ sites) (suc d) s e h =
-    let rest : acts items ≡ ranked (suc first) sites = cc in
+    let rest = tail_is (kind_of op, n) (site.0, first) (acts items) (ranked (suc first) sites) e in
     let more = not_before items (suc first) sites d s rest h in
     omega (arith, more)
 
@@ -40,17 +45,17 @@ one_place (jump target ∷ items) first sites (suc d) (suc g) s e h k = ap suc (
 one_place (act n op target ∷ items) first [] d g s e h k = absurd (cc)
 one_place (act n op target ∷ items) first (site ∷ sites) zero zero s e h k = refl
 one_place (act n op target ∷ items) first (site ∷ sites) zero (suc g) s e h k =
-    let same : n ≡ first = cc in
-    let rest : acts items ≡ ranked (suc first) sites = cc in
+    let same = ap (λ (x : ℕ × ℕ). x.1) (head_is (kind_of op, n) (site.0, first) (acts items) (ranked (suc first) sites) e) in
+    let rest = tail_is (kind_of op, n) (site.0, first) (acts items) (ranked (suc first) sites) e in
     let more = not_before items (suc first) sites g s rest k in
     absurd (let z : ⊥ = omega (arith, same, h, more) in z)
 one_place (act n op target ∷ items) first (site ∷ sites) (suc d) zero s e h k =
-    let same : n ≡ first = cc in
-    let rest : acts items ≡ ranked (suc first) sites = cc in
+    let same = ap (λ (x : ℕ × ℕ). x.1) (head_is (kind_of op, n) (site.0, first) (acts items) (ranked (suc first) sites) e) in
+    let rest = tail_is (kind_of op, n) (site.0, first) (acts items) (ranked (suc first) sites) e in
     let more = not_before items (suc first) sites d s rest h in
     absurd (let z : ⊥ = omega (arith, same, k, more) in z)
 one_place (act n op target ∷ items) first (site ∷ sites) (suc d) (suc g) s e h k =
-    let rest : acts items ≡ ranked (suc first) sites = cc in
+    let rest = tail_is (kind_of op, n) (site.0, first) (acts items) (ranked (suc first) sites) e in
     ap suc (one_place items (suc first) sites d g s rest h k)
 
 -- ---- of a list that has the items
@@ -84,6 +89,9 @@ texts_have_own_sites known core has i j op other x y at there read reads same =
     let near = slice_get_within core i op at in
     let far = slice_get_within core j other there in
     let long = has.are.1 in
-    let here = has_site core op x read has.items 0 i (omega (arith, near, long)) has.are.0 at in
-    let where_other = has_site core other y reads has.items 0 j (omega (arith, far, long)) has.are.0 there in
+    let from_here : i ≡ 0 + i = omega arith in
+    let from_there : j ≡ 0 + j = omega arith in
+    let here = has_site core op x read has.items 0 i (omega (arith, near, long)) has.are.0 (subst (λ k. slice_get core k ≡ Some op) from_here at) in
+    let where_other =
+    has_site core other y reads has.items 0 j (omega (arith, far, long)) has.are.0 (subst (λ k. slice_get core k ≡ Some other) from_there there) in
     one_place has.items 0 _ i j op.site has.sites here (subst (HasSite has.items j) (sym same) where_other)
