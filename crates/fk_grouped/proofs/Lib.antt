@@ -2,3 +2,4 @@ mod Aims
 mod Blocks
 mod Lists
 mod Sites
+mod Texts
