@@ -1,5 +1,5 @@
 -- A text that keeps all rules and has a layout can be lowered.
-use Rattle.std.proofs.Common.{◌≤◌, ℕ, List, length, sym, subst}
+use Rattle.std.proofs.Common.{◌≤◌, ℕ, List, length, refl, sym, subst}
 use Rattle.std.specs.Prelude.{Result, Ok, Err, IfOk}
 use Rattle.fk_syntax.specs.declared.facts.Facts.{Facts}
 use Rattle.fk_syntax.specs.Program.{ItemTree, ProgramTree}
@@ -23,9 +23,12 @@ use Rattle.fk_text.specs.Plain.{ArePlain}
 use Rattle.fk_certain.specs.Proper.{ProgramIsProper}
 use Rattle.fk_lower.specs.Depths.{AreTold}
 use Rattle.fk_lower_text.specs.Depths.{depths_of}
-use Rattle.fk_certain.specs.Laws.{count_of_file}
-use Rattle.fk_grouped.specs.Lists.{IsGrouped, LoweredListsAreGrouped}
-use Rattle.fk_compile.specs.Lists.{HasListOf}
+use Rattle.fk_certain.specs.Laws.{LoweredListsCanHaveGroups, count_of_file}
+use Rattle.fk_group_code.specs.Laws.{none_saved}
+use Rattle.fk_forked.specs.Laws.{IsLaidOut}
+use Rattle.fk_grouped.specs.Lists.{PlainListsHaveBlocks}
+use Rattle.fk_group_text.specs.Lists.{PlainListsAreOfOneGroup}
+use Rattle.fk_compile.specs.Lists.{HasListOf, IsGrouped}
 
 module _ (program : ProgramTree) (facts : Facts) (known : Known) (of : IsKnownOf program facts known) where
   pub lowerable : IsCorrect program facts → ProgramIsTrim program → CorrectProgramsFit → FormsAreShaped → AreWhole known (functions_in known) → IsLowerable known program
@@ -41,14 +44,23 @@ module _ (program : ProgramTree) (facts : Facts) (known : Known) (of : IsKnownOf
       (subst (λ (t : Tables). length (sites_in t (functions_of program.items) (functions_of program.items)) ≤ 16000) (sym of.tables) fits.sites)
 
 -- and its list has one group at a time
-pub grouped_list : (program : ProgramTree) (facts : Facts) (known : Known) → IsKnownOf program facts known → LoweredListsAreGrouped → IsCorrect program facts → ProgramIsTrim program
-    → ProgramIsProper program → Fits (tables_by program facts) program.items → ArePlain (tables_by program facts) program
+pub grouped_list : (program : ProgramTree) (facts : Facts) (known : Known) → IsKnownOf program facts known
+    → LoweredListsCanHaveGroups → PlainListsHaveBlocks → PlainListsAreOfOneGroup → AreShaped (bodies_of (tables_by program facts) program)
+    → IsCorrect program facts → ProgramIsTrim program → ProgramIsProper program → Fits (tables_by program facts) program.items
+    → ArePlain (tables_by program facts) program
     → (core : List CoreOp) (main : ℕ) → HasListOf (tables_of known) program core main → HasSites known core → AreTold (depths_of known (functions_in known)) core
     → IsGrouped core main (count_of_file program facts)
-grouped_list program facts known of law valid trim proper fits plain core main list sites told =
+grouped_list program facts known of can_have have_blocks are_of_one_group shaped valid trim proper fits plain core main list sites told =
+    let tables = tables_by program facts in
     let own = subst (λ (t : Tables). HasListOf t program core main) of.tables list in
+    let can = can_have program facts known of valid trim proper fits plain core own.entry own.flat told in
+    let laid : IsLaidOut program facts = record { correct = valid; trim = trim; proper = proper; fits = fits } in
     subst (λ (m : ℕ). IsGrouped core m (count_of_file program facts)) (sym own.begins)
-    (law program facts known of valid trim proper fits plain core own.entry own.flat own.code sites told)
+    (record {
+      can = can;
+      blocks = have_blocks (bodies_of tables program) core own.entry shaped own.flat can.steady.plain can.steady.within.leads;
+      one_group = λ start. are_of_one_group program facts known of laid plain core own.entry own.flat told sites (none_saved start) (λ i. refl);
+    })
 
 -- what is so of what is answered
 pub answered : {A E : Type 0} (P Q : A → Type 0) (r : Result A E) → ((a : A) → P a → Q a) → IfOk r P → IfOk r Q

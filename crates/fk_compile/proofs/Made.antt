@@ -26,14 +26,14 @@ use Rattle.fk_group_law.specs.Law.{GroupLaw}
 use Rattle.fk_group_code.specs.Cycles.{cycles_of}
 use Rattle.fk_group_code.specs.Laws.{none_saved}
 use Rattle.fk_group_code.specs.Whole.{GivesGroupLaw}
-use Rattle.fk_grouped.specs.Lists.{StepsFindValues, IsGrouped}
+use Rattle.fk_grouped.specs.Lists.{StepsFindValues}
 use Rattle.fk_group_course.specs.Follow.{CarriesGroups}
 use Rattle.fk_kept.specs.declared.set.Set.{Set}
 use Rattle.fk_certain.specs.Certain.{HasFrames}
 use Rattle.fk_text.specs.declared.refusal.Refusal.{Refusal}
 use Rattle.fk_text.specs.Refusal.{IsRefused}
 use Rattle.fk_generate.specs.Generable.{IsGenerable, HasCode}
-use Rattle.fk_compile.specs.Lists.{HasListOf}
+use Rattle.fk_compile.specs.Lists.{HasListOf, IsGrouped}
 use Rattle.fk_compile.specs.Faithful.{in_image, in_table, words_by, firsts_by}
 use Rattle.fk_compile.proofs.Limits.{sites_fit, commits_fit, commits_rise}
 use Rattle.fk_compile.proofs.Theorem.{IsCompiled}

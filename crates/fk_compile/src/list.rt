@@ -17,20 +17,20 @@ ghost use Rattle.fk_core.specs.WellFormed.{LeadsOn};
 ghost use Rattle.fk_certain.specs.Certain.{HasFrames};
 ghost use Rattle.fk_certain.specs.Laws.{count_of_file};
 ghost use Rattle.fk_generate.specs.Generable.{IsGenerable, most_words};
-ghost use Rattle.fk_grouped.specs.Lists.{IsGrouped};
 ghost use Rattle.fk_text.specs.Plain.{ArePlain};
 ghost use Rattle.fk_text.specs.Refusal.{IsRefused};
 ghost use Rattle.fk_text.specs.Text.{IsChecked};
-ghost use Rattle.fk_compile.specs.Lists.{HasListOf};
+ghost use Rattle.fk_compile.specs.Lists.{HasListOf, IsGrouped};
 
 use crate::image::are_words;
 use fk_certain::laws::{
-    lists_are_small, numbers_have_room, operations_have_numbers, texts_are_proper,
-    texts_can_be_laid,
+    lists_are_small, lowered_lists_can_have_groups, numbers_have_room, operations_have_numbers,
+    texts_are_proper, texts_can_be_laid,
 };
 use fk_core::CoreOp;
 use fk_fitting::laws::correct_programs_fit;
-use fk_grouped::laws::{grouped_lists_are_generable, lowered_lists_are_grouped};
+use fk_group_text::laws::plain_lists_are_of_one_group;
+use fk_grouped::laws::{grouped_lists_are_generable, plain_lists_have_blocks};
 use fk_kept::{Set, live_words};
 use fk_lookup::Lookup;
 use fk_lower::LowerFault;
@@ -106,7 +106,9 @@ pub(crate) fn list_of(alloc: Global, text: &Built) -> Result<List, Refusal>
     numbers_have_room();
     texts_can_be_laid();
     operations_have_numbers();
-    lowered_lists_are_grouped();
+    lowered_lists_can_have_groups();
+    plain_lists_have_blocks();
+    plain_lists_are_of_one_group();
     lowered(alloc, &known)
 }
 

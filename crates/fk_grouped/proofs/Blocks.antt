@@ -1,7 +1,6 @@
 -- Plain operations have blocks, with their targets in the list, and find their values.
 use Rattle.std.proofs.Common.{◌≡◌, ℕ, ◌<◌, ◌≤◌, List, length, true, false, arith, refl, inl, inr}
 use Rattle.std.proofs.lemmas.Option.{slice_get_within}
-use Rattle.fk_operation.specs.Kinds.{class_of}
 use Rattle.fk_operation.specs.declared.operation.Known.TheVariants.{FrameAddress}
 use Rattle.fk_operation.specs.declared.operation.Multiprefix.{Multiprefix}
 use Rattle.fk_operation.specs.declared.operation.Multiprefix.TheVariants.{MpAdd, MpMax, MpAnd, MpOr}
@@ -11,7 +10,7 @@ use Rattle.fk_core.specs.declared.op.CoreOp.{CoreOp}
 use Rattle.fk_flat.specs.Items.{straight, way_of}
 use Rattle.fk_depths.specs.Local.{needs}
 use Rattle.fk_block_law.specs.Next.{StandsOp}
-use Rattle.fk_block_law.specs.Ready.{is_no_step, is_alone}
+use Rattle.fk_block_law.specs.Ready.{is_alone}
 use Rattle.fk_typed_code.specs.Laws.{LeadsWithin}
 use Rattle.fk_generate.specs.Generable.{HasOwnBlock, has_target}
 use Rattle.fk_group_law.specs.Lockstep.{values_of_step}
@@ -21,13 +20,6 @@ use Rattle.fk_grouped.proofs.Aims.{straight_has_no_target}
 
 never : {A : Type 0} → false ≡ true → A
 never e = absurd (cc)
-
--- a plain operation that is no step of the tree is one that processors do alone
-pub plain_alone : (operation : Operation) → is_plain operation ≡ true → is_no_step (class_of operation) ≡ true → is_alone operation ≡ true
-plain_alone (Get (FrameAddress nesting word)) plain step = never plain
-plain_alone (Leave gives true) plain step = never plain
-plain_alone Heap plain step = never plain
-plain_alone operation plain step = step
 
 combine_alone : (by : Multiprefix) → is_alone (Combine by) ≡ true
 combine_alone MpAdd = refl

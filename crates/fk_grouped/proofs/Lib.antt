@@ -1,5 +1,3 @@
 mod Aims
 mod Blocks
 mod Lists
-mod Sites
-mod Texts

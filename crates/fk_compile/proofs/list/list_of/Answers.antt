@@ -11,8 +11,7 @@ use Rattle.fk_lower.specs.Depths.{AreTold}
 use Rattle.fk_lower_text.specs.Depths.{depths_of}
 use Rattle.fk_walk_statements.specs.Texts.{functions_in}
 use Rattle.fk_certain.specs.Laws.{count_of_file}
-use Rattle.fk_grouped.specs.Lists.{IsGrouped}
-use Rattle.fk_compile.specs.Lists.{HasListOf}
+use Rattle.fk_compile.specs.Lists.{HasListOf, IsGrouped}
 use Rattle.fk_compile.proofs.Lowerable.{lowerable, few_sites, grouped_list, answered, answered_all}
 use Rattle.fk_compile.proofs.list.list_of.Goals as goal
 
@@ -80,7 +79,8 @@ returns-clause-grouped c =
     (λ list. AreTold (depths_of known (functions_in known)) list.ops.items)
     (λ list. IsGrouped list.ops.items list.main (count_of_file tree facts)) c.lowered.result
     (λ list is sites told.
-    grouped_list tree facts known of c.lowered_lists_are_grouped.ensures valid trim proper c.requires.fits c.requires.plain list.ops.items list.main is sites told)
+    grouped_list tree facts known of c.lowered_lists_can_have_groups.ensures c.plain_lists_have_blocks.ensures c.plain_lists_are_of_one_group.ensures
+    (c.forms_are_shaped.ensures (tables_by tree facts) tree (c.correct_programs_fit.ensures tree facts valid trim)) valid trim proper c.requires.fits c.requires.plain list.ops.items list.main is sites told)
     (c.lowered.ensures.list tree can) (c.lowered.ensures.sites tree can) (c.lowered.ensures.told tree can)
 
 pub lowered-requires-clause-numbered : goal.lowered-requires-clause-numbered
