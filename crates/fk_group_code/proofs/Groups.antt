@@ -1,5 +1,5 @@
 -- Steps of groups of a list, and the whole law.
-use Rattle.std.proofs.Common.{◌≡◌, ℕ, List, length, Bool, true, Some, None, sym, ap, subst, arith, refl}
+use Rattle.std.proofs.Common.{◌≡◌, ℕ, ◌<◌, List, length, Bool, true, Some, None, sym, ap, subst, arith, refl}
 use Rattle.std.specs.Prelude.{slice_get, if◌then◌else◌}
 use Rattle.std.specs.Option.{option_map_or}
 use Rattle.fk_operation.specs.declared.operation.Operation.{Operation}
@@ -9,12 +9,11 @@ use Rattle.fk_image.specs.declared.Image.{Image}
 use Rattle.fk_block_law.specs.Stands.{Places}
 use Rattle.fk_block_law.specs.Next.{StandsOp}
 use Rattle.fk_block_law.specs.Suits.{Suits}
-use Rattle.fk_block_law.specs.Block.{most_before}
 use Rattle.fk_kept.specs.declared.set.Set.{Set}
 use Rattle.fk_group_law.specs.Node.{Nestings}
 use Rattle.fk_group_law.specs.Lockstep.{StepTogether, PartTogether, EndTogether}
-use Rattle.fk_group_law.specs.Joint.{is_meeting, BlockMeets}
-use Rattle.fk_group_law.specs.Start.{BlockStarts}
+use Rattle.fk_group_law.specs.Joint.{most_to_meet, is_meeting, BlockMeets}
+use Rattle.fk_group_law.specs.Start.{most_united, most_to_start, BlockStarts}
 use Rattle.fk_group_law.specs.Law.{IsAskedOf, sets_apart, runs_behind}
 use Rattle.fk_gen_group.specs.Blocks.{is_group_step}
 use Rattle.fk_gen_group.specs.Start.{gathered_at, who_comes, gathering_of}
@@ -93,29 +92,32 @@ module _ (core : List CoreOp) (image : Image) (bound : ℕ → ℕ) (places : Pl
       subst (λ (f : Bool → ℕ). EndTogether core image places nestings i op (f true) lowest size) (sym (behind_is core globals kept i op End stands))
       (groups_end core image bound places nestings i op lowest size (in_place i op End stands refl) (levels.leads i op End stands refl))
 
-  meets : (i : ℕ) (op : CoreOp) (operation : Operation) → StandsOp core i op operation → is_meeting operation ≡ true → BlockMeets core image places nestings i op operation most_before
+  meets : (i : ℕ) (op : CoreOp) (operation : Operation) → StandsOp core i op operation → is_meeting operation ≡ true → BlockMeets core image places nestings i op operation most_to_meet
   meets i op operation stands meeting setting t mine runs first n m p owns en member many =
       let met = blocks_meet core image bound places nestings i op operation meeting (in_place i op operation stands (meeting_is_step operation meeting)) setting t mine runs first n m p owns en member many in
       (met.0, omega (arith, met.1), met.2)
 
+  few_to_begin : (i : ℕ) (op : CoreOp) → StandsOp core i op Begin → before i < most_united
+  few_to_begin i op stands = let e : before i ≡ 1 = before_is core globals kept i op Begin stands in omega (arith, e)
+
   starts : nestings.start ≡ gathering_of core bound → (i : ℕ) (op : CoreOp) → StandsOp core i op Begin
-      → BlockStarts core image places nestings i op (nestings.start.there i) (nestings.start.coming i) most_before (before i) (behind i)
+      → BlockStarts core image places nestings i op (nestings.start.there i) (nestings.start.coming i) most_to_start (before i) (behind i)
   starts gathers i op stands =
       let there = gathered_at bound in
       let coming = who_comes bound op.depth in
       let block = groups_start core image bound places nestings i op code.start (in_place i op Begin stands refl) (levels.leads i op Begin stands refl) in
-      let begun : BlockStarts core image places nestings i op there coming most_before 1 (λ onward. if onward then 16 else 11) = record {
+      let begun : BlockStarts core image places nestings i op there coming most_to_start 1 (λ onward. if onward then 16 else 11) = record {
         meets = λ setting t mine m p owns en member root.
             let met = block.meets setting t mine m p owns en member root in
             (met.0, omega (arith, met.1), met.2);
         starts = block.starts;
       } in
-      let here : BlockStarts core image places nestings i op there coming most_before (before i) (behind i)
-      = subst (λ c. BlockStarts core image places nestings i op there coming most_before c (behind i)) (sym (before_is core globals kept i op Begin stands))
-      (subst (λ f. BlockStarts core image places nestings i op there coming most_before 1 f) (sym (behind_is core globals kept i op Begin stands)) begun) in
+      let here : BlockStarts core image places nestings i op there coming most_to_start (before i) (behind i)
+      = subst (λ c. BlockStarts core image places nestings i op there coming most_to_start c (behind i)) (sym (before_is core globals kept i op Begin stands))
+      (subst (λ f. BlockStarts core image places nestings i op there coming most_to_start 1 f) (sym (behind_is core globals kept i op Begin stands)) begun) in
       let depth : option_map_or (λ o. o.depth) (slice_get core i) 0 ≡ op.depth = ap (λ o. option_map_or (λ x. x.depth) o 0) stands.stands in
-      subst (λ g. BlockStarts core image places nestings i op (g.there i) (g.coming i) most_before (before i) (behind i)) (sym gathers)
-      (subst (λ d. BlockStarts core image places nestings i op there (who_comes bound d) most_before (before i) (behind i)) (sym depth) here)
+      subst (λ g. BlockStarts core image places nestings i op (g.there i) (g.coming i) most_to_start (before i) (behind i)) (sym gathers)
+      (subst (λ d. BlockStarts core image places nestings i op there (who_comes bound d) most_to_start (before i) (behind i)) (sym depth) here)
 
 pub lists_have_the_law : ListsHaveTheLaw
 lists_have_the_law core kept image bound places nestings firsts main suits are ranges lone levels code looks steps gathers begins =
@@ -131,5 +133,6 @@ lists_have_the_law core kept image bound places nestings firsts main suits are r
       parts = parts core image bound places nestings kept main suits code looks steps;
       ends = ends core image bound places nestings kept main suits code looks steps;
       meets = meets core image bound places nestings kept main suits code looks steps;
+      few_to_begin = few_to_begin core image bound places nestings kept main suits code looks steps;
       starts = starts core image bound places nestings kept main suits code looks steps gathers;
     }

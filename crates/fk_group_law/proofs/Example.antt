@@ -314,5 +314,6 @@ law_of image code = record {
   parts = λ i op operation lowest size at e. absurd (neither sets_apart refl refl i op operation at e);
   ends = λ i op lowest size at. absurd (no_end i op at);
   meets = λ i op operation at e. absurd (neither is_meeting refl refl i op operation at e);
+  few_to_begin = λ i op at. absurd (no_begin i op at);
   starts = λ i op at. absurd (no_begin i op at);
 }

@@ -36,6 +36,11 @@ AreSoMany operation runs p n = p.runner.has.level.size ≡ n
 abbrev pub lead : ℕ
 lead = 1
 
+-- how many steps a member takes at most to its arrival. Behind that it polls, finds all there and leaves in three cycles at most, so
+-- that it commits as soon as a block that does not meet (most_before)
+abbrev pub most_to_meet : ℕ
+most_to_meet = 67
+
 -- ---- one member
 
 -- it polls with all else that it had at first

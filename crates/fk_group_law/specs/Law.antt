@@ -21,8 +21,8 @@ use Rattle.fk_block_law.specs.Ready.{is_alone}
 use Rattle.fk_block_law.specs.Block.{most_before, most_behind, IsRunning, Enters, HasDone, BlockHalts, Begins, beginner, gone_to}
 use Rattle.fk_group_law.specs.Node.{Nestings, StandsInNode}
 use Rattle.fk_group_law.specs.Lockstep.{IsMember, StepTogether, PartTogether, EndTogether, AreOfSize, IsLowest, one_runs}
-use Rattle.fk_group_law.specs.Joint.{is_meeting, BlockMeets}
-use Rattle.fk_group_law.specs.Start.{BlockStarts}
+use Rattle.fk_group_law.specs.Joint.{most_to_meet, is_meeting, BlockMeets}
+use Rattle.fk_group_law.specs.Start.{most_united, most_to_start, BlockStarts}
 
 -- which way a local operation goes is known before it. Requests go on
 abbrev pub way_by : Class → Operation → Processor → Bool
@@ -114,7 +114,8 @@ module _ (core : List CoreOp) (image : Image) (places : Places) (nestings : Nest
       pub ends : (i : ℕ) (op : CoreOp) (lowest size : ℕ) → StandsOp core i op End → EndTogether core image places nestings i op (cycles.behind i true) lowest size
       -- who meet do so by phases
       pub meets : (i : ℕ) (op : CoreOp) (operation : Operation) → StandsOp core i op operation → is_meeting operation ≡ true
-          → BlockMeets core image places nestings i op operation most_before
-      -- at the beginning of `start` all processors meet in the root
+          → BlockMeets core image places nestings i op operation most_to_meet
+      -- at the beginning of `start` all processors meet in the root, and commit soon behind that
+      pub few_to_begin : (i : ℕ) (op : CoreOp) → StandsOp core i op Begin → cycles.before i < most_united
       pub starts : (i : ℕ) (op : CoreOp) → StandsOp core i op Begin
-          → BlockStarts core image places nestings i op (nestings.start.there i) (nestings.start.coming i) most_before (cycles.before i) (cycles.behind i)
+          → BlockStarts core image places nestings i op (nestings.start.there i) (nestings.start.coming i) most_to_start (cycles.before i) (cycles.behind i)

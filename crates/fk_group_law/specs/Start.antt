@@ -26,6 +26,14 @@ pub record IsInRoot (nestings : Nestings) (setting : Setting) (p : Owner) : Type
   pub space : p.runner.has.level.space ≡ group_space setting
   pub none : NoneSaved nestings (p.runner.left.at ∷ p.runner.left.callers)
 
+-- from where all leave to their common commit there are fewer cycles than these
+abbrev pub most_united : ℕ
+most_united = 40
+
+-- so one takes so many steps fewer to its arrival than where leaving is the commit (most_to_meet)
+abbrev pub most_to_start : ℕ
+most_to_start = 27
+
 -- how many go into the group, where the last value of the highest is known
 abbrev pub size_of_start : Setting → (highest : ℕ) → ℕ
 size_of_start setting highest = min (not_negative highest) setting.processors

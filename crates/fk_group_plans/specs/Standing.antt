@@ -19,8 +19,8 @@ use Rattle.fk_block_law.specs.Ready.{is_alone}
 use Rattle.fk_block_law.specs.Block.{most_before, IsRunning, Enters}
 use Rattle.fk_group_law.specs.Node.{Nestings, OwnsHeader, IsAtRest, root_words, closing_word}
 use Rattle.fk_group_law.specs.Lockstep.{IsMember, AllEnter, AreInStart}
-use Rattle.fk_group_law.specs.Joint.{is_meeting, word_of, AreSoMany}
-use Rattle.fk_group_law.specs.Start.{IsInRoot, AllHaveMet}
+use Rattle.fk_group_law.specs.Joint.{most_to_meet, is_meeting, word_of, AreSoMany}
+use Rattle.fk_group_law.specs.Start.{most_to_start, IsInRoot, AllHaveMet}
 use Rattle.fk_group_law.specs.Law.{Cycles, GroupLaw, is_shared_step, IsAskedOf}
 use Rattle.fk_group_law.specs.Laws.{AllGo}
 use Rattle.fk_group_plans.specs.Behind.{runs_of, blocks_of}
@@ -54,7 +54,7 @@ MeetersSetOut =
     → GroupLaw core image places nestings cycles firsts main → StandsOp core i op operation → is_meeting operation ≡ true
     → Enters core image places setting t i op operation p m.hart → IsMember places nestings setting (runs_of plan (first g) m.number) (first g) m p
     → OwnsHeader (plan.words g) (first g) → w ≡ first g + word_of operation → IsOpen plan g w → plan.member w m.number ≡ true → AreSoMany operation (runs_of plan (first g) m.number) p (plan.size w)
-    → (d : ℕ) × (d ≤ most_before) × IsFresh t (Meets Commits w (Coming d))
+    → (d : ℕ) × (d ≤ most_to_meet) × IsFresh t (Meets Commits w (Coming d))
     × StandsAt (core_source core setting) image plan (blocks_of core image places nestings setting plan first) t g (Meets Commits w (Coming d)) m p
 
 -- so it is at the beginning of `start`, in the root, where it meets all others
@@ -65,7 +65,7 @@ StartersSetOut =
     → GroupLaw core image places nestings cycles firsts main → StandsOp core i op Begin
     → Enters core image places setting t i op Begin p m.hart → IsMember places nestings setting (Some setting.processors) root_words m p → IsInRoot nestings setting p
     → OwnsHeader (plan.words 0) root_words → w ≡ root_words + closing_word → IsOpen plan 0 w → plan.member w m.number ≡ true → plan.size w ≡ setting.processors
-    → (d : ℕ) × (d ≤ most_before) × IsFresh t (Meets Unites w (Coming d))
+    → (d : ℕ) × (d ≤ most_to_start) × IsFresh t (Meets Unites w (Coming d))
     × StandsAt (core_source core setting) image plan (blocks_of core image places nestings setting plan first) t 0 (Meets Unites w (Coming d)) m p
 
 -- members in lockstep at a local operation or a request, with nobody at the words of their node
@@ -93,7 +93,7 @@ GroupsEndTogether =
     (core : List CoreOp) (image : Image) (places : Places) (nestings : Nestings) (cycles : Cycles) (firsts : List ℕ) (main : ℕ) (setting : Setting) (plan : Plan) (first : ℕ → ℕ)
     (t : MachineSetting) (g i : ℕ) (op : CoreOp) (ms : List Member) (ps : List Owner) (own : Memory)
     → GroupLaw core image places nestings cycles firsts main → StandsOp core i op End → AllEnter core image places nestings i op End setting t None (first g) ms ps
-    → AreInStart nestings ps
+    → AreInStart nestings ps → IsAtRest (first g) own
     → InLockstep (core_source core setting) image plan (blocks_of core image places nestings setting plan first) t g (all_act 0 ms) ms ps own
 
 -- and at the beginning of it, where all who are in the root have met

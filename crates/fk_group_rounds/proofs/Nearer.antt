@@ -1,5 +1,5 @@
 -- Those who have met at the beginning of `start` come nearer to their commit.
-use Rattle.std.proofs.Common.{◌≡◌, ℕ, suc, ◌+◌, ◌^◌, ◌≤◌, ◌<◌, List, [], ◌∷◌, length, Option, true, sym, ap, subst, ◌∙◌, refl, arith, ◌⊎◌, inl, inr, ⊎_elim, eq-eqb}
+use Rattle.std.proofs.Common.{◌≡◌, ℕ, suc, ◌+◌, ◌^◌, ◌≤◌, ◌<◌, List, [], ◌∷◌, length, Option, Some, true, sym, ap, subst, ◌∙◌, refl, arith, ◌⊎◌, inl, inr, ⊎_elim, eq-eqb}
 use Rattle.std.specs.Prelude.{◌||◌, map}
 use Rattle.std.proofs.lemmas.Bool.{cases_eq, ne_eqb, false≢true}
 use Rattle.fk_num.specs.Word.{Memory}
@@ -13,7 +13,7 @@ use Rattle.fk_machine.specs.Hart.{Hart, Setting as MachineSetting}
 use Rattle.fk_machine.specs.Cycle.{turns}
 use Rattle.fk_nodes.specs.Node.{Member, numbered, of_node, AreAsMany, Has}
 use Rattle.fk_nodes.specs.Alone.{later}
-use Rattle.fk_plans.specs.Stage.{Stage, Acts, AllNear}
+use Rattle.fk_plans.specs.Stage.{Stage, Acts, AllNear, kept}
 use Rattle.fk_plans.specs.Plan.{Plan, Blocks, AllAct, InLockstep, IsBound}
 use Rattle.fk_plans.specs.Cycle.{AllHaveCommitted, AllKeep, IsLeft}
 use Rattle.fk_plans.specs.Change.{Changes, AllChange, TreeChanges}
@@ -43,6 +43,10 @@ keep_many : {A : Type 0} (s : Stage) (ns : List ℕ) (hs : List A) (afters : Lis
 keep_many s [] [] [] many = tt
 keep_many s (n ∷ ns) (h ∷ hs) (a ∷ afters) many = keep_many s ns hs afters many
 keep_many s ns hs afters many = absurd (assumption many)
+
+kept_at : (s : Stage) (afters : List (Option Stage)) → AllKeep s afters → afters ≡ kept (all_at s afters)
+kept_at s [] keep = refl
+kept_at s (a ∷ afters) keep = ap (λ b. b ∷ afters) keep.0 ∙ ap (λ l. Some s ∷ l) (kept_at s afters keep.1)
 
 keep_none : (s : Stage) (afters : List (Option Stage)) → AllKeep s afters → AllHaveCommitted afters → length afters ≡ 0
 keep_none s [] keep gone = refl
@@ -78,8 +82,9 @@ module _ (core : List CoreOp) (image : Image) (places : Places) (nestings : Nest
   all_stay d number gs ns afters qs root here as_a as_p keep = absurd (assumption (as_a, as_p))
 
   -- behind a cycle: they are one cycle nearer to their commit, or all have committed
-  pub record Nearer (ds : List Doing) (control : Memory) : Type 0 where
+  pub record Nearer (ds : List Doing) (afters : List (Option Stage)) (control : Memory) : Type 0 where
     pub stages' : List Stage
+    pub are : afters ≡ kept stages'
     pub idle_all : ds ≡ map idle ps
     pub bound : IsBound (core_source core setting) image plan blocks (later t) stages' hs ps (λ g. control)
     pub near : AllNear stages stages'
@@ -100,7 +105,7 @@ module _ (core : List CoreOp) (image : Image) (places : Places) (nestings : Nest
     all_owners : of_node 0 nodes ps ≡ ps
     all_owners = of_all old 0 nodes hs ps in_root before.stand before.as_many
 
-    nearer_by : (d : ℕ) → AllKeep (Acts d) left.afters → ds ≡ map idle ps → Nearer ds control
+    nearer_by : (d : ℕ) → AllKeep (Acts d) left.afters → ds ≡ map idle ps → Nearer ds left.afters control
     nearer_by d keep e =
         let change : TreeChanges (core_source core setting) image plan blocks plan blocks t hs left.afters (all_at (Acts d) left.afters) ps ps control
         = record {
@@ -125,9 +130,9 @@ module _ (core : List CoreOp) (image : Image) (places : Places) (nestings : Nest
           meetings = λ g w free is_open. inl (record { alone = free; was = is_open; size = refl; same = λ number. refl });
         } in
         let on = plan_goes_on (core_source core setting) image plan blocks plan blocks t stages (all_at (Acts d) left.afters) earlier hs ps ps ds own own' control few binds left has change in
-        record { stages' = all_at (Acts d) left.afters; idle_all = e; bound = on.bound; near = on.near }
+        record { stages' = all_at (Acts d) left.afters; are = kept_at (Acts d) left.afters keep; idle_all = e; bound = on.bound; near = on.near }
 
-    pub nearer : Nearer ds control ⊎ AllHaveCommitted left.afters
+    pub nearer : Nearer ds left.afters control ⊎ AllHaveCommitted left.afters
     nearer =
         ⊎_elim (λ x. inr (subst AllHaveCommitted all_afters x.0))
         (λ x. inl (nearer_by x.0 (subst (AllKeep (Acts x.0)) all_afters x.1) (sym all_doings ∙ x.2 ∙ ap (map idle) all_owners))) (left.nodes 0)
@@ -186,7 +191,7 @@ cycles_come_to_start core image places nestings setting tree spaces nodes t earl
           inl (record {
             whole = whole;
             left = left;
-            goes = ⊎_elim (λ x. inl (record { stages' = x.stages'; idle = x.idle_all; bound = x.bound; near = x.near })) (λ gone. inr gone)
+            goes = ⊎_elim (λ x. inl (record { stages' = x.stages'; are = x.are; idle = x.idle_all; bound = x.bound; near = x.near })) (λ gone. inr gone)
                 (nearer core image places nestings setting tree spaces nodes t stages done.harts ps behind hs whole.did own whole.own done.shared.control few binds left whole.has);
           }))
           (λ cut. inr cut) planned.round,

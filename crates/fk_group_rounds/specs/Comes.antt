@@ -12,7 +12,7 @@ use Rattle.fk_nodes.specs.Node.{Member}
 use Rattle.fk_nodes.specs.Alone.{RunsPrivately, NodeRun, later, in_cycles}
 use Rattle.fk_nodes.specs.Together.{Together}
 use Rattle.fk_meeting.specs.Phase.{Coming}
-use Rattle.fk_plans.specs.Stage.{Stage, Acts, Meets}
+use Rattle.fk_plans.specs.Stage.{Ending, Commits, Unites, Stage, Ended, Acts, Meets}
 use Rattle.fk_plans.specs.Plan.{StandsAt}
 use Rattle.fk_plans.specs.Change.{IsFresh}
 use Rattle.fk_block_law.specs.Owner.{Owner, number_of, core_source}
@@ -27,14 +27,23 @@ use Rattle.fk_group_plans.specs.Behind.{runs_of, blocks_of}
 use Rattle.fk_group_plans.specs.Rounds.{IsDueAt}
 use Rattle.fk_group_rounds.specs.Next.{JumpsLead, landed, all_landed, IsHome, HasNext, HaveNext}
 
--- the most cycles from one commit to the next one, or to the arrival at a word: behind the one, a jump, and before the other
+-- the most cycles from one commit to the next one: behind the one, a jump, and before the other. A pace of 256 rounds leaves room
+-- for no more
 abbrev pub most_between : ℕ
 most_between = 254
 
+-- so fewer to the arrival at a word. Behind that one polls, finds all there and leaves in three cycles at most; and who unites with
+-- the others commits up to 40 cycles later (most_united)
+abbrev pub most_to_word : Ending → ℕ
+most_to_word Commits = 251
+most_to_word Unites = 211
+
+-- who has just committed is so near its next commit, or the word where it meets others
 abbrev pub IsSoon : Stage → Type 0
+IsSoon Ended = Unit {0}
 IsSoon (Acts d) = d ≤ most_between
-IsSoon (Meets e w (Coming d)) = d ≤ most_between
-IsSoon s = Unit {0}
+IsSoon (Meets e w (Coming d)) = d ≤ most_to_word e
+IsSoon s = ⊥
 
 -- their numbers are those of processors
 abbrev pub AllBelow : (processors : ℕ) → List Owner → Type 0

@@ -1,5 +1,5 @@
 -- The round in which the group of `start` begins.
-use Rattle.std.specs.Prelude.{◌≡◌, ℕ, ◌^◌, ◌<◌, List, length, map, Bool, Some, ◌⊎◌}
+use Rattle.std.specs.Prelude.{◌≡◌, ℕ, ◌^◌, ◌<◌, List, length, map, Bool, Option, Some, ◌⊎◌}
 use Rattle.fk_num.specs.Word.{Memory}
 use Rattle.fk_space.specs.Space.{Space}
 use Rattle.fk_tree.specs.declared.node.Kind.TheVariants.{Asynchronous}
@@ -16,7 +16,7 @@ use Rattle.fk_nodes.specs.Node.{AreAsMany, Has}
 use Rattle.fk_nodes.specs.Source.{Shows}
 use Rattle.fk_nodes.specs.Alone.{later}
 use Rattle.fk_nodes.specs.Whole.{planned, IsWhole, IsCut}
-use Rattle.fk_plans.specs.Stage.{Stage, counts_for, AllNear}
+use Rattle.fk_plans.specs.Stage.{Stage, counts_for, AllNear, kept}
 use Rattle.fk_plans.specs.Plan.{IsBound}
 use Rattle.fk_plans.specs.Cycle.{AllHaveCommitted, DoneIn, IsLeft}
 use Rattle.fk_block_law.specs.Owner.{Commons, Owner, Doing, idle, core_source}
@@ -43,11 +43,12 @@ pub record IsBeforeStart (image : Image) (setting : Setting) (tree : Tree) (spac
   pub in_root : (h : ℕ) → h < setting.processors → tree.places h ≡ 0
 
 -- Who have met there are in lockstep. Where the plan binds them so before a cycle that is a whole round, nobody is in it, and they
--- are one cycle nearer to their commit; or all are
+-- are one cycle nearer to their commit, at the stages that it has left; or all are
 module _ (core : List CoreOp) (image : Image) (places : Places) (nestings : Nestings) (setting : Setting) (tree : Tree) (spaces : ℕ → Space) (nodes : List ℕ) (t : MachineSetting) (earlier : List ℕ)
     (stages : List Stage) (hs : List Hart) (ps : List Owner) (own : ℕ → Memory) (sh : Shared) (s : Commons) where
-  pub record ComeNearer (did : List Doing) : Type 0 where
+  pub record ComeNearer (did : List Doing) (afters : List (Option Stage)) : Type 0 where
     pub stages' : List Stage
+    pub are : afters ≡ kept stages'
     pub idle : did ≡ map idle ps
     pub bound : IsBound (core_source core setting) image (united (plan_of tree spaces nodes)) (blocks_of core image places nestings setting (united (plan_of tree spaces nodes)) (first_of spaces))
         (later t) stages' (turns t 0 hs sh).harts ps (λ g. (turns t 0 hs sh).shared.control)
@@ -59,7 +60,7 @@ module _ (core : List CoreOp) (image : Image) (places : Places) (nestings : Nest
         earlier 0 nodes hs ps s (turns t 0 hs sh)
     pub left : IsLeft (core_source core setting) image (united (plan_of tree spaces nodes))
         (blocks_of core image places nestings setting (united (plan_of tree spaces nodes)) (first_of spaces)) t stages (turns t 0 hs sh).harts ps whole.did own whole.own
-    pub goes : ComeNearer whole.did ⊎ AllHaveCommitted left.afters
+    pub goes : ComeNearer whole.did left.afters ⊎ AllHaveCommitted left.afters
 
 abbrev pub CyclesComeToStart : Type 0
 CyclesComeToStart =
@@ -88,4 +89,4 @@ RoundsStart =
     → (left : IsLeft (core_source core setting) image plan blocks t stages hs ps ds own own') → ((k : ℕ) → Has (plan.words k) control (own' k))
     → StepsAt tree 0 0 Begin ds → IsAtRest (first_of spaces tree.given) control → IsTree setting next spaces → ArePlaces next 0 nodes' → length nodes' ≡ length nodes
     → AllGoOn core nestings setting next spaces 0 left.afters ds qs → GroupsGoOn core nestings next nodes' left.afters qs
-    → AreBoundAgain core image places nestings setting next spaces nodes' (later t) stages hs left.afters (all_landed core qs) control
+    → AreBoundAgain core image places nestings setting plan next spaces nodes' t stages hs left.afters ps (all_landed core qs) own control

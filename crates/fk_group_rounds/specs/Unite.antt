@@ -1,5 +1,5 @@
 -- The cycle in which the last of all processors leaves the word where they meet at the beginning of `start`.
-use Rattle.std.specs.Prelude.{◌≡◌, ℕ, ◌^◌, ◌<◌, ◌≤◌, List, [], ◌∷◌, length, map}
+use Rattle.std.specs.Prelude.{◌≡◌, ℕ, ◌^◌, ◌<◌, ◌≤◌, List, [], ◌∷◌, length, map, true}
 use Rattle.fk_num.specs.Word.{Memory}
 use Rattle.fk_space.specs.Space.{Space}
 use Rattle.fk_tree.specs.Tree.{Tree}
@@ -19,17 +19,21 @@ use Rattle.fk_plans.specs.Cycle.{DoneIn}
 use Rattle.fk_block_law.specs.Owner.{Commons, Owner, idle, core_source}
 use Rattle.fk_block_law.specs.Stands.{Places}
 use Rattle.fk_block_law.specs.Next.{StandsOp}
-use Rattle.fk_block_law.specs.Block.{most_before}
 use Rattle.fk_group_law.specs.Node.{Nestings}
-use Rattle.fk_group_law.specs.Start.{IsInRoot}
+use Rattle.fk_group_law.specs.Start.{most_united, IsInRoot}
 use Rattle.fk_group_law.specs.Law.{Cycles, GroupLaw}
 use Rattle.fk_group_plans.specs.Nodes.{first_of, plan_of, united}
 use Rattle.fk_group_plans.specs.Behind.{blocks_of, joining_blocks_of}
-use Rattle.fk_group_plans.specs.Uniting.{SomebodyUnites}
+use Rattle.fk_group_plans.specs.Uniting.{unites_now, SomebodyUnites}
 use Rattle.fk_group_plans.specs.Standing.{all_act}
 use Rattle.fk_group_rounds.specs.Next.{AllAt, AllAbout}
 use Rattle.fk_group_rounds.specs.Rounds.{IsBefore}
 use Rattle.fk_group_rounds.specs.Start.{IsBeforeStart}
+
+-- all leave the word where they unite
+abbrev pub AllUnite : List Stage → Type 0
+AllUnite [] = Unit {0}
+AllUnite (s ∷ stages) = (unites_now s ≡ true) × AllUnite stages
 
 -- all are in the root, whose group space is whole
 abbrev pub AreInRoot : Nestings → Setting → List Owner → Type 0
@@ -44,7 +48,7 @@ module _ (core : List CoreOp) (image : Image) (places : Places) (nestings : Nest
     pub stands : StandsOp core i op Begin
     pub about : AllAbout i op Begin ps
     pub distance : ℕ
-    pub few : distance ≤ most_before
+    pub few : distance < most_united
     pub bound : IsBound (core_source core setting) image (united (plan_of tree spaces nodes)) (blocks_of core image places nestings setting (united (plan_of tree spaces nodes)) (first_of spaces))
         (later t) (all_act distance (numbered 0 (turns t 0 hs sh).harts)) (turns t 0 hs sh).harts ps (λ g. (turns t 0 hs sh).shared.control)
     pub near : AllNear stages (all_act distance (numbered 0 (turns t 0 hs sh).harts))
@@ -55,6 +59,7 @@ module _ (core : List CoreOp) (image : Image) (places : Places) (nestings : Nest
         (DoneIn (core_source core setting) image (plan_of tree spaces nodes) (joining_blocks_of core image places nestings setting (plan_of tree spaces nodes) (first_of spaces)) t stages ps own) earlier 0
         nodes hs ps s (turns t 0 hs sh)
     pub idle : whole.did ≡ map idle ps
+    pub all : AllUnite stages
     pub before : IsBeforeStart image setting tree spaces nodes (later t) (turns t 0 hs sh).harts ps
     pub roots : AreInRoot nestings setting ps
     pub together : (i : ℕ) → AllAt i ps → AreInLockstep i

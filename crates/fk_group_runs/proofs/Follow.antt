@@ -16,7 +16,7 @@ use Rattle.fk_machine.specs.Hart.{Hart, Shared, Setting as MachineSetting}
 use Rattle.fk_machine.specs.Cycle.{turns}
 use Rattle.fk_nodes.specs.Source.{AllPass, FaultsAfter}
 use Rattle.fk_nodes.specs.Alone.{later}
-use Rattle.fk_nodes.specs.Node.{numbered}
+use Rattle.fk_nodes.specs.Node.{Member, numbered}
 use Rattle.fk_nodes.specs.Whole.{planned, first_of}
 use Rattle.fk_plans.specs.Stage.{Stage, counts_for}
 use Rattle.fk_plans.specs.Plan.{IsBound}
@@ -26,6 +26,7 @@ use Rattle.fk_block_law.specs.Block.{gone_to}
 use Rattle.fk_simulation.proofs.Linked.{runs_later}
 use Rattle.fk_simulation.proofs.Rounds.{first_cut}
 use Rattle.fk_group_law.specs.Node.{Nestings}
+use Rattle.fk_group_law.specs.Start.{most_united}
 use Rattle.fk_group_law.specs.Law.{Cycles, GroupLaw}
 use Rattle.fk_group_plans.specs.Nodes as plans
 use Rattle.fk_group_plans.specs.Nodes.{nodes_of, plan_of, united}
@@ -38,14 +39,14 @@ use Rattle.fk_group_plans.proofs.Rounds.{rounds_are_allowed}
 use Rattle.fk_group_rounds.specs.Next.{JumpsLead, all_landed, AllAt}
 use Rattle.fk_group_rounds.specs.After.{actings, runners_of, tree_after, owner_after, owners_after, AllKeep, ArePlaces, AllLanded}
 use Rattle.fk_group_rounds.specs.After.{GroupsGoOn}
-use Rattle.fk_group_rounds.specs.Rounds.{IsTree, IsBefore, IsKnownRound}
+use Rattle.fk_group_rounds.specs.Rounds.{IsTree, IsBefore, IsKnownRound, PlanGoesOn}
 use Rattle.fk_group_rounds.specs.Start.{IsBeforeStart}
 use Rattle.fk_group_rounds.proofs.Groups.{many_length}
 use Rattle.fk_group_rounds.proofs.Trees.{all_keep}
 use Rattle.fk_group_rounds.proofs.Unite.{cycles_unite}
 use Rattle.fk_group_rounds.proofs.Cycle.{cycles_bind_again}
 use Rattle.fk_group_runs.specs.Beside.{landed_runner, landed_state, HaveHeaps, AreInOrder, IsBeside}
-use Rattle.fk_group_runs.specs.Union.{AllLandAt}
+use Rattle.fk_group_runs.specs.Union.{AreNearBegin, AllLandAt}
 use Rattle.fk_group_runs.specs.Follow.{IsFollowed, FollowsRound, FollowsFault, FollowsUnion, CyclesFollowRounds}
 use Rattle.fk_group_runs.proofs.Landed.{landing_twice, allowed_land}
 use Rattle.fk_group_runs.specs.Homes.{AllHome, AllNext}
@@ -169,9 +170,19 @@ follows_apart core image places nestings cycles firsts main setting spaces s nod
             possible =
                 and_from (is_none s.fault && is_allowed (next core) setting (counts_for stages) s) (is_none next_state.fault)
                 (and_from (is_none s.fault) (is_allowed (next core) setting (counts_for stages) s) (ap is_none f.beside.going) may) (ap is_none after.beside.going);
+            nobody = nobody;
             did = whole.did;
             tree = e;
             afters = r.left.afters;
+            makes = record {
+              ps = f.ps;
+              shared = f.shared;
+              store = whole.store;
+              order = f.order;
+              beside = f.beside;
+              passes = subst (λ c. AllPass source c f.ps f.shared whole.did whole.store) cycle.0 whole.parts;
+              stay = r.left.stay;
+            };
             again = λ nodes' known tree' there many' on goes.
                 let b = r.again nodes' known (subst (λ x. IsTree setting x spaces) e tree') (subst (λ x. ArePlaces x 0 nodes') e there) many'
                 (homes_go_on core nestings setting new spaces r.left.afters whole.did (owners_after s.tree new whole.did) (homes known)
@@ -185,12 +196,12 @@ follows_apart core image places nestings cycles firsts main setting spaces s nod
                   spaced = tree'.spaced;
                   stand = there;
                   many = many' ∙ f.before.many;
-                  as_many = b.bound.as_many;
+                  as_many = b.on.goes.bound.as_many;
                   landed = all_land core leads (owners_after s.tree new whole.did);
                   due = subst (λ x. AllDue core x spaces 0 b.stages' (runners_of ps')) (sym e) b.due;
                 } in (
                   b.stages',
-                  b.near,
+                  b.on.goes.near,
                   b.soon,
                   record {
                     ps = ps';
@@ -204,8 +215,12 @@ follows_apart core image places nestings cycles firsts main setting spaces s nod
                         subst
                         (λ x.
                         IsBound source image (plan_of x spaces nodes') (blocks_of core image places nestings setting (plan_of x spaces nodes') (plans.first_of spaces)) (later t) b.stages' done.harts ps'
-                        (λ g. done.shared.control)) (sym e) b.bound;
+                        (λ g. done.shared.control)) (sym e) b.on.goes.bound;
                   },
+                  subst
+                      (λ x.
+                      PlanGoesOn core image places nestings setting spaces (plan_of s.tree spaces nodes) (plan_of x spaces nodes') t stages b.stages' done.harts r.left.afters f.ps
+                      (all_landed core (owners_after s.tree x whole.did)) (λ g. sh.control) done.shared.control) (sym e) b.on,
                 );
           }))
           (λ c.
@@ -255,6 +270,10 @@ lands_at core i (p ∷ ps) (r ∷ rs) same at =
 lands_at core i [] (r ∷ rs) same at = absurd (cc)
 lands_at core i (p ∷ ps) [] same at = absurd (cc)
 
+acts_near : (d : ℕ) → d < most_united → (ms : List Member) → AreNearBegin (all_act d ms)
+acts_near d few [] = tt
+acts_near d few (m ∷ ms) = (few, acts_near d few ms)
+
 -- where all have met
 follows_union : (core : List CoreOp) (image : Image) (places : Places) (nestings : Nestings) (cycles : Cycles) (firsts : List ℕ) (main : ℕ) (setting : Setting) (spaces : ℕ → Space) (s : State Position) (nodes : List ℕ)
     (t : MachineSetting) (printed : List ℕ) (stages : List Stage) (hs : List Hart) (sh : Shared) → GroupLaw core image places nestings cycles firsts main → JumpsLead core → length hs < 2 ^ 31
@@ -283,6 +302,7 @@ follows_union core image places nestings cycles firsts main setting spaces s nod
         possible =
             and_from (is_none s.fault && is_allowed (next core) setting (counts_for stages) s) (is_none next_state.fault)
             (and_from (is_none s.fault) (is_allowed (next core) setting (counts_for stages) s) (ap is_none f.beside.going) may) (ap is_none after.beside.going);
+        all = x.all;
         again = λ i at.
             let y = x.together i (lands_at core i f.ps s.runners f.beside.runners at) in (
               all_act y.distance (numbered 0 done.harts),
@@ -296,6 +316,7 @@ follows_union core image places nestings cycles firsts main setting spaces s nod
                 op = y.op;
                 stands = y.stands;
                 about = y.about;
+                near = acts_near y.distance y.few (numbered 0 done.harts);
                 roots = x.roots;
                 order = in_order_back core 0 next_state.runners (subst (AreInOrder 0) beside.runners (many_runners core 0 s.tree spaces stages (runners_of f.ps) f.before.due));
                 beside = beside;

@@ -1,5 +1,5 @@
 -- Those who have met at the beginning of `start` come to the round in which the group begins.
-use Rattle.std.proofs.Common.{◌≡◌, ℕ, suc, ◌+◌, ◌≤◌, ◌<◌, List, [], ◌∷◌, ◌++◌, length, Option, Some, None, true, ◌&&◌, sym, ap, subst, ◌∙◌, refl, arith, inl, inr, ⊎_elim}
+use Rattle.std.proofs.Common.{◌≡◌, ℕ, zero, suc, ◌+◌, ◌≤◌, ◌<◌, List, [], ◌∷◌, ◌++◌, length, Option, Some, None, true, ◌&&◌, sym, ap, subst, ◌∙◌, refl, arith, inl, inr, ⊎_elim}
 use Rattle.std.specs.Prelude.{map, is_none}
 use Rattle.std.proofs.lemmas.Bool.{and_from}
 use Rattle.std.proofs.lemmas.List.{append-nil}
@@ -18,7 +18,7 @@ use Rattle.fk_nodes.specs.Node.{Member, numbered, of_node, AreAsMany}
 use Rattle.fk_nodes.specs.Source.{AllPass, FaultsAfter, Passes, Shows}
 use Rattle.fk_nodes.specs.Alone.{later}
 use Rattle.fk_nodes.specs.Whole.{first_of}
-use Rattle.fk_plans.specs.Stage.{Stage, IsOver, Pairwise, Remains, count_of_stage, counts_for}
+use Rattle.fk_plans.specs.Stage.{Stage, Ended, Acts, Meets, IsOver, Pairwise, Remains, count_of_stage, counts_for, kept}
 use Rattle.fk_plans.specs.Plan.{Plan, Blocks, AllAct, InLockstep, IsBound}
 use Rattle.fk_plans.specs.Cycle.{AllHaveCommitted}
 use Rattle.fk_plans.proofs.Left.{first_alike, second_alike, both_alike}
@@ -44,7 +44,7 @@ use Rattle.fk_group_rounds.proofs.Starts.{of_all, many_numbered, rounds_start}
 use Rattle.fk_group_rounds.proofs.Nearer.{cycles_come_to_start}
 use Rattle.fk_group_runs.specs.Beside.{landed_runner, AreInOrder, IsBeside}
 use Rattle.fk_group_runs.specs.Homes.{AllHome, AllNext, AllFrom}
-use Rattle.fk_group_runs.specs.Union.{IsUnited}
+use Rattle.fk_group_runs.specs.Union.{IsNearBegin, AreNearBegin, IsUnited}
 use Rattle.fk_group_runs.specs.Starts.{CyclesFollowStarts}
 use Rattle.fk_group_runs.proofs.Landed.{allowed_land}
 use Rattle.fk_group_runs.proofs.Results.{is_after, is_fault}
@@ -79,6 +79,21 @@ module _ (core : List CoreOp) (image : Image) (setting : Setting) (plan : Plan) 
       let does : d ≡ is_due core i op Begin p = let e = sym one ∙ took in cc in
       ap (λ y. y ∷ ds) does ∙ ap (λ l. is_due core i op Begin p ∷ l) (begun stages ms ps pass.0 s' ds all.1 about.2 pass.2)
   begun stages ms ps s s' ds all about pass = absurd (assumption (all, pass))
+
+-- who does not commit stays near its commit
+stays_near : (s s' : Stage) → Remains s (Some s') → IsNearBegin s → IsNearBegin s'
+stays_near (Acts zero) s' remains near = absurd (let over = remains.3 in cc)
+stays_near (Acts (suc d)) (Acts e) remains near = let same : e ≡ d = let nearer = remains.1 in cc in omega (arith, same, near)
+stays_near (Acts (suc d)) Ended remains near = absurd remains.2
+stays_near (Acts (suc d)) (Meets e w f) remains near = absurd remains.2
+stays_near Ended s' remains near = absurd near
+stays_near (Meets e w f) s' remains near = absurd near
+
+all_stay_near : (stages stages' : List Stage) → Pairwise Remains stages (kept stages') → AreNearBegin stages → AreNearBegin stages'
+all_stay_near [] [] remain near = tt
+all_stay_near (s ∷ stages) (s' ∷ stages') remain near = (stays_near s s' remain.0 near.0, all_stay_near stages stages' remain.1 near.1)
+all_stay_near [] (s' ∷ stages') remain near = absurd remain
+all_stay_near (s ∷ stages) [] remain near = absurd remain
 
 -- the space of the root
 from_roots : (nestings : Nestings) (setting : Setting) (low : ℕ) (ps : List Owner) → low ≡ (group_space setting).low → AreInRoot nestings setting ps → AllFrom low ps
@@ -165,6 +180,7 @@ cycles_follow_starts core image places nestings cycles firsts main setting space
             did = whole.did;
             tree = e;
             afters = r.left.afters;
+            makes = record { ps = f.ps; shared = f.shared; store = whole.store; order = f.order; beside = f.beside; passes = parts; stay = r.left.stay };
             goes =
                 ⊎_elim
                 (λ x.
@@ -197,6 +213,7 @@ cycles_follow_starts core image places nestings cycles firsts main setting space
                     op = f.op;
                     stands = f.stands;
                     about = f.about;
+                    near = all_stay_near stages x.stages' (subst (Pairwise Remains stages) x.are r.left.stay) f.near;
                     roots = f.roots;
                     order = order_next core image places nestings setting spaces s nodes t printed stages hs sh leads f next_state (runners_of f.ps)
                         (order_here core image places nestings setting spaces s nodes t printed stages hs sh leads f) beside.runners;
@@ -211,71 +228,73 @@ cycles_follow_starts core image places nestings cycles firsts main setting space
                   },
                 ))
                 (λ gone.
-                inr
-                (λ nodes' tree' there many' rest low on goes.
-                let d = distance core image places nestings setting spaces s nodes t printed stages hs sh leads f in
-                let all = all_act core image places nestings setting spaces s nodes t printed stages hs sh leads f in
-                let plan' = united (plan_of s.tree spaces nodes) in
-                let blocks' = blocks_of core image places nestings setting plan' (plans.first_of spaces) in
-                let zero_is : d ≡ 0
-                = now core image setting plan' blocks' f.i f.op f.stands d stages (numbered 0 hs) f.ps r.left.afters (some core image places nestings setting spaces s nodes t printed stages hs sh leads f) all
-                r.left.stay gone in
-                let did_is : whole.did ≡ map (is_due core f.i f.op Begin) f.ps
-                = begun core image setting plan' blocks' f.i f.op f.stands stages (numbered 0 hs) f.ps f.shared whole.store whole.did
-                (subst (λ k. AllAct source image plan' blocks' k stages (numbered 0 hs) f.ps) zero_is all) f.about parts in
-                let size = many core image places nestings setting spaces s nodes t printed stages hs sh leads f in
-                let steps : StepsAt s.tree 0 0 Begin whole.did
-                = subst (λ l. StepsAt s.tree 0 0 Begin l) (sym did_is) (steps_begin core setting s.tree spaces f.i f.op f.before.sound f.before.in_root 0 f.ps (omega (arith, size)) f.homes) in
-                let here : IsBeforeStart image setting s.tree spaces nodes t done.harts f.ps
-                = record {
-                  running = f.before.running;
-                  sound = f.before.sound;
-                  spaced = f.before.spaced;
-                  stand = f.before.stand;
-                  many = f.before.many;
-                  as_many = as_many;
-                  alone = f.before.alone;
-                  kind = f.before.kind;
-                  in_root = f.before.in_root;
-                } in
-                let homes' : AllHome new spaces 0 (owners_after s.tree new whole.did)
-                = homes_begin core setting s.tree spaces f.before.alone f.i f.op f.ps whole.did f.before.sound f.before.kind f.before.in_root size f.homes
-                (from_roots nestings setting (spaces s.tree.given).low f.ps low f.roots) did_is (subst (λ x. IsSound setting.processors x) e tree'.sound) in
-                let b = rounds_start core image places nestings cycles firsts main setting s.tree spaces nodes nodes' t stages hs done.harts f.ps whole.did (λ g. sh.control) whole.own done.shared.control the_law
-                leads here few f.bound r.left whole.has steps rest (subst (λ x. IsTree setting x spaces) e tree') (subst (λ x. ArePlaces x 0 nodes') e there) many'
-                (homes_go_on core nestings setting new spaces r.left.afters whole.did (owners_after s.tree new whole.did) homes'
-                (subst (λ x. AllNext core nestings setting x 0 r.left.afters whole.did (owners_after s.tree x whole.did)) e on))
-                (subst (λ x. GroupsGoOn core nestings x nodes' r.left.afters (owners_after s.tree x whole.did)) e goes) in
-                let ps' = all_landed core (owners_after s.tree new whole.did) in
-                let before : IsBefore core image setting next_state.tree spaces nodes' (later t) b.stages' done.harts ps'
-                = record {
-                  running = runs_later image setting 1 t f.before.running;
-                  sound = tree'.sound;
-                  spaced = tree'.spaced;
-                  stand = there;
-                  many = many' ∙ f.before.many;
-                  as_many = b.bound.as_many;
-                  landed = all_land core leads (owners_after s.tree new whole.did);
-                  due = subst (λ x. AllDue core x spaces 0 b.stages' (runners_of ps')) (sym e) b.due;
-                } in (
-                  b.stages',
-                  b.near,
-                  b.soon,
-                  record {
-                    ps = ps';
-                    shared = whole.store;
-                    before = before;
-                    order = in_order_back core 0 next_state.runners (subst (AreInOrder 0) after.beside.runners (many_runners core 0 new spaces b.stages' (runners_of ps') b.due));
-                    beside = after.beside;
-                    homes = subst (λ x. AllHome x spaces 0 ps') (sym e) (landed_homes core new spaces 0 (owners_after s.tree new whole.did) homes');
-                    shows = shows';
-                    bound =
-                        subst
-                        (λ x.
-                        IsBound source image (plan_of x spaces nodes') (blocks_of core image places nestings setting (plan_of x spaces nodes') (plans.first_of spaces)) (later t) b.stages' done.harts ps'
-                        (λ g. done.shared.control)) (sym e) b.bound;
-                  },
-                )))
+                inr (
+                  gone,
+                  λ nodes' tree' there many' rest low on goes.
+                      let d = distance core image places nestings setting spaces s nodes t printed stages hs sh leads f in
+                      let all = all_act core image places nestings setting spaces s nodes t printed stages hs sh leads f in
+                      let plan' = united (plan_of s.tree spaces nodes) in
+                      let blocks' = blocks_of core image places nestings setting plan' (plans.first_of spaces) in
+                      let zero_is : d ≡ 0
+                      = now core image setting plan' blocks' f.i f.op f.stands d stages (numbered 0 hs) f.ps r.left.afters (some core image places nestings setting spaces s nodes t printed stages hs sh leads f) all
+                      r.left.stay gone in
+                      let did_is : whole.did ≡ map (is_due core f.i f.op Begin) f.ps
+                      = begun core image setting plan' blocks' f.i f.op f.stands stages (numbered 0 hs) f.ps f.shared whole.store whole.did
+                      (subst (λ k. AllAct source image plan' blocks' k stages (numbered 0 hs) f.ps) zero_is all) f.about parts in
+                      let size = many core image places nestings setting spaces s nodes t printed stages hs sh leads f in
+                      let steps : StepsAt s.tree 0 0 Begin whole.did
+                      = subst (λ l. StepsAt s.tree 0 0 Begin l) (sym did_is) (steps_begin core setting s.tree spaces f.i f.op f.before.sound f.before.in_root 0 f.ps (omega (arith, size)) f.homes) in
+                      let here : IsBeforeStart image setting s.tree spaces nodes t done.harts f.ps
+                      = record {
+                        running = f.before.running;
+                        sound = f.before.sound;
+                        spaced = f.before.spaced;
+                        stand = f.before.stand;
+                        many = f.before.many;
+                        as_many = as_many;
+                        alone = f.before.alone;
+                        kind = f.before.kind;
+                        in_root = f.before.in_root;
+                      } in
+                      let homes' : AllHome new spaces 0 (owners_after s.tree new whole.did)
+                      = homes_begin core setting s.tree spaces f.before.alone f.i f.op f.ps whole.did f.before.sound f.before.kind f.before.in_root size f.homes
+                      (from_roots nestings setting (spaces s.tree.given).low f.ps low f.roots) did_is (subst (λ x. IsSound setting.processors x) e tree'.sound) in
+                      let b = rounds_start core image places nestings cycles firsts main setting s.tree spaces nodes nodes' t stages hs done.harts f.ps whole.did (λ g. sh.control) whole.own done.shared.control the_law
+                      leads here few f.bound r.left whole.has steps rest (subst (λ x. IsTree setting x spaces) e tree') (subst (λ x. ArePlaces x 0 nodes') e there) many'
+                      (homes_go_on core nestings setting new spaces r.left.afters whole.did (owners_after s.tree new whole.did) homes'
+                      (subst (λ x. AllNext core nestings setting x 0 r.left.afters whole.did (owners_after s.tree x whole.did)) e on))
+                      (subst (λ x. GroupsGoOn core nestings x nodes' r.left.afters (owners_after s.tree x whole.did)) e goes) in
+                      let ps' = all_landed core (owners_after s.tree new whole.did) in
+                      let before : IsBefore core image setting next_state.tree spaces nodes' (later t) b.stages' done.harts ps'
+                      = record {
+                        running = runs_later image setting 1 t f.before.running;
+                        sound = tree'.sound;
+                        spaced = tree'.spaced;
+                        stand = there;
+                        many = many' ∙ f.before.many;
+                        as_many = b.on.goes.bound.as_many;
+                        landed = all_land core leads (owners_after s.tree new whole.did);
+                        due = subst (λ x. AllDue core x spaces 0 b.stages' (runners_of ps')) (sym e) b.due;
+                      } in (
+                        b.stages',
+                        b.on.goes.near,
+                        b.soon,
+                        record {
+                          ps = ps';
+                          shared = whole.store;
+                          before = before;
+                          order = in_order_back core 0 next_state.runners (subst (AreInOrder 0) after.beside.runners (many_runners core 0 new spaces b.stages' (runners_of ps') b.due));
+                          beside = after.beside;
+                          homes = subst (λ x. AllHome x spaces 0 ps') (sym e) (landed_homes core new spaces 0 (owners_after s.tree new whole.did) homes');
+                          shows = shows';
+                          bound =
+                              subst
+                              (λ x.
+                              IsBound source image (plan_of x spaces nodes') (blocks_of core image places nestings setting (plan_of x spaces nodes') (plans.first_of spaces)) (later t) b.stages' done.harts ps'
+                              (λ g. done.shared.control)) (sym e) b.on.goes.bound;
+                        },
+                      ),
+                ))
                 r.goes;
           }))
           (λ c.

@@ -1,5 +1,5 @@
 -- A state of a core run beside harts that have met at the beginning of `start`.
-use Rattle.std.specs.Prelude.{◌≡◌, ℕ, List, [], ◌∷◌}
+use Rattle.std.specs.Prelude.{◌≡◌, ℕ, ◌<◌, List, [], ◌∷◌}
 use Rattle.fk_space.specs.Space.{Space}
 use Rattle.fk_operation.specs.declared.operation.Operation.TheVariants.{Begin}
 use Rattle.fk_run.specs.Processor.{Setting}
@@ -9,12 +9,13 @@ use Rattle.fk_core.specs.Next.{Position, landing}
 use Rattle.fk_image.specs.declared.Image.{Image}
 use Rattle.fk_machine.specs.Hart.{Hart, Shared, Setting as MachineSetting}
 use Rattle.fk_nodes.specs.Source.{Shows}
-use Rattle.fk_plans.specs.Stage.{Stage}
+use Rattle.fk_plans.specs.Stage.{Stage, Acts}
 use Rattle.fk_plans.specs.Plan.{IsBound}
 use Rattle.fk_block_law.specs.Owner.{Commons, Owner, core_source}
 use Rattle.fk_block_law.specs.Stands.{Places}
 use Rattle.fk_block_law.specs.Next.{StandsOp}
 use Rattle.fk_group_law.specs.Node.{Nestings}
+use Rattle.fk_group_law.specs.Start.{most_united}
 use Rattle.fk_group_plans.specs.Nodes.{first_of, plan_of, united}
 use Rattle.fk_group_plans.specs.Behind.{blocks_of}
 use Rattle.fk_group_rounds.specs.Next.{AllAbout}
@@ -29,7 +30,16 @@ abbrev pub AllLandAt : List CoreOp → (i : ℕ) → List (Runner Position) → 
 AllLandAt core i [] = Unit {0}
 AllLandAt core i (r ∷ rs) = (landing core r.left.at ≡ i) × AllLandAt core i rs
 
--- All its processors are about to begin the group of `start`, in the root, where their harts are in lockstep
+-- each is to commit within so many cycles as lie between the leaving and the common commit
+abbrev pub IsNearBegin : Stage → Type 0
+IsNearBegin (Acts d) = d < most_united
+IsNearBegin s = ⊥
+
+abbrev pub AreNearBegin : List Stage → Type 0
+AreNearBegin [] = Unit {0}
+AreNearBegin (s ∷ stages) = IsNearBegin s × AreNearBegin stages
+
+-- All its processors are about to begin the group of `start`, in the root, where their harts are in lockstep, near their commit
 pub record IsUnited (core : List CoreOp) (image : Image) (places : Places) (nestings : Nestings) (setting : Setting) (spaces : ℕ → Space) (s : State Position) (nodes : List ℕ) (t : MachineSetting) (printed : List ℕ) (stages : List Stage) (hs : List Hart) (sh : Shared) : Type 0 where
   pub ps : List Owner
   pub shared : Commons
@@ -41,6 +51,7 @@ pub record IsUnited (core : List CoreOp) (image : Image) (places : Places) (nest
   pub about : AllAbout i op Begin ps
   pub order : AreInOrder 0 s.runners
   pub beside : IsBeside core s ps shared
+  pub near : AreNearBegin stages
   pub roots : AreInRoot nestings setting ps
   pub homes : AllHome s.tree spaces 0 ps
   pub shows : Shows (core_source core setting) printed sh shared

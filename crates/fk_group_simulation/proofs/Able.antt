@@ -50,6 +50,7 @@ use Rattle.fk_group_runs.proofs.Landed.{next_landed}
 use Rattle.fk_group_simulation.specs.Pace.{behind_leaving, IsInTime, AreInTime, ActsWithin}
 use Rattle.fk_group_simulation.proofs.Stages.{acts_there, free_there, meets_there}
 use Rattle.fk_group_simulation.proofs.Turning.{in_time_at}
+use Rattle.fk_group_simulation.proofs.Soon.{near_begin_in_time}
 use Rattle.fk_group_simulation.specs.Able.{WhoWaitsResumes, sight_of, united_sight_of, WhoCouldActWill, WhoHasUnitedWill}
 
 -- ---- joint operations
@@ -548,7 +549,7 @@ module _ (core : List CoreOp) (image : Image) (places : Places) (nestings : Nest
 -- ---- where all have met at the beginning of `start`
 
 module _ (core : List CoreOp) (image : Image) (places : Places) (nestings : Nestings) (setting : Setting) (spaces : ℕ → Space) (s : State Position) (nodes : List ℕ) (t : MachineSetting) (printed : List ℕ)
-    (stages : List Stage) (hs : List Hart) (sh : Shared) (followed : IsUnited core image places nestings setting spaces s nodes t printed stages hs sh) (in_time : AreInTime stages) where
+    (stages : List Stage) (hs : List Hart) (sh : Shared) (followed : IsUnited core image places nestings setting spaces s nodes t printed stages hs sh) where
   -- all are in lockstep in the root, at one distance from their commit
   acts : (h : ℕ) → h < length nodes → (x : Stage) → slice_get stages h ≡ Some x → (d : ℕ) × (x ≡ Acts d)
   acts h lt x at =
@@ -579,12 +580,12 @@ module _ (core : List CoreOp) (image : Image) (places : Places) (nestings : Nest
         at = x.at;
         left = d.0;
         is = ap distance acts_is;
-        in_time = subst IsInTime acts_is (in_time_at stages h x.is in_time x.at);
+        in_time = subst IsInTime acts_is (in_time_at stages h x.is (near_begin_in_time stages followed.near) x.at);
       })
 
 pub who_has_united_will : WhoHasUnitedWill
-who_has_united_will core image places nestings setting spaces s nodes t printed stages hs sh h followed in_time could =
-    united_will core image places nestings setting spaces s nodes t printed stages hs sh followed in_time h could
+who_has_united_will core image places nestings setting spaces s nodes t printed stages hs sh h followed could =
+    united_will core image places nestings setting spaces s nodes t printed stages hs sh followed h could
 
 pub who_could_act_will : WhoCouldActWill
 who_could_act_will core image places nestings setting spaces s nodes t printed stages hs sh h leads followed in_time waits could =

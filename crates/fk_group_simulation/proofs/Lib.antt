@@ -6,6 +6,10 @@ pub mod Stages
 pub mod Pace
 -- what a cycle makes of harts and of those who meet
 pub mod Turning
+-- who is near its commit is in time
+pub mod Soon
+-- those who have met at the beginning of `start`
+pub mod United
 -- who could act
 pub mod Able
 -- whole runs, over what is known of a machine beside a state

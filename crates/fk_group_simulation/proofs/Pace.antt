@@ -18,7 +18,8 @@ use Rattle.fk_plans.proofs.Pace.{who_is_near_acts}
 use Rattle.fk_group_law.specs.Joint.{lead}
 use Rattle.fk_group_rounds.specs.Comes.{most_between}
 use Rattle.fk_group_simulation.proofs.Stages.{related_at, kept_get, meets_get}
-use Rattle.fk_group_simulation.specs.Pace.{most_united, behind_leaving, Sight, StandsAtWord, MovesOn, Turns, ActsWithin, IsInSince, CouldActSince, AreWaiting, PacesGoOn, PacesAreKept}
+use Rattle.fk_group_law.specs.Start.{most_united}
+use Rattle.fk_group_simulation.specs.Pace.{behind_leaving, Sight, StandsAtWord, MovesOn, Turns, ActsWithin, IsInSince, CouldActSince, AreWaiting, PacesGoOn, PacesAreKept}
 
 -- ---- elements of lists
 

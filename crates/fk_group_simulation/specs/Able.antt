@@ -49,5 +49,5 @@ abbrev pub WhoHasUnitedWill : Type 0
 WhoHasUnitedWill =
     (core : List CoreOp) (image : Image) (places : Places) (nestings : Nestings) (setting : Setting) (spaces : ℕ → Space) (s : State Position) (nodes : List ℕ) (t : MachineSetting) (printed : List ℕ)
     (stages : List Stage) (hs : List Hart) (sh : Shared) (h : ℕ)
-    → IsUnited core image places nestings setting spaces s nodes t printed stages hs sh → AreInTime stages
+    → IsUnited core image places nestings setting spaces s nodes t printed stages hs sh
     → CouldAct (next core) setting h s → ActsWithin (united_sight_of s.tree spaces nodes stages sh.control t.finished) h most_between

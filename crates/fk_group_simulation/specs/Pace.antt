@@ -10,22 +10,15 @@ use Rattle.fk_meeting.specs.Phase.{Phase, Coming, Leaving, AllMove, Settled, IsD
 use Rattle.fk_plans.specs.Stage.{Ending, Commits, Unites, Stage, Ended, Acts, Meets, distance, counts_for, AllNear, kept}
 use Rattle.fk_plans.specs.Plan.{Plan, IsInside, phases}
 use Rattle.fk_group_law.specs.Joint.{lead}
-use Rattle.fk_group_rounds.specs.Comes.{most_between}
+use Rattle.fk_group_law.specs.Start.{most_united}
+use Rattle.fk_group_rounds.specs.Comes.{most_between, most_to_word}
 
 -- ---- stages from which one commits in time
 
 -- from where those who have met leave to their commit: it is that, or the common one behind it
-abbrev pub most_united : ℕ
-most_united = 40
-
 abbrev pub behind_leaving : Ending → ℕ
 behind_leaving Commits = 0
 behind_leaving Unites = most_united
-
--- from a commit to the arrival at a word. Behind that one polls, finds all there and leaves in three cycles at most
-abbrev pub most_to_word : Ending → ℕ
-most_to_word Commits = 251
-most_to_word Unites = 211
 
 abbrev pub IsInTime : Stage → Type 0
 IsInTime Ended = Unit {0}
