@@ -16,6 +16,7 @@ from dataclasses import dataclass, field
 from pathlib import Path
 
 sys.dont_write_bytecode = True
+import groups
 from programs import FAULTS_OF_RUNS, PROGRAMS
 from texts import FAULTS, NO_TOKENS, OPENERS, TEXTS
 
@@ -367,7 +368,7 @@ FILES.update(
         "spellings.f95": b"#include <fork.h>\n// hex, octal\nvoid main(void) { putint(0x10 + 010 /* and */ + 'a' + 1u); }",
         "second.f95": b"sh int y; sh int x; void main(void) { x = 4294967295; }",
         "first.f95": b"sh int x; sh int y; void main(void) { y = 1; }",
-        "start.f95": b"void main(void) { start { } }",
+        "split.f95": b"void main(void) { start if ($) ; }",
         "far.f95": b"/*" + b" " * 300000 + b"*/ " + SUMS,
         "globals.f95": b"".join(b"sh int v%d;" % number for number in range(LONG)) + b"void main(void) { putint(1); }",
         "long.image": image([0] * LONG),
@@ -395,7 +396,7 @@ ROWS += [
     Row(run("first.f95") + ["--show", "x"], 0, b"x = 0\n", FINISHED),
     Row(run("first.f95") + ["--show", "y"], 0, b"y = 1\n", FINISHED),
     Row(run("empty.f95") + ["--show", "main"], 1, b"", r"refused 23 NoGlobal main\n", given=b"x"),
-    Row(run("start.f95") + ["--show", "y"], 1, b"", r"refused 22 NotBuilt\n", given=b"x"),
+    Row(run("split.f95") + ["--show", "y"], 1, b"", r"refused 22 NotBuilt\n", given=b"x"),
     Row(execute("halt.image"), 0, b"", r"finished after 2 cycles\n", given=b"1 -2 3"),
     # more bytes than are moved at once
     Row(run("far.f95"), 0, b"5\n", FINISHED),
@@ -413,6 +414,31 @@ for title, (harts, text, out, kind, place, processor) in FAULTS_OF_RUNS.items():
     FILES[f"fault {title}.f95"] = text
     report = rf"fault {kind} at {place} by processor {processor} after \d+ cycles\n"
     ROWS.append(Row(run(f"fault {title}.f95", harts=harts), 6, out, report))
+
+# programs with one group at a time, those that fault, and those that never end
+for title, (harts, given, text, show, out) in groups.PROGRAMS.items():
+    FILES[f"group {title}.f95"] = text
+    words = run(f"group {title}.f95", harts=harts) + (["--show", show] if show else [])
+    ROWS.append(Row(words, 0, out, FINISHED, given=given))
+for title, (harts, text, out, kind, place, processor) in groups.FAULTS.items():
+    FILES[f"group fault {title}.f95"] = text
+    report = rf"fault {kind} at {place} by processor {processor} after \d+ cycles\n"
+    ROWS.append(Row(run(f"group fault {title}.f95", harts=harts), 6, out, report))
+for title, (harts, text, show, out) in groups.ENDLESS.items():
+    FILES[f"endless {title}.f95"] = text
+    words = run(f"endless {title}.f95", harts=harts, cycles=100000) + (["--show", show] if show else [])
+    ROWS.append(Row(words, 7, out, r"stopped after 100000 cycles\n"))
+ROWS += [
+    Row(run("group start.f95", harts=4, cycles=0) + ["--show", "x"], 7, b"x = 0\n", AT_ONCE),
+    # a group, its code and its end: get for who is in it, begin, what it does, end, resume, halt
+    Row(
+        build("group start.f95", "kinds.image"),
+        0,
+        b"",
+        r"built \d+ words\n",
+        files={"kinds.image": has_kinds([2, 23, 1, 2, 14, 4, 29, 30, 34])},
+    ),
+]
 
 
 def refused(text, report):
@@ -451,12 +477,26 @@ for index, rule in enumerate(RULES):
     name = f"rule{index}.f95"
     FILES[name], line = breaking(*rule)
     ROWS.append(Row(run(name), 1, b"", line))
+# texts that keep all rules, with one operation that isn't built: `shmalloc`, a group frame, `shalloc`, splits and a split loop
+NOT_BUILT = [
+    b"void main(void) { shmalloc(4); }",
+    b"sync void f(void) { sh int a; } void main(void) { }",
+    b"void main(void) { start { sh int a; } }",
+    b"sync int *f(void) { return shalloc(4); } void main(void) { start f(); }",
+    b"void main(void) { start if ($) ; else ; }",
+    b"void main(void) { int x; start x = $ && 1; }",
+    b"void main(void) { int x; start x = $ || 1; }",
+    b"void main(void) { int x; start x = $ ? 1 : 2; }",
+    b"void main(void) { int x = 3; start while (x) x--; }",
+    b"sync void f(sh int a) { } void main(void) { }",
+]
 # a text that keeps all rules and isn't built; and mistakes of several kinds in one text
-FILES["valid.f95"] = b"void main(void) { start ; }"
+FILES["valid.f95"] = b"void main(void) { start fork (1; @=0) ; }"
 FILES["all.f95"] = b"int ib[2]; void main(void) { farm ; y = ? }"
 ROWS += [
     Row(run("valid.f95"), 1, b"", r"refused 22 NotBuilt\n"),
     Row(run("valid.f95") + ["--show", "y"], 1, b"", r"refused 22 NotBuilt\n"),
+    *[refused(text, r"refused 22 NotBuilt\n") for text in NOT_BUILT],
     Row(run("undeclared.f95") + ["--show", "y"], 1, b"", r"refused 8 Rule 1 at 1:26\n", given=b"x"),
     Row(run("all.f95"), 1, b"", r"refused 5 Unexpected at 1:41\n"),
 ]
@@ -497,7 +537,8 @@ ROWS += [
     Row(run("shared.f95"), 1, b"", r"refused 11 GlobalsTooLarge 524289\n"),
     Row(build("most.f95", "most.image"), 0, b"", r"built \d+ words\n", files={"most.image": is_image}),
     Row(build("largest.f95", "largest.image"), 0, b"", r"built \d+ words\n", files={"largest.image": is_image}),
-    refused(main_of(privates(51) + b"start ;"), r"refused 22 NotBuilt\n"),
+    refused(main_of(privates(47) + b"start if ($) ;"), r"refused 22 NotBuilt\n"),
+    refused(main_of(privates(52) + b"start ;"), r"refused 10 FrameTooLarge main 65\n"),
     refused(LARGE + main_of(b"start ;"), r"refused 11 GlobalsTooLarge 524289\n"),
     refused(LARGE + main_of(privates(64)), r"refused 10 FrameTooLarge main 73\n"),
     refused(main_of(privates(64) + prints(8000)), r"refused 9 TooManySites 16193\n"),

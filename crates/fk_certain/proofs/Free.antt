@@ -11,15 +11,14 @@ use Rattle.fk_core.specs.Numbers.{operation_of}
 use Rattle.fk_core.proofs.Leading.{op_stops}
 use Rattle.fk_flat.specs.Flat.{extent}
 use Rattle.fk_flat.specs.Laws.{AreShaped, IsFlat}
-use Rattle.fk_text.specs.Built.{is_built, operations_of, AreBuilt}
+use Rattle.fk_text.specs.Built.{operations_of}
 use Rattle.fk_text.specs.Plain.{is_plain, ArePlain}
-use Rattle.fk_certain.proofs.Plain.{built_texts_are_plain}
-use Rattle.fk_typed_code.specs.Laws.{IsTypedList, IsLone}
-use Rattle.fk_typed_code.proofs.Free.{typed_lists_lead_within, typed_lists_are_free, entries_are_within}
+use Rattle.fk_typed_code.specs.Laws.{IsTypedList}
+use Rattle.fk_typed_code.proofs.Free.{typed_lists_lead_within, entries_are_within}
 use Rattle.fk_typed_forms.specs.Asked.{place_of, ProgramAsked}
 use Rattle.fk_typed_forms.proofs.Programs.{forms_are_typed}
-use Rattle.fk_certain.specs.FreeLaws.{ListsArePlain, ListsGoOnWithin, ListsAreFree}
-use Rattle.fk_certain.proofs.Items.{built_alone, OperationAt, JumpAt}
+use Rattle.fk_certain.specs.FreeLaws.{ListsArePlain, ListsGoOnWithin}
+use Rattle.fk_certain.proofs.Items.{OperationAt, JumpAt}
 use Rattle.fk_certain.proofs.Apart.{Own, at_index, flat_lists_are_apart}
 
 module _ (which : Operation → Bool) (tables : Tables) (program : ProgramTree) (core : List CoreOp) (entry : ℕ → ℕ)
@@ -54,11 +53,6 @@ module _ (which : Operation → Bool) (tables : Tables) (program : ProgramTree) 
 pub lists_are_plain : ListsArePlain
 lists_are_plain tables program core entry plain flat = of_list is_plain tables program core entry plain flat
 
-lone : (tables : Tables) (program : ProgramTree) (core : List CoreOp) (entry : ℕ → ℕ) → AreBuilt tables program
-    → IsFlat (bodies_of tables program) core entry → IsLone core
-lone tables program core entry built flat i op operation stands is_read =
-    built_alone operation (of_list is_built tables program core entry built flat i op operation stands is_read)
-
 -- the list of a program is one of well typed functions
 pub typed_list : (tables : Tables) (program : ProgramTree) (core : List CoreOp) (entry : ℕ → ℕ) → ProgramAsked tables program → ArePlain tables program
     → AreShaped (bodies_of tables program) → IsFlat (bodies_of tables program) core entry
@@ -77,8 +71,3 @@ lists_go_on_within tables program core entry asked plain shaped flat has_main =
       begins = entries_are_within (bodies_of tables program) core entry (place_of tables program) typed (main_of tables program) has_main;
       leads = typed_lists_lead_within (bodies_of tables program) core entry (place_of tables program) typed;
     }
-
-pub lists_are_free : ListsAreFree
-lists_are_free tables program core entry asked built shaped flat =
-    typed_lists_are_free (bodies_of tables program) core entry (place_of tables program)
-    (typed_list tables program core entry asked (built_texts_are_plain tables program built) shaped flat) (lone tables program core entry built flat)

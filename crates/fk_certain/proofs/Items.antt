@@ -2,8 +2,6 @@
 use Rattle.std.proofs.Common.{◌≡◌, ℕ, zero, suc, ◌+◌, ◌<◌, ◌≤◌, Bool, true, false, List, [], ◌∷◌, ◌++◌, length, slice_get, Some, None, inl, inr, refl, sym, subst, arith}
 use Rattle.std.specs.Prelude.{◌||◌, ◌⊎◌}
 use Rattle.fk_operation.specs.declared.operation.Operation.{Operation}
-use Rattle.fk_operation.specs.declared.operation.Operation.TheVariants as o
-use Rattle.fk_operation.specs.declared.operation.Known.TheVariants.{FrameAddress}
 use Rattle.fk_forms.specs.Code.{Code, done, perform, choose, while, until, turn, again, quit, break, continue, call, ends, size, numbered}
 use Rattle.fk_forms.specs.Expressions.{Coded}
 use Rattle.fk_core.specs.declared.op.CoreOp.{CoreOp}
@@ -13,15 +11,7 @@ use Rattle.fk_core.specs.Stands.{Around}
 use Rattle.fk_flat.specs.Items.{Item, jump, act, Has, way_of, goes_away}
 use Rattle.fk_flat.specs.Flat.{begins_here, skip, gap, label, flat}
 use Rattle.fk_flat.proofs.Parts.{choice_at, turns_at, rounds_at, entering_at}
-use Rattle.fk_block_law.specs.Ready.{is_alone}
-use Rattle.fk_text.specs.Built.{is_built}
 use Rattle.fk_typed_forms.proofs.Along.{AllOf}
-
--- an operation that is built is one without a group, or a halt
-pub built_alone : (op : Operation) → is_built op ≡ true → (is_alone op ≡ true) ⊎ (op ≡ o.Halt)
-built_alone (o.Get (FrameAddress nesting word)) e = inl e
-built_alone o.Halt e = inr refl
-built_alone op e = inl e
 
 -- the first item is no jump
 abbrev pub NoJumpFirst : List Item → Type 0

@@ -48,4 +48,3 @@ pub mod Texts
 mod Heights
 pub mod TallLists
 pub mod Lists
-pub mod Plain

@@ -19,7 +19,7 @@ use Rattle.fk_fitting.proofs.Programs.{correct_programs_fit}
 use Rattle.fk_typed_code.proofs.Knowing.{typed_lists_know}
 use Rattle.fk_typed_forms.specs.Asked.{place_by, place_in, place_of}
 use Rattle.fk_certain.proofs.Programs.{correct_programs_are_asked, mains_have_their_place}
-use Rattle.fk_certain.proofs.Free.{typed_list, lists_are_plain, lists_go_on_within, lists_are_free}
+use Rattle.fk_certain.proofs.Free.{typed_list, lists_are_plain, lists_go_on_within}
 use Rattle.fk_certain.proofs.Suiting.{live_words_suit}
 use Rattle.fk_certain.proofs.Room.{correct_programs_have_room}
 use Rattle.fk_core.specs.declared.op.CoreOp.{CoreOp}
@@ -33,7 +33,6 @@ use Rattle.fk_lower_text.specs.Depths.{depths_of}
 use Rattle.fk_layout.specs.Refusal.{Fits}
 use Rattle.fk_parsed.specs.Trim.{ProgramIsTrim}
 use Rattle.fk_text.specs.Plain.{ArePlain}
-use Rattle.fk_certain.proofs.Plain.{built_texts_are_plain}
 use Rattle.fk_shapes.specs.Fitting.{ProgramFits}
 use Rattle.fk_fitting.specs.Correct.{IsCorrect}
 use Rattle.fk_typed_code.specs.Typed.{AreTyped}
@@ -43,7 +42,7 @@ use Rattle.fk_typed_forms.proofs.Programs.{forms_are_typed}
 use Rattle.fk_certain.specs.Proper.{ProgramIsProper}
 use Rattle.fk_certain.specs.LoweringLaws.{IsKnownOf}
 use Rattle.fk_certain.proofs.TallLists.{lists_have_heights}
-use Rattle.fk_certain.specs.Laws.{CorrectListsAreSteady, CorrectListsAreSafe, CorrectListsHaveFrames, CorrectListsAreCertain, LoweredListsCanHaveGroups, LoweredListsCanBeCoded}
+use Rattle.fk_certain.specs.Laws.{CorrectListsAreSteady, CorrectListsHaveFrames, LoweredListsCanHaveGroups}
 
 -- what has the place of `main` is defined
 is_there : (tables : Tables) (fs : List FunctionTree) (b : ℕ) → place_in tables fs b ≡ Main → is_defined tables fs b ≡ true
@@ -71,17 +70,6 @@ correct_lists_are_steady program facts valid trim proper fits plain core entry f
       may = knowledge_is_enough core (entry main) (typed_lists_know (bodies_of tables program) core entry (place_of tables program) typed main place);
     }
 
--- and where all is built it has no groups
-pub correct_lists_are_safe : CorrectListsAreSafe
-correct_lists_are_safe program facts valid trim proper fits built core entry flat =
-    let tables = tables_by program facts in
-    let plain = built_texts_are_plain tables program built in
-    let asked = correct_programs_are_asked program facts valid trim proper fits in
-    let shaped = forms_are_shaped tables program (correct_programs_fit program facts valid trim) in
-    let steady = correct_lists_are_steady program facts valid trim proper fits plain core entry flat in
-    let within = steady.within in
-    record { begins = within.begins; free = lists_are_free tables program core entry asked built shaped flat; may = steady.may }
-
 pub correct_lists_have_frames : CorrectListsHaveFrames
 correct_lists_have_frames program facts valid trim proper fits plain core entry kept lowered =
     let tables = tables_by program facts in
@@ -99,12 +87,6 @@ correct_lists_have_frames program facts valid trim proper fits plain core entry 
       suits = suits.1;
       keeps = λ index word held. held;
     }
-
-pub correct_lists_are_certain : CorrectListsAreCertain
-correct_lists_are_certain program facts valid trim proper fits built core entry kept lowered = record {
-  safe = correct_lists_are_safe program facts valid trim proper fits built core entry lowered.flat;
-  held = correct_lists_have_frames program facts valid trim proper fits (built_texts_are_plain (tables_by program facts) program built) core entry kept lowered;
-}
 
 module _ (program : ProgramTree) (facts : Facts) (known : Known) (of : IsKnownOf program facts known) (valid : IsCorrect program facts) (trim : ProgramIsTrim program)
     (proper : ProgramIsProper program) (fits : Fits (tables_by program facts) program.items) (plain : ArePlain (tables_by program facts) program) where
@@ -137,10 +119,3 @@ lowered_lists_can_have_groups program facts known of valid trim proper fits plai
       held = λ kept live least.
           correct_lists_have_frames program facts valid trim proper fits plain core entry kept (record { flat = flat; tall = high; live = live; least = least });
     }
-
-pub lowered_lists_can_be_coded : LoweredListsCanBeCoded
-lowered_lists_can_be_coded program facts known of valid trim proper fits built core entry flat told =
-    let plain = built_texts_are_plain (tables_by program facts) program built in
-    let able = lowered_lists_can_have_groups program facts known of valid trim proper fits plain core entry flat told in
-    let safe = correct_lists_are_safe program facts valid trim proper fits built core entry flat in
-    record { depths = able.depths; safe = safe; certain = λ kept live least. record { safe = safe; held = able.held kept live least } }

@@ -10,8 +10,6 @@ use Rattle.fk_core.specs.Numbers.{operation_of}
 use Rattle.fk_flat.specs.Flat.{extent}
 use Rattle.fk_flat.specs.Shape.{is_closed}
 use Rattle.fk_flat.specs.Laws.{AreShaped, IsFlat}
-use Rattle.fk_block_law.specs.Lists.{IsFree}
-use Rattle.fk_text.specs.Built.{AreBuilt}
 use Rattle.fk_text.specs.Plain.{is_plain, ArePlain}
 use Rattle.fk_typed_code.specs.Laws.{LeadsWithin}
 use Rattle.fk_typed_forms.specs.Asked.{ProgramAsked}
@@ -49,9 +47,3 @@ ListsGoOnWithin =
     (tables : Tables) (program : ProgramTree) (core : List CoreOp) (entry : ℕ → ℕ) → ProgramAsked tables program → ArePlain tables program
     → AreShaped (bodies_of tables program) → IsFlat (bodies_of tables program) core entry
     → is_closed (bodies_of tables program (main_of tables program)) ≡ true → GoesOnWithin core (entry (main_of tables program))
-
--- where all is built it has operations without groups alone
-abbrev pub ListsAreFree : Type 0
-ListsAreFree =
-    (tables : Tables) (program : ProgramTree) (core : List CoreOp) (entry : ℕ → ℕ) → ProgramAsked tables program → AreBuilt tables program
-    → AreShaped (bodies_of tables program) → IsFlat (bodies_of tables program) core entry → IsFree core

@@ -17,7 +17,6 @@ use Rattle.fk_lower.specs.Depths.{AreTold}
 use Rattle.fk_lower_text.specs.Depths.{depths_of}
 use Rattle.fk_kept.specs.declared.set.Set.{Set}
 use Rattle.fk_kept.specs.Live.{IsLive, IsLeast, words_in}
-use Rattle.fk_text.specs.Built.{AreBuilt}
 use Rattle.fk_text.specs.Plain.{ArePlain}
 use Rattle.fk_parsed.specs.Trim.{ProgramIsTrim}
 use Rattle.fk_fitting.specs.Correct.{IsCorrect}
@@ -25,7 +24,7 @@ use Rattle.fk_typed_code.specs.Laws.{HasHeightsOf}
 use Rattle.fk_typed_forms.specs.Asked.{place_of}
 use Rattle.fk_certain.specs.Proper.{ProgramIsProper}
 use Rattle.fk_certain.specs.LoweringLaws.{IsKnownOf}
-use Rattle.fk_certain.specs.Certain.{IsSafe, IsSteady, HasEnough, HasFrames, IsCertain}
+use Rattle.fk_certain.specs.Certain.{IsSteady, HasEnough, HasFrames}
 
 -- the code of each function stands at its entry in a list, with its depths, and these words are those that are live in it
 pub record IsLowered (tables : Tables) (program : ProgramTree) (core : List CoreOp) (entry : (binding : ℕ) → ℕ) (kept : List Set) : Type 0 where
@@ -41,13 +40,6 @@ CorrectListsAreSteady =
     Fits tables program.items → ArePlain tables program
     → (core : List CoreOp) (entry : (binding : ℕ) → ℕ) → IsFlat (bodies_of tables program) core entry → IsSteady core (entry (main_of tables program))
 
-abbrev pub CorrectListsAreSafe : Type 0
-CorrectListsAreSafe =
-    (program : ProgramTree) (facts : Facts) → IsCorrect program facts → ProgramIsTrim program → ProgramIsProper program
-    → let tables = tables_by program facts in
-    Fits tables program.items → AreBuilt tables program
-    → (core : List CoreOp) (entry : (binding : ℕ) → ℕ) → IsFlat (bodies_of tables program) core entry → IsSafe core (entry (main_of tables program))
-
 -- how many private variables of file scope a text has
 abbrev pub count_of_file : ProgramTree → Facts → ℕ
 count_of_file program facts = length (firsts (told facts.notes.items facts.kinds.items) program.items)
@@ -60,31 +52,8 @@ CorrectListsHaveFrames =
     → (core : List CoreOp) (entry : (binding : ℕ) → ℕ) (kept : List Set) → IsLowered tables program core entry kept
     → HasFrames core kept (entry (main_of tables program)) (count_of_file program facts)
 
-abbrev pub CorrectListsAreCertain : Type 0
-CorrectListsAreCertain =
-    (program : ProgramTree) (facts : Facts) → IsCorrect program facts → ProgramIsTrim program → ProgramIsProper program
-    → let tables = tables_by program facts in
-    Fits tables program.items → AreBuilt tables program
-    → (core : List CoreOp) (entry : (binding : ℕ) → ℕ) (kept : List Set) → IsLowered tables program core entry kept
-    → IsCertain core kept (entry (main_of tables program)) (count_of_file program facts)
-
--- what code is made of: the depths of a list are those of all runs, it is safe, and certain with the words that are live in it
-pub record CanBeCoded (core : List CoreOp) (main firsts : ℕ) : Type 0 where
-  pub depths : HasDepths core main
-  pub safe : IsSafe core main
-  pub certain : (kept : List Set) → IsLive core (words_in kept) → IsLeast core (words_in kept) → IsCertain core kept main firsts
-
--- so it is with a list that has the depths that are told of the text
-abbrev pub LoweredListsCanBeCoded : Type 0
-LoweredListsCanBeCoded =
-    (program : ProgramTree) (facts : Facts) (known : Known) → IsKnownOf program facts known → IsCorrect program facts → ProgramIsTrim program → ProgramIsProper program
-    → let tables = tables_by program facts in
-    Fits tables program.items → AreBuilt tables program
-    → (core : List CoreOp) (entry : (binding : ℕ) → ℕ) → IsFlat (bodies_of tables program) core entry → AreTold (depths_of known (functions_in known)) core
-    → CanBeCoded core (entry (main_of tables program)) (count_of_file program facts)
-
--- what code with groups is made of, where none splits: the depths of a list are those of all runs, each operation finds its values, and
--- the list is steady and has frames that keep the words that are live in it
+-- what code is made of: the depths of a list are those of all runs, each operation finds its values, and the list is steady and has
+-- frames that keep the words that are live in it
 pub record CanHaveGroups (core : List CoreOp) (main firsts : ℕ) : Type 0 where
   pub depths : HasDepths core main
   pub enough : HasEnough core

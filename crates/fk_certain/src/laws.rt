@@ -4,13 +4,13 @@ ghost use Rattle.fk_certain.specs.WordLaws.{MembersAreClose, NumbersHaveRoom};
 ghost use Rattle.fk_certain.specs.LoweringLaws.{BindingsGoUp, TextsCanBeLaid, FirstsAreFew, ListsAreSmall};
 ghost use Rattle.fk_certain.specs.Proper.{TextsAreProper};
 ghost use Rattle.fk_certain.specs.AskedLaws.{CorrectProgramsAreAsked, MainsHaveTheirPlace};
-ghost use Rattle.fk_certain.specs.FreeLaws.{FlatListsAreApart, ListsArePlain, ListsGoOnWithin, ListsAreFree};
+ghost use Rattle.fk_certain.specs.FreeLaws.{FlatListsAreApart, ListsArePlain, ListsGoOnWithin};
 ghost use Rattle.fk_certain.specs.Suiting.{LiveWordsSuit};
 ghost use Rattle.fk_certain.specs.RoomLaws.{ValuesHaveRoom, NamesHaveWords, CorrectProgramsHaveRoom};
 ghost use Rattle.fk_certain.specs.Named.{CodeNamesWords};
 ghost use Rattle.fk_certain.specs.NumberLaws.{OperationsHaveNumbers};
 ghost use Rattle.fk_certain.specs.HeightLaws.{ListsHaveHeights};
-ghost use Rattle.fk_certain.specs.Laws.{CorrectListsAreSteady, CorrectListsAreSafe, CorrectListsHaveFrames, CorrectListsAreCertain, LoweredListsCanHaveGroups, LoweredListsCanBeCoded};
+ghost use Rattle.fk_certain.specs.Laws.{CorrectListsAreSteady, CorrectListsHaveFrames, LoweredListsCanHaveGroups};
 
 /// The members in a program that keeps all rules lie near the first words of their structs, and no
 /// function has too many parameters.
@@ -83,12 +83,6 @@ pub fn lists_go_on_within()
     ensures { ListsGoOnWithin }
 {}
 
-/// The flat list of a program with well typed code, of which all operations are built, has operations
-/// without groups alone, its jumps lead to operations, and none but an end goes on outside it.
-pub fn lists_are_free()
-    ensures { ListsAreFree }
-{}
-
 /// A flat list of well typed functions, whose private words and values have room in frames, suits
 /// frames that hold its live words, where calls keep no more than their arguments.
 pub fn live_words_suit()
@@ -139,13 +133,6 @@ pub fn correct_lists_are_steady()
     ensures { CorrectListsAreSteady }
 {}
 
-/// A flat list of a program that keeps all rules, as a text spells it, and has a layout, has operations
-/// without groups alone, goes on within itself from `main` on, and may do each operation in every run,
-/// where all operations are built.
-pub fn correct_lists_are_safe()
-    ensures { CorrectListsAreSafe }
-{}
-
 /// A flat list of a program that keeps all rules, as a text spells it, and has a layout, with the
 /// depths of its code and its live words, suits frames that hold these words, where all operations are
 /// plain.
@@ -154,22 +141,8 @@ pub fn correct_lists_have_frames()
 {}
 
 /// A flat list of a program that keeps all rules, as a text spells it, and has a layout, with the
-/// depths of its code and its live words, has operations without groups alone, may do each of them in
-/// every run, and suits frames that hold the live words, where all operations are built.
-pub fn correct_lists_are_certain()
-    ensures { CorrectListsAreCertain }
-{}
-
-/// A flat list of a program that keeps all rules, as a text spells it, and has a layout, with the
 /// depths that lowering tells of the text, has the depths of all runs, finds the values that each
 /// operation needs, is steady, and has frames that hold its live words, where all operations are plain.
 pub fn lowered_lists_can_have_groups()
     ensures { LoweredListsCanHaveGroups }
-{}
-
-/// A flat list of a program that keeps all rules, as a text spells it, and has a layout, with the
-/// depths that lowering tells of the text, has the depths of all runs, is safe, and is certain with its
-/// live words, where all operations are built.
-pub fn lowered_lists_can_be_coded()
-    ensures { LoweredListsCanBeCoded }
 {}

@@ -1,5 +1,5 @@
 -- A text that keeps all rules and has a layout can be lowered.
-use Rattle.std.proofs.Common.{◌≤◌, ℕ, List, length, sym, subst}
+use Rattle.std.proofs.Common.{◌≤◌, ℕ, List, length, refl, sym, subst}
 use Rattle.std.specs.Prelude.{Result, Ok, Err, IfOk}
 use Rattle.fk_syntax.specs.declared.facts.Facts.{Facts}
 use Rattle.fk_syntax.specs.Program.{ItemTree, ProgramTree}
@@ -13,18 +13,22 @@ use Rattle.fk_flat.specs.Laws.{AreShaped}
 use Rattle.fk_layout.specs.Layout.{tables_by}
 use Rattle.fk_layout.specs.Refusal.{Fits}
 use Rattle.fk_lower_text.specs.Whole.{AreWhole}
-use Rattle.fk_lower_text.specs.Lowered.{IsLowerable}
+use Rattle.fk_lower_text.specs.Lowered.{IsLowerable, HasSites}
 use Rattle.fk_shapes.specs.Fitting.{FormsAreShaped}
 use Rattle.fk_parsed.specs.Trim.{ProgramIsTrim}
 use Rattle.fk_fitting.specs.Correct.{IsCorrect}
 use Rattle.fk_fitting.specs.Laws.{CorrectProgramsFit}
 use Rattle.fk_certain.specs.LoweringLaws.{IsKnownOf}
-use Rattle.fk_text.specs.Built.{AreBuilt}
+use Rattle.fk_text.specs.Plain.{ArePlain}
 use Rattle.fk_certain.specs.Proper.{ProgramIsProper}
 use Rattle.fk_lower.specs.Depths.{AreTold}
 use Rattle.fk_lower_text.specs.Depths.{depths_of}
-use Rattle.fk_certain.specs.Laws.{CanBeCoded, LoweredListsCanBeCoded, count_of_file}
-use Rattle.fk_compile.specs.Lists.{HasListOf}
+use Rattle.fk_certain.specs.Laws.{LoweredListsCanHaveGroups, count_of_file}
+use Rattle.fk_group_code.specs.Laws.{none_saved}
+use Rattle.fk_forked.specs.Laws.{IsLaidOut}
+use Rattle.fk_grouped.specs.Lists.{PlainListsHaveBlocks}
+use Rattle.fk_group_text.specs.Lists.{PlainListsAreOfOneGroup}
+use Rattle.fk_compile.specs.Lists.{HasListOf, IsGrouped}
 
 module _ (program : ProgramTree) (facts : Facts) (known : Known) (of : IsKnownOf program facts known) where
   pub lowerable : IsCorrect program facts → ProgramIsTrim program → CorrectProgramsFit → FormsAreShaped → AreWhole known (functions_in known) → IsLowerable known program
@@ -39,21 +43,30 @@ module _ (program : ProgramTree) (facts : Facts) (known : Known) (of : IsKnownOf
       subst (λ (items : List ItemTree). length (sites_in (tables_of known) (functions_of items) (functions_of items)) ≤ 16000) (sym of.items)
       (subst (λ (t : Tables). length (sites_in t (functions_of program.items) (functions_of program.items)) ≤ 16000) (sym of.tables) fits.sites)
 
--- and code is made of its list
-pub coded_list : (program : ProgramTree) (facts : Facts) (known : Known) → IsKnownOf program facts known → LoweredListsCanBeCoded → IsCorrect program facts → ProgramIsTrim program
-    → ProgramIsProper program → Fits (tables_by program facts) program.items → AreBuilt (tables_by program facts) program
-    → (core : List CoreOp) (main : ℕ) → HasListOf (tables_of known) program core main → AreTold (depths_of known (functions_in known)) core
-    → CanBeCoded core main (count_of_file program facts)
-coded_list program facts known of law valid trim proper fits built core main list told =
+-- and its list has one group at a time
+pub grouped_list : (program : ProgramTree) (facts : Facts) (known : Known) → IsKnownOf program facts known
+    → LoweredListsCanHaveGroups → PlainListsHaveBlocks → PlainListsAreOfOneGroup → AreShaped (bodies_of (tables_by program facts) program)
+    → IsCorrect program facts → ProgramIsTrim program → ProgramIsProper program → Fits (tables_by program facts) program.items
+    → ArePlain (tables_by program facts) program
+    → (core : List CoreOp) (main : ℕ) → HasListOf (tables_of known) program core main → HasSites known core → AreTold (depths_of known (functions_in known)) core
+    → IsGrouped core main (count_of_file program facts)
+grouped_list program facts known of can_have have_blocks are_of_one_group shaped valid trim proper fits plain core main list sites told =
+    let tables = tables_by program facts in
     let own = subst (λ (t : Tables). HasListOf t program core main) of.tables list in
-    subst (λ (m : ℕ). CanBeCoded core m (count_of_file program facts)) (sym own.begins)
-    (law program facts known of valid trim proper fits built core own.entry own.flat told)
+    let can = can_have program facts known of valid trim proper fits plain core own.entry own.flat told in
+    let laid : IsLaidOut program facts = record { correct = valid; trim = trim; proper = proper; fits = fits } in
+    subst (λ (m : ℕ). IsGrouped core m (count_of_file program facts)) (sym own.begins)
+    (record {
+      can = can;
+      blocks = have_blocks (bodies_of tables program) core own.entry shaped own.flat can.steady.plain can.steady.within.leads;
+      one_group = λ start. are_of_one_group program facts known of laid plain core own.entry own.flat told sites (none_saved start) (λ i. refl);
+    })
 
 -- what is so of what is answered
 pub answered : {A E : Type 0} (P Q : A → Type 0) (r : Result A E) → ((a : A) → P a → Q a) → IfOk r P → IfOk r Q
 answered P Q (Ok a) go h = go a h
 answered P Q (Err e) go h = tt
 
-pub answered_both : {A E : Type 0} (P Q R : A → Type 0) (r : Result A E) → ((a : A) → P a → Q a → R a) → IfOk r P → IfOk r Q → IfOk r R
-answered_both P Q R (Ok a) go h k = go a h k
-answered_both P Q R (Err e) go h k = tt
+pub answered_all : {A E : Type 0} (P Q R S : A → Type 0) (r : Result A E) → ((a : A) → P a → Q a → R a → S a) → IfOk r P → IfOk r Q → IfOk r R → IfOk r S
+answered_all P Q R S (Ok a) go h k l = go a h k l
+answered_all P Q R S (Err e) go h k l = tt

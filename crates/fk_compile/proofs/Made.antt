@@ -16,19 +16,24 @@ use Rattle.fk_layout.specs.Refusal.{Fits}
 use Rattle.fk_layout.specs.declared.layout.Layout.{Layout}
 use Rattle.fk_layout.specs.declared.listed.Site.{Site}
 use Rattle.fk_core.specs.declared.op.CoreOp.{CoreOp}
-use Rattle.fk_core.specs.WellFormed.{HasDepths}
 use Rattle.fk_image.specs.declared.Image.{Image}
 use Rattle.fk_image.specs.Limits.{IsSite, IsCommit, Rise}
 use Rattle.fk_asm.specs.Commits.{IsCommitTable}
 use Rattle.fk_asm.specs.declared.code.Code.{Code}
 use Rattle.fk_block_law.specs.Stands.{Places}
-use Rattle.fk_block_law.specs.Block.{BlockLaw}
+use Rattle.fk_group_law.specs.Node.{Nestings, Gathering}
+use Rattle.fk_group_law.specs.Law.{GroupLaw}
+use Rattle.fk_group_code.specs.Cycles.{cycles_of}
+use Rattle.fk_group_code.specs.Laws.{none_saved}
+use Rattle.fk_group_code.specs.Whole.{GivesGroupLaw}
+use Rattle.fk_grouped.specs.Lists.{StepsFindValues}
+use Rattle.fk_group_course.specs.Follow.{CarriesGroups}
 use Rattle.fk_kept.specs.declared.set.Set.{Set}
-use Rattle.fk_certain.specs.Certain.{IsCertain}
+use Rattle.fk_certain.specs.Certain.{HasFrames}
 use Rattle.fk_text.specs.declared.refusal.Refusal.{Refusal}
 use Rattle.fk_text.specs.Refusal.{IsRefused}
-use Rattle.fk_generate.specs.Generable.{IsGenerable, HasCode, DoesTheList}
-use Rattle.fk_compile.specs.Lists.{HasListOf}
+use Rattle.fk_generate.specs.Generable.{IsGenerable, HasCode}
+use Rattle.fk_compile.specs.Lists.{HasListOf, IsGrouped}
 use Rattle.fk_compile.specs.Faithful.{in_image, in_table, words_by, firsts_by}
 use Rattle.fk_compile.proofs.Limits.{sites_fit, commits_fit, commits_rise}
 use Rattle.fk_compile.proofs.Theorem.{IsCompiled}
@@ -39,12 +44,12 @@ passes_on (Ok a) refusal source same h = tt
 passes_on (Err z) refusal source same h = subst (IsRefused source) (sym same) h
 
 -- the code of a list, of which the parts of a layout are handed over
-pub does_the_list : (core ops : List CoreOp) (kept kept' : List Set) (main : ℕ) (firsts given : List ℕ) (count globals : ℕ) (code : Code) → ops ≡ core → kept' ≡ kept
-    → given ≡ firsts → globals ≡ count → DoesTheList ops kept' main given globals code → DoesTheList core kept main firsts count code
-does_the_list core ops kept kept' main firsts given count globals code same_ops same_kept same_firsts same_count law =
-    let of_core = subst (λ (list : List CoreOp). DoesTheList list kept' main given globals code) same_ops law in
-    let with_kept = subst (λ (sets : List Set). DoesTheList core sets main given globals code) same_kept of_core in
-    subst (λ (n : ℕ). DoesTheList core kept main firsts n code) same_count (subst (λ (ws : List ℕ). DoesTheList core kept main ws globals code) same_firsts with_kept)
+pub gives_the_law : (core ops : List CoreOp) (kept kept' : List Set) (main : ℕ) (firsts given : List ℕ) (count globals : ℕ) (code : Code) → ops ≡ core → kept' ≡ kept
+    → given ≡ firsts → globals ≡ count → GivesGroupLaw ops kept' main given globals code → GivesGroupLaw core kept main firsts count code
+gives_the_law core ops kept kept' main firsts given count globals code same_ops same_kept same_firsts same_count law =
+    let of_core = subst (λ (list : List CoreOp). GivesGroupLaw list kept' main given globals code) same_ops law in
+    let with_kept = subst (λ (sets : List Set). GivesGroupLaw core sets main given globals code) same_kept of_core in
+    subst (λ (n : ℕ). GivesGroupLaw core kept main firsts n code) same_count (subst (λ (ws : List ℕ). GivesGroupLaw core kept main ws globals code) same_firsts with_kept)
 
 -- a list of which code is made
 pub is_generable : (core ops : List CoreOp) (kept kept' : List Set) (main : ℕ) (firsts given : List ℕ) → ops ≡ core → kept' ≡ kept → given ≡ firsts
@@ -73,9 +78,9 @@ module _ (program : ProgramTree) (facts : Facts) (layout : Layout) (laid : IsLay
     -- what the code and the table of sites are, of which the image is put together
     pub record IsPutTogether : Type 0 where
       pub list : HasListOf (tables_by program facts) program core main
-      pub depths : HasDepths core main
-      pub certain : IsCertain core kept main (length layout.firsts.items)
-      pub blocks : DoesTheList core kept main layout.firsts.items (vec_len layout.words) code
+      pub grouped : IsGrouped core main (length layout.firsts.items)
+      pub held : HasFrames core kept main (length layout.firsts.items)
+      pub law : GivesGroupLaw core kept main layout.firsts.items (vec_len layout.words) code
       pub table : IsCommitTable (vec_len code.words) code.commits.items
       pub some : 1 ≤ vec_len code.words
       pub few : vec_len code.words ≤ 262144
@@ -92,26 +97,34 @@ module _ (program : ProgramTree) (facts : Facts) (layout : Layout) (laid : IsLay
           p.has_sites ∙ ap (λ (sites : List Site). map in_table sites) laid.sites
           ∙ as_in_image (sites_of (tables_by program facts) program)
 
-      places : (places : Places) × BlockLaw core image places (firsts_by program facts) main
-      places =
-          let has : HasCode code (vec_len layout.words) image = record {
-            words = ap (λ v. v.items) p.has_code;
-            commits = ap (λ v. v.items) p.has_commits;
-            globals_of = let held = layout.words.ok.0 in let same = ap (λ v. length v.items) p.has_globals in omega (arith, held, same);
-          } in
-          let given = p.blocks image p.certain.held.frames has p.certain.held.suits p.certain.held.keeps p.certain.held.of_file in
-          let all : Places = record { block = given.0; frames = p.certain.held.frames } in
-          (all, subst (λ (firsts : List ℕ). BlockLaw core image all firsts main) laid.firsts given.1)
+      has : HasCode code (vec_len layout.words) image
+      has = record {
+        words = ap (λ v. v.items) p.has_code;
+        commits = ap (λ v. v.items) p.has_commits;
+        globals_of = let held = layout.words.ok.0 in let same = ap (λ v. length v.items) p.has_globals in omega (arith, held, same);
+      }
 
-      pub is_compiled : IsCompiled program facts core kept main image
-      is_compiled = record {
+      given : StepsFindValues → (block : (index : ℕ) → ℕ) × (start : Gathering)
+          × GroupLaw core image (record { block = block; frames = p.held.frames }) (none_saved start) (cycles_of core (vec_len layout.words) kept) layout.firsts.items main
+      given values = p.law image p.held.frames has p.held.suits p.held.keeps p.held.of_file (values core p.grouped.can.enough)
+
+      pub is_compiled : StepsFindValues → IsCompiled program facts core main image
+      is_compiled values = let law = given values in record {
         list = p.list;
-        depths = p.depths;
-        certain = subst (λ (firsts : List ℕ). IsCertain core kept main (length firsts)) laid.firsts p.certain;
-        places = places.0;
-        blocks = places.1;
-        firsts_are_words = subst (All (λ w. w < 2 ^ 32)) laid.firsts p.firsts_are_words;
-        globals_are_words = subst (λ v. All (λ w. w < 2 ^ 32) v.items) (sym p.has_globals) p.globals_are_words;
+        places = record { block = law.0; frames = p.held.frames };
+        nestings = none_saved law.1;
+        cycles = cycles_of core (vec_len layout.words) kept;
+        carries =
+            subst
+            (λ (firsts : List ℕ).
+            CarriesGroups core main firsts (record { block = law.0; frames = p.held.frames }) (none_saved law.1) (cycles_of core (vec_len layout.words) kept) image)
+            laid.firsts
+            (record {
+              one_group = p.grouped.one_group law.1;
+              blocks = law.2;
+              firsts_are_words = p.firsts_are_words;
+              globals_are_words = subst (λ v. All (λ w. w < 2 ^ 32) v.items) (sym p.has_globals) p.globals_are_words;
+            });
         limits = record {
           some_code = let same = ap (λ v. vec_len v) p.has_code in omega (arith, same, p.some);
           code = let same = ap (λ v. vec_len v) p.has_code in omega (arith, same, p.few);

@@ -12,7 +12,7 @@ use Rattle.fk_layout.specs.declared.listed.Site.{Site}
 use Rattle.fk_image.specs.declared.Image.{Image}
 use Rattle.fk_image.specs.Limits.{IsWithinLimits}
 use Rattle.fk_simulation.specs.Follows.{IsInput, Follows}
-use Rattle.fk_text.specs.Built.{AreBuilt}
+use Rattle.fk_text.specs.Plain.{ArePlain}
 use Rattle.fk_text.specs.Text.{IsChecked}
 
 -- a site of a text as an image has it: its kind, line and column
@@ -44,5 +44,5 @@ pub record IsFaithful (source : List ℕ) (image : Image) : Type 0 where
   pub program : ProgramTree
   pub facts : Facts
   pub checked : IsChecked source program facts
-  pub built : AreBuilt (tables_by program facts) program
+  pub built : ArePlain (tables_by program facts) program
   pub faithful : IsFaithfulTo program facts image

@@ -5,8 +5,12 @@ use Rattle.fk_forms.specs.Tables.{Tables}
 use Rattle.fk_forms.specs.Program.{bodies_of, main_of}
 use Rattle.fk_core.specs.declared.op.CoreOp.{CoreOp}
 use Rattle.fk_core.specs.KeepsRuns.{HasCodeOf}
-use Rattle.fk_core.specs.WellFormed.{HasDepths}
 use Rattle.fk_flat.specs.Laws.{IsFlat}
+use Rattle.fk_generate.specs.Generable.{HasBlocks}
+use Rattle.fk_group_law.specs.Node.{Gathering}
+use Rattle.fk_group_code.specs.Laws.{none_saved}
+use Rattle.fk_group_facts.specs.Lists.{IsOfOneGroup}
+use Rattle.fk_certain.specs.Laws.{CanHaveGroups}
 
 -- it is flat, and the code of each function stands at its entry, that of `main` at this index
 pub record HasListOf (tables : Tables) (program : ProgramTree) (core : List CoreOp) (main : ℕ) : Type 0 where
@@ -14,3 +18,10 @@ pub record HasListOf (tables : Tables) (program : ProgramTree) (core : List Core
   pub flat : IsFlat (bodies_of tables program) core entry
   pub code : HasCodeOf tables program core entry
   pub begins : main ≡ entry (main_of tables program)
+
+-- what is known of it where no group splits in the text: code with groups can be made of it, its operations have blocks, and its
+-- processors are in one group at a time
+pub record IsGrouped (core : List CoreOp) (main firsts : ℕ) : Type 0 where
+  pub can : CanHaveGroups core main firsts
+  pub blocks : HasBlocks core
+  pub one_group : (start : Gathering) → IsOfOneGroup core (none_saved start) main

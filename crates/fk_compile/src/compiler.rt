@@ -9,9 +9,11 @@ ghost use Rattle.fk_compile.specs.Faithful.{IsFaithful};
 
 use crate::image::{are_words, site_table};
 use crate::list::{kept_words, list_of};
-use fk_generate::generate;
+use fk_group_code::generate;
+use fk_group_course::laws::machines_follow_groups;
+use fk_grouped::laws::steps_find_values;
 use fk_image::Image;
-use fk_simulation::laws::machines_follow_programs;
+use fk_simulation::laws::programs_are_followed;
 use fk_text::{Refusal, built_text};
 use std::alloc::Global;
 
@@ -41,7 +43,9 @@ pub fn compile(alloc: Global, source: &[u8]) -> Result<Image, Refusal>
     let sites = site_table(alloc, &layout.sites).map_err(Refusal::Memory)?;
     are_words(&layout.firsts);
     are_words(&layout.words);
-    machines_follow_programs();
+    steps_find_values();
+    machines_follow_groups();
+    programs_are_followed();
     Ok(Image {
         code: code.words,
         globals: layout.words,

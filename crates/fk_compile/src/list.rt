@@ -14,21 +14,23 @@ ghost use Rattle.fk_lower_text.specs.Depths.{depths_of};
 ghost use Rattle.fk_lower_text.specs.Whole.{AreNumbered};
 ghost use Rattle.fk_lower_text.specs.Lowered.{IsLowerable, HasSites};
 ghost use Rattle.fk_core.specs.WellFormed.{LeadsOn};
-ghost use Rattle.fk_certain.specs.Certain.{IsCertain};
-ghost use Rattle.fk_certain.specs.Laws.{CanBeCoded, count_of_file};
+ghost use Rattle.fk_certain.specs.Certain.{HasFrames};
+ghost use Rattle.fk_certain.specs.Laws.{count_of_file};
 ghost use Rattle.fk_generate.specs.Generable.{IsGenerable, most_words};
-ghost use Rattle.fk_text.specs.Built.{AreBuilt};
+ghost use Rattle.fk_text.specs.Plain.{ArePlain};
 ghost use Rattle.fk_text.specs.Refusal.{IsRefused};
 ghost use Rattle.fk_text.specs.Text.{IsChecked};
-ghost use Rattle.fk_compile.specs.Lists.{HasListOf};
+ghost use Rattle.fk_compile.specs.Lists.{HasListOf, IsGrouped};
 
 use crate::image::are_words;
 use fk_certain::laws::{
-    lists_are_small, lowered_lists_can_be_coded, numbers_have_room, operations_have_numbers,
+    lists_are_small, lowered_lists_can_have_groups, numbers_have_room, operations_have_numbers,
     texts_are_proper, texts_can_be_laid,
 };
 use fk_core::CoreOp;
 use fk_fitting::laws::correct_programs_fit;
+use fk_group_text::laws::plain_lists_are_of_one_group;
+use fk_grouped::laws::{grouped_lists_are_generable, plain_lists_have_blocks};
 use fk_kept::{Set, live_words};
 use fk_lookup::Lookup;
 use fk_lower::LowerFault;
@@ -82,13 +84,13 @@ pub(crate) fn list_of(alloc: Global, text: &Built) -> Result<List, Refusal>
         (program_of text.now.tree).items }
     requires well_formed { IsWellFormed (program_of text.now.tree) }
     requires tokens { text.now.tree.tokens ≤ 2 ^ 20 }
-    requires built { AreBuilt (tables_by (program_of text.now.tree) text.now.facts)
+    requires plain { ArePlain (tables_by (program_of text.now.tree) text.now.facts)
         (program_of text.now.tree) }
     ensures list { IfOk result
         (λ list. HasListOf (tables_by (program_of text.now.tree) text.now.facts)
         (program_of text.now.tree) list.ops.items list.main) }
     ensures small { IfOk result (λ list. sum_by most_words list.ops.items ≤ 256000) }
-    ensures coded { IfOk result (λ list. CanBeCoded list.ops.items list.main
+    ensures grouped { IfOk result (λ list. IsGrouped list.ops.items list.main
         (count_of_file (program_of text.now.tree) text.now.facts)) }
     ensures refused { IfErr result (λ refusal. (source : Listed ℕ) → IsRefused source refusal) }
 {
@@ -104,7 +106,9 @@ pub(crate) fn list_of(alloc: Global, text: &Built) -> Result<List, Refusal>
     numbers_have_room();
     texts_can_be_laid();
     operations_have_numbers();
-    lowered_lists_can_be_coded();
+    lowered_lists_can_have_groups();
+    plain_lists_have_blocks();
+    plain_lists_are_of_one_group();
     lowered(alloc, &known)
 }
 
@@ -128,14 +132,15 @@ fn have_words(ops: &[CoreOp])
 /// The private words that calls keep at each index of a list. Code is made of it, with the first values
 /// of private variables of file scope. Fails only for want of memory.
 pub(crate) fn kept_words(alloc: Global, list: &List, firsts: &[u32]) -> Result<Vec<Set>, Refusal>
-    requires { CanBeCoded list.now.ops.items list.now.main (length firsts.now) }
-    ensures certain { IfOk result (λ kept. IsCertain list.now.ops.items kept.items list.now.main (length firsts.now)) }
+    requires { IsGrouped list.now.ops.items list.now.main (length firsts.now) }
+    ensures held { IfOk result (λ kept. HasFrames list.now.ops.items kept.items list.now.main (length firsts.now)) }
     ensures generable { IfOk result (λ kept. LeadsOn list.now.ops.items
         → IsGenerable list.now.ops.items kept.items list.now.main firsts.now) }
     ensures refused { IfErr result (λ refusal. (source : Listed ℕ) → IsRefused source refusal) }
 {
     have_words(&list.ops);
     are_words(firsts);
+    grouped_lists_are_generable();
     match live_words(alloc, &list.ops) {
         Ok(kept) => Ok(kept),
         Err(error) => Err(Refusal::Memory(error)),

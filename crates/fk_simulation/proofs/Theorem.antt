@@ -1,4 +1,4 @@
--- Machines follow core runs, and programs.
+-- Machines follow core runs, and what follows these follows programs.
 use Rattle.std.proofs.Common.{◌≡◌, ℕ, zero, suc, ◌≤◌, List, [], ◌∷◌, ◌++◌, Some, Bool, true, false, cond, sym, ap, subst, ◌∙◌, refl, ◌⊎◌, inl, inr}
 use Rattle.std.specs.Prelude.{slice_get}
 use Rattle.std.proofs.lemmas.Bool.{cases_Bool}
@@ -17,9 +17,8 @@ use Rattle.fk_block_law.specs.Stands.{Places}
 use Rattle.fk_simulation.specs.Follows.{StandsAgree, Agrees}
 use Rattle.fk_simulation.specs.InRange.{AreGiven}
 use Rattle.fk_core.specs.KeepsRuns.{FlatListsKeepRuns}
-use Rattle.fk_forms.specs.Program.{main_of}
 use Rattle.fk_simulation.specs.Follows.{IsInput}
-use Rattle.fk_simulation.specs.Simulation.{Carries, MachinesFollowCoreRuns, MachinesFollowPrograms}
+use Rattle.fk_simulation.specs.Simulation.{Carries, MachinesFollowCoreRuns, ProgramsAreFollowed}
 use Rattle.fk_simulation.proofs.Linked.{AreReady}
 use Rattle.fk_simulation.proofs.Settled.{AllReady}
 use Rattle.fk_simulation.proofs.Opening.{opened}
@@ -162,11 +161,9 @@ machines_follow_core_runs core main firsts places image c input p n is le few bo
 
 -- ---- programs
 
-pub machines_follow_programs : FlatListsKeepRuns → MachinesFollowPrograms
-machines_follow_programs keeps_runs tables program core entry firsts places image code c input p n is le few bound =
-    let f = machines_follow_core_runs core (entry (main_of tables program)) firsts places image c input p n is le few bound in
-    let set = set_of image input p in
-    let alike = keeps_runs tables program core entry code image.globals.items firsts input p set (rounds image input p n) in
+pub programs_are_followed : FlatListsKeepRuns → ProgramsAreFollowed
+programs_are_followed keeps_runs tables program core entry firsts image input p n code f =
+    let alike = keeps_runs tables program core entry code image.globals.items firsts input p (set_of image input p) (rounds image input p n) in
     record {
       lawful = alike.back f.lawful;
       agrees = record {

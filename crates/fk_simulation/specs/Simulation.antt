@@ -31,10 +31,10 @@ MachinesFollowCoreRuns =
     → (input : List ℕ) (p n : ℕ) → IsInput image input → 1 ≤ p → p ≤ 1024 → n < 2 ^ 32
     → Follows (next core) image input p n (opening main image.globals.items firsts input p)
 
--- and the runs of a program whose code stands in the list
-abbrev pub MachinesFollowPrograms : Type 0
-MachinesFollowPrograms =
-    (tables : Tables) (program : ProgramTree) (core : List CoreOp) (entry : ℕ → ℕ) (firsts : List ℕ) (places : Places) (image : Image)
-    → HasCodeOf tables program core entry → Carries core (entry (main_of tables program)) firsts places image
-    → (input : List ℕ) (p n : ℕ) → IsInput image input → 1 ≤ p → p ≤ 1024 → n < 2 ^ 32
+-- what follows runs of a list follows those of a program whose code stands in it
+abbrev pub ProgramsAreFollowed : Type 0
+ProgramsAreFollowed =
+    (tables : Tables) (program : ProgramTree) (core : List CoreOp) (entry : ℕ → ℕ) (firsts : List ℕ) (image : Image) (input : List ℕ) (p n : ℕ)
+    → HasCodeOf tables program core entry
+    → Follows (next core) image input p n (opening (entry (main_of tables program)) image.globals.items firsts input p)
     → Follows (source.next_in tables program) image input p n (source.opening tables program image.globals.items firsts input p)

@@ -1,7 +1,7 @@
 //! Laws of the definitions.
 
 ghost use Rattle.fk_simulation.specs.InRange.{ListsStayInRange};
-ghost use Rattle.fk_simulation.specs.Simulation.{MachinesFollowCoreRuns, MachinesFollowPrograms};
+ghost use Rattle.fk_simulation.specs.Simulation.{MachinesFollowCoreRuns, ProgramsAreFollowed};
 
 /// A machine of an image that has the blocks of a list follows a lawful schedule of the list's core
 /// runs, one round for each cycle, in which who could act is in one of any 256 rounds. Its output,
@@ -13,9 +13,9 @@ pub fn machines_follow_core_runs()
     ensures { MachinesFollowCoreRuns }
 {}
 
-/// The same of the runs of a program whose code stands in the list.
-pub fn machines_follow_programs()
-    ensures { MachinesFollowPrograms }
+/// What follows core runs of a list follows the runs of a program whose code stands in the list.
+pub fn programs_are_followed()
+    ensures { ProgramsAreFollowed }
 {
     fk_core::laws::flat_lists_keep_runs();
 }

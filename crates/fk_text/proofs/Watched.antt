@@ -16,38 +16,39 @@ use Rattle.fk_walk.specs.Known.{tables_of, items_in, functions_of}
 use Rattle.fk_walk.specs.Shown.{shown, shown_known}
 use Rattle.fk_walk.specs.Through.{through}
 use Rattle.fk_walk_statements.specs.Texts.{functions_in, code_in, through_all}
-use Rattle.fk_text.specs.Built.{is_built, operations, operations_in, operations_of, AreBuilt}
+use Rattle.fk_text.specs.Built.{operations, operations_in, operations_of}
+use Rattle.fk_text.specs.Plain.{is_plain, ArePlain}
 use Rattle.fk_text.specs.Building.{building_after, no_mark}
 use Rattle.fk_text.specs.declared.building.Building.{Building}
 use Rattle.fk_text.proofs.Elements.{one_fails}
 
 -- an operation is built as it is shown
-known_as_shown : (known : Known) → is_built (o.Get (shown_known known)) ≡ is_built (o.Get known)
+known_as_shown : (known : Known) → is_plain (o.Get (shown_known known)) ≡ is_plain (o.Get known)
 known_as_shown (k.FrameAddress nesting word) = refl
 known_as_shown known = refl
 
-as_shown : (op : Operation) → is_built (shown op) ≡ is_built op
+as_shown : (op : Operation) → is_plain (shown op) ≡ is_plain op
 as_shown (o.Get known) = known_as_shown known
 as_shown op = refl
 
 -- what is so of all before, and of these
 abbrev with_all : Bool → List Operation → Bool
 with_all b [] = b
-with_all b (op ∷ ops) = with_all (b && is_built op) ops
+with_all b (op ∷ ops) = with_all (b && is_plain op) ops
 
 with_more : (b : Bool) (xs ys : List Operation) → with_all b (xs ++ ys) ≡ with_all (with_all b xs) ys
 with_more b [] ys = refl
-with_more b (x ∷ xs) ys = with_more (b && is_built x) xs ys
+with_more b (x ∷ xs) ys = with_more (b && is_plain x) xs ys
 
 one_was_not : (ops : List Operation) → with_all false ops ≡ false
 one_was_not [] = refl
 one_was_not (op ∷ ops) = one_was_not ops
 
-of_all : (ops : List Operation) → with_all true ops ≡ list_all is_built ops
+of_all : (ops : List Operation) → with_all true ops ≡ list_all is_plain ops
 of_all [] = refl
-of_all (op ∷ ops) = by (is_built op) (of_all ops)
+of_all (op ∷ ops) = by (is_plain op) (of_all ops)
   where
-    by : (b : Bool) → with_all true ops ≡ list_all is_built ops → with_all (true && b) ops ≡ (b && list_all is_built ops)
+    by : (b : Bool) → with_all true ops ≡ list_all is_plain ops → with_all (true && b) ops ≡ (b && list_all is_plain ops)
     by true others = others
     by false others = one_was_not ops
 
@@ -55,8 +56,8 @@ of_all (op ∷ ops) = by (is_built op) (of_all ops)
 abbrev Sees : (Building → Building) → List Operation → Type 0
 Sees f ops = (b : Building) → (f b).whole ≡ with_all b.whole ops
 
-first : (op : Operation) (g : Building → Building) (ops : List Operation) → Sees g ops → Sees (λ b. g (record { whole = b.whole && is_built (shown op) })) (op ∷ ops)
-first op g ops h = λ b. h (record { whole = b.whole && is_built (shown op) }) ∙ ap (λ (x : Bool). with_all (b.whole && x) ops) (as_shown op)
+first : (op : Operation) (g : Building → Building) (ops : List Operation) → Sees g ops → Sees (λ b. g (record { whole = b.whole && is_plain (shown op) })) (op ∷ ops)
+first op g ops h = λ b. h (record { whole = b.whole && is_plain (shown op) }) ∙ ap (λ (x : Bool). with_all (b.whole && x) ops) (as_shown op)
 
 then : (f g : Building → Building) (xs ys : List Operation) → Sees f xs → Sees g ys → Sees (λ b. g (f b)) (xs ++ ys)
 then f g xs ys x y = λ b. y (f b) ∙ ap (λ (v : Bool). with_all v ys) (x b) ∙ sym (with_more b.whole xs ys)
@@ -68,7 +69,7 @@ module _ (functions : (binding : ℕ) → Signature) where
   abbrev IsSeen : Coded → Type 0
   IsSeen code = Sees (behind code) (operations code)
 
-  one : (op : Operation) (a : Coded) → IsSeen a → Sees (λ b. behind a (record { whole = b.whole && is_built (shown op) })) (op ∷ operations a)
+  one : (op : Operation) (a : Coded) → IsSeen a → Sees (λ b. behind a (record { whole = b.whole && is_plain (shown op) })) (op ∷ operations a)
   one op a x = first op (behind a) (operations a) x
 
   two : (a b : Coded) → IsSeen a → IsSeen b → Sees (λ s. behind b (behind a s)) (operations a ++ operations b)
@@ -106,7 +107,7 @@ functions_seen known (f ∷ fs) =
 
 pub text_seen : (known : w.Known)
     → (through_all building_after no_mark known (record { whole = true }) (functions_in known)).whole
-    ≡ list_all is_built (operations_in (tables_of known) (functions_in known) (functions_in known))
+    ≡ list_all is_plain (operations_in (tables_of known) (functions_in known) (functions_in known))
 text_seen known =
     functions_seen known (functions_in known) (record { whole = true })
     ∙ of_all (operations_in (tables_of known) (functions_in known) (functions_in known))
@@ -118,12 +119,12 @@ module _ (known : w.Known) (tables : Tables) (tree : ProgramTree) (same_tables :
       ap (λ (t : Tables). operations_in t (functions_in known) (functions_in known)) same_tables
       ∙ ap (λ (items : List ItemTree). operations_in tables (p.functions_of items) (p.functions_of items)) same_items
 
-  told : (b : Bool) → list_all is_built (operations_in (tables_of known) (functions_in known) (functions_in known)) ≡ b → list_all is_built (operations_of tables tree) ≡ b
-  told b is = ap (λ (ops : List Operation). list_all is_built ops) (sym same_operations) ∙ is
+  told : (b : Bool) → list_all is_plain (operations_in (tables_of known) (functions_in known) (functions_in known)) ≡ b → list_all is_plain (operations_of tables tree) ≡ b
+  told b is = ap (λ (ops : List Operation). list_all is_plain ops) (sym same_operations) ∙ is
 
-  pub all_built : list_all is_built (operations_in (tables_of known) (functions_in known) (functions_in known)) ≡ true → AreBuilt tables tree
-  all_built is = AllPass-from_list_all is_built (operations_of tables tree) (told true is)
+  pub all_built : list_all is_plain (operations_in (tables_of known) (functions_in known) (functions_in known)) ≡ true → ArePlain tables tree
+  all_built is = AllPass-from_list_all is_plain (operations_of tables tree) (told true is)
 
-  pub one_unbuilt : list_all is_built (operations_in (tables_of known) (functions_in known) (functions_in known)) ≡ false
-      → (op : Operation) × Contains (operations_of tables tree) op × (is_built op ≡ false)
-  one_unbuilt is = one_fails is_built (operations_of tables tree) (told false is)
+  pub one_unbuilt : list_all is_plain (operations_in (tables_of known) (functions_in known) (functions_in known)) ≡ false
+      → (op : Operation) × Contains (operations_of tables tree) op × (is_plain op ≡ false)
+  one_unbuilt is = one_fails is_plain (operations_of tables tree) (told false is)

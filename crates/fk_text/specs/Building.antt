@@ -5,12 +5,12 @@ use Rattle.fk_operation.specs.declared.operation.Operation.{Operation}
 use Rattle.fk_walk.specs.declared.visitor.Event.{Event}
 use Rattle.fk_walk.specs.declared.visitor.Mark.{Mark}
 use Rattle.fk_walk.specs.Event.{operation_of}
-use Rattle.fk_text.specs.Built.{is_built}
+use Rattle.fk_text.specs.Plain.{is_plain}
 use Rattle.fk_text.specs.declared.building.Building.{Building}
 
 abbrev pub with_operation : Building → Option (Operation × Place) → Building
 with_operation building None = building
-with_operation building (Some operation) = record { whole = building.whole && is_built operation.0 }
+with_operation building (Some operation) = record { whole = building.whole && is_plain operation.0 }
 
 abbrev pub building_after : Building → Event → Building
 building_after building event = with_operation building (operation_of event)

@@ -7,7 +7,7 @@ use Rattle.fk_operation.specs.declared.operation.Operation.TheVariants.{Get, Lea
 use Rattle.fk_forms.specs.Tables.{Tables}
 use Rattle.fk_text.specs.Built.{operations_of}
 
--- what stands in such a text: all but splits and tests of split loops, what uses a group frame or takes a block of the group's space, and `shmalloc`
+-- what is built: all but splits and tests of split loops, what uses a group frame or takes a block of the group's space, and `shmalloc`
 abbrev pub is_plain : Operation → Bool
 is_plain (Get (FrameAddress nesting word)) = false
 is_plain (Leave gives true) = false

@@ -16,7 +16,8 @@ use Rattle.fk_layout.specs.declared.sites.LayoutFault.TheVariants as layout
 use Rattle.fk_layout.specs.Layout.{tables_by}
 use Rattle.fk_layout.specs.Refusal.{IsRefusal, Fits}
 use Rattle.fk_operation.specs.declared.operation.Operation.{Operation}
-use Rattle.fk_text.specs.Built.{is_built, operations_of, AreBuilt}
+use Rattle.fk_text.specs.Built.{operations_of}
+use Rattle.fk_text.specs.Plain.{is_plain, ArePlain}
 
 -- a text has tokens, and the tree is theirs
 pub record HasTree (source : List ℕ) (tree : ProgramTree) : Type 0 where
@@ -82,14 +83,14 @@ pub record HasLargeFrame (source name : List ℕ) (words : ℕ) : Type 0 where
 -- a text has a layout, and all its operations are built
 pub record IsBuilt (source : List ℕ) : Type 0 where
   pub laid : HasLayout source
-  pub built : AreBuilt (tables_by laid.tree laid.facts) laid.tree
+  pub built : ArePlain (tables_by laid.tree laid.facts) laid.tree
 
 -- or one of them isn't
 pub record IsNotBuilt (source : List ℕ) : Type 0 where
   pub laid : HasLayout source
   pub operation : Operation
   pub among : Contains (operations_of (tables_by laid.tree laid.facts) laid.tree) operation
-  pub unbuilt : is_built operation ≡ false
+  pub unbuilt : is_plain operation ≡ false
 
 -- the one of these rows that has a name, and none where none has it
 abbrev pub IsRowOf : List Row → List ℕ → Option Row → Type 0
@@ -100,5 +101,5 @@ IsRowOf all name None = All (λ (row : Row). row.name ≢ name) all
 -- if there is one
 pub record HasGlobal (source name : List ℕ) (row : Option Row) : Type 0 where
   pub laid : HasLayout source
-  pub built : AreBuilt (tables_by laid.tree laid.facts) laid.tree
+  pub built : ArePlain (tables_by laid.tree laid.facts) laid.tree
   pub is : IsRowOf (rows (told laid.facts.notes.items laid.facts.kinds.items) laid.tree.items) name row

@@ -4,23 +4,28 @@ ghost use Rattle.std.specs.Prelude.{◌≡◌};
 ghost use Rattle.std.specs.List.{list_all};
 ghost use Rattle.fk_walk.specs.Known.{IsSound, tables_of};
 ghost use Rattle.fk_walk_statements.specs.Texts.{functions_in};
-ghost use Rattle.fk_text.specs.Built.{is_built, operations_in};
+ghost use Rattle.fk_text.specs.Built.{operations_in};
+ghost use Rattle.fk_text.specs.Plain.{is_plain};
 
-use fk_operation::{Class, Known as Pushed, Operation};
+use fk_operation::{Known as Pushed, Operation};
 use fk_walk::{Event, Known, Mark, Visitor};
 use fk_walk_statements::text;
 
-/// Whether an operation is built: it is one that a processor does without a group, or its end.
-pub fn is_built(operation: Operation) -> bool
-    ensures { result ≡ is_built operation }
+/// Whether an operation is built: none that splits a group or tests a split loop, uses a group frame, takes a block of the
+/// group's space, or is `shmalloc`.
+pub fn is_plain(operation: Operation) -> bool
+    ensures { result ≡ is_plain operation }
 {
-    match operation {
+    !matches!(
+        operation,
         Operation::Get(Pushed::FrameAddress(_, _))
-        | Operation::Leave { framed: true, .. }
-        | Operation::Heap => false,
-        Operation::Halt => true,
-        _ => operation.class() != Class::Tree,
-    }
+            | Operation::Leave { framed: true, .. }
+            | Operation::Heap
+            | Operation::Frame { .. }
+            | Operation::Block
+            | Operation::Divide(_)
+            | Operation::Shrink
+    )
 }
 
 /// A visitor that sees whether each operation is built.
@@ -39,7 +44,7 @@ impl Visitor for Building {
 
     fn meet(&mut self, event: Event) {
         if let Some((operation, _)) = event.operation() {
-            self.whole = self.whole && is_built(operation);
+            self.whole = self.whole && is_plain(operation);
         }
     }
 
@@ -56,7 +61,7 @@ impl Visitor for Building {
 /// Whether all operations of a text are built. It takes no memory, and time linear in the text.
 pub(crate) fn are_built(known: &Known) -> bool
     requires { IsSound known.now }
-    ensures { result ≡ list_all is_built
+    ensures { result ≡ list_all is_plain
         (operations_in (tables_of known.now) (functions_in known.now) (functions_in known.now)) }
 {
     let mut building = Building { whole: true };

@@ -6,7 +6,7 @@ ghost use Rattle.fk_syntax.specs.WellFormed.{IsWellFormed};
 ghost use Rattle.fk_walk.specs.Known.{items_in, tables_of};
 ghost use Rattle.fk_layout.specs.Layout.{IsLayout, tables_by};
 ghost use Rattle.fk_layout.specs.Refusal.{Fits};
-ghost use Rattle.fk_text.specs.Built.{AreBuilt};
+ghost use Rattle.fk_text.specs.Plain.{ArePlain};
 ghost use Rattle.fk_text.specs.Refusal.{IsRefused};
 ghost use Rattle.fk_text.specs.Text.{IsChecked, KeepsRules};
 
@@ -68,7 +68,7 @@ fn test_built<'p, 'a>(
     layout: &'p Layout<'a>,
 ) -> Result<(), Refusal>
     requires { IsLayout (program_of text.now.tree) text.now.facts layout.now }
-    ensures built { OnOk result (AreBuilt (tables_by (program_of text.now.tree) text.now.facts)
+    ensures built { OnOk result (ArePlain (tables_by (program_of text.now.tree) text.now.facts)
         (program_of text.now.tree)) }
     ensures refused { IfErr result (λ refusal. (source : List ℕ) → length source ≤ 1048576
         → IsChecked source (program_of text.now.tree) text.now.facts
@@ -99,7 +99,7 @@ pub fn built_text<'a>(alloc: Global, source: &'a [u8]) -> Result<Built<'a>, Refu
     ensures laid { IfOk result (λ text. IsLayout (program_of text.tree) text.facts text.layout) }
     ensures fits { IfOk result (λ text. Fits (tables_by (program_of text.tree) text.facts)
         (program_of text.tree).items) }
-    ensures built { IfOk result (λ text. AreBuilt (tables_by (program_of text.tree) text.facts)
+    ensures built { IfOk result (λ text. ArePlain (tables_by (program_of text.tree) text.facts)
         (program_of text.tree)) }
     ensures well_formed { IfOk result (λ text. IsWellFormed (program_of text.tree)) }
     // A token takes a byte at least.

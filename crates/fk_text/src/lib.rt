@@ -9,7 +9,7 @@ mod laid;
 pub mod refusal;
 mod text;
 
-pub use building::is_built;
+pub use building::is_plain;
 pub use built::{Built, built_text, known_of};
 pub use fk_globals::GlobalRow;
 pub use global::find_global;

@@ -45,9 +45,9 @@ pub enum Refusal {
     /// It has more than 1,048,576 bytes: how many.
     #[error("a text of {0} bytes is too long")]
     SourceTooLong(u64),
-    /// It is a text of the language, but it has an operation that isn't built: one of groups and their
-    /// frames (`start`, `fork`, `farm`, `seq`, `barrier`, `shalloc`, all that splits or agrees in a
-    /// synchronous region, `sh` variables and parameters of functions), or `shmalloc`.
+    /// It is a text of the language, but it has an operation that isn't built: one by which a group
+    /// splits (`fork`, a private condition in a synchronous region), a group's frame (`sh` variables and
+    /// parameters of functions and bodies), `shalloc`, or `shmalloc`.
     #[error("not built")]
     NotBuilt,
     /// There is no memory for the image.

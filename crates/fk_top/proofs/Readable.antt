@@ -39,7 +39,8 @@ use Rattle.fk_image.proofs.Images.{length-words, length-sites, length-commits}
 use Rattle.fk_text.specs.declared.refusal.Refusal.{Refusal}
 use Rattle.fk_text.specs.declared.refusal.Refusal.TheVariants.{BadByte, OpenComment, OpenString, WideNumber, Unexpected, EndOfText, Nesting, Rule, TooManySites, FrameTooLarge, GlobalsTooLarge, SourceTooLong, NotBuilt, Memory}
 use Rattle.fk_text.specs.Refusal.{IsRefused}
-use Rattle.fk_text.specs.Built.{is_built, operations_of, AreBuilt}
+use Rattle.fk_text.specs.Built.{operations_of}
+use Rattle.fk_text.specs.Plain.{is_plain, ArePlain}
 use Rattle.fk_text.specs.Text.{HasTree, HasSyntaxFault, HasBrokenRule, HasGlobal, HasLayout, IsChecked, IsNotBuilt}
 use Rattle.fk_compile.specs.Faithful.{words_by}
 use Rattle.fk_top.specs.declared.report.Report.{Report}
@@ -116,9 +117,9 @@ built_or_not source text other =
     let same = same_tree source laid.tree tree laid.checked.parsed other.laid.checked.parsed in
     let known = subst (λ (t : ProgramTree). AreAllFacts t laid.facts) same laid.checked.known in
     let tables = same_tables tree laid.facts other.laid.facts (one_facts tree laid.facts other.laid.facts known other.laid.checked.known) in
-    let built = subst (λ (t : ProgramTree). AreBuilt (tables_by t laid.facts) t) same text.built.built in
-    let here = subst (λ (t : Tables). AreBuilt t tree) tables built in
-    let is = All-contains (λ op. is_built op ≡ true) (operations_of (tables_by tree other.laid.facts) tree) other.operation here other.among in
+    let built = subst (λ (t : ProgramTree). ArePlain (tables_by t laid.facts) t) same text.built.built in
+    let here = subst (λ (t : Tables). ArePlain t tree) tables built in
+    let is = All-contains (λ op. is_plain op ≡ true) (operations_of (tables_by tree other.laid.facts) tree) other.operation here other.among in
     let bad : true ≡ false = sym is ∙ other.unbuilt in
     absurd (cc)
 

@@ -5,11 +5,11 @@ use Rattle.fk_image.specs.declared.Image.{Image}
 use Rattle.fk_layout.specs.declared.listed.Site.{Site}
 use Rattle.fk_core.specs.declared.op.CoreOp.{CoreOp}
 use Rattle.fk_text.proofs.Parts.{kept as passed}
-use Rattle.fk_certain.specs.Certain.{IsCertain}
-use Rattle.fk_certain.specs.Laws.{CanBeCoded}
+use Rattle.fk_certain.specs.Certain.{HasFrames}
+use Rattle.fk_compile.specs.Lists.{IsGrouped}
 use Rattle.fk_generate.specs.Generable.{IsGenerable, most_words}
 use Rattle.fk_compile.specs.Faithful.{in_table}
-use Rattle.fk_compile.proofs.Made.{passes_on, does_the_list, is_generable, few_words, is_compiled}
+use Rattle.fk_compile.proofs.Made.{passes_on, gives_the_law, is_generable, few_words, is_compiled}
 use Rattle.fk_compile.proofs.Theorem.{is_faithful}
 use Rattle.fk_compile.proofs.compiler.compile.Goals as goal
 
@@ -72,24 +72,25 @@ returns-clause-faithful c =
     let code = c.in_ok-code.code in
     let sites = c.in_ok-sites.sites in
     let image : Image = record { code = code.words; globals = layout.words; sites = sites; commits = code.commits } in
-    let blocks = passed _ _ c.generate.result c.map_err.result code c.generate.ensures.law c.map_err.ensures.cases c.in_ok-code.was in
+    let law = passed _ _ c.generate.result c.map_err.result code c.generate.ensures.group_law c.map_err.ensures.cases c.in_ok-code.was in
     let kept = c.in_ok-kept.kept in
-    let certain = subst (λ (firsts : List ℕ). IsCertain list.ops.items kept.items list.main (length firsts)) c.deref.ensures.value c.in_ok-kept.ensures.certain in
+    let held = subst (λ (firsts : List ℕ). HasFrames list.ops.items kept.items list.main (length firsts)) c.deref.ensures.value c.in_ok-kept.ensures.held in
     record {
       program = tree;
       facts = text.facts;
       checked = c.in_ok-text.ensures.checked;
       built = c.in_ok-text.ensures.built;
       faithful =
-          is_faithful tree text.facts list.ops.items kept.items list.main image c.machines_follow_programs.ensures
+          is_faithful tree text.facts list.ops.items list.main image c.machines_follow_groups.ensures c.programs_are_followed.ensures
           (is_compiled tree text.facts layout c.in_ok-text.ensures.laid c.in_ok-text.ensures.fits list.ops.items kept.items list.main code image
           (record {
             list = c.in_ok-list.ensures.list;
-            depths = c.in_ok-list.ensures.coded.depths;
-            certain = certain;
-            blocks =
-                does_the_list list.ops.items c.deref-2.result.now kept.items c.deref-3.result.now list.main layout.firsts.items c.deref-4.result.now (vec_len layout.words)
-                c.len-globals.result code c.deref-2.ensures.value c.deref-3.ensures.value c.deref-4.ensures.value c.len-globals.ensures blocks;
+            grouped =
+                subst (λ (firsts : List ℕ). IsGrouped list.ops.items list.main (length firsts)) (sym c.in_ok-text.ensures.laid.firsts) c.in_ok-list.ensures.grouped;
+            held = held;
+            law =
+                gives_the_law list.ops.items c.deref-2.result.now kept.items c.deref-3.result.now list.main layout.firsts.items c.deref-4.result.now (vec_len layout.words)
+                c.len-globals.result code c.deref-2.ensures.value c.deref-3.ensures.value c.deref-4.ensures.value c.len-globals.ensures law;
             table = passed _ _ c.generate.result c.map_err.result code c.generate.ensures.table c.map_err.ensures.cases c.in_ok-code.was;
             some = passed _ _ c.generate.result c.map_err.result code c.generate.ensures.some c.map_err.ensures.cases c.in_ok-code.was;
             few = passed _ _ c.generate.result c.map_err.result code c.generate.ensures.few c.map_err.ensures.cases c.in_ok-code.was;
@@ -101,11 +102,12 @@ returns-clause-faithful c =
                 ∙ ap (λ (all : List Site). map in_table all) c.deref-5.ensures.value;
             firsts_are_words = subst (λ (ws : List ℕ). All (λ w. w < 2 ^ 32) ws) c.deref-6.ensures.value c.are_words.ensures;
             globals_are_words = subst (λ (ws : List ℕ). All (λ w. w < 2 ^ 32) ws) c.deref-7.ensures.value c.are_words-2.ensures;
-          }));
+          })
+          c.steps_find_values.ensures);
     }
 
 pub kept_words-requires : goal.kept_words-requires
 kept_words-requires c =
     let list = c.in_ok-list.list in
-    subst (λ (firsts : List ℕ). CanBeCoded list.ops.items list.main (length firsts)) (sym (c.deref.ensures.value ∙ c.in_ok-text.ensures.laid.firsts))
-    c.in_ok-list.ensures.coded
+    subst (λ (firsts : List ℕ). IsGrouped list.ops.items list.main (length firsts)) (sym (c.deref.ensures.value ∙ c.in_ok-text.ensures.laid.firsts))
+    c.in_ok-list.ensures.grouped

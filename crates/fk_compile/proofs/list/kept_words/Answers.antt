@@ -1,20 +1,21 @@
-use Rattle.std.proofs.Common.{◌<◌, ◌^◌, List, All, length, subst}
+use Rattle.std.proofs.Common.{◌<◌, ◌^◌, List, All, subst}
 use Rattle.fk_core.specs.declared.op.CoreOp.{CoreOp}
 use Rattle.fk_kept.specs.Live.{IsLive, IsLeast, words_in}
-use Rattle.fk_compile.proofs.Generable.{certain_is_generable}
 use Rattle.fk_compile.proofs.list.kept_words.Goals as goal
 
-pub returns-in-Ok-clause-certain : goal.returns-in-Ok-clause-certain
-returns-in-Ok-clause-certain c =
+pub returns-in-Ok-clause-held : goal.returns-in-Ok-clause-held
+returns-in-Ok-clause-held c =
     let kept = c.in-Ok.kept in
-    c.requires.certain kept.items
+    c.requires.can.held kept.items
     (subst (λ (ops : List CoreOp). IsLive ops (words_in kept.items)) c.deref-2.ensures.value c.in-Ok.ensures.live)
     (subst (λ (ops : List CoreOp). IsLeast ops (words_in kept.items)) c.deref-2.ensures.value c.in-Ok.ensures.least)
 
 pub returns-in-Ok-clause-generable : goal.returns-in-Ok-clause-generable
-returns-in-Ok-clause-generable c =
+returns-in-Ok-clause-generable c = λ leads.
     let list = c.args.list.now in
     let kept = c.in-Ok.kept in
-    certain_is_generable list.ops.items kept.items list.main c.args.firsts.now (returns-in-Ok-clause-certain c)
+    c.grouped_lists_are_generable.ensures list.ops.items kept.items list.main c.args.firsts.now c.requires.can c.requires.blocks leads
+    (subst (λ (ops : List CoreOp). IsLive ops (words_in kept.items)) c.deref-2.ensures.value c.in-Ok.ensures.live)
+    (subst (λ (ops : List CoreOp). IsLeast ops (words_in kept.items)) c.deref-2.ensures.value c.in-Ok.ensures.least)
     (subst (λ (ops : List CoreOp). All (λ op. (op.site < 2 ^ 32) × (op.number < 2 ^ 32)) ops) c.deref.ensures.value c.have_words.ensures)
     c.are_words.ensures

@@ -5,15 +5,14 @@ use Rattle.fk_walk.specs.Known.{tables_of}
 use Rattle.fk_lower_text.specs.Lowered.{HasSites}
 use Rattle.fk_generate.specs.Generable.{most_words}
 use Rattle.fk_fitting.specs.Correct.{IsCorrect}
-use Rattle.fk_certain.proofs.Plain.{built_texts_are_plain}
 use Rattle.fk_layout.specs.Layout.{tables_by}
 use Rattle.fk_certain.specs.LoweringLaws.{IsKnownOf}
 use Rattle.fk_lower.specs.Depths.{AreTold}
 use Rattle.fk_lower_text.specs.Depths.{depths_of}
 use Rattle.fk_walk_statements.specs.Texts.{functions_in}
-use Rattle.fk_certain.specs.Laws.{CanBeCoded, count_of_file}
-use Rattle.fk_compile.specs.Lists.{HasListOf}
-use Rattle.fk_compile.proofs.Lowerable.{lowerable, few_sites, coded_list, answered, answered_both}
+use Rattle.fk_certain.specs.Laws.{count_of_file}
+use Rattle.fk_compile.specs.Lists.{HasListOf, IsGrouped}
+use Rattle.fk_compile.proofs.Lowerable.{lowerable, few_sites, grouped_list, answered, answered_all}
 use Rattle.fk_compile.proofs.list.list_of.Goals as goal
 
 pub returns-clause-list : goal.returns-clause-list
@@ -61,8 +60,8 @@ lowered-requires-clause-laid c =
     let whole = c.numbers_have_room.ensures tree facts c.complete-known.result valid c.requires.fits words tables items in
     c.texts_can_be_laid.ensures tree facts c.complete-known.result valid of c.requires.fits whole
 
-pub returns-clause-coded : goal.returns-clause-coded
-returns-clause-coded c =
+pub returns-clause-grouped : goal.returns-clause-grouped
+returns-clause-grouped c =
     let tree = program_of c.args.text.now.tree in
     let facts = c.args.text.now.facts in
     let known = c.complete-known.result in
@@ -76,11 +75,13 @@ returns-clause-coded c =
     let words = c.texts_have_words.ensures c.requires.checked.0 checked.parsed.tokens tree checked.parsed.spelled checked.parsed.derived in
     let whole = c.numbers_have_room.ensures tree facts known valid c.requires.fits words tables items in
     let can = lowerable tree facts known of valid trim c.correct_programs_fit.ensures c.forms_are_shaped.ensures whole in
-    answered_both (λ list. HasListOf (tables_of known) tree list.ops.items list.main) (λ list. AreTold (depths_of known (functions_in known)) list.ops.items)
-    (λ list. CanBeCoded list.ops.items list.main (count_of_file tree facts)) c.lowered.result
-    (λ list is told.
-    coded_list tree facts known of c.lowered_lists_can_be_coded.ensures valid trim proper c.requires.fits c.requires.built list.ops.items list.main is told)
-    (c.lowered.ensures.list tree can) (c.lowered.ensures.told tree can)
+    answered_all (λ list. HasListOf (tables_of known) tree list.ops.items list.main) (λ list. HasSites known list.ops.items)
+    (λ list. AreTold (depths_of known (functions_in known)) list.ops.items)
+    (λ list. IsGrouped list.ops.items list.main (count_of_file tree facts)) c.lowered.result
+    (λ list is sites told.
+    grouped_list tree facts known of c.lowered_lists_can_have_groups.ensures c.plain_lists_have_blocks.ensures c.plain_lists_are_of_one_group.ensures
+    (c.forms_are_shaped.ensures (tables_by tree facts) tree (c.correct_programs_fit.ensures tree facts valid trim)) valid trim proper c.requires.fits c.requires.plain list.ops.items list.main is sites told)
+    (c.lowered.ensures.list tree can) (c.lowered.ensures.sites tree can) (c.lowered.ensures.told tree can)
 
 pub lowered-requires-clause-numbered : goal.lowered-requires-clause-numbered
 lowered-requires-clause-numbered c =
@@ -93,4 +94,4 @@ lowered-requires-clause-numbered c =
     let valid : IsCorrect tree facts = record { well_formed = c.requires.well_formed; small = c.requires.tokens; known = checked.known } in
     let trim = c.texts_are_trim.ensures c.requires.checked.0 checked.parsed.tokens tree checked.parsed.spelled checked.parsed.derived in
     c.operations_have_numbers.ensures tree facts c.complete-known.result valid trim c.requires.fits
-    (built_texts_are_plain (tables_by tree facts) tree c.requires.built) of
+    c.requires.plain of
