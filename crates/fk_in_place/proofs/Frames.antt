@@ -74,7 +74,7 @@ module _ (told : Told) where
   one_body : (spot : Spot) (level : ℕ) (body : Statement) (more : List Index) → ((at : ℕ) → Covers at (statement_indices body) → Covers at more)
       → Each (Within (statement_indices body)) (frames_in told (deeper level) body) → Each (Within (statement_indices body)) (frames_in told level body)
       → Each (Within (Node spot.at ∷ more)) (
-          if splits_at told spot.at then body_frame told spot.at 0 (deeper level) body ++ frames_in told (deeper level) body else frames_in told level body)
+      if splits_at told spot.at then body_frame told spot.at 0 (deeper level) body ++ frames_in told (deeper level) body else frames_in told level body)
   one_body spot level body more f deep same =
       let up : (at : ℕ) → Covers at (statement_indices body) → Covers at (Node spot.at ∷ more) = λ at h. under spot.at at more (f at h) in
       each_of (Within (Node spot.at ∷ more)) (splits_at told spot.at) (body_frame told spot.at 0 (deeper level) body ++ frames_in told (deeper level) body) (frames_in told level body)

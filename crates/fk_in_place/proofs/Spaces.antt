@@ -164,7 +164,7 @@ module _ (program : ProgramTree) (facts : Facts) (valid : IsValid program facts)
       let token = rest_of Mine (s.optional_tokens thing' around x.first) (s.bare around (spot_of x.name) (sw.Variable x.shared (s.form_of x)) ∷ []) own in
       let alone : x.shared ≡ false = false_from_ne_true x.shared (λ e.
       token.0.unbroken (thing_tells program valid.well_formed) rules.SharedOutside
-          (subst (λ b. sb.BreaksRule around (sw.Variable b (s.form_of x)) rules.SharedOutside) (sym e) (sb.shared_outside (s.form_of x) within apart))) in
+      (subst (λ b. sb.BreaksRule around (sw.Variable b (s.form_of x)) rules.SharedOutside) (sym e) (sb.shared_outside (s.form_of x) within apart))) in
       ap (λ n. variables_words told n xs) (ap (λ b. if b then more taken (words_at told x.name.at) else taken) alone)
       ∙ variables_none around apart within xs (rest_of Mine (s.variable_tokens thing' around x) (s.variables_tokens thing' around xs) a) taken
 
