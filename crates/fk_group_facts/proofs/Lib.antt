@@ -10,6 +10,8 @@ pub mod Groups
 pub mod Reached
 -- rounds
 pub mod Known
+-- and the last one of a run
+pub mod Runs
 -- those who begin a group, and those who wait for it
 pub mod Begins
 -- who goes on in a round
