@@ -5,7 +5,7 @@ use Rattle.fk_tree.specs.declared.node.Kind.TheVariants.{Lockstep}
 use Rattle.fk_tree.specs.Tree as trees
 use Rattle.fk_run.specs.Processor.{Setting}
 use Rattle.fk_run.specs.Schedule.{first_level}
-use Rattle.fk_run.specs.Round.{Runner, State}
+use Rattle.fk_run.specs.Round.{State}
 use Rattle.fk_core.specs.declared.op.CoreOp.{CoreOp}
 use Rattle.fk_core.specs.Next.{Position, landing, next}
 use Rattle.fk_together.proofs.Round.{first_is, at_below}
@@ -14,7 +14,6 @@ use Rattle.fk_one_group.specs.Placed.{HasLevels}
 use Rattle.fk_one_group.proofs.Known.{at_group}
 use Rattle.fk_one_group.proofs.Moves.{ends_in_root}
 use Rattle.fk_block_law.specs.Owner.{Owner}
-use Rattle.fk_block_law.specs.Ready.{IsInRange}
 use Rattle.fk_group_law.specs.Node.{Nestings}
 use Rattle.fk_group_rounds.specs.Next.{landed}
 use Rattle.fk_group_rounds.specs.After.{runners_of}
@@ -27,12 +26,12 @@ use Rattle.fk_group_facts.specs.Facts.{ReachedGroupsHaveNext}
 use Rattle.fk_group_facts.proofs.Ways.{StepOf, ended_next}
 use Rattle.fk_group_facts.proofs.Nexts.{none_saved, leads_to, ready, does}
 
-runner_at : (ps : List Owner) (h : ℕ) (p : Owner) → slice_get ps h ≡ Some p → slice_get (runners_of ps) h ≡ Some p.runner
+pub runner_at : (ps : List Owner) (h : ℕ) (p : Owner) → slice_get ps h ≡ Some p → slice_get (runners_of ps) h ≡ Some p.runner
 runner_at [] h p at = absurd (cc)
 runner_at (q ∷ ps) zero p at = let e : q ≡ p = cc in ap (λ x. Some x.runner) e
 runner_at (q ∷ ps) (suc h) p at = runner_at ps h p at
 
-runners_length : (ps : List Owner) → length (runners_of ps) ≡ length ps
+pub runners_length : (ps : List Owner) → length (runners_of ps) ≡ length ps
 runners_length [] = refl
 runners_length (p ∷ ps) = ap suc (runners_length ps)
 
@@ -48,8 +47,7 @@ all_in_step core nestings g number [] (p ∷ ps) many each = absurd (omega (arit
 all_in_step core nestings g number (n ∷ ns) [] many each = absurd (omega (arith, many))
 
 module _ (core : List CoreOp) (nestings : Nestings) (main : ℕ) (setting : Setting) (s : State Position) (ps : List Owner) (g : ℕ) (list : IsOfOneGroup core nestings main)
-    (is : IsReached core setting s) (runners : s.runners ≡ runners_of ps) (ranges : (h : ℕ) (r : Runner Position) → slice_get s.runners h ≡ Some r → IsInRange r.has)
-    (kind : trees.kind s.tree g ≡ Some Lockstep) where
+    (is : IsReached core setting s) (runners : s.runners ≡ runners_of ps) (kind : trees.kind s.tree g ≡ Some Lockstep) where
   not_root : g ≢ 0
   not_root none = is.sound.free (ap (trees.kind s.tree) (sym none) ∙ kind)
 
@@ -64,14 +62,13 @@ module _ (core : List CoreOp) (nestings : Nestings) (main : ℕ) (setting : Sett
       let clash : InGroup ≡ InRoot = sym in_group ∙ ended in
       absurd (cc) in
       let leads = leads_to core nestings main setting s list is h p.runner at going in
-      let range = ranges h p.runner at in
       let levels : HasLevels setting InGroup p.runner.has = subst (λ (q : Where). HasLevels setting q p.runner.has) in_group placed.levels in
       record {
         number_is = placed.number_is;
         op = leads.op;
         operation = leads.operation;
         stands = leads.at;
-        ready = ready core nestings main setting s list is h p.runner p.heap at leads range;
+        ready = ready core nestings main setting s list is h p.runner p.heap at leads;
         may =
             ⊎_elim
             (λ plain. inl (list.alone (landing core p.runner.left.at) leads.op leads.operation leads.at plain))
@@ -86,11 +83,11 @@ module _ (core : List CoreOp) (nestings : Nestings) (main : ℕ) (setting : Sett
               },
             )))
             (subst (λ (q : Where). StepOf q leads.operation) in_group step))
-            (does core nestings main setting s list is h p.runner p.heap at leads range);
+            (does core nestings main setting s list is h p.runner p.heap at leads);
       }
 
 pub reached_groups_have_next : ReachedGroupsHaveNext
-reached_groups_have_next core nestings main setting s nodes ps g list is few places many runners ranges kind =
+reached_groups_have_next core nestings main setting s nodes ps g list is few places many runners kind =
     let as_many : length s.runners ≡ setting.processors = is.one_group.many in
     let long : length ps ≡ setting.processors = sym (runners_length ps) ∙ ap (λ l. length l) (sym runners) ∙ as_many in
     groups_have_next core nestings setting.processors s nodes ps g few is.sound places many runners is.one_program kind
@@ -101,4 +98,4 @@ reached_groups_have_next core nestings main setting s nodes ps g list is few pla
     let same : n ≡ s.tree.places (0 + i) = first_is n (s.tree.places (0 + i)) (sym at ∙ here) in
     let none : 0 + i ≡ i = omega arith in
     subst (λ j. IsInStep core nestings j (landed core p)) (sym none)
-    (one_in_step core nestings main setting s ps g list is runners ranges kind i p there (ap s.tree.places (sym none) ∙ sym same ∙ e))))
+    (one_in_step core nestings main setting s ps g list is runners kind i p there (ap s.tree.places (sym none) ∙ sym same ∙ e))))

@@ -21,10 +21,11 @@ use Rattle.fk_one_group.specs.Placed.{where_at, HasLevels, IsPlaced}
 use Rattle.fk_one_group.proofs.Moves.{goes_on}
 use Rattle.fk_block_law.specs.Owner.{Owner}
 use Rattle.fk_block_law.specs.Next.{step_at}
-use Rattle.fk_block_law.specs.Ready.{is_no_step, MayDo, IsInRange, IsReady}
+use Rattle.fk_block_law.specs.Ready.{is_no_step, MayDo, IsReady}
 use Rattle.fk_group_law.specs.Node.{Nestings}
 use Rattle.fk_group_law.specs.Lockstep.{NoneSaved}
 use Rattle.fk_group_law.specs.Joint.{word_of}
+use Rattle.fk_group_law.specs.Start.{IsInRoot}
 use Rattle.fk_group_plans.specs.Nodes.{is_lockstep}
 use Rattle.fk_group_plans.specs.Rounds.{joint_at_word}
 use Rattle.fk_group_rounds.specs.Next.{landed, MayMeet, MayByItself, HasNext}
@@ -72,6 +73,18 @@ pub none_saved : (nestings : Nestings) → ((i : ℕ) → nestings.levels i ≡ 
 none_saved nestings none [] = tt
 none_saved nestings none (i ∷ indices) = (none i, none_saved nestings none indices)
 
+pub root_levels : (core : List CoreOp) (nestings : Nestings) (setting : Setting) (p : Owner) → ((i : ℕ) → nestings.levels i ≡ 0) → HasLevels setting InRoot p.runner.has → IsInRoot nestings setting (landed core p)
+root_levels core nestings setting p none levels = record {
+  outer = levels.0;
+  level = record {
+    number = ap (λ (l : Level). l.number) levels.1;
+    rank = ap (λ (l : Level). l.rank) levels.1;
+    size = ap (λ (l : Level). l.size) levels.1;
+  };
+  space = ap (λ (l : Level). l.space) levels.1;
+  none = none_saved nestings none (landing core p.runner.left.at ∷ p.runner.left.callers);
+}
+
 module _ (core : List CoreOp) (nestings : Nestings) (main : ℕ) (setting : Setting) (s : State Position) (list : IsOfOneGroup core nestings main) (is : IsReached core setting s) where
   pub below : (h : ℕ) (r : Runner Position) → slice_get s.runners h ≡ Some r → h < setting.processors
   below h r at = let lt = at_below s.runners h r at in let many = is.one_group.many in omega (arith, lt, many)
@@ -79,7 +92,7 @@ module _ (core : List CoreOp) (nestings : Nestings) (main : ℕ) (setting : Sett
   pub leads_to : (h : ℕ) (r : Runner Position) → slice_get s.runners h ≡ Some r → r.left ≢ the_end core → Leading core r.left
   leads_to h r at going = ⊎_elim (λ w. leading core list.well_formed.leads_on r.left w.at) (λ e. absurd (going e)) (is.within h r at)
 
-  module _ (h : ℕ) (r : Runner Position) (heap : Memory) (at : slice_get s.runners h ≡ Some r) (leads : Leading core r.left) (in_range : IsInRange r.has) where
+  module _ (h : ℕ) (r : Runner Position) (heap : Memory) (at : slice_get s.runners h ≡ Some r) (leads : Leading core r.left) where
     abbrev p : Owner
     p = record { runner = r; heap = heap }
 
@@ -96,7 +109,7 @@ module _ (core : List CoreOp) (nestings : Nestings) (main : ℕ) (setting : Sett
     ready = record {
       depth = is.depth h r leads.op at leads.at.stands;
       may = may_same operation r (landing core r.left.at) (is.may h r leads.op operation at leads.at.stands leads.at.is_read);
-      in_range = in_range;
+      in_range = is.in_range h r at;
     }
 
     has : Has s.tree g h
@@ -132,16 +145,7 @@ module _ (core : List CoreOp) (nestings : Nestings) (main : ℕ) (setting : Sett
           root = none;
           kind = kind;
           member = subst (λ (n : ℕ). Has s.tree n h) none has;
-          in_root = record {
-            outer = levels.0;
-            level = record {
-              number = ap (λ (l : Level). l.number) levels.1;
-              rank = ap (λ (l : Level). l.rank) levels.1;
-              size = ap (λ (l : Level). l.size) levels.1;
-            };
-            space = ap (λ (l : Level). l.space) levels.1;
-            none = none_saved nestings list.levels (landing core r.left.at ∷ r.left.callers);
-          };
+          in_root = root_levels core nestings setting p list.levels levels;
         }))))
 
     by_place : (place : Where) → where_at s.tree h ≡ Some place → HasLevels setting place r.has → StepOf place operation → Next
@@ -184,5 +188,5 @@ module _ (core : List CoreOp) (nestings : Nestings) (main : ℕ) (setting : Sett
         (λ step. by_place placed.place placed.there placed.levels step) does
 
 pub reached_processors_have_next : ReachedProcessorsHaveNext
-reached_processors_have_next core nestings main setting s h r heap list is at going in_range =
-    next_is core nestings main setting s list is h r heap at (leads_to core nestings main setting s list is h r at going) in_range
+reached_processors_have_next core nestings main setting s h r heap list is at going =
+    next_is core nestings main setting s list is h r heap at (leads_to core nestings main setting s list is h r at going)

@@ -19,6 +19,7 @@ use Rattle.fk_one_group.proofs.Opening.{begins_at}
 use Rattle.fk_one_group.proofs.Runs.{are_all, round_by_round, runs_have_one_group}
 use Rattle.fk_block_law.specs.Next.{step_at}
 use Rattle.fk_block_law.specs.Lists.{IsWithin}
+use Rattle.fk_simulation.specs.InRange.{ListsStayInRange}
 use Rattle.fk_group_law.specs.Node.{Nestings}
 use Rattle.fk_group_facts.specs.Lists.{IsOfOneGroup}
 use Rattle.fk_group_facts.specs.Reached.{the_end, RunsReach}
@@ -100,14 +101,16 @@ module _ (core : List CoreOp) (nestings : Nestings) (main : ℕ) (list : IsOfOne
       round_there core set round (run (next core) set xs first) one possible (λ h r at here step e onward. goes_there xs before running' h r at here step e onward) there)
       [] schedule (are_all (next core) set schedule first lawful.possible none) lawful.pace single begin_there
 
-pub runs_reach : RunsReach
-runs_reach core nestings main list words firsts input p schedule some lawful single none =
+pub runs_reach : ListsStayInRange → RunsReach
+runs_reach stay core nestings main list words firsts input p schedule some given lawful single none =
     let both = runs_have_one_group Position (next core) list.outs (position main []) p words input (slice_index firsts) schedule list.follows_course list.goes some lawful single none in
     record {
       sound = both.0.tree;
       one_program = both.0.members;
+      beginners = both.0.beginners;
       one_group = both.1;
       within = all_there core nestings main list words firsts input p schedule lawful single none;
       depth = λ h r op at stands. list.well_formed.depths words firsts input p schedule lawful none h r op at stands;
       may = λ h r op operation at stands is_read. list.may words firsts input p schedule lawful none h r op operation at stands is_read;
+      in_range = λ h r at. stay core main words firsts input p schedule given h r at;
     }

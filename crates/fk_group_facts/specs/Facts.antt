@@ -14,7 +14,6 @@ use Rattle.fk_nodes.specs.Node.{of_node}
 use Rattle.fk_nodes.specs.Source.{AllPass}
 use Rattle.fk_plans.specs.Stage.{Stage, counts_for}
 use Rattle.fk_block_law.specs.Owner.{Commons, Owner, Doing, core_source}
-use Rattle.fk_block_law.specs.Ready.{IsInRange}
 use Rattle.fk_group_law.specs.Node.{Nestings}
 use Rattle.fk_group_rounds.specs.Next.{landed, HasNext, HaveNext}
 use Rattle.fk_group_rounds.specs.After.{runners_of, StepsAt, ArePlaces}
@@ -42,7 +41,7 @@ ReachedTreesHaveSpaces =
 abbrev pub ReachedProcessorsHaveNext : Type 0
 ReachedProcessorsHaveNext =
     (core : List CoreOp) (nestings : Nestings) (main : ℕ) (setting : Setting) (s : State Position) (h : ℕ) (r : Runner Position) (heap : Memory)
-    → IsOfOneGroup core nestings main → IsReached core setting s → slice_get s.runners h ≡ Some r → r.left ≢ the_end core → IsInRange r.has
+    → IsOfOneGroup core nestings main → IsReached core setting s → slice_get s.runners h ≡ Some r → r.left ≢ the_end core
     → let p : Owner = record { runner = r; heap = heap } in
     HasNext core nestings setting s.tree h (landed core p)
 
@@ -53,8 +52,7 @@ abbrev pub ReachedGroupsHaveNext : Type 0
 ReachedGroupsHaveNext =
     (core : List CoreOp) (nestings : Nestings) (main : ℕ) (setting : Setting) (s : State Position) (nodes : List ℕ) (ps : List Owner) (g : ℕ)
     → IsOfOneGroup core nestings main → IsReached core setting s → setting.processors ≤ 1024 → ArePlaces s.tree 0 nodes → length nodes ≡ setting.processors
-    → s.runners ≡ runners_of ps → ((h : ℕ) (r : Runner Position) → slice_get s.runners h ≡ Some r → IsInRange r.has)
-    → trees.kind s.tree g ≡ Some Lockstep → HaveNext core nestings (of_node g nodes ps)
+    → s.runners ≡ runners_of ps → trees.kind s.tree g ≡ Some Lockstep → HaveNext core nestings (of_node g nodes ps)
 
 -- ---- a round
 

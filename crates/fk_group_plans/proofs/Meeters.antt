@@ -15,6 +15,7 @@ use Rattle.fk_meeting.specs.Phase.{Phase, Outside, Away, Coming, Waiting, Leavin
 use Rattle.fk_plans.specs.Stage.{Ending, Commits, Unites}
 use Rattle.fk_plans.specs.Plan.{Plan, IsInside, IsOpen, IsIdle, Turn}
 use Rattle.fk_plans.proofs.Cycles.{cycle_is_planned}
+use Rattle.fk_plans.proofs.Words.{plan_leaves}
 use Rattle.fk_block_law.specs.Owner.{Commons, Owner, number_of, idle, as_part, phases, part, core_source}
 use Rattle.fk_block_law.specs.Stands.{Places}
 use Rattle.fk_block_law.specs.Next.{step_at}
@@ -23,7 +24,7 @@ use Rattle.fk_group_law.specs.Lockstep.{is_due}
 use Rattle.fk_group_law.specs.Joint.{is_meeting, Polls, StandsByPhase, StandsBehind}
 use Rattle.fk_group_plans.specs.Nodes.{first_of, plan_of}
 use Rattle.fk_group_plans.specs.Behind.{StandsInMeeting, StandsInStart, runs_of, joining_blocks_of}
-use Rattle.fk_group_plans.specs.Laws.{MeetersTurn, CyclesAreRounds}
+use Rattle.fk_group_plans.specs.Laws.{MeetersTurn, CyclesAreRounds, WordsOfNobodyStay}
 use Rattle.fk_group_plans.proofs.Nodes.{own_apart}
 use Rattle.fk_group_plans.proofs.Turned.{Turned, turned}
 use Rattle.fk_group_plans.proofs.Joining.{joins_bound}
@@ -253,3 +254,8 @@ cycles_are_rounds core image places nestings setting tree spaces nodes t earlier
     cycle_is_planned (core_source core setting) image plan (joining_blocks_of core image places nestings setting plan (first_of spaces)) t earlier stages hs ps own sh s (is_idle core setting)
     (meeters_turn core image places nestings setting plan (first_of spaces)) (own_apart tree spaces h) shows has
     (joins_bound core image places nestings setting plan (first_of spaces) t stages hs ps own bound)
+
+pub words_of_nobody_stay : WordsOfNobodyStay
+words_of_nobody_stay core image places nestings setting plan first t earlier stages hs ps own sh s word apart shows has bound going free =
+    plan_leaves (core_source core setting) image plan (joining_blocks_of core image places nestings setting plan first) t earlier stages hs ps own sh s word (is_idle core setting)
+    (meeters_turn core image places nestings setting plan first) apart shows has (joins_bound core image places nestings setting plan first t stages hs ps own bound) going free refl

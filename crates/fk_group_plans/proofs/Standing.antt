@@ -309,9 +309,9 @@ module _ (core : List CoreOp) (image : Image) (places : Places) (nestings : Nest
     step_together operation lowest size ms ps own stands shared owns all asked rest = absurd (cc)
 
     pub end_together : (ms : List Member) (ps : List Owner) (own : Memory) → StandsOp core i op End → AllEnter core image places nestings i op End setting t None (first g) ms ps
-        → AreInStart nestings ps
+        → AreInStart nestings ps → IsAtRest (first g) own
         → Together (core_source core setting) image (plan.words g) t 1 0 ms ps own (Behind (later t) g)
-    end_together ms ps own stands all start =
+    end_together ms ps own stands all start rest =
         let a = cycles.behind i true in
         let mine = plan.words g in
         let u = later t in
@@ -320,7 +320,7 @@ module _ (core : List CoreOp) (image : Image) (places : Places) (nestings : Nest
         AllComeAlone places nestings setting image u a (λ p. Some setting.processors) root_words ms' (map (stepped core i op End (highest_value ps) 0 0) ps) in
         together_map (core_source core setting) image mine t 1 0 ms ps own (λ ms' ds own'. (ds ≡ map (is_due core i op End) ps) × (InRoot ms' × (own' ≡ own)))
         (Behind u g)
-        (λ ms' ds own' x. (a, law.few_behind i true, inr (inr (inl (record { i = i; op = op; ps = ps; stands = stands; due = x.0; come = x.1.0 })))))
+        (λ ms' ds own' x. (a, law.few_behind i true, inr (inr (inl (record { i = i; op = op; ps = ps; stands = stands; due = x.0; rest = subst (λ o. IsAtRest (first g) o) (sym x.1.1) rest; come = x.1.0 })))))
         (law.ends i op 0 0 stands setting t mine (first g) ms ps own all start)
 
 -- all have met in the root
@@ -376,9 +376,9 @@ groups_step_together core image places nestings cycles firsts main setting plan 
     (step_together core image places nestings setting plan first cycles firsts main t g i op law operation lowest size ms ps own stands shared owns all asked rest)
 
 pub groups_end_together : GroupsEndTogether
-groups_end_together core image places nestings cycles firsts main setting plan first t g i op ms ps own law stands all start =
+groups_end_together core image places nestings cycles firsts main setting plan first t g i op ms ps own law stands all start rest =
     in_lockstep core image places nestings setting plan first t g 0 ms ps own (as_many core image places nestings setting plan first i op End t g ms ps all)
-    (end_together core image places nestings setting plan first cycles firsts main t g i op law ms ps own stands all start)
+    (end_together core image places nestings setting plan first cycles firsts main t g i op law ms ps own stands all start rest)
 
 pub groups_start_together : GroupsStartTogether
 groups_start_together core image places nestings cycles firsts main setting plan first t i op ms ps own law stands owns running met rest =

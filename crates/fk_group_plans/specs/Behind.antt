@@ -129,12 +129,13 @@ module _ (core : List CoreOp) (image : Image) (places : Places) (nestings : Nest
     pub come : AllComeAlone places nestings setting image t behind (runs_behind operation lowest size) first ms (map (stepped core i op operation (highest_value ps) lowest size) ps)
 
   -- the group of `start` ends, and each comes to the root
-  pub record HaveEnded (t : MachineSetting) (behind : ℕ) (ds : List Doing) (ms : List Member) : Type 0 where
+  pub record HaveEnded (first : ℕ) (t : MachineSetting) (behind : ℕ) (ds : List Doing) (ms : List Member) (own : Memory) : Type 0 where
     pub i : ℕ
     pub op : CoreOp
     pub ps : List Owner
     pub stands : StandsOp core i op End
     pub due : ds ≡ map (is_due core i op End) ps
+    pub rest : IsAtRest first own
     pub come : AllComeAlone places nestings setting image t behind (λ p. Some setting.processors) root_words ms (map (stepped core i op End 0 0 0) ps)
 
   -- the group of `start` begins: all are in the root, at whose words nobody has arrived, and each comes to its part
@@ -152,7 +153,7 @@ module _ (core : List CoreOp) (image : Image) (places : Places) (nestings : Nest
   -- in this cycle their common commit lies behind them: a run of their node leads them on in lockstep, or each goes on by itself
   abbrev pub HaveActed : Words → (first : ℕ) → MachineSetting → (behind : ℕ) → List Doing → List Member → Memory → Type 0
   HaveActed mine first t behind ds ms own =
-      NodeRun image mine t behind ms own (λ ms' own'. IsGroupBehind first ds ms' own') ⊎ (HaveParted first t behind ds ms own ⊎ (HaveEnded t behind ds ms ⊎ HaveBegun t ds ms own))
+      NodeRun image mine t behind ms own (λ ms' own'. IsGroupBehind first ds ms' own') ⊎ (HaveParted first t behind ds ms own ⊎ (HaveEnded first t behind ds ms own ⊎ HaveBegun t ds ms own))
 
   -- what the law of blocks says of members of the nodes of a plan, behind a cycle in which nobody unites with others
   abbrev pub blocks_of : Plan → (first : ℕ → ℕ) → Blocks Owner Doing

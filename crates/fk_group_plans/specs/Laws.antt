@@ -1,5 +1,5 @@
 -- What is so of the plan of a tree.
-use Rattle.std.specs.Prelude.{◌≡◌, ◌≢◌, ℕ, ◌+◌, ◌<◌, List, length, true, false, is_some}
+use Rattle.std.specs.Prelude.{◌≡◌, ◌≢◌, ℕ, ◌+◌, ◌<◌, List, length, true, false, None, is_some}
 use Rattle.fk_num.specs.Word.{Memory}
 use Rattle.fk_space.specs.Space.{Space, IsSpace}
 use Rattle.fk_tree.specs.Tree.{Tree, is_member}
@@ -7,6 +7,7 @@ use Rattle.fk_run.specs.Processor.{Setting}
 use Rattle.fk_core.specs.declared.op.CoreOp.{CoreOp}
 use Rattle.fk_image.specs.declared.Image.{Image}
 use Rattle.fk_machine.specs.Hart.{Hart, Shared, Setting as MachineSetting}
+use Rattle.fk_machine.specs.Cycle.{turns}
 use Rattle.fk_nodes.specs.Node.{Has, OwnApart}
 use Rattle.fk_nodes.specs.Source.{Shows}
 use Rattle.fk_plans.specs.Stage.{Stage}
@@ -56,3 +57,12 @@ CyclesAreRounds =
     HaveSpaces tree spaces → Shows (core_source core setting) earlier sh s → ((g : ℕ) → Has (plan.words g) sh.control (own g))
     → IsBound (core_source core setting) image plan blocks t stages hs ps own
     → IsPlanned (core_source core setting) image plan (joining_blocks_of core image places nestings setting plan (first_of spaces)) t earlier stages hs ps own sh s
+
+-- whatever the plan: a cycle without a fault leaves control words that no node owns as they were
+abbrev pub WordsOfNobodyStay : Type 0
+WordsOfNobodyStay =
+    (core : List CoreOp) (image : Image) (places : Places) (nestings : Nestings) (setting : Setting) (plan : Plan) (first : ℕ → ℕ)
+    (t : MachineSetting) (earlier : List ℕ) (stages : List Stage) (hs : List Hart) (ps : List Owner) (own : ℕ → Memory) (sh : Shared) (s : Commons) (word : ℕ)
+    → OwnApart plan.words (λ i. false) → Shows (core_source core setting) earlier sh s → ((g : ℕ) → Has (plan.words g) sh.control (own g))
+    → IsBound (core_source core setting) image plan (blocks_of core image places nestings setting plan first) t stages hs ps own
+    → (turns t 0 hs sh).stop ≡ None → ((g : ℕ) → plan.words g word ≡ false) → (turns t 0 hs sh).shared.control word ≡ sh.control word

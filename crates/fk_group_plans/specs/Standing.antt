@@ -93,7 +93,7 @@ GroupsEndTogether =
     (core : List CoreOp) (image : Image) (places : Places) (nestings : Nestings) (cycles : Cycles) (firsts : List ℕ) (main : ℕ) (setting : Setting) (plan : Plan) (first : ℕ → ℕ)
     (t : MachineSetting) (g i : ℕ) (op : CoreOp) (ms : List Member) (ps : List Owner) (own : Memory)
     → GroupLaw core image places nestings cycles firsts main → StandsOp core i op End → AllEnter core image places nestings i op End setting t None (first g) ms ps
-    → AreInStart nestings ps
+    → AreInStart nestings ps → IsAtRest (first g) own
     → InLockstep (core_source core setting) image plan (blocks_of core image places nestings setting plan first) t g (all_act 0 ms) ms ps own
 
 -- and at the beginning of it, where all who are in the root have met

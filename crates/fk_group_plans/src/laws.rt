@@ -3,7 +3,7 @@
 ghost use Rattle.fk_group_plans.specs.Rounds.{RoundsAreAllowed};
 ghost use Rattle.fk_group_plans.specs.Uniting.{CyclesLeaveApart};
 ghost use Rattle.fk_group_plans.specs.Standing.{MembersStandAtStages, MembersHaltAtStages, MeetersSetOut, StartersSetOut, GroupsActTogether, GroupsStepTogether, GroupsEndTogether, GroupsStartTogether};
-ghost use Rattle.fk_group_plans.specs.Laws.{OneGroupHasSpace, NodesOwnApart, WordsTellMeeters, MeetersTurn, CyclesAreRounds};
+ghost use Rattle.fk_group_plans.specs.Laws.{OneGroupHasSpace, NodesOwnApart, WordsTellMeeters, MeetersTurn, CyclesAreRounds, WordsOfNobodyStay};
 
 /// While the root has one group at most, the spaces of all groups are apart.
 pub fn one_group_has_space()
@@ -29,6 +29,11 @@ pub fn meeters_turn()
 /// stages commit.
 pub fn cycles_are_rounds()
     ensures { CyclesAreRounds }
+{}
+
+/// Where a plan binds all harts, a cycle without a fault leaves control words that no node owns as they were.
+pub fn words_of_nobody_stay()
+    ensures { WordsOfNobodyStay }
 {}
 
 /// In a cycle in which nobody unites with others, whoever leaves its stage has committed.
@@ -71,7 +76,7 @@ pub fn groups_step_together()
     ensures { GroupsStepTogether }
 {}
 
-/// And at the end of the group of `start`.
+/// And at the end of the group of `start`, which leaves nobody at the words of its node.
 pub fn groups_end_together()
     ensures { GroupsEndTogether }
 {}

@@ -75,7 +75,7 @@ module _ (core : List CoreOp) (image : Image) (places : Places) (nestings : Nest
     pub cycles_behind : ℕ
     pub few : cycles_behind ≤ most_behind
     pub how : ((x : HaveParted core image places nestings setting (first g) t cycles_behind ds ms own) × (x.operation ≡ operation))
-        ⊎ ((HaveEnded core image places nestings setting t cycles_behind ds ms × (End ≡ operation))
+        ⊎ ((HaveEnded core image places nestings setting (first g) t cycles_behind ds ms own × (End ≡ operation))
         ⊎ (HaveBegun core image places nestings setting t ds ms own × (Begin ≡ operation)))
 
   does_it : (i : ℕ) (op : CoreOp) (done : Operation) (xs : List Owner) → ds ≡ map (is_due core i op done) xs → done ≡ operation

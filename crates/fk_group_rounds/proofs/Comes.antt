@@ -506,7 +506,7 @@ module _ (core : List CoreOp) (image : Image) (places : Places) (nestings : Nest
     come_ending e start =
         come 0 (omega arith)
         (λ ms' own' x. end_together core image places nestings setting plan (first_of spaces) cycles firsts main there g index has.op the_law ms' (all_landed core ps) own'
-        (subst (λ o. StandsOp core index has.op o) e has.stands) (enter End e ms' x.1) start)
+        (subst (λ o. StandsOp core index has.op o) e has.stands) (enter End e ms' x.1) start x.0)
 
 pub members_come_to_stages : MembersComeToStages
 members_come_to_stages core image places nestings cycles firsts main setting tree spaces nodes t b m hart p the_law leads node free running lt few private at stands home has =

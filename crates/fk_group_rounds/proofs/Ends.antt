@@ -64,7 +64,7 @@ waiting_body : (k : Option Kind) (m : ℕ) (ms : List ℕ) → awaits k m ≡ tr
 waiting_body (Some (Waiting first parts)) m ms is = refl
 waiting_body k m ms is = absurd (false≢true is)
 
-begin_or_end : Begin ≡ End → ⊥
+pub begin_or_end : Begin ≡ End → ⊥
 begin_or_end e = absurd (cc)
 
 no_parts : (k : Option Kind) (m : ℕ) → k ≡ Some Lockstep → awaits k m ≡ true → ⊥

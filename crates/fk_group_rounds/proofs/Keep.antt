@@ -240,7 +240,7 @@ module _ (core : List CoreOp) (image : Image) (places : Places) (nestings : Nest
     -- no step sets them apart
     nobody_parts : (b : ℕ) (own : Memory)
         → (HaveParted core image places nestings setting (first_of spaces g) t b ds ms own
-        ⊎ (HaveEnded core image places nestings setting t b ds ms ⊎ HaveBegun core image places nestings setting t ds ms own)) → ⊥
+        ⊎ (HaveEnded core image places nestings setting (first_of spaces g) t b ds ms own ⊎ HaveBegun core image places nestings setting t ds ms own)) → ⊥
     nobody_parts b own (inl x) =
         parts_change x.operation x.parts (first_due x.i x.op x.operation g ms x.ps (subst (AllAtHome g ms) x.due home) (subst AllKeep x.due keep) some)
     nobody_parts b own (inr (inr x)) =

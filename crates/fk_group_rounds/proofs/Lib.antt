@@ -44,6 +44,8 @@ pub mod Nearer
 pub mod Unite
 -- each known round
 pub mod Sum
+-- groups that end
+pub mod Rest
 -- one program in a group
 pub mod Program
 -- from cycle to cycle

@@ -685,10 +685,10 @@ module _ (core : List CoreOp) (image : Image) (places : Places) (nestings : Nest
   }
 
   pub again : (earlier : List Hart) → length earlier < 2 ^ 31 → IsBound (core_source core setting) image plan blocks t stages earlier ps own
-      → AreBoundAgain core image places nestings setting (trees.begin count old) spaces nodes' (later t) stages hs left.afters (all_landed core (owners_after old (trees.begin count old) ds)) control
+      → AreBoundAgain core image places nestings setting plan (trees.begin count old) spaces nodes' t stages hs left.afters ps (all_landed core (owners_after old (trees.begin count old) ds)) own control
   again earlier few binds =
       let goes_on = plan_goes_on (core_source core setting) image plan blocks plan' blocks' t stages everybody.stages' earlier hs ps (all_become ds) ds own own' control few binds left has changed in
-      record { stages' = everybody.stages'; bound = goes_on.bound; due = everybody.due; near = goes_on.near; soon = everybody.soon }
+      record { stages' = everybody.stages'; on = record { changes = changed; goes = goes_on }; due = everybody.due; soon = everybody.soon }
 
 pub rounds_start : RoundsStart
 rounds_start core image places nestings cycles firsts main setting tree spaces nodes nodes' t stages earlier hs ps ds own own' control the_law leads before few binds left has steps rest behind there many' on next =
@@ -702,7 +702,7 @@ rounds_start core image places nestings cycles firsts main setting tree spaces n
     subst
     (λ x.
     IsTree setting x spaces → ArePlaces x 0 nodes' → AllGoOn core nestings setting x spaces 0 left.afters ds (owners_after tree x ds) → GroupsGoOn core nestings x nodes' left.afters (owners_after tree x ds)
-    → AreBoundAgain core image places nestings setting x spaces nodes' (later t) stages hs left.afters (all_landed core (owners_after tree x ds)) control) (sym same)
+    → AreBoundAgain core image places nestings setting (united (plan_of tree spaces nodes)) x spaces nodes' t stages hs left.afters ps (all_landed core (owners_after tree x ds)) own control) (sym same)
     (λ behind' there' on' next'.
     again core image places nestings cycles firsts main setting tree spaces nodes nodes' t stages hs ps ds own own' control the_law leads before left has steps count value refl refl rest behind' there' many'
     on' next' earlier few binds)

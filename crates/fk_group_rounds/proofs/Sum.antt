@@ -153,4 +153,4 @@ rounds_bind_again core image places nestings cycles firsts main setting tree spa
     next) last) body) another) other) known in
     let goes = plan_goes_on (core_source core setting) image plan (blocks_of core image places nestings setting plan (first_of spaces)) (plan_of new spaces nodes')
     (blocks_of core image places nestings setting (plan_of new spaces nodes') (first_of spaces)) t stages again.stages earlier hs ps qs ds own own' control few binds left has again.changes in
-    record { stages' = again.stages; bound = goes.bound; due = again.due; near = goes.near; soon = again.soon }
+    record { stages' = again.stages; on = record { changes = again.changes; goes = goes }; due = again.due; soon = again.soon }

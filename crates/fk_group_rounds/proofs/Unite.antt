@@ -53,7 +53,7 @@ use Rattle.fk_group_rounds.specs.Comes.{IsNode}
 use Rattle.fk_group_rounds.specs.After.{runners_of, ArePlaces}
 use Rattle.fk_group_rounds.specs.Rounds.{IsBefore}
 use Rattle.fk_group_rounds.specs.Start.{IsBeforeStart}
-use Rattle.fk_group_rounds.specs.Unite.{AreInRoot, CyclesUnite}
+use Rattle.fk_group_rounds.specs.Unite.{AllUnite, AreInRoot, CyclesUnite}
 use Rattle.fk_simulation.proofs.Linked.{runs_later}
 use Rattle.fk_group_rounds.proofs.Comes.{owns_header}
 use Rattle.fk_group_rounds.proofs.Groups.{many_length}
@@ -98,7 +98,7 @@ due_unites core tree spaces g w f r due =
       kind = ap (λ k. trees.kind tree k) (sym s.root) ∙ s.is;
     }
 
-unites_is : (s : Stage) → unites_now s ≡ true → (w : ℕ) × (s ≡ Meets Unites w (Leaving 0))
+pub unites_is : (s : Stage) → unites_now s ≡ true → (w : ℕ) × (s ≡ Meets Unites w (Leaving 0))
 unites_is (Meets Unites w (Leaving zero)) is = (w, refl)
 unites_is s is = absurd (cc)
 
@@ -272,6 +272,13 @@ module _ (core : List CoreOp) (image : Image) (places : Places) (nestings : Nest
 
   nobody_acts : AllZero (counts_for stages)
   nobody_acts = zero_counts 0 stages all
+
+  all_now : (number : ℕ) (ss : List Stage) → All number ss → AllUnite ss
+  all_now number [] xs = tt
+  all_now number (s ∷ ss) xs = (ap unites_now xs.0.1, all_now (suc number) ss xs.1)
+
+  all_unite : AllUnite stages
+  all_unite = all_now 0 stages all
 
   -- ---- what the cycle has left
 
@@ -495,6 +502,7 @@ cycles_unite core image places nestings cycles firsts main setting tree spaces n
           record {
             whole = whole;
             idle = (all_joined core image places nestings setting tree spaces nodes t stages hs ps own before binds some done.harts whole.did whole.own many left).0;
+            all = all_unite core image places nestings setting tree spaces nodes t stages hs ps own before binds some;
             before = before_start core image places nestings setting tree spaces nodes t stages hs ps own before binds some done.harts whole.did whole.own many left;
             roots = roots core image places nestings setting tree spaces nodes t stages hs ps own before binds some done.harts whole.did whole.own many left;
             together = λ i at.

@@ -10,7 +10,6 @@ use Rattle.fk_machine.specs.Hart.{Hart, Shared, Setting as MachineSetting}
 use Rattle.fk_machine.specs.Cycle.{turns}
 use Rattle.fk_nodes.specs.Node.{Has}
 use Rattle.fk_nodes.specs.Source.{Shows}
-use Rattle.fk_nodes.specs.Alone.{later}
 use Rattle.fk_nodes.specs.Whole.{planned, IsWhole, IsCut}
 use Rattle.fk_plans.specs.Stage.{Stage, counts_for}
 use Rattle.fk_plans.specs.Plan.{IsBound}
@@ -39,8 +38,8 @@ module _ (core : List CoreOp) (image : Image) (places : Places) (nestings : Nest
         → ArePlaces (tree_after tree whole.did) 0 nodes' → length nodes' ≡ length nodes
         → AllGoOn core nestings setting (tree_after tree whole.did) spaces 0 left.afters whole.did (owners_after tree (tree_after tree whole.did) whole.did)
         → GroupsGoOn core nestings (tree_after tree whole.did) nodes' left.afters (owners_after tree (tree_after tree whole.did) whole.did)
-        → AreBoundAgain core image places nestings setting (tree_after tree whole.did) spaces nodes' (later t) stages (turns t 0 hs sh).harts left.afters
-        (all_landed core (owners_after tree (tree_after tree whole.did) whole.did)) (turns t 0 hs sh).shared.control
+        → AreBoundAgain core image places nestings setting (plan_of tree spaces nodes) (tree_after tree whole.did) spaces nodes' t stages (turns t 0 hs sh).harts left.afters ps
+        (all_landed core (owners_after tree (tree_after tree whole.did) whole.did)) own (turns t 0 hs sh).shared.control
 
 -- where the plan binds all harts before a cycle in which nobody unites with others, it is a round of the counts that the stages tell:
 -- a whole one, or one up to its first fault

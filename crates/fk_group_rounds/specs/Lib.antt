@@ -6,3 +6,4 @@ pub mod Start
 pub mod Unite
 pub mod Program
 pub mod Cycle
+pub mod Rest

@@ -12,10 +12,10 @@ use Rattle.fk_core.specs.declared.op.CoreOp.{CoreOp}
 use Rattle.fk_image.specs.declared.Image.{Image}
 use Rattle.fk_machine.specs.Hart.{Hart, Setting as MachineSetting}
 use Rattle.fk_nodes.specs.Node.{AreAsMany, Has}
-use Rattle.fk_nodes.specs.Alone.{later}
-use Rattle.fk_plans.specs.Stage.{Stage, AllNear}
-use Rattle.fk_plans.specs.Plan.{IsBound}
+use Rattle.fk_plans.specs.Stage.{Stage}
+use Rattle.fk_plans.specs.Plan.{Plan, IsBound}
 use Rattle.fk_plans.specs.Cycle.{IsLeft}
+use Rattle.fk_plans.specs.Change.{TreeChanges, GoesOn}
 use Rattle.fk_block_law.specs.Owner.{Owner, Doing, core_source}
 use Rattle.fk_block_law.specs.Stands.{Places}
 use Rattle.fk_block_law.specs.Block.{IsRunning}
@@ -181,12 +181,19 @@ pub record EndsGroup (tree : Tree) (ds : List Doing) : Type 0 where
 abbrev pub IsKnownRound : Tree → List Doing → Type 0
 IsKnownRound tree ds = AllKeep ds ⊎ (Resumes tree ds ⊎ (Closes tree ds ⊎ (SetsFree tree ds ⊎ (SendsOne tree ds ⊎ EndsGroup tree ds))))
 
--- all are bound by the plan of the next tree, each is about to do what its stage tells, and who was at a distance is nearer
-pub record AreBoundAgain (core : List CoreOp) (image : Image) (places : Places) (nestings : Nestings) (setting : Setting) (tree : Tree) (spaces : ℕ → Space) (nodes : List ℕ) (t : MachineSetting) (stages : List Stage) (hs : List Hart) (afters : List (Option Stage)) (ps : List Owner) (control : Memory) : Type 0 where
+-- behind cycle t another plan binds all harts: the tree has done no more than it may, who was at a distance is nearer, and those who
+-- go on meeting have moved
+pub record PlanGoesOn (core : List CoreOp) (image : Image) (places : Places) (nestings : Nestings) (setting : Setting) (spaces : ℕ → Space) (plan plan' : Plan) (t : MachineSetting) (stages stages' : List Stage) (hs : List Hart) (afters : List (Option Stage)) (ps ps' : List Owner) (own : ℕ → Memory) (control : Memory) : Type 0 where
+  pub changes : TreeChanges (core_source core setting) image plan (blocks_of core image places nestings setting plan (first_of spaces)) plan'
+      (blocks_of core image places nestings setting plan' (first_of spaces)) t hs afters stages' ps ps' control
+  pub goes : GoesOn (core_source core setting) image plan (blocks_of core image places nestings setting plan (first_of spaces)) plan'
+      (blocks_of core image places nestings setting plan' (first_of spaces)) t stages stages' hs ps' own control
+
+-- so it is with the plan of the next tree: each is about to do what its stage tells, and who has committed is near its next commit
+pub record AreBoundAgain (core : List CoreOp) (image : Image) (places : Places) (nestings : Nestings) (setting : Setting) (plan : Plan) (tree : Tree) (spaces : ℕ → Space) (nodes : List ℕ) (t : MachineSetting) (stages : List Stage) (hs : List Hart) (afters : List (Option Stage)) (ps ps' : List Owner) (own : ℕ → Memory) (control : Memory) : Type 0 where
   pub stages' : List Stage
-  pub bound : IsBound (core_source core setting) image (plan_of tree spaces nodes) (blocks_of core image places nestings setting (plan_of tree spaces nodes) (first_of spaces)) t stages' hs ps (λ g. control)
-  pub due : AllDue core tree spaces 0 stages' (runners_of ps)
-  pub near : AllNear stages stages'
+  pub on : PlanGoesOn core image places nestings setting spaces plan (plan_of tree spaces nodes) t stages stages' hs afters ps ps' own control
+  pub due : AllDue core tree spaces 0 stages' (runners_of ps')
   pub soon : AllSoon afters stages'
 
 abbrev pub RoundsBindAgain : Type 0
@@ -202,4 +209,4 @@ RoundsBindAgain =
     → (left : IsLeft (core_source core setting) image plan blocks t stages hs ps ds own own') → ((k : ℕ) → Has (plan.words k) control (own' k))
     → IsKnownRound tree ds → IsTree setting next spaces → ArePlaces next 0 nodes' → length nodes' ≡ length nodes
     → AllGoOn core nestings setting next spaces 0 left.afters ds qs → GroupsGoOn core nestings next nodes' left.afters qs
-    → AreBoundAgain core image places nestings setting next spaces nodes' (later t) stages hs left.afters (all_landed core qs) control
+    → AreBoundAgain core image places nestings setting plan next spaces nodes' t stages hs left.afters ps (all_landed core qs) own control

@@ -89,4 +89,4 @@ RoundsStart =
     → (left : IsLeft (core_source core setting) image plan blocks t stages hs ps ds own own') → ((k : ℕ) → Has (plan.words k) control (own' k))
     → StepsAt tree 0 0 Begin ds → IsAtRest (first_of spaces tree.given) control → IsTree setting next spaces → ArePlaces next 0 nodes' → length nodes' ≡ length nodes
     → AllGoOn core nestings setting next spaces 0 left.afters ds qs → GroupsGoOn core nestings next nodes' left.afters qs
-    → AreBoundAgain core image places nestings setting next spaces nodes' (later t) stages hs left.afters (all_landed core qs) control
+    → AreBoundAgain core image places nestings setting plan next spaces nodes' t stages hs left.afters ps (all_landed core qs) own control

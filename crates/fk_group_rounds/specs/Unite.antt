@@ -1,5 +1,5 @@
 -- The cycle in which the last of all processors leaves the word where they meet at the beginning of `start`.
-use Rattle.std.specs.Prelude.{◌≡◌, ℕ, ◌^◌, ◌<◌, ◌≤◌, List, [], ◌∷◌, length, map}
+use Rattle.std.specs.Prelude.{◌≡◌, ℕ, ◌^◌, ◌<◌, ◌≤◌, List, [], ◌∷◌, length, map, true}
 use Rattle.fk_num.specs.Word.{Memory}
 use Rattle.fk_space.specs.Space.{Space}
 use Rattle.fk_tree.specs.Tree.{Tree}
@@ -24,11 +24,16 @@ use Rattle.fk_group_law.specs.Start.{most_united, IsInRoot}
 use Rattle.fk_group_law.specs.Law.{Cycles, GroupLaw}
 use Rattle.fk_group_plans.specs.Nodes.{first_of, plan_of, united}
 use Rattle.fk_group_plans.specs.Behind.{blocks_of, joining_blocks_of}
-use Rattle.fk_group_plans.specs.Uniting.{SomebodyUnites}
+use Rattle.fk_group_plans.specs.Uniting.{unites_now, SomebodyUnites}
 use Rattle.fk_group_plans.specs.Standing.{all_act}
 use Rattle.fk_group_rounds.specs.Next.{AllAt, AllAbout}
 use Rattle.fk_group_rounds.specs.Rounds.{IsBefore}
 use Rattle.fk_group_rounds.specs.Start.{IsBeforeStart}
+
+-- all leave the word where they unite
+abbrev pub AllUnite : List Stage → Type 0
+AllUnite [] = Unit {0}
+AllUnite (s ∷ stages) = (unites_now s ≡ true) × AllUnite stages
 
 -- all are in the root, whose group space is whole
 abbrev pub AreInRoot : Nestings → Setting → List Owner → Type 0
@@ -54,6 +59,7 @@ module _ (core : List CoreOp) (image : Image) (places : Places) (nestings : Nest
         (DoneIn (core_source core setting) image (plan_of tree spaces nodes) (joining_blocks_of core image places nestings setting (plan_of tree spaces nodes) (first_of spaces)) t stages ps own) earlier 0
         nodes hs ps s (turns t 0 hs sh)
     pub idle : whole.did ≡ map idle ps
+    pub all : AllUnite stages
     pub before : IsBeforeStart image setting tree spaces nodes (later t) (turns t 0 hs sh).harts ps
     pub roots : AreInRoot nestings setting ps
     pub together : (i : ℕ) → AllAt i ps → AreInLockstep i

@@ -5,6 +5,7 @@ ghost use Rattle.fk_group_rounds.specs.Cycle.{CyclesBindAgain};
 ghost use Rattle.fk_group_rounds.specs.Program.{GroupsHaveNext};
 ghost use Rattle.fk_group_rounds.specs.Start.{CyclesComeToStart, RoundsStart};
 ghost use Rattle.fk_group_rounds.specs.Unite.{CyclesUnite};
+ghost use Rattle.fk_group_rounds.specs.Rest.{KnownRoundsKeepGroups, EndedGroupsRest};
 ghost use Rattle.fk_group_rounds.specs.Rounds.{RoundsKeepTrees, RoundsResume, RoundsClose, RoundsSetFree, RoundsSendOne, RoundsEnd, RoundsBindAgain};
 
 /// A member by itself that has committed comes to the stage of its next operation, by a jump or straight: at a distance of at
@@ -74,6 +75,16 @@ pub fn rounds_start()
 /// Where the plan of a tree binds all harts before a cycle that is one of these rounds, that of the next tree binds them behind it.
 pub fn rounds_bind_again()
     ensures { RoundsBindAgain }
+{}
+
+/// A group that is there stays behind each of these rounds, but for one that ends.
+pub fn known_rounds_keep_groups()
+    ensures { KnownRoundsKeepGroups }
+{}
+
+/// Nobody is left at the words of one that ends: they are 0.
+pub fn ended_groups_rest()
+    ensures { EndedGroupsRest }
 {}
 
 /// So from one cycle of the machine to the next, where nobody unites with others: it is a round of the counts that the stages tell, up to its first fault, and where

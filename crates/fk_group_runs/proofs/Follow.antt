@@ -39,7 +39,7 @@ use Rattle.fk_group_plans.proofs.Rounds.{rounds_are_allowed}
 use Rattle.fk_group_rounds.specs.Next.{JumpsLead, all_landed, AllAt}
 use Rattle.fk_group_rounds.specs.After.{actings, runners_of, tree_after, owner_after, owners_after, AllKeep, ArePlaces, AllLanded}
 use Rattle.fk_group_rounds.specs.After.{GroupsGoOn}
-use Rattle.fk_group_rounds.specs.Rounds.{IsTree, IsBefore, IsKnownRound}
+use Rattle.fk_group_rounds.specs.Rounds.{IsTree, IsBefore, IsKnownRound, PlanGoesOn}
 use Rattle.fk_group_rounds.specs.Start.{IsBeforeStart}
 use Rattle.fk_group_rounds.proofs.Groups.{many_length}
 use Rattle.fk_group_rounds.proofs.Trees.{all_keep}
@@ -170,9 +170,19 @@ follows_apart core image places nestings cycles firsts main setting spaces s nod
             possible =
                 and_from (is_none s.fault && is_allowed (next core) setting (counts_for stages) s) (is_none next_state.fault)
                 (and_from (is_none s.fault) (is_allowed (next core) setting (counts_for stages) s) (ap is_none f.beside.going) may) (ap is_none after.beside.going);
+            nobody = nobody;
             did = whole.did;
             tree = e;
             afters = r.left.afters;
+            makes = record {
+              ps = f.ps;
+              shared = f.shared;
+              store = whole.store;
+              order = f.order;
+              beside = f.beside;
+              passes = subst (λ c. AllPass source c f.ps f.shared whole.did whole.store) cycle.0 whole.parts;
+              stay = r.left.stay;
+            };
             again = λ nodes' known tree' there many' on goes.
                 let b = r.again nodes' known (subst (λ x. IsTree setting x spaces) e tree') (subst (λ x. ArePlaces x 0 nodes') e there) many'
                 (homes_go_on core nestings setting new spaces r.left.afters whole.did (owners_after s.tree new whole.did) (homes known)
@@ -186,12 +196,12 @@ follows_apart core image places nestings cycles firsts main setting spaces s nod
                   spaced = tree'.spaced;
                   stand = there;
                   many = many' ∙ f.before.many;
-                  as_many = b.bound.as_many;
+                  as_many = b.on.goes.bound.as_many;
                   landed = all_land core leads (owners_after s.tree new whole.did);
                   due = subst (λ x. AllDue core x spaces 0 b.stages' (runners_of ps')) (sym e) b.due;
                 } in (
                   b.stages',
-                  b.near,
+                  b.on.goes.near,
                   b.soon,
                   record {
                     ps = ps';
@@ -205,8 +215,12 @@ follows_apart core image places nestings cycles firsts main setting spaces s nod
                         subst
                         (λ x.
                         IsBound source image (plan_of x spaces nodes') (blocks_of core image places nestings setting (plan_of x spaces nodes') (plans.first_of spaces)) (later t) b.stages' done.harts ps'
-                        (λ g. done.shared.control)) (sym e) b.bound;
+                        (λ g. done.shared.control)) (sym e) b.on.goes.bound;
                   },
+                  subst
+                      (λ x.
+                      PlanGoesOn core image places nestings setting spaces (plan_of s.tree spaces nodes) (plan_of x spaces nodes') t stages b.stages' done.harts r.left.afters f.ps
+                      (all_landed core (owners_after s.tree x whole.did)) (λ g. sh.control) done.shared.control) (sym e) b.on,
                 );
           }))
           (λ c.
@@ -288,6 +302,7 @@ follows_union core image places nestings cycles firsts main setting spaces s nod
         possible =
             and_from (is_none s.fault && is_allowed (next core) setting (counts_for stages) s) (is_none next_state.fault)
             (and_from (is_none s.fault) (is_allowed (next core) setting (counts_for stages) s) (ap is_none f.beside.going) may) (ap is_none after.beside.going);
+        all = x.all;
         again = λ i at.
             let y = x.together i (lands_at core i f.ps s.runners f.beside.runners at) in (
               all_act y.distance (numbered 0 done.harts),

@@ -10,6 +10,8 @@ pub mod Follow
 -- to the round in which the group of `start` begins
 pub mod Allowed
 pub mod Starts
+-- the words of the group to come
+pub mod Rest
 -- where harts have ended
 pub mod Ended
 -- cycle by cycle

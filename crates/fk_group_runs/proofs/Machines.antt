@@ -18,7 +18,9 @@ use Rattle.fk_block_law.specs.Stands.{Places}
 use Rattle.fk_group_law.specs.Node.{Nestings, IsAtRest}
 use Rattle.fk_group_plans.specs.Nodes.{first_of, plan_of, united}
 use Rattle.fk_group_plans.specs.Behind.{blocks_of}
-use Rattle.fk_group_rounds.specs.Next.{JumpsLead}
+use Rattle.fk_group_rounds.specs.Next.{JumpsLead, all_landed}
+use Rattle.fk_group_rounds.specs.After.{owners_after}
+use Rattle.fk_group_rounds.specs.Rounds.{PlanGoesOn}
 use Rattle.fk_group_rounds.proofs.Groups.{many_length}
 use Rattle.fk_group_rounds.proofs.Starts.{of_all, many_numbered}
 use Rattle.fk_group_runs.specs.Follow.{IsFollowed}
@@ -83,8 +85,10 @@ machines_follow_rounds core image places nestings cycles firsts main setting spa
     (record {
       round = r.counts;
       possible = subst (λ round. is_possible (next core) setting round s ≡ true) (sym r.counts) r.possible;
+      nobody = r.nobody;
       did = r.did;
       afters = r.afters;
+      makes = r.makes;
       again = λ nodes' known tree there many' on goes.
           let x = r.again nodes' known tree there many' on goes in
           let here = (many_length nodes' (turns_of m).harts x.3.ps x.3.before.as_many).0 in
@@ -95,6 +99,10 @@ machines_follow_rounds core image places nestings cycles firsts main setting spa
             x.2,
             subst (λ n. GoesWith core image places nestings setting spaces next_state nodes' (printed ++ n.shared.output) x.0 n) step
                 (goes_with core image places nestings setting spaces leads m next_state nodes' (printed ++ (turns_of m).shared.output) x.0 r.going many x.3),
+            subst
+                (λ n.
+                PlanGoesOn core image places nestings setting spaces (plan_of s.tree spaces nodes) (plan_of next_state.tree spaces nodes') (setting_of m) stages x.0 n.harts r.afters r.makes.ps
+                (all_landed core (owners_after s.tree next_state.tree r.did)) (λ g. m.shared.control) n.shared.control) step x.4,
           );
     }))
     (λ other.
@@ -114,6 +122,7 @@ machines_follow_rounds core image places nestings cycles firsts main setting spa
     (record {
       round = u.counts;
       possible = subst (λ round. is_possible (next core) setting round s ≡ true) (sym u.counts) u.possible;
+      all = u.all;
       again = λ i at.
           let x = u.again i at in
           let here = (many_length nodes (turns_of m).harts x.2.ps x.2.before.as_many).0 in
@@ -142,6 +151,7 @@ machines_follow_starts core image places nestings cycles firsts main setting spa
       possible = subst (λ round. is_possible (next core) setting round s ≡ true) (sym r.counts) r.possible;
       did = r.did;
       afters = r.afters;
+      makes = r.makes;
       goes =
           ⊎_elim
           (λ x.
@@ -154,17 +164,19 @@ machines_follow_starts core image places nestings cycles firsts main setting spa
                 (goes_to_start core image places nestings setting spaces leads m next_state nodes (printed ++ (turns_of m).shared.output) x.0 r.going many x.2),
           ))
           (λ begins.
-          inr
-          (λ nodes' tree there many' rest low on goes.
-          let x = begins nodes' tree there many' (subst (λ n. IsAtRest (first_of spaces s.tree.given) n.shared.control) (sym step) rest) low on goes in
-          let here = (many_length nodes' (turns_of m).harts x.3.ps x.3.before.as_many).0 in
-          let many : length (turns_of m).harts ≡ length m.harts = sym here ∙ many' ∙ before in (
-            x.0,
-            x.1,
-            x.2,
-            subst (λ n. GoesWith core image places nestings setting spaces next_state nodes' (printed ++ n.shared.output) x.0 n) step
-                (goes_with core image places nestings setting spaces leads m next_state nodes' (printed ++ (turns_of m).shared.output) x.0 r.going many x.3),
-          )))
+          inr (
+            begins.0,
+            λ nodes' tree there many' rest low on goes.
+                let x = begins.1 nodes' tree there many' (subst (λ n. IsAtRest (first_of spaces s.tree.given) n.shared.control) (sym step) rest) low on goes in
+                let here = (many_length nodes' (turns_of m).harts x.3.ps x.3.before.as_many).0 in
+                let many : length (turns_of m).harts ≡ length m.harts = sym here ∙ many' ∙ before in (
+                  x.0,
+                  x.1,
+                  x.2,
+                  subst (λ n. GoesWith core image places nestings setting spaces next_state nodes' (printed ++ n.shared.output) x.0 n) step
+                      (goes_with core image places nestings setting spaces leads m next_state nodes' (printed ++ (turns_of m).shared.output) x.0 r.going many x.3),
+                ),
+          ))
           r.goes;
     }))
     (λ c.

@@ -180,6 +180,7 @@ cycles_follow_starts core image places nestings cycles firsts main setting space
             did = whole.did;
             tree = e;
             afters = r.left.afters;
+            makes = record { ps = f.ps; shared = f.shared; store = whole.store; order = f.order; beside = f.beside; passes = parts; stay = r.left.stay };
             goes =
                 ⊎_elim
                 (λ x.
@@ -227,71 +228,73 @@ cycles_follow_starts core image places nestings cycles firsts main setting space
                   },
                 ))
                 (λ gone.
-                inr
-                (λ nodes' tree' there many' rest low on goes.
-                let d = distance core image places nestings setting spaces s nodes t printed stages hs sh leads f in
-                let all = all_act core image places nestings setting spaces s nodes t printed stages hs sh leads f in
-                let plan' = united (plan_of s.tree spaces nodes) in
-                let blocks' = blocks_of core image places nestings setting plan' (plans.first_of spaces) in
-                let zero_is : d ≡ 0
-                = now core image setting plan' blocks' f.i f.op f.stands d stages (numbered 0 hs) f.ps r.left.afters (some core image places nestings setting spaces s nodes t printed stages hs sh leads f) all
-                r.left.stay gone in
-                let did_is : whole.did ≡ map (is_due core f.i f.op Begin) f.ps
-                = begun core image setting plan' blocks' f.i f.op f.stands stages (numbered 0 hs) f.ps f.shared whole.store whole.did
-                (subst (λ k. AllAct source image plan' blocks' k stages (numbered 0 hs) f.ps) zero_is all) f.about parts in
-                let size = many core image places nestings setting spaces s nodes t printed stages hs sh leads f in
-                let steps : StepsAt s.tree 0 0 Begin whole.did
-                = subst (λ l. StepsAt s.tree 0 0 Begin l) (sym did_is) (steps_begin core setting s.tree spaces f.i f.op f.before.sound f.before.in_root 0 f.ps (omega (arith, size)) f.homes) in
-                let here : IsBeforeStart image setting s.tree spaces nodes t done.harts f.ps
-                = record {
-                  running = f.before.running;
-                  sound = f.before.sound;
-                  spaced = f.before.spaced;
-                  stand = f.before.stand;
-                  many = f.before.many;
-                  as_many = as_many;
-                  alone = f.before.alone;
-                  kind = f.before.kind;
-                  in_root = f.before.in_root;
-                } in
-                let homes' : AllHome new spaces 0 (owners_after s.tree new whole.did)
-                = homes_begin core setting s.tree spaces f.before.alone f.i f.op f.ps whole.did f.before.sound f.before.kind f.before.in_root size f.homes
-                (from_roots nestings setting (spaces s.tree.given).low f.ps low f.roots) did_is (subst (λ x. IsSound setting.processors x) e tree'.sound) in
-                let b = rounds_start core image places nestings cycles firsts main setting s.tree spaces nodes nodes' t stages hs done.harts f.ps whole.did (λ g. sh.control) whole.own done.shared.control the_law
-                leads here few f.bound r.left whole.has steps rest (subst (λ x. IsTree setting x spaces) e tree') (subst (λ x. ArePlaces x 0 nodes') e there) many'
-                (homes_go_on core nestings setting new spaces r.left.afters whole.did (owners_after s.tree new whole.did) homes'
-                (subst (λ x. AllNext core nestings setting x 0 r.left.afters whole.did (owners_after s.tree x whole.did)) e on))
-                (subst (λ x. GroupsGoOn core nestings x nodes' r.left.afters (owners_after s.tree x whole.did)) e goes) in
-                let ps' = all_landed core (owners_after s.tree new whole.did) in
-                let before : IsBefore core image setting next_state.tree spaces nodes' (later t) b.stages' done.harts ps'
-                = record {
-                  running = runs_later image setting 1 t f.before.running;
-                  sound = tree'.sound;
-                  spaced = tree'.spaced;
-                  stand = there;
-                  many = many' ∙ f.before.many;
-                  as_many = b.bound.as_many;
-                  landed = all_land core leads (owners_after s.tree new whole.did);
-                  due = subst (λ x. AllDue core x spaces 0 b.stages' (runners_of ps')) (sym e) b.due;
-                } in (
-                  b.stages',
-                  b.near,
-                  b.soon,
-                  record {
-                    ps = ps';
-                    shared = whole.store;
-                    before = before;
-                    order = in_order_back core 0 next_state.runners (subst (AreInOrder 0) after.beside.runners (many_runners core 0 new spaces b.stages' (runners_of ps') b.due));
-                    beside = after.beside;
-                    homes = subst (λ x. AllHome x spaces 0 ps') (sym e) (landed_homes core new spaces 0 (owners_after s.tree new whole.did) homes');
-                    shows = shows';
-                    bound =
-                        subst
-                        (λ x.
-                        IsBound source image (plan_of x spaces nodes') (blocks_of core image places nestings setting (plan_of x spaces nodes') (plans.first_of spaces)) (later t) b.stages' done.harts ps'
-                        (λ g. done.shared.control)) (sym e) b.bound;
-                  },
-                )))
+                inr (
+                  gone,
+                  λ nodes' tree' there many' rest low on goes.
+                      let d = distance core image places nestings setting spaces s nodes t printed stages hs sh leads f in
+                      let all = all_act core image places nestings setting spaces s nodes t printed stages hs sh leads f in
+                      let plan' = united (plan_of s.tree spaces nodes) in
+                      let blocks' = blocks_of core image places nestings setting plan' (plans.first_of spaces) in
+                      let zero_is : d ≡ 0
+                      = now core image setting plan' blocks' f.i f.op f.stands d stages (numbered 0 hs) f.ps r.left.afters (some core image places nestings setting spaces s nodes t printed stages hs sh leads f) all
+                      r.left.stay gone in
+                      let did_is : whole.did ≡ map (is_due core f.i f.op Begin) f.ps
+                      = begun core image setting plan' blocks' f.i f.op f.stands stages (numbered 0 hs) f.ps f.shared whole.store whole.did
+                      (subst (λ k. AllAct source image plan' blocks' k stages (numbered 0 hs) f.ps) zero_is all) f.about parts in
+                      let size = many core image places nestings setting spaces s nodes t printed stages hs sh leads f in
+                      let steps : StepsAt s.tree 0 0 Begin whole.did
+                      = subst (λ l. StepsAt s.tree 0 0 Begin l) (sym did_is) (steps_begin core setting s.tree spaces f.i f.op f.before.sound f.before.in_root 0 f.ps (omega (arith, size)) f.homes) in
+                      let here : IsBeforeStart image setting s.tree spaces nodes t done.harts f.ps
+                      = record {
+                        running = f.before.running;
+                        sound = f.before.sound;
+                        spaced = f.before.spaced;
+                        stand = f.before.stand;
+                        many = f.before.many;
+                        as_many = as_many;
+                        alone = f.before.alone;
+                        kind = f.before.kind;
+                        in_root = f.before.in_root;
+                      } in
+                      let homes' : AllHome new spaces 0 (owners_after s.tree new whole.did)
+                      = homes_begin core setting s.tree spaces f.before.alone f.i f.op f.ps whole.did f.before.sound f.before.kind f.before.in_root size f.homes
+                      (from_roots nestings setting (spaces s.tree.given).low f.ps low f.roots) did_is (subst (λ x. IsSound setting.processors x) e tree'.sound) in
+                      let b = rounds_start core image places nestings cycles firsts main setting s.tree spaces nodes nodes' t stages hs done.harts f.ps whole.did (λ g. sh.control) whole.own done.shared.control the_law
+                      leads here few f.bound r.left whole.has steps rest (subst (λ x. IsTree setting x spaces) e tree') (subst (λ x. ArePlaces x 0 nodes') e there) many'
+                      (homes_go_on core nestings setting new spaces r.left.afters whole.did (owners_after s.tree new whole.did) homes'
+                      (subst (λ x. AllNext core nestings setting x 0 r.left.afters whole.did (owners_after s.tree x whole.did)) e on))
+                      (subst (λ x. GroupsGoOn core nestings x nodes' r.left.afters (owners_after s.tree x whole.did)) e goes) in
+                      let ps' = all_landed core (owners_after s.tree new whole.did) in
+                      let before : IsBefore core image setting next_state.tree spaces nodes' (later t) b.stages' done.harts ps'
+                      = record {
+                        running = runs_later image setting 1 t f.before.running;
+                        sound = tree'.sound;
+                        spaced = tree'.spaced;
+                        stand = there;
+                        many = many' ∙ f.before.many;
+                        as_many = b.on.goes.bound.as_many;
+                        landed = all_land core leads (owners_after s.tree new whole.did);
+                        due = subst (λ x. AllDue core x spaces 0 b.stages' (runners_of ps')) (sym e) b.due;
+                      } in (
+                        b.stages',
+                        b.on.goes.near,
+                        b.soon,
+                        record {
+                          ps = ps';
+                          shared = whole.store;
+                          before = before;
+                          order = in_order_back core 0 next_state.runners (subst (AreInOrder 0) after.beside.runners (many_runners core 0 new spaces b.stages' (runners_of ps') b.due));
+                          beside = after.beside;
+                          homes = subst (λ x. AllHome x spaces 0 ps') (sym e) (landed_homes core new spaces 0 (owners_after s.tree new whole.did) homes');
+                          shows = shows';
+                          bound =
+                              subst
+                              (λ x.
+                              IsBound source image (plan_of x spaces nodes') (blocks_of core image places nestings setting (plan_of x spaces nodes') (plans.first_of spaces)) (later t) b.stages' done.harts ps'
+                              (λ g. done.shared.control)) (sym e) b.on.goes.bound;
+                        },
+                      ),
+                ))
                 r.goes;
           }))
           (λ c.

@@ -21,12 +21,14 @@ use Rattle.fk_group_law.specs.Node.{Nestings}
 use Rattle.fk_group_law.specs.Law.{Cycles, GroupLaw}
 use Rattle.fk_group_plans.specs.Nodes.{first_of, plan_of}
 use Rattle.fk_group_plans.specs.Behind.{blocks_of}
-use Rattle.fk_group_rounds.specs.Next.{JumpsLead}
+use Rattle.fk_group_plans.specs.Uniting.{NobodyUnites}
+use Rattle.fk_group_rounds.specs.Next.{JumpsLead, all_landed}
 use Rattle.fk_group_rounds.specs.After.{tree_after, owners_after, ArePlaces, GroupsGoOn, AllSoon}
-use Rattle.fk_group_rounds.specs.Rounds.{IsBefore, IsTree, IsKnownRound}
+use Rattle.fk_group_rounds.specs.Rounds.{IsBefore, IsTree, IsKnownRound, PlanGoesOn}
+use Rattle.fk_group_rounds.specs.Unite.{AllUnite}
 use Rattle.fk_group_runs.specs.Beside.{AreInOrder, IsBeside}
 use Rattle.fk_group_runs.specs.Homes.{AllHome, AllNext}
-use Rattle.fk_group_runs.specs.Results.{IsFault}
+use Rattle.fk_group_runs.specs.Results.{Makes, IsFault}
 use Rattle.fk_group_runs.specs.Union.{AllLandAt, IsUnited}
 
 module _ (core : List CoreOp) (image : Image) (places : Places) (nestings : Nestings) (setting : Setting) (spaces : ℕ → Space) where
@@ -57,13 +59,17 @@ module _ (core : List CoreOp) (image : Image) (places : Places) (nestings : Nest
       pub going : done.stop ≡ None
       pub counts : counted image done ≡ counts_for stages
       pub possible : is_possible (next core) setting (counts_for stages) s ≡ true
+      pub nobody : NobodyUnites stages
       pub did : List Doing
       pub tree : next_state.tree ≡ tree_after s.tree did
       pub afters : List (Option Stage)
+      pub makes : Makes core setting stages s did afters
       pub again : (nodes' : List ℕ) → IsKnownRound s.tree did → IsTree setting next_state.tree spaces → ArePlaces next_state.tree 0 nodes' → length nodes' ≡ length nodes
           → AllNext core nestings setting next_state.tree 0 afters did (owners_after s.tree next_state.tree did) → GroupsGoOn core nestings next_state.tree nodes' afters (owners_after s.tree next_state.tree did)
           → (stages' : List Stage) × AllNear stages stages' × AllSoon afters stages'
           × IsFollowed next_state nodes' (later t) (printed ++ done.shared.output) stages' done.harts (unprinted done.shared)
+          × PlanGoesOn core image places nestings setting spaces (plan_of s.tree spaces nodes) (plan_of next_state.tree spaces nodes') t stages stages' done.harts afters makes.ps
+          (all_landed core (owners_after s.tree next_state.tree did)) (λ g. sh.control) done.shared.control
 
     -- or it is a stopped round
     pub record FollowsFault : Type 0 where
@@ -82,6 +88,7 @@ module _ (core : List CoreOp) (image : Image) (places : Places) (nestings : Nest
       pub going : done.stop ≡ None
       pub counts : counted image done ≡ counts_for stages
       pub possible : is_possible (next core) setting (counts_for stages) s ≡ true
+      pub all : AllUnite stages
       pub again : (i : ℕ) → AllLandAt core i s.runners
           → (stages' : List Stage) × AllNear stages stages' × IsUnited core image places nestings setting spaces next_state nodes (later t) (printed ++ done.shared.output) stages' done.harts (unprinted done.shared)
 

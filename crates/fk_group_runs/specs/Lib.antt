@@ -5,3 +5,4 @@ pub mod Union
 pub mod Follow
 pub mod Starts
 pub mod Machines
+pub mod Rest

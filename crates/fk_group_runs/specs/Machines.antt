@@ -11,15 +11,19 @@ use Rattle.fk_machine.specs.declared.stand.Stand.TheVariants.{Running, Finished,
 use Rattle.fk_machine.specs.Cycle.{Machine, setting_of, unprinted, is_running, cycle}
 use Rattle.fk_machine.specs.Run.{round_of}
 use Rattle.fk_plans.specs.Stage.{Stage, AllNear, counts_for}
+use Rattle.fk_plans.specs.Cycle.{AllHaveCommitted}
 use Rattle.fk_block_law.specs.Owner.{Doing}
 use Rattle.fk_block_law.specs.Stands.{Places}
 use Rattle.fk_group_law.specs.Node.{Nestings, IsAtRest}
 use Rattle.fk_group_law.specs.Law.{Cycles, GroupLaw}
-use Rattle.fk_group_plans.specs.Nodes.{first_of}
-use Rattle.fk_group_rounds.specs.Next.{JumpsLead}
+use Rattle.fk_group_plans.specs.Nodes.{first_of, plan_of}
+use Rattle.fk_group_plans.specs.Uniting.{NobodyUnites}
+use Rattle.fk_group_rounds.specs.Next.{JumpsLead, all_landed}
 use Rattle.fk_group_rounds.specs.After.{owners_after, ArePlaces, GroupsGoOn, AllSoon}
-use Rattle.fk_group_rounds.specs.Rounds.{IsTree, IsKnownRound}
+use Rattle.fk_group_rounds.specs.Rounds.{IsTree, IsKnownRound, PlanGoesOn}
+use Rattle.fk_group_rounds.specs.Unite.{AllUnite}
 use Rattle.fk_group_runs.specs.Homes.{AllNext}
+use Rattle.fk_group_runs.specs.Results.{Makes}
 use Rattle.fk_group_runs.specs.Union.{AllLandAt, IsUnited}
 use Rattle.fk_group_runs.specs.Follow.{IsFollowed}
 
@@ -43,11 +47,15 @@ module _ (core : List CoreOp) (image : Image) (places : Places) (nestings : Nest
     pub record GoesOn : Type 0 where
       pub round : round_of image m ≡ counts_for stages
       pub possible : is_possible (next core) setting (round_of image m) s ≡ true
+      pub nobody : NobodyUnites stages
       pub did : List Doing
       pub afters : List (Option Stage)
+      pub makes : Makes core setting stages s did afters
       pub again : (nodes' : List ℕ) → IsKnownRound s.tree did → IsTree setting next_state.tree spaces → ArePlaces next_state.tree 0 nodes' → length nodes' ≡ length nodes
           → AllNext core nestings setting next_state.tree 0 afters did (owners_after s.tree next_state.tree did) → GroupsGoOn core nestings next_state.tree nodes' afters (owners_after s.tree next_state.tree did)
           → (stages' : List Stage) × AllNear stages stages' × AllSoon afters stages' × GoesWith next_state nodes' (printed ++ (cycle m).shared.output) stages' (cycle m)
+          × PlanGoesOn core image places nestings setting spaces (plan_of s.tree spaces nodes) (plan_of next_state.tree spaces nodes') (setting_of m) stages stages' (cycle m).harts afters makes.ps
+          (all_landed core (owners_after s.tree next_state.tree did)) (λ g. m.shared.control) (cycle m).shared.control
 
     -- or it is a stopped round, whose fault ends the machine
     pub record StopsWith : Type 0 where
@@ -62,22 +70,24 @@ module _ (core : List CoreOp) (image : Image) (places : Places) (nestings : Nest
     pub record Unites : Type 0 where
       pub round : round_of image m ≡ counts_for stages
       pub possible : is_possible (next core) setting (round_of image m) s ≡ true
+      pub all : AllUnite stages
       pub again : (i : ℕ) → AllLandAt core i s.runners
           → (stages' : List Stage) × AllNear stages stages' × GoesToStart next_state nodes (printed ++ (cycle m).shared.output) stages' (cycle m)
 
     -- From a state whose processors are in lockstep at the beginning of `start`: nobody is in the round, and all are nearer to their
-    -- commit; or all are, and the group begins. Where nobody is at its words, it has the whole group space, and all go on as is told, the
+    -- commit; or all are, and commit, and the group begins. Where nobody is at its words, it has the whole group space, and all go on as is told, the
     -- machine follows the state behind it
     pub record Starts : Type 0 where
       pub round : round_of image m ≡ counts_for stages
       pub possible : is_possible (next core) setting (round_of image m) s ≡ true
       pub did : List Doing
       pub afters : List (Option Stage)
+      pub makes : Makes core setting stages s did afters
       pub goes : ((stages' : List Stage) × AllNear stages stages' × GoesToStart next_state nodes (printed ++ (cycle m).shared.output) stages' (cycle m))
-          ⊎ ((nodes' : List ℕ) → IsTree setting next_state.tree spaces → ArePlaces next_state.tree 0 nodes' → length nodes' ≡ length nodes
+          ⊎ (AllHaveCommitted afters × ((nodes' : List ℕ) → IsTree setting next_state.tree spaces → ArePlaces next_state.tree 0 nodes' → length nodes' ≡ length nodes
           → IsAtRest (first_of spaces s.tree.given) (cycle m).shared.control → (spaces s.tree.given).low ≡ (group_space setting).low
           → AllNext core nestings setting next_state.tree 0 afters did (owners_after s.tree next_state.tree did) → GroupsGoOn core nestings next_state.tree nodes' afters (owners_after s.tree next_state.tree did)
-          → (stages' : List Stage) × AllNear stages stages' × AllSoon afters stages' × GoesWith next_state nodes' (printed ++ (cycle m).shared.output) stages' (cycle m))
+          → (stages' : List Stage) × AllNear stages stages' × AllSoon afters stages' × GoesWith next_state nodes' (printed ++ (cycle m).shared.output) stages' (cycle m)))
 
 abbrev pub MachinesFollowRounds : Type 0
 MachinesFollowRounds =

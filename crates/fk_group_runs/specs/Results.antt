@@ -1,11 +1,11 @@
 -- What a cycle of the machine is in the run beside it.
-use Rattle.std.specs.Prelude.{◌≡◌, ℕ, suc, List, Some}
+use Rattle.std.specs.Prelude.{◌≡◌, ℕ, suc, List, Option, Some}
 use Rattle.fk_run.specs.Processor.{Setting}
 use Rattle.fk_run.specs.Round.{State, cut, result}
 use Rattle.fk_core.specs.declared.op.CoreOp.{CoreOp}
 use Rattle.fk_core.specs.Next.{Position, next}
 use Rattle.fk_nodes.specs.Source.{AllPass, FaultsAfter}
-use Rattle.fk_plans.specs.Stage.{Stage, counts_for}
+use Rattle.fk_plans.specs.Stage.{Stage, Pairwise, Remains, counts_for}
 use Rattle.fk_block_law.specs.Owner.{Commons, commons_of, Owner, Doing, core_source}
 use Rattle.fk_group_rounds.specs.Next.{JumpsLead, all_landed}
 use Rattle.fk_group_rounds.specs.After.{tree_after, owners_after}
@@ -20,6 +20,17 @@ module _ (core : List CoreOp) (setting : Setting) (stages : List Stage) (s : Sta
   pub record IsAfter (did : List Doing) (shared : Commons) : Type 0 where
     pub tree : after.tree ≡ tree_after s.tree did
     pub beside : IsBeside core after (all_landed core (owners_after s.tree (tree_after s.tree did) did)) shared
+
+  -- what the round makes of the processors that stand beside the state: one after another they do their part in it, and who does not
+  -- commit keeps a stage
+  pub record Makes (did : List Doing) (afters : List (Option Stage)) : Type 0 where
+    pub ps : List Owner
+    pub shared : Commons
+    pub store : Commons
+    pub order : AreInOrder 0 s.runners
+    pub beside : IsBeside core s ps shared
+    pub passes : AllPass (core_source core setting) (counts_for stages) ps shared did store
+    pub stay : Pairwise Remains stages afters
 
   -- the processor of a number faults at a site, in the round, and in what is left of it without those above that
   pub record IsFault (place site : ℕ) (shared : Commons) : Type 0 where

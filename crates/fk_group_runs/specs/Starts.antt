@@ -11,6 +11,7 @@ use Rattle.fk_machine.specs.Cycle.{Turns, turns, unprinted}
 use Rattle.fk_nodes.specs.Alone.{later}
 use Rattle.fk_nodes.specs.Whole.{planned, counted}
 use Rattle.fk_plans.specs.Stage.{Stage, AllNear, counts_for}
+use Rattle.fk_plans.specs.Cycle.{AllHaveCommitted}
 use Rattle.fk_block_law.specs.Owner.{Doing}
 use Rattle.fk_block_law.specs.Stands.{Places}
 use Rattle.fk_group_law.specs.Node.{Nestings, IsAtRest}
@@ -20,6 +21,7 @@ use Rattle.fk_group_rounds.specs.Next.{JumpsLead}
 use Rattle.fk_group_rounds.specs.After.{tree_after, owners_after, ArePlaces, GroupsGoOn, AllSoon}
 use Rattle.fk_group_rounds.specs.Rounds.{IsTree}
 use Rattle.fk_group_runs.specs.Homes.{AllNext}
+use Rattle.fk_group_runs.specs.Results.{Makes}
 use Rattle.fk_group_runs.specs.Union.{IsUnited}
 use Rattle.fk_group_runs.specs.Follow.{IsFollowed, FollowsFault}
 
@@ -36,7 +38,7 @@ module _ (core : List CoreOp) (image : Image) (places : Places) (nestings : Nest
   StillUnited =
       (stages' : List Stage) × AllNear stages stages' × IsUnited core image places nestings setting spaces next_state nodes (later t) (printed ++ done.shared.output) stages' done.harts (unprinted done.shared)
 
-  -- or all are. Where nobody is at the words of the group, which has the whole group space, and all go on as is told, the state behind
+  -- or all are, and commit. Where nobody is at the words of the group, which has the whole group space, and all go on as is told, the state behind
   -- it is followed
   abbrev pub BeginGroup : (did : List Doing) → (afters : List (Option Stage)) → Type 0
   BeginGroup did afters =
@@ -53,7 +55,8 @@ module _ (core : List CoreOp) (image : Image) (places : Places) (nestings : Nest
     pub did : List Doing
     pub tree : next_state.tree ≡ tree_after s.tree did
     pub afters : List (Option Stage)
-    pub goes : StillUnited ⊎ BeginGroup did afters
+    pub makes : Makes core setting stages s did afters
+    pub goes : StillUnited ⊎ (AllHaveCommitted afters × BeginGroup did afters)
 
 abbrev pub CyclesFollowStarts : Type 0
 CyclesFollowStarts =

@@ -4,6 +4,7 @@ ghost use Rattle.fk_group_runs.specs.Beside.{LandedRunsAreRuns};
 ghost use Rattle.fk_group_runs.specs.Results.{CyclesAreResults, CutsAreFaults};
 ghost use Rattle.fk_group_runs.specs.Homes.{HomesStay, HomesGoOn, HomesBegin};
 ghost use Rattle.fk_group_runs.specs.Machines.{MachinesFollowRounds, MachinesFollowStarts};
+ghost use Rattle.fk_group_runs.specs.Rest.{OpeningsAreReady, CyclesStayReady, StartsStayReady};
 ghost use Rattle.fk_group_runs.specs.Starts.{CyclesFollowStarts};
 ghost use Rattle.fk_group_runs.specs.Follow.{CyclesFollowRounds, HartsEndWithProcessors};
 
@@ -68,4 +69,20 @@ pub fn machines_follow_rounds()
 /// state behind it.
 pub fn machines_follow_starts()
     ensures { MachinesFollowStarts }
+{}
+
+/// At the beginning nobody is at the words of the group to come.
+pub fn openings_are_ready()
+    ensures { OpeningsAreReady }
+{}
+
+/// As long as there is no group, nobody comes to the words of the one to come; and nobody is left there when a group ends. So each
+/// cycle of a machine that follows a state leaves them ready, where groups come one at a time and have one header.
+pub fn cycles_stay_ready()
+    ensures { CyclesStayReady }
+{}
+
+/// So nobody is at them in the cycle in which the group of `start` begins.
+pub fn starts_stay_ready()
+    ensures { StartsStayReady }
 {}

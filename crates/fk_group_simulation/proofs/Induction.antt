@@ -1,18 +1,32 @@
 -- Whole runs, over whatever is known of a machine beside a state: each cycle is a round, and the rounds so far are lawful.
-use Rattle.std.proofs.Common.{◌≡◌, ℕ, zero, suc, List, [], ◌∷◌, ◌++◌, Some, None, Bool, true, false, cond, sym, ap, subst, ◌∙◌, refl, arith, ◌⊎◌, inl, inr, ⊎_elim}
+use Rattle.std.proofs.Common.{◌≡◌, ℕ, zero, suc, ◌≤◌, List, [], ◌∷◌, ◌++◌, Option, Some, None, Bool, true, false, cond, sym, ap, subst, ◌∙◌, refl, arith, ◌⊎◌, inl, inr, ⊎_elim}
 use Rattle.fk_run.specs.Processor.{Setting}
 use Rattle.fk_run.specs.Round.{State, Fault, Round, result, is_possible, IsStopped}
 use Rattle.fk_run.specs.Schedule.{Schedule, run, ArePossible, CouldAct, KeepsPace, IsLawful, all_done}
+use Rattle.fk_one_group.specs.Rounds.{IsSingle}
+use Rattle.fk_one_group.specs.Runs.{AreSingle}
 use Rattle.fk_core.specs.declared.op.CoreOp.{CoreOp}
 use Rattle.fk_core.specs.Next.{Position, next}
 use Rattle.fk_image.specs.declared.Image.{Image}
 use Rattle.fk_machine.specs.declared.stand.Stand.TheVariants.{Running, Finished, Faulted}
 use Rattle.fk_machine.specs.Cycle.{Machine, turns_of, is_running, after_turns, cycle}
 use Rattle.fk_machine.specs.Run.{machine, output_of, round_of, rounds}
-use Rattle.fk_plans.specs.Stage.{counts_for}
+use Rattle.fk_plans.specs.Stage.{Stage, distance, count_for, counts_for}
 use Rattle.fk_group_rounds.specs.Comes.{most_between}
 use Rattle.fk_group_simulation.specs.Pace.{Sight, Turns, ActsWithin, AreWaiting}
 use Rattle.fk_group_simulation.proofs.Pace.{paces_go_on, paces_are_kept}
+
+-- ---- rounds of machines
+
+count_single : (d : Option ℕ) → count_for d ≤ 1
+count_single None = omega arith
+count_single (Some zero) = omega arith
+count_single (Some (suc d)) = omega arith
+
+counts_single : (stages : List Stage) → IsSingle (counts_for stages)
+counts_single [] h = omega arith
+counts_single (s ∷ stages) zero = count_single (distance s)
+counts_single (s ∷ stages) (suc h) = counts_single stages h
 
 module _ (core : List CoreOp) (setting : Setting) where
   -- ---- rounds one after another
@@ -40,6 +54,10 @@ module _ (core : List CoreOp) (setting : Setting) where
   stopped_then [] round s all one = inr one
   stopped_then (r ∷ []) round s all one = (all.0, inr one)
   stopped_then (r ∷ q ∷ schedule) round s all one = (all.0, stopped_then (q ∷ schedule) round (result (next core) setting r s) all.1 one)
+
+  single_then : (schedule : Schedule) (round : Round) → AreSingle schedule → IsSingle round → AreSingle (schedule ++ round ∷ [])
+  single_then [] round all one = (one, tt)
+  single_then (r ∷ schedule) round all one = (all.0, single_then schedule round all.1 one)
 
   -- ---- a machine beside a state that has no fault, or that a fault has ended
 
@@ -76,13 +94,14 @@ module _ (core : List CoreOp) (setting : Setting) where
 
     module _ (is_going : (s : State Position) (printed : List ℕ) (m : Machine) → Stands s printed m → IsGoing s printed m)
         (will : (schedule : Schedule) (printed : List ℕ) (m : Machine) (x : Stands (run (next core) setting schedule first) printed m) → IsLawful (next core) setting schedule first
-        → (h : ℕ) → CouldAct (next core) setting h (run (next core) setting schedule first) → ActsWithin (sight (run (next core) setting schedule first) printed m x) h most_between)
+        → AreSingle schedule → (h : ℕ) → CouldAct (next core) setting h (run (next core) setting schedule first) → ActsWithin (sight (run (next core) setting schedule first) printed m x) h most_between)
         (turns : (schedule : Schedule) (printed : List ℕ) (m : Machine) (x : Stands (run (next core) setting schedule first) printed m) → IsLawful (next core) setting schedule first
-        → is_running m.stand ≡ true → IsWhole schedule printed m x ⊎ IsBroken image (run (next core) setting schedule first) printed m) where
+        → AreSingle schedule → is_running m.stand ≡ true → IsWhole schedule printed m x ⊎ IsBroken image (run (next core) setting schedule first) printed m) where
       -- after some cycles
       pub record Goes (schedule : Schedule) (printed : List ℕ) (m : Machine) : Type 0 where
         pub stands : Stands (run (next core) setting schedule first) printed m
         pub possible : AllPossible schedule first
+        pub single : AreSingle schedule
         pub pace : KeepsPace (next core) setting schedule first
         pub waiting : AreWaiting core setting first schedule (sight (run (next core) setting schedule first) printed m stands)
 
@@ -107,6 +126,7 @@ module _ (core : List CoreOp) (setting : Setting) where
           let pace = paces_are_kept core setting first schedule v round g.pace g.waiting in
           let lawful : IsLawful (next core) setting (schedule ++ round ∷ []) first = record { possible = are_possible (schedule ++ round ∷ []) first possible; pace = pace } in
           let y = w.further lawful in
+          let single = single_then schedule round g.single (counts_single v.stages) in
           let moved : (y : Stands (run (next core) setting (schedule ++ round ∷ []) first) printed' (cycle m)) × Turns v (sight (run (next core) setting (schedule ++ round ∷ []) first) printed' (cycle m) y)
           = subst (λ z. (y : Stands z printed' (cycle m)) × Turns v (sight z printed' (cycle m) y)) (sym (run_then schedule round first)) y in
           let v' = sight (run (next core) setting (schedule ++ round ∷ []) first) printed' (cycle m) moved.0 in
@@ -114,8 +134,9 @@ module _ (core : List CoreOp) (setting : Setting) where
           (record {
             stands = moved.0;
             possible = possible;
+            single = single;
             pace = pace;
-            waiting = paces_go_on core setting first schedule v v' g.waiting moved.1 (will (schedule ++ round ∷ []) printed' (cycle m) moved.0 lawful);
+            waiting = paces_go_on core setting first schedule v v' g.waiting moved.1 (will (schedule ++ round ∷ []) printed' (cycle m) moved.0 lawful single);
           })
 
       goes_broken : (schedule : Schedule) (printed : List ℕ) (m : Machine) → Goes schedule printed m → IsBroken image (run (next core) setting schedule first) printed m
@@ -147,7 +168,7 @@ module _ (core : List CoreOp) (setting : Setting) where
             ⊎_elim
             (λ w. inl (goes_whole (rounds image input p n) (output_of image input p n) m g w))
             (λ b. inr (goes_broken (rounds image input p n) (output_of image input p n) m g b))
-            (turns (rounds image input p n) (output_of image input p n) m g.stands (lawful_so_far (rounds image input p n) (output_of image input p n) m g) e)
+            (turns (rounds image input p n) (output_of image input p n) m g.stands (lawful_so_far (rounds image input p n) (output_of image input p n) m g) g.single e)
 
         over_one : (n : ℕ) → After n → is_running (machine image input p n).stand ≡ false → Next n false
         over_one n r e =
@@ -186,12 +207,13 @@ module _ (core : List CoreOp) (setting : Setting) where
             (record {
               stands = x;
               possible = tt;
+              single = tt;
               pace = λ h t le able. absurd (omega (arith, le));
               waiting = λ h from le able.
                   inr
                   (record {
                     cycles = most_between;
                     due = omega (arith, le);
-                    acts = will [] [] (machine image input p 0) x empty h (able 0 le (omega arith));
+                    acts = will [] [] (machine image input p 0) x empty tt h (able 0 le (omega arith));
                   });
             })) n)

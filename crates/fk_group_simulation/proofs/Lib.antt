@@ -8,6 +8,8 @@ pub mod Pace
 pub mod Turning
 -- who is near its commit is in time
 pub mod Soon
+-- those who have met at the beginning of `start`
+pub mod United
 -- who could act
 pub mod Able
 -- whole runs, over what is known of a machine beside a state

@@ -1,5 +1,5 @@
 -- Machines follow core runs with groups.
-use Rattle.std.proofs.Common.{◌≡◌, ℕ, zero, suc, ◌≤◌, ◌<◌, ◌^◌, List, [], ◌∷◌, ◌++◌, length, None, Bool, true, false, cond, sym, ap, subst, ◌∙◌, refl, arith, ◌⊎◌, inl, inr, ⊎_elim}
+use Rattle.std.proofs.Common.{◌≡◌, ℕ, zero, suc, ◌+◌, ◌≤◌, ◌<◌, ◌^◌, List, [], ◌∷◌, ◌++◌, length, Option, None, Bool, true, false, cond, sym, ap, subst, ◌∙◌, refl, arith, ◌⊎◌, inl, inr, ⊎_elim}
 use Rattle.std.specs.Prelude.{◌&&◌, map, replicate, is_none}
 use Rattle.std.proofs.lemmas.List.{append-nil}
 use Rattle.fk_space.specs.Space.{Space}
@@ -8,6 +8,7 @@ use Rattle.fk_run.specs.Processor.{Setting, setting_of}
 use Rattle.fk_operation.specs.declared.operation.Operation.TheVariants.{Begin}
 use Rattle.fk_run.specs.Round.{Runner, State, result, is_possible, IsStopped}
 use Rattle.fk_run.specs.Schedule.{Schedule, SourceRunning, SourceFinished, SourceFaulted, run, CouldAct, IsLawful, all_done, stand_by}
+use Rattle.fk_one_group.specs.Runs.{AreSingle}
 use Rattle.fk_core.specs.declared.op.CoreOp.{CoreOp}
 use Rattle.fk_core.specs.Next.{Position, position, landing, next, opening}
 use Rattle.fk_image.specs.declared.Image.{Image}
@@ -17,6 +18,7 @@ use Rattle.fk_machine.specs.Cycle.{Machine, turns_of, all_ended, unprinted, is_r
 use Rattle.fk_machine.specs.Cycle as machines
 use Rattle.fk_machine.specs.Run.{machine, output_of, round_of, rounds}
 use Rattle.fk_plans.specs.Stage.{Stage, counts_for}
+use Rattle.fk_plans.specs.Cycle.{AllHaveCommitted}
 use Rattle.fk_nodes.specs.Node.{AreAsMany}
 use Rattle.fk_nodes.specs.Source.{Shows}
 use Rattle.fk_block_law.specs.Owner.{Commons, commons_of, Owner, core_source}
@@ -25,9 +27,11 @@ use Rattle.fk_block_law.specs.Next.{StandsOp}
 use Rattle.fk_block_law.proofs.Standing.{next_here}
 use Rattle.fk_group_law.specs.Node.{Nestings}
 use Rattle.fk_group_law.specs.Law.{Cycles, GroupLaw}
-use Rattle.fk_group_rounds.specs.Next.{JumpsLead, AllAbout}
+use Rattle.fk_group_plans.specs.Nodes.{first_of, plan_of, united}
+use Rattle.fk_group_plans.specs.Behind.{blocks_of}
+use Rattle.fk_group_rounds.specs.Next.{JumpsLead, all_landed, AllAbout}
 use Rattle.fk_group_rounds.specs.Comes.{most_between}
-use Rattle.fk_group_rounds.specs.After.{runners_of, ArePlaces}
+use Rattle.fk_group_rounds.specs.After.{runners_of, owners_after, ArePlaces}
 use Rattle.fk_group_rounds.proofs.Groups.{many_length}
 use Rattle.fk_group_runs.specs.Beside.{landed_runner, IsBeside}
 use Rattle.fk_group_runs.specs.Follow.{FollowsFault}
@@ -35,13 +39,20 @@ use Rattle.fk_group_runs.proofs.Landed.{next_landed}
 use Rattle.fk_group_runs.proofs.Follow.{cycles_follow_rounds}
 use Rattle.fk_group_runs.proofs.Starts.{cycles_follow_starts}
 use Rattle.fk_group_runs.proofs.Machines.{machines_follow_rounds, machines_follow_starts}
+use Rattle.fk_group_runs.proofs.Rest.{openings_are_ready}
 use Rattle.fk_simulation.specs.Follows.{StandsAgree, Agrees}
-use Rattle.fk_group_simulation.specs.Pace.{AreInTime, Sight, ActsWithin}
-use Rattle.fk_group_simulation.specs.Able.{WhoWaitsResumes}
-use Rattle.fk_group_simulation.specs.Runs.{sight_in, GoesBeside, IsRound, AlwaysGoesFurther, MachinesFollowGroupRuns, places_in, tree_behind, OrderlyRoundsGoFurther}
-use Rattle.fk_group_simulation.proofs.Soon.{are_soon_in_time}
+use Rattle.fk_group_simulation.specs.Pace.{AreInTime, Sight, Turns, ActsWithin}
+use Rattle.fk_group_simulation.specs.Turning.{AreFreshInTime}
+use Rattle.fk_group_simulation.specs.Able.{WhoWaitsResumes, sight_of, united_sight_of}
+use Rattle.fk_group_simulation.specs.Runs.{sight_in, GoesBeside, StandsBeside, IsRound, AlwaysGoesFurther, MachinesFollowGroupRuns, places_in, tree_behind, OrderlyRoundsGoFurther, UnionsGoFurther, StartsGoFurther}
+use Rattle.fk_group_simulation.proofs.Soon.{are_soon_in_time, all_soon_in_time, near_begin_in_time}
+use Rattle.fk_group_simulation.proofs.Turning.{turns as turned, nobody_has_united}
+use Rattle.fk_group_simulation.proofs.United.{unions_turn, united_turn}
 use Rattle.fk_group_simulation.proofs.Able.{who_could_act_will, who_has_united_will}
 use Rattle.fk_group_simulation.proofs.Induction.{IsGoing, IsOver, IsBroken, IsWhole, follows_from}
+
+pub few_harts : (setting : Setting) (nodes : List ℕ) (m : Machine) (ps : List Owner) → setting.processors ≤ 1024 → AreAsMany nodes m.harts ps → length nodes ≡ setting.processors → length m.harts < 2 ^ 31
+few_harts setting nodes m ps few as_many many = let harts = (many_length nodes m.harts ps as_many).0 in omega (arith, many, harts, few)
 
 module _ (core : List CoreOp) (image : Image) (places : Places) (nestings : Nestings) (cycles : Cycles) (firsts : List ℕ) (main : ℕ) (setting : Setting) (spaces : ℕ → Space)
     (the_law : GroupLaw core image places nestings cycles firsts main) (leads : JumpsLead core) (few : setting.processors ≤ 1024) where
@@ -50,8 +61,7 @@ module _ (core : List CoreOp) (image : Image) (places : Places) (nestings : Nest
     uniting : Bool
     nodes : List ℕ
     stages : List Stage
-    goes : GoesBeside core image places nestings setting spaces uniting s nodes printed stages m
-    in_time : AreInTime stages
+    beside : StandsBeside core image places nestings setting spaces uniting s nodes printed stages m
 
   abbrev sight : (s : State Position) (printed : List ℕ) (m : Machine) → Stands s printed m → Sight
   sight s printed m x = sight_in x.uniting s.tree spaces x.nodes x.stages m.shared.control m.begun
@@ -91,7 +101,7 @@ module _ (core : List CoreOp) (image : Image) (places : Places) (nestings : Nest
       (goes.stand ∙ ap (λ b. cond b Finished Running) (sym (not_done f.i f.op f.ps s.runners f.stands f.about f.beside.runners (omega (arith, some, size, as_many)))))
 
   is_going : (s : State Position) (printed : List ℕ) (m : Machine) → Stands s printed m → IsGoing core setting s printed m
-  is_going s printed m x = is_going_by x.uniting s x.nodes printed x.stages m x.goes
+  is_going s printed m x = is_going_by x.uniting s x.nodes printed x.stages m x.beside.goes
 
   -- the round of its cycle is stopped
   breaks : (s : State Position) (nodes : List ℕ) (printed : List ℕ) (stages : List Stage) (m : Machine) → is_running m.stand ≡ true
@@ -120,9 +130,6 @@ module _ (core : List CoreOp) (image : Image) (places : Places) (nestings : Nest
       let step : after_turns m (turns_of m) ≡ cycle m = ap (λ b. cond b (after_turns m (turns_of m)) m) (sym running) in
       not_faulted (all_ended (turns_of m).harts) site place (sym (ap (λ stop. stand_after stop (turns_of m).harts) going) ∙ ap (λ n. n.stand) step ∙ stand)
 
-  few_harts : (nodes : List ℕ) (m : Machine) (ps : List Owner) → AreAsMany nodes m.harts ps → length nodes ≡ setting.processors → length m.harts < 2 ^ 31
-  few_harts nodes m ps as_many many = let harts = (many_length nodes m.harts ps as_many).0 in omega (arith, many, harts, few)
-
   -- a cycle is a possible round, or a stopped one
   cycle_is : (uniting : Bool) (s : State Position) (nodes : List ℕ) (printed : List ℕ) (stages : List Stage) (m : Machine) → GoesBeside core image places nestings setting spaces uniting s nodes printed stages m
       → is_running m.stand ≡ true
@@ -130,7 +137,7 @@ module _ (core : List CoreOp) (image : Image) (places : Places) (nestings : Nest
   cycle_is false s nodes printed stages m goes running =
       let f = goes.followed in
       let before = f.before in
-      let short = few_harts nodes m f.ps before.as_many before.many in
+      let short = few_harts setting nodes m f.ps few before.as_many before.many in
       ⊎_elim (λ on. inl (inl on))
       (λ other.
       ⊎_elim
@@ -144,7 +151,7 @@ module _ (core : List CoreOp) (image : Image) (places : Places) (nestings : Nest
   cycle_is true s nodes printed stages m goes running =
       let f = goes.followed in
       let before = f.before in
-      let short = few_harts nodes m f.ps before.as_many before.many in
+      let short = few_harts setting nodes m f.ps few before.as_many before.many in
       ⊎_elim (λ starts. inl starts)
       (λ stops.
       ⊎_elim (λ whole. absurd (not_both m stops.site stops.place running whole.going stops.stand)) (λ fault. inr (breaks s nodes printed stages m running fault))
@@ -167,9 +174,9 @@ module _ (core : List CoreOp) (image : Image) (places : Places) (nestings : Nest
 
   module _ (first : State Position) (always : AlwaysGoesFurther core image places nestings setting spaces first) where
     turns : (schedule : Schedule) (printed : List ℕ) (m : Machine) (x : Stands (run (next core) setting schedule first) printed m) → IsLawful (next core) setting schedule first
-        → is_running m.stand ≡ true
+        → AreSingle schedule → is_running m.stand ≡ true
         → IsWhole core setting image first Stands sight schedule printed m x ⊎ IsBroken core setting image (run (next core) setting schedule first) printed m
-    turns schedule printed m x lawful running =
+    turns schedule printed m x lawful single running =
         let s = run (next core) setting schedule first in
         ⊎_elim
         (λ g.
@@ -179,16 +186,17 @@ module _ (core : List CoreOp) (image : Image) (places : Places) (nestings : Nest
           round = round.0;
           possible = round.1;
           further = λ lawful'.
-              let y = always.further schedule x.uniting x.nodes printed x.stages m x.goes x.in_time running g lawful' in
-              (record { uniting = y.uniting'; nodes = y.nodes'; stages = y.stages'; goes = y.goes; in_time = y.in_time }, y.turns);
+              let y = always.further schedule x.uniting x.nodes printed x.stages m lawful single x.beside running g lawful' in
+              (record { uniting = y.uniting'; nodes = y.nodes'; stages = y.stages'; beside = y.stands }, y.turns);
         }))
         (λ broken. inr broken)
-        (cycle_is x.uniting s x.nodes printed x.stages m x.goes running)
+        (cycle_is x.uniting s x.nodes printed x.stages m x.beside.goes running)
 
     will : (schedule : Schedule) (printed : List ℕ) (m : Machine) (x : Stands (run (next core) setting schedule first) printed m) → IsLawful (next core) setting schedule first
-        → (h : ℕ) → CouldAct (next core) setting h (run (next core) setting schedule first) → ActsWithin (sight (run (next core) setting schedule first) printed m x) h most_between
-    will schedule printed m x lawful h could =
-        will_by x.uniting (run (next core) setting schedule first) x.nodes printed x.stages m x.goes x.in_time (always.waits schedule lawful) h could
+        → AreSingle schedule → (h : ℕ) → CouldAct (next core) setting h (run (next core) setting schedule first) → ActsWithin (sight (run (next core) setting schedule first) printed m x) h most_between
+    will schedule printed m x lawful single h could =
+        let s = run (next core) setting schedule first in
+        will_by x.uniting s x.nodes printed x.stages m x.beside.goes x.beside.in_time (always.waits schedule lawful single (is_going s printed m x).going) h could
 
     follows : (input : List ℕ) (p : ℕ) (x : Stands first [] (machine image input p 0)) (n : ℕ)
         → IsLawful (next core) setting (rounds image input p n) first
@@ -228,26 +236,105 @@ machines_follow_group_runs core image places nestings cycles firsts main spaces 
     let setting = setting_of p image.globals.items input in
     let first = opening main image.globals.items firsts input p in
     let r = follows core image places nestings cycles firsts main setting spaces the_law leads few first always input p
-    (record { uniting = false; nodes = replicate p 0; stages = opens.stages; goes = opens.goes; in_time = are_soon_in_time opens.stages opens.soon }) n in
+    (record {
+      uniting = false;
+      nodes = replicate p 0;
+      stages = opens.stages;
+      beside = record { goes = opens.goes; in_time = are_soon_in_time opens.stages opens.soon; ready = openings_are_ready image input p first.tree (first_of spaces 1) };
+    }) n in
     record { lawful = r.0; agrees = agrees core image input p n (run (next core) setting (rounds image input p n) first) r.1 }
 
 -- ---- orderly rounds
 
-stand_in : (tree : Tree) (number count : ℕ) → ArePlaces tree number (places_in tree number count)
+pub stand_in : (tree : Tree) (number count : ℕ) → ArePlaces tree number (places_in tree number count)
 stand_in tree number zero = tt
 stand_in tree number (suc n) = (refl, stand_in tree (suc number) n)
 
-many_in : (tree : Tree) (number count : ℕ) → length (places_in tree number count) ≡ count
+pub many_in : (tree : Tree) (number count : ℕ) → length (places_in tree number count) ≡ count
 many_in tree number zero = refl
 many_in tree number (suc n) = ap suc (many_in tree (suc number) n)
 
+-- a cycle of a machine that runs is one more that is finished
+one_more : (m : Machine) → is_running m.stand ≡ true → m.begun + 1 ≡ (cycle m).begun
+one_more m running = ap (λ n. n.begun) (ap (λ b. cond b (after_turns m (turns_of m)) m) (sym running))
+
 pub orderly_rounds_go_further : OrderlyRoundsGoFurther
-orderly_rounds_go_further core image places nestings setting spaces s nodes printed stages m r goes orderly =
-    let tree = tree_behind core image places nestings setting spaces s nodes printed stages m r in
+orderly_rounds_go_further core image places nestings setting spaces s nodes printed stages m r running goes in_time known behind =
+    let tree = tree_behind core nestings setting spaces s stages m in
     let nodes' = places_in tree 0 setting.processors in
     let there = stand_in tree 0 setting.processors in
     let before = goes.followed.before in
     let many : length nodes' ≡ length nodes = many_in tree 0 setting.processors ∙ sym before.many in
-    let x = r.again nodes' orderly.known orderly.tree there many orderly.ahead orderly.groups in
-    let timely = orderly.timely there many in
-    record { uniting' = false; nodes' = nodes'; stages' = x.0; goes = x.3; in_time = timely.0; turns = timely.1 }
+    let x = r.again nodes' known behind.tree there many behind.ahead behind.groups in
+    let few = few_harts setting nodes m goes.followed.ps before.running.few before.as_many before.many in
+    let source = core_source core setting in
+    let plan = plan_of s.tree spaces nodes in
+    let plan' = plan_of tree spaces nodes' in
+    let blocks = blocks_of core image places nestings setting plan (first_of spaces) in
+    let blocks' = blocks_of core image places nestings setting plan' (first_of spaces) in
+    let t = machines.setting_of m in
+    let ps' = all_landed core (owners_after s.tree tree r.did) in
+    let y = turned source image plan blocks plan' blocks' t stages x.0 r.afters m.harts (cycle m).harts goes.followed.ps r.makes.ps ps' m.shared.control (cycle m).shared.control few refl goes.followed.bound
+    r.makes.stay x.4.changes x.4.goes (nobody_has_united stages r.nobody) in_time (all_soon_in_time r.afters x.0 x.2) in
+    record {
+      uniting' = false;
+      nodes' = nodes';
+      stages' = x.0;
+      stands = record { goes = x.3; in_time = y.0; ready = behind.ready };
+      turns = subst (λ k. Turns (sight_of s.tree spaces nodes stages m.shared.control m.begun) (sight_of tree spaces nodes' x.0 (cycle m).shared.control k)) (one_more m running) y.1;
+    }
+
+few_stages : (setting : Setting) (nodes : List ℕ) (m : Machine) (stages : List Stage) → setting.processors ≤ 1024 → AreAsMany nodes m.harts stages → length nodes ≡ setting.processors → length stages < 2 ^ 31
+few_stages setting nodes m stages few as_many many = let long = (many_length nodes m.harts stages as_many).1 in omega (arith, many, long, few)
+
+pub unions_go_further : UnionsGoFurther
+unions_go_further core image places nestings setting spaces s nodes printed stages m i r running goes few at ready =
+    let tree = tree_behind core nestings setting spaces s stages m in
+    let f = goes.followed in
+    let x = r.again i at in
+    let y = unions_turn (plan_of s.tree spaces nodes) (united (plan_of tree spaces nodes)) stages x.0 m.shared.control (cycle m).shared.control m.begun
+    (few_stages setting nodes m stages few f.bound.stages_as_many f.before.many) r.all x.1 x.2.followed.near in
+    record {
+      uniting' = true;
+      nodes' = nodes;
+      stages' = x.0;
+      stands = record { goes = x.2; in_time = y.0; ready = ready };
+      turns = subst (λ k. Turns (sight_of s.tree spaces nodes stages m.shared.control m.begun) (united_sight_of tree spaces nodes x.0 (cycle m).shared.control k)) (one_more m running) y.1;
+    }
+
+-- all have committed, so all are at fresh stages
+all_in_time : (afters : List (Option Stage)) (stages : List Stage) → AllHaveCommitted afters → AreFreshInTime afters stages → AreInTime stages
+all_in_time [] [] gone fresh = tt
+all_in_time (a ∷ afters) (s ∷ stages) gone fresh = (fresh.0 gone.0, all_in_time afters stages gone.1 fresh.1)
+all_in_time afters stages gone fresh = absurd (assumption fresh)
+
+pub starts_go_further : StartsGoFurther
+starts_go_further core image places nestings setting spaces s nodes printed stages m r running goes few behind rest low =
+    let tree = tree_behind core nestings setting spaces s stages m in
+    let f = goes.followed in
+    let before = f.before in
+    let short = few_stages setting nodes m stages few f.bound.stages_as_many before.many in
+    let sight = united_sight_of s.tree spaces nodes stages m.shared.control m.begun in
+    ⊎_elim
+    (λ x.
+    let y = united_turn (united (plan_of s.tree spaces nodes)) (united (plan_of tree spaces nodes)) stages x.0 m.shared.control (cycle m).shared.control m.begun short f.near x.1 in
+    record {
+      uniting' = true;
+      nodes' = nodes;
+      stages' = x.0;
+      stands = record { goes = x.2; in_time = near_begin_in_time x.0 x.2.followed.near; ready = behind.ready };
+      turns = subst (λ k. Turns sight (united_sight_of tree spaces nodes x.0 (cycle m).shared.control k)) (one_more m running) y;
+    })
+    (λ begins.
+    let nodes' = places_in tree 0 setting.processors in
+    let many : length nodes' ≡ length nodes = many_in tree 0 setting.processors ∙ sym before.many in
+    let x = begins.1 nodes' behind.tree (stand_in tree 0 setting.processors) many rest low behind.ahead behind.groups in
+    let y = united_turn (united (plan_of s.tree spaces nodes)) (plan_of tree spaces nodes') stages x.0 m.shared.control (cycle m).shared.control m.begun short f.near x.1 in
+    record {
+      uniting' = false;
+      nodes' = nodes';
+      stages' = x.0;
+      stands = record { goes = x.3; in_time = all_in_time r.afters x.0 begins.0 (all_soon_in_time r.afters x.0 x.2); ready = behind.ready };
+      turns = subst (λ k. Turns sight (sight_of tree spaces nodes' x.0 (cycle m).shared.control k)) (one_more m running) y;
+    })
+    r.goes

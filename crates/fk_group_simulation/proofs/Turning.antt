@@ -1,20 +1,20 @@
 -- Behind a cycle those who meet have moved, and all are in time.
 use Rattle.std.proofs.Common.{◌≡◌, ◌≢◌, ℕ, zero, suc, ◌+◌, ◌<◌, ◌^◌, List, [], ◌∷◌, length, Option, Some, None, Bool, true, false, sym, ap, subst, ◌∙◌, refl, arith, ⊎_elim, eq-eqb}
 use Rattle.std.specs.Prelude.{◌==◌, ◌&&◌, slice_get}
+use Rattle.std.proofs.lemmas.Bool.{false≢true}
 use Rattle.std.proofs.lemmas.Option.{slice_get_within}
 use Rattle.fk_num.specs.Word.{Memory}
 use Rattle.fk_image.specs.declared.Image.{Image}
 use Rattle.fk_machine.specs.Hart.{Hart, Setting}
-use Rattle.fk_nodes.specs.Node.{Member, numbered, Has}
+use Rattle.fk_nodes.specs.Node.{Member, numbered}
 use Rattle.fk_nodes.specs.Source.{Source}
 use Rattle.fk_nodes.specs.Alone.{later}
 use Rattle.fk_meeting.specs.Phase.{Phase, Outside, Away, Coming, Waiting, Leaving, is_odd, word_after, polled, Moves, AllMove}
-use Rattle.fk_plans.specs.Stage.{Ending, Commits, Unites, Stage, Ended, Acts, Meets, count_of_stage, IsOver, Remains, kept}
+use Rattle.fk_plans.specs.Stage.{Ending, Commits, Unites, Stage, Ended, Acts, Meets, count_of_stage, IsOver, Pairwise, Remains, kept}
 use Rattle.fk_plans.specs.Plan.{Plan, Blocks, IsInside, phases, told_by, IsBound}
-use Rattle.fk_plans.specs.Cycle.{IsLeft}
 use Rattle.fk_plans.specs.Change.{AllAreNew, Changes, AllChange, TreeChanges, GoesOn}
-use Rattle.fk_plans.proofs.Changes.{plan_goes_on}
 use Rattle.fk_group_law.specs.Joint.{lead}
+use Rattle.fk_group_plans.specs.Uniting.{unites_now, NobodyUnites}
 use Rattle.fk_group_rounds.proofs.Agreed.{some_elem}
 use Rattle.fk_group_rounds.proofs.Groups.{many_length}
 use Rattle.fk_group_simulation.specs.Pace.{IsInTime, AreInTime, MovesOn, Turns}
@@ -88,6 +88,11 @@ acts_in_time d (Meets e w f) r few = absurd r.2
 acts_in_time zero (Acts d') r few = absurd (let one = r.0 in omega (arith, one))
 acts_in_time (suc d) (Acts d') r few = let near = r.1 in let e : d' ≡ d = cc in omega (arith, few, e)
 
+pub stay_length : (stages : List Stage) (afters : List (Option Stage)) → Pairwise Remains stages afters → length stages ≡ length afters
+stay_length [] [] stay = refl
+stay_length (s ∷ stages) (a ∷ afters) stay = ap suc (stay_length stages afters stay.1)
+stay_length stages afters stay = absurd (assumption stay)
+
 module _ {S P D : Type 0} (source : Source S P D) (image : Image) (plan : Plan) (blocks : Blocks P D) (plan' : Plan) (blocks' : Blocks P D) where
   -- one hart, before and behind the change
   record Changed (ns ns' : List ℕ) (afters : List (Option Stage)) (stages' : List Stage) (h : ℕ) : Type 0 where
@@ -123,31 +128,32 @@ module _ {S P D : Type 0} (source : Source S P D) (image : Image) (plan : Plan) 
       record { node = r.node; here = r.here; after = r.after; left_at = r.left_at; node' = r.node'; here' = r.here'; stage' = r.stage'; at' = r.at'; stays = r.stays }
   changed t number hs ns ns' afters stages' ps ps' h lt all = absurd (assumption all)
 
-  module _ (t : Setting) (stages stages' : List Stage) (hs hs' : List Hart) (ps ps' : List P) (ds : List D) (own' : ℕ → Memory) (control control' : Memory) (few : length hs < 2 ^ 31)
-      (lead_is : blocks.lead ≡ lead) (bound : IsBound source image plan blocks t stages hs ps (λ g. control)) (left : IsLeft source image plan blocks t stages hs' ps ds (λ g. control) own')
-      (has : (g : ℕ) → Has (plan.words g) control' (own' g)) (changes : TreeChanges source image plan blocks plan' blocks' t hs' left.afters stages' ps ps' control')
-      (nobody : NobodyHasUnited stages) (in_time : AreInTime stages) (fresh : AreFreshInTime left.afters stages') where
-    goes : GoesOn source image plan blocks plan' blocks' t stages stages' hs' ps' (λ g. control) control'
-    goes = plan_goes_on source image plan blocks plan' blocks' t stages stages' hs hs' ps ps' ds (λ g. control) own' control' few bound left has changes
+  change_length : (t : Setting) (number : ℕ) (hs : List Hart) (ns ns' : List ℕ) (afters : List (Option Stage)) (stages' : List Stage) (ps ps' : List P)
+      → AllChange source image plan blocks plan' blocks' t (numbered number hs) ns ns' afters stages' ps ps' → length afters ≡ length hs
+  change_length t number [] [] [] [] [] [] [] all = refl
+  change_length t number (x ∷ hs) (n ∷ ns) (n' ∷ ns') (a ∷ afters) (s' ∷ stages') (p ∷ ps) (p' ∷ ps') all = ap suc (change_length t (suc number) hs ns ns' afters stages' ps ps' all.1)
+  change_length t number hs ns ns' afters stages' ps ps' all = absurd (assumption all)
 
+  module _ (t : Setting) (stages stages' : List Stage) (afters : List (Option Stage)) (hs hs' : List Hart) (ps qs qs' : List P) (control control' : Memory) (few : length hs < 2 ^ 31)
+      (lead_is : blocks.lead ≡ lead) (bound : IsBound source image plan blocks t stages hs ps (λ g. control)) (stay : Pairwise Remains stages afters)
+      (changes : TreeChanges source image plan blocks plan' blocks' t hs' afters stages' qs qs' control')
+      (goes : GoesOn source image plan blocks plan' blocks' t stages stages' hs' qs' (λ g. control) control')
+      (nobody : NobodyHasUnited stages) (in_time : AreInTime stages) (fresh : AreFreshInTime afters stages') where
     as_many : length stages ≡ length hs'
-    as_many =
-        let a = (many_length plan.nodes hs stages bound.stages_as_many).1 in
-        let b = (many_length plan.nodes hs' left.afters left.as_many).0 in
-        sym a ∙ b
+    as_many = stay_length stages afters stay ∙ change_length (later t) 0 hs' plan.nodes plan'.nodes afters stages' qs qs' changes.harts
 
-    change : (h : ℕ) → h < length stages → Changed plan.nodes plan'.nodes left.afters stages' h
-    change h lt = let e = as_many in changed (later t) 0 hs' plan.nodes plan'.nodes left.afters stages' ps ps' h (omega (arith, lt, e)) changes.harts
+    change : (h : ℕ) → h < length stages → Changed plan.nodes plan'.nodes afters stages' h
+    change h lt = let e = as_many in changed (later t) 0 hs' plan.nodes plan'.nodes afters stages' qs qs' h (omega (arith, lt, e)) changes.harts
 
     -- who meets at a word and doesn't leave stays there
     record StaysAtWord (h : ℕ) (e : Ending) (g w : ℕ) : Type 0 where
       phase : Phase
-      left_at : slice_get left.afters h ≡ Some (Some (Meets e w phase))
+      left_at : slice_get afters h ≡ Some (Some (Meets e w phase))
       here : slice_get plan'.nodes h ≡ Some g
       at : slice_get stages' h ≡ Some (Meets e w phase)
 
-    stays_by : (h : ℕ) (e : Ending) (g w : ℕ) (f : Phase) → slice_get plan.nodes h ≡ Some g → Changed plan.nodes plan'.nodes left.afters stages' h → f ≢ Leaving 0
-        → (a : Option Stage) → slice_get left.afters h ≡ Some a → Remains (Meets e w f) a → StaysAtWord h e g w
+    stays_by : (h : ℕ) (e : Ending) (g w : ℕ) (f : Phase) → slice_get plan.nodes h ≡ Some g → Changed plan.nodes plan'.nodes afters stages' h → f ≢ Leaving 0
+        → (a : Option Stage) → slice_get afters h ≡ Some a → Remains (Meets e w f) a → StaysAtWord h e g w
     stays_by h e g w f here c ne None at r = absurd (ne (over_leaving e w f r))
     stays_by h e g w f here c ne (Some Ended) at r = absurd r.2
     stays_by h e g w f here c ne (Some (Acts d)) at r = absurd r.2
@@ -167,17 +173,16 @@ module _ {S P D : Type 0} (source : Source S P D) (image : Image) (plan : Plan) 
 
     stays : (h : ℕ) (e : Ending) (g w : ℕ) (f : Phase) → slice_get plan.nodes h ≡ Some g → slice_get stages h ≡ Some (Meets e w f) → f ≢ Leaving 0 → StaysAtWord h e g w
     stays h e g w f here at ne =
-        let r = related_at Remains stages left.afters h (Meets e w f) left.stay at in
+        let r = related_at Remains stages afters h (Meets e w f) stay at in
         stays_by h e g w f here (change h (slice_get_within stages h (Meets e w f) at)) ne r.other r.at r.related
 
-    meets_on : (h : ℕ) (e : Ending) (g w : ℕ) (f : Phase) → slice_get plan.nodes h ≡ Some g → slice_get stages h ≡ Some (Meets e w f) → f ≢ Leaving 0
+    meets_on : (h : ℕ) (e : Ending) (g w : ℕ) (f : Phase) → slice_get plan.nodes h ≡ Some g → slice_get stages h ≡ Some (Meets e w f) → StaysAtWord h e g w
         → MovesOn (record { plan = plan; stages = stages; control = control; finished = t.finished }) (record { plan = plan'; stages = stages'; control = control'; finished = t.finished + 1 }) h e g w
-    meets_on h e g w f here at ne =
-        let on = stays h e g w f here at ne in
+    meets_on h e g w f here at on =
         let free = free_there source image plan blocks t stages hs ps (λ k. control) bound h g w e f here at in
         let was = meets_there source image plan blocks t stages hs ps (λ k. control) bound h g w e f here at in
-        let free' = free_there source image plan' blocks' (later t) stages' hs' ps' (λ k. control') goes.bound h g w e on.phase on.here on.at in
-        let is = meets_there source image plan' blocks' (later t) stages' hs' ps' (λ k. control') goes.bound h g w e on.phase on.here on.at in
+        let free' = free_there source image plan' blocks' (later t) stages' hs' qs' (λ k. control') goes.bound h g w e on.phase on.here on.at in
+        let is = meets_there source image plan' blocks' (later t) stages' hs' qs' (λ k. control') goes.bound h g w e on.phase on.here on.at in
         record {
           phase = on.phase;
           stands = record { here = on.here; at = on.at; member = is.2; inside = is.0 };
@@ -185,21 +190,24 @@ module _ {S P D : Type 0} (source : Source S P D) (image : Image) (plan : Plan) 
           moves =
               subst (λ l. AllMove t.finished (plan.size w) l (phases plan g w (kept stages)) (control w) (phases plan' g w (kept stages')) (control' w)) lead_is
               (⊎_elim (λ still. goes.moves g w free' still)
-              (λ opens. let none = new_at g plan'.nodes left.afters h (Some (Meets e w on.phase)) opens.new on.here on.left_at in absurd (cc))
+              (λ opens. let none = new_at g plan'.nodes afters h (Some (Meets e w on.phase)) opens.new on.here on.left_at in absurd (cc))
               (changes.meetings g w free' is.1));
         }
 
     -- ---- in time
 
-    meets_in_time : (h : ℕ) (e : Ending) (g w : ℕ) (f : Phase) → slice_get plan.nodes h ≡ Some g → slice_get stages h ≡ Some (Meets e w f) → f ≢ Leaving 0 → (f' : Phase)
-        → slice_get left.afters h ≡ Some (Some (Meets e w f')) → IsInTime (Meets e w f')
-    meets_in_time h e g w f here at ne f' at' =
-        let free = free_there source image plan blocks t stages hs ps (λ k. control) bound h g w e f here at in
+    meets_in_time : (h : ℕ) (e : Ending) (g w : ℕ) (f : Phase) → slice_get plan.nodes h ≡ Some g → slice_get stages h ≡ Some (Meets e w f) → f ≢ Leaving 0 → (s' : Stage)
+        → slice_get stages' h ≡ Some s' → IsInTime s'
+    meets_in_time h e g w f here at ne s' at' =
+        let on = stays h e g w f here at ne in
         let was = meets_there source image plan blocks t stages hs ps (λ k. control) bound h g w e f here at in
-        let moved = subst (λ l. AllMove t.finished (plan.size w) l (phases plan g w (kept stages)) (control w) (phases plan g w left.afters) (own' g w)) lead_is (left.moved g w free was.1) in
-        let one = move_at t.finished (plan.size w) lead (phases plan g w (kept stages)) (phases plan g w left.afters) (control w) (own' g w) h f f' moved
-        (meets_get plan g w (kept stages) h e f here (kept_get stages h (Meets e w f) at) was.2) (meets_get plan g w left.afters h e f' here at' was.2) in
-        moves_in_time t.finished (plan.size w) one.found w e f f' was.0 ne (in_time_at stages h (Meets e w f) in_time at) one.moves
+        let moved = meets_on h e g w f here at on in
+        let one = move_at t.finished (plan.size w) lead (phases plan g w (kept stages)) (phases plan' g w (kept stages')) (control w) (control' w) h f on.phase moved.moves
+        (meets_get plan g w (kept stages) h e f here (kept_get stages h (Meets e w f) at) was.2)
+        (meets_get plan' g w (kept stages') h e on.phase on.here (kept_get stages' h (Meets e w on.phase) on.at) moved.stands.member) in
+        let there = on.at in
+        let same : Meets e w on.phase ≡ s' = cc in
+        subst IsInTime same (moves_in_time t.finished (plan.size w) one.found w e f on.phase was.0 ne (in_time_at stages h (Meets e w f) in_time at) one.moves)
 
     not_leaving : (h : ℕ) (e : Ending) (w : ℕ) (f : Phase) (s' : Stage) → slice_get stages h ≡ Some (Meets e w f) → Remains (Meets e w f) (Some s') → f ≢ Leaving 0
     not_leaving h Commits w f s' at r is =
@@ -211,25 +219,21 @@ module _ {S P D : Type 0} (source : Source S P D) (image : Image) (plan : Plan) 
         leaves f is one = cc
     not_leaving h Unites w f s' at r is = nobody h w (at ∙ ap (λ x. Some (Meets Unites w x)) is)
 
-    remains_in_time : (h : ℕ) (g : ℕ) (s s' : Stage) → slice_get plan.nodes h ≡ Some g → slice_get stages h ≡ Some s → slice_get left.afters h ≡ Some (Some s') → Remains s (Some s') → IsInTime s'
+    remains_in_time : (h : ℕ) (g : ℕ) (s s' : Stage) → slice_get plan.nodes h ≡ Some g → slice_get stages h ≡ Some s → slice_get stages' h ≡ Some s' → Remains s (Some s') → IsInTime s'
     remains_in_time h g Ended Ended here at at' r = tt
     remains_in_time h g Ended (Acts d) here at at' r = absurd r.2
     remains_in_time h g Ended (Meets e w f) here at at' r = absurd r.2
     remains_in_time h g (Acts d) s' here at at' r = acts_in_time d s' r (in_time_at stages h (Acts d) in_time at)
-    remains_in_time h g (Meets e w f) Ended here at at' r = absurd r.2
-    remains_in_time h g (Meets e w f) (Acts d) here at at' r = absurd r.2
-    remains_in_time h g (Meets e w f) (Meets e1 w1 f1) here at at' r =
-        let name : Meets e w f1 ≡ Meets e1 w1 f1 = sym (ap (λ x. Meets x w1 f1) r.2.0 ∙ ap (λ x. Meets e x f1) r.2.1) in
-        subst IsInTime name
-        (meets_in_time h e g w f here at (not_leaving h e w f (Meets e1 w1 f1) at r) f1 (at' ∙ ap (λ x. Some (Some x)) (sym name)))
+    remains_in_time h g (Meets e w f) s' here at at' r = meets_in_time h e g w f here at (not_leaving h e w f s' at r) s' at'
 
-    one_in_time : (h : ℕ) (c : Changed plan.nodes plan'.nodes left.afters stages' h) (s : Stage) → slice_get stages h ≡ Some s → (a : Option Stage) → slice_get left.afters h ≡ Some a → Remains s a
+    one_in_time : (h : ℕ) (c : Changed plan.nodes plan'.nodes afters stages' h) (s : Stage) → slice_get stages h ≡ Some s → (a : Option Stage) → slice_get afters h ≡ Some a → Remains s a
         → IsInTime c.stage'
-    one_in_time h c s at None at' r = fresh_at left.afters stages' h c.stage' fresh at' c.at'
+    one_in_time h c s at None at' r = fresh_at afters stages' h c.stage' fresh at' c.at'
     one_in_time h c s at (Some s1) at' r =
         let was = c.left_at in
         let same : c.after ≡ Some s1 = cc in
-        subst IsInTime (sym (c.stays s1 same).1) (remains_in_time h c.node s s1 c.here at at' r)
+        let is = (c.stays s1 same).1 in
+        remains_in_time h c.node s c.stage' c.here at c.at' (subst (λ x. Remains s (Some x)) (sym is) r)
 
     all_in_time : AreInTime stages'
     all_in_time =
@@ -243,7 +247,7 @@ module _ {S P D : Type 0} (source : Source S P D) (image : Image) (plan : Plan) 
         let lt' : h < length stages = omega (arith, lt, here, there, e) in
         let s = some_elem stages h lt' in
         let c = change h lt' in
-        let r = related_at Remains stages left.afters h s.is left.stay s.at in
+        let r = related_at Remains stages afters h s.is stay s.at in
         let at = c.at' in
         let same : c.stage' ≡ s' = cc in
         subst IsInTime same (one_in_time h c s.is s.at r.other r.at r.related))
@@ -260,11 +264,17 @@ module _ {S P D : Type 0} (source : Source S P D) (image : Image) (plan : Plan) 
             omega (arith, few, a, b);
         next = refl;
         near = goes.near;
-        meet = λ h e g w f stands ne. meets_on h e g w f stands.here stands.at ne;
+        meet = λ h e g w f stands ne. meets_on h e g w f stands.here stands.at (stays h e g w f stands.here stands.at ne);
         unite = λ h w at. absurd (nobody h w at);
       },
     )
 
 pub plans_turn : (S P D : Type 0) → PlansTurn S P D
-plans_turn S P D source image plan plan' tests tests' t stages stages' hs hs' ps ps' ds own' control control' few lead_is bound left has changes nobody in_time fresh =
-    turns source image plan (told_by tests) plan' (told_by tests') t stages stages' hs hs' ps ps' ds own' control control' few lead_is bound left has changes nobody in_time fresh
+plans_turn S P D source image plan plan' tests tests' t stages stages' afters hs hs' ps qs qs' control control' few lead_is bound stay changes goes nobody in_time fresh =
+    turns source image plan (told_by tests) plan' (told_by tests') t stages stages' afters hs hs' ps qs qs' control control' few lead_is bound stay changes goes nobody in_time fresh
+
+-- nobody leaves those with whom it unites
+pub nobody_has_united : (stages : List Stage) → NobodyUnites stages → NobodyHasUnited stages
+nobody_has_united [] nobody h w at = absurd (cc)
+nobody_has_united (s ∷ stages) nobody zero w at = let same : s ≡ Meets Unites w (Leaving 0) = cc in absurd (false≢true (sym nobody.0 ∙ ap unites_now same))
+nobody_has_united (s ∷ stages) nobody (suc h) w at = nobody_has_united stages nobody.1 h w at

@@ -2,9 +2,9 @@
 
 ghost use Rattle.fk_group_simulation.specs.Opening.{OpeningsAreFollowed};
 ghost use Rattle.fk_group_simulation.specs.Pace.{PacesGoOn, PacesAreKept};
-ghost use Rattle.fk_group_simulation.specs.Turning.{PlansTurn};
+ghost use Rattle.fk_group_simulation.specs.Turning.{PlansTurn, UnionsTurn, UnitedTurn};
 ghost use Rattle.fk_group_simulation.specs.Able.{WhoCouldActWill, WhoHasUnitedWill};
-ghost use Rattle.fk_group_simulation.specs.Runs.{MachinesFollowGroupRuns, OrderlyRoundsGoFurther};
+ghost use Rattle.fk_group_simulation.specs.Runs.{MachinesFollowGroupRuns, OrderlyRoundsGoFurther, UnionsGoFurther, StartsGoFurther};
 
 /// A machine of an image that has the law of blocks of groups goes with the core run from its first cycle on: each of its harts
 /// is at most 254 private instructions before its first commit, or 251 before it arrives where it meets others, 211 at `start`.
@@ -23,10 +23,21 @@ pub fn paces_are_kept()
     ensures { PacesAreKept }
 {}
 
-/// Where the tree changes behind a cycle as `fk_plans` asks, and all who have committed are at stages in time, so all are: who is at
-/// a distance from its commit is one cycle nearer, and those who meet at a word have moved.
+/// Where a plan goes on behind a cycle, and all who have committed are at stages in time, so all are: who is at a distance from its
+/// commit is one cycle nearer, and those who meet at a word have moved.
 pub fn plans_turn<S, P, D>()
     ensures { PlansTurn S P D }
+{}
+
+/// Behind the cycle in which all leave the word where they meet at the beginning of `start` they are in time, fewer than 40 cycles
+/// from their common commit, and nobody meets others.
+pub fn unions_turn()
+    ensures { UnionsTurn }
+{}
+
+/// From there to their commit nobody meets others.
+pub fn united_turn()
+    ensures { UnitedTurn }
 {}
 
 /// Where the plan of a state's tree binds all harts, at stages in time, who could act in that state is to commit within 254 cycles:
@@ -47,7 +58,18 @@ pub fn machines_follow_group_runs()
     ensures { MachinesFollowGroupRuns }
 {}
 
-/// A cycle goes further where its round is a known one and its processors go on as is told (`IsOrderly`).
+/// A cycle goes further where its round is a known one, the tree behind it is sound, its processors go on (`IsBehind`), and its harts
+/// are in time: they are so behind it, and those who meet have moved.
 pub fn orderly_rounds_go_further()
     ensures { OrderlyRoundsGoFurther }
+{}
+
+/// So does the cycle in which all have met at the beginning of `start`, if jumps lead all to one index.
+pub fn unions_go_further()
+    ensures { UnionsGoFurther }
+{}
+
+/// And each from there to that in which the group begins, where nobody is at its words, and it has the whole group space.
+pub fn starts_go_further()
+    ensures { StartsGoFurther }
 {}

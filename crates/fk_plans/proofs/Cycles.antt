@@ -100,7 +100,7 @@ module _ {S P D : Type 0} (source : Source S P D) (image : Image) (plan : Plan) 
 
   -- ---- any node
 
-  node_chain : (b : Bool) (t : Setting) (g : ℕ) (stages : List Stage) (ms : List Member) (ps : List P) (own : Memory) → IsIdle source blocks.idle → JointBlocksTurn source image plan blocks
+  pub node_chain : (b : Bool) (t : Setting) (g : ℕ) (stages : List Stage) (ms : List Member) (ps : List P) (own : Memory) → IsIdle source blocks.idle → JointBlocksTurn source image plan blocks
       → AreApart (plan.words g) source.common → Binds source image plan blocks b t g stages ms ps own
       → Chain source image (plan.words g) t ms ps own (Done source image plan blocks b t g stages ps own)
   node_chain true t g stages ms ps own idle joint apart x = group_chain t g x.distance stages ms ps own idle apart x.alike x.together

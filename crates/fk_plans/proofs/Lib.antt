@@ -2,6 +2,8 @@
 pub mod Stages
 -- one cycle of all nodes
 pub mod Cycles
+-- the words of no node
+pub mod Words
 -- what a cycle leaves, by hart
 pub mod Left
 -- the pace

@@ -3,3 +3,4 @@ pub mod Plan
 pub mod Cycle
 pub mod Pace
 pub mod Change
+pub mod Words

@@ -2,6 +2,7 @@
 //! processor by its part in a round, `D`. What is asked of blocks is told by tests.
 
 ghost use Rattle.fk_plans.specs.Cycle.{CyclesArePlanned, StagesAreChains, CyclesLeave, MeetingsAreKept};
+ghost use Rattle.fk_plans.specs.Words.{WordsOfNobodyStay};
 ghost use Rattle.fk_plans.specs.Change.{PlansGoOn, RunsLeadToStages};
 ghost use Rattle.fk_plans.specs.Pace.{WhoIsNearActs, WhoMeetsActs};
 
@@ -10,6 +11,11 @@ ghost use Rattle.fk_plans.specs.Pace.{WhoIsNearActs, WhoMeetsActs};
 /// done what binds it, so who does not commit comes one cycle nearer to it.
 pub fn cycles_are_planned<S, P, D>()
     ensures { CyclesArePlanned S P D }
+{}
+
+/// A cycle without a fault leaves control words that no node owns as they are.
+pub fn words_of_nobody_stay<S, P, D>()
+    ensures { WordsOfNobodyStay S P D }
 {}
 
 /// Members of a node that are each at a stage by themselves, some free and some in joint blocks, at

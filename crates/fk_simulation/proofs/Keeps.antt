@@ -1,4 +1,4 @@
--- Rounds keep values, variables and shared data words.
+-- Rounds keep values, variables and shared data words, whatever groups there are.
 use Rattle.std.proofs.Common.{◌≡◌, ℕ, zero, suc, ◌+◌, ◌-◌, ◌^◌, ◌<◌, ◌≤◌, List, [], ◌∷◌, ◌++◌, length, Option, Some, None, Bool, true, false, sym, subst, arith, refl, ◌⊎◌, inl, inr}
 use Rattle.std.specs.Prelude.{◌==◌, if◌then◌else◌, nat_lt, nat_le, map, slice_get, slice_index, All}
 use Rattle.std.proofs.lemmas.Bool.{cases_lt, lt-ltb, le-ltb, leb-true}
@@ -19,17 +19,18 @@ use Rattle.fk_store.specs.Store.{Store, address_of, shared_words}
 use Rattle.fk_store.specs.Serve.{Answer, Served, Faults, is_shared, shared_index, private_index, may_use, read, write, operator_of, combined, block_address, words_of, serve}
 use Rattle.fk_run.specs.Processor.{Processor, Setting, values, last, before, setting_of, drop_last}
 use Rattle.fk_run.specs.Request.{address, arguments, entered, depth, request, with_answer}
-use Rattle.fk_run.specs.Group.{has_room, does}
-use Rattle.fk_run.specs.Round.{Step, Runner, State, Fault, Round, Acting, taking, runner_of, Phase, Passes, Breaks, Phases, do_local, local_phase, after_one, after_locals, begin, asking, do_request, answered, request_phase, after_phase, all_requests, all_changes, settled_by, settled, tree_phase, result}
+use Rattle.fk_run.specs.Group.{has_room}
+use Rattle.fk_run.specs.Round.{Step, Runner, State, Fault, Round, Acting, taking, runner_of, Phase, Passes, Breaks, Phases, do_local, local_phase, after_one, after_locals, begin, asking, do_request, answered, request_phase, after_phase, all_requests, highest, who, agreed, all_changes, settled_by, settled, tree_phase, result}
 use Rattle.fk_run.specs.Schedule.{Schedule, run, beginners}
 use Rattle.fk_core.specs.declared.op.CoreOp.{CoreOp}
-use Rattle.fk_core.specs.Numbers.{operation_of}
-use Rattle.fk_core.specs.Next.{Position, next, landing, step_by, step_of, position, opening}
-use Rattle.fk_block_law.specs.Ready.{is_alone, IsInRange}
-use Rattle.fk_block_law.specs.Lists.{IsFree}
+use Rattle.fk_core.specs.Next.{Position, next, position, opening}
+use Rattle.fk_block_law.specs.Ready.{IsInRange}
+use Rattle.fk_simulation.specs.InRange.{AreGiven, ListsStayInRange}
 use Rattle.fk_simulation.proofs.Parts.{if_either}
 use Rattle.fk_simulation.proofs.Words.{IsWord, applied-is}
+use Rattle.fk_simulation.proofs.Few.{IsFew, all_few, root_few}
 use Rattle.fk_simulation.proofs.Ranges.{AreWords, IsSound, IsSmall, last-is, before-are, put-is, in_place-sound, drop-sound, local-sound}
+use Rattle.fk_simulation.proofs.Steps.{does-sound}
 
 -- ---- stores
 
@@ -65,9 +66,8 @@ arguments-are (suc n) (v ∷ vs) all i = put-is (arguments n vs) n v (arguments-
 entered-sound : (n : ℕ) (p : Processor) → IsSound p → depth p < 256 → IsSound (entered n p)
 entered-sound n p s lt = record {
   number = s.number;
-  group = s.group;
-  rank = s.rank;
-  size = s.size;
+  level = s.level;
+  outer = s.outer;
   call = record { values = tt; privates = arguments-are n (values p) s.call.values };
   callers = (record { values = before-are n (values p) s.call.values; privates = s.call.privates }, s.callers);
   own = s.own;
@@ -118,57 +118,62 @@ served-sound o.Heap p s is sound =
 served-sound (o.Enter n) p s is sound = called-by n p s is sound (cases_lt (depth p) 256)
 served-sound operation p s is sound = if_either {A = Answer} (IsAnswered operation p) (nat_lt (depth p) 256) (Served s 0) (Faults CallDepth) (sound, is) tt
 
--- ---- what is due comes from the list
+-- ---- the phases
 
-abbrev IsFrom : Option (Step Position) → Type 0
-IsFrom None = Unit {0}
-IsFrom (Some step) = (is_alone step.operation ≡ true) ⊎ (step.operation ≡ o.Halt)
-
-pub record IsActing (a : Acting Position) : Type 0 where
-  pub sound : IsSound a.runner.has
-  pub due : IsFrom a.due
+abbrev IsActing : Acting Position → Type 0
+IsActing a = IsSound a.runner.has
 
 abbrev AllActing : List (Acting Position) → Type 0
 AllActing [] = Unit {0}
 AllActing (a ∷ as') = IsActing a × AllActing as'
 
+-- a step of the tree that is due finds the words that it needs
+abbrev FindsRoom : Option (Step Position) → Processor → Type 0
+FindsRoom None p = Unit {0}
+FindsRoom (Some step) p = has_room step.operation p ≡ true
+
+abbrev AllFindRoom : List (Acting Position) → Type 0
+AllFindRoom [] = Unit {0}
+AllFindRoom (a ∷ as') = FindsRoom a.due a.runner.has × AllFindRoom as'
+
+local_room : (operation : Operation) (p : Processor) → class_of operation ≡ Local → has_room operation p ≡ true
+local_room (o.Frame nesting words) p e = absurd (cc)
+local_room (o.Divide by) p e = absurd (cc)
+local_room operation p e = refl
+
 abbrev pub AllSound : List (Runner Position) → Type 0
 AllSound [] = Unit {0}
 AllSound (r ∷ rs) = IsSound r.has × AllSound rs
 
-module _ (core : List CoreOp) (free : IsFree core) (set : Setting) (small : IsSmall set) where
-  from_op : (i : ℕ) (callers : List ℕ) (op : CoreOp) → slice_get core i ≡ Some op → (x : Option Operation) → operation_of op.kind op.number ≡ x → IsFrom (step_by core i callers op x)
-  from_op i callers op e None f = tt
-  from_op i callers op e (Some operation) f = free.alone i op operation e f
+-- what a group agrees on is the value of a processor
+who_last : (all : List (Acting Position)) (h : ℕ) → AllActing all → IsWord (last (values (who all h)))
+who_last [] h is = omega arith
+who_last (a ∷ all) zero is = last-is (values a.runner.has) is.0.call.values
+who_last (a ∷ all) (suc h) is = who_last all h is.1
 
-  from_list : (i : ℕ) (callers : List ℕ) (x : Option CoreOp) → slice_get core i ≡ x → IsFrom (step_of core i callers x)
-  from_list i callers None e = tt
-  from_list i callers (Some op) e = from_op i callers op e (operation_of op.kind op.number) refl
+-- values and variables are words, and no group has more members than there are processors
+pub record IsSoundState (most : ℕ) (s : State Position) : Type 0 where
+  pub store : IsSoundStore s.store
+  pub tree : IsFew most s.tree
+  pub runners : AllSound s.runners
 
-  next_from : (w : Position) → IsFrom (next core w)
-  next_from w = from_list (landing core w.at) w.callers (slice_get core (landing core w.at)) refl
-
-  -- ---- the phases
-
-  local_by : (a : Acting Position) (step : Step Position) (c : Class) → class_of step.operation ≡ c → IsActing a → IsActing (do_local (next core) set a c step)
-  local_by a step Local e is = record { sound = local-sound set step.operation a.runner.has small is.sound; due = tt }
-  local_by a step Request e is = is
-  local_by a step Tree e is = is
+module _ (core : List CoreOp) (set : Setting) (small : IsSmall set) where
+  local_by : (a : Acting Position) (step : Step Position) (c : Class) → IsActing a → IsActing (do_local (next core) set a c step)
+  local_by a step Local is = local-sound set step.operation a.runner.has small is
+  local_by a step Request is = is
+  local_by a step Tree is = is
 
   local_is : (a : Acting Position) (due : Option (Step Position)) → IsActing a → IsActing (local_phase (next core) set a due)
   local_is a None is = is
-  local_is a (Some step) is = local_by a step (class_of step.operation) refl is
-
-  taking_is : (r : Runner Position) → IsSound r.has → IsActing (taking r (next core r.left))
-  taking_is r is = record { sound = is; due = next_from r.left }
+  local_is a (Some step) is = local_by a step (class_of step.operation) is
 
   after_sound : (c : ℕ) (r : Runner Position) → IsSound r.has → IsSound (after_locals (next core) set c r).has
   after_sound zero r is = is
-  after_sound (suc c) r is = after_sound c (after_one (next core) set r) (local_is (taking r (next core r.left)) (next core r.left) (taking_is r is)).sound
+  after_sound (suc c) r is = after_sound c (after_one (next core) set r) (local_is (taking r (next core r.left)) (next core r.left) is)
 
   begin_is : (c : ℕ) (r : Runner Position) → IsSound r.has → IsActing (begin (next core) set c r)
-  begin_is zero r is = record { sound = is; due = tt }
-  begin_is (suc c) r is = taking_is (after_locals (next core) set c r) (after_sound c r is)
+  begin_is zero r is = is
+  begin_is (suc c) r is = after_sound c r is
 
   asking_are : (round : Round) (rs : List (Runner Position)) → AllSound rs → AllActing (asking (next core) set round rs)
   asking_are [] [] all = tt
@@ -179,84 +184,80 @@ module _ (core : List CoreOp) (free : IsFree core) (set : Setting) (small : IsSm
 
   -- a request passes, or breaks
   abbrev IsPhase : Phase Position → Type 0
-  IsPhase (Passes s a) = IsSoundStore s × IsActing a
+  IsPhase (Passes s a) = IsSoundStore s × IsActing a × FindsRoom a.due a.runner.has
   IsPhase (Breaks site) = Unit {0}
 
   answered_is : (step : Step Position) (p : Processor) (answer : Answer) → IsAnswered step.operation p answer → IsPhase (answered step p answer)
-  answered_is step p (Served s v) is = (is.0, record { sound = is.1; due = tt })
+  answered_is step p (Served s v) is = (is.0, is.1, tt)
   answered_is step p (Faults kind) is = tt
 
-  request_by : (s : Store) (a : Acting Position) (step : Step Position) (c : Class) → IsSoundStore s → IsActing a → IsPhase (do_request s a c step)
-  request_by s a step Local sound is = (sound, is)
-  request_by s a step Request sound is = answered_is step a.runner.has (serve (request step.operation a.runner.has) s a.runner.has.number) (served-sound step.operation a.runner.has s is.sound sound)
-  request_by s a step Tree sound is = if_either {A = Phase Position} IsPhase (has_room step.operation a.runner.has) (Passes s a) (Breaks step.site) (sound, is) tt
+  step_by : (s : Store) (a : Acting Position) (step : Step Position) → a.due ≡ Some step → IsSoundStore s → IsActing a → (b : Bool) → has_room step.operation a.runner.has ≡ b
+      → IsPhase (if b then Passes s a else Breaks step.site)
+  step_by s a step e sound is true room = (sound, is, subst (λ due. FindsRoom due a.runner.has) (sym e) room)
+  step_by s a step e sound is false room = tt
 
-  request_is : (s : Store) (a : Acting Position) (due : Option (Step Position)) → IsSoundStore s → IsActing a → IsPhase (request_phase s a due)
-  request_is s a None sound is = (sound, is)
-  request_is s a (Some step) sound is = request_by s a step (class_of step.operation) sound is
+  request_by : (s : Store) (a : Acting Position) (step : Step Position) (c : Class) → class_of step.operation ≡ c → a.due ≡ Some step → IsSoundStore s → IsActing a → IsPhase (do_request s a c step)
+  request_by s a step Local f e sound is = (sound, is, subst (λ due. FindsRoom due a.runner.has) (sym e) (local_room step.operation a.runner.has f))
+  request_by s a step Request f e sound is =
+      answered_is step a.runner.has (serve (request step.operation a.runner.has) s a.runner.has.number) (served-sound step.operation a.runner.has s is sound)
+  request_by s a step Tree f e sound is = step_by s a step e sound is (has_room step.operation a.runner.has) refl
+
+  request_is : (s : Store) (a : Acting Position) (due : Option (Step Position)) → a.due ≡ due → IsSoundStore s → IsActing a → IsPhase (request_phase s a due)
+  request_is s a None e sound is = (sound, is, subst (λ due. FindsRoom due a.runner.has) (sym e) tt)
+  request_is s a (Some step) e sound is = request_by s a step (class_of step.operation) refl e sound is
 
   record ArePhases (r : Phases Position) : Type 0 where
     store : IsSoundStore r.store
     acting : AllActing r.acting
+    room : r.fault ≡ None → AllFindRoom r.acting
 
   after_is : (number : ℕ) (s : Store) (a : Acting Position) (as' : List (Acting Position)) (phase : Phase Position) → IsSoundStore s → IsActing a → AllActing as' → IsPhase phase
       → ((s' : Store) → IsSoundStore s' → ArePhases (all_requests (suc number) as' s')) → ArePhases (after_phase number s a as' (all_requests (suc number) as') phase)
   after_is number s a as' (Passes s' a') sound is all phase rest =
-      let r = rest s' phase.0 in record { store = r.store; acting = (phase.1, r.acting) }
-  after_is number s a as' (Breaks site) sound is all phase rest = record { store = sound; acting = (is, all) }
+      let r = rest s' phase.0 in record { store = r.store; acting = (phase.1, r.acting); room = λ none. (phase.2, r.room none) }
+  after_is number s a as' (Breaks site) sound is all phase rest = record { store = sound; acting = (is, all); room = λ none. absurd (let e = none in cc) }
 
   requests_are : (number : ℕ) (as' : List (Acting Position)) (s : Store) → IsSoundStore s → AllActing as' → ArePhases (all_requests number as' s)
-  requests_are number [] s sound all = record { store = sound; acting = tt }
+  requests_are number [] s sound all = record { store = sound; acting = tt; room = λ none. tt }
   requests_are number (a ∷ as') s sound all =
-      after_is number s a as' (request_phase s a a.due) sound all.0 all.1 (request_is s a a.due sound all.0) (λ s' sound'. requests_are (suc number) as' s' sound' all.1)
+      after_is number s a as' (request_phase s a a.due) sound all.0 all.1 (request_is s a a.due refl sound all.0) (λ s' sound'. requests_are (suc number) as' s' sound' all.1)
 
   -- ---- the phase of the tree
 
-  -- whatever is due of it: a processor that is not at a step of the tree but a halt stays as it is
-  does_same : (operation : Operation) (highest size : ℕ) (p : Processor) → (is_alone operation ≡ true) ⊎ (operation ≡ o.Halt) → does operation highest size p ≡ p
-  does_same o.Begin highest size p (inl e) = absurd (cc)
-  does_same o.Begin highest size p (inr e) = absurd (cc)
-  does_same o.Agree highest size p (inl e) = absurd (cc)
-  does_same o.Agree highest size p (inr e) = absurd (cc)
-  does_same (o.Frame nesting words) highest size p (inl e) = absurd (cc)
-  does_same (o.Frame nesting words) highest size p (inr e) = absurd (cc)
-  does_same o.Block highest size p (inl e) = absurd (cc)
-  does_same o.Block highest size p (inr e) = absurd (cc)
-  does_same (o.Divide by) highest size p (inl e) = absurd (cc)
-  does_same (o.Divide by) highest size p (inr e) = absurd (cc)
-  does_same o.Shrink highest size p (inl e) = absurd (cc)
-  does_same o.Shrink highest size p (inr e) = absurd (cc)
-  does_same o.End highest size p (inl e) = absurd (cc)
-  does_same o.End highest size p (inr e) = absurd (cc)
-  does_same operation highest size p e = refl
+  settled_one : (all : List (Acting Position)) (old new : t.Tree) (r : Runner Position) (due : Option (Step Position)) → AllActing all → IsFew set.processors new
+      → IsSound r.has → FindsRoom due r.has → IsSound (settled_by all old new r due).has
+  settled_one all old new r None are few is room = is
+  settled_one all old new r (Some step) are few is room =
+      let members = t.members old (old.places r.has.number) in
+      let many = few (new.places r.has.number) in
+      let word = small.processors in
+      does-sound step.operation (agreed all members) (length (t.members new (new.places r.has.number))) r.has room is (who_last all (highest members) are) (omega (arith, many, word))
 
-  settled_one : (all : List (Acting Position)) (old new : t.Tree) (r : Runner Position) (due : Option (Step Position)) → IsSound r.has → IsFrom due → IsSound (settled_by all old new r due).has
-  settled_one all old new r None is from = is
-  settled_one all old new r (Some step) is from = subst IsSound (sym (does_same step.operation _ _ r.has from)) is
-
-  settled_are : (all : List (Acting Position)) (old new : t.Tree) (as' : List (Acting Position)) → AllActing as' → AllSound (settled all old new as')
-  settled_are all old new [] is = tt
-  settled_are all old new (a ∷ as') is = (settled_one all old new a.runner a.due is.0.sound is.0.due, settled_are all old new as' is.1)
+  settled_are : (all : List (Acting Position)) (old new : t.Tree) → AllActing all → IsFew set.processors new → (as' : List (Acting Position)) → AllActing as' → AllFindRoom as'
+      → AllSound (settled all old new as')
+  settled_are all old new are few [] is room = tt
+  settled_are all old new are few (a ∷ as') is room =
+      (settled_one all old new a.runner a.due are few is.0 room.0, settled_are all old new are few as' is.1 room.1)
 
   runners_are : (as' : List (Acting Position)) → AllActing as' → AllSound (map runner_of as')
   runners_are [] is = tt
-  runners_are (a ∷ as') is = (is.0.sound, runners_are as' is.1)
+  runners_are (a ∷ as') is = (is.0, runners_are as' is.1)
 
-  pub record IsSoundState (s : State Position) : Type 0 where
-    pub store : IsSoundStore s.store
-    pub runners : AllSound s.runners
+  tree_is : (tree : t.Tree) (s : Store) (as' : List (Acting Position)) (fault : Option Fault) → IsSoundStore s → IsFew set.processors tree → AllActing as' → (fault ≡ None → AllFindRoom as')
+      → IsSoundState set.processors (tree_phase tree s as' fault)
+  tree_is tree s as' None sound few is room =
+      let new = all_changes as' tree as' tree in
+      let fewer = all_few set.processors as' tree as' tree few in
+      record { store = sound; tree = fewer; runners = settled_are as' tree new is fewer as' is (room refl) }
+  tree_is tree s as' (Some fault) sound few is room = record { store = sound; tree = few; runners = runners_are as' is }
 
-  tree_is : (tree : t.Tree) (s : Store) (as' : List (Acting Position)) (fault : Option Fault) → IsSoundStore s → AllActing as' → IsSoundState (tree_phase tree s as' fault)
-  tree_is tree s as' None sound is = record { store = sound; runners = settled_are as' tree (all_changes as' tree as' tree) as' is }
-  tree_is tree s as' (Some fault) sound is = record { store = sound; runners = runners_are as' is }
-
-  result_is : (round : Round) (s : State Position) → IsSoundState s → IsSoundState (result (next core) set round s)
+  result_is : (round : Round) (s : State Position) → IsSoundState set.processors s → IsSoundState set.processors (result (next core) set round s)
   result_is round s is =
       let r = all_requests 0 (asking (next core) set round s.runners) s.store in
       let are = requests_are 0 (asking (next core) set round s.runners) s.store is.store (asking_are round s.runners is.runners) in
-      tree_is s.tree r.store r.acting r.fault are.store are.acting
+      tree_is s.tree r.store r.acting r.fault are.store is.tree are.acting are.room
 
-  pub run_is : (schedule : Schedule) (s : State Position) → IsSoundState s → IsSoundState (run (next core) set schedule s)
+  run_is : (schedule : Schedule) (s : State Position) → IsSoundState set.processors s → IsSoundState set.processors (run (next core) set schedule s)
   run_is [] s is = is
   run_is (round ∷ schedule) s is = run_is schedule (result (next core) set round s) (result_is round s is)
 
@@ -269,33 +270,36 @@ words_at xs all i = by (cases_lt i (length xs))
     by (inl lt) = all i 0 lt
     by (inr le) = let e = get_or_past xs i 0 le in omega arith
 
-beginners_are : (set : Setting) (firsts : Memory) (left : Position) (number count : ℕ) → number + count ≤ 1024 → set.processors ≤ 1024 → ((i : ℕ) → IsWord (firsts i)) → AllSound (beginners set firsts left number count)
-beginners_are set firsts left number zero le few is = tt
-beginners_are set firsts left number (suc n) le few is = (
+beginners_are : (set : Setting) (firsts : Memory) (left : Position) (number count : ℕ) → number + count ≤ 1024 → set.processors ≤ 1024 → set.globals + set.inputs ≤ 2 ^ 19 → ((i : ℕ) → IsWord (firsts i))
+    → AllSound (beginners set firsts left number count)
+beginners_are set firsts left number zero le few room is = tt
+beginners_are set firsts left number (suc n) le few room is = (
   record {
     number = omega arith;
-    group = omega arith;
-    rank = omega arith;
-    size = omega arith;
+    level = record { number = omega arith; rank = omega arith; size = omega arith; blocks = omega arith };
+    outer = tt;
     call = record { values = tt; privates = λ i. omega arith };
     callers = tt;
     own = is;
     top = omega arith;
     waiting = omega arith;
   },
-  beginners_are set firsts left (suc number) n (omega arith) few is,
+  beginners_are set firsts left (suc number) n (omega arith) few room is,
 )
 
-pub opening_is : (core : List CoreOp) (free : IsFree core) (main : ℕ) (words firsts input : List ℕ) (p : ℕ) (small : IsSmall (setting_of p words input)) → p ≤ 1024 → length words + length input ≤ 2 ^ 19
-    → All IsWord words → All IsWord firsts → All IsWord input → IsSoundState core free (setting_of p words input) small (opening main words firsts input p)
-opening_is core free main words firsts input p small few room w f i = record {
-  store = record {
-    words = words_at (words ++ input) (All-append IsWord words input w i);
-    heaps = λ h j. omega arith;
-    top = omega arith;
-  };
-  runners = beginners_are (setting_of p words input) (slice_index firsts) (position main []) 0 p (omega arith) few (words_at firsts f);
-}
+opening_is : (main : ℕ) (words firsts input : List ℕ) (p : ℕ) → AreGiven words firsts input p → IsSoundState p (opening main words firsts input p)
+opening_is main words firsts input p given =
+    let few = given.few in
+    let room = given.room in
+    record {
+      store = record {
+        words = words_at (words ++ input) (All-append IsWord words input given.globals_are_words given.input_are_words);
+        heaps = λ h j. omega arith;
+        top = omega arith;
+      };
+      tree = root_few p;
+      runners = beginners_are (setting_of p words input) (slice_index firsts) (position main []) 0 p (omega arith) few room (words_at firsts given.firsts_are_words);
+    }
 
 -- ---- what it says of a processor
 
@@ -306,7 +310,16 @@ words_all (v ∷ vs) all = All-cons IsWord v vs all.0 (words_all vs all.1)
 in_range : (p : Processor) → IsSound p → IsInRange p
 in_range p s = record { values = words_all p.call.values s.call.values; privates = s.call.privates; own = s.own; top = s.top; waiting = s.waiting }
 
-pub range_at : (rs : List (Runner Position)) (h : ℕ) (r : Runner Position) → AllSound rs → slice_get rs h ≡ Some r → IsInRange r.has
+range_at : (rs : List (Runner Position)) (h : ℕ) (r : Runner Position) → AllSound rs → slice_get rs h ≡ Some r → IsInRange r.has
 range_at [] h r all e = absurd (cc)
 range_at (q ∷ rs) zero r all e = let same : q ≡ r = cc in subst (λ x. IsInRange x.has) same (in_range q.has all.0)
 range_at (q ∷ rs) (suc h) r all e = range_at rs h r all.1 e
+
+pub lists_stay_in_range : ListsStayInRange
+lists_stay_in_range core main words firsts input p schedule given h r e =
+    let few = given.few in
+    let room = given.room in
+    let set = setting_of p words input in
+    let first = opening main words firsts input p in
+    let small : IsSmall set = record { processors = omega arith; inputs = omega arith; globals = omega arith } in
+    range_at (run (next core) set schedule first).runners h r (run_is core set small schedule first (opening_is main words firsts input p given)).runners e

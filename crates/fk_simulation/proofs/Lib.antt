@@ -24,8 +24,12 @@ mod Theorem
 mod Opening
 -- operators give words
 mod Words
+-- groups have no more members than there are processors
+mod Few
 -- values in runs are words
 mod Ranges
+-- steps of the tree keep them
+mod Steps
 -- and rounds keep them
 mod Keeps
 -- what each operation keeps is kept in runs

@@ -157,7 +157,7 @@ module _ (core : List CoreOp) (image : Image) (places : Places) (set : Setting) 
       → All (λ j. j < length core) p.runner.left.callers → (onward : Bool) → IsWithin core (follows core operation i op.target p.runner.left.callers onward)
   going (o.Leave gives framed) free p i op at e may all onward = within_return core p.runner.left.callers may all
   going o.Halt free p i op at e may all onward = absurd (cc)
-  going operation free p i op at e may all onward = within_next core free i op operation p.runner.left.callers onward at refl all
+  going operation free p i op at e may all onward = within_next core free.within i op operation p.runner.left.callers onward at refl all
 
   gone_within : IsFree core → (p : Owner) (due : Due p) (d : Doing) → is_alone due.operation ≡ true → Gone (step_at core due.i due.op due.operation p.runner.left.callers) p.runner d
       → IsWithin core d.acting.runner.left
@@ -379,7 +379,7 @@ module _ (core : List CoreOp) (image : Image) (places : Places) (set : Setting) 
       → (d : ℕ) × (d ≤ 254) × Linked t d (record { number = number_of p; hart = h }) p
   unfolding Arrives due_of
   comes firsts main law leads free t p h hart cycles running lt few runs at within ready =
-      let l = leading core leads free p.runner.left within.at in
+      let l = leading core leads free.jumps p.runner.left within.at in
       let due = due_of leads free p within ready l in
       let one = arrives firsts main law free (in_cycles cycles t) p due hart (runs_later image set cycles t running) lt at l.way in
       let le = one.1 in

@@ -8,9 +8,9 @@ use Rattle.fk_operation.specs.declared.operation.Operation.TheVariants as o
 use Rattle.fk_core.specs.declared.op.CoreOp.{CoreOp}
 use Rattle.fk_core.specs.Numbers.{operation_of}
 use Rattle.fk_core.specs.Next.{Position, position, is_jump, behind_jump, through, led_by, landing_by, landing, returned, follows, step_by, step_of, next}
-use Rattle.fk_core.specs.WellFormed.{LeadsOn}
+use Rattle.fk_core.specs.WellFormed.{IsOperation, LeadsOn}
 use Rattle.fk_block_law.specs.Next.{StandsOp, step_at}
-use Rattle.fk_block_law.specs.Lists.{IsWithin, IsFree, is_end}
+use Rattle.fk_block_law.specs.Lists.{IsWithin, is_end}
 use Rattle.fk_block_law.proofs.Standing.{landing_at, landing_here}
 
 no_operation : (number : ℕ) → operation_of 0 number ≡ None
@@ -50,24 +50,24 @@ landing_jump core i (suc n) jump to e f g h lt =
     ∙ ap (λ b. through b (landing_by core n) i jump.target) f
     ∙ landing_at core jump.target to n g h
 
-ways : (core : List CoreOp) → IsFree core → (i : ℕ) → i < length core → (op : CoreOp) → slice_get core i ≡ Some op
-    → ((is_jump op ≡ true) ⊎ (is_jump op ≡ false)) → IsWay core i (landing core i)
-ways core free i lt op e (inr f) = inl (sym (landing_here core i op e f))
-ways core free i lt op e (inl f) =
-    let to = free.jumps i op e f in
-    inr (op, e, f, sym (landing_jump core i (length core) op to.op e f to.stands (no_jump to.op to.operation to.is_read) (omega arith)))
+module _ (core : List CoreOp) (leads : LeadsOn core) (jumps : (i : ℕ) (op : CoreOp) → slice_get core i ≡ Some op → is_jump op ≡ true → IsOperation core op.target) where
+  ways : (i : ℕ) → i < length core → (op : CoreOp) → slice_get core i ≡ Some op → ((is_jump op ≡ true) ⊎ (is_jump op ≡ false)) → IsWay core i (landing core i)
+  ways i lt op e (inr f) = inl (sym (landing_here core i op e f))
+  ways i lt op e (inl f) =
+      let to = jumps i op e f in
+      inr (op, e, f, sym (landing_jump core i (length core) op to.op e f to.stands (no_jump to.op to.operation to.is_read) (omega arith)))
 
-pub leading : (core : List CoreOp) → LeadsOn core → IsFree core → (w : Position) → w.at < length core → Leading core w
-leading core leads free w lt =
-    let is = leads w.at lt in
-    let here = get_some core w.at lt in
-    record {
-      op = is.op;
-      operation = is.operation;
-      at = record { stands = is.stands; no_jump = no_jump is.op is.operation is.is_read; is_read = is.is_read };
-      is_next = ap (step_of core (landing core w.at) w.callers) is.stands ∙ ap (step_by core (landing core w.at) w.callers is.op) is.is_read;
-      way = ways core free w.at lt here.0 here.1 (cases_Bool (is_jump here.0));
-    }
+  pub leading : (w : Position) → w.at < length core → Leading core w
+  leading w lt =
+      let is = leads w.at lt in
+      let here = get_some core w.at lt in
+      record {
+        op = is.op;
+        operation = is.operation;
+        at = record { stands = is.stands; no_jump = no_jump is.op is.operation is.is_read; is_read = is.is_read };
+        is_next = ap (step_of core (landing core w.at) w.callers) is.stands ∙ ap (step_by core (landing core w.at) w.callers is.op) is.is_read;
+        way = ways w.at lt here.0 here.1 (cases_Bool (is_jump here.0));
+      }
 
 -- ---- where an operation goes on
 
@@ -92,11 +92,15 @@ within_callers core (o.Enter n) i target callers false w all = entered_within co
 within_callers core operation i target callers true w all = record { at = w.at; callers = all }
 within_callers core operation i target callers false w all = record { at = w.at; callers = all }
 
-pub within_next : (core : List CoreOp) → IsFree core → (i : ℕ) (op : CoreOp) (operation : Operation) (callers : List ℕ) (onward : Bool)
+-- no operation but an end goes on outside the list
+pub within_next : (core : List CoreOp)
+    → ((i : ℕ) (op : CoreOp) (operation : Operation) → slice_get core i ≡ Some op → operation_of op.kind op.number ≡ Some operation → is_end operation ≡ false
+    → (onward : Bool) → IsWithin core (follows core operation i op.target [] onward))
+    → (i : ℕ) (op : CoreOp) (operation : Operation) (callers : List ℕ) (onward : Bool)
     → StandsOp core i op operation → is_end operation ≡ false → Below core callers
     → IsWithin core (follows core operation i op.target callers onward)
-within_next core free i op operation callers onward at e all =
-    within_callers core operation i op.target callers onward (free.within i op operation at.stands at.is_read e onward) all
+within_next core within i op operation callers onward at e all =
+    within_callers core operation i op.target callers onward (within i op operation at.stands at.is_read e onward) all
 
 -- a call returns to a call
 pub within_return : (core : List CoreOp) (callers : List ℕ) → 0 < length callers → Below core callers → IsWithin core (returned core callers)

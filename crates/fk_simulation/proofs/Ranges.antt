@@ -13,9 +13,9 @@ use Rattle.fk_operation.specs.declared.operation.Operation.{Operation}
 use Rattle.fk_operation.specs.declared.operation.Operation.TheVariants as o
 use Rattle.fk_operation.specs.declared.operation.Variable.{Variable}
 use Rattle.fk_operation.specs.declared.operation.Variable.TheVariants.{Private, OfFile}
-use Rattle.fk_store.specs.Store.{address_of, private_address, private_words}
+use Rattle.fk_store.specs.Store.{address_of, private_address, private_words, shared_words}
 use Rattle.fk_store.specs.Serve.{words_of}
-use Rattle.fk_run.specs.Processor.{Call, Processor, Setting, values, last, before, with_values, push, drop_last, in_place}
+use Rattle.fk_run.specs.Processor.{Level, Call, Processor, Setting, values, last, before, with_values, push, drop_last, in_place}
 use Rattle.fk_run.specs.Local.{value_of, known, stored, applied_to, joined, in_order, taken, handed, unframed, to_caller, local}
 use Rattle.fk_simulation.proofs.Parts.{if_either}
 use Rattle.fk_simulation.proofs.Words.{IsWord, word_is, applied-is}
@@ -34,11 +34,21 @@ abbrev pub AreCalls : List Call → Type 0
 AreCalls [] = Unit {0}
 AreCalls (c ∷ calls) = IsCall c × AreCalls calls
 
+-- what a processor has of a group, whose blocks lie in shared data
+pub record IsLevel (l : Level) : Type 0 where
+  pub number : IsWord l.number
+  pub rank : IsWord l.rank
+  pub size : IsWord l.size
+  pub blocks : l.space.blocks ≤ shared_words
+
+abbrev pub AreLevels : List Level → Type 0
+AreLevels [] = Unit {0}
+AreLevels (l ∷ levels) = IsLevel l × AreLevels levels
+
 pub record IsSound (p : Processor) : Type 0 where
   pub number : IsWord p.number
-  pub group : IsWord p.level.number
-  pub rank : IsWord p.level.rank
-  pub size : IsWord p.level.size
+  pub level : IsLevel p.level
+  pub outer : AreLevels p.outer
   pub call : IsCall p.call
   pub callers : AreCalls p.callers
   pub own : (i : ℕ) → IsWord (p.own i)
@@ -65,9 +75,8 @@ put-is m i v all w j = if_either {A = ℕ} IsWord (j == i) v (m j) w (all j)
 pub with_values-sound : (p : Processor) (vs : List ℕ) → IsSound p → AreWords vs → IsSound (with_values p vs)
 with_values-sound p vs s all = record {
   number = s.number;
-  group = s.group;
-  rank = s.rank;
-  size = s.size;
+  level = s.level;
+  outer = s.outer;
   call = record { values = all; privates = s.call.privates };
   callers = s.callers;
   own = s.own;
@@ -90,11 +99,11 @@ value-is p (OfFile i) s = s.own i
 
 known-is : (set : Setting) (p : Processor) (known' : Known) → IsSmall set → IsSound p → IsWord (known set p known')
 known-is set p (k.Value variable) small s = value-is p variable s
-known-is set p k.Rank small s = s.rank
-known-is set p k.GroupNumber small s = s.group
+known-is set p k.Rank small s = s.level.rank
+known-is set p k.GroupNumber small s = s.level.number
 known-is set p k.ProcessorNumber small s = s.number
 known-is set p k.Processors small s = small.processors
-known-is set p k.GroupSize small s = s.size
+known-is set p k.GroupSize small s = s.level.size
 known-is set p k.InputLength small s = small.inputs
 known-is set p (k.FrameAddress nesting i) small s = word_is (address_of (p.call.frames nesting + i))
 known-is set p k.InputAddress small s = small.globals
@@ -102,9 +111,8 @@ known-is set p k.InputAddress small s = small.globals
 stored-sound : (v : ℕ) (variable : Variable) (p : Processor) → IsSound p → IsWord v → IsSound (stored v variable p)
 stored-sound v (Private i) p s w = record {
   number = s.number;
-  group = s.group;
-  rank = s.rank;
-  size = s.size;
+  level = s.level;
+  outer = s.outer;
   call = record { values = s.call.values; privates = put-is p.call.privates i v s.call.privates w };
   callers = s.callers;
   own = s.own;
@@ -113,9 +121,8 @@ stored-sound v (Private i) p s w = record {
 }
 stored-sound v (OfFile i) p s w = record {
   number = s.number;
-  group = s.group;
-  rank = s.rank;
-  size = s.size;
+  level = s.level;
+  outer = s.outer;
   call = s.call;
   callers = s.callers;
   own = put-is p.own i v s.own w;
@@ -142,9 +149,8 @@ taken-by words p s (inr le) =
     (in_place-sound (private_address p.top) (record p { top = p.top + words })
     (record {
       number = s.number;
-      group = s.group;
-      rank = s.rank;
-      size = s.size;
+      level = s.level;
+      outer = s.outer;
       call = s.call;
       callers = s.callers;
       own = s.own;
@@ -164,9 +170,8 @@ handed-is false v c is w = is
 unframed-sound : (framed : Bool) (p : Processor) → IsSound p → IsSound (unframed framed p)
 unframed-sound true p s = record {
   number = s.number;
-  group = s.group;
-  rank = s.rank;
-  size = s.size;
+  level = record { number = s.level.number; rank = s.level.rank; size = s.level.size; blocks = s.level.blocks };
+  outer = s.outer;
   call = s.call;
   callers = s.callers;
   own = s.own;
@@ -179,9 +184,8 @@ returned-sound : (gives : Bool) (v : ℕ) (p : Processor) (calls : List Call) �
 returned-sound gives v p [] s all lt w = s
 returned-sound gives v p (c ∷ calls) s all lt w = record {
   number = s.number;
-  group = s.group;
-  rank = s.rank;
-  size = s.size;
+  level = s.level;
+  outer = s.outer;
   call = handed-is gives v c all.0 w;
   callers = all.1;
   own = s.own;

@@ -1,5 +1,5 @@
 -- Machines follow core runs, and programs.
-use Rattle.std.proofs.Common.{◌≡◌, ℕ, zero, suc, ◌≤◌, List, [], ◌∷◌, ◌++◌, Some, Bool, true, false, cond, sym, ap, subst, ◌∙◌, arith, refl, ◌⊎◌, inl, inr}
+use Rattle.std.proofs.Common.{◌≡◌, ℕ, zero, suc, ◌≤◌, List, [], ◌∷◌, ◌++◌, Some, Bool, true, false, cond, sym, ap, subst, ◌∙◌, refl, ◌⊎◌, inl, inr}
 use Rattle.std.specs.Prelude.{slice_get}
 use Rattle.std.proofs.lemmas.Bool.{cases_Bool}
 use Rattle.fk_run.specs.Processor.{Setting, setting_of}
@@ -15,6 +15,7 @@ use Rattle.fk_machine.specs.Cycle.{turns_of, is_running, after_turns}
 use Rattle.fk_machine.specs.Run.{machine, output_of, round_of, rounds}
 use Rattle.fk_block_law.specs.Stands.{Places}
 use Rattle.fk_simulation.specs.Follows.{StandsAgree, Agrees}
+use Rattle.fk_simulation.specs.InRange.{AreGiven}
 use Rattle.fk_core.specs.KeepsRuns.{FlatListsKeepRuns}
 use Rattle.fk_forms.specs.Program.{main_of}
 use Rattle.fk_simulation.specs.Follows.{IsInput}
@@ -22,8 +23,7 @@ use Rattle.fk_simulation.specs.Simulation.{Carries, MachinesFollowCoreRuns, Mach
 use Rattle.fk_simulation.proofs.Linked.{AreReady}
 use Rattle.fk_simulation.proofs.Settled.{AllReady}
 use Rattle.fk_simulation.proofs.Opening.{opened}
-use Rattle.fk_simulation.proofs.Ranges.{IsSmall}
-use Rattle.fk_simulation.proofs.Keeps.{opening_is, run_is, range_at}
+use Rattle.fk_simulation.proofs.Keeps.{lists_stay_in_range}
 use Rattle.fk_simulation.proofs.Runs.{Given, Reached, all_are, one_cycle}
 
 -- ---- the machine after one cycle more
@@ -130,8 +130,8 @@ given_by core main firsts places image c input p is le few =
     let first = opening main image.globals.items firsts input p in
     let room = is.room in
     let many = is.few in
-    let small : IsSmall set = record { processors = omega arith; inputs = omega arith; globals = omega arith } in
-    let sound = opening_is core c.free main image.globals.items firsts input p small few room c.globals_are_words c.firsts_are_words is.words in
+    let given : AreGiven image.globals.items firsts input p
+    = record { few = few; room = room; globals_are_words = c.globals_are_words; firsts_are_words = c.firsts_are_words; input_are_words = is.words } in
     record {
       law = c.blocks;
       leads = c.well_formed.leads_on;
@@ -145,7 +145,7 @@ given_by core main firsts places image c input p is le few =
           (λ h r e op operation stands is_read. record {
             depth = c.well_formed.depths image.globals.items firsts input p schedule lawful running h r op e stands;
             may = c.may image.globals.items firsts input p schedule lawful running h r op operation e stands is_read;
-            in_range = range_at (run.run (next core) set schedule first).runners h r (run_is core c.free set small schedule first sound).runners e;
+            in_range = lists_stay_in_range core main image.globals.items firsts input p schedule given h r e;
           });
     }
 

@@ -1,5 +1,6 @@
 //! Laws of the definitions.
 
+ghost use Rattle.fk_simulation.specs.InRange.{ListsStayInRange};
 ghost use Rattle.fk_simulation.specs.Simulation.{MachinesFollowCoreRuns, MachinesFollowPrograms};
 
 /// A machine of an image that has the blocks of a list follows a lawful schedule of the list's core
@@ -18,3 +19,12 @@ pub fn machines_follow_programs()
 {
     fk_core::laws::flat_lists_keep_runs();
 }
+
+/// In every run of a list, with groups too, the values and variables of each processor are words, it has taken no more of its
+/// private heap than there is, and fewer than 256 calls wait.
+///
+/// So it is after every schedule of 1,024 processors at most, whose globals, first values and input are words, with room for
+/// globals and input in one half of shared data.
+pub fn lists_stay_in_range()
+    ensures { ListsStayInRange }
+{}
