@@ -6,10 +6,8 @@ use Rattle.fk_group_code.specs.Laws.{none_saved}
 use Rattle.fk_group_code.specs.Cycles.{cycles_of}
 use Rattle.fk_core.specs.declared.op.CoreOp.{CoreOp}
 use Rattle.fk_group_facts.specs.Lists.{IsOfOneGroup}
-use Rattle.fk_group_facts.specs.Reached.{RunsReach}
-use Rattle.fk_group_course.specs.Follow.{CarriesGroups}
+use Rattle.fk_group_course.specs.Follow.{CarriesGroups, MachinesFollowGroups}
 use Rattle.fk_group_course.specs.Generated.{MachinesFollowGeneratedGroups}
-use Rattle.fk_group_course.proofs.Whole.{machines_follow_groups}
 
 -- what is asked of a list rests on its nestings in nothing but their levels
 of_one_group : (core : List CoreOp) (main : ℕ) (nestings other : Nestings) → ((i : ℕ) → other.levels i ≡ 0) → IsOfOneGroup core nestings main → IsOfOneGroup core other main
@@ -26,8 +24,8 @@ of_one_group core main nestings other levels list = record {
   may = list.may;
 }
 
-pub machines_follow_generated_groups : RunsReach → MachinesFollowGeneratedGroups
-machines_follow_generated_groups runs_reach core kept main firsts code nestings frames image has input p n is_input some few =
+pub machines_follow_generated_groups : MachinesFollowGroups → MachinesFollowGeneratedGroups
+machines_follow_generated_groups follow core kept main firsts code nestings frames image has input p n is_input some few =
     let law = has.gives image frames has.stands has.suits has.keeps has.of_file has.values in
     let places : Places = record { block = law.0; frames = frames } in
     let carries : CarriesGroups core main firsts places (none_saved law.1) (cycles_of core (length image.globals.items) kept) image
@@ -37,4 +35,4 @@ machines_follow_generated_groups runs_reach core kept main firsts code nestings 
       firsts_are_words = has.firsts_are_words;
       globals_are_words = has.globals_are_words;
     } in
-    machines_follow_groups runs_reach core main firsts places (none_saved law.1) (cycles_of core (length image.globals.items) kept) image carries input p n is_input some few
+    follow core main firsts places (none_saved law.1) (cycles_of core (length image.globals.items) kept) image carries input p n is_input some few

@@ -45,10 +45,11 @@ module _ (runs_reach : RunsReach) (core : List CoreOp) (main : ℕ) (firsts : Li
   abbrev pub state : Schedule → State Position
   state schedule = run (next core) (setting_of p image.globals.items input) schedule (opening main image.globals.items firsts input p)
 
+  pub given : AreGiven image.globals.items firsts input p
+  given = record { few = few; room = is_input.room; globals_are_words = carries.globals_are_words; firsts_are_words = carries.firsts_are_words; input_are_words = is_input.words }
+
   pub reached : (schedule : Schedule) → IsLawful (next core) setting schedule first → AreSingle schedule → (state schedule).fault ≡ None → IsReached core setting (state schedule)
   reached schedule lawful single none =
-      let given : AreGiven image.globals.items firsts input p
-      = record { few = few; room = is_input.room; globals_are_words = carries.globals_are_words; firsts_are_words = carries.firsts_are_words; input_are_words = is_input.words } in
       runs_reach core nestings main carries.one_group image.globals.items firsts input p schedule some given lawful single none
 
   -- ---- the opening

@@ -1,14 +1,11 @@
 -- Each cycle of a machine beside a state of such a run goes further, so it follows the run.
-use Rattle.std.proofs.Common.{◌≡◌, ◌≢◌, ℕ, zero, suc, ◌+◌, ◌≤◌, ◌<◌, ◌^◌, List, [], ◌∷◌, ◌++◌, length, Option, Some, None, Bool, true, false, sym, ap, subst, ◌∙◌, refl, arith, ◌⊎◌, inl, inr, ⊎_elim}
-use Rattle.std.specs.Prelude.{slice_get, is_none, ◌&&◌}
-use Rattle.std.proofs.lemmas.Bool.{and_parts}
+use Rattle.std.proofs.Common.{◌≡◌, ℕ, ◌≤◌, List, Bool, true, false, subst, arith, inl, inr, ⊎_elim}
 use Rattle.fk_space.specs.Space.{Space}
 use Rattle.fk_run.specs.Processor.{Setting}
-use Rattle.fk_run.specs.Round.{Runner, Fault, State, Round, result, is_allowed, is_possible}
-use Rattle.fk_run.specs.Schedule.{Schedule, IsLawful}
+use Rattle.fk_run.specs.Round.{State, result, is_possible}
+use Rattle.fk_run.specs.Schedule.{Schedule}
 use Rattle.fk_core.specs.declared.op.CoreOp.{CoreOp}
 use Rattle.fk_core.specs.Next.{Position, next}
-use Rattle.fk_one_group.specs.Runs.{AreSingle}
 use Rattle.fk_image.specs.declared.Image.{Image}
 use Rattle.fk_machine.specs.Cycle.{Machine, is_running, cycle}
 use Rattle.fk_plans.specs.Stage.{Stage, counts_for}
@@ -20,9 +17,9 @@ use Rattle.fk_group_plans.specs.Rounds.{AllDue}
 use Rattle.fk_group_rounds.specs.After.{runners_of}
 use Rattle.fk_group_rounds.proofs.Groups.{many_length}
 use Rattle.fk_group_runs.specs.Machines.{GoesWith, GoesToStart, GoesOn, Unites, Starts}
-use Rattle.fk_group_facts.specs.Reached.{IsReached, RunsReach}
+use Rattle.fk_group_facts.specs.Reached.{RunsReach}
 use Rattle.fk_group_facts.specs.Facts.{spaces_of}
-use Rattle.fk_group_facts.specs.Behind.{IsRoundOf, AreReached}
+use Rattle.fk_group_facts.specs.Behind.{IsRoundOf, AreReached, RunsReachRounds}
 use Rattle.fk_group_facts.specs.Ready.{IsReady}
 use Rattle.fk_group_facts.proofs.Begins.{reached_beginners_land_at_one_index, reached_waiters_resume}
 use Rattle.fk_group_facts.proofs.Behind.{reached_rounds_go_on}
@@ -31,20 +28,12 @@ use Rattle.fk_group_facts.proofs.Ready.{reached_cycles_stay_ready, reached_start
 use Rattle.fk_group_simulation.specs.Pace.{AreInTime}
 use Rattle.fk_group_simulation.specs.Runs.{StandsBeside, IsRound, GoesFurther, AlwaysGoesFurther, places_in, IsBehind}
 use Rattle.fk_group_simulation.proofs.Turning.{stay_length}
-use Rattle.fk_group_simulation.proofs.Induction.{run_then, single_then, counts_single}
 use Rattle.fk_group_simulation.proofs.Runs.{few_harts, stand_in, many_in, machines_follow_group_runs, orderly_rounds_go_further, unions_go_further, starts_go_further}
 use Rattle.fk_group_course.specs.Follow.{CarriesGroups, MachinesFollowGroups}
 use Rattle.fk_group_course.proofs.Begin.{all_begin, begins_at}
 use Rattle.fk_group_course.proofs.Reached as reaching
 
-no_fault : (x : Bool) (fault : Option Fault) → (x && is_none fault) ≡ true → fault ≡ None
-no_fault x fault e = by fault (and_parts x (is_none fault) e).1
-  where
-    by : (fault : Option Fault) → is_none fault ≡ true → fault ≡ None
-    by None e = refl
-    by (Some f) e = absurd (cc)
-
-module _ (runs_reach : RunsReach) (core : List CoreOp) (main : ℕ) (firsts : List ℕ) (places : Places) (nestings : Nestings) (cycles : Cycles) (image : Image) (carries : CarriesGroups core main firsts places nestings cycles image)
+module _ (runs_reach : RunsReach) (runs_reach_rounds : RunsReachRounds) (core : List CoreOp) (main : ℕ) (firsts : List ℕ) (places : Places) (nestings : Nestings) (cycles : Cycles) (image : Image) (carries : CarriesGroups core main firsts places nestings cycles image)
     (input : List ℕ) (p : ℕ) (is_input : IsInput image input) (some : 1 ≤ p) (few : p ≤ 1024) where
   abbrev setting : Setting
   setting = reaching.setting runs_reach core main firsts places nestings cycles image carries input p is_input some few
@@ -75,7 +64,7 @@ module _ (runs_reach : RunsReach) (core : List CoreOp) (main : ℕ) (firsts : Li
         let possible = subst (λ x. is_possible (next core) setting x s ≡ true) r.round r.possible in
         let round : IsRoundOf core setting s stages r.did
         = record { ps = r.makes.ps; shared = r.makes.shared; shared' = r.makes.store; order = r.makes.order; beside = r.makes.beside; possible = possible; passes = r.makes.passes } in
-        let due = subst (AllDue core s.tree spaces 0 stages) (f.beside.runners ∙ sym r.makes.beside.runners) f.before.due in
+        let due = subst (AllDue core s.tree spaces 0 stages) f.beside.runners f.before.due in
         let go = reached_stages_go_on core nestings main setting s stages r.afters r.did spaces carries.one_group is_input.room few are round due r.makes.stay in
         let tree = (result (next core) setting (counts_for stages) s).tree in
         let behind : IsBehind core nestings setting spaces s stages m r.did r.afters
@@ -135,28 +124,6 @@ module _ (runs_reach : RunsReach) (core : List CoreOp) (main : ℕ) (firsts : Li
   possible_of false s nodes printed stages m (inr r) = subst (λ x. is_possible (next core) setting x s ≡ true) r.round r.possible
   possible_of true s nodes printed stages m r = subst (λ x. is_possible (next core) setting x s ≡ true) r.round r.possible
 
-  -- a possible round leads from a reached state to one
-  are_reached : (schedule : Schedule) (stages : List Stage) → IsLawful (next core) setting schedule first → AreSingle schedule → (state schedule).fault ≡ None
-      → is_possible (next core) setting (counts_for stages) (state schedule) ≡ true → IsLawful (next core) setting (schedule ++ counts_for stages ∷ []) first → AreReached core setting (state schedule) stages
-  are_reached schedule stages lawful single none possible lawful' =
-      let s = state schedule in
-      let round = counts_for stages in
-      let schedule' = schedule ++ counts_for stages ∷ [] in
-      let then = run_then core setting schedule round first in
-      let none' : (state schedule').fault ≡ None
-      = ap (λ u. u.fault) then ∙ no_fault (is_none s.fault && is_allowed (next core) setting round s) (result (next core) setting round s).fault possible in
-      let after = subst (IsReached core setting) then
-      (reaching.reached runs_reach core main firsts places nestings cycles image carries input p is_input some few schedule' lawful' (single_then core setting schedule round single (counts_single stages)) none') in
-      record {
-        before = reaching.reached runs_reach core main firsts places nestings cycles image carries input p is_input some few schedule lawful single none;
-        after = after;
-      }
-
-  going : (uniting : Bool) (s : State Position) (nodes : List ℕ) (printed : List ℕ) (stages : List Stage) (m : Machine) → StandsBeside core image places nestings setting spaces uniting s nodes printed stages m
-      → s.fault ≡ None
-  going false s nodes printed stages m stands = stands.goes.followed.beside.going
-  going true s nodes printed stages m stands = stands.goes.followed.beside.going
-
   pub always : AlwaysGoesFurther core image places nestings setting spaces first
   always = record {
     waits = λ schedule lawful single none h group parts r step kind at next_is.
@@ -164,13 +131,14 @@ module _ (runs_reach : RunsReach) (core : List CoreOp) (main : ℕ) (firsts : Li
         (reaching.reached runs_reach core main firsts places nestings cycles image carries input p is_input some few schedule lawful single none) kind at next_is;
     further = λ schedule uniting nodes printed stages m lawful single stands running r lawful'.
         let s = state schedule in
-        further s nodes printed stages m
-        (are_reached schedule stages lawful single (going uniting s nodes printed stages m stands) (possible_of uniting s nodes printed stages m r) lawful') running uniting stands r;
+        let both = runs_reach_rounds core nestings main carries.one_group image.globals.items firsts input p schedule stages some
+        (reaching.given runs_reach core main firsts places nestings cycles image carries input p is_input some few) lawful' single (possible_of uniting s nodes printed stages m r) in
+        further s nodes printed stages m (record { before = both.0; after = both.1 }) running uniting stands r;
   }
 
-pub machines_follow_groups : RunsReach → MachinesFollowGroups
-machines_follow_groups runs_reach core main firsts places nestings cycles image carries input p n is_input some few =
+pub machines_follow_groups : RunsReach → RunsReachRounds → MachinesFollowGroups
+machines_follow_groups runs_reach runs_reach_rounds core main firsts places nestings cycles image carries input p n is_input some few =
     let setting = reaching.setting runs_reach core main firsts places nestings cycles image carries input p is_input some few in
     machines_follow_group_runs core image places nestings cycles firsts main (spaces_of setting) input p n carries.blocks carries.one_group.jumps few
     (reaching.opens runs_reach core main firsts places nestings cycles image carries input p is_input some few)
-    (always runs_reach core main firsts places nestings cycles image carries input p is_input some few)
+    (always runs_reach runs_reach_rounds core main firsts places nestings cycles image carries input p is_input some few)

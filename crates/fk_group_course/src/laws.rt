@@ -12,6 +12,7 @@ pub fn machines_follow_groups()
     ensures { MachinesFollowGroups }
 {
     fk_group_facts::laws::runs_reach();
+    fk_group_facts::laws::runs_reach_rounds();
 }
 
 /// So it is of each image with the code that `fk_group_code` makes of such a list, in frames that suit it, where each step of a group
@@ -19,5 +20,5 @@ pub fn machines_follow_groups()
 pub fn machines_follow_generated_groups()
     ensures { MachinesFollowGeneratedGroups }
 {
-    fk_group_facts::laws::runs_reach();
+    machines_follow_groups();
 }

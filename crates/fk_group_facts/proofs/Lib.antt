@@ -10,6 +10,8 @@ pub mod Groups
 pub mod Reached
 -- rounds
 pub mod Known
+-- and the last one of a run
+pub mod Runs
 -- the words of the group to come
 pub mod Ready
 -- those who begin a group, and those who wait for it

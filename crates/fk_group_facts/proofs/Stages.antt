@@ -92,10 +92,7 @@ first_due core tree spaces [] (q ∷ rs) r due at = absurd due
 first_due core tree spaces (x ∷ stages) [] r due at = absurd due
 
 module _ (core : List CoreOp) (nestings : Nestings) (main : ℕ) (setting : Setting) (s : State Position) (stages : List Stage) (did : List Doing) (list : IsOfOneGroup core nestings main)
-    (reached : AreReached core setting s stages) (round : IsRoundOf core setting s stages did) (spaces : ℕ → Space) (due : AllDue core s.tree spaces 0 stages (runners_of round.ps)) where
-  all_due : AllDue core s.tree spaces 0 stages (map (landed_runner core) s.runners)
-  all_due = subst (AllDue core s.tree spaces 0 stages) round.beside.runners due
-
+    (reached : AreReached core setting s stages) (round : IsRoundOf core setting s stages did) (spaces : ℕ → Space) (due : AllDue core s.tree spaces 0 stages (landed_state core s).runners) where
   no_group : BeginsGroup s.tree did → ⊥
   no_group begins =
       let some = reached.before.sound.some in
@@ -113,7 +110,7 @@ module _ (core : List CoreOp) (nestings : Nestings) (main : ℕ) (setting : Sett
       = first_is b.acting d.0.acting
       (sym b.at ∙ ap (λ l. slice_get l 0) (actors_are core nestings main setting s stages did list reached round) ∙ map_at (λ (x : Doing). x.acting) did 0 d.0 d.1) in
       let place : s.tree.places 0 ≡ 0 = begins.stand 0 (subst (λ (l : List ℕ). trees.is_member 0 l ≡ true) (sym reached.before.sound.root) (below-has setting.processors 0 [] (omega (arith, some)))) in
-      let x = first_due core s.tree spaces stages (map (landed_runner core) s.runners) (landed_runner core r.0) all_due at in
+      let x = first_due core s.tree spaces stages (map (landed_runner core) s.runners) (landed_runner core r.0) due at in
       let free : is_lockstep (trees.kind s.tree (s.tree.places 0)) ≡ false = ap (λ (n : ℕ). is_lockstep (trees.kind s.tree n)) place ∙ ap is_lockstep begins.kind in
       let does : DoesStep o.Begin d.0.acting.due = first_does did d.0 d.1 begins place in
       let does_too : DoesStep o.Begin b.acting.due = subst (λ (a : Acting Position). DoesStep o.Begin a.due) (sym same) does in
@@ -145,7 +142,7 @@ pub reached_stages_go_on : ReachedStagesGoOn
 reached_stages_go_on core nestings main setting s stages afters did spaces list space limit reached round due stay = (
   known core nestings main setting s stages did list reached round spaces due,
   reached_rounds_go_on core nestings main setting s stages afters did list space limit reached round
-      (had core s.tree spaces list.jumps 0 stages afters s.runners (all_due core nestings main setting s stages did list reached round spaces due) stay),
+      (had core s.tree spaces list.jumps 0 stages afters s.runners due stay),
 )
 
 -- ---- where all begin

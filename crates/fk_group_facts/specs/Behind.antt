@@ -1,21 +1,24 @@
 -- What is known behind a round of a machine, in the state that it leaves, as laws of machines that follow it ask it.
-use Rattle.std.specs.Prelude.{◌≡◌, ◌≢◌, ℕ, ◌≤◌, List, [], ◌∷◌, length, true, Option, Some, None}
+use Rattle.std.specs.Prelude.{◌≡◌, ◌≢◌, ℕ, ◌≤◌, List, [], ◌∷◌, ◌++◌, length, true, Option, Some, None}
 use Rattle.fk_space.specs.Space.{Space}
 use Rattle.fk_operation.specs.declared.operation.Operation.TheVariants.{Begin}
-use Rattle.fk_run.specs.Processor.{Setting}
+use Rattle.fk_run.specs.Processor.{Setting, setting_of}
 use Rattle.fk_run.specs.Round.{Runner, State, result, is_possible}
+use Rattle.fk_run.specs.Schedule.{Schedule, run, IsLawful}
 use Rattle.fk_core.specs.declared.op.CoreOp.{CoreOp}
-use Rattle.fk_core.specs.Next.{Position, next}
+use Rattle.fk_core.specs.Next.{Position, next, opening}
+use Rattle.fk_one_group.specs.Runs.{AreSingle}
 use Rattle.fk_nodes.specs.Source.{AllPass}
 use Rattle.fk_plans.specs.Stage.{Stage, counts_for, Pairwise, Remains}
 use Rattle.fk_block_law.specs.Owner.{Commons, Owner, Doing, core_source}
 use Rattle.fk_block_law.specs.Next.{StandsOp}
+use Rattle.fk_simulation.specs.InRange.{AreGiven}
 use Rattle.fk_group_law.specs.Node.{Nestings}
 use Rattle.fk_group_plans.specs.Rounds.{AllDue}
 use Rattle.fk_group_rounds.specs.Next.{JumpsLead, AllAbout}
-use Rattle.fk_group_rounds.specs.After.{runners_of, owners_after, ArePlaces, GroupsGoOn}
+use Rattle.fk_group_rounds.specs.After.{owners_after, ArePlaces, GroupsGoOn}
 use Rattle.fk_group_rounds.specs.Rounds.{IsTree, IsKnownRound}
-use Rattle.fk_group_runs.specs.Beside.{AreInOrder, IsBeside}
+use Rattle.fk_group_runs.specs.Beside.{landed_state, AreInOrder, IsBeside}
 use Rattle.fk_group_runs.specs.Homes.{AllNext}
 use Rattle.fk_group_facts.specs.Lists.{IsOfOneGroup}
 use Rattle.fk_group_facts.specs.Reached.{IsReached}
@@ -72,5 +75,16 @@ abbrev pub ReachedStagesGoOn : Type 0
 ReachedStagesGoOn =
     (core : List CoreOp) (nestings : Nestings) (main : ℕ) (setting : Setting) (s : State Position) (stages : List Stage) (afters : List (Option Stage)) (did : List Doing)
     (spaces : ℕ → Space) → IsOfOneGroup core nestings main → HasSpace setting → setting.processors ≤ 1024 → AreReached core setting s stages
-    → (round : IsRoundOf core setting s stages did) → AllDue core s.tree spaces 0 stages (runners_of round.ps) → Pairwise Remains stages afters
+    → IsRoundOf core setting s stages did → AllDue core s.tree spaces 0 stages (landed_state core s).runners → Pairwise Remains stages afters
     → IsKnownRound s.tree did × GoAhead core setting s stages nestings did afters
+
+-- in a run both states of its last round are reached
+abbrev pub RunsReachRounds : Type 0
+RunsReachRounds =
+    (core : List CoreOp) (nestings : Nestings) (main : ℕ) → IsOfOneGroup core nestings main
+    → (words firsts input : List ℕ) (p : ℕ) (schedule : Schedule) (stages : List Stage)
+    → let setting = setting_of p words input in
+    let first = opening main words firsts input p in
+    let s = run (next core) setting schedule first in
+    1 ≤ p → AreGiven words firsts input p → IsLawful (next core) setting (schedule ++ counts_for stages ∷ []) first → AreSingle schedule → is_possible (next core) setting (counts_for stages) s ≡ true
+    → IsReached core setting s × IsReached core setting (behind core setting s stages)

@@ -2,7 +2,7 @@
 
 ghost use Rattle.fk_group_facts.specs.Reached.{RunsReach};
 ghost use Rattle.fk_group_facts.specs.Begins.{UnitersBegin, ReachedBeginnersAreInRoot, ReachedBeginnersLandAtOneIndex, ReachedWaitersResume};
-ghost use Rattle.fk_group_facts.specs.Behind.{UnitedHadNext, ReachedRoundsGoOn, ReachedStagesGoOn};
+ghost use Rattle.fk_group_facts.specs.Behind.{UnitedHadNext, RunsReachRounds, ReachedRoundsGoOn, ReachedStagesGoOn};
 ghost use Rattle.fk_group_facts.specs.Facts.{ReachedTreesHaveSpaces, ReachedProcessorsHaveNext, ReachedGroupsHaveNext, ReachedRoundsAreKnown};
 ghost use Rattle.fk_group_facts.specs.Ready.{ReachedCyclesStayReady, ReachedStartsFindHeaders};
 
@@ -60,6 +60,13 @@ pub fn reached_beginners_land_at_one_index()
 pub fn reached_waiters_resume()
     ensures { ReachedWaitersResume }
 {}
+
+/// In a run both states of its last round are known so.
+pub fn runs_reach_rounds()
+    ensures { RunsReachRounds }
+{
+    runs_reach();
+}
 
 /// Behind a round of a machine the tree is sound and its nodes own words apart, and who has committed goes on, by itself and in its
 /// group.

@@ -23,7 +23,7 @@ count_single None = omega arith
 count_single (Some zero) = omega arith
 count_single (Some (suc d)) = omega arith
 
-pub counts_single : (stages : List Stage) → IsSingle (counts_for stages)
+counts_single : (stages : List Stage) → IsSingle (counts_for stages)
 counts_single [] h = omega arith
 counts_single (s ∷ stages) zero = count_single (distance s)
 counts_single (s ∷ stages) (suc h) = counts_single stages h
@@ -31,7 +31,7 @@ counts_single (s ∷ stages) (suc h) = counts_single stages h
 module _ (core : List CoreOp) (setting : Setting) where
   -- ---- rounds one after another
 
-  pub run_then : (schedule : Schedule) (round : Round) (s : State Position) → run (next core) setting (schedule ++ round ∷ []) s ≡ result (next core) setting round (run (next core) setting schedule s)
+  run_then : (schedule : Schedule) (round : Round) (s : State Position) → run (next core) setting (schedule ++ round ∷ []) s ≡ result (next core) setting round (run (next core) setting schedule s)
   run_then [] round s = refl
   run_then (r ∷ schedule) round s = run_then schedule round (result (next core) setting r s)
 
@@ -55,7 +55,7 @@ module _ (core : List CoreOp) (setting : Setting) where
   stopped_then (r ∷ []) round s all one = (all.0, inr one)
   stopped_then (r ∷ q ∷ schedule) round s all one = (all.0, stopped_then (q ∷ schedule) round (result (next core) setting r s) all.1 one)
 
-  pub single_then : (schedule : Schedule) (round : Round) → AreSingle schedule → IsSingle round → AreSingle (schedule ++ round ∷ [])
+  single_then : (schedule : Schedule) (round : Round) → AreSingle schedule → IsSingle round → AreSingle (schedule ++ round ∷ [])
   single_then [] round all one = (one, tt)
   single_then (r ∷ schedule) round all one = (all.0, single_then schedule round all.1 one)
 
