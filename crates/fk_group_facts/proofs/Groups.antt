@@ -27,12 +27,12 @@ use Rattle.fk_group_facts.specs.Facts.{ReachedGroupsHaveNext}
 use Rattle.fk_group_facts.proofs.Ways.{StepOf, ended_next}
 use Rattle.fk_group_facts.proofs.Nexts.{none_saved, leads_to, ready, does}
 
-runner_at : (ps : List Owner) (h : ℕ) (p : Owner) → slice_get ps h ≡ Some p → slice_get (runners_of ps) h ≡ Some p.runner
+pub runner_at : (ps : List Owner) (h : ℕ) (p : Owner) → slice_get ps h ≡ Some p → slice_get (runners_of ps) h ≡ Some p.runner
 runner_at [] h p at = absurd (cc)
 runner_at (q ∷ ps) zero p at = let e : q ≡ p = cc in ap (λ x. Some x.runner) e
 runner_at (q ∷ ps) (suc h) p at = runner_at ps h p at
 
-runners_length : (ps : List Owner) → length (runners_of ps) ≡ length ps
+pub runners_length : (ps : List Owner) → length (runners_of ps) ≡ length ps
 runners_length [] = refl
 runners_length (p ∷ ps) = ap suc (runners_length ps)
 

@@ -37,7 +37,7 @@ unit_le zero unit = omega arith
 unit_le (suc zero) unit = omega arith
 unit_le (suc (suc c)) unit = absurd unit
 
-units_single : (counts : List ℕ) → rounds.AreUnits counts → IsSingle counts
+pub units_single : (counts : List ℕ) → rounds.AreUnits counts → IsSingle counts
 units_single [] units h = omega arith
 units_single (c ∷ counts) units zero = unit_le c units.0
 units_single (c ∷ counts) units (suc h) = units_single counts units.1 h
@@ -107,7 +107,7 @@ module _ (core : List CoreOp) (leads : JumpsLead core) (setting : Setting) (s : 
   goes_landed place w goes zero = tt
   goes_landed place w goes (suc n) = subst (GoesNext (next core) (GoesFor (next core) n) place) (sym (next_landed core leads w)) (goes (suc n))
 
-  landed_at : (rs : List (Runner Position)) (h : ℕ) (r : Runner Position) → slice_get (map (landed_runner core) rs) h ≡ Some r
+  pub landed_at : (rs : List (Runner Position)) (h : ℕ) (r : Runner Position) → slice_get (map (landed_runner core) rs) h ≡ Some r
       → (before : Runner Position) × (slice_get rs h ≡ Some before) × (r ≡ landed_runner core before)
   landed_at [] h r at = absurd (cc)
   landed_at (q ∷ rs) zero r at = (q, refl, sym (first_is (landed_runner core q) r at))
@@ -117,7 +117,7 @@ module _ (core : List CoreOp) (leads : JumpsLead core) (setting : Setting) (s : 
   map_length [] = refl
   map_length (r ∷ rs) = ap suc (map_length rs)
 
-  one_program : HaveOneProgram (next core) s → HaveOneProgram (next core) (landed_state core s)
+  pub one_program : HaveOneProgram (next core) s → HaveOneProgram (next core) (landed_state core s)
   one_program one' n g h r q kind in_g in_h r_is q_is =
       let r' = landed_at s.runners g r r_is in
       let q' = landed_at s.runners h q q_is in
@@ -131,7 +131,7 @@ module _ (core : List CoreOp) (leads : JumpsLead core) (setting : Setting) (s : 
         size = t.size;
       }))
 
-  one_group : HasOneGroup (next core) setting s → HasOneGroup (next core) setting (landed_state core s)
+  pub one_group : HasOneGroup (next core) setting s → HasOneGroup (next core) setting (landed_state core s)
   one_group has = record {
     many = map_length s.runners ∙ has.many;
     tree = has.tree;
@@ -142,7 +142,7 @@ module _ (core : List CoreOp) (leads : JumpsLead core) (setting : Setting) (s : 
         (record { number_is = p.number_is; place = p.place; there = p.there; goes = goes_landed p.place b.0.left p.goes; levels = p.levels });
   }
 
-  possible_landed : (round : Round) → is_possible (next core) setting round s ≡ true → is_possible (next core) setting round (landed_state core s) ≡ true
+  pub possible_landed : (round : Round) → is_possible (next core) setting round s ≡ true → is_possible (next core) setting round (landed_state core s) ≡ true
   possible_landed round e =
       let fault : (result (next core) setting round (landed_state core s)).fault ≡ (result (next core) setting round s).fault
       = ap (λ (u : State Position). u.fault) (results_land core leads setting round s) in
@@ -173,7 +173,7 @@ module _ (core : List CoreOp) where
   owners_are number heaps (p ∷ ps) [] order same own = absurd (cc)
 
   -- they are those who stand before the steps of the tree
-  steppers : (setting : Setting) (stages : List Stage) (s : State Position) (ps : List Owner) (did : List Doing) (shared shared' : Commons) → AreInOrder 0 s.runners → IsBeside core s ps shared
+  pub steppers : (setting : Setting) (stages : List Stage) (s : State Position) (ps : List Owner) (did : List Doing) (shared shared' : Commons) → AreInOrder 0 s.runners → IsBeside core s ps shared
       → AllPass (core_source core setting) (counts_for stages) ps shared did shared' → stepping (next core) setting (counts_for stages) (landed_state core s) ≡ actings did
   steppers setting stages s ps did shared shared' order beside all =
       let round = counts_for stages in

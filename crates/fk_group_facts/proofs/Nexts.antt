@@ -25,6 +25,7 @@ use Rattle.fk_block_law.specs.Ready.{is_no_step, MayDo, IsInRange, IsReady}
 use Rattle.fk_group_law.specs.Node.{Nestings}
 use Rattle.fk_group_law.specs.Lockstep.{NoneSaved}
 use Rattle.fk_group_law.specs.Joint.{word_of}
+use Rattle.fk_group_law.specs.Start.{IsInRoot}
 use Rattle.fk_group_plans.specs.Nodes.{is_lockstep}
 use Rattle.fk_group_plans.specs.Rounds.{joint_at_word}
 use Rattle.fk_group_rounds.specs.Next.{landed, MayMeet, MayByItself, HasNext}
@@ -71,6 +72,18 @@ may_same operation r i x = x
 pub none_saved : (nestings : Nestings) → ((i : ℕ) → nestings.levels i ≡ 0) → (indices : List ℕ) → NoneSaved nestings indices
 none_saved nestings none [] = tt
 none_saved nestings none (i ∷ indices) = (none i, none_saved nestings none indices)
+
+pub root_levels : (core : List CoreOp) (nestings : Nestings) (setting : Setting) (p : Owner) → ((i : ℕ) → nestings.levels i ≡ 0) → HasLevels setting InRoot p.runner.has → IsInRoot nestings setting (landed core p)
+root_levels core nestings setting p none levels = record {
+  outer = levels.0;
+  level = record {
+    number = ap (λ (l : Level). l.number) levels.1;
+    rank = ap (λ (l : Level). l.rank) levels.1;
+    size = ap (λ (l : Level). l.size) levels.1;
+  };
+  space = ap (λ (l : Level). l.space) levels.1;
+  none = none_saved nestings none (landing core p.runner.left.at ∷ p.runner.left.callers);
+}
 
 module _ (core : List CoreOp) (nestings : Nestings) (main : ℕ) (setting : Setting) (s : State Position) (list : IsOfOneGroup core nestings main) (is : IsReached core setting s) where
   pub below : (h : ℕ) (r : Runner Position) → slice_get s.runners h ≡ Some r → h < setting.processors
@@ -132,16 +145,7 @@ module _ (core : List CoreOp) (nestings : Nestings) (main : ℕ) (setting : Sett
           root = none;
           kind = kind;
           member = subst (λ (n : ℕ). Has s.tree n h) none has;
-          in_root = record {
-            outer = levels.0;
-            level = record {
-              number = ap (λ (l : Level). l.number) levels.1;
-              rank = ap (λ (l : Level). l.rank) levels.1;
-              size = ap (λ (l : Level). l.size) levels.1;
-            };
-            space = ap (λ (l : Level). l.space) levels.1;
-            none = none_saved nestings list.levels (landing core r.left.at ∷ r.left.callers);
-          };
+          in_root = root_levels core nestings setting p list.levels levels;
         }))))
 
     by_place : (place : Where) → where_at s.tree h ≡ Some place → HasLevels setting place r.has → StepOf place operation → Next

@@ -106,6 +106,7 @@ runs_reach core nestings main list words firsts input p schedule some lawful sin
     record {
       sound = both.0.tree;
       one_program = both.0.members;
+      beginners = both.0.beginners;
       one_group = both.1;
       within = all_there core nestings main list words firsts input p schedule lawful single none;
       depth = λ h r op at stands. list.well_formed.depths words firsts input p schedule lawful none h r op at stands;

@@ -124,15 +124,14 @@ pub record Leading (core : List CoreOp) (w : Position) : Type 0 where
   pub at : StandsOp core (landing core w.at) op operation
   pub is_next : next core w ≡ Some (step_at core (landing core w.at) op operation w.callers)
 
+pub next_at : (core : List CoreOp) (w : Position) (op : CoreOp) (operation : Operation) → StandsOp core (landing core w.at) op operation → next core w ≡ Some (step_at core (landing core w.at) op operation w.callers)
+next_at core w op operation at = ap (step_of core (landing core w.at) w.callers) at.stands ∙ ap (step_by core (landing core w.at) w.callers op) at.is_read
+
 pub leading : (core : List CoreOp) → LeadsOn core → (w : Position) → w.at < length core → Leading core w
 leading core leads w lt =
     let is = leads w.at lt in
-    record {
-      op = is.op;
-      operation = is.operation;
-      at = record { stands = is.stands; no_jump = no_jump is.op is.operation is.is_read; is_read = is.is_read };
-      is_next = ap (step_of core (landing core w.at) w.callers) is.stands ∙ ap (step_by core (landing core w.at) w.callers is.op) is.is_read;
-    }
+    let at : StandsOp core (landing core w.at) is.op is.operation = record { stands = is.stands; no_jump = no_jump is.op is.operation is.is_read; is_read = is.is_read } in
+    record { op = is.op; operation = is.operation; at = at; is_next = next_at core w is.op is.operation at }
 
 pub ended_next : (core : List CoreOp) → next core (the_end core) ≡ None
 ended_next core =
@@ -165,11 +164,17 @@ within_return : (core : List CoreOp) (callers : List ℕ) → 0 < length callers
 within_return core [] lt all = absurd (omega (arith, lt))
 within_return core (i ∷ callers) lt all = record { at = All-head (λ j. j < length core) i callers all; callers = All-tail (λ j. j < length core) i callers all }
 
--- in the list, or at the end behind a halt
+-- in the list, but behind a halt
+pub stays_within : (core : List CoreOp) (nestings : Nestings) (main : ℕ) → IsOfOneGroup core nestings main → (i : ℕ) (op : CoreOp) (operation : Operation) (r : Runner Position) (onward : Bool)
+    → StandsOp core i op operation → MayDo operation r → Below core r.left.callers → operation ≢ o.Halt → IsWithin core (follows core operation i op.target r.left.callers onward)
+stays_within core nestings main list i op (o.Leave gives framed) r onward at may all ne = within_return core r.left.callers may all
+stays_within core nestings main list i op o.Halt r onward at may all ne = absurd (ne refl)
+stays_within core nestings main list i op operation r onward at may all ne =
+    within_callers core operation i op.target r.left.callers onward (list.within i op operation at refl onward) all
+
+-- or at the end behind that
 pub goes_within : (core : List CoreOp) (nestings : Nestings) (main : ℕ) → IsOfOneGroup core nestings main → (i : ℕ) (op : CoreOp) (operation : Operation) (r : Runner Position) (onward : Bool)
     → StandsOp core i op operation → MayDo operation r → Below core r.left.callers
     → IsWithin core (follows core operation i op.target r.left.callers onward) ⊎ (follows core operation i op.target r.left.callers onward ≡ the_end core)
-goes_within core nestings main list i op (o.Leave gives framed) r onward at may all = inl (within_return core r.left.callers may all)
 goes_within core nestings main list i op o.Halt r onward at may all = inr (ap (returned core) may)
-goes_within core nestings main list i op operation r onward at may all =
-    inl (within_callers core operation i op.target r.left.callers onward (list.within i op operation at refl onward) all)
+goes_within core nestings main list i op operation r onward at may all = inl (stays_within core nestings main list i op operation r onward at may all (λ e. cc))

@@ -1,3 +1,5 @@
 pub mod Lists
 pub mod Reached
 pub mod Facts
+pub mod Begins
+pub mod Behind

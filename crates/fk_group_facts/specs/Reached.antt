@@ -8,7 +8,7 @@ use Rattle.fk_run.specs.Schedule.{Schedule, run, IsLawful}
 use Rattle.fk_core.specs.declared.op.CoreOp.{CoreOp}
 use Rattle.fk_core.specs.Numbers.{operation_of}
 use Rattle.fk_core.specs.Next.{Position, position, landing, next, opening}
-use Rattle.fk_together.specs.OneProgram.{HaveOneProgram}
+use Rattle.fk_together.specs.OneProgram.{HaveOneProgram, BeginnersHaveOneProgram}
 use Rattle.fk_one_group.specs.Placed.{HasOneGroup}
 use Rattle.fk_one_group.specs.Runs.{AreSingle}
 use Rattle.fk_block_law.specs.Ready.{MayDo}
@@ -20,11 +20,12 @@ use Rattle.fk_group_facts.specs.Lists.{IsOfOneGroup}
 abbrev pub the_end : List CoreOp → Position
 the_end core = position (length core) []
 
--- what is known of a state: its groups have one program, there is one group at most, and each processor is in the list or at its
+-- what is known of a state: its groups have one program, and so have those who begin one; there is one group at most, and each processor is in the list or at its
 -- end, has as many values as its operation expects, and may do it
 pub record IsReached (core : List CoreOp) (setting : Setting) (s : State Position) : Type 0 where
   pub sound : IsSound setting.processors s.tree
   pub one_program : HaveOneProgram (next core) s
+  pub beginners : BeginnersHaveOneProgram (next core) s
   pub one_group : HasOneGroup (next core) setting s
   pub within : (h : ℕ) (r : Runner Position) → slice_get s.runners h ≡ Some r → IsWithin core r.left ⊎ (r.left ≡ the_end core)
   pub depth : (h : ℕ) (r : Runner Position) (op : CoreOp) → slice_get s.runners h ≡ Some r → slice_get core (landing core r.left.at) ≡ Some op

@@ -25,19 +25,12 @@ use Rattle.fk_together.specs.Course.{InGroup, Waits, ByItself, Parts, Does, Foll
 use Rattle.fk_together.proofs.Acting.{untrue, Here, Out, told, within, is_changing, Is, Grouped, Parted, Apart, AtNode, ahead_of, does_so, counts_so, going_on}
 use Rattle.fk_together.proofs.Trees.{NodeIs, IsThere, ThereAt, inv_same, turned_here, turned_inv, shrunk_here, shrunk_inv, parted_here, parted_behind, parted_inv}
 use Rattle.fk_together.proofs.Round.{first_is, who_is, lowest_member, settle as settle_of, new as new_of, quiet as quiet_of, has_at, Sound, Ordered, Moving, all_move, number_at, acting_length}
-use Rattle.fk_together.proofs.Changes.{Stage, low, mid, mids, there, first_stage, clash, moves, in_i, had, has, low_of, place_of, leaf as leaf_of, Allowed, allowed, brought, stage_after, step_of_none, first_same, one_of_none}
+use Rattle.fk_together.proofs.Changes.{Stage, low, mid, mids, there, first_stage, clash, moves, in_i, had, has, low_of, place_of, leaf as leaf_of, Allowed, allowed, brought, stage_after, step_of_none, first_same, one_of_none, lt_suc}
 use Rattle.fk_levels.specs.Frames.{is_none_round, AsDeep}
 use Rattle.fk_levels.proofs.Tiers.{Tier}
 use Rattle.fk_levels.proofs.Stands.{Tiers, all_of, At, InIt, Alone, GoOn, framed_so}
 use Rattle.fk_levels.proofs.Steps.{never_none, part_of, start_of, enters_part, enters_none, stays_in, leaves_part, opens_body, resumes_in, meets_in, starts_in, starts_out}
 use Rattle.fk_levels.proofs.Quiet.{head_of, RoundIs, Ordinary, Outer, Single, Levelled, actings as actings_of, now_keeps, now_has, now_levelled}
-
-lt_suc : (l i : ℕ) → l ≢ i → nat_lt l (suc i) ≡ nat_lt l i
-lt_suc l i ne =
-    ⊎_elim
-    (λ lt. let more : l < suc i = omega arith in lt-ltb l (suc i) more ∙ sym (lt-ltb l i lt))
-    (λ le. let more : suc i ≤ l = omega (arith, le, ne) in le-ltb l (suc i) more ∙ sym (le-ltb l i le))
-    (cases_lt l i)
 
 -- behind the parts of a split there is where the others wait
 module _ {W : Type 0} (next : W → Option (Step W)) (outs : W → List W) where

@@ -3,6 +3,5 @@ pub mod Stands
 pub mod Steps
 pub mod Quiet
 pub mod Changed
-pub mod Numbers
 pub mod Whole
 mod Example

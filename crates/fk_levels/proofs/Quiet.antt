@@ -1,34 +1,30 @@
 -- What becomes of the spaces and frames that nodes keep by all that is done in a round before the steps that change the tree.
-use Rattle.std.proofs.Common.{◌≡◌, ◌≢◌, ◌⊎◌, inl, inr, ⊎_elim, ℕ, zero, suc, ◌+◌, ◌<◌, ◌==◌, ◌&&◌, Bool, true, false, true≢false, List, [], ◌∷◌, length, slice_get, Option, Some, None, is_some, refl, sym, ap, ◌∙◌, subst, subst₂, arith, if◌then◌else◌}
-use Rattle.std.specs.Prelude.{slice_index, option_map, is_none}
-use Rattle.std.specs.List.{list_all}
-use Rattle.std.proofs.lemmas.Bool.{and_parts, eqb-true}
+use Rattle.std.proofs.Common.{◌≡◌, ◌≢◌, ◌⊎◌, inl, inr, ⊎_elim, ℕ, zero, suc, ◌<◌, Bool, true, false, true≢false, List, [], ◌∷◌, length, slice_get, Option, Some, None, is_some, refl, sym, ap, ◌∙◌, subst, subst₂, if◌then◌else◌}
+use Rattle.std.specs.Prelude.{slice_index, option_map}
 use Rattle.fk_operation.specs.Kinds.{class_of}
 use Rattle.fk_operation.specs.declared.operation.Operation.{Operation}
 use Rattle.fk_operation.specs.declared.operation.Operation.TheVariants as o
 use Rattle.fk_operation.specs.declared.kinds.Class.{Class}
 use Rattle.fk_operation.specs.declared.kinds.Class.TheVariants as class
-use Rattle.fk_operation.specs.declared.kinds.Joint.{Joint}
 use Rattle.fk_tree.specs.declared.node.Kind.{Kind}
 use Rattle.fk_tree.specs.declared.node.Kind.TheVariants.{Lockstep, Waiting, Asynchronous}
 use Rattle.fk_tree.specs.Tree as t
-use Rattle.fk_tree.specs.Tree.{Tree, members, parent, kind, is_member}
+use Rattle.fk_tree.specs.Tree.{Tree, members, parent, kind}
 use Rattle.fk_tree.specs.Sound.{Has, awaits}
 use Rattle.fk_tree.proofs.Shapes.{has_some}
-use Rattle.fk_tree.proofs.Turns.{leaf_by, idle-lockstep}
 use Rattle.fk_run.specs.Processor.{Processor, Setting, values, last}
 use Rattle.fk_run.specs.Local.{local, is_onward}
 use Rattle.fk_run.specs.Request.{with_answer}
 use Rattle.fk_run.specs.Group.{does}
-use Rattle.fk_run.specs.Round.{Step, Runner, State, Round, Acting, taking, done, joint_at, do_local, fits_kind, fits, all_fit, lowest, agreed, local_phase, after_locals, begin, begin_all, asking, may_act, all_may_act, result, is_allowed, is_possible}
+use Rattle.fk_run.specs.Round.{Step, Runner, State, Round, Acting, taking, done, do_local, lowest, agreed, local_phase, after_locals, is_possible}
 use Rattle.fk_lockstep.specs.Untouched.{changes_tree}
-use Rattle.fk_lockstep.proofs.Rounds.{Outcome, begin_at, map_at, asked_at}
-use Rattle.fk_lockstep.proofs.Moves.{local_number}
+use Rattle.fk_lockstep.proofs.Rounds.{Outcome}
 use Rattle.fk_together.specs.Counts.{Counts}
 use Rattle.fk_together.specs.Course.{Stand, InGroup, ByItself, Does, FollowsFor}
 use Rattle.fk_together.proofs.Acting.{untrue, Here, Out, told, HasValue, Is, within, Grouped, Parted, LonerOrNone, Apart, AtNode, ahead_of, does_so, going_on, taken_by, acting_elim, after_passing, passing_grouped, passing_is, closed_grouped, closed_is, quietly, lone_many, wait_many, wait_closed, Settles, plain_way}
-use Rattle.fk_together.proofs.Trees.{NodeIs, IsThere, Inv, leaf_place}
-use Rattle.fk_together.proofs.Round.{first_is, all_at, lowest_member, index_at, some_at, actings as actings_of, settle as settle_of, new as new_of, has_at, Sound, Ordered, no_fault, quiet as quiet_of, now_has as now_has_of}
+use Rattle.fk_together.proofs.Trees.{NodeIs, IsThere, Inv}
+use Rattle.fk_together.proofs.Round as rounds
+use Rattle.fk_together.proofs.Round.{first_is, lowest_member, index_at, actings as actings_of, settle as settle_of, new as new_of, has_at, Sound, Ordered, quiet as quiet_of, now_has as now_has_of}
 use Rattle.fk_levels.specs.Frames.{Leaves, calling}
 use Rattle.fk_levels.proofs.Tiers.{Tier, plain_own}
 use Rattle.fk_levels.proofs.Stands.{Tiers, all_of, with_own, local_own, request_own, Marks, InIt, Alone, marked_of, GoOn, framed_so, in_local, in_request, in_plain, alone_local, alone_request, alone_plain, local_plain, local_not_tree, request_not_tree}
@@ -340,119 +336,27 @@ module _ {W : Type 0} (next : W → Option (Step W)) (outs : W → List W) (coun
   Levelled tree has keeps round_it =
       Inv all_of (Ordinary next outs counts depth set) (Outer next outs counts depth set) (Single next outs counts depth set) (InIt next outs depth) p tree has keeps round_it
 
-  -- what a processor does with its count
-  abbrev asked : ℕ → Runner W → Acting W
-  asked count r = let a = begin next set count r in local_phase next set a a.due
+  -- what each processor does
+  abbrev Acts : ℕ → Type 0
+  Acts h = rounds.Acts next outs counts set round s p here behind inv ordered possible h
 
-  record Acts (h : ℕ) : Type 0 where
-    runner : Runner W
-    is : slice_get s.runners h ≡ Some runner
-    count : ℕ
-    counted : slice_get round h ≡ Some count
-    acting : Acting W
-    at : slice_get actings h ≡ Some acting
-    comes : Outcome (asked count runner) (asked count runner).due acting
+  abbrev acts : (h : ℕ) → h < p → Acts h
+  acts h lt = rounds.acts next outs counts set round s p here behind inv ordered possible h lt
 
-  counts_there : (round' : Round) (rs : List (Runner W)) → all_may_act next set round' rs ≡ true → length round' ≡ length rs
-  counts_there [] [] e = refl
-  counts_there (c ∷ round') (r ∷ rs) e = ap (λ (n : ℕ). suc n) (counts_there round' rs (and_parts (may_act next set c r) (all_may_act next set round' rs) e).1)
-  counts_there [] (r ∷ rs) e = untrue e
-  counts_there (c ∷ round') [] e = untrue e
-
-  allowed : is_allowed next set round s ≡ true
-  allowed =
-      let both = and_parts (is_none s.fault && is_allowed next set round s) (is_none (result next set round s).fault) possible in
-      (and_parts (is_none s.fault) (is_allowed next set round s) both.0).1
-
-  may_all : all_may_act next set round s.runners ≡ true
-  may_all = (and_parts (all_may_act next set round s.runners) (all_fit round (joint_at (begin_all next set round s.runners)) s.tree 0 round) allowed).0
-
-  fit_all : all_fit round (joint_at (begin_all next set round s.runners)) s.tree 0 round ≡ true
-  fit_all = (and_parts (all_may_act next set round s.runners) (all_fit round (joint_at (begin_all next set round s.runners)) s.tree 0 round) allowed).1
-
-  acts : (h : ℕ) → h < p → Acts h
-  acts h lt =
-      let size = counts_there round s.runners may_all in
-      let many = ordered.many in
-      let r = some_at s.runners h (omega (arith, many, lt)) in
-      let c = some_at round h (omega (arith, many, size, lt)) in
-      let there = map_at (λ (a : Acting W). local_phase next set a a.due) (begin_all next set round s.runners) h (begin next set c.0 r.0)
-      (begin_at next set round s.runners h c.0 r.0 c.1 r.1) in
-      let passing = asked_at 0 (asking next set round s.runners) s.store h (asked c.0 r.0) (no_fault next outs counts set round s p here behind inv ordered possible) there in
-      record { runner = r.0; is = r.1; count = c.0; counted = c.1; acting = passing.acting; at = passing.at; comes = passing.comes }
-
-  idles : (h : ℕ) (a : Acts h) → a.count ≡ 0 → a.acting ≡ taking a.runner None
-  idles h a e = subst (λ (c : ℕ). Outcome (asked c a.runner) (asked c a.runner).due a.acting) e a.comes
+  abbrev idles : (h : ℕ) (a : Acts h) → a.count ≡ 0 → a.acting ≡ taking a.runner None
+  idles h a e = rounds.idles next outs counts set round s p here behind inv ordered possible h a e
 
   abbrev q_of : (h : ℕ) (a : Acts h) (c : ℕ) → Runner W
   q_of h a c = after_locals next set c a.runner
 
-  one_number : (r : Runner W) (due : Option (Step W)) → (local_phase next set (taking r due) due).runner.has.number ≡ r.has.number
-  one_number r None = refl
-  one_number r (Some step) = by (class_of step.operation)
-    where
-      by : (c : Class) → (do_local next set (taking r (Some step)) c step).runner.has.number ≡ r.has.number
-      by class.Local = local_number set step.operation r.has
-      by class.Request = refl
-      by class.Tree = refl
+  abbrev q_number : (h : ℕ) (a : Acts h) (c : ℕ) → (q_of h a c).has.number ≡ h
+  q_number h a c = rounds.q_number next outs counts set round s p here behind inv ordered possible h a c
 
-  locals_number : (count : ℕ) (r : Runner W) → (after_locals next set count r).has.number ≡ r.has.number
-  locals_number zero r = refl
-  locals_number (suc c) r = locals_number c (local_phase next set (taking r (next r.left)) (next r.left)).runner ∙ one_number r (next r.left)
+  abbrev takes : (h : ℕ) (a : Acts h) (c : ℕ) → a.count ≡ suc c → Outcome (taken_by next outs counts set (q_of h a c)) (taken_by next outs counts set (q_of h a c)).due a.acting
+  takes h a c e = rounds.takes next outs counts set round s p here behind inv ordered possible h a c e
 
-  q_number : (h : ℕ) (a : Acts h) (c : ℕ) → (q_of h a c).has.number ≡ h
-  q_number h a c = locals_number c a.runner ∙ ordered.numbers h a.runner a.is
-
-  takes : (h : ℕ) (a : Acts h) (c : ℕ) → a.count ≡ suc c → Outcome (taken_by next outs counts set (q_of h a c)) (taken_by next outs counts set (q_of h a c)).due a.acting
-  takes h a c e = subst (λ (c' : ℕ). Outcome (asked c' a.runner) (asked c' a.runner).due a.acting) e a.comes
-
-  cases_count : (c : ℕ) → (c ≡ 0) ⊎ ((d : ℕ) × (c ≡ suc d))
-  cases_count zero = inl refl
-  cases_count (suc d) = inr (d, refl)
-
-  -- the counts of a group in lockstep
-  fit_at : (does_at : ℕ → Joint) (tree : Tree) (cs : List ℕ) (h j c : ℕ) → all_fit round does_at tree h cs ≡ true → slice_get cs j ≡ Some c
-      → fits round does_at tree (h + j) c ≡ true
-  fit_at does_at tree [] h j c e at = absurd (cc)
-  fit_at does_at tree (d ∷ cs) h zero c e at =
-      let same : d ≡ c = cc in
-      let zero_more : h ≡ h + 0 = omega arith in
-      subst₂ (λ (i d' : ℕ). fits round does_at tree i d' ≡ true) zero_more same (and_parts (fits round does_at tree h d) (all_fit round does_at tree (suc h) cs) e).0
-  fit_at does_at tree (d ∷ cs) h (suc j) c e at =
-      let next_one : suc h + j ≡ h + suc j = omega arith in
-      subst (λ (i : ℕ). fits round does_at tree i c ≡ true) next_one
-      (fit_at does_at tree cs (suc h) j c (and_parts (fits round does_at tree h d) (all_fit round does_at tree (suc h) cs) e).1 at)
-
-  abbrev joints : ℕ → Joint
-  joints = joint_at (begin_all next set round s.runners)
-
-  module _ (n : ℕ) (locked : kind s.tree n ≡ Some Lockstep) where
-    group_place : (h : ℕ) → Has s.tree n h → s.tree.places h ≡ n
-    group_place h is =
-        leaf_place (told {W = W}) (Grouped next outs counts) (Parted next outs counts) (Apart next outs counts) (Is next outs counts) p s.tree (has_at next outs counts set round s) here behind inv n
-        (leaf_by p n Lockstep s.tree inv.sound idle-lockstep locked) h is
-
-    with_one : (g h : ℕ) (a : Acts g) (b : Acts h) → Has s.tree n g → Has s.tree n h → (c : ℕ) → a.count ≡ suc c → b.count ≡ suc c
-    with_one g h a b in_g in_h c e =
-        let zero_more : 0 + g ≡ g = omega arith in
-        let fit : fits round joints s.tree g a.count ≡ true
-        = subst (λ (i : ℕ). fits round joints s.tree i a.count ≡ true) zero_more (fit_at joints s.tree round 0 g a.count fit_all a.counted) in
-        let whole : list_all (λ m. slice_index round m == slice_index round g) (members s.tree n) ≡ true
-        = subst (λ (o' : Option Kind). fits_kind round joints s.tree g n o' ≡ true) locked
-        (subst (λ (m : ℕ). fits_kind round joints s.tree g m (kind s.tree m) ≡ true) (group_place g in_g)
-        (subst (λ (c' : ℕ). fits round joints s.tree g c' ≡ true) e fit)) in
-        let equal : slice_index round h ≡ slice_index round g = eqb-true (slice_index round h) (slice_index round g) (all_at (λ m. slice_index round m == slice_index round g) (members s.tree n) h whole in_h) in
-        sym (index_at round h b.count b.counted) ∙ equal ∙ index_at round g a.count a.counted ∙ e
-
-    one_count : (g h : ℕ) (a : Acts g) (b : Acts h) → Has s.tree n g → Has s.tree n h → b.count ≡ a.count
-    one_count g h a b in_g in_h =
-        ⊎_elim
-        (λ none. ⊎_elim
-        (λ none'. none' ∙ sym none)
-        (λ d. let e : a.count ≡ suc d.0 = with_one h g b a in_h in_g d.0 d.1 in let clash : suc d.0 ≡ 0 = sym e ∙ none in absurd (omega (arith, clash)))
-        (cases_count b.count))
-        (λ d. with_one g h a b in_g in_h d.0 d.1 ∙ sym d.1)
-        (cases_count a.count)
+  abbrev cases_count : (c : ℕ) → (c ≡ 0) ⊎ ((d : ℕ) × (c ≡ suc d))
+  cases_count c = rounds.cases_count next outs counts set round s p here behind inv ordered possible c
 
   abbrev value : ℕ → ℕ
   value n = agreed actings (members s.tree n)
@@ -522,7 +426,7 @@ module _ {W : Type 0} (next : W → Option (Step W)) (outs : W → List W) (coun
         let l = lowest (members s.tree n) in
         let in_l : Has s.tree n l = lowest_member h (members s.tree n) in_h in
         let b = acts l (inv.sound.within n l in_l) in
-        let same : a.count ≡ slice_index round l = one_count n locked l h b a in_l in_h ∙ sym (index_at round l b.count b.counted) in
+        let same : a.count ≡ slice_index round l = rounds.one_count next outs counts set round s p here behind inv ordered possible n locked l h b a in_l in_h ∙ sym (index_at round l b.count b.counted) in
         counted_in n h a place g is f (slice_index round l) same
 
     wait_in : (n h : ℕ) (a : Acts h) → Parted next outs counts n (behind n) (here n) → Is next outs counts (here n) a.runner → InIt next outs depth (keeps n) a.runner → InIt next outs depth (keeps n) (hushed a.acting)

@@ -6,15 +6,13 @@ use Rattle.fk_num.specs.Word.{Memory}
 use Rattle.fk_tree.specs.declared.node.Kind.{Kind}
 use Rattle.fk_tree.specs.declared.node.Kind.TheVariants.{Lockstep, Waiting, Asynchronous}
 use Rattle.fk_tree.specs.Tree as t
-use Rattle.fk_tree.specs.Tree.{Tree, members, kind, is_member, below, root, node_of}
+use Rattle.fk_tree.specs.Tree.{Tree, members, kind, root}
 use Rattle.fk_tree.specs.Sound.{Has}
-use Rattle.fk_tree.proofs.Shapes.{with_same, with_other, has_some, kind-node_of}
 use Rattle.fk_tree.proofs.RootSound.{root_sound}
 use Rattle.fk_tree.proofs.Turns.{leaf_by, idle-lockstep}
 use Rattle.fk_run.specs.Processor.{Level, Processor, Setting, setting_of, group_space}
-use Rattle.fk_run.specs.Round.{Step, Runner, Fault, State, Round, Acting, lowest, tree_phase, result, is_possible, IsStopped}
+use Rattle.fk_run.specs.Round.{Step, Runner, Fault, State, Round, Acting, lowest, tree_phase, result, is_possible}
 use Rattle.fk_run.specs.Schedule.{Schedule, beginners, opening, run, ArePossible}
-use Rattle.fk_run.proofs.Stopped.{stopped_faults}
 use Rattle.fk_lockstep.specs.Together.{SameLevels}
 use Rattle.fk_lockstep.proofs.Rounds.{settled_at}
 use Rattle.fk_together.specs.Counts.{Counts, ArePending, IsCounted}
@@ -30,7 +28,6 @@ use Rattle.fk_levels.specs.OneSpace.{HaveSameLevels, spaces_of, MembersHaveOneSp
 use Rattle.fk_levels.proofs.Tiers.{Tier, own_of, spaces_in}
 use Rattle.fk_levels.proofs.Stands.{Tiers, all_of, spaces_of as spaces_by, At, InIt, marked_of}
 use Rattle.fk_levels.proofs.Quiet.{Ordinary, Outer, Single}
-use Rattle.fk_levels.proofs.Numbers.{does_number}
 use Rattle.fk_levels.proofs.Changed.{Tiered, last_tiered}
 
 -- numbers, sizes and spaces are all that levels have, but `$`
@@ -172,7 +169,7 @@ module _ {W : Type 0} (next : W → Option (Step W)) (outs : W → List W) (coun
 
     settled_number : (r : Runner W) (due : Option (Step W)) → (settle r due).has.number ≡ r.has.number
     settled_number r None = refl
-    settled_number r (Some step) = does_number step.operation _ _ r.has
+    settled_number r (Some step) = together.does_number step.operation _ _ r.has
 
     last : Tiered next outs counts depth set round s p good.here good.behind good.inv ordered possible good.keeps good.round_it good.levels p after.tree
     last = last_tiered next outs counts depth set round s p good.here good.behind good.inv ordered possible good.keeps good.round_it good.levels
@@ -200,14 +197,10 @@ module _ {W : Type 0} (next : W → Option (Step W)) (outs : W → List W) (coun
     good_round : Good p (result next set round s)
     good_round = subst (Good p) (sym result_is) good_after
 
-  -- a stopped round has a fault
-  not_stopped : {A : Type 0} (round : Round) (s : State W) → IsStopped next set round s → (result next set round s).fault ≡ None → A
-  not_stopped round s stopped none = let clash : Some stopped.fault ≡ None = sym (stopped_faults next set round s stopped) ∙ none in absurd (cc)
-
   good_run : (schedule : Schedule) (p : ℕ) (s : State W) → Good p s → ArePossible next set schedule s → (run next set schedule s).fault ≡ None → Good p (run next set schedule s)
   good_run [] p s good possible none = good
   good_run (round ∷ []) p s good possible none =
-      ⊎_elim (λ is. good_round round s p good is) (λ stopped. not_stopped round s stopped none) possible
+      ⊎_elim (λ is. good_round round s p good is) (λ stopped. together.not_stopped next outs counts set round s stopped none) possible
   good_run (round ∷ other ∷ schedule) p s good possible none =
       good_run (other ∷ schedule) p (result next set round s) (good_round round s p good possible.0) possible.1 none
 
@@ -258,15 +251,10 @@ module _ {W : Type 0} (next : W → Option (Step W)) (outs : W → List W) (coun
     none_round n = []
 
     only_root : (n : ℕ) → n ≢ 0 → (root processors).nodes n ≡ None
-    only_root n ne = with_other 0 (node_of (below processors []) 0 (Asynchronous false)) (λ i. None) n ne
+    only_root n ne = together.only_root next outs counts program follows none counted processors globals input firsts some n ne
 
     root_kind : kind (root processors) 0 ≡ Some (Asynchronous false)
-    root_kind =
-        let sound = root_sound processors some in
-        let there = has_some (root processors) 0 0 (sound.placed 0 (omega (arith, some))).member in
-        let same : (root processors).nodes 0 ≡ node_of (below processors []) 0 (Asynchronous false)
-        = with_same 0 (node_of (below processors []) 0 (Asynchronous false)) (λ i. None) 0 refl in
-        ap t.kind_of same ∙ kind-node_of (below processors []) 0 (Asynchronous false) (λ none'. there (same ∙ none'))
+    root_kind = together.root_kind next outs counts program follows none counted processors globals input firsts some
 
     begins_at : (h : ℕ) (r : Runner W) → slice_get start.runners h ≡ Some r → Beginner setting program (0 + h) r
     begins_at h r e = beginner_at setting firsts program 0 processors h r e

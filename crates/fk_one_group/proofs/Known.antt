@@ -138,7 +138,7 @@ module _ {W : Type 0} (next : W → Option (Step W)) (set : Setting) (round : Ro
   abbrev pub actors : List (Acting W)
   actors = stepping next set round s
 
-  abbrev dues : ℕ → Joint
+  abbrev pub dues : ℕ → Joint
   dues = does_at next set round s is.single is.possible
 
   pub act : (h : ℕ) → h < set.processors → Act h

@@ -8,6 +8,10 @@ pub mod Known
 pub mod Trees
 -- and of those who take it
 pub mod After
+-- which groups are in a round
+pub mod Taken
+-- those who wait
+pub mod Waiters
 -- the beginning
 pub mod Opening
 -- whole runs

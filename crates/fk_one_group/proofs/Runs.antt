@@ -81,11 +81,11 @@ get-left (x ∷ xs) ys zero lt = refl
 get-left (x ∷ xs) ys (suc k) lt = get-left xs ys k (omega (arith, lt))
 
 module _ {W : Type 0} (next : W → Option (Step W)) (set : Setting) where
-  run-append : (xs ys : Schedule) (s : State W) → run next set (xs ++ ys) s ≡ run next set ys (run next set xs s)
+  pub run-append : (xs ys : Schedule) (s : State W) → run next set (xs ++ ys) s ≡ run next set ys (run next set xs s)
   run-append [] ys s = refl
   run-append (round ∷ xs) ys s = run-append xs ys (result next set round s)
 
-  pace_before : (xs ys : Schedule) (s : State W) → KeepsPace next set (xs ++ ys) s → KeepsPace next set xs s
+  pub pace_before : (xs ys : Schedule) (s : State W) → KeepsPace next set (xs ++ ys) s → KeepsPace next set xs s
   pace_before xs ys s pace h t le could =
       let long = length-append xs ys in
       let found = pace h t (omega (arith, long, le))
@@ -98,7 +98,7 @@ module _ {W : Type 0} (next : W → Option (Step W)) (set : Setting) where
   AllPossible [] s = Unit {0}
   AllPossible (round ∷ schedule) s = (is_possible next set round s ≡ true) × AllPossible schedule (result next set round s)
 
-  all_are : (schedule : Schedule) (s : State W) → AllPossible schedule s → ArePossible next set schedule s
+  pub all_are : (schedule : Schedule) (s : State W) → AllPossible schedule s → ArePossible next set schedule s
   all_are [] s all = tt
   all_are (r ∷ []) s all = inl all.0
   all_are (r ∷ q ∷ schedule) s all = (all.0, all_are (q ∷ schedule) (result next set r s) all.1)
@@ -112,7 +112,7 @@ module _ {W : Type 0} (next : W → Option (Step W)) (set : Setting) where
   are_all (r ∷ []) s possible none = (⊎_elim (λ e. e) (λ stopped. not_stopped r s stopped none) possible, tt)
   are_all (r ∷ q ∷ schedule) s possible none = (possible.0, are_all (q ∷ schedule) (result next set r s) possible.1 none)
 
-  possible_before : (xs ys : Schedule) (s : State W) → AllPossible (xs ++ ys) s → AllPossible xs s
+  pub possible_before : (xs ys : Schedule) (s : State W) → AllPossible (xs ++ ys) s → AllPossible xs s
   possible_before [] ys s all = tt
   possible_before (r ∷ xs) ys s all = (all.0, possible_before xs ys (result next set r s) all.1)
 
@@ -124,7 +124,7 @@ module _ {W : Type 0} (next : W → Option (Step W)) (set : Setting) where
   none_of None e = refl
   none_of (Some f) e = absurd (false≢true e)
 
-  running : (round : Round) (s : State W) → is_possible next set round s ≡ true → s.fault ≡ None
+  pub running : (round : Round) (s : State W) → is_possible next set round s ≡ true → s.fault ≡ None
   running round s e =
       let both = and_parts (is_none s.fault && is_allowed next set round s) (is_none (result next set round s).fault) e in
       none_of s.fault (and_parts (is_none s.fault) (is_allowed next set round s) both.0).0

@@ -3,6 +3,7 @@ use Rattle.std.specs.Prelude.{◌≡◌, ◌≢◌, ℕ, zero, suc, ◌≤◌, B
 use Rattle.fk_num.specs.Word.{Memory}
 use Rattle.fk_tree.specs.declared.node.Kind.{Kind}
 use Rattle.fk_tree.specs.declared.node.Kind.TheVariants.{Lockstep, Waiting, Asynchronous}
+use Rattle.fk_operation.specs.declared.operation.Operation.TheVariants.{Resume}
 use Rattle.fk_tree.specs.Tree as t
 use Rattle.fk_tree.specs.Tree.{Tree, is_member}
 use Rattle.fk_run.specs.Processor.{Processor, Setting, setting_of, group_space}
@@ -61,3 +62,9 @@ abbrev pub OpeningsHaveNoGroup : (W : Type 0) → Type 0
 OpeningsHaveNoGroup W =
     (next : W → Option (Step W)) (program : W) (processors : ℕ) (globals input : List ℕ) (firsts : Memory) → 1 ≤ processors → Goes next InRoot program
     → HasOneGroup next (setting_of processors globals input) (opening processors globals input firsts program)
+
+-- who waits for the group of a `start` is about to go on behind it
+abbrev pub WaitersResume : (W : Type 0) → Type 0
+WaitersResume W =
+    (next : W → Option (Step W)) (set : Setting) (s : State W) (h first parts : ℕ) (r : Runner W) (step : Step W) → HasOneGroup next set s
+    → t.kind s.tree (s.tree.places h) ≡ Some (Waiting first parts) → slice_get s.runners h ≡ Some r → next r.left ≡ Some step → step.operation ≡ Resume

@@ -1,5 +1,8 @@
 -- Rounds of programs with one group at a time.
-use Rattle.std.specs.Prelude.{◌≡◌, ℕ, ◌≤◌, List, true, Option, slice_index}
+use Rattle.std.specs.Prelude.{◌≡◌, ℕ, ◌≤◌, List, true, Option, Some, slice_index, ◌⊎◌}
+use Rattle.fk_tree.specs.declared.node.Kind.TheVariants.{Lockstep}
+use Rattle.fk_tree.specs.Tree as t
+use Rattle.fk_tree.specs.Tree.{is_member}
 use Rattle.fk_tree.specs.Sound.{IsSound}
 use Rattle.fk_run.specs.Processor.{Setting}
 use Rattle.fk_run.specs.Round.{Step, State, Round, Acting, all_requests, asking, result, is_possible}
@@ -31,3 +34,15 @@ RoundsAreKnown W =
 abbrev pub RoundsKeepOneGroup : (W : Type 0) → Type 0
 RoundsKeepOneGroup W =
     (next : W → Option (Step W)) (set : Setting) (round : Round) (s : State W) → IsRound next set round s → HasOneGroup next set (result next set round s)
+
+-- processors have this count in a round
+abbrev pub HaveCount : Round → (members : List ℕ) → (count : ℕ) → Type 0
+HaveCount round members count = (h : ℕ) → is_member h members ≡ true → slice_index round h ≡ count
+
+-- of a group that is in lockstep behind it, all were in the round, or none
+abbrev pub RoundsTakeGroups : (W : Type 0) → Type 0
+RoundsTakeGroups W =
+    (next : W → Option (Step W)) (set : Setting) (round : Round) (s : State W) (g : ℕ)
+    → let behind = (result next set round s).tree in
+    IsRound next set round s → IsSound set.processors behind → t.kind behind g ≡ Some Lockstep
+    → HaveCount round (t.members behind g) 1 ⊎ HaveCount round (t.members behind g) 0

@@ -247,7 +247,7 @@ module _ {W : Type 0} (next : W → Option (Step W)) (outs : W → List W) (coun
   alone_stays F true op w rest c is isnt h = h
   alone_stays F false op w rest c is isnt h = h
 
-  alone_plain : (F : Stand → W → Type 0) (alone : Bool) (op : Operation) (w : W) (rest : Bool → W) → changes_tree op ≡ false → op ≢ o.Halt
+  pub alone_plain : (F : Stand → W → Type 0) (alone : Bool) (op : Operation) (w : W) (rest : Bool → W) → changes_tree op ≡ false → op ≢ o.Halt
       → Does next outs F (ByItself alone) op w rest → Stays next outs F (ByItself alone) w rest
   alone_plain F true o.Begin w rest e isnt h = absurd h
   alone_plain F false o.Begin w rest e isnt h = absurd (true≢false e)

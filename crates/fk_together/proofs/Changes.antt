@@ -104,7 +104,7 @@ never_none : {A : Type 0} (b : Bool) → ◌≡◌ {A = Option ℕ} (if b then S
 never_none true e = absurd (cc)
 never_none false e = absurd (cc)
 
-lt_suc : (l i : ℕ) → l ≢ i → nat_lt l (suc i) ≡ nat_lt l i
+pub lt_suc : (l i : ℕ) → l ≢ i → nat_lt l (suc i) ≡ nat_lt l i
 lt_suc l i ne =
     ⊎_elim
     (λ lt. let more : l < suc i = omega arith in lt-ltb l (suc i) more ∙ sym (lt-ltb l i lt))
@@ -279,7 +279,7 @@ module _ {W : Type 0} (next : W → Option (Step W)) (outs : W → List W) (coun
       ap (λ (c : Bool). if c && not gone then b.runner else settle b.runner b.due) e
       ∙ sym (ap (λ (c : Bool). if c && not gone' then b.runner else settle b.runner b.due) e)
 
-  at_mid : (h : ℕ) (b : Acting W) (gone : Bool) → slice_get actings h ≡ Some b → option_map (mid gone) (slice_get actings h) ≡ Some (mid gone b)
+  pub at_mid : (h : ℕ) (b : Acting W) (gone : Bool) → slice_get actings h ≡ Some b → option_map (mid gone) (slice_get actings h) ≡ Some (mid gone b)
   at_mid h b gone at = ap (option_map (mid gone)) at
 
   pub there : (h : ℕ) → h < p → (b : Acting W) × (slice_get actings h ≡ Some b)
@@ -325,7 +325,7 @@ module _ {W : Type 0} (next : W → Option (Step W)) (outs : W → List W) (coun
         let place : s.tree.places i ≡ n = ap s.tree.places (sym low_h) ∙ m.place in
         absurd (quiet changing' (ap (λ (k : ℕ). lowest (members s.tree k)) place ∙ low_h))
 
-    still : (h : ℕ) → h < p → mids (suc i) h ≡ mids i h
+    pub still : (h : ℕ) → h < p → mids (suc i) h ≡ mids i h
     still h lt =
         let b = there h lt in
         ⊎_elim
@@ -394,19 +394,19 @@ module _ {W : Type 0} (next : W → Option (Step W)) (outs : W → List W) (coun
         (st.inv.sound.placed h lt').own m ne (up ∙ sym (place_of h (had h in_n))) found.1
 
     -- a member before and after
-    record Moved (h : ℕ) (r' : Runner W) : Type 0 where
-      before : Runner W
-      was : mids i h ≡ Some before
-      known : who actings h ≡ before.has
-      number : before.has.number ≡ h
-      step' : Step W
-      stands : next before.left ≡ Some step'
-      same : step'.operation ≡ op
-      left : r'.left ≡ step'.rest (goes_onward op value i before.has)
-      size : ℕ
-      has : r'.has ≡ does op value size before.has
+    pub record Moved (h : ℕ) (r' : Runner W) : Type 0 where
+      pub before : Runner W
+      pub was : mids i h ≡ Some before
+      pub known : who actings h ≡ before.has
+      pub number : before.has.number ≡ h
+      pub step' : Step W
+      pub stands : next before.left ≡ Some step'
+      pub same : step'.operation ≡ op
+      pub left : r'.left ≡ step'.rest (goes_onward op value i before.has)
+      pub size : ℕ
+      pub has : r'.has ≡ does op value size before.has
 
-    moved : (h : ℕ) (r' : Runner W) → Has tree n h → mids (suc i) h ≡ Some r' → Moved h r'
+    pub moved : (h : ℕ) (r' : Runner W) → Has tree n h → mids (suc i) h ≡ Some r' → Moved h r'
     moved h r' is e =
         let m = moves h (had h is) in
         let b = m.acting in
@@ -452,7 +452,7 @@ module _ {W : Type 0} (next : W → Option (Step W)) (outs : W → List W) (coun
             ap (λ (m : ℕ). does u.operation (agreed actings (members s.tree m)) size' r.has) place'
             ∙ ap (λ (op' : Operation). does op' value size' r.has) same'
 
-    others : (h : ℕ) → h < p → is_member h (members tree n) ≡ false → mids (suc i) h ≡ mids i h
+    pub others : (h : ℕ) → h < p → is_member h (members tree n) ≡ false → mids (suc i) h ≡ mids i h
     others h lt' out =
         let b = there h lt' in
         ⊎_elim

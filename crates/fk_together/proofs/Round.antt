@@ -235,16 +235,16 @@ module _ {W : Type 0} (next : W → Option (Step W)) (outs : W → List W) (coun
     abbrev asked : ℕ → Runner W → Acting W
     asked count r = let a = begin next set count r in local_phase next set a a.due
 
-    record Acts (h : ℕ) : Type 0 where
-      runner : Runner W
-      is : slice_get s.runners h ≡ Some runner
-      count : ℕ
-      counted : slice_get round h ≡ Some count
-      acting : Acting W
-      at : slice_get actings h ≡ Some acting
-      comes : Outcome (asked count runner) (asked count runner).due acting
+    pub record Acts (h : ℕ) : Type 0 where
+      pub runner : Runner W
+      pub is : slice_get s.runners h ≡ Some runner
+      pub count : ℕ
+      pub counted : slice_get round h ≡ Some count
+      pub acting : Acting W
+      pub at : slice_get actings h ≡ Some acting
+      pub comes : Outcome (asked count runner) (asked count runner).due acting
 
-    acts : (h : ℕ) → h < p → Acts h
+    pub acts : (h : ℕ) → h < p → Acts h
     acts h lt =
         let lt' : h < length s.runners = omega (arith, ordered.many) in
         let lt'' : h < length round = omega (arith, ordered.many, counts_length) in
@@ -256,16 +256,16 @@ module _ {W : Type 0} (next : W → Option (Step W)) (outs : W → List W) (coun
         record { runner = r.0; is = r.1; count = c.0; counted = c.1; acting = passing.acting; at = passing.at; comes = passing.comes }
 
     -- who is not in the round, or has passed all but one of its operations
-    idles : (h : ℕ) (a : Acts h) → a.count ≡ 0 → a.acting ≡ taking a.runner None
+    pub idles : (h : ℕ) (a : Acts h) → a.count ≡ 0 → a.acting ≡ taking a.runner None
     idles h a e = subst (λ (c : ℕ). Outcome (asked c a.runner) (asked c a.runner).due a.acting) e a.comes
 
-    takes : (h : ℕ) (a : Acts h) (c : ℕ) → a.count ≡ suc c → Outcome (taken_by next outs counts set (after_locals next set c a.runner)) (taken_by next outs counts set (after_locals next set c a.runner)).due a.acting
+    pub takes : (h : ℕ) (a : Acts h) (c : ℕ) → a.count ≡ suc c → Outcome (taken_by next outs counts set (after_locals next set c a.runner)) (taken_by next outs counts set (after_locals next set c a.runner)).due a.acting
     takes h a c e = subst (λ (c' : ℕ). Outcome (asked c' a.runner) (asked c' a.runner).due a.acting) e a.comes
 
-    q_number : (h : ℕ) (a : Acts h) (c : ℕ) → (after_locals next set c a.runner).has.number ≡ h
+    pub q_number : (h : ℕ) (a : Acts h) (c : ℕ) → (after_locals next set c a.runner).has.number ≡ h
     q_number h a c = locals_number next set c a.runner ∙ ordered.numbers h a.runner a.is
 
-    cases_count : (c : ℕ) → (c ≡ 0) ⊎ ((d : ℕ) × (c ≡ suc d))
+    pub cases_count : (c : ℕ) → (c ≡ 0) ⊎ ((d : ℕ) × (c ≡ suc d))
     cases_count zero = inl refl
     cases_count (suc d) = inr (d, refl)
 
@@ -377,7 +377,7 @@ module _ {W : Type 0} (next : W → Option (Step W)) (outs : W → List W) (coun
           let equal : slice_index round h ≡ slice_index round g = eqb-true (slice_index round h) (slice_index round g) (all_at (λ m. slice_index round m == slice_index round g) (members old n) h whole in_h) in
           sym (index_at round h b.count b.counted) ∙ equal ∙ index_at round g a.count a.counted ∙ e
 
-      one_count : (g h : ℕ) (a : Acts g) (b : Acts h) → Has old n g → Has old n h → b.count ≡ a.count
+      pub one_count : (g h : ℕ) (a : Acts g) (b : Acts h) → Has old n g → Has old n h → b.count ≡ a.count
       one_count g h a b in_g in_h =
           ⊎_elim
           (λ none. ⊎_elim

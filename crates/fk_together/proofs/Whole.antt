@@ -6,7 +6,7 @@ use Rattle.fk_num.specs.Word.{Memory}
 use Rattle.fk_operation.specs.declared.operation.Operation.{Operation}
 use Rattle.fk_operation.specs.declared.operation.Operation.TheVariants as o
 use Rattle.fk_tree.specs.declared.node.Kind.{Kind}
-use Rattle.fk_tree.specs.declared.node.Kind.TheVariants.{Lockstep, Asynchronous}
+use Rattle.fk_tree.specs.declared.node.Kind.TheVariants.{Lockstep, Waiting, Asynchronous}
 use Rattle.fk_tree.specs.Tree as t
 use Rattle.fk_tree.specs.Tree.{Tree, members, kind, is_member, below, root, with_node, node_of}
 use Rattle.fk_tree.specs.Sound.{Has}
@@ -23,9 +23,9 @@ use Rattle.fk_run.specs.Schedule.{Schedule, beginners, opening, run, ArePossible
 use Rattle.fk_run.proofs.Stopped.{stopped_faults}
 use Rattle.fk_lockstep.proofs.Rounds.{settled_at}
 use Rattle.fk_together.specs.Counts.{Counts, ArePending, IsCounted}
-use Rattle.fk_together.specs.Course.{InGroup, ByItself, Does, FollowsFor, Follows}
-use Rattle.fk_together.specs.OneProgram.{groups_of, HaveOneProgram, WaitersHaveOneProgram, GroupsHaveOneProgram}
-use Rattle.fk_together.proofs.Acting.{untrue, Here, Out, told, bare, lefts_bare, HasValue, Is, without, Grouped, Parted, Apart, does_so, is_changing}
+use Rattle.fk_together.specs.Course.{InGroup, Waits, ByItself, Does, FollowsFor, Follows}
+use Rattle.fk_together.specs.OneProgram.{groups_of, HaveOneProgram, WaitersHaveOneProgram, BeginnersHaveOneProgram, GroupsHaveOneProgram}
+use Rattle.fk_together.proofs.Acting.{untrue, Here, Out, told, lefts, bare, lefts_bare, HasValue, within, Is, AtNode, without, Grouped, Parted, Apart, does_so, going_on, is_changing}
 use Rattle.fk_together.proofs.Trees.{IsThere, NodeIs, ThereAt, Inv, leaf_place}
 use Rattle.fk_together.proofs.Round.{first_is, some_at, at_below, lowest_member, actings as actings_of, phases as phases_of, settle as settle_of, settled_length, Ordered, number_at, groups_at, acting_length, no_fault}
 use Rattle.fk_together.proofs.Kept.{Sized, new_sizes, new_sized, new_groups}
@@ -59,7 +59,7 @@ either_number : (c : Bool) (p q : Processor) (n : ℕ) → p.number ≡ n → q.
 either_number true p q n e f = e
 either_number false p q n e f = f
 
-does_number : (op : Operation) (highest size : ℕ) (p : Processor) → (does op highest size p).number ≡ p.number
+pub does_number : (op : Operation) (highest size : ℕ) (p : Processor) → (does op highest size p).number ≡ p.number
 does_number o.Begin highest size p = either_number (is_taken highest p) (enter_level (start_level p size) (drop_last 1 p)) (drop_last 1 p) p.number refl refl
 does_number (o.Frame nesting words) highest size p = framed_number nesting p (frame p.level.space words)
 does_number o.Block highest size p = block_number (words_of (last (values p))) p
@@ -70,18 +70,18 @@ does_number o.End highest size p = outer_number p p.outer
 does_number op highest size p = refl
 
 module _ {W : Type 0} (next : W → Option (Step W)) (outs : W → List W) (counts : Counts W) where
-  abbrev Sound : (p : ℕ) → State W → (here : ℕ → Here W) (behind : ℕ → List (Out W)) → Type 0
+  abbrev pub Sound : (p : ℕ) → State W → (here : ℕ → Here W) (behind : ℕ → List (Out W)) → Type 0
   Sound p s here behind = Inv (told {W = W}) (Grouped next outs counts) (Parted next outs counts) (Apart next outs counts) (Is next outs counts) p s.tree (λ h. slice_get s.runners h) here behind
 
-  record Good (p : ℕ) (s : State W) : Type 0 where
-    here : ℕ → Here W
-    behind : ℕ → List (Out W)
-    inv : Sound p s here behind
-    many : length s.runners ≡ p
-    numbers : (h : ℕ) (r : Runner W) → slice_get s.runners h ≡ Some r → r.has.number ≡ h
-    sizes : ℕ → List (ℕ × ℕ)
-    sized : Sized p s.tree sizes
-    groups : (h : ℕ) (r : Runner W) → slice_get s.runners h ≡ Some r → groups_of r.has ≡ sizes (s.tree.places h)
+  pub record Good (p : ℕ) (s : State W) : Type 0 where
+    pub here : ℕ → Here W
+    pub behind : ℕ → List (Out W)
+    pub inv : Sound p s here behind
+    pub many : length s.runners ≡ p
+    pub numbers : (h : ℕ) (r : Runner W) → slice_get s.runners h ≡ Some r → r.has.number ≡ h
+    pub sizes : ℕ → List (ℕ × ℕ)
+    pub sized : Sized p s.tree sizes
+    pub groups : (h : ℕ) (r : Runner W) → slice_get s.runners h ≡ Some r → groups_of r.has ≡ sizes (s.tree.places h)
 
   -- what it says of a group
   good_together : (p : ℕ) (s : State W) → Good p s → HaveOneProgram next s
@@ -135,6 +135,50 @@ module _ {W : Type 0} (next : W → Option (Step W)) (outs : W → List W) (coun
         (is_there g refl r r_is).left ∙ sym (is_there h one q q_is).left,
         good.groups g r r_is ∙ ap good.sizes one ∙ sym (good.groups h q q_is),
       )
+
+  -- and of those who are about to begin a group: they are in the root, and the others wait there for them
+  begins_in_root : (p n : ℕ) (o' : Option Kind) (b : List (Out W)) (x : Here W) (r : Runner W) (step : Step W) → o' ≢ None
+      → NodeIs (told {W = W}) (Grouped next outs counts) (Parted next outs counts) (Apart next outs counts) (Is next outs counts) p n o' b x
+      → IsThere (told {W = W}) (Grouped next outs counts) (Parted next outs counts) (Apart next outs counts) (Is next outs counts) p n o' b x r
+      → next r.left ≡ Some step → step.operation ≡ o.Begin → (n ≡ 0) × (lefts b ≡ r.left ∷ outs (step.rest false))
+  begins_in_root p n None b x r step some node there e begins = absurd (some refl)
+  begins_in_root p n (Some Lockstep) b x r step some node there e begins =
+      absurd (subst (λ (op : Operation). Does next outs (FollowsFor next outs 0) (InGroup (is_some x.agreed)) op x.left step.rest) begins
+      (does_so next outs counts (InGroup (is_some x.agreed)) x.left step node.follows (ap next (sym there.left) ∙ e) 0))
+  begins_in_root p n (Some (Waiting first parts)) b x r step some node there e begins =
+      absurd (subst (λ (op : Operation). Does next outs (FollowsFor next outs 0) (Waits (within n)) op x.left step.rest) begins
+      (does_so next outs counts (Waits (within n)) x.left step node.follows (ap next (sym there.left) ∙ e) 0))
+  begins_in_root p zero (Some (Asynchronous alone)) b x r step some node there e begins =
+      let lone = going_on next outs counts false (lefts b) x.numbers (AtNode next outs counts b x) r there step e in
+      let so = subst (λ (op : Operation). Does next outs (FollowsFor next outs 0) (ByItself false) op r.left step.rest) begins
+      (does_so next outs counts (ByItself false) r.left step lone.follows e 0) in
+      (refl, sym lone.outs_are ∙ so.0)
+  begins_in_root p (suc n) (Some (Asynchronous alone)) b x r step some node there e begins =
+      let lone = going_on next outs counts true (x.left ∷ lefts b) x.numbers (AtNode next outs counts b x) r there step e in
+      absurd (subst (λ (op : Operation). Does next outs (FollowsFor next outs 0) (ByItself true) op r.left step.rest) begins
+      (does_so next outs counts (ByItself true) r.left step lone.follows e 0))
+
+  good_beginners : (p : ℕ) (s : State W) → Good p s → BeginnersHaveOneProgram next s
+  good_beginners p s good g h r q a b r_is q_is a_is b_is a_begins b_begins =
+      same_first _ _ _ _ (sym (ahead g r a r_is a_is a_begins) ∙ ahead h q b q_is b_is b_begins)
+    where
+      same_first : (w v : W) (ws vs : List W) → w ∷ ws ≡ v ∷ vs → w ≡ v
+      same_first w v ws vs e = cc
+
+      of_kind : (o' : Option t.Node) → o' ≢ None → t.kind_of o' ≢ None
+      of_kind None some = absurd (some refl)
+      of_kind (Some node) some = λ e. cc
+
+      ahead : (k : ℕ) (u : Runner W) (step : Step W) → slice_get s.runners k ≡ Some u → next u.left ≡ Some step → step.operation ≡ o.Begin
+          → lefts (good.behind 0) ≡ u.left ∷ outs (step.rest false)
+      ahead k u step at e begins =
+          let n = s.tree.places k in
+          let many = good.many in
+          let below = at_below s.runners k u at in
+          let lt : k < p = omega (arith, many, below) in
+          let there = has_some s.tree n k (good.inv.sound.placed k lt).member in
+          let so = begins_in_root p n (kind s.tree n) (good.behind n) (good.here n) u step (of_kind (s.tree.nodes n) there) (good.inv.node n) (good.inv.there k u lt at) e begins in
+          subst (λ (m : ℕ). lefts (good.behind m) ≡ u.left ∷ outs (step.rest false)) so.0 so.1
 
   module _ (set : Setting) (round : Round) (s : State W) (p : ℕ) (good : Good p s) (possible : is_possible next set round s ≡ true) where
     ordered : Ordered next outs counts set round s p
@@ -219,11 +263,11 @@ module _ {W : Type 0} (next : W → Option (Step W)) (outs : W → List W) (coun
               ∙ new_groups next outs counts set round s p good.here good.behind good.inv ordered possible good.sizes good.sized sizes_are h lt' b.0 b.1;
         }
 
-    good_round : Good p (result next set round s)
+    pub good_round : Good p (result next set round s)
     good_round = subst (Good p) (sym result_is) good_after
 
   -- a stopped round has a fault
-  not_stopped : {A : Type 0} (set : Setting) (round : Round) (s : State W) → IsStopped next set round s → (result next set round s).fault ≡ None → A
+  pub not_stopped : {A : Type 0} (set : Setting) (round : Round) (s : State W) → IsStopped next set round s → (result next set round s).fault ≡ None → A
   not_stopped set round s stopped none = let clash : Some stopped.fault ≡ None = sym (stopped_faults next set round s stopped) ∙ none in absurd (cc)
 
   good_run : (set : Setting) (schedule : Schedule) (p : ℕ) (s : State W) → Good p s → ArePossible next set schedule s → (run next set schedule s).fault ≡ None → Good p (run next set schedule s)
@@ -234,12 +278,12 @@ module _ {W : Type 0} (next : W → Option (Step W)) (outs : W → List W) (coun
       good_run set (other ∷ schedule) p (result next set round s) (good_round set round s p good possible.0) possible.1 none
 
   -- the beginning
-  record Beginner (size : ℕ) (program : W) (h : ℕ) (r : Runner W) : Type 0 where
-    left : r.left ≡ program
-    number : r.has.number ≡ h
-    groups : groups_of r.has ≡ (0, size) ∷ []
+  pub record Beginner (size : ℕ) (program : W) (h : ℕ) (r : Runner W) : Type 0 where
+    pub left : r.left ≡ program
+    pub number : r.has.number ≡ h
+    pub groups : groups_of r.has ≡ (0, size) ∷ []
 
-  beginner_at : (set : Setting) (firsts : Memory) (program : W) (h count i : ℕ) (r : Runner W) → slice_get (beginners set firsts program h count) i ≡ Some r → Beginner set.processors program (h + i) r
+  pub beginner_at : (set : Setting) (firsts : Memory) (program : W) (h count i : ℕ) (r : Runner W) → slice_get (beginners set firsts program h count) i ≡ Some r → Beginner set.processors program (h + i) r
   beginner_at set firsts program h zero i r e = absurd (cc)
   beginner_at set firsts program h (suc count) zero r e =
       let same = first_is _ r e in
@@ -254,7 +298,7 @@ module _ {W : Type 0} (next : W → Option (Step W)) (outs : W → List W) (coun
   beginners_length set firsts program h (suc count) = ap (λ (n : ℕ). suc n) (beginners_length set firsts program (suc h) count)
 
   module _ (program : W) (follows : Follows next outs (ByItself false) program) (none : (p : Processor) → ArePending next outs counts program p []) (counted : IsCounted next outs counts program) (processors : ℕ) (globals input : List ℕ) (firsts : Memory) (some : 1 ≤ processors) where
-    abbrev start : State W
+    abbrev pub start : State W
     start = opening processors globals input firsts program
 
     abbrev at_start : ℕ → Here W
@@ -263,10 +307,10 @@ module _ {W : Type 0} (next : W → Option (Step W)) (outs : W → List W) (coun
     abbrev ahead_at_start : ℕ → List (Out W)
     ahead_at_start n = bare (outs program)
 
-    only_root : (n : ℕ) → n ≢ 0 → (root processors).nodes n ≡ None
+    pub only_root : (n : ℕ) → n ≢ 0 → (root processors).nodes n ≡ None
     only_root n ne = with_other 0 (node_of (below processors []) 0 (Asynchronous false)) (λ i. None) n ne
 
-    root_kind : kind (root processors) 0 ≡ Some (Asynchronous false)
+    pub root_kind : kind (root processors) 0 ≡ Some (Asynchronous false)
     root_kind =
         let sound = root_sound processors some in
         let there = has_some (root processors) 0 0 (sound.placed 0 (omega (arith, some))).member in
@@ -274,7 +318,7 @@ module _ {W : Type 0} (next : W → Option (Step W)) (outs : W → List W) (coun
         = with_same 0 (node_of (below processors []) 0 (Asynchronous false)) (λ i. None) 0 refl in
         ap t.kind_of same ∙ kind-node_of (below processors []) 0 (Asynchronous false) (λ none. there (same ∙ none))
 
-    good_start : Good processors start
+    pub good_start : Good processors start
     good_start = record {
       here = at_start;
       behind = ahead_at_start;
@@ -317,5 +361,6 @@ groups_have_one_program W next outs program follows counts nothing counted set s
     record {
       members = good_together next outs counts processors last good;
       waiters = good_waiters next outs counts processors last good;
+      beginners = good_beginners next outs counts processors last good;
       tree = good.inv.sound;
     }

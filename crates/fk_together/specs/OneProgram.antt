@@ -40,10 +40,17 @@ module _ {W : Type 0} (next : W → Option (Step W)) where
       → slice_get s.runners g ≡ Some r → slice_get s.runners h ≡ Some q
       → (r.left ≡ q.left) × (groups_of r.has ≡ groups_of q.has)
 
+  -- and two who are about to begin the group of a `start`
+  abbrev pub BeginnersHaveOneProgram : State W → Type 0
+  BeginnersHaveOneProgram s =
+      (g h : ℕ) (r q : Runner W) (a b : Step W) → slice_get s.runners g ≡ Some r → slice_get s.runners h ≡ Some q
+      → next r.left ≡ Some a → next q.left ≡ Some b → a.operation ≡ o.Begin → b.operation ≡ o.Begin → r.left ≡ q.left
+
   -- and each processor is at exactly one node
   pub record KeepOneProgram (processors : ℕ) (s : State W) : Type 0 where
     pub members : HaveOneProgram s
     pub waiters : WaitersHaveOneProgram s
+    pub beginners : BeginnersHaveOneProgram s
     pub tree : IsSound processors s.tree
 
 -- after a lawful schedule without a stopped last round, which has a fault
