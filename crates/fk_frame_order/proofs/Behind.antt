@@ -39,8 +39,8 @@ pub record Begins {A : Type 0} (L : Language A) : Type 0 where
 pub begins_token : (level : ℕ) (is : TokenKind) → Begins (token level is)
 begins_token level is = record { begins = λ s t l. rw (l.0) tt }
 
-pub begins_then : {A B : Type 0} {L : Language A} {M : Language B} → Begins L → Begins (L then M)
-begins_then h = record { begins = λ s x l. rw (l.2) (has_append l.0 l.1 (h.begins l.0 x.0 l.3)) }
+pub begins_then : {A B : Type 0} {L : Language A} (M : Language B) → Begins L → Begins (L then M)
+begins_then M h = record { begins = λ s x l. rw (l.2) (has_append l.0 l.1 (h.begins l.0 x.0 l.3)) }
 
 pub begins_or : {A : Type 0} {L M : Language A} → Begins L → Begins M → Begins (L or M)
 begins_or {A} {L} {M} h g = record { begins = begins }

@@ -64,8 +64,8 @@ frames_stand_in_order told tokens program d = ordered.frames_in_order told progr
 begins_base : (l : ℕ) → Begins (base l)
 begins_base l =
     begins_or (begins_making _ (begins_token l kind.Int))
-    (begins_or (begins_making _ (begins_then (begins_token l kind.Unsigned)))
-    (begins_or (begins_making _ (begins_token l kind.Void)) (begins_making _ (begins_then (begins_token l kind.Struct)))))
+    (begins_or (begins_making _ (begins_then _ (begins_token l kind.Unsigned)))
+    (begins_or (begins_making _ (begins_token l kind.Void)) (begins_making _ (begins_then _ (begins_token l kind.Struct)))))
 
 -- a function begins by its mode or its type
 behind_function : (bound : ℕ) → ListsBehind (g.function_item bound) item_tokens
