@@ -1,8 +1,8 @@
 -- What a value lists stands behind the first token of the stretch that spells it.
-use Rattle.std.proofs.Common.{◌≡◌, ℕ, List, [], ◌∷◌, ◌++◌, inl, inr, refl, sym, subst}
+use Rattle.std.proofs.Common.{◌≡◌, ℕ, List, [], ◌∷◌, ◌++◌, inl, inr, sym, subst}
 use Rattle.std.specs.Prelude.{flat_map}
 use Rattle.fk_lex.specs.declared.token.TokenKind.{TokenKind}
-use Rattle.fk_reading.specs.Languages.{Placed, Stretch, Language, token, ◌then◌, ◌or◌, making, many}
+use Rattle.fk_reading.specs.Languages.{Stretch, Language, token, ◌then◌, ◌or◌, making, many}
 use Rattle.fk_reading.proofs.Uses.{places, places-append}
 use Rattle.fk_frame_order.proofs.Picked.{picked_skip, picked_behind, picked_append}
 use Rattle.fk_frame_order.proofs.Listed.{Among, Listing, Lists, nothing_of, both}

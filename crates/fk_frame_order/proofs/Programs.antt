@@ -71,7 +71,7 @@ begins_base l =
 behind_function : (bound : ℕ) → ListsBehind (g.function_item bound) item_tokens
 behind_function bound =
     behind_making _ (behind_next behind_none (behind_first (begins_base 0) (
-      lists_none next_to lists_token 0 kind.Word next_to lists_none next_to lists_none next_to lists_none next_to lists_body bound
+    lists_none next_to lists_token 0 kind.Word next_to lists_none next_to lists_none next_to lists_none next_to lists_body bound
     )))
     (λ x. refl)
 
