@@ -1,19 +1,26 @@
 -- The program in place of `fk_course`, with a frame at its `while`, is framed.
-use Rattle.std.specs.Prelude.{true, []}
-use Rattle.std.proofs.Common.{zero, suc, refl}
+use Rattle.std.specs.Prelude.{◌≡◌, ◌==◌, Bool, true, false, [], Some, None, if◌then◌else◌}
+use Rattle.std.proofs.Common.{refl}
+use Rattle.fk_forms.specs.declared.tables.Region.{Region}
 use Rattle.fk_forms.specs.Program.{functions_of, bodies_of, main_of}
 use Rattle.fk_source.specs.Next.{going, next}
 use Rattle.fk_levels.specs.Frames.{IsFramed}
 use Rattle.fk_course.specs.Ahead.{all_outs}
 use Rattle.fk_course.proofs.Example.{program, tables, may_call, is_in_place}
 use Rattle.fk_framing.specs.Framed.{AreFramed, depth}
-use Rattle.fk_framing.specs.Inner.{Inner, FunctionsInner}
+use Rattle.fk_framing.specs.Inner.{is_own, Inner, FunctionsInner}
 use Rattle.fk_framing.proofs.Whole.{code_is_framed}
 use Rattle.fk_framing.proofs.Programs.{programs_are_framed}
 
+abbrev frame : Region
+frame = record { at = 3; part = 0; level = 1; words = 2 }
+
+of_part : (is : Bool) → is_own (if is then Some frame else None) ≡ false
+of_part true = refl
+of_part false = refl
+
 at_while : Inner tables 3
-at_while zero = refl
-at_while (suc part) = refl
+at_while part = of_part (0 == part)
 
 are_inner : FunctionsInner tables may_call (functions_of program.items)
 are_inner = (
