@@ -1,5 +1,5 @@
 -- Which group frames a program has: those of its functions stand at their names, and those of parts at statements.
-use Rattle.std.proofs.Common.{◌≡◌, ◌⊎◌, inl, inr, ℕ, zero, suc, ◌+◌, ◌≤◌, Bool, true, false, true≢false, List, [], ◌∷◌, ◌++◌, Option, Some, None, slice_get, refl, sym, ap, subst, ◌∙◌, arith}
+use Rattle.std.proofs.Common.{◌≡◌, ◌⊎◌, inl, inr, ℕ, suc, ◌+◌, ◌≤◌, Bool, true, false, List, [], ◌∷◌, ◌++◌, Option, Some, None, slice_get, refl, sym, subst, arith}
 use Rattle.std.specs.Prelude.{◌==◌, ◌&&◌, min, if◌then◌else◌}
 use Rattle.std.proofs.lemmas.Bool.{ne_eqb, eqb-true, and_parts}
 use Rattle.std.proofs.lemmas.List.Sums.{sum_by-cons, sum_by-append}
@@ -13,11 +13,10 @@ use Rattle.fk_forms.specs.declared.tables.Region.{Region}
 use Rattle.fk_forms.specs.Tables.{Tables, frame_in}
 use Rattle.fk_slots.specs.Told.{Told, splits_at}
 use Rattle.fk_slots.specs.Words.{statement_words, own_words}
-use Rattle.fk_slots.specs.Frames.{last_word, frame, deeper, body_frame, frames_in, all_frames_in, body_frames, item_frames, regions_of}
-use Rattle.fk_token_laws.proofs.Counting.{one, one-same, by_node, by, times, node_times, contained}
+use Rattle.fk_slots.specs.Frames.{last_word, frame, deeper, body_frame, frames_in, all_frames_in, body_frames, regions_of}
+use Rattle.fk_token_laws.proofs.Counting.{one-same, by_node, by, times, node_times}
 use Rattle.fk_framing.specs.Inner.{is_own}
 use Rattle.fk_fitting.proofs.Each.{Each, each_map}
-use Rattle.std.proofs.lemmas.Option.{slice_get_within, get_or_from_slice_get}
 
 each_append : {X : Type 0} (P : X → Type 0) (xs ys : List X) → Each P xs → Each P ys → Each P (xs ++ ys)
 each_append P [] ys h g = g
@@ -106,7 +105,7 @@ module _ (told : Told) where
   one_body : (spot : Spot) (level : ℕ) (body : Statement) (more : List Index) → ((at : ℕ) → Covers at (statement_indices body) → Covers at more)
       → Each (Within (statement_indices body)) (frames_in told (deeper level) body) → Each (Within (statement_indices body)) (frames_in told level body)
       → Each (Within (Node spot.at ∷ more)) (
-          if splits_at told spot.at then body_frame told spot.at 0 (deeper level) body ++ frames_in told (deeper level) body else frames_in told level body)
+      if splits_at told spot.at then body_frame told spot.at 0 (deeper level) body ++ frames_in told (deeper level) body else frames_in told level body)
   one_body spot level body more f deep same =
       let up : (at : ℕ) → Covers at (statement_indices body) → Covers at (Node spot.at ∷ more) = λ at h. under spot.at at more (f at h) in
       each_of (Within (Node spot.at ∷ more)) (splits_at told spot.at) (body_frame told spot.at 0 (deeper level) body ++ frames_in told (deeper level) body) (frames_in told level body)

@@ -309,9 +309,11 @@ module _ (program : ProgramTree) (facts : Facts) (valid : IsValid program facts)
   in_place (f ∷ gs) h = (
     (λ may. let is = called true f h.0 may in
         (is.0, subst (BodyInPlace (tables program facts valid) (may_call program) false OfGroup) (sym h.0.has) (good_in OfGroup f h.0 is.0 (of_group f.mode is.1)).in_place)),
-    (λ may. let is = called false f h.0 may in
-        (is.0, subst (BodyInPlace (tables program facts valid) (may_call program) false OfBody) (sym h.0.has) (good_in OfBody f h.0 is.0 (of_body f.mode is.1)).in_place,
-          none_shared f.mode is.1 f.parameters (h.0.parameters (thing program valid.well_formed)))),
+    (λ may. let is = called false f h.0 may in (
+      is.0,
+      subst (BodyInPlace (tables program facts valid) (may_call program) false OfBody) (sym h.0.has) (good_in OfBody f h.0 is.0 (of_body f.mode is.1)).in_place,
+      none_shared f.mode is.1 f.parameters (h.0.parameters (thing program valid.well_formed)),
+    )),
     (λ e. let is = is_the_main f h.0 e in
         (is, subst (BodyInPlace (tables program facts valid) (may_call program) true (OfMain true)) (sym h.0.has) (good_main f h.0 is).in_place)),
     in_place gs h.1,

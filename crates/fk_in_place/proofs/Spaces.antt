@@ -1,10 +1,9 @@
 -- The frames of a valid program: those of its parts are no functions' own, and functions that run by themselves have none. So
 -- the members of its groups have one space.
-use Rattle.std.proofs.Common.{◌≡◌, ◌≢◌, ◌⊎◌, inl, inr, ℕ, zero, suc, ◌+◌, ◌≤◌, Bool, true, false, true≢false, List, [], ◌∷◌, ◌++◌, Option, Some, None, slice_get, slice_index, refl, sym, ap, subst, ◌∙◌, arith}
-use Rattle.std.specs.Prelude.{◌==◌, if◌then◌else◌}
+use Rattle.std.proofs.Common.{◌≡◌, inl, inr, ℕ, zero, suc, ◌+◌, ◌≤◌, Bool, true, false, true≢false, List, [], ◌∷◌, ◌++◌, Option, Some, None, slice_get, slice_index, refl, sym, ap, subst, ◌∙◌, arith}
+use Rattle.std.specs.Prelude.{if◌then◌else◌}
 use Rattle.std.proofs.lemmas.Bool.{false≢true, false_from_ne_true, eq-eqb}
 use Rattle.std.proofs.lemmas.Option.{same_Some, slice_get_within, get_or_from_slice_get}
-use Rattle.std.proofs.lemmas.List.Sums.{sum_by-append}
 use Rattle.fk_syntax.specs.declared.facts.Facts.{Facts}
 use Rattle.fk_syntax.specs.declared.program.Mode.{Mode}
 use Rattle.fk_syntax.specs.declared.program.Mode.TheVariants.{Sync, Async, Straight}
@@ -24,14 +23,14 @@ use Rattle.fk_sharing.specs.Around.{region, is_in_function}
 use Rattle.fk_sharing.specs.Broken as sb
 use Rattle.fk_sharing.specs.Tokens as s
 use Rattle.fk_forms.specs.Tables.{frame_at}
-use Rattle.fk_forms.specs.Program.{functions_of, signature_in, bodies_of, main_of}
+use Rattle.fk_forms.specs.Program.{functions_of, bodies_of, main_of}
 use Rattle.fk_slots.specs.Told.{Told, more, words_at}
 use Rattle.fk_slots.specs.Words.{variables_words, statement_words, statements_words, own_words}
 use Rattle.fk_slots.specs.Frames.{regions_of}
 use Rattle.fk_layout.specs.Layout.{told_by, tables_by}
 use Rattle.fk_source.specs.Next.{Work}
 use Rattle.fk_source.specs.Program.{next_in, main_work}
-use Rattle.fk_token_laws.proofs.Counting.{by_node, times, node_times, contained, node-once}
+use Rattle.fk_token_laws.proofs.Counting.{times, node_times, contained, node-once}
 use Rattle.fk_course.specs.Ahead.{all_outs}
 use Rattle.fk_course.specs.Pending.{fork_counts}
 use Rattle.fk_course.specs.InPlace.{NoneShared}
@@ -44,9 +43,9 @@ use Rattle.fk_framing.proofs.Programs.{programs_are_framed}
 use Rattle.fk_fitting.proofs.Each.{Each, front_of, rest_of, same_at}
 use Rattle.fk_fitting.proofs.Things.{thing, thing_tells}
 use Rattle.fk_in_place.specs.Valid.{IsValid, may_run, may_call, ValidProgramsHaveOneSpace}
-use Rattle.fk_in_place.proofs.Notes.{tables, correct, Ours, IsOurs}
-use Rattle.fk_in_place.proofs.Frames.{Covers, here, under, right, left, IsDeep, Within, IsOwn, OfText, all_functions, bodies, name_at, counts, of_text, found_deep, found_none}
-use Rattle.fk_in_place.proofs.Programs.{IsFine, fine, called, none_shared, not_sync, valid_programs_are_in_place}
+use Rattle.fk_in_place.proofs.Notes.{Ours, IsOurs}
+use Rattle.fk_in_place.proofs.Frames.{Covers, here, under, right, left, IsDeep, OfText, all_functions, bodies, name_at, counts, of_text, found_deep, found_none}
+use Rattle.fk_in_place.proofs.Programs.{IsFine, fine, called, none_shared, valid_programs_are_in_place}
 
 module _ (program : ProgramTree) (facts : Facts) (valid : IsValid program facts) where
   abbrev told : Told
@@ -164,7 +163,7 @@ module _ (program : ProgramTree) (facts : Facts) (valid : IsValid program facts)
       let token = rest_of Mine (s.optional_tokens thing' around x.first) (s.bare around (spot_of x.name) (sw.Variable x.shared (s.form_of x)) ∷ []) own in
       let alone : x.shared ≡ false = false_from_ne_true x.shared (λ e.
       token.0.unbroken (thing_tells program valid.well_formed) rules.SharedOutside
-          (subst (λ b. sb.BreaksRule around (sw.Variable b (s.form_of x)) rules.SharedOutside) (sym e) (sb.shared_outside (s.form_of x) within apart))) in
+      (subst (λ b. sb.BreaksRule around (sw.Variable b (s.form_of x)) rules.SharedOutside) (sym e) (sb.shared_outside (s.form_of x) within apart))) in
       ap (λ n. variables_words told n xs) (ap (λ b. if b then more taken (words_at told x.name.at) else taken) alone)
       ∙ variables_none around apart within xs (rest_of Mine (s.variable_tokens thing' around x) (s.variables_tokens thing' around xs) a) taken
 

@@ -189,8 +189,8 @@ module _ (program : ProgramTree) (facts : Facts) (valid : IsValid program facts)
         absurd (omega (arith, same, k.binds, low))
     allots name from x m.Predeclared means k a = true_from_ne_false in_group (λ no.
         x.unbroken rules.ShallocOutside
-            (inl (subst (λ (s' : Spelling). mis.Misplaced outer (Calls program name.at) (w.Name s') rules.ShallocOutside)
-            (sym (spelled name means.1 a.no_value a.no_other)) (mis.shalloc_outside k.means (λ e. runs.alone no e)))))
+        (inl (subst (λ (s' : Spelling). mis.Misplaced outer (Calls program name.at) (w.Name s') rules.ShallocOutside)
+        (sym (spelled name means.1 a.no_value a.no_other)) (mis.shalloc_outside k.means (λ e. runs.alone no e)))))
     allots name from x m.Undeclared means k a = absurd k.binds
 
     may : (name : Named) → Right (stands outer (spot_of name) (w.Name (spelling_of name.bytes))) → Known program facts proper name
@@ -266,9 +266,9 @@ module _ (program : ProgramTree) (facts : Facts) (valid : IsValid program facts)
         let is = binding_is program facts proper x.name.at (binding (outline program) there.0) low (b.declares (n.Variable x) there.0 there.0 there.1 refl refl) in (
           ap (λ i. callable g' (slice_get (declarations program) i)) is ∙ ap (callable g') number,
           (λ a.
-          let same = eqb-true (note (tables program facts valid) x.name.at).binding no_binding a.predeclared in
-          let below = declared_low program facts proper (binding (outline program) there.0) (n.Variable x) number in
-          absurd (omega (arith, same, is, below))),
+              let same = eqb-true (note (tables program facts valid) x.name.at).binding no_binding a.predeclared in
+              let below = declared_low program facts proper (binding (outline program) there.0) (n.Variable x) number in
+              absurd (omega (arith, same, is, below))),
         )
 
     pub record AreGood (xs : List DeclaredTree) : Type 0 where
