@@ -43,7 +43,7 @@ in_main =
     p.statement (p.If (sp 0 1 1) (t.Number (sp 0 1 1) 1 false) p.Empty)
     (p.statement (p.Start (sp 0 1 1) None (p.Block in_start)) (p.statement (p.Start (sp 0 1 1) None (called_f 7)) p.no_statements))
 
-abbrev program : ProgramTree
+abbrev pub program : ProgramTree
 program = record {
   items = p.FunctionItem (function m.Sync (ty t.Void 0) (nm (codes "f") 1 1 1) [] (Some p.no_statements))
       ∷ p.FunctionItem (function m.Sync (ty t.Int 0) (nm (codes "g") 10 1 1) [] (Some (p.statement (p.Return (sp 0 1 1) (Some (t.Number (sp 0 1 1) 1 false))) p.no_statements)))
@@ -58,18 +58,19 @@ of_f = nt 0 1 false false false
 abbrev of_g : Note
 of_g = nt 0 2 false false false
 
-abbrev tables : Tables
+-- its `while` has a frame
+abbrev pub tables : Tables
 tables = record {
   notes = nn ∷ of_f ∷ nn ∷ nt 0 0 true false true ∷ nt 0 0 true false true ∷ of_f ∷ of_f ∷ of_f ∷ of_f ∷ of_g ∷ of_g ∷ [];
   kinds = [];
   slots = [];
-  regions = [];
+  regions = record { at = 3; part = 0; level = 1; words = 2 } ∷ [];
 }
 
-abbrev may_call : (in_group : Bool) → (binding : ℕ) → Bool
+abbrev pub may_call : (in_group : Bool) → (binding : ℕ) → Bool
 may_call in_group binding = binding == 1 || binding == 2
 
-is_in_place : IsInPlace tables program may_call
+pub is_in_place : IsInPlace tables program may_call
 is_in_place = record {
   shaped = (tt, (((refl, tt), tt), (((tt, tt), ((tt, ((tt, (tt, (tt, (((λ k. refl), (λ e. untrue e)), tt, tt)))), (((tt, (((λ k. refl), (λ e. untrue e)), tt, tt)), (tt, tt)), ((tt, (tt, ((tt, (((λ k. refl), (λ e. untrue e)), tt, tt)), tt)), tt, (tt, (((λ k. refl), (λ e. untrue e)), tt, tt))), tt)))), ((tt, (tt, (((λ k. refl), (λ e. untrue e)), tt, tt))), tt))), tt)));
   noted = ((λ e. tt), ((λ e. (tt, tt)), ((λ e. untrue e), tt)));

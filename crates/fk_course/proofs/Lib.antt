@@ -14,4 +14,4 @@ pub mod Opening
 pub mod Valued
 pub mod Numbers
 pub mod Programs
-mod Example
+pub mod Example

@@ -22,6 +22,11 @@ use Rattle.fk_course.specs.Forks.{ForksAreValued}
 use Rattle.fk_course.specs.Returns.{FunctionsReturn}
 use Rattle.fk_course.specs.Ahead.{all_outs}
 
+-- functions that processors by themselves call have no `sh` parameters
+abbrev pub NoneShared : List DeclaredTree → Type 0
+NoneShared [] = Unit {0}
+NoneShared (x ∷ xs) = (x.shared ≡ false) × NoneShared xs
+
 module _ (tables : Tables) (may_call : (in_group : Bool) → (function : ℕ) → Bool) where
   module _ (in_group : Bool) where
     -- a form splits or agrees in a group alone; no name means a function that may not be called there, and `shalloc` is called in
@@ -80,11 +85,6 @@ module _ (tables : Tables) (may_call : (in_group : Bool) → (function : ℕ) �
   abbrev pub BodyInPlace : (main : Bool) → Who → Option Statements → Type 0
   BodyInPlace main who None = Unit {0}
   BodyInPlace main who (Some statements) = StatementsInPlace main who statements
-
-  -- functions that processors by themselves call have no `sh` parameters
-  abbrev pub NoneShared : List DeclaredTree → Type 0
-  NoneShared [] = Unit {0}
-  NoneShared (x ∷ xs) = (x.shared ≡ false) × NoneShared xs
 
   -- functions that may be called, none of which is `main`; and `main`
   abbrev pub FunctionsInPlace : (main : ℕ) → List FunctionTree → Type 0

@@ -1,4 +1,4 @@
--- Programs that keep all rules have one remaining program.
+-- Programs that keep all rules have one remaining program, and their groups one space.
 use Rattle.std.specs.Prelude.{◌≡◌, ℕ, ◌≤◌, Bool, true, not, List, Some, None}
 use Rattle.fk_store.specs.Serve.{may_use}
 use Rattle.fk_syntax.specs.declared.facts.Facts.{Facts}
@@ -23,6 +23,7 @@ use Rattle.fk_parse.specs.Parses.{SpellsProgram}
 use Rattle.fk_parsed.specs.Trim.{ProgramIsTrim}
 use Rattle.fk_fitting.specs.Correct.{IsCorrect}
 use Rattle.fk_together.specs.OneProgram.{KeepOneProgram}
+use Rattle.fk_levels.specs.OneSpace.{KeepOneSpace}
 use Rattle.fk_course.specs.Valued.{gives, gives_value, way, Evaluates}
 use Rattle.fk_course.specs.Forks.{ForksAreValued}
 use Rattle.fk_typed_forms.specs.Ways as w
@@ -84,3 +85,18 @@ abbrev pub TextsHaveOneProgram : Type 0
 TextsHaveOneProgram =
     (source : List ℕ) (tokens : List Spelled) (program : ProgramTree) (facts : Facts) → Tokens source tokens → SpellsProgram tokens program
     → IsCorrect program facts → Fits (tables_by program facts) program.items → HasOneProgram program facts
+
+-- and its groups have one space
+abbrev pub HasOneSpace : (program : ProgramTree) (facts : Facts) → Type 0
+HasOneSpace program facts =
+    (setting : Setting) (schedule : Schedule) (words firsts input : List ℕ) (processors : ℕ) → 1 ≤ processors
+    → let next = next_in (tables_by program facts) program in
+    let first = opening (tables_by program facts) program words firsts input processors in
+    IsLawful next setting schedule first
+    → (run next setting schedule first).fault ≡ None
+    → KeepOneSpace (run next setting schedule first)
+
+abbrev pub TextsHaveOneSpace : Type 0
+TextsHaveOneSpace =
+    (source : List ℕ) (tokens : List Spelled) (program : ProgramTree) (facts : Facts) → Tokens source tokens → SpellsProgram tokens program
+    → IsCorrect program facts → Fits (tables_by program facts) program.items → HasOneSpace program facts

@@ -1,8 +1,9 @@
 //! Laws of programs that keep all rules and have a layout.
 
-ghost use Rattle.fk_forked.specs.Laws.{AskedEvaluates, TypedEvaluates, ForksGiveValues, CorrectProgramsHaveOneProgram, TextsHaveOneProgram};
+ghost use Rattle.fk_forked.specs.Laws.{AskedEvaluates, TypedEvaluates, ForksGiveValues, CorrectProgramsHaveOneProgram, TextsHaveOneProgram, TextsHaveOneSpace};
 
 use fk_certain::laws::texts_are_proper;
+use fk_frame_order::laws::frames_stand_behind_first;
 use fk_parsed::laws::texts_are_trim;
 
 /// An expression that is as well typed code asks it leaves one value or none, whichever way is gone in
@@ -35,4 +36,14 @@ pub fn texts_have_one_program()
 {
     texts_are_trim();
     texts_are_proper();
+}
+
+/// And all members of a group in lockstep have levels that differ in `$` alone: of their group and of
+/// each group round it they have the same `@`, size and space. So have those who wait at one node.
+pub fn texts_have_one_space()
+    ensures { TextsHaveOneSpace }
+{
+    texts_are_trim();
+    texts_are_proper();
+    frames_stand_behind_first();
 }

@@ -1,5 +1,6 @@
 mod Picked
 mod Ordered
 mod Listed
+mod Behind
 mod Statements
 mod Programs

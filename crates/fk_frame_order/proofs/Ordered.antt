@@ -11,7 +11,7 @@ use Rattle.fk_slots.specs.Told.{Told, splits_at}
 use Rattle.fk_slots.specs.Words.{statement_words, own_words}
 use Rattle.fk_slots.specs.Frames.{frame, deeper, body_frame, frames_in, all_frames_in, body_frames, item_frames, regions_of}
 use Rattle.fk_frame_order.specs.Order.{tokens_in, all_tokens_in, body_tokens, item_tokens, frame_tokens, Ascend, FramesInOrder}
-use Rattle.fk_frame_order.proofs.Picked.{Picked, picked_skip, picked_append, picked_pairs}
+use Rattle.fk_frame_order.proofs.Picked.{Picked, picked_skip, picked_append, picked_all, picked_pairs}
 
 -- ---- the parts of tokens
 
@@ -156,3 +156,17 @@ module _ (told : Told) where
 
 pub frames_in_order : FramesInOrder
 frames_in_order told items h = picked_pairs part_of Comes (regions_of told items) (parts (frame_tokens items)) (items_stand told items) (parts_come (frame_tokens items) h)
+
+-- ---- behind a token
+
+parts_above : (low : ℕ) (ts : List ℕ) → All (λ t. low < t) ts → All (λ (x : Part). low < x.0) (parts ts)
+parts_above low [] h = All-nil (λ (x : Part). low < x.0)
+parts_above low (t ∷ ts) h =
+    let first = h zero t (omega arith) in
+    All-cons (λ (x : Part). low < x.0) (t, 0) ((t, 1) ∷ parts ts) first
+    (All-cons (λ (x : Part). low < x.0) (t, 1) (parts ts) first (parts_above low ts (λ k d within. h (suc k) d (omega arith))))
+
+-- where all tokens are behind one, so are the frames
+pub frames_above : (told : Told) (items : List ItemTree) (low : ℕ) → All (λ t. low < t) (frame_tokens items) → All (λ r. low < r.at) (regions_of told items)
+frames_above told items low h =
+    picked_all part_of (λ x. low < x.0) (regions_of told items) (parts (frame_tokens items)) (items_stand told items) (parts_above low (frame_tokens items) h)

@@ -1,6 +1,6 @@
 -- The code of every form that is in place is framed: first expressions.
-use Rattle.std.proofs.Common.{◌≡◌, ℕ, suc, Bool, true, false, List, [], ◌∷◌, Option, Some, None, ap, ◌∙◌, sym, refl, subst}
-use Rattle.std.specs.Prelude.{◌==◌, if◌then◌else◌}
+use Rattle.std.proofs.Common.{◌≡◌, ℕ, suc, Bool, true, false, List, [], ◌∷◌, Option, Some, None, refl, subst}
+use Rattle.std.specs.Prelude.{if◌then◌else◌}
 use Rattle.fk_syntax.specs.declared.place.Place.{Place}
 use Rattle.fk_syntax.specs.declared.place.Spot.{Spot}
 use Rattle.fk_syntax.specs.Tree.{Named, Tree}
@@ -10,9 +10,8 @@ use Rattle.fk_operation.specs.declared.operation.Operation.TheVariants as o
 use Rattle.fk_operation.specs.declared.operation.Variable.TheVariants as v
 use Rattle.fk_operation.specs.declared.operation.Known.TheVariants as n
 use Rattle.fk_operation.specs.declared.operation.Split.{Split}
-use Rattle.fk_operation.specs.declared.operation.Split.TheVariants.{IfAlone, IfElse, AndThen, OrElse, Loop, Fork}
 use Rattle.fk_forms.specs.declared.tables.Region.{Region}
-use Rattle.fk_forms.specs.Code.{done, perform, choose}
+use Rattle.fk_forms.specs.Code.{perform, choose}
 use Rattle.fk_forms.specs.Tables.{Tables, note, slot, frame_at}
 use Rattle.fk_forms.specs.Expressions.{Coded, nowhere, plain, Standing, Signature, agreed, addressed, assigned, dropped, variable, framed, parameters, value}
 use Rattle.fk_nesting.proofs.Spine.{untrue}

@@ -6,11 +6,11 @@ use Rattle.fk_operation.specs.declared.operation.Operation.TheVariants as o
 use Rattle.fk_forms.specs.Code.{Code, done, perform, choose, while, until, turn, again, quit, break, continue, call, ends, append}
 use Rattle.fk_source.specs.Left.{broken, continued, settled_turn, opened, settled}
 use Rattle.fk_nesting.specs.Behind.{opens_body, is_shrink, shrinks, grown, past}
-use Rattle.fk_nesting.specs.Shape.{Exits, none, of_test, of_turn, of_way, splits, has_two_parts, closes, ends_part, begins, meets, Either, Shape}
-use Rattle.fk_nesting.proofs.Spine.{untrue, by_either, test_is, past_append, broken_append, continued_append, append_done, past_none, begins_settled}
-use Rattle.fk_nesting.proofs.Nested.{Allows, Loop, Nested, no_exits, nested_broken, LeadsAs, opens, settles, turn_allows, allows_append, nested_before, turn_past}
-use Rattle.fk_levels.specs.Frames.{Enters, calling, takes_space, is_own_frame, is_start}
-use Rattle.fk_course.specs.Placed.{Who, OfGroup, OfBody, OfMain, is_group, is_main, callee_of}
+use Rattle.fk_nesting.specs.Shape.{Exits, none, of_test, of_turn, splits, closes, ends_part, begins, meets, Either, Shape}
+use Rattle.fk_nesting.proofs.Spine.{untrue, by_either, test_is, past_append, broken_append, append_done, begins_settled}
+use Rattle.fk_nesting.proofs.Nested.{Allows, Loop, Nested, opens, settles, turn_allows, nested_before, turn_past}
+use Rattle.fk_levels.specs.Frames.{Enters, calling, is_own_frame}
+use Rattle.fk_course.specs.Placed.{Who, OfGroup, OfBody, is_group, is_main, callee_of}
 use Rattle.fk_framing.specs.Framed.{is_resume, resumes, is_body, inside, Stays, Chooses, Ends, Opens, Framed}
 
 -- ---- who does what is left: what stands behind it tells, or what called it
@@ -303,8 +303,7 @@ module _ (may_call : (in_group : Bool) → (function : ℕ) → Bool) where
           } in
           let here : who_in outer (turn test body done (opened rest d)) ≡ who =
           ap (λ b. who_behind outer (grown b (settled (opened rest d)) (past (opened rest d)))) low ∙ ap (who_behind outer) l.same ∙ e in
-          before (of_turn false x) v (turn test body done (opened rest d)) (loop, l.nested) (turn_allows test body done (opened rest d) loop) here (λ i. untrue i)
-          (
+          before (of_turn false x) v (turn test body done (opened rest d)) (loop, l.nested) (turn_allows test body done (opened rest d) loop) here (λ i. untrue i) (
             turns_as (who_in outer (turn test body done (opened rest d))) who test body done here (f.1, f.0, tt),
             (λ i. absurd (true≢false (sym i ∙ low))),
             later g,

@@ -4,3 +4,4 @@ pub mod Whole
 pub mod Forms
 pub mod Texts
 pub mod Programs
+mod Example

@@ -2,20 +2,19 @@
 use Rattle.std.proofs.Common.{◌≡◌, ℕ, suc, ◌+◌, Bool, true, false, true≢false, List, [], ◌∷◌, Option, Some, None, ap, ◌∙◌, sym, refl, subst}
 use Rattle.std.proofs.lemmas.Bool.{eqb-true}
 use Rattle.std.specs.Prelude.{◌==◌, is_some, if◌then◌else◌}
-use Rattle.fk_syntax.specs.Program.{Statements, FunctionTree, ProgramTree}
+use Rattle.fk_syntax.specs.Program.{Statements, FunctionTree}
 use Rattle.fk_forms.specs.Code.{Code, done, perform, choose, while, until, turn, again, quit, break, continue, call, ends, size, numbered}
 use Rattle.fk_forms.specs.Tables.{Tables, frame_at}
-use Rattle.fk_forms.specs.Expressions.{Coded, Signature}
+use Rattle.fk_forms.specs.Expressions.{Coded}
 use Rattle.fk_forms.specs.Statements.{Inside, is_nothing, body_of}
-use Rattle.fk_forms.specs.Program.{functions_of, binding_of, no_signature, signature_of, signature_in, is_main, code_of, body_in, bodies_of, main_of}
-use Rattle.fk_nesting.specs.Shape.{splits}
-use Rattle.fk_nesting.specs.Shaped.{StatementsShaped, BodyShaped, FunctionsShaped}
+use Rattle.fk_forms.specs.Program.{functions_of, binding_of, no_signature, signature_of, signature_in, is_main, code_of, body_in, main_of}
+use Rattle.fk_nesting.specs.Shaped.{BodyShaped, FunctionsShaped}
 use Rattle.fk_nesting.proofs.Programs.{programs_are_nested}
 use Rattle.fk_nesting.proofs.Spine.{untrue}
 use Rattle.fk_course.specs.Placed as w
 use Rattle.fk_course.specs.Placed.{Who, OfGroup, OfBody, OfMain, is_group, callee_of}
-use Rattle.fk_course.specs.InPlace.{BodyInPlace, FunctionsInPlace, IsInPlace}
-use Rattle.fk_framing.specs.Framed.{resumes, inside, Opens, Framed, AreFramed}
+use Rattle.fk_course.specs.InPlace.{BodyInPlace, FunctionsInPlace}
+use Rattle.fk_framing.specs.Framed.{resumes, inside, Opens, Framed}
 use Rattle.fk_framing.specs.Inner.{BodyInner, FunctionsInner, ProgramsAreFramed}
 use Rattle.fk_framing.proofs.Texts.{Like, body_framed}
 
@@ -127,16 +126,16 @@ module _ (tables : Tables) (may_call : (in_group : Bool) → (function : ℕ) �
     in_groups main binding [] may h i j = tt
     in_groups main binding (f ∷ fs) may h i j = (
       (λ e.
-      let g = h.0 (subst (λ n. may_call true n ≡ true) (sym (eqb-true (binding_of tables f) binding e)) may) in
-      record {
-        other = OfGroup;
-        like = record { group = refl; main = refl };
-        main = sym g.0;
-        leaves = λ a b. refl;
-        in_place = subst (λ m. BodyInPlace tables may_call m OfGroup f.body) (sym g.0) g.1;
-        inner = i.0;
-        shaped = j.0;
-      }),
+          let g = h.0 (subst (λ n. may_call true n ≡ true) (sym (eqb-true (binding_of tables f) binding e)) may) in
+          record {
+            other = OfGroup;
+            like = record { group = refl; main = refl };
+            main = sym g.0;
+            leaves = λ a b. refl;
+            in_place = subst (λ m. BodyInPlace tables may_call m OfGroup f.body) (sym g.0) g.1;
+            inner = i.0;
+            shaped = j.0;
+          }),
       in_groups main binding fs may h.3 i.2 j.1,
     )
 
@@ -145,17 +144,17 @@ module _ (tables : Tables) (may_call : (in_group : Bool) → (function : ℕ) �
     in_bodies main binding [] may h i j = tt
     in_bodies main binding (f ∷ fs) may h i j = (
       (λ e.
-      let may' = subst (λ n. may_call false n ≡ true) (sym (eqb-true (binding_of tables f) binding e)) may in
-      let g = h.1 may' in
-      record {
-        other = OfBody;
-        like = record { group = refl; main = refl };
-        main = sym g.0;
-        leaves = λ a b. absurd (none_is_no (frame_at tables f.name.at 0) (i.1 may') b);
-        in_place = subst (λ m. BodyInPlace tables may_call m OfBody f.body) (sym g.0) g.1;
-        inner = i.0;
-        shaped = j.0;
-      }),
+          let may' = subst (λ n. may_call false n ≡ true) (sym (eqb-true (binding_of tables f) binding e)) may in
+          let g = h.1 may' in
+          record {
+            other = OfBody;
+            like = record { group = refl; main = refl };
+            main = sym g.0;
+            leaves = λ a b. absurd (none_is_no (frame_at tables f.name.at 0) (i.1 may') b);
+            in_place = subst (λ m. BodyInPlace tables may_call m OfBody f.body) (sym g.0) g.1;
+            inner = i.0;
+            shaped = j.0;
+          }),
       in_bodies main binding fs may h.3 i.2 j.1,
     )
 
@@ -164,16 +163,16 @@ module _ (tables : Tables) (may_call : (in_group : Bool) → (function : ℕ) �
     in_main main [] h i j = tt
     in_main main (f ∷ fs) h i j = (
       (λ e.
-      let g = h.2 e in
-      record {
-        other = OfMain true;
-        like = record { group = refl; main = refl };
-        main = sym g.0;
-        leaves = λ a b. absurd (true≢false (sym g.0 ∙ a));
-        in_place = subst (λ m. BodyInPlace tables may_call m (OfMain true) f.body) (sym g.0) g.1;
-        inner = i.0;
-        shaped = j.0;
-      }),
+          let g = h.2 e in
+          record {
+            other = OfMain true;
+            like = record { group = refl; main = refl };
+            main = sym g.0;
+            leaves = λ a b. absurd (true≢false (sym g.0 ∙ a));
+            in_place = subst (λ m. BodyInPlace tables may_call m (OfMain true) f.body) (sym g.0) g.1;
+            inner = i.0;
+            shaped = j.0;
+          }),
       in_main main fs h.3 i.2 j.1,
     )
 

@@ -1,5 +1,5 @@
 -- An operation of framed code goes on as is asked of calls and frames.
-use Rattle.std.proofs.Common.{◌≡◌, ℕ, zero, suc, ◌+◌, ◌<◌, ◌≤◌, Bool, true, false, true≢false, not, List, [], ◌∷◌, ◌++◌, map, length, Option, Some, None, ◌⊎◌, inl, inr, ap, ap₂, ◌∙◌, sym, refl, subst, arith}
+use Rattle.std.proofs.Common.{◌≡◌, ℕ, zero, suc, Bool, true, false, true≢false, not, List, [], ◌∷◌, ◌++◌, map, length, Option, Some, None, ◌⊎◌, inl, inr, ap, ◌∙◌, sym, refl, subst, arith}
 use Rattle.std.specs.Prelude.{if◌then◌else◌}
 use Rattle.fk_operation.specs.declared.operation.Operation.{Operation}
 use Rattle.fk_operation.specs.declared.operation.Operation.TheVariants as o
@@ -9,16 +9,16 @@ use Rattle.fk_run.specs.Round.{Step}
 use Rattle.fk_forms.specs.Code.{Code, done, perform, choose, while, until, turn, again, quit, break, continue, call, ends, append}
 use Rattle.fk_source.specs.Left.{broken, settled}
 use Rattle.fk_source.specs.Next.{Work, going, returned, step, step_of, next}
-use Rattle.fk_nesting.specs.Behind.{opens_body, is_shrink, tail, past, works, waiting, outs}
-use Rattle.fk_nesting.specs.Shape.{Exits, none, of_function, of_test, of_turn, of_arm, of_way, splits, has_two_parts, confines, waits, closes, ends_part, is_performed, is_chosen, is_quit, is_of_call, begins, meets, Shape}
+use Rattle.fk_nesting.specs.Behind.{opens_body, is_shrink, tail, past, works, waiting}
+use Rattle.fk_nesting.specs.Shape.{Exits, none, of_function, of_arm, of_way, splits, has_two_parts, confines, waits, is_performed, is_chosen, is_quit, is_of_call, begins, meets, Shape}
 use Rattle.fk_nesting.proofs.Spine.{untrue, past_append, past_none, begins_settled}
-use Rattle.fk_nesting.proofs.Nested.{QuitFits, Allows, Loop, Nested, LeadsAs, settles, nested_broken, body_nested, nested_before, nested_append, way_allows, no_exits, whole_past, whole_nested}
+use Rattle.fk_nesting.proofs.Nested.{QuitFits, Allows, Nested, settles, nested_broken, body_nested, nested_before, nested_append, way_allows, no_exits, whole_past, whole_nested}
 use Rattle.fk_levels.specs.Frames as f
 use Rattle.fk_levels.specs.Frames.{Calling, Enters, Leaves, Remains, calling, takes_space, is_own_frame, is_start, is_split, one_less, is_none_round, round_after, alone_after, NoDeeper, Higher, AsDeep, FramesGoOn}
 use Rattle.fk_course.specs.Placed.{Who, OfGroup, OfBody, OfMain, is_group, is_main, callee_of}
-use Rattle.fk_course.specs.Ahead.{starts_in, outermost, starts, all_outs}
-use Rattle.fk_framing.specs.Framed.{is_resume, resumes, is_body, inside, Stays, Chooses, Ends, Opens, Framed, AreFramed, depth}
-use Rattle.fk_framing.proofs.Left.{who_behind, who_in, who_of_part, resumes_begin, resumes_meet, Performs, Left, Before, before_by, append_left, broken_left, settled_left, body_left, opening_left, whole_left}
+use Rattle.fk_course.specs.Ahead.{starts_in, outermost, all_outs}
+use Rattle.fk_framing.specs.Framed.{is_resume, resumes, is_body, Framed, AreFramed, depth}
+use Rattle.fk_framing.proofs.Left.{who_behind, who_in, who_of_part, resumes_begin, resumes_meet, Left, append_left, broken_left, settled_left, body_left, opening_left, whole_left}
 
 -- ---- who calls, and how many groups are round a processor's own
 
@@ -154,7 +154,7 @@ module _ (may_call : (in_group : Bool) → (function : ℕ) → Bool) where
           left = settled_left may_call (outer_of callers) code n h.left;
           many = h.many ∙ ap (λ cs. rounds cs callers) (sym r.same);
           alone = elim h.alone [
-            inl e ↦ inl (e ∙ ap (λ cs. is_alone (who_behind (outer_of callers) cs)) (sym r.same))
+            | inl e ↦ inl (e ∙ ap (λ cs. is_alone (who_behind (outer_of callers) cs)) (sym r.same))
             | inr e ↦ inr (ap resumes (begins_settled code (resumes_begin code e)) ∙ e)
           ];
         };
@@ -465,10 +465,10 @@ module _ (may_call : (in_group : Bool) → (function : ℕ) → Bool) where
         by true = goes round alone rest callers n (record { left = h.left.1; many = h.many; alone = inl same }) k l
         by false = goes round alone (broken rest) callers (nested_broken rest n)
             (record {
-            left = broken_left may_call (outer_of callers) rest h.left.1;
-            many = h.many ∙ ap (λ cs. rounds cs callers) (sym fits);
-            alone = inl (same ∙ ap (λ cs. is_alone (who_behind (outer_of callers) cs)) (sym fits));
-          }) k l
+              left = broken_left may_call (outer_of callers) rest h.left.1;
+              many = h.many ∙ ap (λ cs. rounds cs callers) (sym fits);
+              alone = inl (same ∙ ap (λ cs. is_alone (who_behind (outer_of callers) cs)) (sym fits));
+            }) k l
     quits round alone t o.Shrink rest left callers is fits n h k l = record {
       calls = λ onward. refl;
       in_group = λ e. untrue e;
@@ -485,10 +485,10 @@ module _ (may_call : (in_group : Bool) → (function : ℕ) → Bool) where
         by true = goes round alone rest callers n (record { left = h.left.1; many = h.many; alone = inl same }) k l
         by false = goes (one_less round) alone (broken rest) callers (nested_broken rest n)
             (record {
-            left = broken_left may_call (outer_of callers) rest h.left.1;
-            many = ap one_less (h.many ∙ ap (λ cs. rounds cs callers) fits.0 ∙ one_round (broken rest) (past (broken rest)) callers (h.left.0 refl));
-            alone = inr (h.left.0 refl);
-          }) k l
+              left = broken_left may_call (outer_of callers) rest h.left.1;
+              many = ap one_less (h.many ∙ ap (λ cs. rounds cs callers) fits.0 ∙ one_round (broken rest) (past (broken rest)) callers (h.left.0 refl));
+              alone = inr (h.left.0 refl);
+            }) k l
     quits round alone t op rest left callers is fits n h k l = untrue is
 
     -- ---- calls
@@ -509,11 +509,11 @@ module _ (may_call : (in_group : Bool) → (function : ℕ) → Bool) where
         met = λ e. untrue e;
         goes_on = λ onward. goes round alone (append opening body) (rest ∷ callers) whole
             (record {
-            left = opening_left may_call callee opening body s none_behind (callee_no_main who) h.left.0.2
-                (body_left may_call callee of_function body refl (facts.nested f) (callee_framed who f h.left.0.1));
-            many = h.many ∙ ap (λ cs. rounds cs (rest ∷ callers)) (sym nothing);
-            alone = inl (same ∙ sym (callee_alone who) ∙ ap (λ cs. is_alone (who_behind callee cs)) (sym nothing));
-          }) (n, k) (h.left.1, l);
+              left = opening_left may_call callee opening body s none_behind (callee_no_main who) h.left.0.2
+                  (body_left may_call callee of_function body refl (facts.nested f) (callee_framed who f h.left.0.1));
+              many = h.many ∙ ap (λ cs. rounds cs (rest ∷ callers)) (sym nothing);
+              alone = inl (same ∙ sym (callee_alone who) ∙ ap (λ cs. is_alone (who_behind callee cs)) (sym nothing));
+            }) (n, k) (h.left.1, l);
       }
         where
           body : Code ℕ
@@ -569,19 +569,22 @@ module _ (may_call : (in_group : Bool) → (function : ℕ) → Bool) where
           no_leave e = cc
       leaves round alone t (o.Leave gives framed) rest left (code ∷ callers) past_left is nothing h k l =
           record {
-            calls = (refl, subst (λ cs. Down bodies (length callers) (met cs (code ∷ callers) (starts_in (outermost left (code ∷ callers))))) (sym (past_left ∙ nothing))
-                (no_deeper bodies (length callers) (met (past code) callers (starts_in (outermost left (code ∷ callers))))
-                (higher bodies (past code) callers (starts_in (outermost left (code ∷ callers))))));
+            calls = (
+              refl,
+              subst (λ cs. Down bodies (length callers) (met cs (code ∷ callers) (starts_in (outermost left (code ∷ callers))))) (sym (past_left ∙ nothing))
+                  (no_deeper bodies (length callers) (met (past code) callers (starts_in (outermost left (code ∷ callers))))
+                  (higher bodies (past code) callers (starts_in (outermost left (code ∷ callers))))),
+            );
             in_group = λ e. same ∙ ap not (h.left.0.in_group e);
             own = λ e. untrue e;
             outermost = λ e. untrue e;
             met = λ e. untrue e;
             goes_on = λ onward. goes round alone code callers k.0
                 (record {
-                left = l.0;
-                many = h.many ∙ ap (λ cs. rounds cs (code ∷ callers)) nothing;
-                alone = inl (same ∙ ap (λ cs. is_alone (who_behind (outer_of (code ∷ callers)) cs)) nothing ∙ callee_alone (who_in (outer_of callers) code));
-              }) k.1 l.1;
+                  left = l.0;
+                  many = h.many ∙ ap (λ cs. rounds cs (code ∷ callers)) nothing;
+                  alone = inl (same ∙ ap (λ cs. is_alone (who_behind (outer_of (code ∷ callers)) cs)) nothing ∙ callee_alone (who_in (outer_of callers) code));
+                }) k.1 l.1;
           }
         where
           same : alone ≡ is_alone (who_in (outer_of (code ∷ callers)) rest)
@@ -615,15 +618,15 @@ module _ (may_call : (in_group : Bool) → (function : ℕ) → Bool) where
       steps round alone (choose t op a b rest) left callers same n h k l =
           chooses round alone t a b rest left callers k l op n.0
           (record {
-          x = n.1;
-          first = n.2;
-          second = n.3;
-          waits = n.4;
-          meets = n.6;
-          first_nested = in_way op n.1 (splits op) a rest n.2 n.8 n.7 (splits_confine op) n.5;
-          second_nested = in_way op n.1 (has_two_parts op) b rest n.3 n.8 n.7 (λ is. splits_confine op (two_confine op is)) (λ is. n.5 (two_confine op is));
-          nested = n.8;
-        }) h
+            x = n.1;
+            first = n.2;
+            second = n.3;
+            waits = n.4;
+            meets = n.6;
+            first_nested = in_way op n.1 (splits op) a rest n.2 n.8 n.7 (splits_confine op) n.5;
+            second_nested = in_way op n.1 (has_two_parts op) b rest n.3 n.8 n.7 (λ is. splits_confine op (two_confine op is)) (λ is. n.5 (two_confine op is));
+            nested = n.8;
+          }) h
       steps round alone (while test body after rest) left callers same n h k l = tt
       steps round alone (until body test rest) left callers same n h k l = tt
       steps round alone (turn test body after rest) left callers same n h k l = tt
@@ -641,10 +644,10 @@ module _ (may_call : (in_group : Bool) → (function : ℕ) → Bool) where
           let same = whole_past test body after rest n.0 in
           steps round alone whole (again test body after rest) callers (sym same) (whole_nested test body after rest n.0 n.1)
           (record {
-          left = whole_left may_call (outer_of callers) test body after rest n.0 h.left;
-          many = h.many ∙ ap (λ cs. rounds cs callers) (sym same);
-          alone = elim h.alone [ inl e ↦ inl (e ∙ ap (λ cs. is_alone (who_behind (outer_of callers) cs)) (sym same)) | inr e ↦ untrue e ];
-        }) k l
+            left = whole_left may_call (outer_of callers) test body after rest n.0 h.left;
+            many = h.many ∙ ap (λ cs. rounds cs callers) (sym same);
+            alone = elim h.alone [ inl e ↦ inl (e ∙ ap (λ cs. is_alone (who_behind (outer_of callers) cs)) (sym same)) | inr e ↦ untrue e ];
+          }) k l
       steps_of round alone code callers n h k l = steps round alone code code callers refl n h k l
 
       -- ---- so many operations on

@@ -1,5 +1,5 @@
 -- The code of statements and functions that are in place, and whose parts have frames of their own, is framed.
-use Rattle.std.proofs.Common.{◌≡◌, ℕ, zero, suc, Bool, true, false, true≢false, List, [], ◌∷◌, Option, Some, None, ap, ◌∙◌, sym, refl, subst}
+use Rattle.std.proofs.Common.{◌≡◌, ℕ, zero, suc, Bool, true, false, true≢false, List, [], ◌∷◌, Option, Some, None, ◌∙◌, sym, refl, subst}
 use Rattle.std.specs.Prelude.{◌==◌, if◌then◌else◌}
 use Rattle.fk_syntax.specs.declared.facts.Note.{Note}
 use Rattle.fk_syntax.specs.declared.place.Place.{Place}
@@ -23,7 +23,7 @@ use Rattle.fk_course.specs.Placed as w
 use Rattle.fk_course.specs.Placed.{Who, OfGroup, OfBody, OfMain, is_group, is_outermost, inner}
 use Rattle.fk_course.specs.InPlace.{Splits, Calls, InPlace, OptionInPlace, VariablesInPlace, StatementInPlace, StatementsInPlace}
 use Rattle.fk_course.proofs.Forms.{inner_group}
-use Rattle.fk_framing.specs.Framed.{is_body, Stays, Chooses, Ends, Framed}
+use Rattle.fk_framing.specs.Framed.{is_body, Stays, Ends}
 use Rattle.fk_framing.specs.Inner.{is_own, Inner, StatementInner, StatementsInner}
 use Rattle.fk_framing.proofs.Forms.{Ok, stays, resumes_in, resumes_in_group, ends_part, frames_in, no_choice, divides_in, splits_to, agrees_or, addresses, assigns, drops, names, value_framed}
 
@@ -234,9 +234,13 @@ module _ (tables : Tables) (functions : (binding : ℕ) → Signature) (may_call
         let splits' = told_splits who other l spot.at h.0 in
         value_framed tables functions may_call frameless who condition (told who other l condition h.1) (if here.splits then parted else agreed here.sync branched)
         (splits_to tables functions may_call frameless here.splits who parted (agreed here.sync branched)
-        (λ e. let g' = splits'.0 e in
-        (divides_in who IfElse g', in_group who spot 0 (a (plain o.End done)) g' i.0 (keeps_a (plain o.End done) (ended who)),
-          in_group who spot 1 (b (plain o.End done)) g' i.0 (keeps_b (plain o.End done) (ended who)), (λ k. refl), (resumes_in_group who g', refl, q)))
+        (λ e. let g' = splits'.0 e in (
+          divides_in who IfElse g',
+          in_group who spot 0 (a (plain o.End done)) g' i.0 (keeps_a (plain o.End done) (ended who)),
+          in_group who spot 1 (b (plain o.End done)) g' i.0 (keeps_b (plain o.End done) (ended who)),
+          (λ k. refl),
+          (resumes_in_group who g', refl, q),
+        ))
         (agrees_or tables functions may_call frameless who here.sync branched (no_choice who true, keeps_a done tt, keeps_b done tt, (λ k. untrue k), q)))
     statement who other l inside x g (p.While spot condition body) h i j rest q =
         let test = tested tables functions spot (Some condition) in
@@ -254,8 +258,12 @@ module _ (tables : Tables) (functions : (binding : ℕ) → Signature) (may_call
         let step = used_or tables functions after done in
         uses_or who before (told_if who other l before h.1) (looping tables functions spot (c.while test run step) rest)
         (loops who spot (told_splits who other l spot.at h.0) i.0 (c.while test run step)
-        (λ rest' q'. (tests who spot condition (told_if who other l condition h.2), statement who (inner other) (like_inner who other l) inside (of_turn (is_split tables functions spot.at) x) (in_turn (is_split tables functions spot.at) x who inside g) body h.4 i.1 j.3 done tt,
-          uses_or who after (told_if who other l after h.3) done tt, q')) rest q)
+        (λ rest' q'. (
+          tests who spot condition (told_if who other l condition h.2),
+          statement who (inner other) (like_inner who other l) inside (of_turn (is_split tables functions spot.at) x) (in_turn (is_split tables functions spot.at) x who inside g) body h.4 i.1 j.3 done tt,
+          uses_or who after (told_if who other l after h.3) done tt,
+          q',
+        )) rest q)
     statement who other l inside x g (p.Start spot count body) h i j rest q =
         let run = executed tables functions inside body in
         let main' = sym l.main ∙ outermost_main other h.0 in

@@ -17,7 +17,7 @@ code_is_framed may_call bodies main facts operations =
     framed_for may_call bodies main facts operations 0 true (going body [])
     (goes may_call 0 true body [] (body_nested body shape)
     (record {
-    left = body_left may_call (OfMain false) of_function body refl shape facts.main_of;
-    many = ap (λ cs. rounds cs []) (sym nothing);
-    alone = inl (ap (λ cs. is_alone (who_behind (OfMain false) cs)) (sym nothing));
-  }) tt tt)
+      left = body_left may_call (OfMain false) of_function body refl shape facts.main_of;
+      many = ap (λ cs. rounds cs []) (sym nothing);
+      alone = inl (ap (λ cs. is_alone (who_behind (OfMain false) cs)) (sym nothing));
+    }) tt tt)

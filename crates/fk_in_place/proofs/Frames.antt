@@ -1,5 +1,5 @@
 -- Which group frames a program has: those of its functions stand at their names, and those of parts at statements.
-use Rattle.std.proofs.Common.{◌≡◌, ◌⊎◌, inl, inr, ℕ, zero, suc, ◌+◌, ◌≤◌, Bool, true, false, true≢false, List, [], ◌∷◌, ◌++◌, Option, Some, None, slice_get, refl, sym, ap, subst, ◌∙◌, arith}
+use Rattle.std.proofs.Common.{◌≡◌, ◌⊎◌, inl, inr, ℕ, suc, ◌+◌, ◌≤◌, Bool, true, false, List, [], ◌∷◌, ◌++◌, Option, Some, None, slice_get, refl, sym, subst, arith}
 use Rattle.std.specs.Prelude.{◌==◌, ◌&&◌, min, if◌then◌else◌}
 use Rattle.std.proofs.lemmas.Bool.{ne_eqb, eqb-true, and_parts}
 use Rattle.std.proofs.lemmas.List.Sums.{sum_by-cons, sum_by-append}
@@ -13,11 +13,10 @@ use Rattle.fk_forms.specs.declared.tables.Region.{Region}
 use Rattle.fk_forms.specs.Tables.{Tables, frame_in}
 use Rattle.fk_slots.specs.Told.{Told, splits_at}
 use Rattle.fk_slots.specs.Words.{statement_words, own_words}
-use Rattle.fk_slots.specs.Frames.{last_word, frame, deeper, body_frame, frames_in, all_frames_in, body_frames, item_frames, regions_of}
-use Rattle.fk_token_laws.proofs.Counting.{one, one-same, by_node, by, times, node_times, contained}
+use Rattle.fk_slots.specs.Frames.{last_word, frame, deeper, body_frame, frames_in, all_frames_in, body_frames, regions_of}
+use Rattle.fk_token_laws.proofs.Counting.{one-same, by_node, by, times, node_times}
 use Rattle.fk_framing.specs.Inner.{is_own}
 use Rattle.fk_fitting.proofs.Each.{Each, each_map}
-use Rattle.std.proofs.lemmas.Option.{slice_get_within, get_or_from_slice_get}
 
 each_append : {X : Type 0} (P : X → Type 0) (xs ys : List X) → Each P xs → Each P ys → Each P (xs ++ ys)
 each_append P [] ys h g = g
@@ -64,6 +63,38 @@ frame_of P at part level words h = by (words == 0)
 
 wider : (i j : List Index) (rs : List Region) → ((at : ℕ) → Covers at i → Covers at j) → Each (Within i) rs → Each (Within j) rs
 wider i j rs f h = each_map (Within i) (Within j) (λ r g. (g.0, f r.at g.1)) rs h
+
+-- ---- of a program
+
+abbrev pub all_functions : List ItemTree → List FunctionTree
+all_functions [] = []
+all_functions (p.StructItem name members ∷ items) = all_functions items
+all_functions (p.VariablesItem variables ∷ items) = all_functions items
+all_functions (p.FunctionItem f ∷ items) = f ∷ all_functions items
+
+abbrev pub bodies : List ItemTree → List Index
+bodies [] = []
+bodies (p.StructItem name members ∷ items) = bodies items
+bodies (p.VariablesItem variables ∷ items) = bodies items
+bodies (p.FunctionItem f ∷ items) = body_indices f.body ++ bodies items
+
+abbrev pub name_at : FunctionTree → ℕ
+name_at f = f.name.at
+
+pub counts : (at : ℕ) (items : List ItemTree) → times name_at at (all_functions items) + node_times at (bodies items) ≤ node_times at (items_indices items)
+counts at [] = omega arith
+counts at (p.StructItem name members ∷ items) = omega (arith, counts at items, sum_by-append (by_node at) (item_indices (p.StructItem name members)) (items_indices items))
+counts at (p.VariablesItem variables ∷ items) = omega (arith, counts at items, sum_by-append (by_node at) (item_indices (p.VariablesItem variables)) (items_indices items))
+counts at (p.FunctionItem f ∷ items) = omega (
+  arith,
+  counts at items,
+  sum_by-append (by_node at) (item_indices (p.FunctionItem f)) (items_indices items),
+  sum_by-append (by_node at) (type_indices f.result) (Node f.name.at ∷ declarations_indices f.parameters ++ body_indices f.body),
+  sum_by-cons (by_node at) (Node f.name.at) (declarations_indices f.parameters ++ body_indices f.body),
+  sum_by-append (by_node at) (declarations_indices f.parameters) (body_indices f.body),
+  sum_by-cons (by name_at at) f (all_functions items),
+  sum_by-append (by_node at) (body_indices f.body) (bodies items),
+)
 
 module _ (told : Told) where
   -- the frame of a body at a statement, and those in it
@@ -151,38 +182,6 @@ module _ (told : Told) where
         each_append (Within (i ++ j)) (frames_in told level first) (all_frames_in told level others)
         (wider i (i ++ j) (frames_in told level first) (λ at h. left at i j h) (in_statement level first))
         (wider j (i ++ j) (all_frames_in told level others) (λ at h. right at i j h) (in_statements level others))
-
-  -- ---- of a program
-
-  abbrev pub all_functions : List ItemTree → List FunctionTree
-  all_functions [] = []
-  all_functions (p.StructItem name members ∷ items) = all_functions items
-  all_functions (p.VariablesItem variables ∷ items) = all_functions items
-  all_functions (p.FunctionItem f ∷ items) = f ∷ all_functions items
-
-  abbrev pub bodies : List ItemTree → List Index
-  bodies [] = []
-  bodies (p.StructItem name members ∷ items) = bodies items
-  bodies (p.VariablesItem variables ∷ items) = bodies items
-  bodies (p.FunctionItem f ∷ items) = body_indices f.body ++ bodies items
-
-  abbrev pub name_at : FunctionTree → ℕ
-  name_at f = f.name.at
-
-  pub counts : (at : ℕ) (items : List ItemTree) → times name_at at (all_functions items) + node_times at (bodies items) ≤ node_times at (items_indices items)
-  counts at [] = omega arith
-  counts at (p.StructItem name members ∷ items) = omega (arith, counts at items, sum_by-append (by_node at) (item_indices (p.StructItem name members)) (items_indices items))
-  counts at (p.VariablesItem variables ∷ items) = omega (arith, counts at items, sum_by-append (by_node at) (item_indices (p.VariablesItem variables)) (items_indices items))
-  counts at (p.FunctionItem f ∷ items) = omega (
-    arith,
-    counts at items,
-    sum_by-append (by_node at) (item_indices (p.FunctionItem f)) (items_indices items),
-    sum_by-append (by_node at) (type_indices f.result) (Node f.name.at ∷ declarations_indices f.parameters ++ body_indices f.body),
-    sum_by-cons (by_node at) (Node f.name.at) (declarations_indices f.parameters ++ body_indices f.body),
-    sum_by-append (by_node at) (declarations_indices f.parameters) (body_indices f.body),
-    sum_by-cons (by name_at at) f (all_functions items),
-    sum_by-append (by_node at) (body_indices f.body) (bodies items),
-  )
 
   -- a frame of a function has words
   pub record IsOwn (items : List ItemTree) (r : Region) : Type 0 where

@@ -43,6 +43,7 @@ use Rattle.fk_fitting.proofs.Each.{Each, each, front_of, rest_of}
 use Rattle.fk_fitting.proofs.Typed.{Unbroken}
 use Rattle.fk_fitting.proofs.Notes.{among}
 use Rattle.fk_fitting.proofs.Bodies.{no_header}
+use Rattle.fk_fitting.proofs.Things.{thing, thing_tells}
 use Rattle.fk_in_place.proofs.Notes.{tables, correct, all_right, all_ours}
 use Rattle.fk_fitting.proofs.Named.{env, unbroken_pieces}
 use Rattle.fk_fitting.proofs.Declared.{function_number}

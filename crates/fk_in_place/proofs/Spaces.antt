@@ -1,10 +1,9 @@
 -- The frames of a valid program: those of its parts are no functions' own, and functions that run by themselves have none. So
 -- the members of its groups have one space.
-use Rattle.std.proofs.Common.{◌≡◌, ◌≢◌, ◌⊎◌, inl, inr, ℕ, zero, suc, ◌+◌, ◌≤◌, Bool, true, false, true≢false, List, [], ◌∷◌, ◌++◌, Option, Some, None, slice_get, slice_index, refl, sym, ap, subst, ◌∙◌, arith}
-use Rattle.std.specs.Prelude.{◌==◌, if◌then◌else◌}
+use Rattle.std.proofs.Common.{◌≡◌, inl, inr, ℕ, zero, suc, ◌+◌, ◌≤◌, Bool, true, false, true≢false, List, [], ◌∷◌, ◌++◌, Option, Some, None, slice_get, slice_index, refl, sym, ap, subst, ◌∙◌, arith}
+use Rattle.std.specs.Prelude.{if◌then◌else◌}
 use Rattle.std.proofs.lemmas.Bool.{false≢true, false_from_ne_true, eq-eqb}
 use Rattle.std.proofs.lemmas.Option.{same_Some, slice_get_within, get_or_from_slice_get}
-use Rattle.std.proofs.lemmas.List.Sums.{sum_by-append}
 use Rattle.fk_syntax.specs.declared.facts.Facts.{Facts}
 use Rattle.fk_syntax.specs.declared.program.Mode.{Mode}
 use Rattle.fk_syntax.specs.declared.program.Mode.TheVariants.{Sync, Async, Straight}
@@ -24,14 +23,14 @@ use Rattle.fk_sharing.specs.Around.{region, is_in_function}
 use Rattle.fk_sharing.specs.Broken as sb
 use Rattle.fk_sharing.specs.Tokens as s
 use Rattle.fk_forms.specs.Tables.{frame_at}
-use Rattle.fk_forms.specs.Program.{functions_of, signature_in, bodies_of, main_of}
+use Rattle.fk_forms.specs.Program.{functions_of, bodies_of, main_of}
 use Rattle.fk_slots.specs.Told.{Told, more, words_at}
 use Rattle.fk_slots.specs.Words.{variables_words, statement_words, statements_words, own_words}
 use Rattle.fk_slots.specs.Frames.{regions_of}
 use Rattle.fk_layout.specs.Layout.{told_by, tables_by}
 use Rattle.fk_source.specs.Next.{Work}
 use Rattle.fk_source.specs.Program.{next_in, main_work}
-use Rattle.fk_token_laws.proofs.Counting.{by_node, times, node_times, contained, node-once}
+use Rattle.fk_token_laws.proofs.Counting.{times, node_times, contained, node-once}
 use Rattle.fk_course.specs.Ahead.{all_outs}
 use Rattle.fk_course.specs.Pending.{fork_counts}
 use Rattle.fk_course.specs.InPlace.{NoneShared}
@@ -44,9 +43,9 @@ use Rattle.fk_framing.proofs.Programs.{programs_are_framed}
 use Rattle.fk_fitting.proofs.Each.{Each, front_of, rest_of, same_at}
 use Rattle.fk_fitting.proofs.Things.{thing, thing_tells}
 use Rattle.fk_in_place.specs.Valid.{IsValid, may_run, may_call, ValidProgramsHaveOneSpace}
-use Rattle.fk_in_place.proofs.Notes.{tables, correct, Ours, IsOurs}
-use Rattle.fk_in_place.proofs.Frames.{Covers, here, under, right, left, IsDeep, Within, IsOwn, OfText, all_functions, bodies, name_at, counts, of_text, found_deep, found_none}
-use Rattle.fk_in_place.proofs.Programs.{IsFine, fine, called, none_shared, not_sync, valid_programs_are_in_place}
+use Rattle.fk_in_place.proofs.Notes.{Ours, IsOurs}
+use Rattle.fk_in_place.proofs.Frames.{Covers, here, under, right, left, IsDeep, OfText, all_functions, bodies, name_at, counts, of_text, found_deep, found_none}
+use Rattle.fk_in_place.proofs.Programs.{IsFine, fine, called, none_shared, valid_programs_are_in_place}
 
 module _ (program : ProgramTree) (facts : Facts) (valid : IsValid program facts) where
   abbrev told : Told
@@ -55,15 +54,15 @@ module _ (program : ProgramTree) (facts : Facts) (valid : IsValid program facts)
   abbrev items : List ItemTree
   items = program.items
 
-  once : (at : ℕ) → times name_at at (all_functions told items) + node_times at (bodies told items) ≤ 1
-  once at = omega (arith, counts told at items, node-once at (items_indices items) valid.well_formed.distinct)
+  once : (at : ℕ) → times name_at at (all_functions items) + node_times at (bodies items) ≤ 1
+  once at = omega (arith, counts at items, node-once at (items_indices items) valid.well_formed.distinct)
 
-  named : (f : FunctionTree) (i : ℕ) → slice_get (all_functions told items) i ≡ Some f → 1 ≤ times name_at f.name.at (all_functions told items)
+  named : (f : FunctionTree) (i : ℕ) → slice_get (all_functions items) i ≡ Some f → 1 ≤ times name_at f.name.at (all_functions items)
   named f i is =
-      contained name_at (all_functions told items) f (i, slice_get_within (all_functions told items) i f is, get_or_from_slice_get (all_functions told items) i f f is)
+      contained name_at (all_functions items) f (i, slice_get_within (all_functions items) i f is, get_or_from_slice_get (all_functions items) i f f is)
 
   -- the frames of parts
-  inner_at : (at : ℕ) → Covers at (bodies told items) → Inner (tables_by program facts) at
+  inner_at : (at : ℕ) → Covers at (bodies items) → Inner (tables_by program facts) at
   inner_at at covers part = found_deep (tables_by program facts) (OfText told items) at part deep (regions_of told items) (of_text told items)
     where
       deep : (r : _) → OfText told items r → r.at ≡ at → IsDeep r
@@ -71,7 +70,7 @@ module _ (program : ProgramTree) (facts : Facts) (valid : IsValid program facts)
       deep r (inr o) e =
           let there = named o.function o.index o.there in
           let same : o.function.name.at ≡ at = sym o.same ∙ e in
-          let there' = subst (λ k. 1 ≤ times name_at k (all_functions told items)) same there in
+          let there' = subst (λ k. 1 ≤ times name_at k (all_functions items)) same there in
           absurd (omega (arith, there', covers, once at))
 
   mutual
@@ -123,11 +122,11 @@ module _ (program : ProgramTree) (facts : Facts) (valid : IsValid program facts)
         let j = statements_indices others in
         (statement_inner first (λ at c. f at (left at i j c)), statements_inner others (λ at c. f at (right at i j c)))
 
-  body_covers : (xs : List ItemTree) (i : ℕ) (f : FunctionTree) → slice_get xs i ≡ Some (p.FunctionItem f) → (at : ℕ) → Covers at (body_indices f.body) → Covers at (bodies told xs)
+  body_covers : (xs : List ItemTree) (i : ℕ) (f : FunctionTree) → slice_get xs i ≡ Some (p.FunctionItem f) → (at : ℕ) → Covers at (body_indices f.body) → Covers at (bodies xs)
   body_covers [] i f is at c = absurd (cc)
   body_covers (p.FunctionItem g ∷ xs) zero f is at c =
       let same = same_function g f (same_Some (p.FunctionItem g) (p.FunctionItem f) is) in
-      left at (body_indices g.body) (bodies told xs) (subst (λ (k : FunctionTree). Covers at (body_indices k.body)) (sym same) c)
+      left at (body_indices g.body) (bodies xs) (subst (λ (k : FunctionTree). Covers at (body_indices k.body)) (sym same) c)
     where
       same_function : (g f : FunctionTree) → p.FunctionItem g ≡ p.FunctionItem f → g ≡ f
       same_function g f e = cc
@@ -135,9 +134,9 @@ module _ (program : ProgramTree) (facts : Facts) (valid : IsValid program facts)
   body_covers (p.VariablesItem variables ∷ xs) zero f is at c = absurd (cc)
   body_covers (p.StructItem name members ∷ xs) (suc i) f is at c = body_covers xs i f is at c
   body_covers (p.VariablesItem variables ∷ xs) (suc i) f is at c = body_covers xs i f is at c
-  body_covers (p.FunctionItem g ∷ xs) (suc i) f is at c = right at (body_indices g.body) (bodies told xs) (body_covers xs i f is at c)
+  body_covers (p.FunctionItem g ∷ xs) (suc i) f is at c = right at (body_indices g.body) (bodies xs) (body_covers xs i f is at c)
 
-  function_index : (xs : List ItemTree) (i : ℕ) (f : FunctionTree) → slice_get xs i ≡ Some (p.FunctionItem f) → (j : ℕ) × (slice_get (all_functions told xs) j ≡ Some f)
+  function_index : (xs : List ItemTree) (i : ℕ) (f : FunctionTree) → slice_get xs i ≡ Some (p.FunctionItem f) → (j : ℕ) × (slice_get (all_functions xs) j ≡ Some f)
   function_index [] i f is = absurd (cc)
   function_index (p.FunctionItem g ∷ xs) zero f is = (0, same_function g f is)
     where
@@ -234,10 +233,10 @@ module _ (program : ProgramTree) (facts : Facts) (valid : IsValid program facts)
   frameless : (f : FunctionTree) (k : IsFine program facts valid f) → may_run false f.mode ≡ true → frame_at (tables_by program facts) f.name.at 0 ≡ None
   frameless f k may = found_none (tables_by program facts) (OfText told items) f.name.at 0 never (regions_of told items) (of_text told items)
     where
-      own : (j : ℕ) × (slice_get (all_functions told items) j ≡ Some f)
+      own : (j : ℕ) × (slice_get (all_functions items) j ≡ Some f)
       own = function_index items k.index f k.there
 
-      names_once : (at : ℕ) → times name_at at (all_functions told items) ≤ 1
+      names_once : (at : ℕ) → times name_at at (all_functions items) ≤ 1
       names_once at = omega (arith, once at)
 
       same_body : (a b : Statements) → Some a ≡ Some b → a ≡ b
@@ -245,10 +244,10 @@ module _ (program : ProgramTree) (facts : Facts) (valid : IsValid program facts)
 
       never : (r : _) → OfText told items r → r.at ≡ f.name.at → ⊥
       never r (inl w) e =
-          let covers = subst (λ at. Covers at (bodies told items)) e w.1 in
+          let covers = subst (λ at. Covers at (bodies items)) e w.1 in
           omega (arith, covers, named f own.0 own.1, once f.name.at)
       never r (inr o) e =
-          let same : o.function ≡ f = same_at name_at (all_functions told items) names_once o.index own.0 o.function f o.there own.1 (sym o.same ∙ e) in
+          let same : o.function ≡ f = same_at name_at (all_functions items) names_once o.index own.0 o.function f o.there own.1 (sym o.same ∙ e) in
           let bodies_same : o.body ≡ k.body = same_body o.body k.body (sym o.has ∙ ap (λ (g : FunctionTree). g.body) same ∙ k.has) in
           let none : own_words told o.function.parameters o.body ≡ 0 =
           ap (λ (g : FunctionTree). own_words told g.parameters o.body) same ∙ ap (own_words told f.parameters) bodies_same ∙ wordless f k may in

@@ -1,5 +1,5 @@
 -- Of the predeclared names one alone means words of a group's space.
-use Rattle.std.proofs.Common.{◌≡◌, ℕ, zero, suc, ◌<◌, false, true≢false, List, [], length, subst, refl, ◌∙◌, arith}
+use Rattle.std.proofs.Common.{◌≡◌, ℕ, zero, suc, ◌<◌, false, true≢false, List, [], subst, refl, ◌∙◌, arith}
 use Rattle.std.specs.Prelude.{get_or, Contains}
 use Rattle.std.proofs.lemmas.List.{get_or_default}
 use Rattle.fk_syntax.specs.Tree.{Named}
