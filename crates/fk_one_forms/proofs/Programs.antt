@@ -83,16 +83,16 @@ module _ (tables : Tables) (may_call : (in_group : Bool) → (function : ℕ) �
 
   -- functions that processors call by themselves have no parameters with `sh`
   unshared_in : (main : ℕ) (fs : List FunctionTree) → FunctionsInPlace tables may_call main fs → (binding : ℕ) → may_call false binding ≡ true
-      → NoneShared tables may_call (signature_in tables fs binding).parameters
+      → NoneShared (signature_in tables fs binding).parameters
   unshared_in main [] h binding may = tt
   unshared_in main (f ∷ fs) h binding may = by (binding_of tables f == binding) refl (unshared_in main fs h.3 binding may)
     where
-      by : (is : Bool) → (binding_of tables f == binding) ≡ is → NoneShared tables may_call (signature_in tables fs binding).parameters
-          → NoneShared tables may_call (if is then signature_of f else signature_in tables fs binding).parameters
+      by : (is : Bool) → (binding_of tables f == binding) ≡ is → NoneShared (signature_in tables fs binding).parameters
+          → NoneShared (if is then signature_of f else signature_in tables fs binding).parameters
       by true is others = (h.1 (subst (λ b. may_call false b ≡ true) (sym (eqb-true (binding_of tables f) binding is)) may)).2
       by false is others = others
 
-  module _ (unshared : (binding : ℕ) → may_call false binding ≡ true → NoneShared tables may_call (functions binding).parameters) where
+  module _ (unshared : (binding : ℕ) → may_call false binding ≡ true → NoneShared (functions binding).parameters) where
     -- a function, by its parts
     function_by : (b : Base) (outermost main : Bool) (mode : Mode) (result : TypeTree) (name : Named) (parameters : List DeclaredTree) (body : Option Statements)
         → let f : FunctionTree = record { mode = mode; result = result; name = name; parameters = parameters; body = body } in

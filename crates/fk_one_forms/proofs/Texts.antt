@@ -154,7 +154,7 @@ meets_in (Body true) e = λ way. refl
 meets_in (Body false) e = λ way. refl
 
 module _ (tables : Tables) (functions : (binding : ℕ) → Signature) (may_call : (in_group : Bool) → (function : ℕ) → Bool)
-    (unshared : (binding : ℕ) → may_call false binding ≡ true → NoneShared tables may_call (functions binding).parameters) where
+    (unshared : (binding : ℕ) → may_call false binding ≡ true → NoneShared (functions binding).parameters) where
   abbrev pub Fine : Want → Coded → Type 0
   Fine x code = wants.Fine tables functions may_call unshared x code
 

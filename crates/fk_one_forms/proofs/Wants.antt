@@ -174,7 +174,7 @@ arm w = record {
 }
 
 module _ (tables : Tables) (functions : (binding : ℕ) → Signature) (may_call : (in_group : Bool) → (function : ℕ) → Bool)
-    (unshared : (binding : ℕ) → may_call false binding ≡ true → NoneShared tables may_call (functions binding).parameters) where
+    (unshared : (binding : ℕ) → may_call false binding ≡ true → NoneShared (functions binding).parameters) where
   -- plain code of the right shape leads
   abbrev pub Fine : Want → Coded → Type 0
   Fine w code = AllOf is_plain code → Shape w.part false w.exits code → Leads may_call w.function w.loop (place_of w.base) code (end_of_part w.base w.part)
@@ -268,7 +268,7 @@ module _ (tables : Tables) (functions : (binding : ℕ) → Signature) (may_call
   shares : (w : Want) (name : Named) → Calls tables may_call (in_group w.base) name → SharesAgree Fine w (functions (note tables name.at).binding).parameters
   shares w name means = by (in_group w.base) refl means.0
     where
-      never : (xs : List DeclaredTree) → NoneShared tables may_call xs → SharesAgree Fine w xs
+      never : (xs : List DeclaredTree) → NoneShared xs → SharesAgree Fine w xs
       never [] h = tt
       never (x ∷ xs) h = ((λ e rest p. absurd (true≢false (sym e ∙ h.0))), never xs h.1)
 
