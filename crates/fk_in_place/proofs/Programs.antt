@@ -295,7 +295,7 @@ module _ (program : ProgramTree) (facts : Facts) (valid : IsValid program facts)
   not_sync Straight may e = cc
 
   pub none_shared : (mode : Mode) → may_run false mode ≡ true → (xs : List DeclaredTree)
-      → Each (Mine program facts valid functions (thing program valid.well_formed)) (s.parameters_tokens [] mode xs) → NoneShared (tables program facts valid) (may_call program) xs
+      → Each (Mine program facts valid functions (thing program valid.well_formed)) (s.parameters_tokens [] mode xs) → NoneShared xs
   none_shared mode may [] h = tt
   none_shared mode may (x ∷ xs) h = (
     false_from_ne_true x.shared (λ e.
