@@ -17,9 +17,7 @@ of_one_group core main nestings other levels list = record {
   within = list.within;
   alone = list.alone;
   levels = levels;
-  outs = list.outs;
-  follows_course = list.follows_course;
-  goes = list.goes;
+  one_group = list.one_group;
   well_formed = list.well_formed;
   may = list.may;
 }
