@@ -12,9 +12,9 @@
        ./fork95 exec sums.image --harts 1 --cycles 1000000 </dev/null
 
    The first words of code set the registers of a hart, and behind them stands the code that all
-   calls share. The operations of main begin at 0x20c, each with a block of its own: a number is
-   pushed by three instructions. The value list stands at the end of the call's frame, which s1
-   points to, in the hart's own memory at 0x20000000, and putint is a store to the device at
+   calls and all starts share. The rest are the operations of main, each with a block of its own: a
+   number is pushed by three instructions. The value list stands at the end of the call's frame, which
+   s1 points to, in the hart's own memory at 0x20000000, and putint is a store to the device at
    0x30000000. */
 #include <io.h>
 
