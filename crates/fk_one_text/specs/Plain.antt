@@ -6,7 +6,7 @@ use Rattle.fk_forms.specs.Program.{bodies_of, main_of}
 use Rattle.fk_walk.specs.declared.known.Known.{Known}
 use Rattle.fk_layout.specs.Layout.{tables_by}
 use Rattle.fk_core.specs.declared.op.CoreOp.{CoreOp}
-use Rattle.fk_core.specs.Next.{position, next}
+use Rattle.fk_core.specs.Next.{position, landing, next}
 use Rattle.fk_flat.specs.Laws.{IsFlat}
 use Rattle.fk_lower_text.specs.Lowered.{HasSites}
 use Rattle.fk_one_group.specs.Runs.{AlwaysOneGroup}
@@ -23,4 +23,4 @@ PlainProgramsHaveOneGroup =
     → let tables = tables_by program facts in
     ArePlain tables program
     → (core : List CoreOp) (entry : (binding : ℕ) → ℕ) → IsFlat (bodies_of tables program) core entry → HasOwnSites core
-    → AlwaysOneGroup (next core) (position (entry (main_of tables program)) [])
+    → AlwaysOneGroup (next core) (λ w. landing core w.at) (position (entry (main_of tables program)) [])
