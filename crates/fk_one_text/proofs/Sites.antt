@@ -61,7 +61,7 @@ one_place (act n op target ∷ items) first (site ∷ sites) (suc d) (suc g) s e
 -- ---- of a list that has the items
 
 jump_none : (op : CoreOp) → is_jump op ≡ true → operation_of op.kind op.number ≡ None
-jump_none op jump = ap (λ k. operation_of k op.number) (eqb-true op.kind 0 jump)
+jump_none op is = ap (λ k. operation_of k op.number) (eqb-true op.kind 0 is)
 
 none_read : (core : List CoreOp) (op : CoreOp) (operation : Operation) → is_jump op ≡ true → operation_of op.kind op.number ≡ Some operation → ⊥
 none_read core op operation jumps read = let e = sym (jump_none op jumps) ∙ read in cc
