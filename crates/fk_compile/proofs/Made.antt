@@ -20,8 +20,7 @@ use Rattle.fk_image.specs.declared.Image.{Image}
 use Rattle.fk_image.specs.Limits.{IsSite, IsCommit, Rise}
 use Rattle.fk_asm.specs.Commits.{IsCommitTable}
 use Rattle.fk_asm.specs.declared.code.Code.{Code}
-use Rattle.fk_block_law.specs.Stands.{Places}
-use Rattle.fk_group_law.specs.Node.{Nestings, Gathering}
+use Rattle.fk_group_law.specs.Node.{Gathering}
 use Rattle.fk_group_law.specs.Law.{GroupLaw}
 use Rattle.fk_group_code.specs.Cycles.{cycles_of}
 use Rattle.fk_group_code.specs.Laws.{none_saved}
@@ -34,7 +33,7 @@ use Rattle.fk_text.specs.declared.refusal.Refusal.{Refusal}
 use Rattle.fk_text.specs.Refusal.{IsRefused}
 use Rattle.fk_generate.specs.Generable.{IsGenerable, HasCode}
 use Rattle.fk_compile.specs.Lists.{HasListOf, IsGrouped}
-use Rattle.fk_compile.specs.Faithful.{in_image, in_table, words_by, firsts_by}
+use Rattle.fk_compile.specs.Faithful.{in_image, in_table, words_by}
 use Rattle.fk_compile.proofs.Limits.{sites_fit, commits_fit, commits_rise}
 use Rattle.fk_compile.proofs.Theorem.{IsCompiled}
 

@@ -1,5 +1,5 @@
 -- What is known of the states that the runs of such a list come to, and of the machine before its first cycle.
-use Rattle.std.proofs.Common.{◌≡◌, ℕ, zero, suc, ◌+◌, ◌≤◌, ◌<◌, List, [], ◌∷◌, length, Some, None, sym, ap, subst, ◌∙◌, refl, arith}
+use Rattle.std.proofs.Common.{◌≡◌, ℕ, zero, suc, ◌+◌, ◌≤◌, ◌<◌, List, [], length, Some, None, ap, ◌∙◌, refl, arith}
 use Rattle.std.specs.Prelude.{slice_get, slice_index}
 use Rattle.fk_num.specs.Word.{Memory}
 use Rattle.fk_tree.specs.Tree.{root}

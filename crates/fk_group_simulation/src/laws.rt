@@ -53,7 +53,7 @@ pub fn who_has_united_will()
 
 /// A machine of an image that has the law of blocks of groups follows a lawful schedule of the list's core runs, one round for
 /// each cycle, in which who could act is in one of any 256 rounds. Its output, shared data and stand, a fault at a site included,
-/// are those of that core run. So it is where each cycle goes further (`AlwaysGoesFurther`), which is still to be proved of lists.
+/// are those of that core run. So it is where each cycle goes further (`AlwaysGoesFurther`), as it does in runs of lists with one group.
 pub fn machines_follow_group_runs()
     ensures { MachinesFollowGroupRuns }
 {}

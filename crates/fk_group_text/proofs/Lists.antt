@@ -1,5 +1,5 @@
 -- The lists of plain programs have one group at a time.
-use Rattle.std.proofs.Common.{◌≡◌, true, false, true≢false, sym}
+use Rattle.std.proofs.Common.{◌≡◌, true, true≢false, sym}
 use Rattle.fk_operation.specs.Kinds.{class_of}
 use Rattle.fk_operation.specs.declared.operation.Operation.{Operation}
 use Rattle.fk_operation.specs.declared.operation.Operation.TheVariants as o
