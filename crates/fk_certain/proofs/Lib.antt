@@ -9,7 +9,6 @@ pub mod WordSlots
 pub mod WordRoom
 pub mod Bindings
 pub mod Firsts
-pub mod Small
 pub mod Laid
 mod Proper
 mod Sizes

@@ -1,5 +1,5 @@
 -- What is so of each program that keeps all rules and has a layout.
-use Rattle.std.specs.Prelude.{◌≡◌, ◌≤◌, List, length, sum_by}
+use Rattle.std.specs.Prelude.{◌≡◌, ◌≤◌, length}
 use Rattle.fk_syntax.specs.declared.facts.Facts.{Facts}
 use Rattle.fk_syntax.specs.Program.{ProgramTree}
 use Rattle.fk_globals.specs.Constants.{told}
@@ -8,12 +8,9 @@ use Rattle.fk_layout.specs.Layout.{tables_by}
 use Rattle.fk_layout.specs.Refusal.{Fits}
 use Rattle.fk_walk.specs.declared.known.Known.{Known}
 use Rattle.fk_walk.specs.Known.{tables_of, items_in}
-use Rattle.fk_walk_statements.specs.Texts.{functions_in, sites_of_text}
-use Rattle.fk_core.specs.declared.op.CoreOp.{CoreOp}
+use Rattle.fk_walk_statements.specs.Texts.{functions_in}
 use Rattle.fk_lower_text.specs.Whole.{AreWhole}
 use Rattle.fk_lower_text.specs.Laid.{GoUp, CanBeLaid}
-use Rattle.fk_lower_text.specs.Lowered.{HasSites}
-use Rattle.fk_generate.specs.Generable.{most_words}
 use Rattle.fk_fitting.specs.Correct.{IsCorrect}
 
 -- what is known is that of a program, with its facts
@@ -30,10 +27,6 @@ abbrev pub FirstsAreFew : Type 0
 FirstsAreFew =
     (program : ProgramTree) (facts : Facts) → IsCorrect program facts → Fits (tables_by program facts) program.items
     → length (firsts (told facts.notes.items facts.kinds.items) program.items) ≤ 56
-
--- the blocks of a list have few words where its text has few operations
-abbrev pub ListsAreSmall : Type 0
-ListsAreSmall = (known : Known) (core : List CoreOp) → HasSites known core → length (sites_of_text known) ≤ 16000 → sum_by most_words core ≤ 256000
 
 -- the functions can be laid where each number of an operation has room in a word
 abbrev pub TextsCanBeLaid : Type 0

@@ -1,7 +1,7 @@
 //! Laws of programs that keep all rules and have a layout, and of their lists.
 
 ghost use Rattle.fk_certain.specs.WordLaws.{MembersAreClose, NumbersHaveRoom};
-ghost use Rattle.fk_certain.specs.LoweringLaws.{BindingsGoUp, TextsCanBeLaid, FirstsAreFew, ListsAreSmall};
+ghost use Rattle.fk_certain.specs.LoweringLaws.{BindingsGoUp, TextsCanBeLaid, FirstsAreFew};
 ghost use Rattle.fk_certain.specs.Proper.{TextsAreProper};
 ghost use Rattle.fk_certain.specs.AskedLaws.{CorrectProgramsAreAsked, MainsHaveTheirPlace};
 ghost use Rattle.fk_certain.specs.FreeLaws.{FlatListsAreApart, ListsArePlain, ListsGoOnWithin};
@@ -40,12 +40,6 @@ pub fn texts_can_be_laid()
 /// frame of `main`, which has at most 64, and 8 before them.
 pub fn firsts_are_few()
     ensures { FirstsAreFew }
-{}
-
-/// The blocks of the list of a text of at most 16,000 operations have at most 256,000 words, each
-/// counted with as many as it has at most.
-pub fn lists_are_small()
-    ensures { ListsAreSmall }
 {}
 
 /// The structs of a text have members, and its parameters no lengths.

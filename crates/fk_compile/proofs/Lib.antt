@@ -1,3 +1,16 @@
+pub mod Wants
+pub mod LedTexts
+pub mod Led
+pub mod Evaluating
+pub mod OneProgram
+pub mod Sites
+pub mod PlainTexts
+-- the blocks of a list are few where its text has few operations
+mod Small
+mod Aims
+mod Blocks
+mod PlainLists
+pub mod OneGroup
 -- code is made of a list that is certain
 pub mod Generable
 -- the image of a text is within the limits of images

@@ -25,9 +25,9 @@ use Rattle.fk_lower.specs.Depths.{AreTold}
 use Rattle.fk_lower_text.specs.Depths.{depths_of}
 use Rattle.fk_certain.specs.Laws.{LoweredListsCanHaveGroups, count_of_file}
 use Rattle.fk_group_code.specs.Laws.{none_saved}
-use Rattle.fk_forked.specs.Laws.{IsLaidOut}
-use Rattle.fk_grouped.specs.Lists.{PlainListsHaveBlocks}
-use Rattle.fk_group_text.specs.Lists.{PlainListsAreOfOneGroup}
+use Rattle.fk_compile.specs.OneProgram.{IsLaidOut}
+use Rattle.fk_compile.specs.PlainLists.{PlainListsHaveBlocks}
+use Rattle.fk_compile.specs.OneGroup.{PlainListsAreOfOneGroup}
 use Rattle.fk_compile.specs.Lists.{HasListOf, IsGrouped}
 
 module _ (program : ProgramTree) (facts : Facts) (known : Known) (of : IsKnownOf program facts known) where

@@ -25,7 +25,7 @@ use Rattle.fk_group_law.specs.Law.{GroupLaw}
 use Rattle.fk_group_code.specs.Cycles.{cycles_of}
 use Rattle.fk_group_code.specs.Laws.{none_saved}
 use Rattle.fk_group_code.specs.Whole.{GivesGroupLaw}
-use Rattle.fk_grouped.specs.Lists.{StepsFindValues}
+use Rattle.fk_compile.specs.PlainLists.{StepsFindValues}
 use Rattle.fk_group_course.specs.Follow.{CarriesGroups}
 use Rattle.fk_kept.specs.declared.set.Set.{Set}
 use Rattle.fk_certain.specs.Certain.{HasFrames}

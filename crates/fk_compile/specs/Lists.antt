@@ -9,7 +9,7 @@ use Rattle.fk_flat.specs.Laws.{IsFlat}
 use Rattle.fk_generate.specs.Generable.{HasBlocks}
 use Rattle.fk_group_law.specs.Node.{Gathering}
 use Rattle.fk_group_code.specs.Laws.{none_saved}
-use Rattle.fk_group_facts.specs.Lists.{IsOfOneGroup}
+use Rattle.fk_group_course.specs.Lists.{IsOfOneGroup}
 use Rattle.fk_certain.specs.Laws.{CanHaveGroups}
 
 -- it is flat, and the code of each function stands at its entry, that of `main` at this index

@@ -8,10 +8,10 @@ ghost use Rattle.fk_text.specs.Text.{HasLayout, IsBuilt, KeepsRules};
 ghost use Rattle.fk_compile.specs.Faithful.{IsFaithful};
 
 use crate::image::{are_words, site_table};
+use crate::laws::steps_find_values;
 use crate::list::{kept_words, list_of};
 use fk_group_code::generate;
 use fk_group_course::laws::machines_follow_groups;
-use fk_grouped::laws::steps_find_values;
 use fk_image::Image;
 use fk_simulation::laws::programs_are_followed;
 use fk_text::{Refusal, built_text};

@@ -1,6 +1,107 @@
-//! Laws of the definitions.
+//! Laws of texts with one group at a time, of their lists, and of their images.
 
+ghost use Rattle.fk_compile.specs.Led.{ProgramsAreLed};
+ghost use Rattle.fk_compile.specs.OneProgram.{AskedEvaluates, TypedEvaluates, ForksGiveValues, CorrectProgramsHaveOneProgram, TextsHaveOneProgram, TextsHaveOneSpace};
+ghost use Rattle.fk_compile.specs.PlainTexts.{SitesAreOwn, PlainProgramsHaveOneGroup};
+ghost use Rattle.fk_compile.specs.PlainLists.{StraightHasNoTarget, PlainListsHaveBlocks, StepsFindValues, GroupedListsAreGenerable, ListsAreSmall};
+ghost use Rattle.fk_compile.specs.OneGroup.{PlainListsAreOfOneGroup};
 ghost use Rattle.fk_compile.specs.Laws.{NeverTraps};
+
+use fk_certain::laws::texts_are_proper;
+use fk_frame_order::laws::frames_stand_behind_first;
+use fk_parsed::laws::texts_are_trim;
+
+/// Where a program is in place, and none of its operations splits a group or takes a frame or a block of one, its code leads each
+/// processor from place to place.
+pub fn programs_are_led()
+    ensures { ProgramsAreLed }
+{}
+
+/// An expression that is as well typed code asks it leaves one value or none, whichever way is gone in
+/// it, and whatever it calls.
+pub fn asked_expressions_evaluate()
+    ensures { AskedEvaluates }
+{}
+
+/// So does one that has a type: one value, or none where its type is nothing.
+pub fn typed_expressions_evaluate()
+    ensures { TypedEvaluates }
+{}
+
+/// In a program that keeps all rules and has a layout each part and rank that is told for a `fork`
+/// gives one value.
+pub fn forks_give_values()
+    ensures { ForksGiveValues }
+{}
+
+/// After every lawful schedule of such a program without a stopped last round all members of a group
+/// in lockstep have the same left to do, and where a branch stands in it, the same last value. They
+/// have the same `@` and the same sizes of their group and of all groups round it.
+pub fn correct_programs_have_one_program()
+    ensures { CorrectProgramsHaveOneProgram }
+{}
+
+/// So it is of the program that a text spells.
+pub fn texts_have_one_program()
+    ensures { TextsHaveOneProgram }
+{
+    texts_are_trim();
+    texts_are_proper();
+}
+
+/// And all members of a group in lockstep have levels that differ in `$` alone: of their group and of
+/// each group round it they have the same `@`, size and space. So have those who wait at one node.
+pub fn texts_have_one_space()
+    ensures { TextsHaveOneSpace }
+{
+    texts_are_trim();
+    texts_are_proper();
+    frames_stand_behind_first();
+}
+
+/// No two operations in the list of a text have one site.
+pub fn sites_are_own()
+    ensures { SitesAreOwn }
+{}
+
+/// In every run of the list of a program that keeps all rules, has a layout, and in which no group splits or takes a frame or a
+/// block, there is one group at most at a time, and its members in lockstep are at one index of the list: after every lawful
+/// schedule in whose rounds each processor does one operation at most, and whose last round isn't stopped.
+pub fn plain_programs_have_one_group()
+    ensures { PlainProgramsHaveOneGroup }
+{}
+
+/// The blocks of the list of a text of at most 16,000 operations have at most 256,000 words, each
+/// counted with as many as it has at most.
+pub fn lists_are_small()
+    ensures { ListsAreSmall }
+{}
+
+/// In the flat list of code an operation that goes straight on has the target 0.
+pub fn straight_has_no_target()
+    ensures { StraightHasNoTarget }
+{}
+
+/// Each operation of a flat list of plain operations, which goes on within itself, has a block, and its target is in the list.
+pub fn plain_lists_have_blocks()
+    ensures { PlainListsHaveBlocks }
+{}
+
+/// Where each operation of a list finds the values that it needs, each step of a group finds the one that it looks at.
+pub fn steps_find_values()
+    ensures { StepsFindValues }
+{}
+
+/// Code can be made of a flat list that is steady, with the words that are live in it.
+pub fn grouped_lists_are_generable()
+    ensures { GroupedListsAreGenerable }
+{}
+
+/// The flat list of a program that keeps all rules, has a layout, and in which no group splits or takes a frame or a block, with
+/// the depths and sites of its text, is one with one group at a time, as laws of machines ask it.
+pub fn plain_lists_are_of_one_group()
+    ensures { PlainListsAreOfOneGroup }
+{}
 
 /// A machine that runs an image of a text never traps: it goes on, has finished, or has faulted where
 /// the text's program faults.

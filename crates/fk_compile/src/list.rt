@@ -23,14 +23,16 @@ ghost use Rattle.fk_text.specs.Text.{IsChecked};
 ghost use Rattle.fk_compile.specs.Lists.{HasListOf, IsGrouped};
 
 use crate::image::are_words;
+use crate::laws::{
+    grouped_lists_are_generable, lists_are_small, plain_lists_are_of_one_group,
+    plain_lists_have_blocks,
+};
 use fk_certain::laws::{
-    lists_are_small, lowered_lists_can_have_groups, numbers_have_room, operations_have_numbers,
-    texts_are_proper, texts_can_be_laid,
+    lowered_lists_can_have_groups, numbers_have_room, operations_have_numbers, texts_are_proper,
+    texts_can_be_laid,
 };
 use fk_core::CoreOp;
 use fk_fitting::laws::correct_programs_fit;
-use fk_group_text::laws::plain_lists_are_of_one_group;
-use fk_grouped::laws::{grouped_lists_are_generable, plain_lists_have_blocks};
 use fk_kept::{Set, live_words};
 use fk_lookup::Lookup;
 use fk_lower::LowerFault;

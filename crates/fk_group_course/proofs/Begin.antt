@@ -15,8 +15,8 @@ use Rattle.fk_group_rounds.specs.Unite.{AllUnite}
 use Rattle.fk_group_rounds.proofs.Unite.{unites_is}
 use Rattle.fk_group_runs.specs.Beside.{landed_runner}
 use Rattle.fk_group_runs.proofs.Landed.{next_landed}
-use Rattle.fk_group_facts.specs.Begins.{Begins}
-use Rattle.fk_group_facts.proofs.Begins.{uniters_begin}
+use Rattle.fk_group_course.specs.Begins.{Begins}
+use Rattle.fk_group_course.proofs.Begins.{uniters_begin}
 
 module _ (core : List CoreOp) where
   abbrev pub AllBegin : List (Runner Position) → Type 0

@@ -1,72 +1,116 @@
--- What is known of the states that the runs of such a list come to, and of the machine before its first cycle.
-use Rattle.std.proofs.Common.{◌≡◌, ℕ, zero, suc, ◌+◌, ◌≤◌, ◌<◌, List, [], length, Some, None, ap, ◌∙◌, refl, arith}
+-- What is known of the states that runs of lists with one group at a time come to.
+use Rattle.std.proofs.Common.{◌≡◌, ◌⊎◌, inl, ⊎_elim, ℕ, ◌<◌, Bool, true, List, [], length, Option, Some, None, sym, ap, ◌∙◌, subst, arith}
 use Rattle.std.specs.Prelude.{slice_get, slice_index}
-use Rattle.fk_num.specs.Word.{Memory}
-use Rattle.fk_tree.specs.Tree.{root}
+use Rattle.std.proofs.lemmas.List.Elements.{All-nil}
+use Rattle.fk_tree.specs.Tree as t
+use Rattle.fk_tree.specs.Tree.{Tree}
 use Rattle.fk_run.specs.Processor.{Setting, setting_of}
-use Rattle.fk_run.specs.Round.{Runner, State}
-use Rattle.fk_run.specs.Schedule.{Schedule, first_processor, beginners, run, IsLawful}
+use Rattle.fk_run.specs.Group.{goes_onward}
+use Rattle.fk_run.specs.Round.{Step, Runner, State, Round, Acting, agreed, lowest, all_changes, settled_by, settled, result, is_possible}
+use Rattle.fk_run.specs.Schedule.{Schedule, run, IsLawful}
+use Rattle.fk_lockstep.proofs.Rounds.{settled_at}
 use Rattle.fk_core.specs.declared.op.CoreOp.{CoreOp}
-use Rattle.fk_core.specs.Next.{Position, position, next, opening}
+use Rattle.fk_core.specs.Next.{Position, position, landing, next, opening}
+use Rattle.fk_together.proofs.Round.{first_is, at_below, settled_length}
+use Rattle.fk_one_group.specs.Rounds.{IsSingle, stepping}
 use Rattle.fk_one_group.specs.Runs.{AreSingle}
-use Rattle.fk_image.specs.declared.Image.{Image}
-use Rattle.fk_block_law.specs.Stands.{Places}
-use Rattle.fk_block_law.specs.Block.{beginner}
-use Rattle.fk_simulation.specs.InRange.{AreGiven}
-use Rattle.fk_simulation.specs.Follows.{IsInput}
+use Rattle.fk_one_group.proofs.Acts.{Acts, acts, stepping_length, result_is}
+use Rattle.fk_one_group.proofs.Opening.{begins_at}
+use Rattle.fk_one_group.proofs.Runs.{are_all, round_by_round}
+use Rattle.fk_block_law.specs.Next.{step_at}
+use Rattle.fk_block_law.specs.Lists.{IsWithin}
+use Rattle.fk_simulation.specs.InRange.{ListsStayInRange}
 use Rattle.fk_group_law.specs.Node.{Nestings}
-use Rattle.fk_group_law.specs.Law.{Cycles}
-use Rattle.fk_group_rounds.specs.Next.{landed, HasNext}
-use Rattle.fk_group_facts.specs.Reached.{IsReached, RunsReach}
-use Rattle.fk_group_facts.specs.Facts.{spaces_of}
-use Rattle.fk_group_facts.proofs.Nexts.{reached_processors_have_next}
-use Rattle.fk_group_simulation.specs.Opening.{OpensWith}
-use Rattle.fk_group_simulation.proofs.Opening.{openings_are_followed}
-use Rattle.fk_group_course.specs.Follow.{CarriesGroups}
+use Rattle.fk_group_course.specs.Lists.{IsOfOneGroup}
+use Rattle.fk_group_course.specs.Reached.{the_end, RunsReach}
+use Rattle.fk_group_course.proofs.Ways.{leading, ended_next, goes_within}
 
--- a processor before the first round
-abbrev first_runner : Setting → (firsts : Memory) → (left : Position) → (number : ℕ) → Runner Position
-first_runner set firsts left number = record { left = left; has = first_processor set firsts number }
+abbrev IsThere : List CoreOp → Position → Type 0
+IsThere core w = IsWithin core w ⊎ (w ≡ the_end core)
 
-beginner_at : (set : Setting) (firsts : Memory) (left : Position) (h count i : ℕ) → i < count → slice_get (beginners set firsts left h count) i ≡ Some (first_runner set firsts left (h + i))
-beginner_at set firsts left h zero i lt = absurd (omega (arith, lt))
-beginner_at set firsts left h (suc count) zero lt = ap (λ k. Some (first_runner set firsts left k)) (omega arith)
-beginner_at set firsts left h (suc count) (suc i) lt =
-    beginner_at set firsts left (suc h) count i (omega (arith, lt)) ∙ ap (λ k. Some (first_runner set firsts left k)) (omega arith)
+abbrev AreThere : List CoreOp → State Position → Type 0
+AreThere core s = (h : ℕ) (r : Runner Position) → slice_get s.runners h ≡ Some r → IsThere core r.left
 
-module _ (runs_reach : RunsReach) (core : List CoreOp) (main : ℕ) (firsts : List ℕ) (places : Places) (nestings : Nestings) (cycles : Cycles) (image : Image) (carries : CarriesGroups core main firsts places nestings cycles image)
-    (input : List ℕ) (p : ℕ) (is_input : IsInput image input) (some : 1 ≤ p) (few : p ≤ 1024) where
-  abbrev pub setting : Setting
-  setting = setting_of p image.globals.items input
+-- each round keeps them there
+module _ (core : List CoreOp) (set : Setting) (round : Round) (s : State Position) (single : IsSingle round) (possible : is_possible (next core) set round s ≡ true)
+    (goes : (h : ℕ) (r : Runner Position) → slice_get s.runners h ≡ Some r → IsThere core r.left → (step : Step Position) → next core r.left ≡ Some step → (onward : Bool) → IsThere core (step.rest onward))
+    (there : AreThere core s) where
+  abbrev actors : List (Acting Position)
+  actors = stepping (next core) set round s
 
-  abbrev pub first : State Position
-  first = opening main image.globals.items firsts input p
+  abbrev new : Tree
+  new = all_changes actors s.tree actors s.tree
 
-  abbrev pub state : Schedule → State Position
-  state schedule = run (next core) (setting_of p image.globals.items input) schedule (opening main image.globals.items firsts input p)
+  settled_there : (h : ℕ) (a : Acts (next core) set round s single possible h) → IsThere core (settled_by actors s.tree new a.acting.runner a.acting.due).left
+  settled_there h a =
+      let here = there h a.runner a.is in
+      ⊎_elim
+      (λ idle. subst (λ (x : Acting Position). IsThere core (settled_by actors s.tree new x.runner x.due).left) (sym idle.0) here)
+      (λ busy. ⊎_elim
+      (λ moved.
+      subst (λ (due : Option (Step Position)). IsThere core (settled_by actors s.tree new a.acting.runner due).left) (sym moved.due)
+      (subst (IsThere core) (sym moved.left) (goes h a.runner a.is here moved.step moved.next_is moved.onward)))
+      (λ d.
+      let ms = t.members s.tree (s.tree.places a.runner.has.number) in
+      subst (λ (x : Acting Position). IsThere core (settled_by actors s.tree new x.runner x.due).left) (sym d.is)
+      (goes h a.runner a.is here d.step d.next_is (goes_onward d.step.operation (agreed actors ms) (lowest ms) a.runner.has)))
+      busy.1)
+      a.comes
 
-  pub given : AreGiven image.globals.items firsts input p
-  given = record { few = few; room = is_input.room; globals_are_words = carries.globals_are_words; firsts_are_words = carries.firsts_are_words; input_are_words = is_input.words }
+  round_there : AreThere core (result (next core) set round s)
+  round_there =
+      subst (AreThere core) (sym (result_is (next core) set round s single possible))
+      (λ h r at.
+      let below = at_below (settled actors s.tree new actors) h r at in
+      let long = settled_length actors s.tree new actors in
+      let many = stepping_length (next core) set round s single possible in
+      let a = acts (next core) set round s single possible h (omega (arith, below, long, many)) in
+      let same : r ≡ settled_by actors s.tree new a.acting.runner a.acting.due
+      = first_is r (settled_by actors s.tree new a.acting.runner a.acting.due) (sym at ∙ settled_at actors s.tree new actors h a.acting a.at) in
+      subst (λ (x : Runner Position). IsThere core x.left) (sym same) (settled_there h a))
 
-  pub reached : (schedule : Schedule) → IsLawful (next core) setting schedule first → AreSingle schedule → (state schedule).fault ≡ None → IsReached core setting (state schedule)
-  reached schedule lawful single none =
-      runs_reach core nestings main carries.one_group image.globals.items firsts input p schedule some given lawful single none
+module _ (core : List CoreOp) (nestings : Nestings) (main : ℕ) (list : IsOfOneGroup core nestings main) (words firsts input : List ℕ) (p : ℕ) where
+  abbrev set : Setting
+  set = setting_of p words input
 
-  -- ---- the opening
+  abbrev first : State Position
+  first = opening main words firsts input p
 
-  nothing_yet : IsLawful (next core) setting [] first
-  nothing_yet = record { possible = tt; pace = λ h t le able. absurd (omega (arith, le)) }
+  begin_there : AreThere core first
+  begin_there h r at =
+      let b = begins_at set (slice_index firsts) (position main []) 0 p h r at in
+      inl (subst (IsWithin core) (sym b.left) (record { at = list.begins; callers = All-nil (λ i. i < length core) }))
 
-  begins_at : (number : ℕ) → number < p → HasNext core nestings setting (root p) number (landed core (beginner setting (slice_index firsts) main number))
-  begins_at number lt =
-      let r = first_runner setting (slice_index firsts) (position main []) number in
-      let none : 0 + number ≡ number = omega arith in
-      let at : slice_get first.runners number ≡ Some r
-      = beginner_at setting (slice_index firsts) (position main []) 0 p number lt ∙ ap (λ k. Some (first_runner setting (slice_index firsts) (position main []) k)) none in
-      let within = carries.one_group.begins in
-      reached_processors_have_next core nestings main setting first number r (λ i. 0) carries.one_group (reached [] nothing_yet tt refl) at
-      (λ e. let same : main ≡ length core = ap (λ w. w.at) e in omega (arith, within, same))
+  -- behind its operation
+  goes_there : (schedule : Schedule) → IsLawful (next core) set schedule first → (run (next core) set schedule first).fault ≡ None → (h : ℕ) (r : Runner Position)
+      → slice_get (run (next core) set schedule first).runners h ≡ Some r → IsThere core r.left → (step : Step Position) → next core r.left ≡ Some step → (onward : Bool) → IsThere core (step.rest onward)
+  goes_there schedule lawful none h r at there step e onward =
+      ⊎_elim
+      (λ w.
+      let l = leading core list.well_formed.leads_on r.left w.at in
+      let same : step ≡ step_at core (landing core r.left.at) l.op l.operation r.left.callers = first_is _ _ (sym e ∙ l.is_next) in
+      let may = list.may words firsts input p schedule lawful none h r l.op l.operation at l.at.stands l.at.is_read in
+      subst (λ (x : Step Position). IsThere core (x.rest onward)) (sym same)
+      (goes_within core nestings main list (landing core r.left.at) l.op l.operation r onward l.at may w.callers))
+      (λ ended. let clash : None ≡ Some step = sym (ended_next core) ∙ ap (next core) (sym ended) ∙ e in absurd (cc)) there
 
-  pub opens : OpensWith core image places nestings (spaces_of setting) firsts main input p
-  opens =
-      openings_are_followed core image places nestings cycles firsts main (spaces_of setting) input p carries.blocks carries.one_group.jumps some few is_input.few begins_at
+  all_there : (schedule : Schedule) → IsLawful (next core) set schedule first → AreSingle schedule → (run (next core) set schedule first).fault ≡ None → AreThere core (run (next core) set schedule first)
+  all_there schedule lawful single none =
+      round_by_round (next core) set first (AreThere core)
+      (λ xs round before running' one possible there.
+      round_there core set round (run (next core) set xs first) one possible (λ h r at here step e onward. goes_there xs before running' h r at here step e onward) there)
+      [] schedule (are_all (next core) set schedule first lawful.possible none) lawful.pace single begin_there
+
+pub runs_reach : ListsStayInRange → RunsReach
+runs_reach stay core nestings main list words firsts input p schedule some given lawful single none =
+    let known = list.one_group p words input (slice_index firsts) schedule some lawful single none in
+    record {
+      sound = known.0;
+      one_program = known.1;
+      one_group = known.2;
+      beginners = known.3;
+      within = all_there core nestings main list words firsts input p schedule lawful single none;
+      depth = λ h r op at stands. list.well_formed.depths words firsts input p schedule lawful none h r op at stands;
+      may = λ h r op operation at stands is_read. list.may words firsts input p schedule lawful none h r op operation at stands is_read;
+      in_range = λ h r at. stay core main words firsts input p schedule given h r at;
+    }

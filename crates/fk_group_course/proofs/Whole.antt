@@ -17,21 +17,21 @@ use Rattle.fk_group_plans.specs.Rounds.{AllDue}
 use Rattle.fk_group_rounds.specs.After.{runners_of}
 use Rattle.fk_group_rounds.proofs.Groups.{many_length}
 use Rattle.fk_group_runs.specs.Machines.{GoesWith, GoesToStart, GoesOn, Unites, Starts}
-use Rattle.fk_group_facts.specs.Reached.{RunsReach}
-use Rattle.fk_group_facts.specs.Facts.{spaces_of}
-use Rattle.fk_group_facts.specs.Behind.{IsRoundOf, AreReached, RunsReachRounds}
-use Rattle.fk_group_facts.specs.Ready.{IsReady}
-use Rattle.fk_group_facts.proofs.Begins.{reached_beginners_land_at_one_index, reached_waiters_resume}
-use Rattle.fk_group_facts.proofs.Behind.{reached_rounds_go_on}
-use Rattle.fk_group_facts.proofs.Stages.{united_had_next, reached_stages_go_on}
-use Rattle.fk_group_facts.proofs.Ready.{reached_cycles_stay_ready, reached_starts_find_headers}
-use Rattle.fk_group_simulation.specs.Pace.{AreInTime}
-use Rattle.fk_group_simulation.specs.Runs.{StandsBeside, IsRound, GoesFurther, AlwaysGoesFurther, places_in, IsBehind}
-use Rattle.fk_group_simulation.proofs.Turning.{stay_length}
-use Rattle.fk_group_simulation.proofs.Runs.{few_harts, stand_in, many_in, machines_follow_group_runs, orderly_rounds_go_further, unions_go_further, starts_go_further}
+use Rattle.fk_group_course.specs.Reached.{RunsReach}
+use Rattle.fk_group_course.specs.Facts.{spaces_of}
+use Rattle.fk_group_course.specs.Behind.{IsRoundOf, AreReached, RunsReachRounds}
+use Rattle.fk_group_course.specs.Ready.{IsReady}
+use Rattle.fk_group_course.proofs.Begins.{reached_beginners_land_at_one_index, reached_waiters_resume}
+use Rattle.fk_group_course.proofs.Behind.{reached_rounds_go_on}
+use Rattle.fk_group_course.proofs.ReachedStages.{united_had_next, reached_stages_go_on}
+use Rattle.fk_group_course.proofs.Ready.{reached_cycles_stay_ready, reached_starts_find_headers}
+use Rattle.fk_group_course.specs.Pace.{AreInTime}
+use Rattle.fk_group_course.specs.Runs.{StandsBeside, IsRound, GoesFurther, AlwaysGoesFurther, places_in, IsBehind}
+use Rattle.fk_group_course.proofs.Turning.{stay_length}
+use Rattle.fk_group_course.proofs.Runs.{few_harts, stand_in, many_in, machines_follow_group_runs, orderly_rounds_go_further, unions_go_further, starts_go_further}
 use Rattle.fk_group_course.specs.Follow.{CarriesGroups, MachinesFollowGroups}
 use Rattle.fk_group_course.proofs.Begin.{all_begin, begins_at}
-use Rattle.fk_group_course.proofs.Reached as reaching
+use Rattle.fk_group_course.proofs.Machines as reaching
 
 module _ (runs_reach : RunsReach) (runs_reach_rounds : RunsReachRounds) (core : List CoreOp) (main : ℕ) (firsts : List ℕ) (places : Places) (nestings : Nestings) (cycles : Cycles) (image : Image) (carries : CarriesGroups core main firsts places nestings cycles image)
     (input : List ℕ) (p : ℕ) (is_input : IsInput image input) (some : 1 ≤ p) (few : p ≤ 1024) where

@@ -7,7 +7,7 @@ use Rattle.fk_block_law.specs.Stands.{Places}
 use Rattle.fk_simulation.specs.Follows.{IsInput, Follows}
 use Rattle.fk_group_law.specs.Node.{Nestings}
 use Rattle.fk_group_law.specs.Law.{Cycles, GroupLaw}
-use Rattle.fk_group_facts.specs.Lists.{IsOfOneGroup}
+use Rattle.fk_group_course.specs.Lists.{IsOfOneGroup}
 
 -- an image has the blocks of such a list, and these words at first
 pub record CarriesGroups (core : List CoreOp) (main : ℕ) (firsts : List ℕ) (places : Places) (nestings : Nestings) (cycles : Cycles) (image : Image) : Type 0 where

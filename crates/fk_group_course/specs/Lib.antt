@@ -1,2 +1,12 @@
+pub mod Lists
+pub mod Reached
+pub mod Facts
+pub mod Ready
+pub mod Begins
+pub mod Behind
+pub mod Opening
+pub mod Pace
+pub mod Turning
+pub mod Able
+pub mod Runs
 pub mod Follow
-pub mod Generated

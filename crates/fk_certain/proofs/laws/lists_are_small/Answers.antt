@@ -1,5 +1,0 @@
-use Rattle.fk_certain.proofs.Small.{lists_are_small}
-use Rattle.fk_certain.proofs.laws.lists_are_small.Goals as goal
-
-pub returns : goal.returns
-returns c = lists_are_small

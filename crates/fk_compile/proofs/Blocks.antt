@@ -1,0 +1,79 @@
+-- Plain operations have blocks, with their targets in the list, and find their values.
+use Rattle.std.proofs.Common.{◌≡◌, ℕ, ◌<◌, ◌≤◌, List, length, true, false, arith, refl, inl, inr}
+use Rattle.std.proofs.lemmas.Option.{slice_get_within}
+use Rattle.fk_operation.specs.declared.operation.Known.TheVariants.{FrameAddress}
+use Rattle.fk_operation.specs.declared.operation.Multiprefix.{Multiprefix}
+use Rattle.fk_operation.specs.declared.operation.Multiprefix.TheVariants.{MpAdd, MpMax, MpAnd, MpOr}
+use Rattle.fk_operation.specs.declared.operation.Operation.{Operation}
+use Rattle.fk_operation.specs.declared.operation.Operation.TheVariants.{Get, Branch, Leave, Combine, Heap, Begin, Agree, Frame, Block, Divide, Shrink, End, Resume, Farm, Seq, Meet, Halt}
+use Rattle.fk_core.specs.declared.op.CoreOp.{CoreOp}
+use Rattle.fk_flat.specs.Items.{straight, way_of}
+use Rattle.fk_depths.specs.Local.{needs}
+use Rattle.fk_block_law.specs.Next.{StandsOp}
+use Rattle.fk_block_law.specs.Ready.{is_alone}
+use Rattle.fk_typed_code.specs.Laws.{LeadsWithin}
+use Rattle.fk_generate.specs.Generable.{HasOwnBlock, has_target}
+use Rattle.fk_group_law.specs.Lockstep.{values_of_step}
+use Rattle.fk_text.specs.Plain.{is_plain}
+use Rattle.fk_compile.specs.PlainLists.{PlainListsHaveBlocks, StepsFindValues}
+use Rattle.fk_compile.proofs.Aims.{straight_has_no_target}
+
+never : {A : Type 0} → false ≡ true → A
+never e = absurd (cc)
+
+combine_alone : (by : Multiprefix) → is_alone (Combine by) ≡ true
+combine_alone MpAdd = refl
+combine_alone MpMax = refl
+combine_alone MpAnd = refl
+combine_alone MpOr = refl
+
+own_block : (operation : Operation) → is_plain operation ≡ true → HasOwnBlock operation
+own_block (Get (FrameAddress nesting word)) plain = never plain
+own_block (Leave gives true) plain = never plain
+own_block Heap plain = never plain
+own_block (Frame nesting words) plain = never plain
+own_block Block plain = never plain
+own_block (Divide split) plain = never plain
+own_block Shrink plain = never plain
+own_block Halt plain = inr (inl refl)
+own_block Begin plain = inr (inr refl)
+own_block Agree plain = inr (inr refl)
+own_block Farm plain = inr (inr refl)
+own_block Seq plain = inr (inr refl)
+own_block End plain = inr (inr refl)
+own_block Resume plain = inr (inr refl)
+own_block (Meet closing) plain = inr (inr refl)
+own_block (Combine by) plain = inl (combine_alone by)
+own_block operation plain = inl refl
+
+-- a branch and what leads away goes on at its target, which is in the list; the other steps go straight on
+target_within : (core : List CoreOp) → LeadsWithin core → (i : ℕ) (op : CoreOp) (operation : Operation) → StandsOp core i op operation
+    → (way_of operation ≡ straight → op.target ≡ 0) → has_target operation ≡ true → op.target < length core
+target_within core leads i op (Branch onward) stands none target = (leads.within i op (Branch onward) stands.stands stands.is_read refl false).at
+target_within core leads i op Begin stands none target = (leads.within i op Begin stands.stands stands.is_read refl false).at
+target_within core leads i op Farm stands none target = (leads.within i op Farm stands.stands stands.is_read refl false).at
+target_within core leads i op Seq stands none target = (leads.within i op Seq stands.stands stands.is_read refl false).at
+target_within core leads i op End stands none target = (leads.within i op End stands.stands stands.is_read refl false).at
+target_within core leads i op Agree stands none target = let e = none refl in let within = slice_get_within core i op stands.stands in omega (arith, e, within)
+target_within core leads i op Resume stands none target = let e = none refl in let within = slice_get_within core i op stands.stands in omega (arith, e, within)
+target_within core leads i op (Meet closing) stands none target = let e = none refl in let within = slice_get_within core i op stands.stands in omega (arith, e, within)
+target_within core leads i op operation stands none target = never target
+
+pub plain_lists_have_blocks : PlainListsHaveBlocks
+plain_lists_have_blocks bodies core entry shaped listed plain leads = record {
+  jumps = λ i op at jump. let there = leads.jumps i op at jump in slice_get_within core op.target there.op there.stands;
+  operations = λ i op operation stands. own_block operation (plain i op operation stands.stands stands.is_read);
+  targets = λ i op operation stands target.
+      target_within core leads i op operation stands (straight_has_no_target bodies core entry shaped listed i op operation stands) target;
+}
+
+none : (depth : ℕ) → 0 ≤ depth
+none depth = omega arith
+
+found_values : (operation : Operation) (depth : ℕ) → needs operation ≤ depth → values_of_step operation ≤ depth
+found_values Begin depth enough = enough
+found_values Agree depth enough = enough
+found_values operation depth enough = none depth
+
+pub steps_find_values : StepsFindValues
+steps_find_values core enough i op operation stands step = found_values operation op.depth (enough i op operation stands.stands stands.is_read)

@@ -1,0 +1,170 @@
+-- Plain programs that are in place lead each processor from place to place.
+use Rattle.std.proofs.Common.{◌≡◌, ℕ, suc, ◌+◌, Bool, true, false, List, [], ◌∷◌, Option, Some, None, sym, refl, subst}
+use Rattle.std.proofs.lemmas.Bool.{eqb-true}
+use Rattle.std.specs.Prelude.{◌==◌, is_some, if◌then◌else◌}
+use Rattle.fk_syntax.specs.declared.program.Mode.{Mode}
+use Rattle.fk_syntax.specs.Tree.{Named, TypeTree}
+use Rattle.fk_syntax.specs.Program.{DeclaredTree, Statements, FunctionTree}
+use Rattle.fk_forms.specs.Code.{Code, done, perform, choose, while, until, turn, again, quit, break, continue, call, ends, size, numbered}
+use Rattle.fk_forms.specs.Tables.{Tables, frame_at}
+use Rattle.fk_forms.specs.Expressions.{Signature}
+use Rattle.fk_forms.specs.Statements.{Inside, is_nothing}
+use Rattle.fk_forms.specs.Program.{functions_of, binding_of, signature_of, signature_in, is_main, code_of, body_in, main_of}
+use Rattle.fk_nesting.specs.Shape.{of_function}
+use Rattle.fk_nesting.specs.Shaped.{BodyShaped, FunctionsShaped}
+use Rattle.fk_nesting.proofs.Spine.{untrue}
+use Rattle.fk_nesting.proofs.Programs.{body_shaped}
+use Rattle.fk_one_group.specs.Where.{Where}
+use Rattle.fk_course.specs.Placed as w
+use Rattle.fk_course.specs.InPlace.{NoneShared, BodyInPlace, FunctionsInPlace}
+use Rattle.fk_one_course.specs.Leads.{Leads}
+use Rattle.fk_text.specs.Built.{operations, operations_in}
+use Rattle.fk_text.specs.Plain.{is_plain}
+use Rattle.fk_typed_forms.proofs.Along.{EachOf, each_of, front, back, along}
+use Rattle.fk_compile.specs.Led.{ProgramsAreLed}
+use Rattle.fk_compile.proofs.Wants.{Base, Main, Group, Body, place_of, who_of, Want}
+use Rattle.fk_compile.proofs.LedTexts.{body_leads}
+
+-- numbers in place of the places change nothing
+numbers : {A : Type 0} (may_call : (in_group : Bool) → (function : ℕ) → Bool) (f : Where) (l : Option Where) (p : Where) (code : Code A) (e : Where) (first : ℕ)
+    → Leads may_call f l p code e → Leads may_call f l p (numbered first code) e
+numbers may_call f l p done e first h = h
+numbers may_call f l p (perform t op rest) e first h = (h.0, h.1, numbers may_call f l h.0 rest e (suc first) h.2)
+numbers may_call f l p (choose t op a b rest) e first h = (
+  h.0,
+  h.1,
+  h.2,
+  h.3,
+  h.4,
+  h.5,
+  numbers may_call f l h.0 a h.2 (suc first) h.6,
+  numbers may_call f l h.1 b h.3 (suc first + size a) h.7,
+  numbers may_call f l h.2 rest e (suc first + size a + size b) h.8,
+  numbers may_call f l h.3 rest e (suc first + size a + size b) h.9,
+)
+numbers may_call f l p (while test body step rest) e first h = (
+  numbers may_call f (Some p) p test p first h.0,
+  numbers may_call f (Some p) p body p (first + size test) h.1,
+  numbers may_call f (Some p) p step p (first + size test + size body) h.2,
+  numbers may_call f l p rest e (first + size test + size body + size step) h.3,
+)
+numbers may_call f l p (until body test rest) e first h = (
+  numbers may_call f (Some p) p body p first h.0,
+  numbers may_call f (Some p) p test p (first + size body) h.1,
+  numbers may_call f l p rest e (first + size body + size test) h.2,
+)
+numbers may_call f l p (turn test body step rest) e first h = absurd h
+numbers may_call f l p (again test body step rest) e first h = absurd h
+numbers may_call f l p (quit t op rest) e first h = (h.0, h.1, numbers may_call f l p rest e (suc first) h.2)
+numbers may_call f l p (break rest) e first h = (h.0, numbers may_call f l p rest e first h.1)
+numbers may_call f l p (continue rest) e first h = (h.0, numbers may_call f l p rest e first h.1)
+numbers may_call f l p (call t op function opening rest) e first h =
+    (h.0, h.1, numbers may_call p None p opening p (suc first) h.2, numbers may_call f l p rest e (suc first + size opening) h.3)
+numbers may_call f l p (ends t op rest) e first h = (h.0, h.1, numbers may_call f l p rest e (suc first) h.2)
+
+abbrev wanted : Base → (outermost : Bool) → Want
+wanted b outermost = record {
+  base = b;
+  outermost = outermost;
+  function = place_of b;
+  loop = None;
+  exits = of_function;
+  part = false;
+  breaks = λ e. untrue e;
+  continues = λ e. untrue e;
+  tests = λ e. untrue e;
+  returns = λ e. refl;
+  parted = λ e. untrue e;
+}
+
+module _ (tables : Tables) (may_call : (in_group : Bool) → (function : ℕ) → Bool) (everyone : List FunctionTree) where
+  abbrev functions : (binding : ℕ) → Signature
+  functions = signature_in tables everyone
+
+  -- functions that processors call by themselves have no parameters with `sh`
+  unshared_in : (main : ℕ) (fs : List FunctionTree) → FunctionsInPlace tables may_call main fs → (binding : ℕ) → may_call false binding ≡ true
+      → NoneShared (signature_in tables fs binding).parameters
+  unshared_in main [] h binding may = tt
+  unshared_in main (f ∷ fs) h binding may = by (binding_of tables f == binding) refl (unshared_in main fs h.3 binding may)
+    where
+      by : (is : Bool) → (binding_of tables f == binding) ≡ is → NoneShared (signature_in tables fs binding).parameters
+          → NoneShared (if is then signature_of f else signature_in tables fs binding).parameters
+      by true is others = (h.1 (subst (λ b. may_call false b ≡ true) (sym (eqb-true (binding_of tables f) binding is)) may)).2
+      by false is others = others
+
+  module _ (unshared : (binding : ℕ) → may_call false binding ≡ true → NoneShared (functions binding).parameters) where
+    -- a function, by its parts
+    function_by : (b : Base) (outermost main : Bool) (mode : Mode) (result : TypeTree) (name : Named) (parameters : List DeclaredTree) (body : Option Statements)
+        → let f : FunctionTree = record { mode = mode; result = result; name = name; parameters = parameters; body = body } in
+        is_main f ≡ main → w.is_main (who_of b outermost) ≡ main → BodyInPlace tables may_call main (who_of b outermost) body → BodyShaped tables functions body
+        → EachOf is_plain (operations (code_of tables everyone f)) → Leads may_call (place_of b) None (place_of b) (code_of tables everyone f) (place_of b)
+    function_by b outermost main mode result name parameters None is who_is h shaped plain = refl
+    function_by b outermost main mode result name parameters (Some statements) is who_is h shaped plain =
+        let f : FunctionTree = record { mode = mode; result = result; name = name; parameters = parameters; body = Some statements } in
+        let inside : Inside = record { main = is_main f; framed = is_some (frame_at tables name.at 0) } in
+        body_leads tables functions may_call unshared (wanted b outermost) inside (is_nothing result) statements
+        (subst (λ m. w.is_main (who_of b outermost) ≡ m) (sym is) who_is)
+        (subst (λ m. BodyInPlace tables may_call m (who_of b outermost) (Some statements)) (sym is) h)
+        (along is_plain (code_of tables everyone f) plain) (body_shaped tables functions inside (is_nothing result) statements shaped)
+
+    -- functions that are run there; and `main`
+    abbrev Given : (b : Base) (outermost : Bool) (binding : ℕ) → FunctionTree → Type 0
+    Given b outermost binding f =
+        (binding_of tables f == binding) ≡ true
+        → (main : Bool) × (is_main f ≡ main) × (w.is_main (who_of b outermost) ≡ main) × BodyInPlace tables may_call main (who_of b outermost) f.body
+
+    abbrev AllGiven : (b : Base) (outermost : Bool) (binding : ℕ) → List FunctionTree → Type 0
+    AllGiven b outermost binding [] = Unit {0}
+    AllGiven b outermost binding (f ∷ fs) = Given b outermost binding f × AllGiven b outermost binding fs
+
+    bodies : (b : Base) (outermost : Bool) (binding : ℕ) (fs : List FunctionTree) (first : ℕ) → AllGiven b outermost binding fs → FunctionsShaped tables functions fs
+        → EachOf is_plain (operations_in tables everyone fs) → Leads may_call (place_of b) None (place_of b) (body_in tables everyone first fs binding) (place_of b)
+    bodies b outermost binding [] first h shaped plain = refl
+    bodies b outermost binding (f ∷ fs) first h shaped plain =
+        by (binding_of tables f == binding) refl
+        (bodies b outermost binding fs (first + size (code_of tables everyone f)) h.1 shaped.1 (back is_plain (operations (code_of tables everyone f)) (operations_in tables everyone fs) plain))
+      where
+        by : (is : Bool) → (binding_of tables f == binding) ≡ is
+            → Leads may_call (place_of b) None (place_of b) (body_in tables everyone (first + size (code_of tables everyone f)) fs binding) (place_of b)
+            → Leads may_call (place_of b) None (place_of b)
+            (if is then numbered first (code_of tables everyone f) else body_in tables everyone (first + size (code_of tables everyone f)) fs binding) (place_of b)
+        by true is others =
+            let g = h.0 is in
+            numbers may_call (place_of b) None (place_of b) (code_of tables everyone f) (place_of b) first
+            (function_by b outermost g.0 f.mode f.result f.name f.parameters f.body g.1 g.2 g.3 shaped.0
+            (front is_plain (operations (code_of tables everyone f)) (operations_in tables everyone fs) plain))
+        by false is others = others
+
+    in_groups : (main binding : ℕ) (fs : List FunctionTree) → may_call true binding ≡ true → FunctionsInPlace tables may_call main fs → AllGiven Group true binding fs
+    in_groups main binding [] may h = tt
+    in_groups main binding (f ∷ fs) may h = (
+      (λ e. let g = h.0 (subst (λ b. may_call true b ≡ true) (sym (eqb-true (binding_of tables f) binding e)) may) in (false, g.0, refl, g.1)),
+      in_groups main binding fs may h.3,
+    )
+
+    in_bodies : (in_root : Bool) (main binding : ℕ) (fs : List FunctionTree) → may_call false binding ≡ true → FunctionsInPlace tables may_call main fs → AllGiven (Body in_root) true binding fs
+    in_bodies in_root main binding [] may h = tt
+    in_bodies in_root main binding (f ∷ fs) may h = (
+      (λ e. let g = h.1 (subst (λ b. may_call false b ≡ true) (sym (eqb-true (binding_of tables f) binding e)) may) in (false, g.0, refl, g.1)),
+      in_bodies in_root main binding fs may h.3,
+    )
+
+    in_main : (main : ℕ) (fs : List FunctionTree) → FunctionsInPlace tables may_call main fs → AllGiven Main true main fs
+    in_main main [] h = tt
+    in_main main (f ∷ fs) h = ((λ e. let g = h.2 e in (true, g.0, refl, g.1)), in_main main fs h.3)
+
+pub programs_are_led : ProgramsAreLed
+programs_are_led tables program may_call placed plain shaped =
+    let fs = functions_of program.items in
+    let main = main_of tables program in
+    let unshared = unshared_in tables may_call fs main fs placed.in_place in
+    let each = each_of is_plain (operations_in tables fs fs) plain in
+    record {
+      shaped = shaped;
+      in_group = λ function closed may. bodies tables may_call fs unshared Group true function fs 0 (in_groups tables may_call fs unshared main function fs may placed.in_place) placed.shaped each;
+      in_root = λ function closed may.
+          bodies tables may_call fs unshared (Body true) true function fs 0 (in_bodies tables may_call fs unshared true main function fs may placed.in_place) placed.shaped each;
+      in_body = λ function closed may.
+          bodies tables may_call fs unshared (Body false) true function fs 0 (in_bodies tables may_call fs unshared false main function fs may placed.in_place) placed.shaped each;
+      main_of = bodies tables may_call fs unshared Main true main fs 0 (in_main tables may_call fs unshared main fs placed.in_place) placed.shaped each;
+    }

@@ -1,0 +1,440 @@
+-- The code of statements and functions leads from a place to its end.
+use Rattle.std.proofs.Common.{◌≡◌, ℕ, Bool, true, false, true≢false, List, [], ◌∷◌, Option, Some, None, ◌∙◌, sym, refl, subst}
+use Rattle.std.specs.Prelude.{if◌then◌else◌}
+use Rattle.fk_syntax.specs.declared.place.Spot.{Spot}
+use Rattle.fk_syntax.specs.Tree.{Tree}
+use Rattle.fk_syntax.specs.Program as p
+use Rattle.fk_syntax.specs.Program.{DeclaredTree, Statement, Statements}
+use Rattle.fk_operation.specs.declared.operation.Operation.{Operation}
+use Rattle.fk_operation.specs.declared.operation.Operation.TheVariants as o
+use Rattle.fk_operation.specs.declared.operation.Known.TheVariants as n
+use Rattle.fk_operation.specs.declared.operation.Split.TheVariants.{IfAlone, IfElse, Loop, Fork}
+use Rattle.fk_forms.specs.Code as c
+use Rattle.fk_forms.specs.Code.{Code, done, perform, choose, while, until, turn, again, quit, break, continue, call, ends}
+use Rattle.fk_forms.specs.Tables.{Tables, note, frame_at}
+use Rattle.fk_forms.specs.Expressions.{Coded, Standing, nowhere, plain, agreed, token, Signature, addressed, assigned, dropped, framed, variable, value}
+use Rattle.fk_forms.specs.Statements.{Inside, is_scalar, used, used_or, value_or, declared, all_declared, part_frame, leaving, tested, looping, left_by, executed, all_executed, end_of, body_of}
+use Rattle.fk_nesting.specs.Behind.{is_shrink, shrinks}
+use Rattle.fk_nesting.specs.Shape.{Exits, none, of_test, of_turn, Either, Shape}
+use Rattle.fk_nesting.proofs.Spine.{untrue, test_is}
+use Rattle.fk_one_group.specs.Where.{Where, InRoot, Waits, InGroup, InBody, BehindBody, goes}
+use Rattle.fk_course.specs.Placed as w
+use Rattle.fk_course.specs.Placed.{Who, is_group, is_outermost, inner}
+use Rattle.fk_course.specs.InPlace.{Splits, Calls, InPlace, OptionInPlace, VariablesInPlace, NoneShared, StatementInPlace, StatementsInPlace}
+use Rattle.fk_course.proofs.Behind.{either_no}
+use Rattle.fk_one_course.specs.Leads.{Comes, Leads}
+use Rattle.fk_text.specs.Plain.{is_plain}
+use Rattle.fk_typed_forms.proofs.Along.{AllOf}
+use Rattle.fk_compile.proofs.Wants as wants
+use Rattle.fk_compile.proofs.Wants.{Base, Main, Group, Body, place_of, in_group, who_of, inner_is, group_is, keeps_at, Want, arm}
+
+-- plain tests leave their loop by a branch
+test_branches : {A : Type 0} (code : Code A) → AllOf is_plain code → shrinks code ≡ false
+test_branches done h = refl
+test_branches (perform t op rest) h = test_branches rest h.1
+test_branches (choose t op a b rest) h = test_branches rest h.3
+test_branches (while test body step rest) h = test_branches rest h.3
+test_branches (until body test rest) h = test_branches rest h.2
+test_branches (turn test body step rest) h = test_branches rest h.3
+test_branches (again test body step rest) h = test_branches rest h.3
+test_branches (quit t op rest) h = by op h.0
+  where
+    by : (op' : Operation) → is_plain op' ≡ true → is_shrink op' ≡ false
+    by o.Shrink e = untrue e
+    by op' e = refl
+test_branches (break rest) h = test_branches rest h
+test_branches (continue rest) h = test_branches rest h
+test_branches (call t op f opening rest) h = test_branches rest h.2
+test_branches (ends t op rest) h = test_branches rest h.1
+
+plain_loop : (part shrinking : Bool) (x : Exits) (test rest : Coded) → AllOf is_plain test → Shape false false (of_test shrinking) test
+    → Either shrinking ((part ≡ true) × (x.tests ≡ false) × (rest ≡ done)) (Shape part false x rest) → Shape part false x rest
+plain_loop part shrinking x test rest all shape e = either_no shrinking _ _ e (sym (test_is shrinking test shape) ∙ test_branches test all)
+
+-- what is wanted of the parts of a loop, and of what `start` begins, and `farm` and `seq`
+abbrev test_of : Want → (shrinking : Bool) → Want
+test_of x b = record {
+  base = x.base;
+  outermost = false;
+  function = x.function;
+  loop = Some (place_of x.base);
+  exits = of_test b;
+  part = false;
+  breaks = λ e. untrue e;
+  continues = λ e. untrue e;
+  tests = λ e. refl;
+  returns = λ e. untrue e;
+  parted = λ e. untrue e;
+}
+
+turn_returns : (x : Want) (b : Bool) → (if b then false else x.exits.returns) ≡ true → place_of x.base ≡ x.function
+turn_returns x true e = untrue e
+turn_returns x false e = x.returns e
+
+abbrev turn_of : Want → (shrinking : Bool) → Want
+turn_of x b = record {
+  base = x.base;
+  outermost = false;
+  function = x.function;
+  loop = Some (place_of x.base);
+  exits = of_turn b x.exits;
+  part = false;
+  breaks = λ e. refl;
+  continues = λ e. refl;
+  tests = λ e. untrue e;
+  returns = turn_returns x b;
+  parted = λ e. untrue e;
+}
+
+abbrev step_of : Want → Want
+step_of x = record {
+  base = x.base;
+  outermost = false;
+  function = x.function;
+  loop = Some (place_of x.base);
+  exits = none;
+  part = false;
+  breaks = λ e. untrue e;
+  continues = λ e. untrue e;
+  tests = λ e. untrue e;
+  returns = λ e. untrue e;
+  parted = λ e. untrue e;
+}
+
+abbrev start_of : Want → Want
+start_of x = record {
+  base = Group;
+  outermost = false;
+  function = x.function;
+  loop = x.loop;
+  exits = none;
+  part = true;
+  breaks = λ e. untrue e;
+  continues = λ e. untrue e;
+  tests = λ e. untrue e;
+  returns = λ e. untrue e;
+  parted = λ e. refl;
+}
+
+abbrev body_in_group : Want → Want
+body_in_group x = record {
+  base = Body false;
+  outermost = false;
+  function = x.function;
+  loop = x.loop;
+  exits = none;
+  part = false;
+  breaks = λ e. untrue e;
+  continues = λ e. untrue e;
+  tests = λ e. untrue e;
+  returns = λ e. untrue e;
+  parted = λ e. untrue e;
+}
+
+-- who may do what
+begins_in : (b : Base) (outermost : Bool) → is_outermost (who_of b outermost) ≡ true → place_of b ≡ InRoot
+begins_in Main outermost e = refl
+begins_in Group outermost e = untrue e
+begins_in (Body r) outermost e = untrue e
+
+groups_in : (b : Base) → in_group b ≡ true → place_of b ≡ InGroup
+groups_in Main e = untrue e
+groups_in Group e = refl
+groups_in (Body r) e = untrue e
+
+halts_in : (b : Base) (outermost : Bool) → w.is_main (who_of b outermost) ≡ true → Comes (place_of b) o.Halt (place_of b)
+halts_in Main outermost e = λ way. refl
+halts_in Group outermost e = untrue e
+halts_in (Body r) outermost e = untrue e
+
+meets_in : (b : Base) → in_group b ≡ false → Comes (place_of b) (o.Meet false) (place_of b)
+meets_in Main e = λ way. refl
+meets_in Group e = absurd (true≢false e)
+meets_in (Body true) e = λ way. refl
+meets_in (Body false) e = λ way. refl
+
+module _ (tables : Tables) (functions : (binding : ℕ) → Signature) (may_call : (in_group : Bool) → (function : ℕ) → Bool)
+    (unshared : (binding : ℕ) → may_call false binding ≡ true → NoneShared (functions binding).parameters) where
+  abbrev pub Fine : Want → Coded → Type 0
+  Fine x code = wants.Fine tables functions may_call unshared x code
+
+  abbrev pub Keeps : Want → (Coded → Coded) → Type 0
+  Keeps x f = (rest : Coded) → Fine x rest → Fine x (f rest)
+
+  abbrev Tells : Want → Tree → Type 0
+  Tells x e = InPlace tables may_call (in_group x.base) e
+
+  abbrev TellsIf : Want → Option Tree → Type 0
+  TellsIf x e = OptionInPlace tables may_call (in_group x.base) e
+
+  gives : (x : Want) (e : Tree) → Tells x e → Keeps x (value tables functions e)
+  gives x e h rest q = wants.value_leads tables functions may_call unshared x e h rest q
+
+  drops : (x : Want) (at : ℕ) → Keeps x (dropped tables functions at)
+  drops x at rest q = wants.drops tables functions may_call unshared x at rest q
+
+  performed : (x : Want) (op : Operation) → (wants.keeps op ≡ true) → (rest : Coded) → Fine x rest → (Shape x.part false x.exits (plain op rest) → Shape x.part false x.exits rest) → Fine x (plain op rest)
+  performed x op e rest q less = λ all shape. (place_of x.base, keeps_at x.base op e, q all.1 (less shape))
+
+  pushes : (x : Want) (n' : ℕ) → Keeps x (plain (o.Push n'))
+  pushes x n' rest q = performed x (o.Push n') refl rest q (λ shape. shape.2)
+
+  uses : (x : Want) (e : Tree) → Tells x e → Keeps x (used tables functions e)
+  uses x e h rest q = gives x e h (dropped tables functions (token e) rest) (drops x (token e) rest q)
+
+  uses_or : (x : Want) (e : Option Tree) → TellsIf x e → Keeps x (used_or tables functions e)
+  uses_or x None h rest q = q
+  uses_or x (Some e) h rest q = uses x e h rest q
+
+  gives_or : (x : Want) (absent : Coded → Coded) → Keeps x absent → (e : Option Tree) → TellsIf x e → Keeps x (value_or tables functions absent e)
+  gives_or x absent keeps None h rest q = keeps rest q
+  gives_or x absent keeps (Some e) h rest q = gives x e h rest q
+
+  either : (x : Want) (b : Bool) (a d : Coded) → Fine x a → Fine x d → Fine x (if b then a else d)
+  either x true a d p' q = p'
+  either x false a d p' q = q
+
+  declares_one : (x : Want) (d : DeclaredTree) → Calls tables may_call (in_group x.base) d.name → TellsIf x d.first → Keeps x (declared tables functions d)
+  declares_one x d calls h rest q =
+      let k : Standing → Coded = λ s. addressed tables functions s (value_or tables functions (plain (o.Push 0)) d.first (assigned tables functions s (plain o.DropLast rest))) in
+      either x (is_scalar d) (variable tables functions d.name k) rest
+      (wants.names tables functions may_call unshared x d.name calls k
+      (λ s fits.
+      let new = assigned tables functions s (plain o.DropLast rest) in
+      wants.addresses tables functions may_call unshared x s (value_or tables functions (plain (o.Push 0)) d.first new)
+      (gives_or x (plain (o.Push 0)) (pushes x 0) d.first h new
+      (wants.assigns tables functions may_call unshared x s (plain o.DropLast rest) (performed x o.DropLast refl rest q (λ shape. shape.2))))))
+      q
+
+  declares : (x : Want) (ds : List DeclaredTree) → VariablesInPlace tables may_call (in_group x.base) ds → Keeps x (all_declared tables functions ds)
+  declares x [] h rest q = q
+  declares x (d ∷ ds) h rest q = declares_one x d h.0 h.1 (all_declared tables functions ds rest) (declares x ds h.2 rest q)
+
+  -- what isn't plain is never there
+  splits_not : (b : Bool) (x : Want) (parted other : Coded) → (AllOf is_plain parted → false ≡ true) → Fine x other → Fine x (if b then parted else other)
+  splits_not true x parted other never q = λ all shape. untrue (never all)
+  splits_not false x parted other never q = q
+
+  -- tests of loops
+  quits : (x : Want) → Fine x (quit nowhere (o.Branch true) done)
+  quits x = λ all shape. (x.tests shape.3, keeps_at x.base (o.Branch true) refl, wants.ends_here tables functions may_call unshared x shape.2)
+
+  tests : (x : Want) (spot : Spot) (condition : Option Tree) → Splits tables may_call (in_group x.base) spot.at → TellsIf x condition → Fine x (tested tables functions spot condition)
+  tests x spot condition splits h =
+      let here = note tables spot.at in
+      gives_or x (plain (o.Push 1)) (pushes x 1) condition h (leaving tables functions here)
+      (splits_not here.splits x (quit nowhere o.Shrink done) (agreed here.sync (quit nowhere (o.Branch true) done)) (λ all. all.0)
+      (wants.agrees_or tables functions may_call unshared x here.sync (wants.agreed_there tables functions may_call unshared x spot.at splits) (quit nowhere (o.Branch true) done) (quits x)))
+
+  whiles : (x : Want) (test body step : Coded) → ((b : Bool) → Fine (test_of x b) test) → ((b : Bool) → Fine (turn_of x b) body) → Fine (step_of x) step → Keeps x (c.while test body step)
+  whiles x test body step t u v rest q = λ all shape. (
+    t shape.1 all.0 shape.2,
+    u shape.1 all.1 shape.3,
+    v all.2 shape.4,
+    q all.3 (plain_loop x.part shape.1 x.exits test rest all.0 shape.2 shape.5),
+  )
+
+  untils : (x : Want) (body test : Coded) → ((b : Bool) → Fine (turn_of x b) body) → ((b : Bool) → Fine (test_of x b) test) → Keeps x (c.until body test)
+  untils x body test u t rest q = λ all shape. (
+    u shape.1 all.0 shape.3,
+    t shape.1 all.1 shape.2,
+    q all.2 (plain_loop x.part shape.1 x.exits test rest all.1 shape.2 shape.4),
+  )
+
+  loops : (x : Want) (spot : Spot) (loop : Coded → Coded) → Keeps x loop → Keeps x (looping tables functions spot loop)
+  loops x spot loop keeps rest q =
+      splits_not (note tables spot.at).splits x (choose spot.place (o.Divide Loop) (part_frame tables functions spot 0 (loop done)) done (plain o.Resume rest)) (loop rest) (λ all. all.0) (keeps rest q)
+
+  -- ends of functions
+  halts : (x : Want) (main framed : Bool) → w.is_main (who_of x.base x.outermost) ≡ main → Keeps x (ends nowhere (if main then o.Halt else o.Leave false framed))
+  halts x true framed e rest q = λ all shape. (halts_in x.base x.outermost e, x.returns shape.2, q all.1 shape.3)
+  halts x false true e rest q = λ all shape. untrue all.0
+  halts x false false e rest q = λ all shape. (keeps_at x.base (o.Leave false false) refl, x.returns shape.2, q all.1 shape.3)
+
+  gives_end : (x : Want) (main framed : Bool) → w.is_main (who_of x.base x.outermost) ≡ main → (rest : Coded) → Fine x rest
+      → Fine x (if main then plain o.DropLast (ends nowhere o.Halt rest) else ends nowhere (o.Leave true framed) rest)
+  gives_end x true framed e rest q = performed x o.DropLast refl (ends nowhere o.Halt rest) (halts x true framed e rest q) (λ shape. shape.2)
+  gives_end x false true e rest q = λ all shape. untrue all.0
+  gives_end x false false e rest q = λ all shape. (keeps_at x.base (o.Leave true false) refl, x.returns shape.2, q all.1 shape.3)
+
+  returns : (x : Want) (inside : Inside) → w.is_main (who_of x.base x.outermost) ≡ inside.main → (e : Option Tree) → TellsIf x e → Keeps x (left_by tables functions inside e)
+  returns x inside is None h rest q = halts x inside.main inside.framed is rest q
+  returns x inside is (Some e) h rest q =
+      gives x e h (if inside.main then plain o.DropLast (ends nowhere o.Halt rest) else ends nowhere (o.Leave true inside.framed) rest) (gives_end x inside.main inside.framed is rest q)
+
+  -- groups and bodies
+  frames_in : (x : Want) (spot : Spot) (part : ℕ) → Keeps x (part_frame tables functions spot part)
+  frames_in x spot part rest q = wants.frames tables functions may_call unshared x (frame_at tables spot.at part) spot.place rest q
+
+  starts : (x : Want) → is_outermost (who_of x.base x.outermost) ≡ true → (body rest : Coded) → Fine (start_of x) body → Fine x rest
+      → Fine x (choose nowhere o.Begin body done (plain o.Resume rest))
+  starts x first body rest p' q =
+      let root = begins_in x.base x.outermost first in
+      let e = wants.end_of_part x.base x.part in
+      λ all shape.
+      let behind : Leads may_call x.function x.loop Waits (plain o.Resume rest) e
+      = (InRoot, (λ way. refl), subst (λ (at : Where). Leads may_call x.function x.loop at rest e) root (q all.3.1 shape.6.2)) in (
+        InGroup,
+        Waits,
+        Waits,
+        Waits,
+        subst (λ (at : Where). goes at o.Begin true ≡ Some InGroup) (sym root) refl,
+        subst (λ (at : Where). goes at o.Begin false ≡ Some Waits) (sym root) refl,
+        p' all.1 shape.2,
+        refl,
+        behind,
+        behind,
+      )
+
+  -- `farm` and `seq`
+  opens : (x : Want) (op : Operation) → is_plain op ≡ true → goes InGroup op true ≡ Some InBody → goes InGroup op false ≡ Some BehindBody → in_group x.base ≡ true → (body rest : Coded)
+      → (AllOf is_plain (choose nowhere op body done (plain (o.Meet true) rest)) → Shape x.part false x.exits (choose nowhere op body done (plain (o.Meet true) rest))
+      → Leads may_call x.function x.loop InBody body InBody × Leads may_call x.function x.loop (place_of x.base) rest (wants.end_of_part x.base x.part))
+      → Fine x (choose nowhere op body done (plain (o.Meet true) rest))
+  opens x op plain' on aside in_g body rest parts =
+      let group = groups_in x.base in_g in
+      let e = wants.end_of_part x.base x.part in
+      λ all shape.
+      let both = parts all shape in
+      let more = subst (λ (at : Where). Leads may_call x.function x.loop at rest e) group both.1 in (
+        InBody,
+        BehindBody,
+        InBody,
+        BehindBody,
+        subst (λ (at : Where). goes at op true ≡ Some InBody) (sym group) on,
+        subst (λ (at : Where). goes at op false ≡ Some BehindBody) (sym group) aside,
+        both.0,
+        refl,
+        (InGroup, (λ way. refl), more),
+        (InGroup, (λ way. refl), more),
+      )
+
+  farms : (x : Want) → in_group x.base ≡ true → (body rest : Coded) → Fine (body_in_group x) body → Fine x rest → Fine x (choose nowhere o.Farm body done (plain (o.Meet true) rest))
+  farms x g body rest p' q = opens x o.Farm refl refl refl g body rest (λ all shape. (p' all.1 shape.2, q all.3.1 shape.6.2))
+
+  seqs : (x : Want) → in_group x.base ≡ true → (body rest : Coded) → Fine (body_in_group x) body → Fine x rest → Fine x (choose nowhere o.Seq body done (plain (o.Meet true) rest))
+  seqs x g body rest p' q = opens x o.Seq refl refl refl g body rest (λ all shape. (p' all.1 shape.2, q all.3.1 shape.6.2))
+
+  barriers : (x : Want) → in_group x.base ≡ false → Keeps x (plain (o.Meet false))
+  barriers x g rest q = λ all shape. (place_of x.base, meets_in x.base g, q all.1 shape.2)
+
+  forks : (x : Want) (spot : Spot) (body rest : Coded) → Fine x (choose spot.place (o.Divide Fork) body done (plain o.Resume rest))
+  forks x spot body rest = λ all shape. untrue all.0
+
+  -- statements
+  abbrev There : (main : Bool) → Want → Statement → Type 0
+  There main x s = StatementInPlace tables may_call main (who_of x.base x.outermost) s
+
+  in_arm : (main : Bool) (x : Want) (s : Statement) → StatementInPlace tables may_call main (inner (who_of x.base x.outermost)) s → StatementInPlace tables may_call main (who_of x.base false) s
+  in_arm main x s h = subst (λ (who : Who). StatementInPlace tables may_call main who s) (inner_is x.base x.outermost) h
+
+  told_there : (x : Want) (e : Tree) → InPlace tables may_call (is_group (who_of x.base x.outermost)) e → Tells x e
+  told_there x e h = subst (λ b. InPlace tables may_call b e) (group_is x.base x.outermost) h
+
+  told_if : (x : Want) (e : Option Tree) → OptionInPlace tables may_call (is_group (who_of x.base x.outermost)) e → TellsIf x e
+  told_if x e h = subst (λ b. OptionInPlace tables may_call b e) (group_is x.base x.outermost) h
+
+  splits_there : (x : Want) (spot : Spot) → Splits tables may_call (is_group (who_of x.base x.outermost)) spot.at → Splits tables may_call (in_group x.base) spot.at
+  splits_there x spot h = subst (λ b. Splits tables may_call b spot.at) (group_is x.base x.outermost) h
+
+  group_there : (x : Want) → is_group (who_of x.base x.outermost) ≡ true → in_group x.base ≡ true
+  group_there x h = sym (group_is x.base x.outermost) ∙ h
+
+  mutual
+    statement : (x : Want) (inside : Inside) (s : Statement) → There inside.main x s → Keeps x (executed tables functions inside s)
+    statement x inside p.Empty h rest q = q
+    statement x inside (p.Expression e) h rest q = uses x e (told_there x e h) rest q
+    statement x inside (p.Block statements) h rest q = all_statements x inside statements h rest q
+    statement x inside (p.Declare variables) h rest q =
+        declares x variables (subst (λ b. VariablesInPlace tables may_call b variables) (group_is x.base x.outermost) h) rest q
+    statement x inside (p.If spot condition first) h rest q =
+        let here = note tables spot.at in
+        let body = executed tables functions inside first in
+        let parted = choose spot.place (o.Divide IfAlone) (part_frame tables functions spot 0 (body (plain o.End done))) done (plain o.Resume rest) in
+        let branched = choose nowhere (o.Branch true) (body done) done rest in
+        gives x condition (told_there x condition h.1) (if here.splits then parted else agreed here.sync branched)
+        (splits_not here.splits x parted (agreed here.sync branched) (λ all. all.0)
+        (wants.agrees_or tables functions may_call unshared x here.sync (wants.agreed_there tables functions may_call unshared x spot.at (splits_there x spot h.0)) branched
+        (wants.chooses tables functions may_call unshared x nowhere true (body done) done rest
+        (statement (arm x) inside first (in_arm inside.main x first h.2) done (wants.ended tables functions may_call unshared (arm x))) (wants.ended tables functions may_call unshared (arm x)) q)))
+    statement x inside (p.IfElse spot condition first second) h rest q =
+        let here = note tables spot.at in
+        let a = executed tables functions inside first in
+        let b = executed tables functions inside second in
+        let parted = choose spot.place (o.Divide IfElse) (part_frame tables functions spot 0 (a (plain o.End done))) (part_frame tables functions spot 1 (b (plain o.End done))) (plain o.Resume rest) in
+        let branched = choose nowhere (o.Branch true) (a done) (b done) rest in
+        gives x condition (told_there x condition h.1) (if here.splits then parted else agreed here.sync branched)
+        (splits_not here.splits x parted (agreed here.sync branched) (λ all. all.0)
+        (wants.agrees_or tables functions may_call unshared x here.sync (wants.agreed_there tables functions may_call unshared x spot.at (splits_there x spot h.0)) branched
+        (wants.chooses tables functions may_call unshared x nowhere true (a done) (b done) rest
+        (statement (arm x) inside first (in_arm inside.main x first h.2) done (wants.ended tables functions may_call unshared (arm x)))
+        (statement (arm x) inside second (in_arm inside.main x second h.3) done (wants.ended tables functions may_call unshared (arm x))) q)))
+    statement x inside (p.While spot condition body) h rest q =
+        let test = tested tables functions spot (Some condition) in
+        let run = executed tables functions inside body done in
+        loops x spot (c.while test run done)
+        (whiles x test run done (λ b. tests (test_of x b) spot (Some condition) (splits_there x spot h.0) (told_there x condition h.1))
+        (λ b. statement (turn_of x b) inside body (in_arm inside.main x body h.2) done (wants.ended tables functions may_call unshared (turn_of x b))) (wants.ended tables functions may_call unshared (step_of x))) rest q
+    statement x inside (p.DoWhile spot body condition) h rest q =
+        let test = tested tables functions spot (Some condition) in
+        let run = executed tables functions inside body done in
+        loops x spot (c.until run test)
+        (untils x run test (λ b. statement (turn_of x b) inside body (in_arm inside.main x body h.2) done (wants.ended tables functions may_call unshared (turn_of x b)))
+        (λ b. tests (test_of x b) spot (Some condition) (splits_there x spot h.0) (told_there x condition h.1))) rest q
+    statement x inside (p.For spot before condition after body) h rest q =
+        let test = tested tables functions spot condition in
+        let run = executed tables functions inside body done in
+        let step = used_or tables functions after done in
+        uses_or x before (told_if x before h.1) (looping tables functions spot (c.while test run step) rest)
+        (loops x spot (c.while test run step)
+        (whiles x test run step (λ b. tests (test_of x b) spot condition (splits_there x spot h.0) (told_if x condition h.2))
+        (λ b. statement (turn_of x b) inside body (in_arm inside.main x body h.4) done (wants.ended tables functions may_call unshared (turn_of x b)))
+        (uses_or (step_of x) after (told_if x after h.3) done (wants.ended tables functions may_call unshared (step_of x)))) rest q)
+    statement x inside (p.Start spot count body) h rest q =
+        let run = part_frame tables functions spot 0 (executed tables functions inside body (plain o.End done)) in
+        gives_or x (plain (o.Get n.Processors)) (λ rest' q'. performed x (o.Get n.Processors) refl rest' q' (λ shape. shape.2)) count (told_if x count h.1)
+        (choose nowhere o.Begin run done (plain o.Resume rest))
+        (starts x h.0 run rest
+        (frames_in (start_of x) spot 0 (executed tables functions inside body (plain o.End done))
+        (statement (start_of x) inside body h.2 (plain o.End done) (wants.part_ended tables functions may_call unshared (start_of x)))) q)
+    statement x inside (p.Fork spot parts part rank body) h rest q =
+        let divided = choose spot.place (o.Divide Fork) (part_frame tables functions spot 0 (executed tables functions inside body (plain o.End done))) done (plain o.Resume rest) in
+        let ranked = value_or tables functions (plain (o.Get n.Rank)) rank divided in
+        gives x parts (told_there x parts h.1) (plain o.Agree (value tables functions part ranked))
+        (wants.agrees tables functions may_call unshared x (group_there x h.0) (value tables functions part ranked)
+        (gives x part (told_there x part h.2) ranked
+        (gives_or x (plain (o.Get n.Rank)) (λ rest' q'. performed x (o.Get n.Rank) refl rest' q' (λ shape. shape.2)) rank (told_if x rank h.3) divided
+        (forks x spot (part_frame tables functions spot 0 (executed tables functions inside body (plain o.End done))) rest))))
+    statement x inside (p.Farm spot body) h rest q =
+        farms x (group_there x h.0) (executed tables functions inside body done) rest
+        (statement (body_in_group x) inside body h.1 done (wants.ended tables functions may_call unshared (body_in_group x))) q
+    statement x inside (p.Seq spot body) h rest q =
+        seqs x (group_there x h.0) (executed tables functions inside body done) rest
+        (statement (body_in_group x) inside body h.1 done (wants.ended tables functions may_call unshared (body_in_group x))) q
+    statement x inside (p.Barrier spot) h rest q = barriers x (sym (group_is x.base x.outermost) ∙ h) rest q
+    statement x inside (p.Break spot) h rest q = λ all shape. (x.breaks shape.1, q all shape.2)
+    statement x inside (p.Continue spot) h rest q = λ all shape. (x.continues shape.1, q all shape.2)
+    statement x inside (p.Return spot e) h rest q = returns x inside h.0 e (told_if x e h.1) rest q
+
+    all_statements : (x : Want) (inside : Inside) (statements : Statements) → StatementsInPlace tables may_call inside.main (who_of x.base x.outermost) statements
+        → Keeps x (all_executed tables functions inside statements)
+    all_statements x inside p.no_statements h rest q = q
+    all_statements x inside (p.statement first others) h rest q =
+        statement x inside first h.0 (all_executed tables functions inside others rest) (all_statements x inside others h.1 rest q)
+
+  end_leads : (x : Want) (inside : Inside) (void : Bool) → w.is_main (who_of x.base x.outermost) ≡ inside.main → Fine x (end_of tables functions inside void)
+  end_leads x inside void is = by inside.main void is
+    where
+      by : (main void : Bool) → w.is_main (who_of x.base x.outermost) ≡ main → Fine x (
+          if main then ends nowhere o.Halt done
+          else if void then ends nowhere (o.Leave false inside.framed) done
+          else plain (o.Push 0) (ends nowhere (o.Leave true inside.framed) done))
+      by true void' e = halts x true inside.framed e done (wants.ended tables functions may_call unshared x)
+      by false true e = halts x false inside.framed e done (wants.ended tables functions may_call unshared x)
+      by false false e =
+          pushes x 0 (ends nowhere (o.Leave true inside.framed) done) (gives_end x false inside.framed e done (wants.ended tables functions may_call unshared x))
+
+  pub body_leads : (x : Want) (inside : Inside) (void : Bool) (statements : Statements) → w.is_main (who_of x.base x.outermost) ≡ inside.main
+      → StatementsInPlace tables may_call inside.main (who_of x.base x.outermost) statements → Fine x (body_of tables functions inside void statements)
+  body_leads x inside void statements is h =
+      all_statements x inside statements h (end_of tables functions inside void) (end_leads x inside void is)

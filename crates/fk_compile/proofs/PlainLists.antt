@@ -1,0 +1,33 @@
+-- Code can be made of lists that can have groups.
+use Rattle.std.proofs.Common.{◌≡◌, ℕ, false, List, Some, slice_get, sym, subst, refl}
+use Rattle.std.specs.Prelude.{IsSome}
+use Rattle.std.proofs.lemmas.Option.{slice_get_within}
+use Rattle.fk_core.specs.declared.op.CoreOp.{CoreOp}
+use Rattle.fk_core.specs.Next.{is_jump}
+use Rattle.fk_core.specs.Numbers.{operation_of}
+use Rattle.fk_core.specs.WellFormed.{IsOperation, LeadsOn}
+use Rattle.fk_block_law.proofs.Standing.{landing_here}
+use Rattle.fk_compile.specs.PlainLists.{GroupedListsAreGenerable}
+
+-- what is no jump is where an index leads, so it is an operation
+are_operations : (core : List CoreOp) → LeadsOn core → (i : ℕ) (op : CoreOp) → slice_get core i ≡ Some op → is_jump op ≡ false
+    → IsSome (operation_of op.kind op.number)
+are_operations core leads i op e f =
+    let at : IsOperation core i = subst (IsOperation core) (landing_here core i op e f) (leads i (slice_get_within core i op e)) in
+    let same : at.op ≡ op = let stands = at.stands in cc in
+    subst (λ (x : CoreOp). IsSome (operation_of x.kind x.number)) same (subst IsSome (sym at.is_read) refl)
+
+pub grouped_lists_are_generable : GroupedListsAreGenerable
+grouped_lists_are_generable core kept main firsts can blocks leads live least words first_words =
+    let held = can.held kept live least in
+    record {
+      blocks = blocks;
+      operations = are_operations core leads;
+      begins = can.steady.within.begins;
+      frames = held.frames;
+      suits = held.suits;
+      keeps = held.keeps;
+      of_file = held.of_file;
+      words = words;
+      first_words = first_words;
+    }

@@ -1,0 +1,30 @@
+-- The runs of lists of plain programs.
+use Rattle.fk_forms.specs.Program.{bodies_of, main_of}
+use Rattle.fk_layout.specs.Layout.{tables_by}
+use Rattle.fk_flat.proofs.FlatCode.{flat_code_stands}
+use Rattle.fk_shapes.proofs.Programs.{forms_are_shaped}
+use Rattle.fk_fitting.proofs.Programs.{correct_programs_fit}
+use Rattle.fk_course.proofs.Programs.{programs_follow}
+use Rattle.fk_one_course.proofs.Run.{code_goes}
+use Rattle.fk_one_list.proofs.Lists.{lists_have_one_group}
+use Rattle.fk_in_place.specs.Valid.{may_call}
+use Rattle.fk_in_place.proofs.Programs.{valid_programs_are_in_place}
+use Rattle.fk_compile.proofs.OneProgram.{forks_give_values}
+use Rattle.fk_compile.proofs.Led.{programs_are_led}
+use Rattle.fk_compile.specs.PlainTexts.{PlainProgramsHaveOneGroup}
+
+pub plain_programs_have_one_group : PlainProgramsHaveOneGroup
+plain_programs_have_one_group program facts laid plain core entry flat own =
+    let tables = tables_by program facts in
+    let bodies = bodies_of tables program in
+    let main = main_of tables program in
+    let placed = valid_programs_are_in_place program facts (record {
+      well_formed = laid.correct.well_formed;
+      small = laid.correct.small;
+      known = laid.correct.known;
+      valued = forks_give_values program facts laid;
+    }) in
+    let shaped = forms_are_shaped tables program (correct_programs_fit program facts laid.correct laid.trim) in
+    let stands = flat_code_stands tables program core entry shaped flat in
+    lists_have_one_group bodies core entry main stands.leads_on stands.stands own (programs_follow tables program (may_call program) placed)
+    (code_goes (may_call program) bodies main (programs_are_led tables program (may_call program) placed plain shaped))

@@ -1,0 +1,5 @@
+use Rattle.fk_compile.proofs.PlainLists.{grouped_lists_are_generable}
+use Rattle.fk_compile.proofs.laws.grouped_lists_are_generable.Goals as goal
+
+pub returns : goal.returns
+returns c = grouped_lists_are_generable

@@ -1,0 +1,5 @@
+use Rattle.fk_compile.proofs.OneProgram.{texts_have_one_program}
+use Rattle.fk_compile.proofs.laws.texts_have_one_program.Goals as goal
+
+pub returns : goal.returns
+returns c = texts_have_one_program c.texts_are_trim.ensures c.texts_are_proper.ensures

@@ -1,0 +1,46 @@
+-- Lists of plain operations are as code is made of them.
+use Rattle.std.specs.Prelude.{◌≡◌, ℕ, ◌^◌, ◌<◌, ◌≤◌, List, All, length, sum_by}
+use Rattle.fk_operation.specs.declared.operation.Operation.{Operation}
+use Rattle.fk_forms.specs.Code.{Code}
+use Rattle.fk_walk.specs.declared.known.Known.{Known}
+use Rattle.fk_walk_statements.specs.Texts.{sites_of_text}
+use Rattle.fk_core.specs.declared.op.CoreOp.{CoreOp}
+use Rattle.fk_core.specs.WellFormed.{LeadsOn}
+use Rattle.fk_flat.specs.Items.{straight, way_of}
+use Rattle.fk_flat.specs.Laws.{AreShaped, IsFlat}
+use Rattle.fk_lower_text.specs.Lowered.{HasSites}
+use Rattle.fk_block_law.specs.Next.{StandsOp}
+use Rattle.fk_kept.specs.declared.set.Set.{Set}
+use Rattle.fk_kept.specs.Live.{IsLive, IsLeast, words_in}
+use Rattle.fk_typed_code.specs.Laws.{LeadsWithin}
+use Rattle.fk_generate.specs.Generable.{HasBlocks, IsGenerable, most_words}
+use Rattle.fk_group_code.specs.Laws.{StepsHaveValues}
+use Rattle.fk_certain.specs.FreeLaws.{IsPlain}
+use Rattle.fk_certain.specs.Certain.{HasEnough}
+use Rattle.fk_certain.specs.Laws.{CanHaveGroups}
+
+-- what goes straight on has no target
+abbrev pub StraightHasNoTarget : Type 0
+StraightHasNoTarget =
+    (bodies : (binding : ℕ) → Code ℕ) (core : List CoreOp) (entry : (binding : ℕ) → ℕ) → AreShaped bodies → IsFlat bodies core entry
+    → (i : ℕ) (op : CoreOp) (operation : Operation) → StandsOp core i op operation → way_of operation ≡ straight → op.target ≡ 0
+
+abbrev pub PlainListsHaveBlocks : Type 0
+PlainListsHaveBlocks =
+    (bodies : (binding : ℕ) → Code ℕ) (core : List CoreOp) (entry : (binding : ℕ) → ℕ) → AreShaped bodies → IsFlat bodies core entry
+    → IsPlain core → LeadsWithin core → HasBlocks core
+
+abbrev pub StepsFindValues : Type 0
+StepsFindValues = (core : List CoreOp) → HasEnough core → StepsHaveValues core
+
+-- its sites and numbers are words, as in every slice, and so are the first values of private variables of file scope
+abbrev pub GroupedListsAreGenerable : Type 0
+GroupedListsAreGenerable =
+    (core : List CoreOp) (kept : List Set) (main : ℕ) (firsts : List ℕ) → CanHaveGroups core main (length firsts) → HasBlocks core → LeadsOn core
+    → IsLive core (words_in kept) → IsLeast core (words_in kept)
+    → All (λ op. (op.site < 2 ^ 32) × (op.number < 2 ^ 32)) core → All (λ v. v < 2 ^ 32) firsts
+    → IsGenerable core kept main firsts
+
+-- the blocks of a list have few words where its text has few operations
+abbrev pub ListsAreSmall : Type 0
+ListsAreSmall = (known : Known) (core : List CoreOp) → HasSites known core → length (sites_of_text known) ≤ 16000 → sum_by most_words core ≤ 256000

@@ -1,5 +1,0 @@
-use Rattle.fk_forked.proofs.Programs.{correct_programs_have_one_program}
-use Rattle.fk_forked.proofs.laws.correct_programs_have_one_program.Goals as goal
-
-pub returns : goal.returns
-returns c = correct_programs_have_one_program

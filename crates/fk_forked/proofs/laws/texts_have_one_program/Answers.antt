@@ -1,5 +1,0 @@
-use Rattle.fk_forked.proofs.Programs.{texts_have_one_program}
-use Rattle.fk_forked.proofs.laws.texts_have_one_program.Goals as goal
-
-pub returns : goal.returns
-returns c = texts_have_one_program c.texts_are_trim.ensures c.texts_are_proper.ensures

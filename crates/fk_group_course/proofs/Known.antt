@@ -1,0 +1,197 @@
+-- The rounds of machines are known ones.
+use Rattle.std.proofs.Common.{◌≡◌, ◌⊎◌, inl, inr, ⊎_elim, ℕ, zero, suc, ◌≤◌, ◌&&◌, true, false, List, [], ◌∷◌, length, map, slice_get, Option, Some, None, refl, sym, ap, ◌∙◌, subst, arith}
+use Rattle.std.specs.Prelude.{is_none}
+use Rattle.fk_num.specs.Word.{Memory}
+use Rattle.fk_operation.specs.declared.operation.Operation.{Operation}
+use Rattle.fk_operation.specs.declared.operation.Operation.TheVariants as o
+use Rattle.fk_tree.specs.declared.node.Kind.TheVariants.{Waiting, Asynchronous}
+use Rattle.fk_tree.specs.Tree as trees
+use Rattle.fk_tree.specs.Tree.{Tree}
+use Rattle.fk_run.specs.Processor.{Setting}
+use Rattle.fk_run.specs.Round.{Step, Runner, State, Round, Phases, result, is_allowed, is_possible}
+use Rattle.fk_core.specs.declared.op.CoreOp.{CoreOp}
+use Rattle.fk_core.specs.Next.{Position, position, landing, next}
+use Rattle.fk_nodes.specs.Source.{AllPass}
+use Rattle.fk_plans.specs.Stage.{Stage, counts_for}
+use Rattle.fk_together.specs.OneProgram.{AreTogether, HaveOneProgram}
+use Rattle.fk_one_group.specs.Where.{Where, GoesNext, GoesFor, Goes}
+use Rattle.fk_one_group.specs.Placed.{IsPlaced, HasOneGroup}
+use Rattle.fk_one_group.specs.Steps as one
+use Rattle.fk_one_group.specs.Rounds.{IsSingle, stepping}
+use Rattle.fk_one_group.proofs.Known.{rounds_are_known}
+use Rattle.fk_together.proofs.Round.{first_is}
+use Rattle.fk_block_law.specs.Owner.{Commons, Owner, Doing, core_source}
+use Rattle.fk_simulation.proofs.Rounds as rounds
+use Rattle.fk_group_rounds.specs.After.{actings, runners_of, Keeps, AllKeep, DoesStep, StepsAt}
+use Rattle.fk_group_rounds.specs.Next.{JumpsLead}
+use Rattle.fk_group_rounds.specs.Rounds.{IsKnownRound}
+use Rattle.fk_group_runs.specs.Beside.{landed_runner, landed_state, HaveHeaps, AreInOrder, IsBeside}
+use Rattle.fk_group_runs.proofs.Landed.{next_landed, results_land, allowed_land}
+use Rattle.fk_group_runs.proofs.Results.{counts_are_units}
+use Rattle.fk_group_course.specs.Facts.{BeginsGroup, ReachedRoundsAreKnown}
+
+-- ---- counts of machines
+
+unit_le : (c : ℕ) → rounds.IsUnit c → c ≤ 1
+unit_le zero unit = omega arith
+unit_le (suc zero) unit = omega arith
+unit_le (suc (suc c)) unit = absurd unit
+
+pub units_single : (counts : List ℕ) → rounds.AreUnits counts → IsSingle counts
+units_single [] units h = omega arith
+units_single (c ∷ counts) units zero = unit_le c units.0
+units_single (c ∷ counts) units (suc h) = units_single counts units.1 h
+
+-- ---- those who step, as machines have them
+
+keeps_so : (due : Option (Step Position)) → one.Keeps due → Keeps due
+keeps_so None k = tt
+keeps_so (Some step) k = k
+
+keep_so : (ds : List Doing) → one.AllKeep (actings ds) → AllKeep ds
+keep_so [] keep = tt
+keep_so (d ∷ ds) keep = (keeps_so d.acting.due keep.0, keep_so ds keep.1)
+
+does_so : (op : Operation) (due : Option (Step Position)) → one.Does op due → DoesStep op due
+does_so op None does = absurd does
+does_so op (Some step) does = does
+
+steps_so : (tree : Tree) (g number : ℕ) (op : Operation) (ds : List Doing) → one.StepsAt tree g number op (actings ds) → StepsAt tree g number op ds
+steps_so tree g number op [] steps = tt
+steps_so tree g number op (d ∷ ds) steps = (
+  steps.0,
+  (λ e. does_so op d.acting.due (steps.1 e)),
+  (λ ne. keeps_so d.acting.due (steps.2 ne)),
+  steps_so tree g (suc number) op ds steps.3,
+)
+
+abbrev IsKnown : Tree → List Doing → Type 0
+IsKnown tree ds = IsKnownRound tree ds ⊎ BeginsGroup tree ds
+
+step_so : (tree : Tree) (ds : List Doing) (g : ℕ) (op : Operation) → one.MayStep tree g op → ((h : ℕ) → trees.is_member h (trees.members tree g) ≡ true → tree.places h ≡ g)
+    → StepsAt tree g 0 op ds → IsKnown tree ds
+step_so tree ds g o.Begin may stand steps =
+    let zero_is = may.0 in
+    inr (record {
+      kind = subst (λ n. trees.kind tree n ≡ Some (Asynchronous false)) zero_is may.1;
+      stand = subst (λ n. (h : ℕ) → trees.is_member h (trees.members tree n) ≡ true → tree.places h ≡ n) zero_is stand;
+      steps = subst (λ n. StepsAt tree n 0 o.Begin ds) zero_is steps;
+    })
+step_so tree ds g o.Resume may stand steps =
+    let zero_is = may.0 in
+    inl (inr (inl (record {
+      first = may.1.0;
+      parts = 1;
+      kind = subst (λ n. trees.kind tree n ≡ Some (Waiting may.1.0 1)) zero_is may.1.1;
+      stand = subst (λ n. (h : ℕ) → trees.is_member h (trees.members tree n) ≡ true → tree.places h ≡ n) zero_is stand;
+      steps = subst (λ n. StepsAt tree n 0 o.Resume ds) zero_is steps;
+    })))
+step_so tree ds g (o.Meet true) may stand steps = inl (inr (inr (inl (record { group = g; alone = may.1.0; kind = may.1.1; stand = stand; steps = steps }))))
+step_so tree ds g o.Farm may stand steps = inl (inr (inr (inr (inl (record { group = g; kind = may; steps = steps })))))
+step_so tree ds g o.Seq may stand steps = inl (inr (inr (inr (inr (inl (record { group = g; kind = may; steps = steps }))))))
+step_so tree ds g o.End may stand steps = inl (inr (inr (inr (inr (inr (record { group = g; kind = may; steps = steps }))))))
+step_so tree ds g (o.Meet false) may stand steps = absurd may
+step_so tree ds g op may stand steps = absurd may
+
+known_so : (tree : Tree) (ds : List Doing) → one.AreKnown tree (actings ds) → IsKnown tree ds
+known_so tree ds known =
+    ⊎_elim (λ keep. inl (inl (keep_so ds keep))) (λ s. step_so tree ds s.node s.operation s.may s.stand (steps_so tree s.node 0 s.operation ds s.steps)) known
+
+-- ---- a state whose processors are at their operations
+
+module _ (core : List CoreOp) (leads : JumpsLead core) (setting : Setting) (s : State Position) where
+  abbrev landing_of : Position → Position
+  landing_of w = position (landing core w.at) w.callers
+
+  goes_landed : (place : Where) (w : Position) → Goes (next core) place w → Goes (next core) place (landing_of w)
+  goes_landed place w goes zero = tt
+  goes_landed place w goes (suc n) = subst (GoesNext (next core) (GoesFor (next core) n) place) (sym (next_landed core leads w)) (goes (suc n))
+
+  pub landed_at : (rs : List (Runner Position)) (h : ℕ) (r : Runner Position) → slice_get (map (landed_runner core) rs) h ≡ Some r
+      → (before : Runner Position) × (slice_get rs h ≡ Some before) × (r ≡ landed_runner core before)
+  landed_at [] h r at = absurd (cc)
+  landed_at (q ∷ rs) zero r at = (q, refl, sym (first_is (landed_runner core q) r at))
+  landed_at (q ∷ rs) (suc h) r at = landed_at rs h r at
+
+  map_length : (rs : List (Runner Position)) → length (map (landed_runner core) rs) ≡ length rs
+  map_length [] = refl
+  map_length (r ∷ rs) = ap suc (map_length rs)
+
+  pub one_program : HaveOneProgram (next core) s → HaveOneProgram (next core) (landed_state core s)
+  one_program one' n g h r q kind in_g in_h r_is q_is =
+      let r' = landed_at s.runners g r r_is in
+      let q' = landed_at s.runners h q q_is in
+      let t = one' n g h r'.0 q'.0 kind in_g in_h r'.1 q'.1 in
+      subst (λ x. AreTogether (next core) (landed_state core s) n x q) (sym r'.2)
+      (subst (λ y. AreTogether (next core) (landed_state core s) n (landed_runner core r'.0) y) (sym q'.2)
+      (record {
+        left = ap landing_of t.left;
+        branch = λ step onward e is. t.branch step onward (sym (next_landed core leads r'.0.left) ∙ e) is;
+        groups = t.groups;
+        size = t.size;
+      }))
+
+  pub one_group : HasOneGroup (next core) setting s → HasOneGroup (next core) setting (landed_state core s)
+  one_group has = record {
+    many = map_length s.runners ∙ has.many;
+    tree = has.tree;
+    placed = λ h r at.
+        let b = landed_at s.runners h r at in
+        let p = has.placed h b.0 b.1 in
+        subst (λ x. IsPlaced (next core) setting s.tree h x) (sym b.2)
+        (record { number_is = p.number_is; place = p.place; there = p.there; goes = goes_landed p.place b.0.left p.goes; levels = p.levels });
+  }
+
+  pub possible_landed : (round : Round) → is_possible (next core) setting round s ≡ true → is_possible (next core) setting round (landed_state core s) ≡ true
+  possible_landed round e =
+      let fault : (result (next core) setting round (landed_state core s)).fault ≡ (result (next core) setting round s).fault
+      = ap (λ (u : State Position). u.fault) (results_land core leads setting round s) in
+      ap (λ a. is_none s.fault && a && is_none (result (next core) setting round (landed_state core s)).fault) (allowed_land core leads setting round s)
+      ∙ ap (λ f. is_none s.fault && is_allowed (next core) setting round s && is_none f) fault ∙ e
+
+-- ---- the processors of a machine
+
+actings_same : (ds : List Doing) → rounds.actings ds ≡ actings ds
+actings_same [] = refl
+actings_same (d ∷ ds) = ap (λ l. d.acting ∷ l) (actings_same ds)
+
+module _ (core : List CoreOp) where
+  in_order : (number : ℕ) (rs : List (Runner Position)) → AreInOrder number rs → rounds.AreNumbered number (map (landed_runner core) rs)
+  in_order number [] order = tt
+  in_order number (r ∷ rs) order = (order.0, in_order (suc number) rs order.1)
+
+  owners_are : (number : ℕ) (heaps : ℕ → Memory) (ps : List Owner) (rs : List (Runner Position)) → AreInOrder number rs → runners_of ps ≡ map (landed_runner core) rs → HaveHeaps number heaps ps
+      → ps ≡ rounds.owners heaps (map (landed_runner core) rs)
+  owners_are number heaps [] [] order same own = refl
+  owners_are number heaps (p ∷ ps) (r ∷ rs) order same own =
+      let first : p.runner ≡ landed_runner core r = cc in
+      let rest : runners_of ps ≡ map (landed_runner core) rs = cc in
+      ap (λ h. let q : Owner = record { runner = p.runner; heap = h } in q ∷ ps) (sym own.0 ∙ ap heaps (sym order.0))
+      ∙ ap (λ x. let q : Owner = record { runner = x; heap = heaps r.has.number } in q ∷ ps) first
+      ∙ ap (λ l. rounds.owner heaps (landed_runner core r) ∷ l) (owners_are (suc number) heaps ps rs order.1 rest own.1)
+  owners_are number heaps [] (r ∷ rs) order same own = absurd (cc)
+  owners_are number heaps (p ∷ ps) [] order same own = absurd (cc)
+
+  -- they are those who stand before the steps of the tree
+  pub steppers : (setting : Setting) (stages : List Stage) (s : State Position) (ps : List Owner) (did : List Doing) (shared shared' : Commons) → AreInOrder 0 s.runners → IsBeside core s ps shared
+      → AllPass (core_source core setting) (counts_for stages) ps shared did shared' → stepping (next core) setting (counts_for stages) (landed_state core s) ≡ actings did
+  steppers setting stages s ps did shared shared' order beside all =
+      let round = counts_for stages in
+      let landing = landed_state core s in
+      let are = owners_are 0 s.store.heaps ps s.runners order beside.runners beside.heaps in
+      let p = rounds.passed core setting 0 round landing.runners s.store did shared' (counts_are_units stages) (in_order 0 s.runners order)
+      (subst (λ c. AllPass (core_source core setting) round (rounds.owners s.store.heaps landing.runners) c did shared') (sym beside.commons)
+      (subst (λ l. AllPass (core_source core setting) round l shared did shared') are all)) in
+      ap (λ (x : Phases Position). x.acting) p.all ∙ actings_same did
+
+pub reached_rounds_are_known : ReachedRoundsAreKnown
+reached_rounds_are_known core nestings main setting stages s ps did shared shared' list is order beside possible all =
+    let round = counts_for stages in
+    let known = rounds_are_known Position (next core) setting round (landed_state core s) (record {
+      sound = is.sound;
+      one_program = one_program core list.jumps setting s is.one_program;
+      one_group = one_group core list.jumps setting s is.one_group;
+      single = units_single round (counts_are_units stages);
+      possible = possible_landed core list.jumps setting s round possible;
+    }) in
+    known_so s.tree did (subst (λ l. one.AreKnown s.tree l) (steppers core setting stages s ps did shared shared' order beside all) known)

@@ -1,5 +1,0 @@
-use Rattle.fk_group_simulation.proofs.Runs.{starts_go_further}
-use Rattle.fk_group_simulation.proofs.laws.starts_go_further.Goals as goal
-
-pub returns : goal.returns
-returns c = starts_go_further

@@ -1,3 +1,0 @@
-mod Aims
-mod Blocks
-mod Lists

@@ -1,5 +1,0 @@
-use Rattle.fk_grouped.proofs.Lists.{grouped_lists_are_generable}
-use Rattle.fk_grouped.proofs.laws.grouped_lists_are_generable.Goals as goal
-
-pub returns : goal.returns
-returns c = grouped_lists_are_generable

@@ -1,5 +1,0 @@
-use Rattle.fk_grouped.proofs.Blocks.{steps_find_values}
-use Rattle.fk_grouped.proofs.laws.steps_find_values.Goals as goal
-
-pub returns : goal.returns
-returns c = steps_find_values

@@ -1,5 +1,0 @@
-use Rattle.fk_grouped.proofs.Aims.{straight_has_no_target}
-use Rattle.fk_grouped.proofs.laws.straight_has_no_target.Goals as goal
-
-pub returns : goal.returns
-returns c = straight_has_no_target

@@ -1,3 +1,0 @@
-pub mod Wants
-pub mod Texts
-pub mod Programs

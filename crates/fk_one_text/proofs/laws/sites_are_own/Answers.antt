@@ -1,5 +1,0 @@
-use Rattle.fk_one_text.proofs.Sites.{sites_are_own}
-use Rattle.fk_one_text.proofs.laws.sites_are_own.Goals as goal
-
-pub returns : goal.returns
-returns c = sites_are_own
