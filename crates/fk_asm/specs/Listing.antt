@@ -45,8 +45,8 @@ register number = slice_index_or register_names number []
 -- ---- the shapes of texts
 
 -- a name and the first register after it
-abbrev pub opening : List ℕ → ℕ → List ℕ
-opening name r = name ++ codes " " ++ register r ++ codes ", "
+abbrev pub name_and_register : List ℕ → ℕ → List ℕ
+name_and_register name r = name ++ codes " " ++ register r ++ codes ", "
 
 -- the register of an address
 abbrev pub in_parentheses : ℕ → List ℕ
@@ -54,27 +54,27 @@ in_parentheses r = codes "(" ++ register r ++ codes ")"
 
 -- `lui rd, 0x30000`
 unfoldable pub upper : List ℕ → ℕ → ℕ → List ℕ
-upper name rd imm = opening name rd ++ codes "0x" ++ hexadecimal imm
+upper name rd imm = name_and_register name rd ++ codes "0x" ++ hexadecimal imm
 
 -- `jal rd, -8`
 unfoldable pub jump : List ℕ → ℕ → ℕ → List ℕ
-jump name rd imm = opening name rd ++ immediate imm
+jump name rd imm = name_and_register name rd ++ immediate imm
 
 -- `lw rd, 12(rs1)`
 unfoldable pub at_offset : List ℕ → ℕ → ℕ → ℕ → List ℕ
-at_offset name r base imm = opening name r ++ immediate imm ++ in_parentheses base
+at_offset name r base imm = name_and_register name r ++ immediate imm ++ in_parentheses base
 
 -- `addi rd, rs1, -1`
 unfoldable pub with_immediate : List ℕ → ℕ → ℕ → ℕ → List ℕ
-with_immediate name a b imm = opening name a ++ register b ++ codes ", " ++ immediate imm
+with_immediate name a b imm = name_and_register name a ++ register b ++ codes ", " ++ immediate imm
 
 -- `slli rd, rs1, 31`
 unfoldable pub with_distance : List ℕ → ℕ → ℕ → ℕ → List ℕ
-with_distance name a b distance = opening name a ++ register b ++ codes ", " ++ decimal distance
+with_distance name a b distance = name_and_register name a ++ register b ++ codes ", " ++ decimal distance
 
 -- `add rd, rs1, rs2`
 unfoldable pub three_registers : List ℕ → ℕ → ℕ → ℕ → List ℕ
-three_registers name a b c = opening name a ++ register b ++ codes ", " ++ register c
+three_registers name a b c = name_and_register name a ++ register b ++ codes ", " ++ register c
 
 -- what the bits aq and rl add to a name
 unfoldable pub ordering : Bool → Bool → List ℕ
@@ -85,11 +85,11 @@ ordering true true = codes ".aqrl"
 
 -- `lr.w.aq rd, (rs1)`
 unfoldable pub reserving : List ℕ → Bool → Bool → ℕ → ℕ → List ℕ
-reserving name aq rl rd base = opening (name ++ ordering aq rl) rd ++ in_parentheses base
+reserving name aq rl rd base = name_and_register (name ++ ordering aq rl) rd ++ in_parentheses base
 
 -- `amoadd.w rd, rs2, (rs1)`
 unfoldable pub atomic : List ℕ → Bool → Bool → ℕ → ℕ → ℕ → List ℕ
-atomic name aq rl rd value base = opening (name ++ ordering aq rl) rd ++ register value ++ codes ", " ++ in_parentheses base
+atomic name aq rl rd value base = name_and_register (name ++ ordering aq rl) rd ++ register value ++ codes ", " ++ in_parentheses base
 
 -- ---- the table
 

@@ -7,12 +7,12 @@ use Rattle.fk_run.specs.Round.{Runner}
 use Rattle.fk_run.specs.Schedule.{Schedule, run, IsLawful}
 use Rattle.fk_core.specs.declared.op.CoreOp.{CoreOp}
 use Rattle.fk_core.specs.Numbers.{operation_of}
-use Rattle.fk_core.specs.Next.{Position, is_jump, landing, follows, next, opening}
+use Rattle.fk_core.specs.Next.{Position, is_jump, landing, follows, next, list_opening}
 use Rattle.fk_core.specs.WellFormed.{IsOperation}
 use Rattle.fk_block_law.specs.Ready.{is_alone, MayDo}
 
 -- an index and those to which calls return are in the list
-pub record IsWithin (core : List CoreOp) (w : Position) : Type 0 where
+pub record StaysInList (core : List CoreOp) (w : Position) : Type 0 where
   pub at : w.at < length core
   pub callers : All (λ i. i < length core) w.callers
 
@@ -33,14 +33,14 @@ pub record IsFree (core : List CoreOp) : Type 0 where
   -- no operation but an end goes on outside the list
   pub within : (i : ℕ) (op : CoreOp) (operation : Operation) → slice_get core i ≡ Some op
       → operation_of op.kind op.number ≡ Some operation → is_end operation ≡ false
-      → (onward : Bool) → IsWithin core (follows core operation i op.target [] onward)
+      → (onward : Bool) → StaysInList core (follows core operation i op.target [] onward)
 
 -- in every run, whenever a processor is about to do an operation, it may
 abbrev pub AlwaysMay : List CoreOp → (main : ℕ) → Type 0
 AlwaysMay core main =
     (words firsts input : List ℕ) (p : ℕ) (schedule : Schedule)
     → let setting = setting_of p words input in
-    let first = opening main words firsts input p in
+    let first = list_opening main words firsts input p in
     let state = run (next core) setting schedule first in
     IsLawful (next core) setting schedule first
     → state.fault ≡ None

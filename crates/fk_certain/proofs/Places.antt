@@ -17,7 +17,7 @@ use Rattle.fk_slots.specs.Told.{Told, splits_at, words_at}
 use Rattle.fk_slots.specs.Frames.{last_word}
 use Rattle.fk_slots.specs.Places as l
 use Rattle.fk_slots.specs.Places.{none_taken, no_slots, slot_in, file_slot, variables_slots, parameters_slots, file_slots, behind_words, behind_private, behind_variable, behind_variables}
-use Rattle.fk_slots.specs.Slots.{behind_body_frame, begun, begun_two, behind, opening, slots_in, all_slots_in, body_slots, item_slots, items_slots, slots_of, behind_item, behind_body}
+use Rattle.fk_slots.specs.Slots.{behind_body_frame, begun, begun_two, behind, taken_first, slots_in, all_slots_in, body_slots, item_slots, items_slots, slots_of, behind_item, behind_body}
 use Rattle.fk_layout.specs.Layout.{told_by}
 use Rattle.fk_layout.specs.Refusal.{Fits}
 use Rattle.fk_fitting.specs.Correct.{IsCorrect}
@@ -103,8 +103,8 @@ module _ (told : Told) where
 
   body_elsewhere : (file : _) (parameters : List DeclaredTree) (body : Option Statements) → Each IsElsewhere (body_slots told file parameters body)
   body_elsewhere file parameters None = none_elsewhere parameters
-  body_elsewhere file parameters (Some body) = join IsElsewhere _ _ (parameters_elsewhere file.frames (opening told file parameters body) parameters)
-      (all_elsewhere file.frames (l.behind_parameters told (opening told file parameters body) parameters) body)
+  body_elsewhere file parameters (Some body) = join IsElsewhere _ _ (parameters_elsewhere file.frames (taken_first told file parameters body) parameters)
+      (all_elsewhere file.frames (l.behind_parameters told (taken_first told file parameters body) parameters) body)
 
   -- ---- a slot of shared data lies with its words within those of the layout
 

@@ -8,7 +8,7 @@ use Rattle.fk_forms.specs.declared.tables.Home.TheVariants as h
 use Rattle.fk_forms.specs.declared.tables.Slot.{Slot}
 use Rattle.fk_slots.specs.Told.{Told, splits_at}
 use Rattle.fk_slots.specs.Places.{none_taken, within, outside, behind_private, slot_in, behind_words, behind_variable, behind_variables, behind_parameter, behind_parameters, variables_slots, parameters_slots}
-use Rattle.fk_slots.specs.Slots.{behind_body_frame, begun, begun_two, behind, behind_all, slots_in, all_slots_in, opening, at_end, body_slots}
+use Rattle.fk_slots.specs.Slots.{behind_body_frame, begun, begun_two, behind, behind_all, slots_in, all_slots_in, taken_first, at_end, body_slots}
 use Rattle.fk_slots.proofs.Alike.{same_privates}
 use Rattle.fk_fitting.proofs.Each.{Each, each_map}
 use Rattle.fk_certain.proofs.Regions.{join}
@@ -144,7 +144,7 @@ module _ (told : Told) where
     all_good frame taken p.no_statements = none _
     all_good frame taken (p.statement first others) = both _ _ _ _ _ (good frame taken first) (all_good frame (behind told taken first) others)
 
-  from_none : (file : _) (parameters : List DeclaredTree) (body : Statements) → (within (opening told file parameters body)).privates ≡ 0
+  from_none : (file : _) (parameters : List DeclaredTree) (body : Statements) → (within (taken_first told file parameters body)).privates ≡ 0
   unfolding within
   from_none file parameters body = refl
 
@@ -157,7 +157,7 @@ module _ (told : Told) where
       → Each (Below (at_end told none_taken parameters body).privates) (body_slots told file parameters (Some body)) × (length parameters ≤ (at_end told none_taken parameters body).privates)
   own_slots file parameters body few =
       let end = ends_so file parameters body in
-      let first = opening told file parameters body in
+      let first = taken_first told file parameters body in
       let start = from_none file parameters body in
       let body_good = all_good file.frames (behind_parameters told first parameters) body in
       let all = again _ _ _ _ _ refl end (both _ _ _ _ _ (of_parameters told file.frames first parameters) body_good) in

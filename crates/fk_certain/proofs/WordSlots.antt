@@ -7,7 +7,7 @@ use Rattle.fk_forms.specs.declared.tables.Home.TheVariants as h
 use Rattle.fk_forms.specs.declared.tables.Slot.{Slot}
 use Rattle.fk_slots.specs.Told.{Told, splits_at, words_at}
 use Rattle.fk_slots.specs.Places.{none_taken, within, outside, behind_private, slot_in, file_slot, no_slot, no_slots, behind_words, behind_variable, behind_variables, behind_parameter, behind_parameters, variables_slots, parameters_slots, file_slots}
-use Rattle.fk_slots.specs.Slots.{behind_body_frame, begun, begun_two, behind, behind_all, slots_in, all_slots_in, opening, body_slots, items_slots, behind_body}
+use Rattle.fk_slots.specs.Slots.{behind_body_frame, begun, begun_two, behind, behind_all, slots_in, all_slots_in, taken_first, body_slots, items_slots, behind_body}
 use Rattle.fk_fitting.proofs.Each.{Each}
 use Rattle.fk_certain.proofs.Regions.{join}
 use Rattle.fk_certain.proofs.Taken.{same_within, same_outside, same_body_frame, same_two}
@@ -113,7 +113,7 @@ module _ (told : Told) where
     all_good frame taken p.no_statements = none _
     all_good frame taken (p.statement first others) = both _ _ _ _ _ (good frame taken first) (all_good frame (behind told taken first) others)
 
-  opens_at_0 : (file : _) (parameters : List DeclaredTree) (body : Statements) → (within (opening told file parameters body)).privates ≡ 0
+  opens_at_0 : (file : _) (parameters : List DeclaredTree) (body : Statements) → (within (taken_first told file parameters body)).privates ≡ 0
   unfolding within
   opens_at_0 file parameters body = refl
 
@@ -124,8 +124,8 @@ module _ (told : Told) where
   body_low : (file : _) (parameters : List DeclaredTree) (body : Option Statements) → length (body_slots told file parameters body) ≤ most → Each IsLow (body_slots told file parameters body)
   body_low file parameters None few = no_slots_low parameters
   body_low file parameters (Some body) few =
-      let all = both _ _ _ _ _ (of_parameters told file.frames (opening told file parameters body) parameters)
-      (all_good file.frames (behind_parameters told (opening told file parameters body) parameters) body) in
+      let all = both _ _ _ _ _ (of_parameters told file.frames (taken_first told file parameters body) parameters)
+      (all_good file.frames (behind_parameters told (taken_first told file parameters body) parameters) body) in
       let from = opens_at_0 file parameters body in
       all.low (omega (arith, few, from))
 

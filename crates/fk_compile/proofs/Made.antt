@@ -30,7 +30,7 @@ use Rattle.fk_group_course.specs.Follow.{CarriesGroups}
 use Rattle.fk_kept.specs.declared.set.Set.{Set}
 use Rattle.fk_certain.specs.Certain.{HasFrames}
 use Rattle.fk_text.specs.declared.refusal.Refusal.{Refusal}
-use Rattle.fk_text.specs.Refusal.{IsRefused}
+use Rattle.fk_text.specs.Refusal.{IsRefusedText}
 use Rattle.fk_generate.specs.Generable.{IsGenerable, HasCode}
 use Rattle.fk_compile.specs.Lists.{HasListOf, IsGrouped}
 use Rattle.fk_compile.specs.Faithful.{in_image, in_table, words_by}
@@ -38,9 +38,9 @@ use Rattle.fk_compile.proofs.Limits.{sites_fit, commits_fit, commits_rise}
 use Rattle.fk_compile.proofs.Theorem.{IsCompiled}
 
 -- a refusal is passed on as it is
-pub passes_on : {A : Type 0} (r : Result A Refusal) (refusal : Refusal) (source : List ℕ) → IsErrAnd r (λ z. z ≡ refusal) → IsRefused source refusal → IfErr r (IsRefused source)
+pub passes_on : {A : Type 0} (r : Result A Refusal) (refusal : Refusal) (source : List ℕ) → IsErrAnd r (λ z. z ≡ refusal) → IsRefusedText source refusal → IfErr r (IsRefusedText source)
 passes_on (Ok a) refusal source same h = tt
-passes_on (Err z) refusal source same h = subst (IsRefused source) (sym same) h
+passes_on (Err z) refusal source same h = subst (IsRefusedText source) (sym same) h
 
 -- the code of a list, of which the parts of a layout are handed over
 pub gives_the_law : (core ops : List CoreOp) (kept kept' : List Set) (main : ℕ) (firsts given : List ℕ) (count globals : ℕ) (code : Code) → ops ≡ core → kept' ≡ kept

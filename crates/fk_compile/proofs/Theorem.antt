@@ -4,7 +4,7 @@ use Rattle.std.specs.Prelude.{map}
 use Rattle.fk_syntax.specs.declared.facts.Facts.{Facts}
 use Rattle.fk_syntax.specs.Program.{ProgramTree}
 use Rattle.fk_forms.specs.Program.{main_of, sites_of}
-use Rattle.fk_source.specs.Program.{next_in, opening}
+use Rattle.fk_source.specs.Program.{next_in, program_opening}
 use Rattle.fk_layout.specs.Layout.{tables_by}
 use Rattle.fk_core.specs.declared.op.CoreOp.{CoreOp}
 use Rattle.fk_image.specs.declared.Image.{Image}
@@ -41,6 +41,6 @@ module _ (program : ProgramTree) (facts : Facts) (core : List CoreOp) (main : �
         let firsts = firsts_by program facts in
         let carries = subst (λ (m : ℕ). CarriesGroups core m firsts c.places c.nestings c.cycles image) c.list.begins c.carries in
         let follows = law core (entry (main_of tables program)) firsts c.places c.nestings c.cycles image carries input p n within some few in
-        subst (λ (words : List ℕ). Follows (next_in tables program) image input p n (opening tables program words firsts input p)) c.globals_are
+        subst (λ (words : List ℕ). Follows (next_in tables program) image input p n (program_opening tables program words firsts input p)) c.globals_are
         (programs tables program core entry firsts image input p n c.list.code follows);
   }

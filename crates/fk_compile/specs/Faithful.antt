@@ -4,7 +4,7 @@ use Rattle.fk_syntax.specs.declared.facts.Facts.{Facts}
 use Rattle.fk_syntax.specs.declared.place.Place.{Place}
 use Rattle.fk_syntax.specs.Program.{ProgramTree}
 use Rattle.fk_forms.specs.Program.{sites_of}
-use Rattle.fk_source.specs.Program.{next_in, opening}
+use Rattle.fk_source.specs.Program.{next_in, program_opening}
 use Rattle.fk_globals.specs.Constants.{told}
 use Rattle.fk_globals.specs.Rows.{words, firsts}
 use Rattle.fk_layout.specs.Layout.{tables_by}
@@ -37,7 +37,7 @@ pub record IsFaithfulTo (program : ProgramTree) (facts : Facts) (image : Image) 
   pub globals_are : image.globals.items ≡ words_by program facts
   pub follows : (input : List ℕ) (p n : ℕ) → IsInput image input → 1 ≤ p → p ≤ 1024 → n < 2 ^ 32
       → Follows (next_in (tables_by program facts) program) image input p n
-      (opening (tables_by program facts) program (words_by program facts) (firsts_by program facts) input p)
+      (program_opening (tables_by program facts) program (words_by program facts) (firsts_by program facts) input p)
 
 -- the text keeps all rules, its operations are all built, and the image is faithful to it
 pub record IsFaithful (source : List ℕ) (image : Image) : Type 0 where

@@ -14,7 +14,7 @@ use Rattle.fk_run.specs.Schedule.{Schedule, run, IsLawful}
 use Rattle.fk_forms.specs.Tables.{Tables}
 use Rattle.fk_forms.specs.Expressions.{Signature}
 use Rattle.fk_forms.specs.Program.{functions_of, signature_in}
-use Rattle.fk_source.specs.Program.{next_in, opening}
+use Rattle.fk_source.specs.Program.{next_in, program_opening}
 use Rattle.fk_kept.specs.declared.places.Place.{Place}
 use Rattle.fk_layout.specs.Layout.{tables_by}
 use Rattle.fk_layout.specs.Refusal.{Fits}
@@ -72,7 +72,7 @@ abbrev pub HasOneProgram : (program : ProgramTree) (facts : Facts) → Type 0
 HasOneProgram program facts =
     (setting : Setting) (schedule : Schedule) (words firsts input : List ℕ) (processors : ℕ) → 1 ≤ processors
     → let next = next_in (tables_by program facts) program in
-    let first = opening (tables_by program facts) program words firsts input processors in
+    let first = program_opening (tables_by program facts) program words firsts input processors in
     IsLawful next setting schedule first
     → (run next setting schedule first).fault ≡ None
     → KeepOneProgram next processors (run next setting schedule first)
@@ -91,7 +91,7 @@ abbrev pub HasOneSpace : (program : ProgramTree) (facts : Facts) → Type 0
 HasOneSpace program facts =
     (setting : Setting) (schedule : Schedule) (words firsts input : List ℕ) (processors : ℕ) → 1 ≤ processors
     → let next = next_in (tables_by program facts) program in
-    let first = opening (tables_by program facts) program words firsts input processors in
+    let first = program_opening (tables_by program facts) program words firsts input processors in
     IsLawful next setting schedule first
     → (run next setting schedule first).fault ≡ None
     → KeepOneSpace (run next setting schedule first)

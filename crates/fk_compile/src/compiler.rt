@@ -3,7 +3,7 @@
 ghost use Rattle.std.specs.Prelude.{◌≡◌, ◌≤◌, ◌<◌, ℕ, List, IfOk, IfErr, OnOk, length};
 ghost use Rattle.fk_syntax.specs.ProgramView.{program_of};
 ghost use Rattle.fk_syntax.specs.WellFormed.{IsWellFormed};
-ghost use Rattle.fk_text.specs.Refusal.{IsRefused};
+ghost use Rattle.fk_text.specs.Refusal.{IsRefusedText};
 ghost use Rattle.fk_text.specs.Text.{HasLayout, IsBuilt, KeepsRules};
 ghost use Rattle.fk_compile.specs.Faithful.{IsFaithful};
 
@@ -30,7 +30,7 @@ pub fn compile(alloc: Global, source: &[u8]) -> Result<Image, Refusal>
     ensures laid { OnOk result (HasLayout source.now) }
     ensures built { OnOk result (IsBuilt source.now) }
     ensures short { OnOk result (length source.now ≤ 1048576) }
-    ensures refused { IfErr result (IsRefused source.now) }
+    ensures refused { IfErr result (IsRefusedText source.now) }
 {
     let text = built_text(alloc, source)?;
     let list = list_of(alloc, &text)?;

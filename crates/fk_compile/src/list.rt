@@ -18,7 +18,7 @@ ghost use Rattle.fk_certain.specs.Certain.{HasFrames};
 ghost use Rattle.fk_certain.specs.Laws.{count_of_file};
 ghost use Rattle.fk_generate.specs.Generable.{IsGenerable, most_words};
 ghost use Rattle.fk_text.specs.Plain.{ArePlain};
-ghost use Rattle.fk_text.specs.Refusal.{IsRefused};
+ghost use Rattle.fk_text.specs.Refusal.{IsRefusedText};
 ghost use Rattle.fk_text.specs.Text.{IsChecked};
 ghost use Rattle.fk_compile.specs.Lists.{HasListOf, IsGrouped};
 
@@ -62,7 +62,7 @@ fn lowered(alloc: Global, known: &Known) -> Result<List, Refusal>
         → IfOk result (λ list. HasSites known.now list.ops.items) }
     ensures told { (program : ProgramTree) → IsLowerable known.now program
         → IfOk result (λ list. AreTold (depths_of known.now (functions_in known.now)) list.ops.items) }
-    ensures refused { IfErr result (λ refusal. (source : Listed ℕ) → IsRefused source refusal) }
+    ensures refused { IfErr result (λ refusal. (source : Listed ℕ) → IsRefusedText source refusal) }
 {
     match lower_text(alloc, known) {
         Ok(lowered) => {
@@ -94,7 +94,7 @@ pub(crate) fn list_of(alloc: Global, text: &Built) -> Result<List, Refusal>
     ensures small { IfOk result (λ list. sum_by most_words list.ops.items ≤ 256000) }
     ensures grouped { IfOk result (λ list. IsGrouped list.ops.items list.main
         (count_of_file (program_of text.now.tree) text.now.facts)) }
-    ensures refused { IfErr result (λ refusal. (source : Listed ℕ) → IsRefused source refusal) }
+    ensures refused { IfErr result (λ refusal. (source : Listed ℕ) → IsRefusedText source refusal) }
 {
     let bare = known_of(&text.tree, &text.facts, &text.layout);
     let lookup = Lookup::of(alloc, &bare).map_err(Refusal::Memory)?;
@@ -138,7 +138,7 @@ pub(crate) fn kept_words(alloc: Global, list: &List, firsts: &[u32]) -> Result<V
     ensures held { IfOk result (λ kept. HasFrames list.now.ops.items kept.items list.now.main (length firsts.now)) }
     ensures generable { IfOk result (λ kept. LeadsOn list.now.ops.items
         → IsGenerable list.now.ops.items kept.items list.now.main firsts.now) }
-    ensures refused { IfErr result (λ refusal. (source : Listed ℕ) → IsRefused source refusal) }
+    ensures refused { IfErr result (λ refusal. (source : Listed ℕ) → IsRefusedText source refusal) }
 {
     have_words(&list.ops);
     are_words(firsts);

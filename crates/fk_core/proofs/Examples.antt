@@ -7,7 +7,7 @@ use Rattle.fk_run.specs.Round.{Runner, State, result}
 use Rattle.fk_run.specs.Schedule.{Schedule, SourceFinished, SourceFaulted}
 use Rattle.fk_source.proofs.Seen.{Line, Byte, lines, seen}
 use Rattle.fk_core.specs.declared.op.CoreOp.{CoreOp}
-use Rattle.fk_core.specs.Next.{Position, landing, next, opening}
+use Rattle.fk_core.specs.Next.{Position, landing, next, list_opening}
 
 abbrev pub op : (kind site number target depth : ℕ) → CoreOp
 op kind site number target depth = record { kind = kind; site = site; number = number; target = target; depth = depth }
@@ -39,11 +39,11 @@ bad_address_rounds =
     (1 ∷ 1 ∷ 1 ∷ []) ∷ (1 ∷ 1 ∷ 1 ∷ []) ∷ (7 ∷ 7 ∷ 7 ∷ []) ∷ (0 ∷ 4 ∷ 0 ∷ []) ∷
     (1 ∷ 1 ∷ 1 ∷ []) ∷ (2 ∷ 2 ∷ 2 ∷ []) ∷ []
 
-bad_address : seen (next bad_address_core) (setting_of 3 (0 ∷ []) []) bad_address_rounds (Some (3 ∷ 3 ∷ 3 ∷ [])) (0 ∷ []) (opening 0 (0 ∷ []) [] [] 3)
+bad_address : seen (next bad_address_core) (setting_of 3 (0 ∷ []) []) bad_address_rounds (Some (3 ∷ 3 ∷ 3 ∷ [])) (0 ∷ []) (list_opening 0 (0 ∷ []) [] [] 3)
     ≡ (lines [] (Line 0 ∷ Line 1 ∷ Line 2 ∷ []), (0 ∷ []), SourceFaulted (record { site = 18; processor = 1 }), true)
 bad_address = refl
 
-bad_address_depths : all_deep bad_address_core (setting_of 3 (0 ∷ []) []) bad_address_rounds (opening 0 (0 ∷ []) [] [] 3) ≡ true
+bad_address_depths : all_deep bad_address_core (setting_of 3 (0 ∷ []) []) bad_address_rounds (list_opening 0 (0 ∷ []) [] [] 3) ≡ true
 bad_address_depths = refl
 
 -- sh int r; sync int twice(sh int n) { sh int k; k = n + n; return k; } void main(void) { start { r = twice($); } }
@@ -63,11 +63,11 @@ group_frame_rounds =
     (4 ∷ 4 ∷ []) ∷ (4 ∷ 4 ∷ []) ∷ (2 ∷ 2 ∷ []) ∷ (2 ∷ 2 ∷ []) ∷ (3 ∷ 3 ∷ []) ∷ (2 ∷ 2 ∷ []) ∷
     (2 ∷ 2 ∷ []) ∷ (1 ∷ 1 ∷ []) ∷ (1 ∷ 1 ∷ []) ∷ []
 
-group_frame : seen (next group_frame_core) (setting_of 2 (0 ∷ []) []) group_frame_rounds None (0 ∷ []) (opening 17 (0 ∷ []) [] [] 2)
+group_frame : seen (next group_frame_core) (setting_of 2 (0 ∷ []) []) group_frame_rounds None (0 ∷ []) (list_opening 17 (0 ∷ []) [] [] 2)
     ≡ (lines [] [], (2 ∷ []), SourceFinished, true)
 group_frame = refl
 
-group_frame_depths : all_deep group_frame_core (setting_of 2 (0 ∷ []) []) group_frame_rounds (opening 17 (0 ∷ []) [] [] 2) ≡ true
+group_frame_depths : all_deep group_frame_core (setting_of 2 (0 ∷ []) []) group_frame_rounds (list_opening 17 (0 ∷ []) [] [] 2) ≡ true
 group_frame_depths = refl
 
 -- int f(int n) { return n ? 1 + f(n - 1) : 0; } void main(void) { putint(f(3)); }
@@ -82,11 +82,11 @@ abbrev recursion_rounds : Schedule
 recursion_rounds =
     (2 ∷ []) ∷ (7 ∷ []) ∷ (7 ∷ []) ∷ (7 ∷ []) ∷ (11 ∷ []) ∷ (1 ∷ []) ∷ []
 
-recursion : seen (next recursion_core) (setting_of 1 [] []) recursion_rounds None [] (opening 14 [] [] [] 1)
+recursion : seen (next recursion_core) (setting_of 1 [] []) recursion_rounds None [] (list_opening 14 [] [] [] 1)
     ≡ (lines [] (Line 3 ∷ []), [], SourceFinished, true)
 recursion = refl
 
-recursion_depths : all_deep recursion_core (setting_of 1 [] []) recursion_rounds (opening 14 [] [] [] 1) ≡ true
+recursion_depths : all_deep recursion_core (setting_of 1 [] []) recursion_rounds (list_opening 14 [] [] [] 1) ≡ true
 recursion_depths = refl
 
 -- void main(void) { int i; int s = 0; for (i = 0; i < 9; i++) { if (i == 1) continue; if (i == 4) break; s += i; } do { s = s * 2; } while (s < 30); putint(s); puts("a\n"); }
@@ -108,9 +108,9 @@ abbrev loops_rounds : Schedule
 loops_rounds =
     (137 ∷ []) ∷ (2 ∷ []) ∷ (2 ∷ []) ∷ (1 ∷ []) ∷ []
 
-loops : seen (next loops_core) (setting_of 1 [] []) loops_rounds None [] (opening 0 [] [] [] 1)
+loops : seen (next loops_core) (setting_of 1 [] []) loops_rounds None [] (list_opening 0 [] [] [] 1)
     ≡ (lines [] (Line 40 ∷ Byte 97 ∷ Byte 10 ∷ []), [], SourceFinished, true)
 loops = refl
 
-loops_depths : all_deep loops_core (setting_of 1 [] []) loops_rounds (opening 0 [] [] [] 1) ≡ true
+loops_depths : all_deep loops_core (setting_of 1 [] []) loops_rounds (list_opening 0 [] [] [] 1) ≡ true
 loops_depths = refl

@@ -87,5 +87,5 @@ module _ (core : List CoreOp) where
   next w = let i = landing w.at in step_of i w.callers (slice_get core i)
 
 -- p processors at the entry of `main`
-abbrev pub opening : (main : ℕ) → (words firsts input : List ℕ) → (p : ℕ) → State Position
-opening main words firsts input p = run.opening p words input (slice_index firsts) (position main [])
+abbrev pub list_opening : (main : ℕ) → (words firsts input : List ℕ) → (p : ℕ) → State Position
+list_opening main words firsts input p = run.opening p words input (slice_index firsts) (position main [])

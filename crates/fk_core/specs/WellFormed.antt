@@ -6,7 +6,7 @@ use Rattle.fk_run.specs.Round.{Runner}
 use Rattle.fk_run.specs.Schedule.{Schedule, run, IsLawful}
 use Rattle.fk_core.specs.declared.op.CoreOp.{CoreOp}
 use Rattle.fk_core.specs.Numbers.{operation_of}
-use Rattle.fk_core.specs.Next.{Position, landing, next, opening}
+use Rattle.fk_core.specs.Next.{Position, landing, next, list_opening}
 
 -- an operation stands at an index
 pub record IsOperation (core : List CoreOp) (i : ℕ) : Type 0 where
@@ -24,7 +24,7 @@ abbrev pub HasDepths : List CoreOp → (main : ℕ) → Type 0
 HasDepths core main =
     (words firsts input : List ℕ) (p : ℕ) (schedule : Schedule)
     → let setting = setting_of p words input in
-    let first = opening main words firsts input p in
+    let first = list_opening main words firsts input p in
     let state = run (next core) setting schedule first in
     IsLawful (next core) setting schedule first
     → state.fault ≡ None

@@ -9,7 +9,7 @@ use Rattle.fk_forms.specs.Tables.{Tables, note}
 use Rattle.fk_forms.specs.Program.{functions_of, binding_of, signature_in, is_main, main_of}
 use Rattle.fk_run.specs.Processor.{Setting}
 use Rattle.fk_run.specs.Schedule.{Schedule, run, IsLawful}
-use Rattle.fk_source.specs.Program.{next_in, main_work, opening}
+use Rattle.fk_source.specs.Program.{next_in, main_work, program_opening}
 use Rattle.fk_nesting.specs.Shaped.{ProgramShaped}
 use Rattle.fk_lockstep.specs.Told as told
 use Rattle.fk_lockstep.specs.Allots.{Allots}
@@ -114,7 +114,7 @@ abbrev pub ProgramsHaveOneProgram : Type 0
 ProgramsHaveOneProgram =
     (tables : Tables) (program : ProgramTree) (may_call : (in_group : Bool) → (function : ℕ) → Bool) → IsInPlace tables program may_call
     → (setting : Setting) (schedule : Schedule) (words firsts input : List ℕ) (processors : ℕ) → 1 ≤ processors
-    → let first = opening tables program words firsts input processors in
+    → let first = program_opening tables program words firsts input processors in
     IsLawful (next_in tables program) setting schedule first
     → (run (next_in tables program) setting schedule first).fault ≡ None
     → KeepOneProgram (next_in tables program) processors (run (next_in tables program) setting schedule first)

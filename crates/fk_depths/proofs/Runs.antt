@@ -16,7 +16,7 @@ use Rattle.fk_run.specs.Round.{Step, Runner, Fault, State, Round, Acting, Phase,
 use Rattle.fk_run.specs.Schedule.{Schedule, run, beginners, first_processor}
 use Rattle.fk_core.specs.declared.op.CoreOp.{CoreOp}
 use Rattle.fk_core.specs.Numbers.{operation_of}
-use Rattle.fk_core.specs.Next.{Position, position, landing, follows, step_by, step_of, next, opening}
+use Rattle.fk_core.specs.Next.{Position, position, landing, follows, step_by, step_of, next, list_opening}
 use Rattle.fk_depths.specs.declared.places.Within.{Within}
 use Rattle.fk_depths.specs.declared.places.Within.TheVariants.{Main}
 use Rattle.fk_depths.specs.Local.{GoesOn, HasLocalDepths, LocalDepthsAreDepths}
@@ -258,7 +258,7 @@ module _ (core : List CoreOp) (main : ℕ) (local_depths : HasLocalDepths core m
 pub local_depths_are_depths : LocalDepthsAreDepths
 local_depths_are_depths core main local_depths words firsts input p schedule lawful fault h r op here stands =
     let set = setting_of p words input in
-    let start = opening main words firsts input p in
+    let start = list_opening main words firsts input p in
     let fits = all_at (RunnerFits core main local_depths) _ h r (runs core main local_depths set schedule start (first core main local_depths set _ 0 p)) here in
     let comes = fits.comes op stands in
     comes.0

@@ -31,7 +31,7 @@ use Rattle.fk_slots.specs.Told.{Told, splits_at}
 use Rattle.fk_slots.specs.Frames.{last_word}
 use Rattle.fk_slots.specs.Places as l
 use Rattle.fk_slots.specs.Places.{none_taken, no_slots, slot_in, file_slot, variables_slots, parameters_slots, file_slots, behind_variable, behind_parameter, behind_parameters}
-use Rattle.fk_slots.specs.Slots.{slots_in, all_slots_in, behind, behind_body_frame, begun, begun_two, opening, body_slots, item_slots, items_slots, slots_of, behind_item}
+use Rattle.fk_slots.specs.Slots.{slots_in, all_slots_in, behind, behind_body_frame, begun, begun_two, taken_first, body_slots, item_slots, items_slots, slots_of, behind_item}
 use Rattle.fk_layout.specs.Layout.{told_by}
 use Rattle.fk_fitting.specs.Correct.{IsCorrect}
 use Rattle.fk_fitting.proofs.Notes.{tables, among, binding_is}
@@ -182,8 +182,8 @@ module _ (told : Told) where
   with_body : (r : TypeTree) (file : _) (parameters : List DeclaredTree) (body : Statements)
       → Fits (body_slots told file parameters (Some body)) (parameters_pieces parameters ++ statements_pieces r body)
   with_body r file parameters body =
-      both _ _ (parameters_pieces parameters) (statements_pieces r body) (of_parameters file.frames (opening told file parameters body) parameters)
-      (of_statements r file.frames (behind_parameters told (opening told file parameters body) parameters) body)
+      both _ _ (parameters_pieces parameters) (statements_pieces r body) (of_parameters file.frames (taken_first told file parameters body) parameters)
+      (of_statements r file.frames (behind_parameters told (taken_first told file parameters body) parameters) body)
 
   of_body : (r : TypeTree) (file : _) (parameters : List DeclaredTree) (body : Option Statements)
       → Beside IsVariable (body_slots told file parameters body) (Declared (parameters_pieces parameters ++ body_pieces r body))

@@ -26,7 +26,7 @@ use Rattle.fk_one_group.proofs.Moves.{ends_in_root}
 use Rattle.fk_one_group.proofs.Taken.{rounds_take_groups}
 use Rattle.fk_block_law.specs.Owner.{Owner, Doing}
 use Rattle.fk_block_law.specs.Next.{StandsOp, step_at}
-use Rattle.fk_block_law.specs.Lists.{IsWithin}
+use Rattle.fk_block_law.specs.Lists.{StaysInList}
 use Rattle.fk_group_law.specs.Node.{Nestings}
 use Rattle.fk_group_plans.proofs.Rounds.{lockstep_kind}
 use Rattle.fk_group_rounds.specs.Next.{JumpsLead, landed, all_landed, HasNext, AllAt, AllAbout, MayInGroup, HaveNext}
@@ -269,9 +269,9 @@ module _ (core : List CoreOp) (nestings : Nestings) (main : ℕ) (setting : Sett
       let step : w.step ≡ step_at core i l.op l.operation st.before.left.callers = first_is w.step (step_at core i l.op l.operation st.before.left.callers) (sym w.next_is ∙ l.is_next) in
       let no = no_halt h st w lt d at more in
       let may = reached.before.may h st.before l.op l.operation st.was l.at.stands l.at.is_read in
-      let was : IsWithin core st.before.left = ⊎_elim (λ x. x) (λ e. absurd (starts e)) (reached.before.within h st.before st.was) in
+      let was : StaysInList core st.before.left = ⊎_elim (λ x. x) (λ e. absurd (starts e)) (reached.before.within h st.before st.was) in
       let is = stays_within core nestings main list i l.op l.operation st.before w.onward l.at may was.callers (λ e. no (ap (λ (x : Step Position). x.operation) step ∙ e)) in
-      let goes_there : IsWithin core (w.step.rest w.onward) = subst (λ (x : Step Position). IsWithin core (x.rest w.onward)) (sym step) is in
+      let goes_there : StaysInList core (w.step.rest w.onward) = subst (λ (x : Step Position). StaysInList core (x.rest w.onward)) (sym step) is in
       let end : w.step.rest w.onward ≡ the_end core = sym (ap here w.left) ∙ ends in
       let at_end : (w.step.rest w.onward).at ≡ length core = ap (λ (v : Position). v.at) end in
       let within : (w.step.rest w.onward).at < length core = goes_there.at in

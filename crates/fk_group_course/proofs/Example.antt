@@ -15,7 +15,7 @@ use Rattle.fk_run.specs.Round.{Step, Runner}
 use Rattle.fk_run.specs.Schedule.{run, beginners}
 use Rattle.fk_core.specs.declared.op.CoreOp.{CoreOp}
 use Rattle.fk_core.specs.Numbers.{operation_of}
-use Rattle.fk_core.specs.Next.{Position, position, is_jump, landing, follows, next, opening}
+use Rattle.fk_core.specs.Next.{Position, position, is_jump, landing, follows, next, list_opening}
 use Rattle.fk_core.specs.WellFormed.{LeadsOn, HasDepths}
 use Rattle.fk_together.specs.Course.{InGroup, Waits, ByItself, FollowsFor, Follows}
 use Rattle.fk_one_group.specs.Where as w
@@ -23,7 +23,7 @@ use Rattle.fk_one_group.specs.Where.{GoesFor, Goes}
 use Rattle.fk_one_group.proofs.Runs.{runs_have_one_group}
 use Rattle.fk_block_law.specs.Next.{StandsOp, step_at}
 use Rattle.fk_block_law.specs.Ready.{is_no_step, is_alone, MayDo}
-use Rattle.fk_block_law.specs.Lists.{IsWithin, AlwaysMay, is_end}
+use Rattle.fk_block_law.specs.Lists.{StaysInList, AlwaysMay, is_end}
 use Rattle.fk_simulation.proofs.Kept.{gone, AreKept, AllKept, run_kept, kept_at}
 use Rattle.fk_group_law.specs.Node.{Nestings}
 use Rattle.fk_group_course.specs.Lists.{IsOfOneGroup}
@@ -387,8 +387,8 @@ depth_at (suc (suc (suc (suc (suc (suc (suc (suc (suc (suc (suc (suc i))))))))))
 depths : HasDepths core 0
 depths words firsts input p schedule lawful running h r op here stands =
     let set = setting_of p words input in
-    let all = run_kept (next core) set IsAt (kept set) schedule (opening 0 words firsts input p) (all_begin set (slice_index firsts) 0 p) in
-    depth_at r.left.at (length (values r.has)) op (kept_at (next core) set IsAt (kept set) (run (next core) set schedule (opening 0 words firsts input p)).runners h r all here).1 stands
+    let all = run_kept (next core) set IsAt (kept set) schedule (list_opening 0 words firsts input p) (all_begin set (slice_index firsts) 0 p) in
+    depth_at r.left.at (length (values r.has)) op (kept_at (next core) set IsAt (kept set) (run (next core) set schedule (list_opening 0 words firsts input p)).runners h r all here).1 stands
 
 -- which operation stands at an index
 
@@ -470,8 +470,8 @@ may_at (suc (suc (suc (suc (suc (suc (suc (suc (suc (suc (suc (suc i))))))))))))
 may : AlwaysMay core 0
 may words firsts input p schedule lawful running h r op operation here stands reads =
     let set = setting_of p words input in
-    let all = run_kept (next core) set IsAt (kept set) schedule (opening 0 words firsts input p) (all_begin set (slice_index firsts) 0 p) in
-    let is = kept_at (next core) set IsAt (kept set) (run (next core) set schedule (opening 0 words firsts input p)).runners h r all here in
+    let all = run_kept (next core) set IsAt (kept set) schedule (list_opening 0 words firsts input p) (all_begin set (slice_index firsts) 0 p) in
+    let is = kept_at (next core) set IsAt (kept set) (run (next core) set schedule (list_opening 0 words firsts input p)).runners h r all here in
     may_at r.left.at r.left.callers r.has op operation is.0 is.1 stands reads
 
 -- ---- the list
@@ -491,14 +491,14 @@ no_jumps (suc (suc (suc (suc (suc (suc (suc (suc (suc (suc zero)))))))))) op e f
 no_jumps (suc (suc (suc (suc (suc (suc (suc (suc (suc (suc (suc i))))))))))) op e f = absurd (cc)
 
 abbrev GoesWithin : ℕ → CoreOp → Operation → Type 0
-GoesWithin i op operation = is_end operation ≡ false → (onward : Bool) → IsWithin core (follows core operation i op.target [] onward)
+GoesWithin i op operation = is_end operation ≡ false → (onward : Bool) → StaysInList core (follows core operation i op.target [] onward)
 
-at_index : (i : ℕ) → i < 11 → IsWithin core (position i [])
+at_index : (i : ℕ) → i < 11 → StaysInList core (position i [])
 at_index i lt = record { at = lt; callers = All-nil (λ j. j < 11) }
 
-either_way : (a b : ℕ) → a < 11 → b < 11 → (w : Bool → Position) → w true ≡ position a [] → w false ≡ position b [] → (onward : Bool) → IsWithin core (w onward)
-either_way a b lt lt' w e f true = subst (IsWithin core) (sym e) (at_index a lt)
-either_way a b lt lt' w e f false = subst (IsWithin core) (sym f) (at_index b lt')
+either_way : (a b : ℕ) → a < 11 → b < 11 → (w : Bool → Position) → w true ≡ position a [] → w false ≡ position b [] → (onward : Bool) → StaysInList core (w onward)
+either_way a b lt lt' w e f true = subst (StaysInList core) (sym e) (at_index a lt)
+either_way a b lt lt' w e f false = subst (StaysInList core) (sym f) (at_index b lt')
 
 within : (i : ℕ) (op : CoreOp) (operation : Operation) → StandsOp core i op operation → GoesWithin i op operation
 within i op operation at =

@@ -7,7 +7,7 @@ use Rattle.fk_run.specs.Processor.{Setting, setting_of}
 use Rattle.fk_run.specs.Round.{Runner, State}
 use Rattle.fk_run.specs.Schedule.{Schedule, first_processor, beginners, run, IsLawful}
 use Rattle.fk_core.specs.declared.op.CoreOp.{CoreOp}
-use Rattle.fk_core.specs.Next.{Position, position, next, opening}
+use Rattle.fk_core.specs.Next.{Position, position, next, list_opening}
 use Rattle.fk_one_group.specs.Runs.{AreSingle}
 use Rattle.fk_image.specs.declared.Image.{Image}
 use Rattle.fk_block_law.specs.Stands.{Places}
@@ -40,10 +40,10 @@ module _ (runs_reach : RunsReach) (core : List CoreOp) (main : ℕ) (firsts : Li
   setting = setting_of p image.globals.items input
 
   abbrev pub first : State Position
-  first = opening main image.globals.items firsts input p
+  first = list_opening main image.globals.items firsts input p
 
   abbrev pub state : Schedule → State Position
-  state schedule = run (next core) (setting_of p image.globals.items input) schedule (opening main image.globals.items firsts input p)
+  state schedule = run (next core) (setting_of p image.globals.items input) schedule (list_opening main image.globals.items firsts input p)
 
   pub given : AreGiven image.globals.items firsts input p
   given = record { few = few; room = is_input.room; globals_are_words = carries.globals_are_words; firsts_are_words = carries.firsts_are_words; input_are_words = is_input.words }

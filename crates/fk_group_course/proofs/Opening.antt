@@ -15,7 +15,7 @@ use Rattle.fk_run.specs.Processor.{Setting, setting_of}
 use Rattle.fk_run.specs.Round.{Runner, State, body_of}
 use Rattle.fk_run.specs.Schedule.{beginners}
 use Rattle.fk_core.specs.declared.op.CoreOp.{CoreOp}
-use Rattle.fk_core.specs.Next.{Position, position, opening}
+use Rattle.fk_core.specs.Next.{Position, position, list_opening}
 use Rattle.fk_image.specs.declared.Image.{Image}
 use Rattle.fk_machine.specs.declared.stand.Stand.TheVariants.{Running, Finished}
 use Rattle.fk_machine.specs.Hart.{Hart, Setting as MachineSetting}
@@ -101,7 +101,7 @@ module _ (core : List CoreOp) (image : Image) (places : Places) (nestings : Nest
   blocks = blocks_of core image places nestings (setting_of p image.globals.items input) (plan_of (root p) spaces (replicate p 0)) (first_of spaces)
 
   abbrev t : MachineSetting
-  t = machine.setting_of (machine.opening image input p)
+  t = machine.setting_of (machine.machine_opening image input p)
 
   -- ---- the root
 
@@ -234,7 +234,7 @@ module _ (core : List CoreOp) (image : Image) (places : Places) (nestings : Nest
   -- ---- the state beside them
 
   abbrev first : State Position
-  first = opening main image.globals.items firsts input p
+  first = list_opening main image.globals.items firsts input p
 
   abbrev beginning : (number count : ℕ) → List (Runner Position)
   beginning number count = beginners (setting_of p image.globals.items input) (slice_index firsts) (position main []) number count
@@ -295,7 +295,7 @@ module _ (core : List CoreOp) (image : Image) (places : Places) (nestings : Nest
         (subst (λ ps. AllStandAt (core_source core setting) image plan blocks t g [] [] ps) (sym (of_none g p (openers 0 p) ne)) tt)))
         (cases_eq g 0)
 
-    followed : IsFollowed core image places nestings setting spaces first (replicate p 0) t [] all.stages (harts p) (machine.unprinted (machine.opening image input p).shared)
+    followed : IsFollowed core image places nestings setting spaces first (replicate p 0) t [] all.stages (harts p) (machine.unprinted (machine.machine_opening image input p).shared)
     followed = record {
       ps = openers 0 p;
       shared = commons_of first.store;
@@ -341,7 +341,7 @@ module _ (core : List CoreOp) (image : Image) (places : Places) (nestings : Nest
           stand =
               ap (λ e. cond e Finished Running)
               (sym (no_one_ended p some)
-              ∙ harts_end_with_processors core image places nestings setting spaces first (replicate p 0) t [] all.stages (harts p) (machine.unprinted (machine.opening image input p).shared) leads f);
+              ∙ harts_end_with_processors core image places nestings setting spaces first (replicate p 0) t [] all.stages (harts p) (machine.unprinted (machine.machine_opening image input p).shared) leads f);
         };
       }
 

@@ -10,7 +10,7 @@ use Rattle.fk_run.specs.Round.{Step, Runner, State, Round, Acting, agreed, lowes
 use Rattle.fk_run.specs.Schedule.{Schedule, run, IsLawful}
 use Rattle.fk_lockstep.proofs.Rounds.{settled_at}
 use Rattle.fk_core.specs.declared.op.CoreOp.{CoreOp}
-use Rattle.fk_core.specs.Next.{Position, position, landing, next, opening}
+use Rattle.fk_core.specs.Next.{Position, position, landing, next, list_opening}
 use Rattle.fk_together.proofs.Round.{first_is, at_below, settled_length}
 use Rattle.fk_one_group.specs.Rounds.{IsSingle, stepping}
 use Rattle.fk_one_group.specs.Runs.{AreSingle}
@@ -18,7 +18,7 @@ use Rattle.fk_one_group.proofs.Acts.{Acts, acts, stepping_length, result_is}
 use Rattle.fk_one_group.proofs.Opening.{begins_at}
 use Rattle.fk_one_group.proofs.Runs.{are_all, round_by_round}
 use Rattle.fk_block_law.specs.Next.{step_at}
-use Rattle.fk_block_law.specs.Lists.{IsWithin}
+use Rattle.fk_block_law.specs.Lists.{StaysInList}
 use Rattle.fk_simulation.specs.InRange.{ListsStayInRange}
 use Rattle.fk_group_law.specs.Node.{Nestings}
 use Rattle.fk_group_course.specs.Lists.{IsOfOneGroup}
@@ -26,7 +26,7 @@ use Rattle.fk_group_course.specs.Reached.{the_end, RunsReach}
 use Rattle.fk_group_course.proofs.Ways.{leading, ended_next, goes_within}
 
 abbrev IsThere : List CoreOp → Position → Type 0
-IsThere core w = IsWithin core w ⊎ (w ≡ the_end core)
+IsThere core w = StaysInList core w ⊎ (w ≡ the_end core)
 
 abbrev AreThere : List CoreOp → State Position → Type 0
 AreThere core s = (h : ℕ) (r : Runner Position) → slice_get s.runners h ≡ Some r → IsThere core r.left
@@ -74,12 +74,12 @@ module _ (core : List CoreOp) (nestings : Nestings) (main : ℕ) (list : IsOfOne
   set = setting_of p words input
 
   abbrev first : State Position
-  first = opening main words firsts input p
+  first = list_opening main words firsts input p
 
   begin_there : AreThere core first
   begin_there h r at =
       let b = begins_at set (slice_index firsts) (position main []) 0 p h r at in
-      inl (subst (IsWithin core) (sym b.left) (record { at = list.begins; callers = All-nil (λ i. i < length core) }))
+      inl (subst (StaysInList core) (sym b.left) (record { at = list.begins; callers = All-nil (λ i. i < length core) }))
 
   -- behind its operation
   goes_there : (schedule : Schedule) → IsLawful (next core) set schedule first → (run (next core) set schedule first).fault ≡ None → (h : ℕ) (r : Runner Position)

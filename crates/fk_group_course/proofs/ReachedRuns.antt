@@ -3,7 +3,7 @@ use Rattle.std.proofs.Common.{◌≡◌, [], ◌∷◌, ◌++◌, None, ap, ◌�
 use Rattle.fk_run.specs.Round.{Round, State, result}
 use Rattle.fk_run.specs.Schedule.{Schedule, run, IsLawful}
 use Rattle.fk_run.specs.Processor.{setting_of}
-use Rattle.fk_core.specs.Next.{Position, next, opening}
+use Rattle.fk_core.specs.Next.{Position, next, list_opening}
 use Rattle.fk_plans.specs.Stage.{counts_for}
 use Rattle.fk_one_group.specs.Rounds.{IsSingle}
 use Rattle.fk_one_group.specs.Runs.{AreSingle}
@@ -21,7 +21,7 @@ single_then (r ∷ schedule) round single one = (single.0, single_then schedule 
 pub runs_reach_rounds : RunsReach → RunsReachRounds
 runs_reach_rounds runs_reach core nestings main list words firsts input p schedule stages some given lawful single possible =
     let setting = setting_of p words input in
-    let first = opening main words firsts input p in
+    let first = list_opening main words firsts input p in
     let round = counts_for stages in
     let s = run (next core) setting schedule first in
     let one = units_single round (counts_are_units stages) in

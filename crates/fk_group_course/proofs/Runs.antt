@@ -10,7 +10,7 @@ use Rattle.fk_run.specs.Round.{Runner, State, result, is_possible, IsStopped}
 use Rattle.fk_run.specs.Schedule.{Schedule, SourceRunning, SourceFinished, SourceFaulted, run, CouldAct, IsLawful, all_done, stand_by}
 use Rattle.fk_one_group.specs.Runs.{AreSingle}
 use Rattle.fk_core.specs.declared.op.CoreOp.{CoreOp}
-use Rattle.fk_core.specs.Next.{Position, position, landing, next, opening}
+use Rattle.fk_core.specs.Next.{Position, position, landing, next, list_opening}
 use Rattle.fk_image.specs.declared.Image.{Image}
 use Rattle.fk_machine.specs.declared.stand.Stand.{Stand}
 use Rattle.fk_machine.specs.declared.stand.Stand.TheVariants.{Running, Finished, Faulted}
@@ -234,7 +234,7 @@ agrees core image input p n last (inr over) = record {
 pub machines_follow_group_runs : MachinesFollowGroupRuns
 machines_follow_group_runs core image places nestings cycles firsts main spaces input p n the_law leads few opens always =
     let setting = setting_of p image.globals.items input in
-    let first = opening main image.globals.items firsts input p in
+    let first = list_opening main image.globals.items firsts input p in
     let r = follows core image places nestings cycles firsts main setting spaces the_law leads few first always input p
     (record {
       uniting = false;

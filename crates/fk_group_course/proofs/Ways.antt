@@ -16,7 +16,7 @@ use Rattle.fk_core.specs.Next.{Position, position, behind_jump, landing, returne
 use Rattle.fk_core.specs.WellFormed.{LeadsOn}
 use Rattle.fk_block_law.specs.Next.{StandsOp, step_at}
 use Rattle.fk_block_law.specs.Ready.{is_no_step, MayDo}
-use Rattle.fk_block_law.specs.Lists.{IsWithin}
+use Rattle.fk_block_law.specs.Lists.{StaysInList}
 use Rattle.fk_simulation.proofs.Positions.{no_jump}
 use Rattle.fk_group_law.specs.Node.{Nestings}
 use Rattle.fk_group_law.specs.Law.{is_shared_step}
@@ -142,17 +142,17 @@ ended_next core =
 abbrev Below : List CoreOp → List ℕ → Type 0
 Below core callers = All (λ i. i < length core) callers
 
-returned_within : (core : List CoreOp) (callers : List ℕ) → IsWithin core (returned core []) → Below core callers → IsWithin core (returned core callers)
+returned_within : (core : List CoreOp) (callers : List ℕ) → StaysInList core (returned core []) → Below core callers → StaysInList core (returned core callers)
 returned_within core [] w all = w
 returned_within core (i ∷ callers) w all = record { at = All-head (λ j. j < length core) i callers all; callers = All-tail (λ j. j < length core) i callers all }
 
-entered_within : (core : List CoreOp) (i : ℕ) (callers : List ℕ) → IsWithin core (position (suc i) (behind_jump core (suc i) ∷ [])) → Below core callers
-    → IsWithin core (position (suc i) (behind_jump core (suc i) ∷ callers))
+entered_within : (core : List CoreOp) (i : ℕ) (callers : List ℕ) → StaysInList core (position (suc i) (behind_jump core (suc i) ∷ [])) → Below core callers
+    → StaysInList core (position (suc i) (behind_jump core (suc i) ∷ callers))
 entered_within core i callers w all =
     record { at = w.at; callers = All-cons (λ j. j < length core) (behind_jump core (suc i)) callers (All-head (λ j. j < length core) (behind_jump core (suc i)) [] w.callers) all }
 
 within_callers : (core : List CoreOp) (operation : Operation) (i target : ℕ) (callers : List ℕ) (onward : Bool)
-    → IsWithin core (follows core operation i target [] onward) → Below core callers → IsWithin core (follows core operation i target callers onward)
+    → StaysInList core (follows core operation i target [] onward) → Below core callers → StaysInList core (follows core operation i target callers onward)
 within_callers core (o.Leave gives framed) i target callers onward w all = returned_within core callers w all
 within_callers core o.Halt i target callers onward w all = returned_within core callers w all
 within_callers core (o.Enter n) i target callers true w all = entered_within core i callers w all
@@ -160,13 +160,13 @@ within_callers core (o.Enter n) i target callers false w all = entered_within co
 within_callers core operation i target callers true w all = record { at = w.at; callers = all }
 within_callers core operation i target callers false w all = record { at = w.at; callers = all }
 
-within_return : (core : List CoreOp) (callers : List ℕ) → 0 < length callers → Below core callers → IsWithin core (returned core callers)
+within_return : (core : List CoreOp) (callers : List ℕ) → 0 < length callers → Below core callers → StaysInList core (returned core callers)
 within_return core [] lt all = absurd (omega (arith, lt))
 within_return core (i ∷ callers) lt all = record { at = All-head (λ j. j < length core) i callers all; callers = All-tail (λ j. j < length core) i callers all }
 
 -- in the list, but behind a halt
 pub stays_within : (core : List CoreOp) (nestings : Nestings) (main : ℕ) → IsOfOneGroup core nestings main → (i : ℕ) (op : CoreOp) (operation : Operation) (r : Runner Position) (onward : Bool)
-    → StandsOp core i op operation → MayDo operation r → Below core r.left.callers → operation ≢ o.Halt → IsWithin core (follows core operation i op.target r.left.callers onward)
+    → StandsOp core i op operation → MayDo operation r → Below core r.left.callers → operation ≢ o.Halt → StaysInList core (follows core operation i op.target r.left.callers onward)
 stays_within core nestings main list i op (o.Leave gives framed) r onward at may all ne = within_return core r.left.callers may all
 stays_within core nestings main list i op o.Halt r onward at may all ne = absurd (ne refl)
 stays_within core nestings main list i op operation r onward at may all ne =
@@ -175,6 +175,6 @@ stays_within core nestings main list i op operation r onward at may all ne =
 -- or at the end behind that
 pub goes_within : (core : List CoreOp) (nestings : Nestings) (main : ℕ) → IsOfOneGroup core nestings main → (i : ℕ) (op : CoreOp) (operation : Operation) (r : Runner Position) (onward : Bool)
     → StandsOp core i op operation → MayDo operation r → Below core r.left.callers
-    → IsWithin core (follows core operation i op.target r.left.callers onward) ⊎ (follows core operation i op.target r.left.callers onward ≡ the_end core)
+    → StaysInList core (follows core operation i op.target r.left.callers onward) ⊎ (follows core operation i op.target r.left.callers onward ≡ the_end core)
 goes_within core nestings main list i op o.Halt r onward at may all = inr (ap (returned core) may)
 goes_within core nestings main list i op operation r onward at may all = inl (stays_within core nestings main list i op operation r onward at may all (λ e. cc))

@@ -6,7 +6,7 @@ use Rattle.fk_run.specs.Processor.{Setting, setting_of}
 use Rattle.fk_run.specs.Round.{Runner, State, result, is_possible}
 use Rattle.fk_run.specs.Schedule.{Schedule, run, IsLawful}
 use Rattle.fk_core.specs.declared.op.CoreOp.{CoreOp}
-use Rattle.fk_core.specs.Next.{Position, next, opening}
+use Rattle.fk_core.specs.Next.{Position, next, list_opening}
 use Rattle.fk_one_group.specs.Runs.{AreSingle}
 use Rattle.fk_nodes.specs.Source.{AllPass}
 use Rattle.fk_plans.specs.Stage.{Stage, counts_for, Pairwise, Remains}
@@ -84,7 +84,7 @@ RunsReachRounds =
     (core : List CoreOp) (nestings : Nestings) (main : ℕ) → IsOfOneGroup core nestings main
     → (words firsts input : List ℕ) (p : ℕ) (schedule : Schedule) (stages : List Stage)
     → let setting = setting_of p words input in
-    let first = opening main words firsts input p in
+    let first = list_opening main words firsts input p in
     let s = run (next core) setting schedule first in
     1 ≤ p → AreGiven words firsts input p → IsLawful (next core) setting (schedule ++ counts_for stages ∷ []) first → AreSingle schedule → is_possible (next core) setting (counts_for stages) s ≡ true
     → IsReached core setting s × IsReached core setting (behind core setting s stages)

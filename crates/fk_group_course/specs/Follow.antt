@@ -1,7 +1,7 @@
 -- Machines of an image that has the law of blocks of groups follow the core runs of a list with one group at a time.
 use Rattle.std.specs.Prelude.{ℕ, ◌^◌, ◌<◌, ◌≤◌, List, All}
 use Rattle.fk_core.specs.declared.op.CoreOp.{CoreOp}
-use Rattle.fk_core.specs.Next.{next, opening}
+use Rattle.fk_core.specs.Next.{next, list_opening}
 use Rattle.fk_image.specs.declared.Image.{Image}
 use Rattle.fk_block_law.specs.Stands.{Places}
 use Rattle.fk_simulation.specs.Follows.{IsInput, Follows}
@@ -21,4 +21,4 @@ abbrev pub MachinesFollowGroups : Type 0
 MachinesFollowGroups =
     (core : List CoreOp) (main : ℕ) (firsts : List ℕ) (places : Places) (nestings : Nestings) (cycles : Cycles) (image : Image) → CarriesGroups core main firsts places nestings cycles image
     → (input : List ℕ) (p n : ℕ) → IsInput image input → 1 ≤ p → p ≤ 1024
-    → Follows (next core) image input p n (opening main image.globals.items firsts input p)
+    → Follows (next core) image input p n (list_opening main image.globals.items firsts input p)

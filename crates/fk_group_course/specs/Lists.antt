@@ -8,7 +8,7 @@ use Rattle.fk_core.specs.WellFormed.{IsOperation, IsWellFormed}
 use Rattle.fk_one_group.specs.Runs.{AlwaysOneGroup}
 use Rattle.fk_block_law.specs.Next.{StandsOp}
 use Rattle.fk_block_law.specs.Ready.{is_no_step, is_alone}
-use Rattle.fk_block_law.specs.Lists.{IsWithin, is_end, AlwaysMay}
+use Rattle.fk_block_law.specs.Lists.{StaysInList, is_end, AlwaysMay}
 use Rattle.fk_group_law.specs.Node.{Nestings}
 
 -- What is asked of a list: of each index alone, of whatever ways its processors go, and of all its lawful runs
@@ -18,7 +18,7 @@ pub record IsOfOneGroup (core : List CoreOp) (nestings : Nestings) (main : ℕ) 
   pub jumps : (i : ℕ) (op : CoreOp) → slice_get core i ≡ Some op → is_jump op ≡ true → IsOperation core op.target
   -- no operation but an end goes on outside the list
   pub within : (i : ℕ) (op : CoreOp) (operation : Operation) → StandsOp core i op operation → is_end operation ≡ false
-      → (onward : Bool) → IsWithin core (follows core operation i op.target [] onward)
+      → (onward : Bool) → StaysInList core (follows core operation i op.target [] onward)
   -- local operations and requests have nothing to do with frames of groups, nor with the heap that all share
   pub alone : (i : ℕ) (op : CoreOp) (operation : Operation) → StandsOp core i op operation → is_no_step (class_of operation) ≡ true → is_alone operation ≡ true
   -- no level stands in a frame: round a group there is the root alone

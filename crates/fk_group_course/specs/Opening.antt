@@ -4,7 +4,7 @@ use Rattle.fk_space.specs.Space.{Space}
 use Rattle.fk_tree.specs.Tree.{root}
 use Rattle.fk_run.specs.Processor.{setting_of}
 use Rattle.fk_core.specs.declared.op.CoreOp.{CoreOp}
-use Rattle.fk_core.specs.Next.{opening}
+use Rattle.fk_core.specs.Next.{list_opening}
 use Rattle.fk_image.specs.declared.Image.{Image}
 use Rattle.fk_machine.specs.Cycle as machine
 use Rattle.fk_plans.specs.Stage.{Stage}
@@ -25,8 +25,8 @@ AreSoon (s ∷ stages) = IsSoon s × AreSoon stages
 pub record OpensWith (core : List CoreOp) (image : Image) (places : Places) (nestings : Nestings) (spaces : ℕ → Space) (firsts : List ℕ) (main : ℕ) (input : List ℕ) (p : ℕ) : Type 0 where
   pub stages : List Stage
   pub soon : AreSoon stages
-  pub goes : GoesWith core image places nestings (setting_of p image.globals.items input) spaces (opening main image.globals.items firsts input p) (replicate p 0) [] stages
-      (machine.opening image input p)
+  pub goes : GoesWith core image places nestings (setting_of p image.globals.items input) spaces (list_opening main image.globals.items firsts input p) (replicate p 0) [] stages
+      (machine.machine_opening image input p)
 
 -- where each processor is about to do an operation that it may do by itself, or by meeting the others
 abbrev pub OpeningsAreFollowed : Type 0

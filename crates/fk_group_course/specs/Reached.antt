@@ -7,12 +7,12 @@ use Rattle.fk_run.specs.Round.{Runner, State}
 use Rattle.fk_run.specs.Schedule.{Schedule, run, IsLawful}
 use Rattle.fk_core.specs.declared.op.CoreOp.{CoreOp}
 use Rattle.fk_core.specs.Numbers.{operation_of}
-use Rattle.fk_core.specs.Next.{Position, position, landing, next, opening}
+use Rattle.fk_core.specs.Next.{Position, position, landing, next, list_opening}
 use Rattle.fk_together.specs.OneProgram.{HaveOneProgram}
 use Rattle.fk_one_group.specs.Placed.{HasOneGroup}
 use Rattle.fk_one_group.specs.Runs.{AreSingle, BeginAtOne}
 use Rattle.fk_block_law.specs.Ready.{MayDo, IsInRange}
-use Rattle.fk_block_law.specs.Lists.{IsWithin}
+use Rattle.fk_block_law.specs.Lists.{StaysInList}
 use Rattle.fk_simulation.specs.InRange.{AreGiven}
 use Rattle.fk_group_law.specs.Node.{Nestings}
 use Rattle.fk_group_course.specs.Lists.{IsOfOneGroup}
@@ -28,7 +28,7 @@ pub record IsReached (core : List CoreOp) (setting : Setting) (s : State Positio
   pub one_program : HaveOneProgram (next core) s
   pub beginners : BeginAtOne (next core) (λ w. landing core w.at) s
   pub one_group : HasOneGroup (next core) setting s
-  pub within : (h : ℕ) (r : Runner Position) → slice_get s.runners h ≡ Some r → IsWithin core r.left ⊎ (r.left ≡ the_end core)
+  pub within : (h : ℕ) (r : Runner Position) → slice_get s.runners h ≡ Some r → StaysInList core r.left ⊎ (r.left ≡ the_end core)
   pub depth : (h : ℕ) (r : Runner Position) (op : CoreOp) → slice_get s.runners h ≡ Some r → slice_get core (landing core r.left.at) ≡ Some op
       → length (values r.has) ≡ op.depth
   pub may : (h : ℕ) (r : Runner Position) (op : CoreOp) (operation : Operation) → slice_get s.runners h ≡ Some r
@@ -42,6 +42,6 @@ RunsReach =
     (core : List CoreOp) (nestings : Nestings) (main : ℕ) → IsOfOneGroup core nestings main
     → (words firsts input : List ℕ) (p : ℕ) (schedule : Schedule)
     → let setting = setting_of p words input in
-    let first = opening main words firsts input p in
+    let first = list_opening main words firsts input p in
     1 ≤ p → AreGiven words firsts input p → IsLawful (next core) setting schedule first → AreSingle schedule → (run (next core) setting schedule first).fault ≡ None
     → IsReached core setting (run (next core) setting schedule first)

@@ -8,7 +8,7 @@ use Rattle.fk_run.specs.Round.{State, result}
 use Rattle.fk_run.specs.Schedule.{Schedule, run, IsLawful}
 use Rattle.fk_one_group.specs.Runs.{AreSingle}
 use Rattle.fk_core.specs.declared.op.CoreOp.{CoreOp}
-use Rattle.fk_core.specs.Next.{Position, next, opening}
+use Rattle.fk_core.specs.Next.{Position, next, list_opening}
 use Rattle.fk_image.specs.declared.Image.{Image}
 use Rattle.fk_machine.specs.Cycle.{Machine, is_running, cycle}
 use Rattle.fk_plans.specs.Stage.{Stage, counts_for}
@@ -84,8 +84,8 @@ MachinesFollowGroupRuns =
     (core : List CoreOp) (image : Image) (places : Places) (nestings : Nestings) (cycles : Cycles) (firsts : List ℕ) (main : ℕ) (spaces : ℕ → Space) (input : List ℕ) (p n : ℕ)
     → GroupLaw core image places nestings cycles firsts main → JumpsLead core → p ≤ 1024
     → OpensWith core image places nestings spaces firsts main input p
-    → AlwaysGoesFurther core image places nestings (setting_of p image.globals.items input) spaces (opening main image.globals.items firsts input p)
-    → Follows (next core) image input p n (opening main image.globals.items firsts input p)
+    → AlwaysGoesFurther core image places nestings (setting_of p image.globals.items input) spaces (list_opening main image.globals.items firsts input p)
+    → Follows (next core) image input p n (list_opening main image.globals.items firsts input p)
 
 -- ---- what is to be known of the run
 

@@ -8,7 +8,7 @@ use Rattle.fk_run.specs.Round.{State, result, is_possible}
 use Rattle.fk_core.specs.declared.op.CoreOp.{CoreOp}
 use Rattle.fk_core.specs.Next.{Position, next}
 use Rattle.fk_image.specs.declared.Image.{Image}
-use Rattle.fk_machine.specs.Cycle.{Machine, is_running, cycle, opening}
+use Rattle.fk_machine.specs.Cycle.{Machine, is_running, cycle, machine_opening}
 use Rattle.fk_nodes.specs.Source.{AllPass}
 use Rattle.fk_plans.specs.Stage.{Stage, counts_for}
 use Rattle.fk_block_law.specs.Owner.{Commons, Doing, core_source}
@@ -33,7 +33,7 @@ IsReadyForGroup tree first control = HasNoGroup tree → IsAtRest first control
 
 -- so it is at the beginning
 abbrev pub OpeningsAreReady : Type 0
-OpeningsAreReady = (image : Image) (input : List ℕ) (p : ℕ) (tree : Tree) (first : ℕ) → IsReadyForGroup tree first (opening image input p).shared.control
+OpeningsAreReady = (image : Image) (input : List ℕ) (p : ℕ) (tree : Tree) (first : ℕ) → IsReadyForGroup tree first (machine_opening image input p).shared.control
 
 -- and behind each cycle of a machine that follows a state, where a group that is there stays, or ends
 abbrev pub CyclesStayReady : Type 0

@@ -7,7 +7,7 @@ use Rattle.fk_image.specs.declared.Image.{Image}
 use Rattle.fk_image.specs.declared.fault.ImageFault.{ImageFault}
 use Rattle.fk_image.specs.declared.fault.ImageFault.TheVariants.{Magic, Version, Short, LongTail, BadTable, BadWord, Memory}
 use Rattle.fk_image.specs.Limits.{IsCommit, Rise}
-use Rattle.fk_image.specs.Refusals.{HasLength, IsEntry, IsNextCommit, IsRefused, IsWithin, code_words, commit_count, commit_of, commits_place, global_words, site_count, sites_place, word_at}
+use Rattle.fk_image.specs.Refusals.{HasLength, IsEntry, IsNextCommit, IsRefusedImage, IsHeaderWord, code_words, commit_count, commit_of, commits_place, global_words, site_count, sites_place, word_at}
 use Rattle.fk_image.specs.Spelling.{IsImageOf, IsWord, commit_words, header_words, image_words, site_words, word_bytes}
 use Rattle.fk_image.proofs.Commits.{few_of_image}
 use Rattle.fk_image.proofs.Images.{length-commits, length-sites, length-words}
@@ -116,7 +116,7 @@ has_length bytes image is =
     let size : length bytes ≡ 4 + 4 * length (image_words image) = ap length is.spelling ∙ omega (arith, length-words (image_words image)) in
     let total = long image in
     let magic : take 4 bytes ≡ codes "FK95" = ap (take 4) is.spelling in
-    let index = each-index (IsWithin bytes) (omega (arith, says.code, is.limits.some_code), omega (arith, says.code, is.limits.code)) (omega arith, omega (arith, says.globals, is.limits.globals)) (omega arith, omega (arith, says.sites, is.limits.few_sites)) (omega arith, omega (arith, says.commits, says.code, few)) in
+    let index = each-index (IsHeaderWord bytes) (omega (arith, says.code, is.limits.some_code), omega (arith, says.code, is.limits.code)) (omega arith, omega (arith, says.globals, is.limits.globals)) (omega arith, omega (arith, says.sites, is.limits.few_sites)) (omega arith, omega (arith, says.commits, says.code, few)) in
     ((((omega (arith, size, total), magic), says.version), index), omega (arith, size, total, says.code, says.globals, says.sites, says.commits))
 
 -- a site's kind, and a commit
@@ -169,7 +169,7 @@ entry bytes image n is within =
     }
 
 -- with a header, its length and good entries nothing is refused
-never : (bytes : List ℕ) (fault : ImageFault) → HasLength bytes → ((n : ℕ) → n < site_count bytes + commit_count bytes → IsEntry bytes n) → IsRefused bytes fault → ⊥
+never : (bytes : List ℕ) (fault : ImageFault) → HasLength bytes → ((n : ℕ) → n < site_count bytes + commit_count bytes → IsEntry bytes n) → IsRefusedImage bytes fault → ⊥
 never bytes (Short size wanted) has entries refused =
     elim refused.1 [
       | inl e ↦ omega (arith, e, refused.0.0, refused.0.1, has.0.0.0.0)
@@ -183,6 +183,6 @@ never bytes (LongTail wanted) has entries refused = omega (arith, refused.1.0, r
 never bytes (BadTable n) has entries refused = refused.1.1.bad (entries n refused.1.0)
 never bytes (Memory e) has entries refused = refused
 
-pub no_refusal : (bytes : List ℕ) (image : Image) (fault : ImageFault) → IsImageOf bytes image → IsRefused bytes fault → ⊥
+pub no_refusal : (bytes : List ℕ) (image : Image) (fault : ImageFault) → IsImageOf bytes image → IsRefusedImage bytes fault → ⊥
 no_refusal bytes image fault is refused =
     never bytes fault (has_length bytes image is) (λ n within. entry bytes image n is within) refused

@@ -49,8 +49,8 @@ greatest bytes index =
     else (if index == 4 then 16000 else code_words bytes))
 
 -- the word is within its limits
-abbrev pub IsWithin : List ℕ → ℕ → Type 0
-IsWithin bytes index = (least index ≤ word_at bytes index) × (word_at bytes index ≤ greatest bytes index)
+abbrev pub IsHeaderWord : List ℕ → ℕ → Type 0
+IsHeaderWord bytes index = (least index ≤ word_at bytes index) × (word_at bytes index ≤ greatest bytes index)
 
 -- n is the first, counted from this one, that isn't good
 pub record IsFirstBad (from : ℕ) (IsGood : ℕ → Type 0) (n : ℕ) : Type 0 where
@@ -100,7 +100,7 @@ IsOtherVersion bytes version = (version ≡ word_at bytes 1) × (version ≢ 1)
 
 -- this word of the header is the first past its limits
 abbrev pub IsBadWord : List ℕ → ℕ → Type 0
-IsBadWord bytes index = (index ≤ 5) × IsFirstBad 2 (IsWithin bytes) index
+IsBadWord bytes index = (index ≤ 5) × IsFirstBad 2 (IsHeaderWord bytes) index
 
 -- there are more bytes than the header asks for
 abbrev pub IsLongTail : List ℕ → ℕ → Type 0
@@ -122,24 +122,24 @@ HasVersion bytes = HasMagic bytes × (word_at bytes 1 ≡ 1)
 
 -- and each word of the header is within its limits
 abbrev pub HasHeader : List ℕ → Type 0
-HasHeader bytes = HasVersion bytes × ((index : ℕ) → 2 ≤ index → index ≤ 5 → IsWithin bytes index)
+HasHeader bytes = HasVersion bytes × ((index : ℕ) → 2 ≤ index → index ≤ 5 → IsHeaderWord bytes index)
 
 -- and there are as many bytes as the header asks for
 abbrev pub HasLength : List ℕ → Type 0
 HasLength bytes = HasHeader bytes × (length bytes ≡ needed bytes)
 
 -- the bytes are refused: this refusal applies, and none before it. Want of memory is no refusal of the bytes
-abbrev pub IsRefused : List ℕ → ImageFault → Type 0
-IsRefused bytes (Short size wanted) =
+abbrev pub IsRefusedImage : List ℕ → ImageFault → Type 0
+IsRefusedImage bytes (Short size wanted) =
     IsShort bytes size wanted × ((wanted ≡ 24) ⊎ (HasHeader bytes × (wanted ≡ needed bytes)))
-IsRefused bytes Magic = (24 ≤ length bytes) × IsOtherMagic bytes
-IsRefused bytes (Version version) = HasMagic bytes × IsOtherVersion bytes version
-IsRefused bytes (BadWord index) = HasVersion bytes × IsBadWord bytes index
-IsRefused bytes (LongTail wanted) = HasHeader bytes × IsLongTail bytes wanted
-IsRefused bytes (BadTable entry) = HasLength bytes × IsBadTable bytes entry
-IsRefused bytes (Memory e) = ⊥
+IsRefusedImage bytes Magic = (24 ≤ length bytes) × IsOtherMagic bytes
+IsRefusedImage bytes (Version version) = HasMagic bytes × IsOtherVersion bytes version
+IsRefusedImage bytes (BadWord index) = HasVersion bytes × IsBadWord bytes index
+IsRefusedImage bytes (LongTail wanted) = HasHeader bytes × IsLongTail bytes wanted
+IsRefusedImage bytes (BadTable entry) = HasLength bytes × IsBadTable bytes entry
+IsRefusedImage bytes (Memory e) = ⊥
 
 -- the bytes are refused so, if it isn't want of memory
 abbrev pub IsFault : List ℕ → ImageFault → Type 0
 IsFault bytes (Memory e) = Unit {0}
-IsFault bytes fault = IsRefused bytes fault
+IsFault bytes fault = IsRefusedImage bytes fault

@@ -3,7 +3,7 @@
 ghost use Rattle.std.specs.Prelude.{◌≡◌, ℕ, List};
 ghost use Rattle.fk_image.specs.declared.Image.{Image};
 ghost use Rattle.fk_image.specs.declared.fault.ImageFault.{ImageFault};
-ghost use Rattle.fk_image.specs.Refusals.{IsRefused};
+ghost use Rattle.fk_image.specs.Refusals.{IsRefusedImage};
 ghost use Rattle.fk_image.specs.Spelling.{IsImageOf, AreAlike};
 
 /// No two images have one spelling.
@@ -13,10 +13,10 @@ pub fn one_image()
 
 /// The bytes of an image are not refused: what is written is read back.
 pub fn no_refusal()
-    ensures { (bytes : List ℕ) (image : Image) (fault : ImageFault) → IsImageOf bytes image → IsRefused bytes fault → ⊥ }
+    ensures { (bytes : List ℕ) (image : Image) (fault : ImageFault) → IsImageOf bytes image → IsRefusedImage bytes fault → ⊥ }
 {}
 
 /// Bytes have one refusal at most.
 pub fn one_refusal()
-    ensures { (bytes : List ℕ) (fault other : ImageFault) → IsRefused bytes fault → IsRefused bytes other → fault ≡ other }
+    ensures { (bytes : List ℕ) (fault other : ImageFault) → IsRefusedImage bytes fault → IsRefusedImage bytes other → fault ≡ other }
 {}

@@ -2,7 +2,7 @@
 
 ghost use Rattle.std.specs.Prelude.{◌≡◌, ℕ, ◌+◌, ◌*◌, ◌%◌, ◌<◌, ◌≤◌, ◌↔◌, All, flat_map, length, IfOk, IfErr, IsTrue, OnOk};
 ghost use Rattle.fk_image.specs.Limits.{IsCommit, IsSite, Rise};
-ghost use Rattle.fk_image.specs.Refusals.{HasLength, HasVersion, IsFault, IsWithin, greatest, least, site_at, word_at};
+ghost use Rattle.fk_image.specs.Refusals.{HasLength, HasVersion, IsFault, IsHeaderWord, greatest, least, site_at, word_at};
 ghost use Rattle.fk_image.specs.Spelling.{IsImageOf, Spells, commit_words, site_words};
 ghost use Rattle.fk_image.specs.Tables.{IsAboveLast, IsCommitFault, IsHeaderOf, IsSiteFault, code_table, commit_table, global_table, site_table};
 
@@ -104,9 +104,9 @@ fn header_word(bytes: &[u8], index: u32, low: u32, high: u32) -> Result<u32, Ima
     requires behind { 2 ≤ index }
     requires low { low ≡ least index }
     requires high { high ≡ greatest bytes.now index }
-    requires before { (k : ℕ) → 2 ≤ k → k < index → IsWithin bytes.now k }
+    requires before { (k : ℕ) → 2 ≤ k → k < index → IsHeaderWord bytes.now k }
     ensures word { IfOk result (λ word. word ≡ word_at bytes.now index) }
-    ensures within { OnOk result (IsWithin bytes.now index) }
+    ensures within { OnOk result (IsHeaderWord bytes.now index) }
     ensures fault { IfErr result (λ fault. IsFault bytes.now fault) }
 {
     let word = read_word(bytes, index as usize);

@@ -12,10 +12,10 @@ use Rattle.fk_regions.specs.declared.around.Holder.{Holder}
 use Rattle.fk_regions.specs.declared.around.Holder.TheVariants as h
 use Rattle.fk_regions.specs.Tokens.{Standing, holder_of, tree_tokens, links_tokens, trees_tokens, suffixes_tokens, optional_tokens, variable_tokens, variables_tokens, statement_tokens, statements_tokens, body_tokens, item_tokens, items_tokens}
 use Rattle.fk_token_laws.proofs.Counting as c
-use Rattle.fk_token_laws.proofs.Counting.{by, by_node, IsWithin}
+use Rattle.fk_token_laws.proofs.Counting.{by, by_node, AreCounted}
 
 -- a thing before others, at a node between theirs
-pub before : {X : Type 0} (token : X → ℕ) {xs : List X} (i j : List Index) (x : X) → IsWithin (by token) xs (i ++ j) → IsWithin (by token) (x ∷ xs) (i ++ (Node (token x) ∷ j))
+pub before : {X : Type 0} (token : X → ℕ) {xs : List X} (i j : List Index) (x : X) → AreCounted (by token) xs (i ++ j) → AreCounted (by token) (x ∷ xs) (i ++ (Node (token x) ∷ j))
 before token {xs} i j x h = record {
   count = λ at. omega (
     arith,
@@ -28,7 +28,7 @@ before token {xs} i j x h = record {
 }
 
 -- the first node behind others, and the things of both turned round
-pub turned : {X : Type 0} {weight : ℕ → X → ℕ} {xs ys : List X} {i : List Index} {at : ℕ} (j : List Index) → IsWithin weight xs (Node at ∷ i) → IsWithin weight ys j → IsWithin weight (xs ++ ys) (Node at ∷ (j ++ i))
+pub turned : {X : Type 0} {weight : ℕ → X → ℕ} {xs ys : List X} {i : List Index} {at : ℕ} (j : List Index) → AreCounted weight xs (Node at ∷ i) → AreCounted weight ys j → AreCounted weight (xs ++ ys) (Node at ∷ (j ++ i))
 turned {weight} {xs} {ys} {i} {at} j left right = record {
   count = λ k. omega (
     arith,
@@ -46,7 +46,7 @@ module _ {R : Type 0} where
   place token = token.spot.at
 
   abbrev AreAt : List (Standing R) → List Index → Type 0
-  AreAt tokens indices = IsWithin (by place) tokens indices
+  AreAt tokens indices = AreCounted (by place) tokens indices
 
   mutual
     of_tree : (r : R) (x : Tree) → AreAt (tree_tokens r x) (tree_indices x)

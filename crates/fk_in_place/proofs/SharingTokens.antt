@@ -18,12 +18,12 @@ use Rattle.fk_sharing.specs.declared.around.Holder.{Holder}
 use Rattle.fk_sharing.specs.declared.around.Holder.TheVariants as h
 use Rattle.fk_sharing.specs.Tokens.{Standing, tree_tokens, links_tokens, trees_tokens, suffixes_tokens, optional_tokens, is_condition_shared, variable_tokens, variables_tokens, condition_tokens, head_tokens, statement_tokens, statements_tokens, parameters_tokens, body_tokens, item_tokens, items_tokens}
 use Rattle.fk_token_laws.proofs.Counting as c
-use Rattle.fk_token_laws.proofs.Counting.{by, by_node, IsWithin}
+use Rattle.fk_token_laws.proofs.Counting.{by, by_node, AreCounted}
 use Rattle.fk_in_place.proofs.RegionTokens.{turned}
 
 -- a thing behind those of three parts, at the second node
-amid : {X : Type 0} (token : X → ℕ) {xs ys zs : List X} (i j k : List Index) (x : X) → IsWithin (by token) xs i → IsWithin (by token) ys j → IsWithin (by token) zs k
-    → IsWithin (by token) (xs ++ ys ++ zs ++ x ∷ []) (i ++ (Node (token x) ∷ j) ++ k)
+amid : {X : Type 0} (token : X → ℕ) {xs ys zs : List X} (i j k : List Index) (x : X) → AreCounted (by token) xs i → AreCounted (by token) ys j → AreCounted (by token) zs k
+    → AreCounted (by token) (xs ++ ys ++ zs ++ x ∷ []) (i ++ (Node (token x) ∷ j) ++ k)
 amid token {xs} {ys} {zs} i j k x a b d = record {
   count = λ at. omega (
     arith,
@@ -40,8 +40,8 @@ amid token {xs} {ys} {zs} i j k x a b d = record {
 }
 
 -- a thing between others, at the node before theirs
-amidst : {X : Type 0} (token : X → ℕ) {xs ys : List X} (i j : List Index) (x : X) → IsWithin (by token) xs i → IsWithin (by token) ys j
-    → IsWithin (by token) (xs ++ x ∷ ys) (Node (token x) ∷ (i ++ j))
+amidst : {X : Type 0} (token : X → ℕ) {xs ys : List X} (i j : List Index) (x : X) → AreCounted (by token) xs i → AreCounted (by token) ys j
+    → AreCounted (by token) (xs ++ x ∷ ys) (Node (token x) ∷ (i ++ j))
 amidst token {xs} {ys} i j x a b = record {
   count = λ at. omega (
     arith,
@@ -59,7 +59,7 @@ module _ {R : Type 0} (thing : ℕ → Option Thing) where
   place token = token.spot.at
 
   abbrev AreAt : List (Standing R) → List Index → Type 0
-  AreAt tokens indices = IsWithin (by place) tokens indices
+  AreAt tokens indices = AreCounted (by place) tokens indices
 
   mutual
     of_tree : (r : R) (x : Tree) → AreAt (tree_tokens thing r x) (tree_indices x)

@@ -9,7 +9,7 @@ use Rattle.fk_syntax.specs.WellFormed.{IsWellFormed}
 use Rattle.fk_run.specs.Processor.{Setting}
 use Rattle.fk_run.specs.Schedule.{Schedule, run, IsLawful}
 use Rattle.fk_forms.specs.Program.{functions_of, signature_in, is_main}
-use Rattle.fk_source.specs.Program.{next_in, opening}
+use Rattle.fk_source.specs.Program.{next_in, program_opening}
 use Rattle.fk_names.specs.Outline.{DeclarationTree, Variable, Header, declarations}
 use Rattle.fk_regions.specs.declared.around.Holder.{Holder}
 use Rattle.fk_regions.specs.declared.token.Word.TheVariants.{Fork}
@@ -65,7 +65,7 @@ ValidProgramsHaveOneProgram =
     (program : ProgramTree) (facts : Facts) → IsValid program facts
     → (setting : Setting) (schedule : Schedule) (words firsts input : List ℕ) (processors : ℕ) → 1 ≤ processors
     → let next = next_in (tables_by program facts) program in
-    let first = opening (tables_by program facts) program words firsts input processors in
+    let first = program_opening (tables_by program facts) program words firsts input processors in
     IsLawful next setting schedule first
     → (run next setting schedule first).fault ≡ None
     → KeepOneProgram next processors (run next setting schedule first)
@@ -76,7 +76,7 @@ abbrev pub ValidProgramsHaveOneSpace : Type 0
 ValidProgramsHaveOneSpace =
     (program : ProgramTree) (facts : Facts) → IsValid program facts → frame_at (tables_by program facts) 0 0 ≡ None
     → (setting : Setting) (schedule : Schedule) (words firsts input : List ℕ) (processors : ℕ) → 1 ≤ processors
-    → let first = opening (tables_by program facts) program words firsts input processors in
+    → let first = program_opening (tables_by program facts) program words firsts input processors in
     IsLawful (next_in (tables_by program facts) program) setting schedule first
     → (run (next_in (tables_by program facts) program) setting schedule first).fault ≡ None
     → KeepOneSpace (run (next_in (tables_by program facts) program) setting schedule first)

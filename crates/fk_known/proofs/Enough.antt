@@ -14,7 +14,7 @@ use Rattle.fk_run.specs.Round.{Step, Runner}
 use Rattle.fk_run.specs.Schedule.{beginners, first_processor}
 use Rattle.fk_core.specs.declared.op.CoreOp.{CoreOp}
 use Rattle.fk_core.specs.Numbers.{operation_of}
-use Rattle.fk_core.specs.Next.{Position, position, landing, follows, step_by, step_of, next, opening}
+use Rattle.fk_core.specs.Next.{Position, position, landing, follows, step_by, step_of, next, list_opening}
 use Rattle.fk_kept.specs.declared.places.Place.{Place}
 use Rattle.fk_known.specs.Local.{HasKnowledge, KnowledgeIsEnough, Fits}
 use Rattle.fk_known.specs.Values.{no_constants}
@@ -104,7 +104,7 @@ module _ (core : List CoreOp) (main : ℕ) (known : HasKnowledge core main) wher
 pub knowledge_is_enough : KnowledgeIsEnough
 knowledge_is_enough core main known words firsts input p schedule lawful fault h r op operation here stands reads =
     let set = setting_of p words input in
-    let start = opening main words firsts input p in
+    let start = list_opening main words firsts input p in
     let all = runs core (StandsAt core main known) (after_local core main known) (after_request core main known) (after_tree core main known)
     set schedule start (first core main known set _ 0 p) in
     let stand = all_at (RunnerFits core (StandsAt core main known) (after_local core main known) (after_request core main known) (after_tree core main known))

@@ -9,7 +9,7 @@ use Rattle.fk_lower.specs.declared.span.Start.{Start}
 use Rattle.fk_lower.specs.declared.span.Start.TheVariants as s
 use Rattle.fk_lower.specs.declared.span.Span.{Span}
 use Rattle.fk_lower.specs.declared.span.Spans.{Spans}
-use Rattle.fk_lower.specs.Spans.{round, offset, start_of, span_in, IsWithin}
+use Rattle.fk_lower.specs.Spans.{round, offset, start_of, span_in, StartsWithin}
 use Rattle.fk_lower.specs.Tree.{PieceTree, Perform, Choose, While, Until, Quit, Break, Continue, Call, Ends, Pieces, Part, code_of, IsMeasured, IsPartMeasured}
 use Rattle.fk_lower.specs.View.{piece_of}
 use Rattle.fk_lower.specs.Measures.{before, measured}
@@ -114,7 +114,7 @@ room_by pieces near i j x span e h is same room =
     let b = ap (λ (y : Piece). (before (piece_of y) span).extent) is in
     omega (arith, a, b, room)
 
-pub within_at : (pieces : List Piece) (near : Bool) (i : ℕ) (span : Span) → IsMeasured (from pieces 0) → span ≡ measured near (from pieces i) → IsWithin span
+pub within_at : (pieces : List Piece) (near : Bool) (i : ℕ) (span : Span) → IsMeasured (from pieces 0) → span ≡ measured near (from pieces i) → StartsWithin span
 within_at pieces near i span m same =
     let w = measured_within near (from pieces i) (measured_from pieces i m) in
     let a = ap (λ (span : Span). offset span.start) same in

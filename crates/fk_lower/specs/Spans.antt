@@ -51,5 +51,5 @@ offset (s.At n) = n
 offset start = 0
 
 -- it begins within its list, or directly behind it
-abbrev pub IsWithin : Span → Type 0
-IsWithin span = offset span.start ≤ span.extent
+abbrev pub StartsWithin : Span → Type 0
+StartsWithin span = offset span.start ≤ span.extent

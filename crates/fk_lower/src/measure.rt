@@ -4,7 +4,7 @@ ghost use Rattle.std.specs.Prelude.{◌≡◌, ◌*◌, ◌^◌, ◌<◌, false,
 ghost use Rattle.fk_flat.specs.Items.{way_of, goes_away};
 ghost use Rattle.fk_lower.specs.Tree as t;
 ghost use Rattle.fk_forms.specs.Code.{size};
-ghost use Rattle.fk_lower.specs.Spans.{span_in, IsWithin};
+ghost use Rattle.fk_lower.specs.Spans.{span_in, StartsWithin};
 ghost use Rattle.fk_lower.specs.Tree.{pieces_of, code_of, IsMeasured, IsPartMeasured};
 ghost use Rattle.fk_lower.specs.View.{piece_of, part_of};
 ghost use Rattle.fk_lower.specs.Measures.{nothing, beginning, is_beside, before, measured, rests};
@@ -76,7 +76,7 @@ fn before_while(test: &Block, body: &Block, step: &Block, rest: Span) -> Span
 }
 
 fn before_until(body: &Block, test: &Block, rest: Span) -> Span
-    requires within { IsWithin rest }
+    requires within { StartsWithin rest }
     requires room { let x = part_of body.now in let y = part_of test.now in
         (before (t.Until x.pieces x.spans y.pieces y.spans) rest).extent < 2 ^ 32 }
     ensures { let x = part_of body.now in let y = part_of test.now in
@@ -102,7 +102,7 @@ fn before_call(act: Act, function: u32, opening: &Block, rest: Span) -> Span
 
 // The measures of a piece and the code behind it.
 fn before(piece: &Piece, rest: Span) -> Span
-    requires within { IsWithin rest }
+    requires within { StartsWithin rest }
     requires room { (before (piece_of piece.now) rest).extent < 2 ^ 32 }
     ensures { result ≡ before (piece_of piece.now) rest }
 {
@@ -168,7 +168,7 @@ impl Block {
     pub(crate) fn span(&self, near: bool) -> Span
         requires { IsPartMeasured (part_of self.now) }
         ensures span { result ≡ span_in (part_of self.now).spans near }
-        ensures within { IsWithin result }
+        ensures within { StartsWithin result }
     {
         let spans = self.spans();
         spans.of(near)

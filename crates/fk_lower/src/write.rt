@@ -4,7 +4,7 @@ ghost use Rattle.std.specs.Prelude.{◌≡◌, ◌+◌, ◌^◌, ◌<◌, if◌t
 ghost use Rattle.fk_core.specs.Numbers.{HasNumber, IsNear, IsKnownNear};
 ghost use Rattle.fk_flat.specs.Items.{jump};
 ghost use Rattle.fk_flat.specs.Flat.{behind, onward};
-ghost use Rattle.fk_lower.specs.Spans.{place, offset, span_in, IsWithin};
+ghost use Rattle.fk_lower.specs.Spans.{place, offset, span_in, StartsWithin};
 ghost use Rattle.fk_lower.specs.Tree as t;
 ghost use Rattle.fk_lower.specs.Tree.{IsPieceMeasured, IsPartMeasured};
 ghost use Rattle.fk_lower.specs.View.{piece_of, part_of};
@@ -113,10 +113,10 @@ fn has_number(operation: Operation) -> bool
 // That a piece is measured, and has room with the code behind it.
 fn has_room(piece: &Piece, rest: Span, at: u32)
     requires measured { IsPieceMeasured (piece_of piece.now) }
-    requires within { IsWithin rest }
+    requires within { StartsWithin rest }
     requires room { at + (before (piece_of piece.now) rest).extent < 2 ^ 32 }
     ensures measured { IsPieceMeasured (piece_of piece.now) }
-    ensures within { IsWithin rest }
+    ensures within { StartsWithin rest }
     ensures room { at + (before (piece_of piece.now) rest).extent < 2 ^ 32 }
 {}
 
@@ -198,7 +198,7 @@ impl Writer {
     }
 
     fn perform(&mut self, act: Act, rest: Span, place: Place) -> Result<u32, LowerFault>
-        requires within { IsWithin rest }
+        requires within { StartsWithin rest }
         requires room { place.at + (before (t.Perform act) rest).extent < 2 ^ 32 }
         ensures index { IfOk result
             (λ index. index ≡ behind_of (t.Perform act) rest place.at) }
@@ -215,7 +215,7 @@ impl Writer {
     }
 
     fn quit(&mut self, act: Act, rest: Span, place: Place) -> Result<u32, LowerFault>
-        requires within { IsWithin rest }
+        requires within { StartsWithin rest }
         requires room { place.at + (before (t.Quit act) rest).extent < 2 ^ 32 }
         ensures index { IfOk result (λ index. index ≡ behind_of (t.Quit act) rest place.at) }
         ensures items { OnOk result (items_of self.new.ops.items ≡ items_of self.old.ops.items
@@ -282,7 +282,7 @@ impl Writer {
         place: Place,
     ) -> Result<u32, LowerFault>
         requires measured { IsPieceMeasured (piece_of piece.now) }
-        requires within { IsWithin rest }
+        requires within { StartsWithin rest }
         requires room { place.at + (before (piece_of piece.now) rest).extent < 2 ^ 32 }
         ensures index { IfOk result (λ index. index ≡ behind_of (piece_of piece.now) rest place.at) }
         ensures items { OnOk result (items_of self.new.ops.items ≡ items_of self.old.ops.items
@@ -320,7 +320,7 @@ impl Writer {
     ) -> Result<u32, LowerFault>
         requires measured { let x = part_of first.now in let y = part_of second.now in
             IsPieceMeasured (t.Choose act x.pieces x.spans y.pieces y.spans) }
-        requires within { IsWithin rest }
+        requires within { StartsWithin rest }
         requires room { let x = part_of first.now in let y = part_of second.now in
             place.at + (before (t.Choose act x.pieces x.spans y.pieces y.spans) rest).extent < 2 ^ 32 }
         ensures index { let x = part_of first.now in let y = part_of second.now in
@@ -368,7 +368,7 @@ impl Writer {
     ) -> Result<u32, LowerFault>
         requires measured { let x = part_of test.now in let y = part_of body.now in let z = part_of step.now in
             IsPieceMeasured (t.While x.pieces x.spans y.pieces y.spans z.pieces z.spans) }
-        requires within { IsWithin rest }
+        requires within { StartsWithin rest }
         requires room { let x = part_of test.now in let y = part_of body.now in let z = part_of step.now in
             place.at + (before (t.While x.pieces x.spans y.pieces y.spans z.pieces z.spans) rest).extent < 2 ^ 32 }
         ensures index { let x = part_of test.now in let y = part_of body.now in let z = part_of step.now in
@@ -428,7 +428,7 @@ impl Writer {
     ) -> Result<u32, LowerFault>
         requires measured { let x = part_of body.now in let y = part_of test.now in
             IsPieceMeasured (t.Until x.pieces x.spans y.pieces y.spans) }
-        requires within { IsWithin rest }
+        requires within { StartsWithin rest }
         requires room { let x = part_of body.now in let y = part_of test.now in
             place.at + (before (t.Until x.pieces x.spans y.pieces y.spans) rest).extent < 2 ^ 32 }
         ensures index { let x = part_of body.now in let y = part_of test.now in
@@ -477,7 +477,7 @@ impl Writer {
     ) -> Result<u32, LowerFault>
         requires measured { let x = part_of opening.now in
             IsPieceMeasured (t.Call act function x.pieces x.spans) }
-        requires within { IsWithin rest }
+        requires within { StartsWithin rest }
         requires room { let x = part_of opening.now in
             place.at + (before (t.Call act function x.pieces x.spans) rest).extent < 2 ^ 32 }
         ensures index { let x = part_of opening.now in

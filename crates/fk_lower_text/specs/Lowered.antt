@@ -11,7 +11,7 @@ use Rattle.fk_walk.specs.declared.known.Known.{Known}
 use Rattle.fk_walk.specs.Known.{tables_of, items_in}
 use Rattle.fk_walk_statements.specs.Texts.{functions_in, sites_of_text}
 use Rattle.fk_core.specs.declared.op.CoreOp.{CoreOp}
-use Rattle.fk_core.specs.Next.{next, opening}
+use Rattle.fk_core.specs.Next.{next, list_opening}
 use Rattle.fk_core.specs.KeepsRuns.{HasCodeOf}
 use Rattle.fk_flat.specs.Items.{Item, acts, jumps, calls}
 use Rattle.fk_flat.specs.Laws.{AreShaped, IsFlat}
@@ -38,8 +38,8 @@ module _ (known : Known) (program : ProgramTree) (core : List CoreOp) (entry : (
   HasItsRuns =
       (words firsts input : List ℕ) (p : ℕ) (setting : Setting) (schedule : Schedule)
       → RunAlike (source.next_in (tables_of known) program) (next core) setting schedule
-      (source.opening (tables_of known) program words firsts input p)
-      (opening (entry (main_of (tables_of known) program)) words firsts input p)
+      (source.program_opening (tables_of known) program words firsts input p)
+      (list_opening (entry (main_of (tables_of known) program)) words firsts input p)
 
 -- the operations of the list are those of the text in their order, each with its rank as its site, and there are few jumps
 -- between them

@@ -3,7 +3,7 @@ use Rattle.std.proofs.Common.{◌≡◌, ◌≢◌, ℕ, zero, suc, ◌+◌, ◌
 use Rattle.fk_image.specs.declared.Image.{Image}
 use Rattle.fk_machine.specs.declared.stand.Stand.{Stand}
 use Rattle.fk_machine.specs.declared.stand.Stand.TheVariants.{Running, Finished, Faulted, Trapped}
-use Rattle.fk_machine.specs.Cycle.{Machine, is_running, after_turns, turns_of, unprinted, cycle, opening}
+use Rattle.fk_machine.specs.Cycle.{Machine, is_running, after_turns, turns_of, unprinted, cycle, machine_opening}
 use Rattle.fk_machine.specs.Run.{machine, output_of, after, output_in, rounds, round_of}
 
 begun-cond : (b : Bool) (m m' : Machine) (n : ℕ) → m.begun ≤ n → m'.begun ≤ n → (cond b m' m).begun ≤ n
@@ -58,35 +58,35 @@ output_in-stopped m k n le stopped =
     stays m (λ i. output_in i m) (λ i. output_in i m ++ (after (suc i) m).shared.output) (λ i. refl) k n le stopped
 
 -- the cycles of a run are those of its opening
-pub machine-after : (image : Image) (input : List ℕ) (p n : ℕ) → machine image input p n ≡ after n (opening image input p)
+pub machine-after : (image : Image) (input : List ℕ) (p n : ℕ) → machine image input p n ≡ after n (machine_opening image input p)
 machine-after image input p zero = refl
 machine-after image input p (suc n) = ap cycle (machine-after image input p n)
 
 -- and so is what it prints
-pub output_of-after : (image : Image) (input : List ℕ) (p n : ℕ) → output_of image input p n ≡ output_in n (opening image input p)
+pub output_of-after : (image : Image) (input : List ℕ) (p n : ℕ) → output_of image input p n ≡ output_in n (machine_opening image input p)
 output_of-after image input p zero = refl
 output_of-after image input p (suc n) =
-    let m = opening image input p in
+    let m = machine_opening image input p in
     let before = output_in n m in
     ap (λ l. cond (is_running l.stand) (output_of image input p n ++ (cycle l).shared.output) (output_of image input p n)) (machine-after image input p n)
     ∙ ap (λ o. cond (is_running (after n m).stand) (o ++ (after (suc n) m).shared.output) o) (output_of-after image input p n)
 
 pub machine-stopped : (image : Image) (input : List ℕ) (p k n : ℕ) → k ≤ n → is_running (machine image input p k).stand ≡ false → machine image input p n ≡ machine image input p k
 machine-stopped image input p k n le stopped =
-    let m = opening image input p in
+    let m = machine_opening image input p in
     let there = ap (λ l. is_running l.stand) (sym (machine-after image input p k)) ∙ stopped in
     machine-after image input p n ∙ after-stopped m k n le there ∙ sym (machine-after image input p k)
 
 pub output_of-stopped : (image : Image) (input : List ℕ) (p k n : ℕ) → k ≤ n → is_running (machine image input p k).stand ≡ false → output_of image input p n ≡ output_of image input p k
 output_of-stopped image input p k n le stopped =
-    let m = opening image input p in
+    let m = machine_opening image input p in
     let there = ap (λ l. is_running l.stand) (sym (machine-after image input p k)) ∙ stopped in
     output_of-after image input p n ∙ output_in-stopped m k n le there ∙ sym (output_of-after image input p k)
 
 -- no more cycles are begun
 pub rounds-stopped : (image : Image) (input : List ℕ) (p k n : ℕ) → k ≤ n → is_running (machine image input p k).stand ≡ false → rounds image input p n ≡ rounds image input p k
 rounds-stopped image input p k n le stopped =
-    let m = opening image input p in
+    let m = machine_opening image input p in
     let there = ap (λ l. is_running l.stand) (sym (machine-after image input p k)) ∙ stopped in
     let next : ℕ → List (List ℕ) = λ i. rounds image input p i ++ round_of image (machine image input p i) ∷ [] in
     let grows : (i : ℕ) → rounds image input p (suc i) ≡ cond (is_running (after i m).stand) (next i) (rounds image input p i) =

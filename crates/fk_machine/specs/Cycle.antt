@@ -94,8 +94,8 @@ first_hart = record { registers = λ r. 0; pc = 0; local = λ i. 0; ended = fals
 abbrev pub first_words : Image → List ℕ → Memory
 first_words image input = slice_index (image.globals.items ++ input)
 
-abbrev pub opening : Image → List ℕ → ℕ → Machine
-opening image input p =
+abbrev pub machine_opening : Image → List ℕ → ℕ → Machine
+machine_opening image input p =
     record {
       code = map row image.code.items;
       harts = replicate p first_hart;

@@ -4,9 +4,9 @@ use Rattle.fk_machine.specs.declared.place.Place.{Place}
 use Rattle.fk_machine.specs.declared.place.Place.TheVariants.{SharedWord, ControlWord, LocalWord, DeviceWord, Nowhere}
 
 -- a word of a memory lies within it
-abbrev pub IsWithin : Place → Type 0
-IsWithin (SharedWord i) = i < 2 ^ 20
-IsWithin (ControlWord i) = i < 2 ^ 20 + 64
-IsWithin (LocalWord i) = i < 32768
-IsWithin (DeviceWord device) = Unit {0}
-IsWithin Nowhere = Unit {0}
+abbrev pub IsInMachine : Place → Type 0
+IsInMachine (SharedWord i) = i < 2 ^ 20
+IsInMachine (ControlWord i) = i < 2 ^ 20 + 64
+IsInMachine (LocalWord i) = i < 32768
+IsInMachine (DeviceWord device) = Unit {0}
+IsInMachine Nowhere = Unit {0}

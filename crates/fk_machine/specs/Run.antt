@@ -2,11 +2,11 @@
 use Rattle.std.specs.Prelude.{ℕ, zero, suc, ◌==◌, List, [], ◌∷◌, ◌++◌, Option, Some, None, cond, if◌then◌else◌, map}
 use Rattle.fk_image.specs.declared.Image.{Image}
 use Rattle.fk_image.specs.Limits.{count_of_word}
-use Rattle.fk_machine.specs.Cycle.{Machine, turns_of, is_running, cycle, opening}
+use Rattle.fk_machine.specs.Cycle.{Machine, turns_of, is_running, cycle, machine_opening}
 
 -- the machine after at most n cycles
 abbrev pub machine : Image → List ℕ → ℕ → ℕ → Machine
-machine image input p zero = opening image input p
+machine image input p zero = machine_opening image input p
 machine image input p (suc n) = cycle (machine image input p n)
 
 -- what n cycles printed: the bytes of each cycle that was begun, in order

@@ -53,7 +53,7 @@ pub struct HartBus<'a> {
 impl HartBus<'_> {
     ghost use Rattle.std.specs.Prelude.{length, vec_len};
     ghost use Rattle.fk_isa.specs.Tells.{Told, ToldStore};
-    ghost use Rattle.fk_machine.specs.Fits.{IsWithin};
+    ghost use Rattle.fk_machine.specs.Fits.{IsInMachine};
     ghost use Rattle.fk_machine.specs.Reach.{load_device, store_device, word_at, stored, conditional, is_of};
     ghost use Rattle.fk_machine.specs.Does.{IsReady, Keeps, reach_of};
 
@@ -91,7 +91,7 @@ impl HartBus<'_> {
     // The word of a memory.
     #[inline(always)]
     fn word_at(&self, place: Place) -> Option<u32>
-        requires within { IsWithin place }
+        requires within { IsInMachine place }
         requires own { length self.now.local.now ≡ 32768 }
         ensures { result ≡ word_at (reach_of self.now) place }
     {
@@ -107,7 +107,7 @@ impl HartBus<'_> {
     #[inline(always)]
     fn store_word(&mut self, number: u32, word: u32, place: Place, value: u32)
         requires number { number < vec_len self.old.shared.now.reserved }
-        requires within { IsWithin place }
+        requires within { IsInMachine place }
         requires own { length self.old.local.now ≡ 32768 }
         ensures stored { reach_of self.new ≡ stored (reach_of self.old) number word place value }
         ensures keeps { Keeps self.old self.new }
@@ -134,7 +134,7 @@ impl HartBus<'_> {
     #[inline(always)]
     fn store_conditional(&mut self, number: u32, word: u32, place: Place, value: u32) -> u32
         requires number { number < vec_len self.old.shared.now.reserved }
-        requires within { IsWithin place }
+        requires within { IsInMachine place }
         requires own { length self.old.local.now ≡ 32768 }
         ensures told { Told (conditional (is_of word ((reach_of self.old).shared.reserved number)) (reach_of self.old) number word place value)
             (Ok result) (reach_of self.old) (reach_of self.new) }

@@ -35,7 +35,7 @@ impl Machine {
     ghost use Rattle.std.specs.Prelude.{◌-◌, ◌<◌, ◌^◌, ◌++◌, [], length, IfOk, OnOk, OnErr};
     ghost use Rattle.fk_image.specs.Limits.{IsWithinLimits};
     ghost use Rattle.fk_machine.specs.declared.stand.Stand.TheVariants.{Running};
-    ghost use Rattle.fk_machine.specs.Cycle.{opening, cycle};
+    ghost use Rattle.fk_machine.specs.Cycle.{machine_opening, cycle};
     ghost use Rattle.fk_machine.specs.Run.{after, output_in};
     ghost use Rattle.fk_machine.specs.Early.{StoppedEarly};
     ghost use Rattle.fk_machine.specs.View.{machine_of};
@@ -56,7 +56,7 @@ impl Machine {
         requires few_harts { harts ≤ 1024 }
         requires few_inputs { length input.now ≤ 65536 }
         requires room { vec_len image.now.globals + length input.now ≤ 524288 }
-        ensures { IfOk result (λ m. machine_of m ≡ opening image.now input.now harts) }
+        ensures { IfOk result (λ m. machine_of m ≡ machine_opening image.now input.now harts) }
     {
         let setting = Setting::make(alloc, &image.code, harts, input.len() as u32)?;
         let shared = SharedState::make(alloc, &image.globals, input, harts)?;

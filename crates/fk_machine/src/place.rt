@@ -2,7 +2,7 @@
 
 ghost use Rattle.std.specs.Prelude.{◌≡◌, ◌+◌, ◌-◌, ◌*◌, ◌/◌, ◌<◌, ◌^◌, if◌then◌else◌};
 ghost use Rattle.fk_machine.specs.Place.{is_in, place_of, device_at};
-ghost use Rattle.fk_machine.specs.Fits.{IsWithin};
+ghost use Rattle.fk_machine.specs.Fits.{IsInMachine};
 
 /// Where shared data begins.
 pub const SHARED_START: u32 = 0x1000_0000;
@@ -70,7 +70,7 @@ fn index_in(address: u32, start: u32, words: u32) -> Option<u32>
 #[tactic(auto, unfolding(crate::specs::Place::place_of))]
 pub(crate) fn place_at(address: u32) -> Place
     ensures place { result ≡ place_of address }
-    ensures within { IsWithin result }
+    ensures within { IsInMachine result }
 {
     if let Some(index) = index_in(address, LOCAL_START, LOCAL_WORDS) {
         Place::LocalWord(index)
@@ -86,7 +86,7 @@ pub(crate) fn place_at(address: u32) -> Place
 #[tactic(auto, unfolding(crate::specs::Place::device_at))]
 fn device_at(address: u32) -> Place
     ensures place { result ≡ device_at address }
-    ensures within { IsWithin result }
+    ensures within { IsInMachine result }
 {
     match address {
         0x3000_0000 => Place::DeviceWord(Device::OutInt),

@@ -8,7 +8,7 @@ use Rattle.fk_forms.specs.Tables.{Tables}
 use Rattle.fk_forms.specs.Program.{bodies_of, main_of}
 use Rattle.fk_source.specs.Program as source
 use Rattle.fk_core.specs.declared.op.CoreOp.{CoreOp}
-use Rattle.fk_core.specs.Next.{next, opening}
+use Rattle.fk_core.specs.Next.{next, list_opening}
 use Rattle.fk_flat.specs.Laws.{IsFlat}
 use Rattle.fk_shapes.specs.Fitting.{ProgramFits}
 
@@ -19,5 +19,5 @@ FlatProgramsKeepRuns =
     → ProgramFits tables program → IsFlat (bodies_of tables program) core entry
     → (words firsts input : List ℕ) (p : ℕ) (setting : Setting) (schedule : Schedule)
     → RunAlike (source.next_in tables program) (next core) setting schedule
-    (source.opening tables program words firsts input p)
-    (opening (entry (main_of tables program)) words firsts input p)
+    (source.program_opening tables program words firsts input p)
+    (list_opening (entry (main_of tables program)) words firsts input p)

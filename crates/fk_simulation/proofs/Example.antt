@@ -14,12 +14,12 @@ use Rattle.fk_run.specs.Round.{Step, Runner}
 use Rattle.fk_run.specs.Schedule.{run, beginners}
 use Rattle.fk_core.specs.declared.op.CoreOp.{CoreOp}
 use Rattle.fk_core.specs.Numbers.{operation_of}
-use Rattle.fk_core.specs.Next.{Position, position, is_jump, landing, follows, next, opening}
+use Rattle.fk_core.specs.Next.{Position, position, is_jump, landing, follows, next, list_opening}
 use Rattle.fk_core.specs.WellFormed.{LeadsOn, HasDepths}
 use Rattle.fk_image.specs.declared.Image.{Image}
 use Rattle.fk_block_law.specs.Next.{step_at}
 use Rattle.fk_block_law.specs.Ready.{is_alone, MayDo}
-use Rattle.fk_block_law.specs.Lists.{IsWithin, IsFree, AlwaysMay, is_end}
+use Rattle.fk_block_law.specs.Lists.{StaysInList, IsFree, AlwaysMay, is_end}
 use Rattle.fk_block_law.proofs.Example.{pushes, drops, halts, core, places, HasCode, law_of}
 use Rattle.fk_simulation.specs.Simulation.{Carries}
 use Rattle.fk_simulation.proofs.Kept.{gone, AreKept, AllKept, run_kept, kept_at}
@@ -94,8 +94,8 @@ depth_at (suc (suc (suc (suc i)))) n op d e = absurd d
 depths : HasDepths core 0
 depths words firsts input p schedule lawful running h r op here stands =
     let set = setting_of p words input in
-    let all = run_kept (next core) set IsAt (kept set) schedule (opening 0 words firsts input p) (all_begin set (slice_index firsts) 0 p) in
-    depth_at r.left.at (length (values r.has)) op (kept_at (next core) set IsAt (kept set) (run (next core) set schedule (opening 0 words firsts input p)).runners h r all here).1 stands
+    let all = run_kept (next core) set IsAt (kept set) schedule (list_opening 0 words firsts input p) (all_begin set (slice_index firsts) 0 p) in
+    depth_at r.left.at (length (values r.has)) op (kept_at (next core) set IsAt (kept set) (run (next core) set schedule (list_opening 0 words firsts input p)).runners h r all here).1 stands
 
 may_at : (i : ℕ) (callers : List ℕ) (has : Processor) (op : CoreOp) (operation : Operation) → callers ≡ [] → HasDepth i (length (values has)) → slice_get core (landing core i) ≡ Some op
     → operation_of op.kind op.number ≡ Some operation → MayDo operation (record { left = position i callers; has = has })
@@ -117,8 +117,8 @@ may_at (suc (suc (suc (suc i)))) callers has op operation e d stands reads = abs
 may : AlwaysMay core 0
 may words firsts input p schedule lawful running h r op operation here stands reads =
     let set = setting_of p words input in
-    let all = run_kept (next core) set IsAt (kept set) schedule (opening 0 words firsts input p) (all_begin set (slice_index firsts) 0 p) in
-    let is = kept_at (next core) set IsAt (kept set) (run (next core) set schedule (opening 0 words firsts input p)).runners h r all here in
+    let all = run_kept (next core) set IsAt (kept set) schedule (list_opening 0 words firsts input p) (all_begin set (slice_index firsts) 0 p) in
+    let is = kept_at (next core) set IsAt (kept set) (run (next core) set schedule (list_opening 0 words firsts input p)).runners h r all here in
     may_at r.left.at r.left.callers r.has op operation is.0 is.1 stands reads
 
 -- ---- without groups
@@ -151,11 +151,11 @@ free = record {
     alone operation (inr (inl (e, f))) = inl (ap is_alone f)
     alone operation (inr (inr (e, f))) = inr f
 
-    next_within : (i : ℕ) (operation : Operation) → suc i < 3 → (x : Position) → x ≡ position (suc i) [] → IsWithin core x
-    next_within i operation lt x e = subst (IsWithin core) (sym e) (record { at = lt; callers = All-nil (λ j. j < 3) })
+    next_within : (i : ℕ) (operation : Operation) → suc i < 3 → (x : Position) → x ≡ position (suc i) [] → StaysInList core x
+    next_within i operation lt x e = subst (StaysInList core) (sym e) (record { at = lt; callers = All-nil (λ j. j < 3) })
 
     within : (i : ℕ) (op : CoreOp) (operation : Operation) → ((i ≡ 0) × (operation ≡ Push 5)) ⊎ ((i ≡ 1) × (operation ≡ DropLast)) ⊎ ((i ≡ 2) × (operation ≡ Halt)) → is_end operation ≡ false → (onward : Bool)
-        → IsWithin core (follows core operation i op.target [] onward)
+        → StaysInList core (follows core operation i op.target [] onward)
     within i op operation (inl (e, f)) ends true = next_within i operation (omega arith) _ (ap (λ o. follows core o i op.target [] true) f)
     within i op operation (inl (e, f)) ends false = next_within i operation (omega arith) _ (ap (λ o. follows core o i op.target [] false) f)
     within i op operation (inr (inl (e, f))) ends true = next_within i operation (omega arith) _ (ap (λ o. follows core o i op.target [] true) f)

@@ -23,7 +23,7 @@ use Rattle.fk_run.specs.Group.{has_room}
 use Rattle.fk_run.specs.Round.{Step, Runner, State, Fault, Round, Acting, taking, runner_of, Phase, Passes, Breaks, Phases, do_local, local_phase, after_one, after_locals, begin, asking, do_request, answered, request_phase, after_phase, all_requests, highest, who, agreed, all_changes, settled_by, settled, tree_phase, result}
 use Rattle.fk_run.specs.Schedule.{Schedule, run, beginners}
 use Rattle.fk_core.specs.declared.op.CoreOp.{CoreOp}
-use Rattle.fk_core.specs.Next.{Position, next, position, opening}
+use Rattle.fk_core.specs.Next.{Position, next, position, list_opening}
 use Rattle.fk_block_law.specs.Ready.{IsInRange}
 use Rattle.fk_simulation.specs.InRange.{AreGiven, ListsStayInRange}
 use Rattle.fk_simulation.proofs.Parts.{if_either}
@@ -287,7 +287,7 @@ beginners_are set firsts left number (suc n) le few room is = (
   beginners_are set firsts left (suc number) n (omega arith) few room is,
 )
 
-opening_is : (main : ℕ) (words firsts input : List ℕ) (p : ℕ) → AreGiven words firsts input p → IsSoundState p (opening main words firsts input p)
+opening_is : (main : ℕ) (words firsts input : List ℕ) (p : ℕ) → AreGiven words firsts input p → IsSoundState p (list_opening main words firsts input p)
 opening_is main words firsts input p given =
     let few = given.few in
     let room = given.room in
@@ -320,6 +320,6 @@ lists_stay_in_range core main words firsts input p schedule given h r e =
     let few = given.few in
     let room = given.room in
     let set = setting_of p words input in
-    let first = opening main words firsts input p in
+    let first = list_opening main words firsts input p in
     let small : IsSmall set = record { processors = omega arith; inputs = omega arith; globals = omega arith } in
     range_at (run (next core) set schedule first).runners h r (run_is core set small schedule first (opening_is main words firsts input p given)).runners e

@@ -26,7 +26,7 @@ use Rattle.fk_block_law.specs.Stands.{Places, StandsAt}
 use Rattle.fk_block_law.specs.Next.{StandsOp, step_at}
 use Rattle.fk_block_law.specs.Ready.{is_no_step, is_alone, MayDo, IsReady}
 use Rattle.fk_block_law.specs.Block.{most_before, most_behind, IsRunning, HasDone, Enters, Does, Halts, BlockLaw, gone_to}
-use Rattle.fk_block_law.specs.Lists.{IsWithin, IsFree}
+use Rattle.fk_block_law.specs.Lists.{StaysInList, IsFree}
 use Rattle.fk_block_law.proofs.Standing.{next_here}
 use Rattle.fk_simulation.proofs.Positions.{Leading, leading, within_next, within_return, IsWay}
 use Rattle.fk_simulation.proofs.Parts.{Gone, gone_on, local_phases, request_phases}
@@ -102,7 +102,7 @@ module _ (core : List CoreOp) (image : Image) (places : Places) (set : Setting) 
     pub hart : Hart
     pub runs : RunsPrivately image t number cycles h hart
     pub done : HasDone core image places d hart
-    pub within : IsWithin core d.acting.runner.left
+    pub within : StaysInList core d.acting.runner.left
 
   abbrev pub After : MachineSetting → ℕ → Hart → Doing → Type 0
   After t number h d = ((h.ended ≡ true) × Halted d) ⊎ GoesOn t number h d
@@ -154,15 +154,15 @@ module _ (core : List CoreOp) (image : Image) (places : Places) (set : Setting) 
 
   -- where a local operation or a request goes on
   going : (operation : Operation) → IsFree core → (p : Owner) (i : ℕ) (op : CoreOp) → StandsOp core i op operation → is_alone operation ≡ true → MayDo operation p.runner
-      → All (λ j. j < length core) p.runner.left.callers → (onward : Bool) → IsWithin core (follows core operation i op.target p.runner.left.callers onward)
+      → All (λ j. j < length core) p.runner.left.callers → (onward : Bool) → StaysInList core (follows core operation i op.target p.runner.left.callers onward)
   going (o.Leave gives framed) free p i op at e may all onward = within_return core p.runner.left.callers may all
   going o.Halt free p i op at e may all onward = absurd (cc)
   going operation free p i op at e may all onward = within_next core free.within i op operation p.runner.left.callers onward at refl all
 
   gone_within : IsFree core → (p : Owner) (due : Due p) (d : Doing) → is_alone due.operation ≡ true → Gone (step_at core due.i due.op due.operation p.runner.left.callers) p.runner d
-      → IsWithin core d.acting.runner.left
+      → StaysInList core d.acting.runner.left
   gone_within free p due d e gone =
-      subst (λ a. IsWithin core a.runner.left) (sym gone.acting) (going due.operation free p due.i due.op due.at e due.ready.may due.callers gone.onward)
+      subst (λ a. StaysInList core a.runner.left) (sym gone.acting) (going due.operation free p due.i due.op due.at e due.ready.may due.callers gone.onward)
 
   served_on : IsFree core → (t : MachineSetting) (p : Owner) (due : Due p) (h : Hart) (s : Commons) (behind : ℕ) → is_alone due.operation ≡ true → behind ≤ most_behind
       → Serves (core_source core set) image t 1 (record { number = number_of p; hart = h }) (gone_to due.i p) s
@@ -339,7 +339,7 @@ module _ (core : List CoreOp) (image : Image) (places : Places) (set : Setting) 
   AreReady r = (op : CoreOp) (operation : Operation) → slice_get core (landing core r.left.at) ≡ Some op → operation_of op.kind op.number ≡ Some operation
       → IsReady op operation r
 
-  due_of : LeadsOn core → IsFree core → (p : Owner) → IsWithin core p.runner.left → AreReady p.runner → (l : Leading core p.runner.left) → Due p
+  due_of : LeadsOn core → IsFree core → (p : Owner) → StaysInList core p.runner.left → AreReady p.runner → (l : Leading core p.runner.left) → Due p
   due_of leads free p within ready l = record {
     i = landing core p.runner.left.at;
     op = l.op;
@@ -375,7 +375,7 @@ module _ (core : List CoreOp) (image : Image) (places : Places) (set : Setting) 
   -- who goes on comes to its next commit
   pub comes : (firsts : List ℕ) (main : ℕ) → BlockLaw core image places firsts main → LeadsOn core → IsFree core → (t : MachineSetting) (p : Owner) (h hart : Hart) (cycles : ℕ)
       → IsRunning image set t → number_of p < set.processors → cycles ≤ most_behind → RunsPrivately image t (number_of p) cycles h hart
-      → StandsAt places p hart → IsWithin core p.runner.left → AreReady p.runner
+      → StandsAt places p hart → StaysInList core p.runner.left → AreReady p.runner
       → (d : ℕ) × (d ≤ 254) × Linked t d (record { number = number_of p; hart = h }) p
   unfolding Arrives due_of
   comes firsts main law leads free t p h hart cycles running lt few runs at within ready =

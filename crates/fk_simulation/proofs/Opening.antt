@@ -7,11 +7,11 @@ use Rattle.fk_run.specs.Processor.{Setting, setting_of}
 use Rattle.fk_run.specs.Round.{State}
 use Rattle.fk_run.specs.Schedule.{IsLawful, beginners}
 use Rattle.fk_core.specs.declared.op.CoreOp.{CoreOp}
-use Rattle.fk_core.specs.Next.{Position, next, opening, position}
+use Rattle.fk_core.specs.Next.{Position, next, list_opening, position}
 use Rattle.fk_image.specs.declared.Image.{Image}
 use Rattle.fk_machine.specs.declared.stand.Stand.TheVariants.{Running, Finished}
 use Rattle.fk_machine.specs.Hart.{Hart, Setting as MachineSetting}
-use Rattle.fk_machine.specs.Cycle.{first_hart, all_ended, setting_of as setting_in, opening as machine_opening}
+use Rattle.fk_machine.specs.Cycle.{first_hart, all_ended, setting_of as setting_in, machine_opening}
 use Rattle.fk_nodes.specs.Node.{numbered}
 use Rattle.fk_block_law.specs.Stands.{Places}
 use Rattle.fk_block_law.specs.Block.{IsRunning, beginner}
@@ -56,11 +56,11 @@ abbrev set_of : Image → List ℕ → ℕ → Setting
 set_of image input p = setting_of p image.globals.items input
 
 pub opened : (core : List CoreOp) (image : Image) (places : Places) (firsts : List ℕ) (main : ℕ) (input : List ℕ) (p : ℕ)
-    → Given core image places (set_of image input p) firsts main (opening main image.globals.items firsts input p) → main < length core
-    → Going core image places (set_of image input p) (opening main image.globals.items firsts input p) [] (machine_opening image input p) []
+    → Given core image places (set_of image input p) firsts main (list_opening main image.globals.items firsts input p) → main < length core
+    → Going core image places (set_of image input p) (list_opening main image.globals.items firsts input p) [] (machine_opening image input p) []
 opened core image places firsts main input p given begins =
     let set = set_of image input p in
-    let first = opening main image.globals.items firsts input p in
+    let first = list_opening main image.globals.items firsts input p in
     let m = machine_opening image input p in
     let u = setting_in m in
     let many : length m.harts ≡ p = length-replicate p first_hart in

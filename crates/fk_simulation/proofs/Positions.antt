@@ -10,7 +10,7 @@ use Rattle.fk_core.specs.Numbers.{operation_of}
 use Rattle.fk_core.specs.Next.{Position, position, is_jump, behind_jump, through, led_by, landing_by, landing, returned, follows, step_by, step_of, next}
 use Rattle.fk_core.specs.WellFormed.{IsOperation, LeadsOn}
 use Rattle.fk_block_law.specs.Next.{StandsOp, step_at}
-use Rattle.fk_block_law.specs.Lists.{IsWithin, is_end}
+use Rattle.fk_block_law.specs.Lists.{StaysInList, is_end}
 use Rattle.fk_block_law.proofs.Standing.{landing_at, landing_here}
 
 no_operation : (number : ℕ) → operation_of 0 number ≡ None
@@ -74,17 +74,17 @@ module _ (core : List CoreOp) (leads : LeadsOn core) (jumps : (i : ℕ) (op : Co
 abbrev Below : List CoreOp → List ℕ → Type 0
 Below core callers = All (λ i. i < length core) callers
 
-returned_within : (core : List CoreOp) (callers : List ℕ) → IsWithin core (returned core []) → Below core callers → IsWithin core (returned core callers)
+returned_within : (core : List CoreOp) (callers : List ℕ) → StaysInList core (returned core []) → Below core callers → StaysInList core (returned core callers)
 returned_within core [] w all = w
 returned_within core (i ∷ callers) w all = record { at = All-head (λ j. j < length core) i callers all; callers = All-tail (λ j. j < length core) i callers all }
 
-entered_within : (core : List CoreOp) (i : ℕ) (callers : List ℕ) → IsWithin core (position (suc i) (behind_jump core (suc i) ∷ [])) → Below core callers
-    → IsWithin core (position (suc i) (behind_jump core (suc i) ∷ callers))
+entered_within : (core : List CoreOp) (i : ℕ) (callers : List ℕ) → StaysInList core (position (suc i) (behind_jump core (suc i) ∷ [])) → Below core callers
+    → StaysInList core (position (suc i) (behind_jump core (suc i) ∷ callers))
 entered_within core i callers w all =
     record { at = w.at; callers = All-cons (λ j. j < length core) (behind_jump core (suc i)) callers (All-head (λ j. j < length core) (behind_jump core (suc i)) [] w.callers) all }
 
 within_callers : (core : List CoreOp) (operation : Operation) (i target : ℕ) (callers : List ℕ) (onward : Bool)
-    → IsWithin core (follows core operation i target [] onward) → Below core callers → IsWithin core (follows core operation i target callers onward)
+    → StaysInList core (follows core operation i target [] onward) → Below core callers → StaysInList core (follows core operation i target callers onward)
 within_callers core (o.Leave gives framed) i target callers onward w all = returned_within core callers w all
 within_callers core o.Halt i target callers onward w all = returned_within core callers w all
 within_callers core (o.Enter n) i target callers true w all = entered_within core i callers w all
@@ -95,14 +95,14 @@ within_callers core operation i target callers false w all = record { at = w.at;
 -- no operation but an end goes on outside the list
 pub within_next : (core : List CoreOp)
     → ((i : ℕ) (op : CoreOp) (operation : Operation) → slice_get core i ≡ Some op → operation_of op.kind op.number ≡ Some operation → is_end operation ≡ false
-    → (onward : Bool) → IsWithin core (follows core operation i op.target [] onward))
+    → (onward : Bool) → StaysInList core (follows core operation i op.target [] onward))
     → (i : ℕ) (op : CoreOp) (operation : Operation) (callers : List ℕ) (onward : Bool)
     → StandsOp core i op operation → is_end operation ≡ false → Below core callers
-    → IsWithin core (follows core operation i op.target callers onward)
+    → StaysInList core (follows core operation i op.target callers onward)
 within_next core within i op operation callers onward at e all =
     within_callers core operation i op.target callers onward (within i op operation at.stands at.is_read e onward) all
 
 -- a call returns to a call
-pub within_return : (core : List CoreOp) (callers : List ℕ) → 0 < length callers → Below core callers → IsWithin core (returned core callers)
+pub within_return : (core : List CoreOp) (callers : List ℕ) → 0 < length callers → Below core callers → StaysInList core (returned core callers)
 within_return core [] lt all = absurd (omega arith)
 within_return core (i ∷ callers) lt all = record { at = All-head (λ j. j < length core) i callers all; callers = All-tail (λ j. j < length core) i callers all }

@@ -7,7 +7,7 @@ use Rattle.fk_run.specs.Round.{Runner, State}
 use Rattle.fk_run.specs.Schedule as run
 use Rattle.fk_run.specs.Schedule.{Schedule, SourceRunning, SourceFinished, SourceFaulted, IsLawful, all_done, stand_by, stand_of, beginners}
 use Rattle.fk_core.specs.declared.op.CoreOp.{CoreOp}
-use Rattle.fk_core.specs.Next.{Position, next, opening}
+use Rattle.fk_core.specs.Next.{Position, next, list_opening}
 use Rattle.fk_image.specs.declared.Image.{Image}
 use Rattle.fk_machine.specs.declared.stand.Stand.{Stand}
 use Rattle.fk_machine.specs.declared.stand.Stand.TheVariants.{Running, Finished}
@@ -123,10 +123,10 @@ all_ready core image places set [] f = tt
 all_ready core image places set (r ∷ rs) f = (f 0 r refl, all_ready core image places set rs (λ h q e. f (suc h) q e))
 
 given_by : (core : List CoreOp) (main : ℕ) (firsts : List ℕ) (places : Places) (image : Image) → Carries core main firsts places image → (input : List ℕ) (p : ℕ) → IsInput image input → 1 ≤ p → p ≤ 1024
-    → Given core image places (set_of image input p) firsts main (opening main image.globals.items firsts input p)
+    → Given core image places (set_of image input p) firsts main (list_opening main image.globals.items firsts input p)
 given_by core main firsts places image c input p is le few =
     let set = set_of image input p in
-    let first = opening main image.globals.items firsts input p in
+    let first = list_opening main image.globals.items firsts input p in
     let room = is.room in
     let many = is.few in
     let given : AreGiven image.globals.items firsts input p
@@ -151,7 +151,7 @@ given_by core main firsts places image c input p is le few =
 pub machines_follow_core_runs : MachinesFollowCoreRuns
 machines_follow_core_runs core main firsts places image c input p n is le few bound =
     let set = set_of image input p in
-    let first = opening main image.globals.items firsts input p in
+    let first = list_opening main image.globals.items firsts input p in
     let given = given_by core main firsts places image c input p is le few in
     let so_far = reached core image places set firsts main first given input p (inl (opened core image places firsts main input p given c.begins)) n in
     record {

@@ -4,7 +4,7 @@ use Rattle.fk_run.specs.Processor.{setting_of}
 use Rattle.fk_run.specs.Round.{Runner}
 use Rattle.fk_run.specs.Schedule.{Schedule, run}
 use Rattle.fk_core.specs.declared.op.CoreOp.{CoreOp}
-use Rattle.fk_core.specs.Next.{Position, next, opening}
+use Rattle.fk_core.specs.Next.{Position, next, list_opening}
 use Rattle.fk_block_law.specs.Ready.{IsInRange}
 
 -- what a machine is given: so many processors, and words, of which globals and input have room in one half of shared data
@@ -19,4 +19,4 @@ pub record AreGiven (words firsts input : List ℕ) (p : ℕ) : Type 0 where
 abbrev pub ListsStayInRange : Type 0
 ListsStayInRange =
     (core : List CoreOp) (main : ℕ) (words firsts input : List ℕ) (p : ℕ) (schedule : Schedule) → AreGiven words firsts input p
-    → (h : ℕ) (r : Runner Position) → slice_get (run (next core) (setting_of p words input) schedule (opening main words firsts input p)).runners h ≡ Some r → IsInRange r.has
+    → (h : ℕ) (r : Runner Position) → slice_get (run (next core) (setting_of p words input) schedule (list_opening main words firsts input p)).runners h ≡ Some r → IsInRange r.has

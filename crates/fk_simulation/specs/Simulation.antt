@@ -5,7 +5,7 @@ use Rattle.fk_forms.specs.Tables.{Tables}
 use Rattle.fk_forms.specs.Program.{main_of}
 use Rattle.fk_source.specs.Program as source
 use Rattle.fk_core.specs.declared.op.CoreOp.{CoreOp}
-use Rattle.fk_core.specs.Next.{next, opening}
+use Rattle.fk_core.specs.Next.{next, list_opening}
 use Rattle.fk_core.specs.WellFormed.{IsWellFormed}
 use Rattle.fk_core.specs.KeepsRuns.{HasCodeOf}
 use Rattle.fk_image.specs.declared.Image.{Image}
@@ -29,12 +29,12 @@ abbrev pub MachinesFollowCoreRuns : Type 0
 MachinesFollowCoreRuns =
     (core : List CoreOp) (main : ℕ) (firsts : List ℕ) (places : Places) (image : Image) → Carries core main firsts places image
     → (input : List ℕ) (p n : ℕ) → IsInput image input → 1 ≤ p → p ≤ 1024 → n < 2 ^ 32
-    → Follows (next core) image input p n (opening main image.globals.items firsts input p)
+    → Follows (next core) image input p n (list_opening main image.globals.items firsts input p)
 
 -- what follows runs of a list follows those of a program whose code stands in it
 abbrev pub ProgramsAreFollowed : Type 0
 ProgramsAreFollowed =
     (tables : Tables) (program : ProgramTree) (core : List CoreOp) (entry : ℕ → ℕ) (firsts : List ℕ) (image : Image) (input : List ℕ) (p n : ℕ)
     → HasCodeOf tables program core entry
-    → Follows (next core) image input p n (opening (entry (main_of tables program)) image.globals.items firsts input p)
-    → Follows (source.next_in tables program) image input p n (source.opening tables program image.globals.items firsts input p)
+    → Follows (next core) image input p n (list_opening (entry (main_of tables program)) image.globals.items firsts input p)
+    → Follows (source.next_in tables program) image input p n (source.program_opening tables program image.globals.items firsts input p)

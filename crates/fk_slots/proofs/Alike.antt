@@ -7,7 +7,7 @@ use Rattle.fk_slots.specs.declared.taken.Taken.{Taken}
 use Rattle.fk_slots.specs.Told.{Told, more, splits_at}
 use Rattle.fk_slots.specs.Words.{statement_words}
 use Rattle.fk_slots.specs.Places.{none_taken, behind_frame, within, outside, behind_private, behind_words, behind_variable, behind_variables, behind_parameter, behind_parameters}
-use Rattle.fk_slots.specs.Slots.{begun, begun_two, behind, behind_all, opening, at_end, own_of, owns_of}
+use Rattle.fk_slots.specs.Slots.{begun, begun_two, behind, behind_all, taken_first, at_end, own_of, owns_of}
 
 abbrev Alike : Taken → Taken → Type 0
 Alike a b = a.privates ≡ b.privates
@@ -121,8 +121,8 @@ module _ (told : Told) where
   pub same_privates : (file : Taken) (parameters : List DeclaredTree) (body : Statements)
       → (at_end told file parameters body).privates ≡ (at_end told none_taken parameters body).privates
   same_privates file parameters body =
-      all_alike body (behind_parameters told (opening told file parameters body) parameters) (behind_parameters told (opening told none_taken parameters body) parameters)
-      (parameters_alike parameters (opening told file parameters body) (opening told none_taken parameters body) refl)
+      all_alike body (behind_parameters told (taken_first told file parameters body) parameters) (behind_parameters told (taken_first told none_taken parameters body) parameters)
+      (parameters_alike parameters (taken_first told file parameters body) (taken_first told none_taken parameters body) refl)
 
   -- what the function of one item takes, and those of the others
   one_more : (f : FunctionTree) (body : Option Statements) (fs : List FunctionTree)

@@ -95,12 +95,12 @@ module _ (told : Told) where
     all_slots_in frame taken (p.statement first others) = slots_in frame taken first ++ all_slots_in frame (behind taken first) others
 
   -- what a function begins with: its frame is the next one
-  abbrev pub opening : (file : Taken) → List DeclaredTree → Statements → Taken
-  opening file parameters body = record (behind_frame file (own_words told parameters body)) { privates = 0; words = 0 }
+  abbrev pub taken_first : (file : Taken) → List DeclaredTree → Statements → Taken
+  taken_first file parameters body = record (behind_frame file (own_words told parameters body)) { privates = 0; words = 0 }
 
   -- and what is taken at its end
   abbrev pub at_end : (file : Taken) → List DeclaredTree → Statements → Taken
-  at_end file parameters body = behind_all (behind_parameters told (opening file parameters body) parameters) body
+  at_end file parameters body = behind_all (behind_parameters told (taken_first file parameters body) parameters) body
 
   -- what is taken behind a function: more frames
   abbrev pub behind_body : (file : Taken) → List DeclaredTree → Option Statements → Taken
@@ -111,8 +111,8 @@ module _ (told : Told) where
   abbrev pub body_slots : (file : Taken) → List DeclaredTree → Option Statements → List Slot
   body_slots file parameters None = no_slots parameters
   body_slots file parameters (Some body) =
-      parameters_slots told file.frames (opening file parameters body) parameters
-      ++ all_slots_in file.frames (behind_parameters told (opening file parameters body) parameters) body
+      parameters_slots told file.frames (taken_first file parameters body) parameters
+      ++ all_slots_in file.frames (behind_parameters told (taken_first file parameters body) parameters) body
 
   abbrev pub behind_item : (file : Taken) → ItemTree → Taken
   behind_item file (p.StructItem name members) = file

@@ -93,13 +93,13 @@ fn behind_body_frame(body: &Stmt, known: &Known, taken: Taken) -> Taken
 }
 
 // What a function begins with.
-fn opening<'t, 'a>(
+fn taken_first<'t, 'a>(
     parameters: &'t [Declared<'a>],
     body: &'t [Stmt<'a>],
     known: &Known,
     file: Taken,
 ) -> Taken
-    ensures { result ≡ s.opening (told_by known.now) file (map declared_of parameters.now)
+    ensures { result ≡ s.taken_first (told_by known.now) file (map declared_of parameters.now)
         (statements_of (map statement_of body.now)) }
 {
     let behind = file.behind_frame(own_words(parameters, body, known));
@@ -366,7 +366,7 @@ impl Places {
             ≡ (s.own_in (told_by known.now) (map declared_of parameters.now)
             (Some (statements_of (map statement_of body.now)))).privates) }
     {
-        let opening = opening(parameters, body, known, file);
+        let opening = taken_first(parameters, body, known, file);
         let behind = Self::add_parameters(parameters, known, file.frames, opening, kept)?;
         let last = Self::add_statements(body, known, file.frames, behind, kept)?;
         Ok(last)

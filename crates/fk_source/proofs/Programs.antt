@@ -12,7 +12,7 @@ use Rattle.fk_forms.specs.declared.tables.Home.TheVariants as h
 use Rattle.fk_forms.specs.Tables.{Tables}
 use Rattle.fk_forms.specs.Program.{sites_of}
 use Rattle.fk_forms.proofs.Short.{place, sp, nm, ty, dc, nn, nt, kd, sl, rg, k, at, function}
-use Rattle.fk_source.specs.Program.{next_in, opening}
+use Rattle.fk_source.specs.Program.{next_in, program_opening}
 use Rattle.fk_source.proofs.Seen.{Line, Byte, lines, seen}
 
 -- sh int x; void main(void) { start { x = $; } }
@@ -42,7 +42,7 @@ abbrev pub last_writer_rounds : Schedule
 last_writer_rounds =
     (1 ∷ 1 ∷ []) ∷ (1 ∷ 1 ∷ []) ∷ (3 ∷ 3 ∷ []) ∷ (2 ∷ 2 ∷ []) ∷ (1 ∷ 1 ∷ []) ∷ (1 ∷ 1 ∷ []) ∷ []
 
-last_writer : seen (next_in last_writer_tables last_writer_program) (setting_of 2 (0 ∷ []) []) last_writer_rounds None (0 ∷ []) (opening last_writer_tables last_writer_program (0 ∷ []) [] [] 2)
+last_writer : seen (next_in last_writer_tables last_writer_program) (setting_of 2 (0 ∷ []) []) last_writer_rounds None (0 ∷ []) (program_opening last_writer_tables last_writer_program (0 ∷ []) [] [] 2)
     ≡ (lines [] [], (1 ∷ []), SourceFinished, true)
 last_writer = refl
 
@@ -74,7 +74,7 @@ abbrev pub ascending_mpadd_rounds : Schedule
 ascending_mpadd_rounds =
     (1 ∷ 1 ∷ 1 ∷ []) ∷ (1 ∷ 1 ∷ 1 ∷ []) ∷ (4 ∷ 4 ∷ 4 ∷ []) ∷ (2 ∷ 2 ∷ 2 ∷ []) ∷ (3 ∷ 3 ∷ 3 ∷ []) ∷ (1 ∷ 1 ∷ 1 ∷ []) ∷ (2 ∷ 2 ∷ 2 ∷ []) ∷ (1 ∷ 1 ∷ 1 ∷ []) ∷ (1 ∷ 1 ∷ 1 ∷ []) ∷ []
 
-ascending_mpadd : seen (next_in ascending_mpadd_tables ascending_mpadd_program) (setting_of 3 (0 ∷ 0 ∷ 0 ∷ 0 ∷ []) []) ascending_mpadd_rounds None (0 ∷ 1 ∷ 2 ∷ 3 ∷ []) (opening ascending_mpadd_tables ascending_mpadd_program (0 ∷ 0 ∷ 0 ∷ 0 ∷ []) [] [] 3)
+ascending_mpadd : seen (next_in ascending_mpadd_tables ascending_mpadd_program) (setting_of 3 (0 ∷ 0 ∷ 0 ∷ 0 ∷ []) []) ascending_mpadd_rounds None (0 ∷ 1 ∷ 2 ∷ 3 ∷ []) (program_opening ascending_mpadd_tables ascending_mpadd_program (0 ∷ 0 ∷ 0 ∷ 0 ∷ []) [] [] 3)
     ≡ (lines [] [], (4294967293 ∷ 0 ∷ 4294967295 ∷ 4294967294 ∷ []), SourceFinished, true)
 ascending_mpadd = refl
 
@@ -105,7 +105,7 @@ abbrev pub private_if_rounds : Schedule
 private_if_rounds =
     (1 ∷ 1 ∷ 1 ∷ []) ∷ (1 ∷ 1 ∷ 1 ∷ []) ∷ (4 ∷ 4 ∷ 4 ∷ []) ∷ (4 ∷ 4 ∷ 4 ∷ []) ∷ (2 ∷ 2 ∷ 2 ∷ []) ∷ (2 ∷ 2 ∷ 2 ∷ []) ∷ (1 ∷ 1 ∷ 1 ∷ []) ∷ (1 ∷ 1 ∷ 1 ∷ []) ∷ (1 ∷ 1 ∷ 1 ∷ []) ∷ (1 ∷ 1 ∷ 1 ∷ []) ∷ []
 
-private_if : seen (next_in private_if_tables private_if_program) (setting_of 3 (0 ∷ 0 ∷ []) []) private_if_rounds None (0 ∷ 1 ∷ []) (opening private_if_tables private_if_program (0 ∷ 0 ∷ []) [] [] 3)
+private_if : seen (next_in private_if_tables private_if_program) (setting_of 3 (0 ∷ 0 ∷ []) []) private_if_rounds None (0 ∷ 1 ∷ []) (program_opening private_if_tables private_if_program (0 ∷ 0 ∷ []) [] [] 3)
     ≡ (lines [] [], (1 ∷ 2 ∷ []), SourceFinished, true)
 private_if = refl
 
@@ -136,7 +136,7 @@ abbrev pub shrinking_while_rounds : Schedule
 shrinking_while_rounds =
     (1 ∷ 1 ∷ 1 ∷ []) ∷ (1 ∷ 1 ∷ 1 ∷ []) ∷ (7 ∷ 7 ∷ 7 ∷ []) ∷ (2 ∷ 2 ∷ 2 ∷ []) ∷ (0 ∷ 4 ∷ 4 ∷ []) ∷ (0 ∷ 1 ∷ 1 ∷ []) ∷ (0 ∷ 2 ∷ 2 ∷ []) ∷ (0 ∷ 10 ∷ 10 ∷ []) ∷ (0 ∷ 0 ∷ 4 ∷ []) ∷ (0 ∷ 0 ∷ 1 ∷ []) ∷ (0 ∷ 0 ∷ 2 ∷ []) ∷ (0 ∷ 0 ∷ 10 ∷ []) ∷ (1 ∷ 1 ∷ 1 ∷ []) ∷ (4 ∷ 4 ∷ 4 ∷ []) ∷ (2 ∷ 2 ∷ 2 ∷ []) ∷ (5 ∷ 5 ∷ 5 ∷ []) ∷ (2 ∷ 2 ∷ 2 ∷ []) ∷ (2 ∷ 2 ∷ 2 ∷ []) ∷ (1 ∷ 1 ∷ 1 ∷ []) ∷ (1 ∷ 1 ∷ 1 ∷ []) ∷ []
 
-shrinking_while : seen (next_in shrinking_while_tables shrinking_while_program) (setting_of 3 (0 ∷ 0 ∷ 0 ∷ []) []) shrinking_while_rounds None (0 ∷ 1 ∷ 2 ∷ []) (opening shrinking_while_tables shrinking_while_program (0 ∷ 0 ∷ 0 ∷ []) [] [] 3)
+shrinking_while : seen (next_in shrinking_while_tables shrinking_while_program) (setting_of 3 (0 ∷ 0 ∷ 0 ∷ []) []) shrinking_while_rounds None (0 ∷ 1 ∷ 2 ∷ []) (program_opening shrinking_while_tables shrinking_while_program (0 ∷ 0 ∷ 0 ∷ []) [] [] 3)
     ≡ (lines [] [], (3 ∷ 2 ∷ 3 ∷ []), SourceFinished, true)
 shrinking_while = refl
 
@@ -167,7 +167,7 @@ abbrev pub three_way_fork_rounds : Schedule
 three_way_fork_rounds =
     (1 ∷ 1 ∷ 1 ∷ 1 ∷ []) ∷ (1 ∷ 1 ∷ 1 ∷ 1 ∷ []) ∷ (2 ∷ 2 ∷ 2 ∷ 2 ∷ []) ∷ (7 ∷ 7 ∷ 7 ∷ 7 ∷ []) ∷ (4 ∷ 4 ∷ 4 ∷ 4 ∷ []) ∷ (6 ∷ 6 ∷ 6 ∷ 6 ∷ []) ∷ (2 ∷ 2 ∷ 2 ∷ 2 ∷ []) ∷ (1 ∷ 1 ∷ 1 ∷ 1 ∷ []) ∷ (1 ∷ 1 ∷ 1 ∷ 1 ∷ []) ∷ (1 ∷ 1 ∷ 1 ∷ 1 ∷ []) ∷ (1 ∷ 1 ∷ 1 ∷ 1 ∷ []) ∷ []
 
-three_way_fork : seen (next_in three_way_fork_tables three_way_fork_program) (setting_of 4 (0 ∷ 0 ∷ 0 ∷ []) []) three_way_fork_rounds None (0 ∷ 1 ∷ 2 ∷ []) (opening three_way_fork_tables three_way_fork_program (0 ∷ 0 ∷ 0 ∷ []) [] [] 4)
+three_way_fork : seen (next_in three_way_fork_tables three_way_fork_program) (setting_of 4 (0 ∷ 0 ∷ 0 ∷ []) []) three_way_fork_rounds None (0 ∷ 1 ∷ 2 ∷ []) (program_opening three_way_fork_tables three_way_fork_program (0 ∷ 0 ∷ 0 ∷ []) [] [] 4)
     ≡ (lines [] [], (12 ∷ 1 ∷ 1 ∷ []), SourceFinished, true)
 three_way_fork = refl
 
@@ -198,7 +198,7 @@ abbrev pub farm_barrier_rounds : Schedule
 farm_barrier_rounds =
     (1 ∷ 1 ∷ 1 ∷ []) ∷ (1 ∷ 1 ∷ 1 ∷ []) ∷ (1 ∷ 1 ∷ 1 ∷ []) ∷ (2 ∷ 2 ∷ 2 ∷ []) ∷ (2 ∷ 2 ∷ 2 ∷ []) ∷ (1 ∷ 1 ∷ 1 ∷ []) ∷ (1 ∷ 1 ∷ 1 ∷ []) ∷ (4 ∷ 6 ∷ 4 ∷ []) ∷ (0 ∷ 1 ∷ 0 ∷ []) ∷ (1 ∷ 1 ∷ 1 ∷ []) ∷ (3 ∷ 3 ∷ 3 ∷ []) ∷ (2 ∷ 2 ∷ 2 ∷ []) ∷ (1 ∷ 1 ∷ 1 ∷ []) ∷ (1 ∷ 1 ∷ 1 ∷ []) ∷ []
 
-farm_barrier : seen (next_in farm_barrier_tables farm_barrier_program) (setting_of 3 (0 ∷ []) []) farm_barrier_rounds None (0 ∷ []) (opening farm_barrier_tables farm_barrier_program (0 ∷ []) [] [] 3)
+farm_barrier : seen (next_in farm_barrier_tables farm_barrier_program) (setting_of 3 (0 ∷ []) []) farm_barrier_rounds None (0 ∷ []) (program_opening farm_barrier_tables farm_barrier_program (0 ∷ []) [] [] 3)
     ≡ (lines [] (Line 3 ∷ []), (3 ∷ []), SourceFinished, true)
 farm_barrier = refl
 
@@ -228,7 +228,7 @@ abbrev pub lowest_alone_rounds : Schedule
 lowest_alone_rounds =
     (1 ∷ 1 ∷ 1 ∷ []) ∷ (1 ∷ 1 ∷ 1 ∷ []) ∷ (1 ∷ 1 ∷ 0 ∷ []) ∷ (4 ∷ 0 ∷ 0 ∷ []) ∷ (1 ∷ 1 ∷ 0 ∷ []) ∷ (1 ∷ 1 ∷ 0 ∷ []) ∷ (1 ∷ 1 ∷ 1 ∷ []) ∷ (1 ∷ 1 ∷ 1 ∷ []) ∷ []
 
-lowest_alone : seen (next_in lowest_alone_tables lowest_alone_program) (setting_of 3 [] []) lowest_alone_rounds None [] (opening lowest_alone_tables lowest_alone_program [] [] [] 3)
+lowest_alone : seen (next_in lowest_alone_tables lowest_alone_program) (setting_of 3 [] []) lowest_alone_rounds None [] (program_opening lowest_alone_tables lowest_alone_program [] [] [] 3)
     ≡ (lines [] (Line 5 ∷ []), [], SourceFinished, true)
 lowest_alone = refl
 
@@ -258,7 +258,7 @@ abbrev pub no_space_rounds : Schedule
 no_space_rounds =
     (1 ∷ 1 ∷ []) ∷ (1 ∷ 1 ∷ []) ∷ (2 ∷ 2 ∷ []) ∷ []
 
-no_space : seen (next_in no_space_tables no_space_program) (setting_of 2 [] []) no_space_rounds (Some (3 ∷ 3 ∷ [])) [] (opening no_space_tables no_space_program [] [] [] 2)
+no_space : seen (next_in no_space_tables no_space_program) (setting_of 2 [] []) no_space_rounds (Some (3 ∷ 3 ∷ [])) [] (program_opening no_space_tables no_space_program [] [] [] 2)
     ≡ (lines [] [], [], SourceFaulted (record { site = 6; processor = 0 }), true)
 no_space = refl
 
@@ -289,7 +289,7 @@ abbrev pub bad_address_rounds : Schedule
 bad_address_rounds =
     (1 ∷ 1 ∷ 1 ∷ []) ∷ (1 ∷ 1 ∷ 1 ∷ []) ∷ (7 ∷ 7 ∷ 7 ∷ []) ∷ (0 ∷ 4 ∷ 0 ∷ []) ∷ (1 ∷ 1 ∷ 1 ∷ []) ∷ (2 ∷ 2 ∷ 2 ∷ []) ∷ []
 
-bad_address : seen (next_in bad_address_tables bad_address_program) (setting_of 3 (0 ∷ []) []) bad_address_rounds (Some (3 ∷ 3 ∷ 3 ∷ [])) (0 ∷ []) (opening bad_address_tables bad_address_program (0 ∷ []) [] [] 3)
+bad_address : seen (next_in bad_address_tables bad_address_program) (setting_of 3 (0 ∷ []) []) bad_address_rounds (Some (3 ∷ 3 ∷ 3 ∷ [])) (0 ∷ []) (program_opening bad_address_tables bad_address_program (0 ∷ []) [] [] 3)
     ≡ (lines [] (Line 0 ∷ Line 1 ∷ Line 2 ∷ []), (0 ∷ []), SourceFaulted (record { site = 18; processor = 1 }), true)
 bad_address = refl
 
@@ -321,7 +321,7 @@ abbrev pub group_frame_rounds : Schedule
 group_frame_rounds =
     (1 ∷ 1 ∷ []) ∷ (1 ∷ 1 ∷ []) ∷ (3 ∷ 3 ∷ []) ∷ (1 ∷ 1 ∷ []) ∷ (1 ∷ 1 ∷ []) ∷ (3 ∷ 3 ∷ []) ∷ (4 ∷ 4 ∷ []) ∷ (4 ∷ 4 ∷ []) ∷ (2 ∷ 2 ∷ []) ∷ (2 ∷ 2 ∷ []) ∷ (3 ∷ 3 ∷ []) ∷ (2 ∷ 2 ∷ []) ∷ (2 ∷ 2 ∷ []) ∷ (1 ∷ 1 ∷ []) ∷ (1 ∷ 1 ∷ []) ∷ []
 
-group_frame : seen (next_in group_frame_tables group_frame_program) (setting_of 2 (0 ∷ []) []) group_frame_rounds None (0 ∷ []) (opening group_frame_tables group_frame_program (0 ∷ []) [] [] 2)
+group_frame : seen (next_in group_frame_tables group_frame_program) (setting_of 2 (0 ∷ []) []) group_frame_rounds None (0 ∷ []) (program_opening group_frame_tables group_frame_program (0 ∷ []) [] [] 2)
     ≡ (lines [] [], (2 ∷ []), SourceFinished, true)
 group_frame = refl
 
@@ -352,7 +352,7 @@ abbrev pub private_and_rounds : Schedule
 private_and_rounds =
     (1 ∷ 1 ∷ 1 ∷ 1 ∷ []) ∷ (1 ∷ 1 ∷ 1 ∷ 1 ∷ []) ∷ (7 ∷ 7 ∷ 7 ∷ 7 ∷ []) ∷ (0 ∷ 0 ∷ 4 ∷ 4 ∷ []) ∷ (0 ∷ 0 ∷ 1 ∷ 1 ∷ []) ∷ (0 ∷ 0 ∷ 2 ∷ 2 ∷ []) ∷ (0 ∷ 0 ∷ 5 ∷ 5 ∷ []) ∷ (1 ∷ 1 ∷ 1 ∷ 1 ∷ []) ∷ (6 ∷ 6 ∷ 6 ∷ 6 ∷ []) ∷ (2 ∷ 2 ∷ 2 ∷ 2 ∷ []) ∷ (2 ∷ 2 ∷ 2 ∷ 2 ∷ []) ∷ (1 ∷ 1 ∷ 1 ∷ 1 ∷ []) ∷ (1 ∷ 1 ∷ 1 ∷ 1 ∷ []) ∷ []
 
-private_and : seen (next_in private_and_tables private_and_program) (setting_of 4 (0 ∷ 0 ∷ []) []) private_and_rounds None (0 ∷ 1 ∷ []) (opening private_and_tables private_and_program (0 ∷ 0 ∷ []) [] [] 4)
+private_and : seen (next_in private_and_tables private_and_program) (setting_of 4 (0 ∷ 0 ∷ []) []) private_and_rounds None (0 ∷ 1 ∷ []) (program_opening private_and_tables private_and_program (0 ∷ 0 ∷ []) [] [] 4)
     ≡ (lines [] [], (2 ∷ 4 ∷ []), SourceFinished, true)
 private_and = refl
 
@@ -383,7 +383,7 @@ abbrev pub private_choice_rounds : Schedule
 private_choice_rounds =
     (1 ∷ 1 ∷ 1 ∷ []) ∷ (1 ∷ 1 ∷ 1 ∷ []) ∷ (4 ∷ 4 ∷ 4 ∷ []) ∷ (2 ∷ 2 ∷ 2 ∷ []) ∷ (2 ∷ 4 ∷ 4 ∷ []) ∷ (1 ∷ 1 ∷ 1 ∷ []) ∷ (1 ∷ 1 ∷ 1 ∷ []) ∷ (2 ∷ 2 ∷ 2 ∷ []) ∷ (1 ∷ 1 ∷ 1 ∷ []) ∷ (1 ∷ 1 ∷ 1 ∷ []) ∷ []
 
-private_choice : seen (next_in private_choice_tables private_choice_program) (setting_of 3 (0 ∷ 0 ∷ 0 ∷ []) []) private_choice_rounds None (0 ∷ 1 ∷ 2 ∷ []) (opening private_choice_tables private_choice_program (0 ∷ 0 ∷ 0 ∷ []) [] [] 3)
+private_choice : seen (next_in private_choice_tables private_choice_program) (setting_of 3 (0 ∷ 0 ∷ 0 ∷ []) []) private_choice_rounds None (0 ∷ 1 ∷ 2 ∷ []) (program_opening private_choice_tables private_choice_program (0 ∷ 0 ∷ 0 ∷ []) [] [] 3)
     ≡ (lines [] [], (7 ∷ 11 ∷ 12 ∷ []), SourceFinished, true)
 private_choice = refl
 
@@ -414,7 +414,7 @@ abbrev recursion_rounds : Schedule
 recursion_rounds =
     (2 ∷ []) ∷ (7 ∷ []) ∷ (7 ∷ []) ∷ (7 ∷ []) ∷ (11 ∷ []) ∷ (1 ∷ []) ∷ []
 
-recursion : seen (next_in recursion_tables recursion_program) (setting_of 1 [] []) recursion_rounds None [] (opening recursion_tables recursion_program [] [] [] 1)
+recursion : seen (next_in recursion_tables recursion_program) (setting_of 1 [] []) recursion_rounds None [] (program_opening recursion_tables recursion_program [] [] [] 1)
     ≡ (lines [] (Line 3 ∷ []), [], SourceFinished, true)
 recursion = refl
 
@@ -444,7 +444,7 @@ abbrev loops_rounds : Schedule
 loops_rounds =
     (137 ∷ []) ∷ (2 ∷ []) ∷ (2 ∷ []) ∷ (1 ∷ []) ∷ []
 
-loops : seen (next_in loops_tables loops_program) (setting_of 1 [] []) loops_rounds None [] (opening loops_tables loops_program [] [] [] 1)
+loops : seen (next_in loops_tables loops_program) (setting_of 1 [] []) loops_rounds None [] (program_opening loops_tables loops_program [] [] [] 1)
     ≡ (lines [] (Line 40 ∷ Byte 97 ∷ Byte 10 ∷ []), [], SourceFinished, true)
 loops = refl
 
@@ -474,7 +474,7 @@ abbrev heaps_rounds : Schedule
 heaps_rounds =
     (5 ∷ []) ∷ (5 ∷ []) ∷ (2 ∷ []) ∷ (3 ∷ []) ∷ (1 ∷ []) ∷ (1 ∷ []) ∷ (2 ∷ []) ∷ (1 ∷ []) ∷ (3 ∷ []) ∷ (2 ∷ []) ∷ (1 ∷ []) ∷ (3 ∷ []) ∷ (1 ∷ []) ∷ (1 ∷ []) ∷ (1 ∷ []) ∷ []
 
-heaps : seen (next_in heaps_tables heaps_program) (setting_of 1 [] []) heaps_rounds None [] (opening heaps_tables heaps_program [] [] [] 1)
+heaps : seen (next_in heaps_tables heaps_program) (setting_of 1 [] []) heaps_rounds None [] (program_opening heaps_tables heaps_program [] [] [] 1)
     ≡ (lines [] (Line 1 ∷ Line 0 ∷ Line 1 ∷ Line 0 ∷ Line 1 ∷ []), [], SourceFinished, true)
 heaps = refl
 
@@ -505,7 +505,7 @@ abbrev pub input_sum_rounds : Schedule
 input_sum_rounds =
     (1 ∷ 1 ∷ []) ∷ (1 ∷ 1 ∷ []) ∷ (7 ∷ 7 ∷ []) ∷ (4 ∷ 4 ∷ []) ∷ (3 ∷ 3 ∷ []) ∷ (4 ∷ 4 ∷ []) ∷ (1 ∷ 1 ∷ []) ∷ (2 ∷ 2 ∷ []) ∷ (12 ∷ 12 ∷ []) ∷ (3 ∷ 3 ∷ []) ∷ (4 ∷ 4 ∷ []) ∷ (1 ∷ 1 ∷ []) ∷ (2 ∷ 2 ∷ []) ∷ (12 ∷ 12 ∷ []) ∷ (1 ∷ 1 ∷ []) ∷ (1 ∷ 1 ∷ []) ∷ (1 ∷ 1 ∷ []) ∷ (1 ∷ 1 ∷ []) ∷ []
 
-input_sum : seen (next_in input_sum_tables input_sum_program) (setting_of 2 (0 ∷ []) (4 ∷ 5 ∷ [])) input_sum_rounds None (0 ∷ []) (opening input_sum_tables input_sum_program (0 ∷ []) [] (4 ∷ 5 ∷ []) 2)
+input_sum : seen (next_in input_sum_tables input_sum_program) (setting_of 2 (0 ∷ []) (4 ∷ 5 ∷ [])) input_sum_rounds None (0 ∷ []) (program_opening input_sum_tables input_sum_program (0 ∷ []) [] (4 ∷ 5 ∷ []) 2)
     ≡ (lines [] [], (9 ∷ []), SourceFinished, true)
 input_sum = refl
 
@@ -536,7 +536,7 @@ abbrev pub shared_condition_rounds : Schedule
 shared_condition_rounds =
     (1 ∷ 1 ∷ []) ∷ (1 ∷ 1 ∷ []) ∷ (1 ∷ 1 ∷ []) ∷ (3 ∷ 3 ∷ []) ∷ (4 ∷ 4 ∷ []) ∷ (3 ∷ 3 ∷ []) ∷ (1 ∷ 1 ∷ []) ∷ (4 ∷ 4 ∷ []) ∷ (3 ∷ 3 ∷ []) ∷ (2 ∷ 2 ∷ []) ∷ (1 ∷ 1 ∷ []) ∷ (1 ∷ 1 ∷ []) ∷ []
 
-shared_condition : seen (next_in shared_condition_tables shared_condition_program) (setting_of 2 (0 ∷ []) []) shared_condition_rounds None (0 ∷ 1 ∷ 2 ∷ 12 ∷ []) (opening shared_condition_tables shared_condition_program (0 ∷ []) [] [] 2)
+shared_condition : seen (next_in shared_condition_tables shared_condition_program) (setting_of 2 (0 ∷ []) []) shared_condition_rounds None (0 ∷ 1 ∷ 2 ∷ 12 ∷ []) (program_opening shared_condition_tables shared_condition_program (0 ∷ []) [] [] 2)
     ≡ (lines [] [], (4 ∷ 0 ∷ 0 ∷ 0 ∷ []), SourceFinished, true)
 shared_condition = refl
 
@@ -569,7 +569,7 @@ abbrev structs_rounds : Schedule
 structs_rounds =
     (6 ∷ []) ∷ (6 ∷ []) ∷ (7 ∷ []) ∷ (4 ∷ []) ∷ (1 ∷ []) ∷ (1 ∷ []) ∷ (1 ∷ []) ∷ (3 ∷ []) ∷ (10 ∷ []) ∷ (2 ∷ []) ∷ (3 ∷ []) ∷ (3 ∷ []) ∷ (7 ∷ []) ∷ (1 ∷ []) ∷ (4 ∷ []) ∷ (4 ∷ []) ∷ (1 ∷ []) ∷ []
 
-structs : seen (next_in structs_tables structs_program) (setting_of 1 (0 ∷ 0 ∷ 0 ∷ 0 ∷ 0 ∷ []) []) structs_rounds None (0 ∷ 1 ∷ 2 ∷ 3 ∷ 4 ∷ []) (opening structs_tables structs_program (0 ∷ 0 ∷ 0 ∷ 0 ∷ 0 ∷ []) [] [] 1)
+structs : seen (next_in structs_tables structs_program) (setting_of 1 (0 ∷ 0 ∷ 0 ∷ 0 ∷ 0 ∷ []) []) structs_rounds None (0 ∷ 1 ∷ 2 ∷ 3 ∷ 4 ∷ []) (program_opening structs_tables structs_program (0 ∷ 0 ∷ 0 ∷ 0 ∷ 0 ∷ []) [] [] 1)
     ≡ (lines [] (Line 1 ∷ []), (9 ∷ 268435472 ∷ 0 ∷ 10 ∷ 8 ∷ []), SourceFinished, true)
 structs = refl
 
@@ -600,7 +600,7 @@ no_depth_sites = refl
 abbrev pub no_depth_rounds : Schedule
 no_depth_rounds = replicate 255 (1 ∷ [])
 
-no_depth : seen (next_in no_depth_tables no_depth_program) (setting_of 1 [] []) no_depth_rounds (Some (1 ∷ [])) [] (opening no_depth_tables no_depth_program [] [] [] 1)
+no_depth : seen (next_in no_depth_tables no_depth_program) (setting_of 1 [] []) no_depth_rounds (Some (1 ∷ [])) [] (program_opening no_depth_tables no_depth_program [] [] [] 1)
     ≡ (lines [] [], [], SourceFaulted (record { site = 0; processor = 0 }), true)
 no_depth = refl
 
@@ -631,6 +631,6 @@ no_frame_sites = refl
 abbrev pub no_frame_rounds : Schedule
 no_frame_rounds = (1 ∷ []) ∷ (1 ∷ []) ∷ (1 ∷ []) ∷ []
 
-no_frame : seen (next_in no_frame_tables no_frame_program) (setting_of 1 [] []) no_frame_rounds (Some (1 ∷ [])) [] (opening no_frame_tables no_frame_program [] [] [] 1)
+no_frame : seen (next_in no_frame_tables no_frame_program) (setting_of 1 [] []) no_frame_rounds (Some (1 ∷ [])) [] (program_opening no_frame_tables no_frame_program [] [] [] 1)
     ≡ (lines [] [], [], SourceFaulted (record { site = 4; processor = 0 }), true)
 no_frame = refl

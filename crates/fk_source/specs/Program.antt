@@ -16,6 +16,6 @@ abbrev pub main_work : Tables → ProgramTree → Work
 main_work tables program = going (bodies_of tables program (main_of tables program)) []
 
 -- p processors at the beginning of `main`, over the first values of shared data and of the private variables of file scope
-abbrev pub opening : Tables → ProgramTree → (words firsts input : List ℕ) → (p : ℕ) → State Work
-opening tables program words firsts input p =
+abbrev pub program_opening : Tables → ProgramTree → (words firsts input : List ℕ) → (p : ℕ) → State Work
+program_opening tables program words firsts input p =
     run.opening p words input (slice_index firsts) (main_work tables program)

@@ -7,7 +7,7 @@ use Rattle.fk_globals.specs.Constants.{told}
 use Rattle.fk_globals.specs.Rows.{words, firsts}
 use Rattle.fk_layout.specs.Layout.{tables_by}
 use Rattle.fk_source.specs.Next.{Work}
-use Rattle.fk_source.specs.Program.{main_work, opening}
+use Rattle.fk_source.specs.Program.{main_work, program_opening}
 
 module _ (program : ProgramTree) (facts : Facts) where
   -- all of `main`
@@ -23,4 +23,4 @@ module _ (program : ProgramTree) (facts : Facts) where
 
   -- p processors at the beginning of `main`, over these and the input numbers
   abbrev pub opening_of : (input : List ℕ) → (p : ℕ) → State Work
-  opening_of input p = opening (tables_by program facts) program first_words first_privates input p
+  opening_of input p = program_opening (tables_by program facts) program first_words first_privates input p

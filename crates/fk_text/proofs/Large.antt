@@ -14,7 +14,7 @@ use Rattle.fk_layout.specs.Refusal.{IsRefusal}
 use Rattle.fk_text.proofs.Elements.{Contains-head, Contains-tail, Contains-cons_cases, Contains-nil}
 use Rattle.fk_text.specs.declared.refusal.Refusal.{Refusal}
 use Rattle.fk_text.specs.declared.refusal.Refusal.TheVariants.{BadByte, OpenComment, OpenString, WideNumber, Unexpected, EndOfText, Nesting, Rule, TooManySites, FrameTooLarge, GlobalsTooLarge, SourceTooLong, NotBuilt, Memory}
-use Rattle.fk_text.specs.Refusal.{IsRefused, IsOfFunction, TellsFrame, TellsFault}
+use Rattle.fk_text.specs.Refusal.{IsRefusedText, IsOfFunction, TellsFrame, TellsFault}
 use Rattle.fk_text.specs.Text.{IsChecked, HasLargeFrame}
 
 -- the place that is told, if one is
@@ -60,7 +60,7 @@ of_function tables items layout.Memory refused = tt
 -- a text that keeps all rules, of which this is too much, is refused by what tells that
 module _ (source : List ℕ) (tree : ProgramTree) (facts : Facts) (short : length source ≤ 1048576) (checked : IsChecked source tree facts) where
   by_frame : (place : Place) (words : ℕ) (refusal : Refusal) → IsRefusal (tables_by tree facts) tree.items (layout.FrameTooLarge place words)
-      → TellsFrame tree.items place words refusal → IsRefused source refusal
+      → TellsFrame tree.items place words refusal → IsRefusedText source refusal
   by_frame place words (BadByte at) refused tells = absurd tells
   by_frame place words (OpenComment at) refused tells = absurd tells
   by_frame place words (OpenString at) refused tells = absurd tells
@@ -86,10 +86,10 @@ module _ (source : List ℕ) (tree : ProgramTree) (facts : Facts) (short : lengt
   by_frame place words NotBuilt refused tells = absurd tells
   by_frame place words (Memory e) refused tells = tt
 
-  pub refused_by : (fault : LayoutFault) (refusal : Refusal) → IsRefusal (tables_by tree facts) tree.items fault → TellsFault tree.items fault refusal → IsRefused source refusal
+  pub refused_by : (fault : LayoutFault) (refusal : Refusal) → IsRefusal (tables_by tree facts) tree.items fault → TellsFault tree.items fault refusal → IsRefusedText source refusal
   refused_by (layout.TooManySites count) refusal refused tells =
-      subst (IsRefused source) (sym tells) (short, record { tree = tree; facts = facts; checked = checked; refused = refused })
+      subst (IsRefusedText source) (sym tells) (short, record { tree = tree; facts = facts; checked = checked; refused = refused })
   refused_by (layout.FrameTooLarge place words) refusal refused tells = by_frame place words refusal refused tells
   refused_by (layout.GlobalsTooLarge words) refusal refused tells =
-      subst (IsRefused source) (sym tells) (short, record { tree = tree; facts = facts; checked = checked; refused = refused })
-  refused_by layout.Memory refusal refused tells = subst (IsRefused source) (sym tells.1) tt
+      subst (IsRefusedText source) (sym tells) (short, record { tree = tree; facts = facts; checked = checked; refused = refused })
+  refused_by layout.Memory refusal refused tells = subst (IsRefusedText source) (sym tells.1) tt

@@ -15,21 +15,21 @@ use Rattle.fk_text.specs.declared.refusal.Refusal.TheVariants.{BadByte, OpenComm
 -- the length is that of a text that is too long; one that isn't has a lexical fault at the least place, or it has
 -- tokens: they have no tree, for a fault at a token or at the end; or they have one, and it breaks this rule first; or
 -- it keeps all rules, and there is too much of something for a layout; or it has one, and an operation that isn't built
-abbrev pub IsRefused : List ℕ → Refusal → Type 0
-IsRefused source (SourceTooLong bytes) = (bytes ≡ length source) × (1048576 < bytes)
-IsRefused source (BadByte place) = (length source ≤ 1048576) × Faults source (fault.BadByte place)
-IsRefused source (OpenComment place) = (length source ≤ 1048576) × Faults source (fault.OpenComment place)
-IsRefused source (OpenString place) = (length source ≤ 1048576) × Faults source (fault.OpenString place)
-IsRefused source (WideNumber place) = (length source ≤ 1048576) × Faults source (fault.WideNumber place)
-IsRefused source (Unexpected place) = (length source ≤ 1048576) × HasSyntaxFault source (syntax_fault.Unexpected place)
-IsRefused source EndOfText = (length source ≤ 1048576) × HasSyntaxFault source syntax_fault.EndOfText
-IsRefused source (Nesting place) = (length source ≤ 1048576) × HasSyntaxFault source (syntax_fault.Nesting place)
-IsRefused source (Rule place number) = (length source ≤ 1048576) × HasBrokenRule source place number
-IsRefused source (TooManySites count) = (length source ≤ 1048576) × HasTooMuch source (layout.TooManySites count)
-IsRefused source (FrameTooLarge name words) = (length source ≤ 1048576) × HasLargeFrame source name.items words
-IsRefused source (GlobalsTooLarge words) = (length source ≤ 1048576) × HasTooMuch source (layout.GlobalsTooLarge words)
-IsRefused source NotBuilt = (length source ≤ 1048576) × IsNotBuilt source
-IsRefused source (Memory e) = Unit {0}
+abbrev pub IsRefusedText : List ℕ → Refusal → Type 0
+IsRefusedText source (SourceTooLong bytes) = (bytes ≡ length source) × (1048576 < bytes)
+IsRefusedText source (BadByte place) = (length source ≤ 1048576) × Faults source (fault.BadByte place)
+IsRefusedText source (OpenComment place) = (length source ≤ 1048576) × Faults source (fault.OpenComment place)
+IsRefusedText source (OpenString place) = (length source ≤ 1048576) × Faults source (fault.OpenString place)
+IsRefusedText source (WideNumber place) = (length source ≤ 1048576) × Faults source (fault.WideNumber place)
+IsRefusedText source (Unexpected place) = (length source ≤ 1048576) × HasSyntaxFault source (syntax_fault.Unexpected place)
+IsRefusedText source EndOfText = (length source ≤ 1048576) × HasSyntaxFault source syntax_fault.EndOfText
+IsRefusedText source (Nesting place) = (length source ≤ 1048576) × HasSyntaxFault source (syntax_fault.Nesting place)
+IsRefusedText source (Rule place number) = (length source ≤ 1048576) × HasBrokenRule source place number
+IsRefusedText source (TooManySites count) = (length source ≤ 1048576) × HasTooMuch source (layout.TooManySites count)
+IsRefusedText source (FrameTooLarge name words) = (length source ≤ 1048576) × HasLargeFrame source name.items words
+IsRefusedText source (GlobalsTooLarge words) = (length source ≤ 1048576) × HasTooMuch source (layout.GlobalsTooLarge words)
+IsRefusedText source NotBuilt = (length source ≤ 1048576) × IsNotBuilt source
+IsRefusedText source (Memory e) = Unit {0}
 
 -- ---- a fault of the layout, told as a refusal
 

@@ -7,7 +7,7 @@ ghost use Rattle.fk_walk.specs.Known.{items_in, tables_of};
 ghost use Rattle.fk_layout.specs.Layout.{IsLayout, tables_by};
 ghost use Rattle.fk_layout.specs.Refusal.{Fits};
 ghost use Rattle.fk_text.specs.Plain.{ArePlain};
-ghost use Rattle.fk_text.specs.Refusal.{IsRefused};
+ghost use Rattle.fk_text.specs.Refusal.{IsRefusedText};
 ghost use Rattle.fk_text.specs.Text.{IsChecked, KeepsRules};
 
 use crate::building::are_built;
@@ -73,7 +73,7 @@ fn test_built<'p, 'a>(
     ensures refused { IfErr result (λ refusal. (source : List ℕ) → length source ≤ 1048576
         → IsChecked source (program_of text.now.tree) text.now.facts
         → Fits (tables_by (program_of text.now.tree) text.now.facts) (program_of text.now.tree).items
-        → IsRefused source refusal) }
+        → IsRefusedText source refusal) }
 {
     let known = known_of(&text.tree, &text.facts, layout);
     let lookup = Lookup::of(alloc, &known).map_err(Refusal::Memory)?;
@@ -108,7 +108,7 @@ pub fn built_text<'a>(alloc: Global, source: &'a [u8]) -> Result<Built<'a>, Refu
     ensures few { IfOk result (λ text. vec_len text.tree.items ≤ 524288) }
     ensures kept { OnOk result (KeepsRules source.now) }
     ensures short { OnOk result (length source.now ≤ 1048576) }
-    ensures refused { IfErr result (IsRefused source.now) }
+    ensures refused { IfErr result (IsRefusedText source.now) }
 {
     let text = checked_text(alloc, source)?;
     let layout = layout_of(alloc, &text)?;

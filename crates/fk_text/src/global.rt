@@ -3,7 +3,7 @@
 ghost use Rattle.std.specs.Prelude.{◌≤◌, ◌+◌, IfOk, IfErr, IfSome, OnOk, length, map};
 ghost use Rattle.std.specs.Option.{option_map};
 ghost use Rattle.fk_globals.specs.View.{row_of};
-ghost use Rattle.fk_text.specs.Refusal.{IsRefused};
+ghost use Rattle.fk_text.specs.Refusal.{IsRefusedText};
 ghost use Rattle.fk_text.specs.Text.{HasGlobal, IsRowOf, KeepsRules};
 
 use crate::built::built_text;
@@ -38,7 +38,7 @@ pub fn find_global<'a>(
     ensures few { IfOk result (λ row. IfSome row (λ r. r.first + r.words ≤ 524288)) }
     ensures kept { OnOk result (KeepsRules source.now) }
     ensures short { OnOk result (length source.now ≤ 1048576) }
-    ensures refused { IfErr result (IsRefused source.now) }
+    ensures refused { IfErr result (IsRefusedText source.now) }
 {
     let text = built_text(alloc, source)?;
     Ok(row_named(&text.layout.rows, name))

@@ -4,7 +4,7 @@ ghost use Rattle.std.specs.Prelude.{◌≤◌, ℕ, List, IfErr, IfOk, IfSome, I
 ghost use Rattle.fk_syntax.specs.ProgramView.{item_of, program_of};
 ghost use Rattle.fk_layout.specs.Layout.{IsLayout, tables_by};
 ghost use Rattle.fk_layout.specs.Refusal.{Fits};
-ghost use Rattle.fk_text.specs.Refusal.{IsOfFunction, IsRefused, TellsFault, TellsFrame};
+ghost use Rattle.fk_text.specs.Refusal.{IsOfFunction, IsRefusedText, TellsFault, TellsFrame};
 ghost use Rattle.fk_text.specs.Text.{HasFunctionAt, IsChecked, IsFunctionAt};
 
 use crate::refusal::Refusal;
@@ -19,7 +19,7 @@ pub(crate) fn layout_of<'a>(alloc: Global, text: &Checked<'a>) -> Result<Layout<
     ensures fits { OnOk result (Fits (tables_by (program_of text.now.tree) text.now.facts)
         (program_of text.now.tree).items) }
     ensures refused { IfErr result (λ refusal. (source : List ℕ) → length source ≤ 1048576
-        → IsChecked source (program_of text.now.tree) text.now.facts → IsRefused source refusal) }
+        → IsChecked source (program_of text.now.tree) text.now.facts → IsRefusedText source refusal) }
 {
     match lay_out(alloc, &text.tree, &text.facts) {
         Ok(layout) => Ok(layout),

@@ -5,7 +5,7 @@ ghost use Rattle.fk_lex.specs.View.{IsFault};
 ghost use Rattle.fk_syntax.specs.declared.place.Place.{Place};
 ghost use Rattle.fk_syntax.specs.ProgramView.{program_of};
 ghost use Rattle.fk_syntax.specs.WellFormed.{IsWellFormed};
-ghost use Rattle.fk_text.specs.Refusal.{IsRefused};
+ghost use Rattle.fk_text.specs.Refusal.{IsRefusedText};
 ghost use Rattle.fk_text.specs.Text.{HasBrokenRule, HasTree, HasSyntaxFault, IsChecked};
 
 use crate::refusal::Refusal;
@@ -39,7 +39,7 @@ pub(crate) fn tree_of<'a>(alloc: Global, source: &'a [u8]) -> Result<Tree<'a>, R
     ensures small { IfOk result (λ tree. tree.tokens ≤ 2 ^ 20) }
     ensures few { IfOk result (λ tree. vec_len tree.items ≤ 524288) }
     ensures short { OnOk result (length source.now ≤ 1048576) }
-    ensures refused { IfErr result (IsRefused source.now) }
+    ensures refused { IfErr result (IsRefusedText source.now) }
 {
     test_length(source)?;
     let tokens = lex(alloc, source).map_err(lexical)?;
@@ -62,7 +62,7 @@ pub(crate) fn checked_text<'a>(alloc: Global, source: &'a [u8]) -> Result<Checke
     // An item takes two tokens at least.
     ensures few { IfOk result (λ text. vec_len text.tree.items ≤ 524288) }
     ensures short { OnOk result (length source.now ≤ 1048576) }
-    ensures refused { IfErr result (IsRefused source.now) }
+    ensures refused { IfErr result (IsRefusedText source.now) }
 {
     let tree = tree_of(alloc, source)?;
     let facts = checked(alloc, &tree).map_err(broken)?;
@@ -72,7 +72,7 @@ pub(crate) fn checked_text<'a>(alloc: Global, source: &'a [u8]) -> Result<Checke
 // The refusal of a text by its lexical fault.
 fn lexical(fault: LexFault) -> Refusal
     ensures memory { (e : AllocError) → (result ≡ Refusal.Memory e) ↔ (fault ≡ LexFault.Memory e) }
-    ensures refused { (source : List ℕ) → length source ≤ 1048576 → IsFault source fault → IsRefused source result }
+    ensures refused { (source : List ℕ) → length source ≤ 1048576 → IsFault source fault → IsRefusedText source result }
 {
     match fault {
         LexFault::BadByte(place) => Refusal::BadByte(place),
@@ -86,7 +86,7 @@ fn lexical(fault: LexFault) -> Refusal
 // The refusal of a text by the fault of its tokens.
 fn syntactic(fault: SyntaxFault) -> Refusal
     ensures memory { (e : AllocError) → (result ≡ Refusal.Memory e) ↔ (fault ≡ SyntaxFault.Memory e) }
-    ensures refused { (source : List ℕ) → length source ≤ 1048576 → HasSyntaxFault source fault → IsRefused source result }
+    ensures refused { (source : List ℕ) → length source ≤ 1048576 → HasSyntaxFault source fault → IsRefusedText source result }
 {
     match fault {
         SyntaxFault::Unexpected(place) => Refusal::Unexpected(place),
@@ -100,7 +100,7 @@ fn syntactic(fault: SyntaxFault) -> Refusal
 fn broken(fault: CheckFault) -> Refusal
     ensures memory { (e : AllocError) → (result ≡ Refusal.Memory e) ↔ (fault ≡ CheckFault.Memory) }
     ensures refused { (source : List ℕ) → length source ≤ 1048576
-        → ((place : Place) (number : ℕ) → fault ≡ CheckFault.Rule place number → HasBrokenRule source place number) → IsRefused source result }
+        → ((place : Place) (number : ℕ) → fault ≡ CheckFault.Rule place number → HasBrokenRule source place number) → IsRefusedText source result }
 {
     match fault {
         CheckFault::Rule(place, number) => Refusal::Rule(place, number),

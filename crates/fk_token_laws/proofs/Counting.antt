@@ -36,34 +36,34 @@ node_times at indices = sum_by (by_node at) indices
 -- ---- things that stand at nodes, no two at one
 
 -- no token counts for more among these things, by their weights, than it is a node among these
-pub record IsWithin {X : Type 0} (weight : ℕ → X → ℕ) (xs : List X) (indices : List Index) : Type 0 where
+pub record AreCounted {X : Type 0} (weight : ℕ → X → ℕ) (xs : List X) (indices : List Index) : Type 0 where
   pub count : (at : ℕ) → sum_by (weight at) xs ≤ node_times at indices
 
-pub none : {X : Type 0} {weight : ℕ → X → ℕ} (indices : List Index) → IsWithin weight [] indices
+pub none : {X : Type 0} {weight : ℕ → X → ℕ} (indices : List Index) → AreCounted weight [] indices
 none indices = record { count = λ at. omega arith }
 
 -- a thing at the first node
-pub first : {X : Type 0} (token : X → ℕ) {x : X} {xs : List X} {i : List Index} → IsWithin (by token) xs i → IsWithin (by token) (x ∷ xs) (Node (token x) ∷ i)
+pub first : {X : Type 0} (token : X → ℕ) {x : X} {xs : List X} {i : List Index} → AreCounted (by token) xs i → AreCounted (by token) (x ∷ xs) (Node (token x) ∷ i)
 first token {x} {xs} {i} h = record { count = λ at. omega (arith, h.count at, sum_by-cons (by token at) x xs, sum_by-cons (by_node at) (Node (token x)) i) }
 
 -- more nodes before, or behind
-pub later : {X : Type 0} {weight : ℕ → X → ℕ} {xs : List X} {i : List Index} {at : ℕ} → IsWithin weight xs i → IsWithin weight xs (Node at ∷ i)
+pub later : {X : Type 0} {weight : ℕ → X → ℕ} {xs : List X} {i : List Index} {at : ℕ} → AreCounted weight xs i → AreCounted weight xs (Node at ∷ i)
 later {i} {at} h = record { count = λ k. omega (arith, h.count k, sum_by-cons (by_node k) (Node at) i) }
 
-pub skip : {X : Type 0} {weight : ℕ → X → ℕ} {xs : List X} {i : List Index} (more : List Index) → IsWithin weight xs i → IsWithin weight xs (more ++ i)
+pub skip : {X : Type 0} {weight : ℕ → X → ℕ} {xs : List X} {i : List Index} (more : List Index) → AreCounted weight xs i → AreCounted weight xs (more ++ i)
 skip {i} more h = record { count = λ at. omega (arith, h.count at, sum_by-append (by_node at) more i) }
 
-pub wider : {X : Type 0} {weight : ℕ → X → ℕ} {xs : List X} {i : List Index} (more : List Index) → IsWithin weight xs i → IsWithin weight xs (i ++ more)
+pub wider : {X : Type 0} {weight : ℕ → X → ℕ} {xs : List X} {i : List Index} (more : List Index) → AreCounted weight xs i → AreCounted weight xs (i ++ more)
 wider {i} more h = record { count = λ at. omega (arith, h.count at, sum_by-append (by_node at) i more) }
 
 -- things side by side
-pub beside : {X : Type 0} {weight : ℕ → X → ℕ} {xs ys : List X} {i j : List Index} → IsWithin weight xs i → IsWithin weight ys j → IsWithin weight (xs ++ ys) (i ++ j)
+pub beside : {X : Type 0} {weight : ℕ → X → ℕ} {xs ys : List X} {i j : List Index} → AreCounted weight xs i → AreCounted weight ys j → AreCounted weight (xs ++ ys) (i ++ j)
 beside {weight} {xs} {ys} {i} {j} left right = record {
   count = λ at. omega (arith, left.count at, right.count at, sum_by-append (weight at) xs ys, sum_by-append (by_node at) i j);
 }
 
 -- a thing behind others, at a node between theirs
-pub between : {X : Type 0} (token : X → ℕ) {xs : List X} (i j : List Index) (x : X) → IsWithin (by token) xs (i ++ j) → IsWithin (by token) (xs ++ x ∷ []) (i ++ (Node (token x) ∷ j))
+pub between : {X : Type 0} (token : X → ℕ) {xs : List X} (i j : List Index) (x : X) → AreCounted (by token) xs (i ++ j) → AreCounted (by token) (xs ++ x ∷ []) (i ++ (Node (token x) ∷ j))
 between token {xs} i j x h = record {
   count = λ at. omega (
     arith,
@@ -76,11 +76,11 @@ between token {xs} i j x h = record {
 }
 
 -- the same nodes in other groups
-pub regroup : {X : Type 0} {weight : ℕ → X → ℕ} {xs : List X} (i j k : List Index) → IsWithin weight xs (i ++ j ++ k) → IsWithin weight xs (i ++ (j ++ k))
-regroup {weight} {xs} i j k h = subst (IsWithin weight xs) (append_assoc i j k) h
+pub regroup : {X : Type 0} {weight : ℕ → X → ℕ} {xs : List X} (i j k : List Index) → AreCounted weight xs (i ++ j ++ k) → AreCounted weight xs (i ++ (j ++ k))
+regroup {weight} {xs} i j k h = subst (AreCounted weight xs) (append_assoc i j k) h
 
-pub regroup_back : {X : Type 0} {weight : ℕ → X → ℕ} {xs : List X} (i j k : List Index) → IsWithin weight xs (i ++ (j ++ k)) → IsWithin weight xs (i ++ j ++ k)
-regroup_back {weight} {xs} i j k h = subst (IsWithin weight xs) (sym (append_assoc i j k)) h
+pub regroup_back : {X : Type 0} {weight : ℕ → X → ℕ} {xs : List X} (i j k : List Index) → AreCounted weight xs (i ++ (j ++ k)) → AreCounted weight xs (i ++ j ++ k)
+regroup_back {weight} {xs} i j k h = subst (AreCounted weight xs) (sym (append_assoc i j k)) h
 
 -- ---- what is told of things by how often they have a token
 

@@ -19,14 +19,14 @@ use Rattle.fk_pieces.specs.Pieces as q
 use Rattle.fk_pieces.specs.Pieces.{PieceTree}
 use Rattle.fk_type_rules.specs.Noted.{optional_noted, declared_noted, piece_noted, pieces_noted}
 use Rattle.fk_token_laws.proofs.Counting as c
-use Rattle.fk_token_laws.proofs.Counting.{by, times, IsWithin}
+use Rattle.fk_token_laws.proofs.Counting.{by, times, AreCounted}
 use Rattle.fk_token_laws.proofs.Pieces.{piece_indices, by_piece}
 
 abbrev pub note_token : Noted → ℕ
 note_token n = n.at
 
 abbrev AreAt : List Noted → List Index → Type 0
-AreAt notes indices = IsWithin (by note_token) notes indices
+AreAt notes indices = AreCounted (by note_token) notes indices
 
 -- a note of a sign behind those of its operands, where the sign may stand between them in the text
 with_sign : {ns : List Noted} (i j : List Index) (at : ℕ) (type : Option ExpressionType) → AreAt ns (i ++ j) → AreAt (ns ++ note at type) (i ++ (Node at ∷ j))

@@ -18,7 +18,7 @@ use Rattle.fk_pieces.specs.declared.piece.Role.{Role}
 use Rattle.fk_pieces.specs.declared.piece.Role.TheVariants as role
 use Rattle.fk_type_rules.specs.Bound.{piece_references, pieces_references, token_of}
 use Rattle.fk_token_laws.proofs.Counting as c
-use Rattle.fk_token_laws.proofs.Counting.{one, by_node, times, node_times, IsWithin}
+use Rattle.fk_token_laws.proofs.Counting.{one, by_node, times, node_times, AreCounted}
 use Rattle.fk_token_laws.proofs.References.{declared_in-append, optional_refers}
 
 -- the nodes that a piece holds: keywords of statements are in none
@@ -78,7 +78,7 @@ pieces_named (x ∷ xs) at = omega (
 
 pub record Stands (marks : List MarkTree) (pieces : List PieceTree) (indices : List Index) : Type 0 where
   pub declared : flat_map declared_by_piece pieces ≡ declared_in marks
-  pub within : IsWithin by_piece pieces indices
+  pub within : AreCounted by_piece pieces indices
 
 none : (indices : List Index) → Stands [] [] indices
 none indices = record { declared = refl; within = c.none indices }
@@ -102,7 +102,7 @@ beside {ms} {ns} {ps} {qs} left right = record {
 }
 
 -- one piece, at its own nodes
-alone : (x : PieceTree) → IsWithin by_piece (x ∷ []) (piece_indices x)
+alone : (x : PieceTree) → AreCounted by_piece (x ∷ []) (piece_indices x)
 alone x = record { count = λ at. omega (arith, sum_by-cons (by_piece at) x []) }
 
 used : (r : Role) (x : Tree) → Stands (tree_marks x) (q.Used r x ∷ []) (tree_indices x)

@@ -9,7 +9,7 @@ use Rattle.fk_names.specs.Outline.{MarkTree, declared_by, declared_in, tree_mark
 use Rattle.fk_references.specs.References.{ReferenceTree, Member, main_token, tree_references, links_references, trees_references, suffixes_references, optional_references}
 use Rattle.fk_type_rules.specs.Bound.{token_of}
 use Rattle.fk_token_laws.proofs.Counting as c
-use Rattle.fk_token_laws.proofs.Counting.{by, IsWithin}
+use Rattle.fk_token_laws.proofs.Counting.{by, AreCounted}
 
 pub declared_in-append : (xs ys : List MarkTree) → declared_in (xs ++ ys) ≡ declared_in xs ++ declared_in ys
 declared_in-append [] ys = refl
@@ -18,7 +18,7 @@ declared_in-append (x ∷ xs) ys = ap (λ ds. declared_by x ++ ds) (declared_in-
 -- the marks of an expression, what it names, and its nodes
 pub record Refers (marks : List MarkTree) (references : List ReferenceTree) (indices : List Index) : Type 0 where
   pub quiet : declared_in marks ≡ []
-  pub within : IsWithin (by token_of) references indices
+  pub within : AreCounted (by token_of) references indices
 
 none : (indices : List Index) → Refers [] [] indices
 none indices = record { quiet = refl; within = c.none indices }

@@ -38,7 +38,7 @@ use Rattle.fk_image.proofs.Commits.{few_of_image}
 use Rattle.fk_image.proofs.Images.{length-words, length-sites, length-commits}
 use Rattle.fk_text.specs.declared.refusal.Refusal.{Refusal}
 use Rattle.fk_text.specs.declared.refusal.Refusal.TheVariants.{BadByte, OpenComment, OpenString, WideNumber, Unexpected, EndOfText, Nesting, Rule, TooManySites, FrameTooLarge, GlobalsTooLarge, SourceTooLong, NotBuilt, Memory}
-use Rattle.fk_text.specs.Refusal.{IsRefused}
+use Rattle.fk_text.specs.Refusal.{IsRefusedText}
 use Rattle.fk_text.specs.Built.{operations_of}
 use Rattle.fk_text.specs.Plain.{is_plain, ArePlain}
 use Rattle.fk_text.specs.Text.{HasTree, HasSyntaxFault, HasBrokenRule, HasGlobal, HasLayout, IsChecked, IsNotBuilt}
@@ -123,7 +123,7 @@ built_or_not source text other =
     let bad : true ≡ false = sym is ∙ other.unbuilt in
     absurd (cc)
 
-not_refused : (source : List ℕ) (refusal : Refusal) (line : List ℕ) → IsText source → IsRefused source refusal → refusal_line refusal ≡ Some line → ⊥
+not_refused : (source : List ℕ) (refusal : Refusal) (line : List ℕ) → IsText source → IsRefusedText source refusal → refusal_line refusal ≡ Some line → ⊥
 not_refused source (BadByte place) line text refused says = lexed.one_reading.apart source text.built.laid.checked.parsed.tokens _ text.built.laid.checked.parsed.spelled refused.1
 not_refused source (OpenComment place) line text refused says = lexed.one_reading.apart source text.built.laid.checked.parsed.tokens _ text.built.laid.checked.parsed.spelled refused.1
 not_refused source (OpenString place) line text refused says = lexed.one_reading.apart source text.built.laid.checked.parsed.tokens _ text.built.laid.checked.parsed.spelled refused.1

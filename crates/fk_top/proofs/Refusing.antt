@@ -11,7 +11,7 @@ use Rattle.fk_image.specs.Refusals as images
 use Rattle.fk_input.specs.declared.fault.InputFault.{InputFault}
 use Rattle.fk_input.specs.declared.fault.InputFault.TheVariants.{Memory}
 use Rattle.fk_text.specs.declared.refusal.Refusal.{Refusal}
-use Rattle.fk_text.specs.Refusal.{IsRefused}
+use Rattle.fk_text.specs.Refusal.{IsRefusedText}
 use Rattle.fk_top.specs.declared.ending.Ending.{Ending}
 use Rattle.fk_top.specs.declared.report.Report.{Report}
 use Rattle.fk_top.specs.declared.status.Status.TheVariants.{Refused, ImageRefused, InputRefused}
@@ -22,7 +22,7 @@ use Rattle.fk_top.specs.Outcome.{silent, numbers_for, RefusesSource, RefusesImag
 use Rattle.fk_top.specs.Refused.{refusal_line, image_report_of, input_report_of}
 
 pub refusing : (source : List ℕ) (refusal : Refusal) (line : Option LastLine) (r : Result Ending AllocError) (Q : Ending → Type 0)
-    → IsRefused source refusal → option_map last_line line ≡ refusal_line refusal → MatchOption line (IsErr r) (λ x. IsOkAnd r (λ e. outcome_of e ≡ silent Refused (last_line x)))
+    → IsRefusedText source refusal → option_map last_line line ≡ refusal_line refusal → MatchOption line (IsErr r) (λ x. IsOkAnd r (λ e. outcome_of e ≡ silent Refused (last_line x)))
     → IfOk r (λ e. RefusesSource source (outcome_of e) ⊎ Q e)
 refusing source refusal (Some x) (Ok e) Q refused says is =
     inl (record { line = last_line x; refused = record { refusal = refusal; refused = refused; says = sym says }; is = is })
@@ -30,7 +30,7 @@ refusing source refusal None (Ok e) Q refused says is = absurd (cc)
 refusing source refusal line (Err error) Q refused says is = tt
 
 -- a fault of bytes that has a report says why they are no image
-no_image : (bytes : List ℕ) (fault : ImageFault) (report : Report) → IsFault bytes fault → image_report_of fault ≡ Some report → images.IsRefused bytes fault
+no_image : (bytes : List ℕ) (fault : ImageFault) (report : Report) → IsFault bytes fault → image_report_of fault ≡ Some report → images.IsRefusedImage bytes fault
 no_image bytes image.Magic report refused says = refused
 no_image bytes (image.Version version) report refused says = refused
 no_image bytes (image.Short length wanted) report refused says = refused

@@ -58,16 +58,16 @@ word_below : (text : List ℕ) (v : ℕ) → read_word text ≡ Some v → v < 2
 word_below text v e = below (digits_value 10 text) v (is_numeral text) e
 
 -- the harts and the bound of a run are within their bounds
-pub record IsWithin (harts cycles : ℕ) : Type 0 where
+pub record AreInBounds (harts cycles : ℕ) : Type 0 where
   pub some : 1 ≤ harts
   pub few : harts ≤ 1024
   pub bound : cycles < 2 ^ 32
 
-within : (words : List Text) (file : Text) (harts cycles : ℕ) (show : Option Text) → ReadsRun words file harts cycles show → IsWithin harts cycles
+within : (words : List Text) (file : Text) (harts cycles : ℕ) (show : Option Text) → ReadsRun words file harts cycles show → AreInBounds harts cycles
 within words file harts cycles show reads =
     record { some = reads.some_harts; few = reads.few_harts; bound = word_below reads.cycles_text cycles reads.cycles_are }
 
-within_run : (words : List Text) (file : Text) (harts cycles : ℕ) (show : Option Text) → Reads words (Run file harts cycles show) → IsWithin harts cycles
+within_run : (words : List Text) (file : Text) (harts cycles : ℕ) (show : Option Text) → Reads words (Run file harts cycles show) → AreInBounds harts cycles
 within_run [] file harts cycles show reads = absurd reads
 within_run (word ∷ words) file harts cycles show reads = within words file harts cycles show reads.1
 
@@ -88,7 +88,7 @@ of_stand image harts cycles (Trapped hart pc kind) = tt
 is_of : (command : Command) (outcome other : Outcome) → outcome ≡ other → IsOf other.status command → IsOf outcome.status command
 is_of command outcome other same is = subst (λ (o : Outcome). IsOf o.status command) (sym same) is
 
-of_source : (source text : List ℕ) (image : Image) (f : Text) (p n : ℕ) (show : Option Text) (shown : Option Row) (outcome : Outcome) → IsFaithful source image → IsWithin p n → EndsOn image text p n shown outcome → IsOf outcome.status (Run f p n show)
+of_source : (source text : List ℕ) (image : Image) (f : Text) (p n : ℕ) (show : Option Text) (shown : Option Row) (outcome : Outcome) → IsFaithful source image → AreInBounds p n → EndsOn image text p n shown outcome → IsOf outcome.status (Run f p n show)
 of_source source text image f p n show shown outcome faithful bounds (inl r) = is_of (Run f p n show) outcome _ r.is tt
 of_source source text image f p n show shown outcome faithful bounds (inr r) =
     let input = is_input image text r.input faithful.faithful.limits r.numbers in

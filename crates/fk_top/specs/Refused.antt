@@ -49,11 +49,11 @@ input_report_of input.Memory = None
 -- the source is refused, and the line says why
 pub record IsRefusedBy (source : List ℕ) (line : List ℕ) : Type 0 where
   pub refusal : Refusal
-  pub refused : sources.IsRefused source refusal
+  pub refused : sources.IsRefusedText source refusal
   pub says : refusal_line refusal ≡ Some line
 
 -- the bytes are no image, and the report says why
 pub record IsNoImageAs (bytes : List ℕ) (report : Report) : Type 0 where
   pub fault : ImageFault
-  pub refused : images.IsRefused bytes fault
+  pub refused : images.IsRefusedImage bytes fault
   pub says : image_report_of fault ≡ Some report

@@ -11,7 +11,7 @@ use Rattle.fk_flat.specs.Items.{Way, way_of}
 use Rattle.fk_flat.specs.Shape.{is_closed}
 use Rattle.fk_flat.proofs.Ways.{goes_by}
 use Rattle.fk_flat.proofs.Jumps.{jumps_lead_to_operations}
-use Rattle.fk_block_law.specs.Lists.{is_end, IsWithin}
+use Rattle.fk_block_law.specs.Lists.{is_end, StaysInList}
 use Rattle.fk_kept.specs.declared.places.Place.TheVariants.{Main}
 use Rattle.fk_typed_code.specs.Values.{bare}
 use Rattle.fk_typed_code.specs.Laws.{IsTypedList, TypedListsLeadWithin, TypedListsAreFree}
@@ -35,12 +35,12 @@ module _ (core : List CoreOp) (entry : ℕ → ℕ) (place_of : ℕ → Place) (
 
   inside : (op : Operation) (s : sys.State) (i target : ℕ) (way : Way) → way_of op ≡ way → is_end op ≡ false
       → Goes core entry place_of sys lawful state told depth way op s i target
-      → (onward : Bool) → IsWithin core (follows core op i target [] onward)
-  inside op s i target w.straight e n g onward = subst (IsWithin core) (sym (goes_by core op w.straight e i target [] onward)) (record { at = g.below; callers = nobody })
-  inside op s i target w.either e n g true = subst (IsWithin core) (sym (goes_by core op w.either e i target [] true)) (record { at = g.0.below; callers = nobody })
-  inside op s i target w.either e n g false = subst (IsWithin core) (sym (goes_by core op w.either e i target [] false)) (record { at = g.1.below; callers = nobody })
-  inside op s i target w.onto e n g onward = subst (IsWithin core) (sym (goes_by core op w.onto e i target [] onward)) (record { at = g.below; callers = nobody })
-  inside op s i target w.into e n g onward = subst (IsWithin core) (sym (goes_by core op w.into e i target [] onward)) (record { at = g.5.below; callers = one (behind_jump core (suc i)) g.6.below })
+      → (onward : Bool) → StaysInList core (follows core op i target [] onward)
+  inside op s i target w.straight e n g onward = subst (StaysInList core) (sym (goes_by core op w.straight e i target [] onward)) (record { at = g.below; callers = nobody })
+  inside op s i target w.either e n g true = subst (StaysInList core) (sym (goes_by core op w.either e i target [] true)) (record { at = g.0.below; callers = nobody })
+  inside op s i target w.either e n g false = subst (StaysInList core) (sym (goes_by core op w.either e i target [] false)) (record { at = g.1.below; callers = nobody })
+  inside op s i target w.onto e n g onward = subst (StaysInList core) (sym (goes_by core op w.onto e i target [] onward)) (record { at = g.below; callers = nobody })
+  inside op s i target w.into e n g onward = subst (StaysInList core) (sym (goes_by core op w.into e i target [] onward)) (record { at = g.5.below; callers = one (behind_jump core (suc i)) g.6.below })
   inside op s i target w.out e n g onward = absurd (true≢false (sym (out_ends op e) ∙ n))
 
 -- a function with code begins in the list

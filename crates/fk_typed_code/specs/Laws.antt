@@ -10,7 +10,7 @@ use Rattle.fk_core.specs.WellFormed.{IsOperation}
 use Rattle.fk_flat.specs.Flat.{extent}
 use Rattle.fk_flat.specs.Laws.{AreShaped, IsFlat}
 use Rattle.fk_block_law.specs.Ready.{is_alone}
-use Rattle.fk_block_law.specs.Lists.{is_end, IsWithin, IsFree}
+use Rattle.fk_block_law.specs.Lists.{is_end, StaysInList, IsFree}
 use Rattle.fk_depths.specs.Local.{HasLocalDepths}
 use Rattle.fk_kept.specs.declared.places.Place.{Place}
 use Rattle.fk_kept.specs.declared.places.Place.TheVariants.{Main}
@@ -35,7 +35,7 @@ pub record LeadsWithin (core : List CoreOp) : Type 0 where
   pub jumps : (i : ℕ) (op : CoreOp) → slice_get core i ≡ Some op → is_jump op ≡ true → IsOperation core op.target
   pub within : (i : ℕ) (op : CoreOp) (operation : Operation) → slice_get core i ≡ Some op
       → operation_of op.kind op.number ≡ Some operation → is_end operation ≡ false
-      → (onward : Bool) → IsWithin core (follows core operation i op.target [] onward)
+      → (onward : Bool) → StaysInList core (follows core operation i op.target [] onward)
 
 -- each operation is one without a group, or a halt
 abbrev pub IsLone : List CoreOp → Type 0

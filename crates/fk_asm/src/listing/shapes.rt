@@ -31,10 +31,10 @@ pub fn plain(piece: &[u8]) -> ArrayVec<u8, 48>
 }
 
 // A name and the first register after it.
-fn opening(name: &[u8], first: u8) -> ArrayVec<u8, 48>
+fn name_and_register(name: &[u8], first: u8) -> ArrayVec<u8, 48>
     requires name { length name.now ≤ 14 }
     requires first { IsRegister first }
-    ensures text { result.items ≡ spec.opening name.now first }
+    ensures text { result.items ≡ spec.name_and_register name.now first }
     ensures short { array_vec_len result ≤ length name.now + 7 }
 {
     let mut text = plain(name);
@@ -71,7 +71,7 @@ pub fn upper(name: &[u8], rd: u8, imm: u32) -> ArrayVec<u8, 48>
     ensures text { result.items ≡ spec.upper name.now rd imm }
     ensures short { array_vec_len result ≤ 47 }
 {
-    let mut text = opening(name, rd);
+    let mut text = name_and_register(name, rd);
     append(&mut text, b"0x");
     append_hexadecimal(&mut text, imm);
     text
@@ -85,7 +85,7 @@ pub fn jump(name: &[u8], rd: u8, imm: u32) -> ArrayVec<u8, 48>
     ensures text { result.items ≡ spec.jump name.now rd imm }
     ensures short { array_vec_len result ≤ 47 }
 {
-    let mut text = opening(name, rd);
+    let mut text = name_and_register(name, rd);
     append_immediate(&mut text, imm);
     text
 }
@@ -99,7 +99,7 @@ pub fn at_offset(name: &[u8], first: u8, base: u8, imm: u32) -> ArrayVec<u8, 48>
     ensures text { result.items ≡ spec.at_offset name.now first base imm }
     ensures short { array_vec_len result ≤ 47 }
 {
-    let mut text = opening(name, first);
+    let mut text = name_and_register(name, first);
     append_immediate(&mut text, imm);
     append_in_parentheses(&mut text, base);
     text
@@ -114,7 +114,7 @@ pub fn with_immediate(name: &[u8], first: u8, second: u8, imm: u32) -> ArrayVec<
     ensures text { result.items ≡ spec.with_immediate name.now first second imm }
     ensures short { array_vec_len result ≤ 47 }
 {
-    let mut text = opening(name, first);
+    let mut text = name_and_register(name, first);
     append(&mut text, register(second));
     append(&mut text, b", ");
     append_immediate(&mut text, imm);
@@ -130,7 +130,7 @@ pub fn with_distance(name: &[u8], first: u8, second: u8, distance: u8) -> ArrayV
     ensures text { result.items ≡ spec.with_distance name.now first second distance }
     ensures short { array_vec_len result ≤ 47 }
 {
-    let mut text = opening(name, first);
+    let mut text = name_and_register(name, first);
     append(&mut text, register(second));
     append(&mut text, b", ");
     append(&mut text, unsigned_text(u32::from(distance)).as_slice());
@@ -147,7 +147,7 @@ pub fn three_registers(name: &[u8], first: u8, second: u8, third: u8) -> ArrayVe
     ensures text { result.items ≡ spec.three_registers name.now first second third }
     ensures short { array_vec_len result ≤ 47 }
 {
-    let mut text = opening(name, first);
+    let mut text = name_and_register(name, first);
     append(&mut text, register(second));
     append(&mut text, b", ");
     append(&mut text, register(third));
@@ -172,12 +172,12 @@ fn ordering(aq: bool, rl: bool) -> &'static [u8]
 fn atomic_opening(name: &[u8], aq: bool, rl: bool, rd: u8) -> ArrayVec<u8, 48>
     requires name { length name.now ≤ 9 }
     requires rd { IsRegister rd }
-    ensures text { result.items ≡ spec.opening (name.now ++ spec.ordering aq rl) rd }
+    ensures text { result.items ≡ spec.name_and_register (name.now ++ spec.ordering aq rl) rd }
     ensures short { array_vec_len result ≤ 21 }
 {
     let mut ordered = plain(name);
     append(&mut ordered, ordering(aq, rl));
-    opening(ordered.as_slice(), rd)
+    name_and_register(ordered.as_slice(), rd)
 }
 
 /// The text of `lr.w`.
