@@ -1,22 +1,26 @@
 -- What is read of the parts that join operands.
-use Rattle.std.proofs.Common.{◌≡◌, ℕ, zero, suc, ◌+◌, ◌-◌, ◌<◌, ◌≤◌, List, [], ◌∷◌, ◌++◌, Option, Some, None, true, Ok, map, refl, sym, ap, subst, ◌∙◌, arith, append_assoc}
+use Rattle.std.proofs.Common.{◌≡◌, ℕ, zero, suc, ◌+◌, ◌-◌, ◌<◌, ◌≤◌, List, [], ◌∷◌, ◌++◌, Option, Some, None, true, Result, Ok, map, refl, sym, ap, subst, ◌∙◌, arith, append_assoc}
 use Rattle.std.proofs.lemmas.List.{map-append}
 use Rattle.fk_syntax.specs.declared.place.Spot.{Spot}
 use Rattle.fk_syntax.specs.declared.sign.Sign.{Sign}
 use Rattle.fk_syntax.specs.declared.sign.Sign.TheVariants as sign
+use Rattle.fk_syntax.specs.declared.expression.Expr.{Expr}
 use Rattle.fk_syntax.specs.Tree.{Tree, LinkTree, SuffixTree}
+use Rattle.fk_syntax.specs.View.{tree_of}
 use Rattle.fk_reading.specs.Languages.{spot, Placed}
-use Rattle.fk_expr.specs.Grammar.{operator_at, linked, comma_linked, chained, suffixed, listed}
+use Rattle.fk_expr.specs.Grammar.{operator_at, linked, comma_linked, chained, suffixed, chosen, assigned, listed}
+use Rattle.fk_expr.specs.Kinds.{assignment_told}
 use Rattle.fk_reading.specs.declared.fault.SyntaxFault.{SyntaxFault}
 use Rattle.fk_reading.specs.Readers.{after, giving, ◌and◌, either, next_is, tells, expect, expect_told, repeated}
-use Rattle.fk_expr.specs.Reading.{Readers, begins_suffix, begins_expression, read_primary, read_suffix, read_postfix, read_prefix, read_joined, read_assignment, read_comma, read_next_argument, read_arguments}
-use Rattle.fk_expr.specs.Ahead.{read_link, read_links, read_comma_link, NoOperator}
-use Rattle.fk_reading.specs.Gives.{Halts}
+use Rattle.fk_expr.specs.Reading.{Readers, begins_expression, read_primary, read_suffixes, read_postfix, read_prefix, read_joined, read_branches, read_choice, read_assigned, read_assignment, read_comma_link, read_comma_links, read_comma, read_next_argument, read_arguments}
+use Rattle.fk_expr.specs.Ahead.{read_link, read_links, NoOperator}
+use Rattle.fk_reading.specs.Gives.{Gives, Makes, Halts}
 use Rattle.fk_reading.proofs.Halting.{halts_after}
 use Rattle.fk_reading.proofs.Repeats.{repeated_none}
 use Rattle.fk_reading.specs.Kinds.{just}
 use Rattle.fk_lex.specs.declared.token.TokenKind.TheVariants as kind
 use Rattle.fk_reading.proofs.Behind.{behind_reads, behind_halts}
+use Rattle.fk_expr.proofs.Completing.{behind_gives, optional_gives}
 
 -- ---- links
 
@@ -47,33 +51,31 @@ pub link_halts : (i : Option Readers) (looseness tighter : ℕ) (ahead mid : Lis
 link_halts i looseness tighter ahead mid s fault now g h =
     behind_halts linked (expect_told (operator_at looseness)) (read_joined i tighter) ahead mid s fault now g h
 
--- ---- a first part, and as many more as come
+-- ---- a first part, and what comes behind it
 
-pub comma_reads : (i : Option Readers) (ts mid rest : List Placed) (first : Tree) (links : List LinkTree) (e : Tree)
-    → read_assignment i ts ≡ Ok (first, mid) → repeated (just kind.Comma) (read_comma_link i) mid ≡ Ok (links, rest) → e ≡ chained first links
-    → read_comma i ts ≡ Ok (e, rest)
+pub comma_gives : (i : Option Readers) (ts mid now : List Placed) (first : Tree) (r : Result Expr SyntaxFault)
+    → read_assignment i ts ≡ Ok (first, mid) → Makes (chained first) tree_of r now (read_comma_links i mid) → Gives tree_of r now (read_comma i ts)
 unfolding read_comma
-comma_reads i ts mid rest first links e g h c =
-    behind_reads (λ x. chained x.0 x.1) (read_assignment i) (repeated (just kind.Comma) (read_comma_link i)) ts mid rest first links g h ∙ ap (λ e. Ok (e, rest)) (sym c)
+comma_gives i ts mid now first r g h = behind_gives (λ x. chained x.0 x.1) (read_assignment i) (read_comma_links i) tree_of ts mid now first r g h
 
-pub comma_halts : (i : Option Readers) (ts mid : List Placed) (first : Tree) (fault : SyntaxFault) (now : List Placed)
-    → read_assignment i ts ≡ Ok (first, mid) → Halts (repeated (just kind.Comma) (read_comma_link i) mid) fault now → Halts (read_comma i ts) fault now
-unfolding read_comma
-comma_halts i ts mid first fault now g h =
-    behind_halts (λ x. chained x.0 x.1) (read_assignment i) (repeated (just kind.Comma) (read_comma_link i)) ts mid first fault now g h
-
-pub postfix_reads : (i : Option Readers) (ts mid rest : List Placed) (whole : Tree) (suffixes : List SuffixTree) (e : Tree)
-    → read_primary i ts ≡ Ok (whole, mid) → repeated begins_suffix (read_suffix i) mid ≡ Ok (suffixes, rest) → e ≡ suffixed whole suffixes
-    → read_postfix i ts ≡ Ok (e, rest)
+pub postfix_gives : (i : Option Readers) (ts mid now : List Placed) (whole : Tree) (r : Result Expr SyntaxFault)
+    → read_primary i ts ≡ Ok (whole, mid) → Makes (suffixed whole) tree_of r now (read_suffixes i mid) → Gives tree_of r now (read_postfix i ts)
 unfolding read_postfix
-postfix_reads i ts mid rest whole suffixes e g h c =
-    behind_reads (λ x. suffixed x.0 x.1) (read_primary i) (repeated begins_suffix (read_suffix i)) ts mid rest whole suffixes g h ∙ ap (λ e. Ok (e, rest)) (sym c)
+postfix_gives i ts mid now whole r g h = behind_gives (λ x. suffixed x.0 x.1) (read_primary i) (read_suffixes i) tree_of ts mid now whole r g h
 
-pub postfix_halts : (i : Option Readers) (ts mid : List Placed) (whole : Tree) (fault : SyntaxFault) (now : List Placed)
-    → read_primary i ts ≡ Ok (whole, mid) → Halts (repeated begins_suffix (read_suffix i) mid) fault now → Halts (read_postfix i ts) fault now
-unfolding read_postfix
-postfix_halts i ts mid whole fault now g h =
-    behind_halts (λ x. suffixed x.0 x.1) (read_primary i) (repeated begins_suffix (read_suffix i)) ts mid whole fault now g h
+pub assignment_gives : (i : Option Readers) (ts mid now : List Placed) (target : Tree) (r : Result Expr SyntaxFault)
+    → read_choice i ts ≡ Ok (target, mid) → next_is (tells assignment_told) mid ≡ true → Makes (λ x. assigned target (Some x)) tree_of r now (read_assigned i mid)
+    → Gives tree_of r now (read_assignment i ts)
+unfolding read_assignment
+assignment_gives i ts mid now target r g n h =
+    optional_gives (λ x. assigned x.0 x.1) (read_choice i) (tells assignment_told) (read_assigned i) tree_of ts mid now target r g n h
+
+pub choice_gives : (i : Option Readers) (ts mid now : List Placed) (condition : Tree) (r : Result Expr SyntaxFault)
+    → read_joined i 10 ts ≡ Ok (condition, mid) → next_is (just kind.Question) mid ≡ true → Makes (λ x. chosen condition (Some x)) tree_of r now (read_branches i mid)
+    → Gives tree_of r now (read_choice i ts)
+unfolding read_choice
+choice_gives i ts mid now condition r g n h =
+    optional_gives (λ x. chosen x.0 x.1) (read_joined i 10) (just kind.Question) (read_branches i) tree_of ts mid now condition r g n h
 
 pub arguments_reads : (R : Readers) (ts mid rest : List Placed) (first : Tree) (others all : List Tree)
     → next_is begins_expression ts ≡ true → R.assignment ts ≡ Ok (first, mid) → repeated (just kind.Comma) (read_next_argument R) mid ≡ Ok (others, rest)

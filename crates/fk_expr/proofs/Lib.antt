@@ -12,3 +12,4 @@ pub mod Halting
 pub mod Behind
 pub mod Public
 pub mod Starts
+mod Completing

@@ -1,11 +1,10 @@
 -- Readers of parts of expressions, with as many repetitions as there may be tokens.
 use Rattle.std.specs.Prelude.{◌≡◌, ℕ, ◌<◌, List, Option, false}
 use Rattle.fk_reading.specs.Languages.{Placed}
-use Rattle.fk_reading.specs.Readers.{Reader, expect, giving, ◌and◌, repeated, tells, expect_told, next_is}
+use Rattle.fk_reading.specs.Readers.{Reader, giving, ◌and◌, repeated, tells, expect_told, next_is}
 use Rattle.fk_expr.specs.Reading.{Readers, inner, read_comma, read_assignment, read_choice, read_prefix, read_joined}
-use Rattle.fk_expr.specs.Grammar.{operator_at, linked, comma_linked}
+use Rattle.fk_expr.specs.Grammar.{operator_at, linked}
 use Rattle.fk_syntax.specs.Tree.{LinkTree}
-use Rattle.fk_lex.specs.declared.token.TokenKind.TheVariants as kind
 
 -- the readers where so many levels are left
 abbrev pub readers : ℕ → Readers
@@ -27,7 +26,3 @@ read_links inner looseness tighter = repeated (tells (operator_at looseness)) (r
 -- no operator comes next that binds looser than one level and tighter than another
 abbrev pub NoOperator : ℕ → ℕ → List Placed → Type 0
 NoOperator tighter looser ts = (level : ℕ) → tighter < level → level < looser → next_is (tells (operator_at level)) ts ≡ false
-
--- a comma, and the operand on its right
-abbrev pub read_comma_link : Option Readers → Reader LinkTree
-read_comma_link inner = giving comma_linked (expect kind.Comma and read_assignment inner)

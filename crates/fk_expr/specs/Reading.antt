@@ -1,7 +1,8 @@
 -- How expressions are read, token by token. What is read so is what the grammar says: that is proved, and the
 -- contracts of the public functions speak of the grammar alone.
 use Rattle.std.specs.Prelude.{ℕ, zero, suc, List, [], ◌∷◌, Option, Some, None, Bool, false, length, ◌||◌, ◌&&◌}
-use Rattle.fk_syntax.specs.Tree.{BaseType, Int, Unsigned, Void, Struct, TypeTree, Tree, Number, Puts, Sizeof, Variable, GroupNumber, GroupRank, Prefix, Cast, SuffixTree, Index, Call, Dot, Arrow, Up, Down, trees_of}
+use Rattle.fk_syntax.specs.declared.sign.Sign.{Sign}
+use Rattle.fk_syntax.specs.Tree.{BaseType, Int, Unsigned, Void, Struct, TypeTree, Tree, Number, Puts, Sizeof, Variable, GroupNumber, GroupRank, Prefix, Cast, LinkTree, SuffixTree, Index, Call, Dot, Arrow, Up, Down, trees_of}
 use Rattle.fk_lex.specs.declared.token.TokenKind.{TokenKind}
 use Rattle.fk_reading.specs.Languages.{Placed, spot, name}
 use Rattle.fk_expr.specs.Kinds.{number_told, prefix_told, assignment_told}
@@ -38,10 +39,13 @@ abbrev pub read_parenthesized : Option Readers → Reader Tree
 read_parenthesized inner =
     opened (just kind.OpenParenthesis) inner (λ R. giving (λ (opening, (tree, closing)). tree) (expect kind.OpenParenthesis and R.comma and expect kind.CloseParenthesis))
 
+abbrev pub read_enclosed_text : Option Readers → Reader (Placed × (Placed × Placed))
+read_enclosed_text inner =
+    opened (just kind.OpenParenthesis) inner (λ R. expect kind.OpenParenthesis and expect kind.Text and expect kind.CloseParenthesis)
+
 abbrev pub read_puts : Option Readers → Reader Tree
 read_puts inner =
-    giving (λ (word, (opening, (text, closing))). Puts (spot word) text.bytes)
-    (expect kind.Puts and opened (just kind.OpenParenthesis) inner (λ R. expect kind.OpenParenthesis and expect kind.Text and expect kind.CloseParenthesis))
+    giving (λ (word, (opening, (text, closing))). Puts (spot word) text.bytes) (expect kind.Puts and read_enclosed_text inner)
 
 unfoldable pub read_primary : Option Readers → Reader Tree
 read_primary inner =
@@ -68,35 +72,57 @@ read_next_argument R = giving (λ (comma, next). next) (expect kind.Comma and R.
 unfoldable pub read_arguments : Readers → Reader (List Tree)
 read_arguments R = giving listed (optional begins_expression (R.assignment and repeated (just kind.Comma) (read_next_argument R)))
 
+abbrev pub read_index : Option Readers → Reader SuffixTree
+read_index inner =
+    opened (just kind.OpenBracket) inner (λ R. giving (λ (opening, (by, closing)). Index (spot opening) by) (expect kind.OpenBracket and R.comma and expect kind.CloseBracket))
+
+abbrev pub read_call : Option Readers → Reader SuffixTree
+read_call inner =
+    opened (just kind.OpenParenthesis) inner (λ R. giving (λ (opening, (list, closing)). Call (spot opening) (trees_of list)) (expect kind.OpenParenthesis and read_arguments R and expect kind.CloseParenthesis))
+
+abbrev pub read_dot : Reader SuffixTree
+read_dot = giving (λ (mark, member). Dot (spot mark) (name member)) (expect kind.Dot and expect kind.Word)
+
+abbrev pub read_arrow : Reader SuffixTree
+read_arrow = giving (λ (mark, member). Arrow (spot mark) (name member)) (expect kind.Arrow and expect kind.Word)
+
+abbrev pub read_mark : Reader SuffixTree
+read_mark =
+    by_next (just kind.Dot) read_dot
+    (by_next (just kind.Arrow) read_arrow
+    (by_next (just kind.Increment) (giving (λ t. Up (spot t)) (expect kind.Increment))
+    (giving (λ t. Down (spot t)) (expect kind.Decrement))))
+
 unfoldable pub read_suffix : Option Readers → Reader SuffixTree
 read_suffix inner =
-    by_next (just kind.OpenBracket)
-    (opened (just kind.OpenBracket) inner (λ R. giving (λ (opening, (by, closing)). Index (spot opening) by) (expect kind.OpenBracket and R.comma and expect kind.CloseBracket)))
-    (by_next (just kind.OpenParenthesis)
-    (opened (just kind.OpenParenthesis) inner (λ R. giving (λ (opening, (list, closing)). Call (spot opening) (trees_of list)) (expect kind.OpenParenthesis and read_arguments R and expect kind.CloseParenthesis)))
-    (by_next (just kind.Dot) (giving (λ (mark, member). Dot (spot mark) (name member)) (expect kind.Dot and expect kind.Word))
-    (by_next (just kind.Arrow) (giving (λ (mark, member). Arrow (spot mark) (name member)) (expect kind.Arrow and expect kind.Word))
-    (by_next (just kind.Increment) (giving (λ t. Up (spot t)) (expect kind.Increment))
-    (giving (λ t. Down (spot t)) (expect kind.Decrement))))))
+    by_next (just kind.OpenBracket) (read_index inner)
+    (by_next (just kind.OpenParenthesis) (read_call inner)
+    read_mark)
 
 -- the kinds that begin a suffix
 abbrev pub begins_suffix : TokenKind → Bool
 begins_suffix k =
     just kind.OpenBracket k || just kind.OpenParenthesis k || just kind.Dot k || just kind.Arrow k || just kind.Increment k || just kind.Decrement k
 
+abbrev pub read_suffixes : Option Readers → Reader (List SuffixTree)
+read_suffixes inner = repeated begins_suffix (read_suffix inner)
+
 unfoldable pub read_postfix : Option Readers → Reader Tree
 read_postfix inner =
-    giving (λ (whole, suffixes). suffixed whole suffixes) (read_primary inner and repeated begins_suffix (read_suffix inner))
+    giving (λ (whole, suffixes). suffixed whole suffixes) (read_primary inner and read_suffixes inner)
 
 unfoldable pub read_cast : Option Readers → Reader Tree
 read_cast inner =
     opened (just kind.OpenParenthesis) inner (λ R. giving (λ (opening, (type, (closing, operand))). Cast (spot opening) type operand)
     (expect kind.OpenParenthesis and read_type_name and expect kind.CloseParenthesis and R.prefix))
 
+abbrev pub read_enclosed_type : Option Readers → Reader (Placed × (TypeTree × Placed))
+read_enclosed_type inner =
+    opened (just kind.OpenParenthesis) inner (λ R. expect kind.OpenParenthesis and read_type_name and expect kind.CloseParenthesis)
+
 unfoldable pub read_sizeof : Option Readers → Reader Tree
 read_sizeof inner =
-    giving (λ (word, (opening, (type, closing))). Sizeof (spot word) type)
-    (expect kind.Sizeof and opened (just kind.OpenParenthesis) inner (λ R. expect kind.OpenParenthesis and read_type_name and expect kind.CloseParenthesis))
+    giving (λ (word, (opening, (type, closing))). Sizeof (spot word) type) (expect kind.Sizeof and read_enclosed_type inner)
 
 -- a parenthesis comes next, and a type after it
 abbrev pub cast_is_next : List Placed → Bool
@@ -120,27 +146,36 @@ read_joined inner (suc looseness) =
     and repeated (tells (operator_at (suc looseness)))
     (giving linked (expect_told (operator_at (suc looseness)) and read_joined inner looseness)))
 
+abbrev pub read_otherwise : Readers → Reader (Placed × Tree)
+read_otherwise R = expect kind.Colon and R.choice
+
+abbrev pub read_branches : Option Readers → Reader (Placed × (Tree × (Placed × Tree)))
+read_branches inner = opened (just kind.Question) inner (λ R. expect kind.Question and R.comma and read_otherwise R)
+
 unfoldable pub read_choice : Option Readers → Reader Tree
 read_choice inner =
     giving (λ (condition, branches). chosen condition branches)
-    (read_joined inner 10
-    and optional (just kind.Question)
-    (opened (just kind.Question) inner (λ R. expect kind.Question and R.comma and expect kind.Colon and R.choice)))
+    (read_joined inner 10 and optional (just kind.Question) (read_branches inner))
 
 -- the right side of an assignment opens a level at its first token
+abbrev pub read_assigned : Option Readers → Reader ((Placed × Sign) × Tree)
+read_assigned inner = expect_told assignment_told and opened begins_expression inner (λ R. R.assignment)
+
 unfoldable pub read_assignment : Option Readers → Reader Tree
 read_assignment inner =
     giving (λ (target, value). assigned target value)
-    (read_choice inner
-    and optional (tells assignment_told)
-    (expect_told assignment_told and opened begins_expression inner (λ R. R.assignment)))
+    (read_choice inner and optional (tells assignment_told) (read_assigned inner))
+
+-- a comma, and the operand on its right
+abbrev pub read_comma_link : Option Readers → Reader LinkTree
+read_comma_link inner = giving comma_linked (expect kind.Comma and read_assignment inner)
+
+abbrev pub read_comma_links : Option Readers → Reader (List LinkTree)
+read_comma_links inner = repeated (just kind.Comma) (read_comma_link inner)
 
 unfoldable pub read_comma : Option Readers → Reader Tree
 read_comma inner =
-    giving (λ (first, links). chained first links)
-    (read_assignment inner
-    and repeated (just kind.Comma)
-    (giving comma_linked (expect kind.Comma and read_assignment inner)))
+    giving (λ (first, links). chained first links) (read_assignment inner and read_comma_links inner)
 
 -- ---- so many levels left
 

@@ -13,6 +13,7 @@ mod parts;
 mod production;
 pub mod told;
 pub mod types;
+mod whole;
 
 pub use entry::{assignment, expression};
 pub use fk_reading::fault::SyntaxFault;

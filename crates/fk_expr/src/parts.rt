@@ -1,19 +1,19 @@
 //! Parts of expressions that no expression stands in.
 
-ghost use Rattle.std.specs.Prelude.{◌≡◌, map, IfOk};
-ghost use Rattle.fk_syntax.specs.View.{tree_of, link_of, suffix_of};
-ghost use Rattle.fk_expr.specs.Grammar.{chained, suffixed};
-ghost use Rattle.fk_expr.specs.Reading.{inner, read_sizeof, read_puts};
-ghost use Rattle.fk_reading.specs.Ahead.{Shortens};
-ghost use Rattle.fk_reading.specs.Gives.{Gives};
+ghost use Rattle.std.specs.Prelude.{IfOk};
+ghost use Rattle.fk_syntax.specs.Tree.{TypeTree};
+ghost use Rattle.fk_syntax.specs.View.{tree_of, suffix_of, type_of};
+ghost use Rattle.fk_expr.specs.Reading.{inner, read_sizeof, read_enclosed_type, read_puts, read_enclosed_text, read_mark, read_dot, read_arrow};
+ghost use Rattle.fk_reading.specs.Languages.{Placed};
+ghost use Rattle.fk_reading.specs.Ahead.{seen, Shortens};
+ghost use Rattle.fk_reading.specs.Gives.{Gives, Makes};
 
 use crate::level::open;
 use crate::types::type_name;
 use fk_lex::token::TokenKind;
-use fk_reading::cursor::Cursor;
+use fk_reading::cursor::{Cursor, Numbered};
 use fk_reading::fault::SyntaxFault;
-use fk_syntax::expression::{Expr, Link, Suffix};
-use std::alloc::{AllocError, Global};
+use fk_syntax::expression::{Expr, Suffix, TypeName};
 
 /// "sizeof" "(" type stars ")"
 #[tactic(auto, using(crate::proofs::Halting::halting), unfolding(crate::specs::Reading::read_sizeof))]
@@ -23,11 +23,22 @@ pub(crate) fn size_of<'a>(cursor: &mut Cursor<'_, 'a>, left: u32) -> Result<Expr
     ensures shorter { IfOk result (λ _. Shortens cursor.old cursor.new) }
 {
     let word = cursor.expect(TokenKind::Sizeof)?;
+    let kind = enclosed_type(cursor, left)?;
+    Ok(Expr::Sizeof(word.spot(), kind))
+}
+
+/// "(" type stars ")"
+#[tactic(auto, using(crate::proofs::Halting::halting))]
+fn enclosed_type<'a>(cursor: &mut Cursor<'_, 'a>, left: u32) -> Result<TypeName<'a>, SyntaxFault>
+    ensures read { Makes (λ (x : Placed × (TypeTree × Placed)). x.1.0) type_of result cursor.new
+        (read_enclosed_type (inner left) cursor.old) }
+    ensures shorter { IfOk result (λ _. Shortens cursor.old cursor.new) }
+{
     open(cursor, TokenKind::OpenParenthesis, left)?;
     cursor.expect(TokenKind::OpenParenthesis)?;
     let kind = type_name(cursor)?;
     cursor.expect(TokenKind::CloseParenthesis)?;
-    Ok(Expr::Sizeof(word.spot(), kind))
+    Ok(kind)
 }
 
 /// "puts" "(" Text ")"
@@ -37,39 +48,60 @@ pub(crate) fn puts<'a>(cursor: &mut Cursor<'_, 'a>, left: u32) -> Result<Expr<'a
     ensures shorter { IfOk result (λ _. Shortens cursor.old cursor.new) }
 {
     let word = cursor.expect(TokenKind::Puts)?;
+    let text = enclosed_text(cursor, left)?;
+    Ok(Expr::Puts(word.spot(), text.token.bytes))
+}
+
+/// "(" Text ")"
+#[tactic(auto, using(crate::proofs::Halting::halting))]
+fn enclosed_text<'a>(cursor: &mut Cursor<'_, 'a>, left: u32) -> Result<Numbered<'a>, SyntaxFault>
+    ensures read { Makes (λ (x : Placed × (Placed × Placed)). x.1.0) seen result cursor.new
+        (read_enclosed_text (inner left) cursor.old) }
+    ensures shorter { IfOk result (λ _. Shortens cursor.old cursor.new) }
+{
     open(cursor, TokenKind::OpenParenthesis, left)?;
     cursor.expect(TokenKind::OpenParenthesis)?;
     let text = cursor.expect(TokenKind::Text)?;
     cursor.expect(TokenKind::CloseParenthesis)?;
-    Ok(Expr::Puts(word.spot(), text.token.bytes))
+    Ok(text)
 }
 
-/// The first operand with its links, if there are any.
-pub(crate) fn chain<'a>(
-    alloc: Global,
-    first: Expr<'a>,
-    links: Vec<Link<'a>>,
-) -> Result<Expr<'a>, AllocError>
-    ensures { IfOk result
-        (λ e. tree_of e ≡ chained (tree_of first.entry) (map link_of links.entry.items)) }
+/// "." Name | "->" Name | "++" | "--"
+#[tactic(auto, using(crate::proofs::Halting::halting))]
+pub(crate) fn mark<'a>(cursor: &mut Cursor<'_, 'a>) -> Result<Suffix<'a>, SyntaxFault>
+    ensures read { Gives suffix_of result cursor.new (read_mark cursor.old) }
+    ensures shorter { IfOk result (λ _. Shortens cursor.old cursor.new) }
 {
-    if links.is_empty() {
-        return Ok(first);
+    if cursor.next_is(TokenKind::Dot) {
+        return dot(cursor);
     }
-    Expr::chain(alloc, first, links)
+    if cursor.next_is(TokenKind::Arrow) {
+        return arrow(cursor);
+    }
+    if let Some(up) = cursor.accept(TokenKind::Increment) {
+        return Ok(Suffix::Up(up.spot()));
+    }
+    Ok(Suffix::Down(cursor.expect(TokenKind::Decrement)?.spot()))
 }
 
-/// A primary expression with its suffixes, if there are any.
-pub(crate) fn suffixed<'a>(
-    alloc: Global,
-    whole: Expr<'a>,
-    suffixes: Vec<Suffix<'a>>,
-) -> Result<Expr<'a>, AllocError>
-    ensures { IfOk result
-        (λ e. tree_of e ≡ suffixed (tree_of whole.entry) (map suffix_of suffixes.entry.items)) }
+/// "." Name
+#[tactic(auto, using(crate::proofs::Halting::halting))]
+fn dot<'a>(cursor: &mut Cursor<'_, 'a>) -> Result<Suffix<'a>, SyntaxFault>
+    ensures read { Gives suffix_of result cursor.new (read_dot cursor.old) }
+    ensures shorter { IfOk result (λ _. Shortens cursor.old cursor.new) }
 {
-    if suffixes.is_empty() {
-        return Ok(whole);
-    }
-    Expr::postfix(alloc, whole, suffixes)
+    let dot = cursor.expect(TokenKind::Dot)?;
+    let member = cursor.expect(TokenKind::Word)?;
+    Ok(Suffix::Dot(dot.spot(), member.name()))
+}
+
+/// "->" Name
+#[tactic(auto, using(crate::proofs::Halting::halting))]
+fn arrow<'a>(cursor: &mut Cursor<'_, 'a>) -> Result<Suffix<'a>, SyntaxFault>
+    ensures read { Gives suffix_of result cursor.new (read_arrow cursor.old) }
+    ensures shorter { IfOk result (λ _. Shortens cursor.old cursor.new) }
+{
+    let arrow = cursor.expect(TokenKind::Arrow)?;
+    let member = cursor.expect(TokenKind::Word)?;
+    Ok(Suffix::Arrow(arrow.spot(), member.name()))
 }

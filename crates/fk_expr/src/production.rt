@@ -5,35 +5,45 @@
 //! code, and no clause says it.
 
 ghost use Rattle.std.specs.Prelude.{◌≤◌, ◌<◌, ◌-◌, ◌^◌, length, map, IfOk};
-ghost use Rattle.fk_syntax.specs.View.{tree_of, suffix_of};
+ghost use Rattle.fk_syntax.specs.View.{tree_of, link_of, suffix_of};
 ghost use Rattle.fk_expr.specs.Reading.{
   inner,
   read_comma,
+  read_comma_links,
   read_assignment,
+  read_assigned,
   read_choice,
+  read_branches,
+  read_otherwise,
   read_joined,
   read_prefix,
   read_cast,
+  read_signed,
   read_postfix,
   read_primary,
+  read_parenthesized,
   read_suffix,
+  read_suffixes,
+  read_index,
+  read_call,
   read_arguments,
 };
-ghost use Rattle.fk_expr.specs.Ahead.{readers, read_links};
+ghost use Rattle.fk_expr.specs.Ahead.{readers, read_link, read_links};
 ghost use Rattle.fk_expr.specs.Grammar.{chained};
-ghost use Rattle.fk_reading.specs.Ahead.{Shortens};
+ghost use Rattle.fk_reading.specs.Ahead.{seen, Shortens};
 ghost use Rattle.fk_reading.specs.Gives.{Gives, Makes};
 
 use crate::level::{open, open_expression, open_prefix};
-use crate::parts::{chain, puts, size_of, suffixed};
+use crate::parts::{mark, puts, size_of};
 use crate::told::{
     assignment_is_next, cast_is_next, expect_assignment, expect_number, expect_operator,
     expect_prefix, expression_is_next, next_looseness, number_is_next, operator_is_next,
     prefix_is_next, suffix_is_next,
 };
 use crate::types::type_name;
+use crate::whole::{with_branches, with_links, with_suffixes, with_value};
 use fk_lex::token::TokenKind;
-use fk_reading::cursor::Cursor;
+use fk_reading::cursor::{Cursor, Numbered};
 use fk_reading::fault::SyntaxFault;
 use fk_syntax::expression::{Expr, Link, Suffix};
 use fk_syntax::sign::Sign;
@@ -55,12 +65,28 @@ pub fn comma<'a>(
     ensures shorter { IfOk result (λ _. Shortens cursor.old cursor.new) }
 {
     let first = assignment(alloc, cursor, left)?;
+    let links = comma_links(alloc, cursor, left);
+    with_links(alloc, first, links)
+}
+
+/// { "," assign }
+#[cycle(expression)]
+#[tactic(auto, using(crate::proofs::Halting::halting))]
+fn comma_links<'a>(
+    alloc: Global,
+    cursor: &mut Cursor<'_, 'a>,
+    left: u32,
+) -> Result<Vec<Link<'a>>, SyntaxFault>
+    ensures read { Gives (λ links. map link_of links.items) result cursor.new
+        (read_comma_links (inner left) cursor.old) }
+    ensures few { IfOk result (λ _. length cursor.new ≤ length cursor.old) }
+{
     let mut links = Vec::new(alloc);
     while let Some(sign) = cursor.accept(TokenKind::Comma) {
         let right = assignment(alloc, cursor, left)?;
         links.push(Link::new(sign.spot(), Sign::Comma, right))?;
     }
-    Ok(chain(alloc, first, links)?)
+    Ok(links)
 }
 
 /// assign = choose [ asign assign ]
@@ -79,10 +105,25 @@ pub fn assignment<'a>(
     if !assignment_is_next(cursor) {
         return Ok(target);
     }
-    let (token, sign) = expect_assignment(cursor)?;
+    let value = assigned(alloc, cursor, left);
+    with_value(alloc, target, value)
+}
+
+/// asign assign
+#[cycle(expression)]
+#[tactic(auto, using(crate::proofs::Halting::halting))]
+fn assigned<'a>(
+    alloc: Global,
+    cursor: &mut Cursor<'_, 'a>,
+    left: u32,
+) -> Result<((Numbered<'a>, Sign), Expr<'a>), SyntaxFault>
+    ensures read { Gives (λ x. ((seen x.0.0, x.0.1), tree_of x.1)) result cursor.new
+        (read_assigned (inner left) cursor.old) }
+    ensures few { IfOk result (λ _. length cursor.new ≤ length cursor.old) }
+{
+    let sign = expect_assignment(cursor)?;
     let inside = open_expression(cursor, left)?;
-    let value = assignment(alloc, cursor, inside)?;
-    Ok(Expr::assign(alloc, token.spot(), sign, target, value)?)
+    Ok((sign, assignment(alloc, cursor, inside)?))
 }
 
 /// choose = binary [ "?" comma ":" choose ]
@@ -101,12 +142,48 @@ fn choice<'a>(
     if !cursor.next_is(TokenKind::Question) {
         return Ok(condition);
     }
+    let branches = branches(alloc, cursor, left);
+    with_branches(alloc, condition, branches)
+}
+
+/// "?" comma ":" choose
+#[cycle(expression)]
+#[tactic(auto, using(crate::proofs::Halting::halting))]
+fn branches<'a>(
+    alloc: Global,
+    cursor: &mut Cursor<'_, 'a>,
+    left: u32,
+) -> Result<(Numbered<'a>, (Expr<'a>, (Numbered<'a>, Expr<'a>))), SyntaxFault>
+    ensures read { Gives (λ x. (seen x.0, (tree_of x.1.0, (seen x.1.1.0, tree_of x.1.1.1))))
+        result cursor.new (read_branches (inner left) cursor.old) }
+    ensures few { IfOk result (λ _. length cursor.new ≤ length cursor.old) }
+{
     let inside = open(cursor, TokenKind::Question, left)?;
     let question = cursor.expect(TokenKind::Question)?;
     let first = comma(alloc, cursor, inside)?;
-    cursor.expect(TokenKind::Colon)?;
-    let second = choice(alloc, cursor, inside)?;
-    Ok(Expr::choose(alloc, question.spot(), condition, first, second)?)
+    match otherwise(alloc, cursor, inside) {
+        Ok(second) => Ok((question, (first, second))),
+        Err(fault) => {
+            drop(first);
+            Err(fault)
+        }
+    }
+}
+
+/// ":" choose
+#[cycle(expression)]
+#[tactic(auto, using(crate::proofs::Halting::halting))]
+fn otherwise<'a>(
+    alloc: Global,
+    cursor: &mut Cursor<'_, 'a>,
+    left: u32,
+) -> Result<(Numbered<'a>, Expr<'a>), SyntaxFault>
+    ensures read { Gives (λ x. (seen x.0, tree_of x.1)) result cursor.new
+        (read_otherwise (readers left) cursor.old) }
+    ensures shorter { IfOk result (λ _. Shortens cursor.old cursor.new) }
+{
+    let colon = cursor.expect(TokenKind::Colon)?;
+    Ok((colon, choice(alloc, cursor, left)?))
 }
 
 /// Operands joined by operators that bind so loosely or tighter, each level grouping to the left.
@@ -148,19 +225,54 @@ fn level<'a>(
         (read_links (inner left) looseness (looseness - 1) cursor.old) }
     ensures fewer { IfOk result (λ _. length cursor.new ≤ length cursor.old) }
 {
+    let links = links(alloc, cursor, left, looseness);
+    with_links(alloc, first, links)
+}
+
+/// Operators that bind just so loosely, each with the operand on its right.
+#[cycle(expression)]
+#[tactic(auto, using(crate::proofs::Halting::halting))]
+fn links<'a>(
+    alloc: Global,
+    cursor: &mut Cursor<'_, 'a>,
+    left: u32,
+    looseness: u32,
+) -> Result<Vec<Link<'a>>, SyntaxFault>
+    requires { (0 < looseness) × (looseness ≤ 10) }
+    ensures read { Gives (λ links. map link_of links.items) result cursor.new
+        (read_links (inner left) looseness (looseness - 1) cursor.old) }
+    ensures few { IfOk result (λ _. length cursor.new ≤ length cursor.old) }
+{
     // Most levels have one operator.
     let mut links = Vec::with_capacity(alloc, 1)?;
     while operator_is_next(cursor, looseness) {
-        let (token, sign) = expect_operator(cursor, looseness)?;
-        let right = joined(alloc, cursor, left, looseness - 1)?;
-        links.push(Link::new(token.spot(), sign, right))?;
+        links.push(link(alloc, cursor, left, looseness)?)?;
     }
-    Ok(chain(alloc, first, links)?)
+    Ok(links)
+}
+
+/// One of them.
+#[cycle(expression)]
+#[tactic(auto, using(crate::proofs::Halting::halting))]
+fn link<'a>(
+    alloc: Global,
+    cursor: &mut Cursor<'_, 'a>,
+    left: u32,
+    looseness: u32,
+) -> Result<Link<'a>, SyntaxFault>
+    requires { (0 < looseness) × (looseness ≤ 10) }
+    ensures read { Gives link_of result cursor.new
+        (read_link (inner left) looseness (looseness - 1) cursor.old) }
+    ensures shorter { IfOk result (λ _. Shortens cursor.old cursor.new) }
+{
+    let (token, sign) = expect_operator(cursor, looseness)?;
+    let right = joined(alloc, cursor, left, looseness - 1)?;
+    Ok(Link::new(token.spot(), sign, right))
 }
 
 /// prefix = sign prefix | "(" type stars ")" prefix | "sizeof" "(" type stars ")" | postfix
 #[cycle(expression)]
-#[tactic(auto, using(crate::proofs::Halting::halting), unfolding(crate::specs::Reading::read_prefix, crate::specs::Reading::read_signed))]
+#[tactic(auto, using(crate::proofs::Halting::halting), unfolding(crate::specs::Reading::read_prefix))]
 fn prefix<'a>(
     alloc: Global,
     cursor: &mut Cursor<'_, 'a>,
@@ -171,10 +283,7 @@ fn prefix<'a>(
     ensures shorter { IfOk result (λ _. Shortens cursor.old cursor.new) }
 {
     if prefix_is_next(cursor) {
-        let inside = open_prefix(cursor, left)?;
-        let (token, sign) = expect_prefix(cursor)?;
-        let operand = prefix(alloc, cursor, inside)?;
-        return Ok(Expr::prefix(alloc, token.spot(), sign, operand)?);
+        return signed(alloc, cursor, left);
     }
     if cast_is_next(cursor) {
         return cast(alloc, cursor, left);
@@ -183,6 +292,24 @@ fn prefix<'a>(
         return size_of(cursor, left);
     }
     postfix(alloc, cursor, left)
+}
+
+/// sign prefix
+#[cycle(expression)]
+#[tactic(auto, using(crate::proofs::Halting::halting), unfolding(crate::specs::Reading::read_signed))]
+fn signed<'a>(
+    alloc: Global,
+    cursor: &mut Cursor<'_, 'a>,
+    left: u32,
+) -> Result<Expr<'a>, SyntaxFault>
+    ensures read { Gives tree_of result cursor.new
+        (read_signed (inner left) cursor.old) }
+    ensures shorter { IfOk result (λ _. Shortens cursor.old cursor.new) }
+{
+    let inside = open_prefix(cursor, left)?;
+    let (token, sign) = expect_prefix(cursor)?;
+    let operand = prefix(alloc, cursor, inside)?;
+    Ok(Expr::prefix(alloc, token.spot(), sign, operand)?)
 }
 
 /// "(" type stars ")" prefix
@@ -214,11 +341,27 @@ fn postfix<'a>(
     ensures shorter { IfOk result (λ _. Shortens cursor.old cursor.new) }
 {
     let whole = primary(alloc, cursor, left)?;
+    let suffixes = suffixes(alloc, cursor, left);
+    with_suffixes(alloc, whole, suffixes)
+}
+
+/// { suffix }
+#[cycle(expression)]
+#[tactic(auto, using(crate::proofs::Halting::halting))]
+fn suffixes<'a>(
+    alloc: Global,
+    cursor: &mut Cursor<'_, 'a>,
+    left: u32,
+) -> Result<Vec<Suffix<'a>>, SyntaxFault>
+    ensures read { Gives (λ suffixes. map suffix_of suffixes.items) result cursor.new
+        (read_suffixes (inner left) cursor.old) }
+    ensures few { IfOk result (λ _. length cursor.new ≤ length cursor.old) }
+{
     let mut suffixes = Vec::new(alloc);
     while suffix_is_next(cursor) {
         suffixes.push(suffix(alloc, cursor, left)?)?;
     }
-    Ok(suffixed(alloc, whole, suffixes)?)
+    Ok(suffixes)
 }
 
 /// primary = Number | Name | "@" | "$" | "(" comma ")" | "puts" "(" Text ")"
@@ -245,9 +388,24 @@ fn primary<'a>(
     if let Some(dollar) = cursor.accept(TokenKind::Dollar) {
         return Ok(Expr::GroupRank(dollar.spot()));
     }
-    if !cursor.next_is(TokenKind::OpenParenthesis) {
-        return puts(cursor, left);
+    if cursor.next_is(TokenKind::OpenParenthesis) {
+        return parenthesized(alloc, cursor, left);
     }
+    puts(cursor, left)
+}
+
+/// "(" comma ")"
+#[cycle(expression)]
+#[tactic(auto, using(crate::proofs::Halting::halting))]
+fn parenthesized<'a>(
+    alloc: Global,
+    cursor: &mut Cursor<'_, 'a>,
+    left: u32,
+) -> Result<Expr<'a>, SyntaxFault>
+    ensures read { Gives tree_of result cursor.new
+        (read_parenthesized (inner left) cursor.old) }
+    ensures shorter { IfOk result (λ _. Shortens cursor.old cursor.new) }
+{
     let inside = open(cursor, TokenKind::OpenParenthesis, left)?;
     cursor.expect(TokenKind::OpenParenthesis)?;
     let value = comma(alloc, cursor, inside)?;
@@ -268,29 +426,48 @@ fn suffix<'a>(
     ensures shorter { IfOk result (λ _. Shortens cursor.old cursor.new) }
 {
     if cursor.next_is(TokenKind::OpenBracket) {
-        let inside = open(cursor, TokenKind::OpenBracket, left)?;
-        let open = cursor.expect(TokenKind::OpenBracket)?;
-        let by = comma(alloc, cursor, inside)?;
-        cursor.expect(TokenKind::CloseBracket)?;
-        return Ok(Suffix::index(open.spot(), by));
+        return index(alloc, cursor, left);
     }
     if cursor.next_is(TokenKind::OpenParenthesis) {
-        let inside = open(cursor, TokenKind::OpenParenthesis, left)?;
-        let open = cursor.expect(TokenKind::OpenParenthesis)?;
-        let arguments = arguments(alloc, cursor, inside)?;
-        cursor.expect(TokenKind::CloseParenthesis)?;
-        return Ok(Suffix::call(open.spot(), arguments));
+        return call(alloc, cursor, left);
     }
-    if let Some(dot) = cursor.accept(TokenKind::Dot) {
-        return Ok(Suffix::Dot(dot.spot(), cursor.expect(TokenKind::Word)?.name()));
-    }
-    if let Some(arrow) = cursor.accept(TokenKind::Arrow) {
-        return Ok(Suffix::Arrow(arrow.spot(), cursor.expect(TokenKind::Word)?.name()));
-    }
-    if let Some(up) = cursor.accept(TokenKind::Increment) {
-        return Ok(Suffix::Up(up.spot()));
-    }
-    Ok(Suffix::Down(cursor.expect(TokenKind::Decrement)?.spot()))
+    mark(cursor)
+}
+
+/// "[" comma "]"
+#[cycle(expression)]
+#[tactic(auto, using(crate::proofs::Halting::halting))]
+fn index<'a>(
+    alloc: Global,
+    cursor: &mut Cursor<'_, 'a>,
+    left: u32,
+) -> Result<Suffix<'a>, SyntaxFault>
+    ensures read { Gives suffix_of result cursor.new (read_index (inner left) cursor.old) }
+    ensures shorter { IfOk result (λ _. Shortens cursor.old cursor.new) }
+{
+    let inside = open(cursor, TokenKind::OpenBracket, left)?;
+    let open = cursor.expect(TokenKind::OpenBracket)?;
+    let by = comma(alloc, cursor, inside)?;
+    cursor.expect(TokenKind::CloseBracket)?;
+    Ok(Suffix::index(open.spot(), by))
+}
+
+/// "(" arguments ")"
+#[cycle(expression)]
+#[tactic(auto, using(crate::proofs::Halting::halting))]
+fn call<'a>(
+    alloc: Global,
+    cursor: &mut Cursor<'_, 'a>,
+    left: u32,
+) -> Result<Suffix<'a>, SyntaxFault>
+    ensures read { Gives suffix_of result cursor.new (read_call (inner left) cursor.old) }
+    ensures shorter { IfOk result (λ _. Shortens cursor.old cursor.new) }
+{
+    let inside = open(cursor, TokenKind::OpenParenthesis, left)?;
+    let open = cursor.expect(TokenKind::OpenParenthesis)?;
+    let arguments = arguments(alloc, cursor, inside)?;
+    cursor.expect(TokenKind::CloseParenthesis)?;
+    Ok(Suffix::call(open.spot(), arguments))
 }
 
 /// [ assign { "," assign } ]
