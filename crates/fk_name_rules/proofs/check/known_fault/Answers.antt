@@ -7,7 +7,7 @@ use Rattle.fk_rules.proofs.LeastLemmas.{IsLeast-either}
 use Rattle.fk_rules.proofs.ToldLemmas.{told_where}
 use Rattle.fk_name_rules.specs.Headers.{HasNoMain}
 use Rattle.fk_name_rules.specs.Found.{ItemBreaks}
-use Rattle.fk_name_rules.proofs.check.functions_fault.Goals as goal
+use Rattle.fk_name_rules.proofs.check.known_fault.Goals as goal
 
 pub returns : goal.returns
 returns c =
