@@ -1,7 +1,7 @@
 use Rattle.std.proofs.Common.{map}
 use Rattle.fk_syntax.specs.ProgramView.{item_of}
 use Rattle.fk_rules.specs.declared.rule.Rule.TheVariants as r
-use Rattle.fk_rules.specs.Least.{IsLeast, among}
+use Rattle.fk_rules.specs.Least.{among}
 use Rattle.fk_rules.specs.Told.{told}
 use Rattle.fk_rules.proofs.LeastLemmas.{IsLeast-either}
 use Rattle.fk_rules.proofs.ToldLemmas.{told_where}
