@@ -1,12 +1,14 @@
 //! The first rule about names that a program breaks.
 
-ghost use Rattle.std.specs.Prelude.{IfOk, map};
+ghost use Rattle.std.specs.Prelude.{◌≡◌, IfOk, map};
 ghost use Rattle.fk_syntax.specs.ProgramView.{item_of, program_of};
 ghost use Rattle.fk_rules.specs.declared.rule.Rule.TheVariants.{NoMain};
 ghost use Rattle.fk_rules.specs.Least.{IsLeast, among, either};
 ghost use Rattle.fk_rules.specs.Told.{told};
 ghost use Rattle.fk_names.specs.Outline.{items_marks};
+ghost use Rattle.fk_names.specs.OutlineView.{marks_in};
 ghost use Rattle.fk_names.specs.View.{mark_of};
+ghost use Rattle.fk_names.specs.Reading.{IsAt, marks_of};
 ghost use Rattle.fk_name_rules.specs.Headers.{HasNoMain};
 ghost use Rattle.fk_name_rules.specs.Found.{MarkBreaks, ItemBreaks};
 ghost use Rattle.fk_name_rules.specs.Known.{AreHeaders};
@@ -19,18 +21,33 @@ use fk_rules::{Fault, Rule, fault_if, first_of};
 use fk_syntax::{Item, Place, Program};
 use std::alloc::{AllocError, Global};
 
-// The first that names break where they are used and where they are declared.
-fn marks_fault(alloc: Global, marks: &[Mark]) -> Result<Option<Fault>, AllocError>
+// The first that names break where they are used and where they are declared, by a reader before the
+// first mark.
+fn fault_from<'m, 'p, 't>(
+    reader: &mut Reader<'m, 'p, 't>,
+    marks: &'m [Mark<'p, 't>],
+) -> Result<Option<Fault>, AllocError>
+    requires here { IsAt reader.old 0 }
+    requires same { marks_of reader.old ≡ map mark_of marks.now }
     ensures { IfOk result (λ fault. IsLeast
         (among (MarkBreaks (map mark_of marks.now)) (map mark_of marks.now)) fault) }
 {
-    let mut reader = Reader::new(alloc, marks)?;
     let mut fault = None;
     for at in 0..marks.len() {
-        fault = first_of(fault, mark_fault(marks, at, &reader));
+        fault = first_of(fault, mark_fault(reader, marks, at));
         reader.pass(at)?;
     }
     Ok(fault)
+}
+
+// The first that the names in an outline break where they are used and where they are declared.
+fn marks_fault(alloc: Global, outline: &Outline) -> Result<Option<Fault>, AllocError>
+    ensures { IfOk result
+        (IsLeast (among (MarkBreaks (marks_in outline.now)) (marks_in outline.now))) }
+{
+    let marks = outline.marks();
+    let mut reader = Reader::new(alloc, marks)?;
+    fault_from(&mut reader, marks)
 }
 
 // The first that headers break.
@@ -51,7 +68,17 @@ fn named_fault(alloc: Global, items: &[Item]) -> Result<Option<Fault>, AllocErro
         (items_marks (map item_of items.now)))) }
 {
     let outline = Outline::of(alloc, items)?;
-    marks_fault(alloc, outline.marks())
+    marks_fault(alloc, &outline)
+}
+
+// The first that the known headers of functions break, where a text ends at a place.
+fn known_fault(items: &[Item], end: Place, headers: &Headers) -> Option<Fault>
+    requires { AreHeaders (map item_of items.now) headers.now }
+    ensures { IsLeast (either (told NoMain end (HasNoMain (map item_of items.now)))
+        (among (ItemBreaks (map item_of items.now)) (map item_of items.now))) result }
+{
+    let main = fault_if(Rule::NoMain, end, Headers::has_no_main(items, headers));
+    first_of(main, headers_fault(items, headers))
 }
 
 // The first that the headers of functions break, where a text ends at a place.
@@ -60,8 +87,7 @@ fn functions_fault(alloc: Global, items: &[Item], end: Place) -> Result<Option<F
         (among (ItemBreaks (map item_of items.now)) (map item_of items.now)))) }
 {
     let headers = Headers::of(alloc, items)?;
-    let main = fault_if(Rule::NoMain, end, Headers::has_no_main(items, &headers));
-    Ok(first_of(main, headers_fault(items, &headers)))
+    Ok(known_fault(items, end, &headers))
 }
 
 /// The first rule about the names of variables and functions that a program breaks, by its place and

@@ -148,13 +148,14 @@ impl<'a> Headers<'a> {
         items: &'i [Item<'t>],
         at: usize,
         function: &'i Function<'t>,
-        headers: &Self,
+        body: Option<usize>,
     ) -> bool
-        requires { AreHeaders (map item_of items.now) headers.now }
+        requires { IsFirstOf (HasBodyAt (map item_of items.now)
+            (function_of function.now).name.bytes) body }
         ensures { IsTrue result
             ↔ RepeatsBody (map item_of items.now) at (function_of function.now) }
     {
-        match headers.bodies.get(function.name.bytes) {
+        match body {
             Some(first) => function.body.is_some() && first < at,
             None => false,
         }
@@ -165,13 +166,16 @@ impl<'a> Headers<'a> {
         items: &'i [Item<'t>],
         at: usize,
         function: &'i Function<'t>,
+        body: Option<usize>,
         headers: &Self,
     ) -> bool
-        requires { AreHeaders (map item_of items.now) headers.now }
+        requires known { AreHeaders (map item_of items.now) headers.now }
+        requires body { IsFirstOf (HasBodyAt (map item_of items.now)
+            (function_of function.now).name.bytes) body }
         ensures { IsTrue result
             ↔ LacksBody (map item_of items.now) at (function_of function.now) }
     {
-        match headers.bodies.get(function.name.bytes) {
+        match body {
             Some(_) => false,
             None => match headers.seconds.get(function.name.bytes) {
                 Some(second) => second == at,
@@ -191,9 +195,10 @@ impl<'a> Headers<'a> {
         ensures { IsTrue result
             ↔ IsWrongHeader (map item_of items.now) at (function_of function.now) }
     {
+        let body = headers.bodies.get(function.name.bytes);
         Self::differs(items, function, headers)
-            || Self::repeats_body(items, at, function, headers)
-            || Self::lacks_body(items, at, function, headers)
+            || Self::repeats_body(items, at, function, body)
+            || Self::lacks_body(items, at, function, body, headers)
     }
 
     /// The first that the item of an index breaks, where it is a header.

@@ -48,10 +48,10 @@ fn is_undeclared(reader: &Reader, name: &[u8]) -> bool
 // Whether a declaration where the reader is has the name of an earlier one of its scope, other than
 // by another header of its function.
 fn is_again<'m, 'p, 't>(
+    reader: &Reader<'m, 'p, 't>,
     marks: &'m [Mark<'p, 't>],
     at: usize,
     declaration: &'m Declaration<'p, 't>,
-    reader: &Reader<'m, 'p, 't>,
 ) -> bool
     requires here { IsAt reader.now at }
     requires same { marks_of reader.now ≡ map mark_of marks.now }
@@ -70,10 +70,10 @@ fn is_again<'m, 'p, 't>(
 // Whether a declaration where the reader is has, at file scope, a name that is declared before each
 // text.
 fn is_taken<'m, 'p, 't>(
+    reader: &Reader<'m, 'p, 't>,
     marks: &'m [Mark<'p, 't>],
     at: usize,
     declaration: &'m Declaration<'p, 't>,
-    reader: &Reader<'m, 'p, 't>,
 ) -> bool
     requires here { IsAt reader.now at }
     requires same { marks_of reader.now ≡ map mark_of marks.now }
@@ -86,10 +86,10 @@ fn is_taken<'m, 'p, 't>(
 
 // Whether a declaration where the reader is has a name that is declared already.
 fn is_twice<'m, 'p, 't>(
+    reader: &Reader<'m, 'p, 't>,
     marks: &'m [Mark<'p, 't>],
     at: usize,
     declaration: &'m Declaration<'p, 't>,
-    reader: &Reader<'m, 'p, 't>,
 ) -> bool
     requires here { IsAt reader.now at }
     requires same { marks_of reader.now ≡ map mark_of marks.now }
@@ -97,14 +97,14 @@ fn is_twice<'m, 'p, 't>(
     ensures { IsTrue result ↔ (IsAgain (map mark_of marks.now) at (declaration_of declaration.now)
         ⊎ IsTaken (map mark_of marks.now) at (declaration_of declaration.now)) }
 {
-    is_again(marks, at, declaration, reader) || is_taken(marks, at, declaration, reader)
+    is_again(reader, marks, at, declaration) || is_taken(reader, marks, at, declaration)
 }
 
 /// What the mark of an index breaks, where the reader is at it.
 pub(crate) fn mark_fault<'m, 'p, 't>(
+    reader: &Reader<'m, 'p, 't>,
     marks: &'m [Mark<'p, 't>],
     at: usize,
-    reader: &Reader<'m, 'p, 't>,
 ) -> Option<Fault>
     requires here { IsAt reader.now at }
     requires same { marks_of reader.now ≡ map mark_of marks.now }
@@ -119,7 +119,7 @@ pub(crate) fn mark_fault<'m, 'p, 't>(
             fault_if(Rule::Undeclared, name.place, broken)
         }
         Mark::Declares(declaration) => {
-            let broken = is_twice(marks, at, declaration, reader);
+            let broken = is_twice(reader, marks, at, declaration);
             fault_if(Rule::DeclaredTwice, name_place(declaration), broken)
         }
     }

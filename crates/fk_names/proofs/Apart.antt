@@ -5,7 +5,7 @@ use Rattle.std.proofs.lemmas.List.{append-nil}
 use Rattle.fk_syntax.specs.declared.nodes.Index.{Index}
 use Rattle.fk_syntax.specs.declared.nodes.Index.TheVariants.{Node, StructName}
 use Rattle.fk_syntax.specs.Tree as t
-use Rattle.fk_syntax.specs.Tree.{Named, BaseType, TypeTree, Tree, Links, Trees, Suffixes}
+use Rattle.fk_syntax.specs.Tree.{Named, Tree, Links, Trees, Suffixes}
 use Rattle.fk_syntax.specs.Program as p
 use Rattle.fk_syntax.specs.Program.{DeclaredTree, Statement, Statements, FunctionTree, ItemTree, ProgramTree}
 use Rattle.fk_syntax.specs.Nodes.{type_indices, tree_indices, links_indices, trees_indices, suffixes_indices, optional_indices, declared_indices, declarations_indices, statement_indices, statements_indices, body_indices, function_indices, item_indices, items_indices}

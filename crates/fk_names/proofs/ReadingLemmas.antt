@@ -150,21 +150,23 @@ module _ (marks : List MarkTree) (at : ℕ) where
   Next i = IsVisible marks i (at + 1)
 
   module _ (file table : List ℕ → Option ℕ) (ls : List Local) where
-    -- nothing is declared
-    pub past_other : ((name : List ℕ) → ¬ DeclaresAt marks name at) → Holds (DeclaresAt marks) (depth marks) Here Here file table ls → Holds (DeclaresAt marks) (depth marks) Past Past file table ls
+    -- nothing is declared in an inner scope
+    pub past_other : ((name : List ℕ) → DeclaresAt marks name at → ¬ (0 < depth marks at)) → Holds (DeclaresAt marks) (depth marks) Here Here file table ls → Holds (DeclaresAt marks) (depth marks) Past Past file table ls
     past_other none h = record {
       shows = h.shows;
       hides = h.hides;
       sound = Each-map (IsLocal (DeclaresAt marks) (depth marks) Here) (IsLocal (DeclaresAt marks) (depth marks) Past) (λ l local. (local.0, inl local.1, local.2)) ls h.sound;
       nest = h.nest;
-      complete = λ name i n past above. elim past [ inl v ↦ h.complete name i n v above | inr e ↦ absurd (none name (subst (DeclaresAt marks name) e n)) ];
+      complete = λ name i n past above. elim past [ inl v ↦ h.complete name i n v above | inr e ↦ absurd (none name (subst (DeclaresAt marks name) e n) (subst (λ k. 0 < depth marks k) e above)) ];
     }
 
     -- a name that its scope declares already
     pub past_again : ((name : List ℕ) → IsOfFile marks name (file name)) → (name : List ℕ) → DeclaresAt marks name at → (o : ℕ) → table name ≡ Some o → depth marks o ≡ depth marks at
-        → Holds (DeclaresAt marks) (depth marks) Here Here file table ls → Holds (DeclaresAt marks) (depth marks) Past Past file table ls
-    past_again first name here o shown same h =
-        Holds-again (DeclaresAt marks) (depth marks) file Here at name here (λ other k. named_once marks at name other here k) table ls first o shown same (λ i v above. v.before above) h
+        → (table' : List ℕ → Option ℕ) → ((other : List ℕ) → table' other ≡ table other)
+        → Holds (DeclaresAt marks) (depth marks) Here Here file table ls → Holds (DeclaresAt marks) (depth marks) Past Past file table' ls
+    past_again first name here o shown same table' kept h =
+        let past = Holds-again (DeclaresAt marks) (depth marks) file Here at name here (λ other k. named_once marks at name other here k) table ls first o shown same (λ i v above. v.before above) h in
+        record { shows = λ other. kept other ∙ past.shows other; hides = past.hides; sound = past.sound; nest = past.nest; complete = past.complete }
 
     -- a name that it has not declared yet
     pub past_new : ((name : List ℕ) → IsOfFile marks name (file name)) → (name : List ℕ) → DeclaresAt marks name at → (table' : List ℕ → Option ℕ) (x : Local) → x.name.now ≡ name → x.mark ≡ at → x.hides ≡ table name

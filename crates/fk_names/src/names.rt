@@ -1,15 +1,17 @@
 //! What names mean.
 
-ghost use Rattle.std.specs.Prelude.{◌≡◌, ℕ, ◌+◌, ◌<◌, Some, IfOk, MatchOption, map, length, IsTrue, ◌↔◌, Contains, slice_get};
+ghost use Rattle.std.specs.Prelude.{◌≡◌, ℕ, ◌+◌, ◌<◌, Some, IfOk, OnOk, MatchOption, map, length, IsTrue, ◌↔◌, Contains, slice_get};
+ghost use Rattle.fk_syntax.specs.Program.{ProgramTree};
 ghost use Rattle.fk_syntax.specs.ProgramView.{program_of};
 ghost use Rattle.fk_syntax.specs.WellFormed.{IsWellFormed};
 ghost use Rattle.fk_names.specs.Names.{AreNames};
-ghost use Rattle.fk_names.specs.Outline.{DeclarationTree, Declares};
+ghost use Rattle.fk_names.specs.Outline.{DeclarationTree, Declares, items_marks};
+ghost use Rattle.fk_names.specs.OutlineView.{marks_in};
 ghost use Rattle.fk_names.specs.View.{mark_of};
 ghost use Rattle.fk_names.specs.Visible.{IsHidden, IsInnermost};
 ghost use Rattle.fk_names.specs.Means.{predeclared, StandsFor, MeansAt};
 ghost use Rattle.fk_names.specs.Filling.{AreApart, AreFound, IsSurvey};
-ghost use Rattle.fk_names.specs.Reading.{IsAt};
+ghost use Rattle.fk_names.specs.Reading.{IsAt, marks_of};
 
 use crate::outline::{Declaration, Mark, Outline};
 use crate::reader::Reader;
@@ -83,34 +85,34 @@ impl<'a> Survey<'a> {
     }
 
     // The mark that a name stands for whose innermost declaration has this mark.
-    fn meant(&self, marks: &[Mark], at: usize, name: &[u8]) -> usize
-        requires known { IsSurvey (map mark_of marks.now) self.now }
-        requires within { at < length marks.now }
-        ensures within { result < length marks.now }
+    fn meant(reader: &Reader, at: usize, name: &[u8], survey: &Self) -> usize
+        requires known { IsSurvey (marks_of reader.now) survey.now }
+        requires within { at < length (marks_of reader.now) }
+        ensures within { result < length (marks_of reader.now) }
         ensures stands { (d : DeclarationTree)
-            → slice_get (map mark_of marks.now) at ≡ Some (Declares d)
-            → StandsFor (map mark_of marks.now) name.now at d result }
+            → slice_get (marks_of reader.now) at ≡ Some (Declares d)
+            → StandsFor (marks_of reader.now) name.now at d result }
     {
-        if !marks[at].is_header() {
+        if !reader.mark(at).is_header() {
             return at;
         }
-        match self.definitions.get(name) {
+        match survey.definitions.get(name) {
             Some(definition) => definition,
             None => at,
         }
     }
 
     // What a name means whose innermost declaration has this mark.
-    fn meaning(&self, marks: &[Mark], innermost: Option<usize>, name: &[u8]) -> Meaning
-        requires known { IsSurvey (map mark_of marks.now) self.now }
-        requires within { (o : ℕ) → innermost ≡ Some o → o < length marks.now }
+    fn meaning(reader: &Reader, innermost: Option<usize>, name: &[u8], survey: &Self) -> Meaning
+        requires known { IsSurvey (marks_of reader.now) survey.now }
+        requires within { (o : ℕ) → innermost ≡ Some o → o < length (marks_of reader.now) }
         ensures { (from : ℕ) → MatchOption innermost
-            (IsHidden (map mark_of marks.now) name.now from)
-            (IsInnermost (map mark_of marks.now) name.now from)
-            → MeansAt (map mark_of marks.now) name.now from result }
+            (IsHidden (marks_of reader.now) name.now from)
+            (IsInnermost (marks_of reader.now) name.now from)
+            → MeansAt (marks_of reader.now) name.now from result }
     {
         match innermost {
-            Some(at) => Meaning::Declared(self.numbers[self.meant(marks, at, name)]),
+            Some(at) => Meaning::Declared(survey.numbers[Self::meant(reader, at, name, survey)]),
             None if is_predeclared(name) => Meaning::Predeclared,
             None => Meaning::Undeclared,
         }
@@ -118,25 +120,56 @@ impl<'a> Survey<'a> {
 }
 
 // Finds what the mark of an index means, where it is a name in an expression.
-fn find_at(
-    meanings: &mut [Option<Meaning>],
-    survey: &Survey,
-    reader: &Reader,
-    marks: &[Mark],
-    at: usize,
-)
-    requires known { IsSurvey (map mark_of marks.now) survey.now }
+fn find_at(reader: &Reader, at: usize, survey: &Survey, meanings: &mut [Option<Meaning>])
     requires here { IsAt reader.now at }
-    requires same { reader.now.marks.now ≡ marks.now }
-    requires within { at < length marks.now }
-    requires apart { AreApart (map mark_of marks.now) (length meanings.old) }
-    requires before { AreFound (map mark_of marks.now) (length meanings.old) meanings.old at }
-    ensures { AreFound (map mark_of marks.now) (length meanings.old) meanings.new (at + 1) }
+    requires within { at < length (marks_of reader.now) }
+    requires known { IsSurvey (marks_of reader.now) survey.now }
+    requires apart { AreApart (marks_of reader.now) (length meanings.old) }
+    requires before { AreFound (marks_of reader.now) (length meanings.old) meanings.old at }
+    ensures { AreFound (marks_of reader.now) (length meanings.old) meanings.new (at + 1) }
 {
-    if let Mark::Uses(name) = &marks[at] {
+    if let Mark::Uses(name) = reader.mark(at) {
         let innermost = reader.innermost(name.bytes);
-        meanings[name.at as usize] = Some(survey.meaning(marks, innermost, name.bytes));
+        let meaning = Survey::meaning(reader, innermost, name.bytes, survey);
+        meanings[name.at as usize] = Some(meaning);
     }
+}
+
+// Finds what each name in an expression means, by a reader before the first mark.
+fn find_from(
+    reader: &mut Reader,
+    survey: &Survey,
+    meanings: &mut [Option<Meaning>],
+) -> Result<(), AllocError>
+    requires here { IsAt reader.old 0 }
+    requires known { IsSurvey (marks_of reader.old) survey.now }
+    requires apart { AreApart (marks_of reader.old) (length meanings.old) }
+    requires before { AreFound (marks_of reader.old) (length meanings.old) meanings.old 0 }
+    ensures { OnOk result (AreFound (marks_of reader.old) (length meanings.old) meanings.new
+        (length (marks_of reader.old))) }
+{
+    for at in 0..reader.end() {
+        find_at(reader, at, survey, meanings);
+        reader.pass(at)?;
+    }
+    Ok(())
+}
+
+// Finds what each name in an expression means.
+fn find_all(
+    alloc: Global,
+    marks: &[Mark],
+    survey: &Survey,
+    meanings: &mut [Option<Meaning>],
+) -> Result<(), AllocError>
+    requires known { IsSurvey (map mark_of marks.now) survey.now }
+    requires apart { AreApart (map mark_of marks.now) (length meanings.old) }
+    requires before { AreFound (map mark_of marks.now) (length meanings.old) meanings.old 0 }
+    ensures { OnOk result (AreFound (map mark_of marks.now) (length meanings.old) meanings.new
+        (length (map mark_of marks.now))) }
+{
+    let mut reader = Reader::new(alloc, marks)?;
+    find_from(&mut reader, survey, meanings)
 }
 
 // What each name in an expression means, by the index of its token.
@@ -146,13 +179,26 @@ fn meanings(alloc: Global, marks: &[Mark], tokens: u32) -> Result<Vec<Option<Mea
         (λ found. AreFound (map mark_of marks.now) tokens found.items (length marks.now)) }
 {
     let survey = Survey::of(alloc, marks)?;
-    let mut reader = Reader::new(alloc, marks)?;
     let mut meanings = vec![in alloc; None; tokens as usize]?;
-    for at in 0..marks.len() {
-        find_at(&mut meanings, &survey, &reader, marks, at);
-        reader.pass(at)?;
-    }
+    find_all(alloc, marks, &survey, &mut meanings)?;
     Ok(meanings)
+}
+
+// The names of the program that has this outline, and so many tokens.
+fn names_of<'p, 'a>(
+    alloc: Global,
+    outline: &Outline<'p, 'a>,
+    tokens: u32,
+) -> Result<Names<'p, 'a>, AllocError>
+    requires { AreApart (marks_in outline.now) tokens }
+    ensures { (program : ProgramTree) → IsWellFormed program → program.tokens ≡ tokens
+        → marks_in outline.now ≡ items_marks program.items → IfOk result (AreNames program) }
+{
+    let marks = outline.marks();
+    Ok(Names {
+        declarations: declarations(alloc, marks)?,
+        meanings: meanings(alloc, marks, tokens)?,
+    })
 }
 
 /// The declarations of a program, and what each name in its expressions means, in linear time.
@@ -162,9 +208,5 @@ pub fn resolve<'p, 'a>(alloc: Global, program: &'p Program<'a>) -> Result<Names<
     ensures { IfOk result (AreNames (program_of program.now)) }
 {
     let outline = Outline::of(alloc, &program.items)?;
-    let marks = outline.marks();
-    Ok(Names {
-        declarations: declarations(alloc, marks)?,
-        meanings: meanings(alloc, marks, program.tokens)?,
-    })
+    names_of(alloc, &outline, program.tokens)
 }

@@ -113,7 +113,7 @@ impl<'p, 'a> Outline<'p, 'a> {
     }
 
     #[cycle(expression)]
-    fn add_expression(expression: &Expr<'a>, kept: &mut Self) -> Result<(), AllocError>
+    fn add_expression(expression: &'p Expr<'a>, kept: &mut Self) -> Result<(), AllocError>
         ensures { OnOk result (marks_in kept.new ≡ marks_in kept.old ++ tree_marks (tree_of expression.now)) }
     {
         match expression {
@@ -147,7 +147,7 @@ impl<'p, 'a> Outline<'p, 'a> {
     }
 
     #[cycle(expression)]
-    fn add_links(links: &[Link<'a>], kept: &mut Self) -> Result<(), AllocError>
+    fn add_links(links: &'p [Link<'a>], kept: &mut Self) -> Result<(), AllocError>
         ensures { OnOk result (marks_in kept.new
             ≡ marks_in kept.old ++ links_marks (links_of (map link_of links.now))) }
     {
@@ -158,7 +158,7 @@ impl<'p, 'a> Outline<'p, 'a> {
     }
 
     #[cycle(expression)]
-    fn add_suffixes(suffixes: &[Suffix<'a>], kept: &mut Self) -> Result<(), AllocError>
+    fn add_suffixes(suffixes: &'p [Suffix<'a>], kept: &mut Self) -> Result<(), AllocError>
         ensures { OnOk result (marks_in kept.new
             ≡ marks_in kept.old ++ suffixes_marks (suffixes_of (map suffix_of suffixes.now))) }
     {
@@ -173,7 +173,7 @@ impl<'p, 'a> Outline<'p, 'a> {
     }
 
     #[cycle(expression)]
-    fn add_expressions(expressions: &[Expr<'a>], kept: &mut Self) -> Result<(), AllocError>
+    fn add_expressions(expressions: &'p [Expr<'a>], kept: &mut Self) -> Result<(), AllocError>
         ensures { OnOk result (marks_in kept.new
             ≡ marks_in kept.old ++ trees_marks (trees_of (map tree_of expressions.now))) }
     {
@@ -183,7 +183,7 @@ impl<'p, 'a> Outline<'p, 'a> {
         Ok(())
     }
 
-    fn add_optional(expression: &Option<Expr<'a>>, kept: &mut Self) -> Result<(), AllocError>
+    fn add_optional(expression: &'p Option<Expr<'a>>, kept: &mut Self) -> Result<(), AllocError>
         ensures { OnOk result (marks_in kept.new
             ≡ marks_in kept.old ++ optional_marks (option_map tree_of expression.now)) }
     {
@@ -213,9 +213,9 @@ impl<'p, 'a> Outline<'p, 'a> {
 
     // The three expressions of a `for`.
     fn add_head(
-        before: &Option<Expr<'a>>,
-        condition: &Option<Expr<'a>>,
-        after: &Option<Expr<'a>>,
+        before: &'p Option<Expr<'a>>,
+        condition: &'p Option<Expr<'a>>,
+        after: &'p Option<Expr<'a>>,
         kept: &mut Self,
     ) -> Result<(), AllocError>
         ensures { OnOk result (marks_in kept.new ≡ marks_in kept.old
@@ -230,9 +230,9 @@ impl<'p, 'a> Outline<'p, 'a> {
 
     // The three expressions of a `fork`.
     fn add_parts(
-        parts: &Expr<'a>,
-        part: &Expr<'a>,
-        rank: &Option<Expr<'a>>,
+        parts: &'p Expr<'a>,
+        part: &'p Expr<'a>,
+        rank: &'p Option<Expr<'a>>,
         kept: &mut Self,
     ) -> Result<(), AllocError>
         ensures { OnOk result (marks_in kept.new ≡ marks_in kept.old
@@ -279,7 +279,7 @@ impl<'p, 'a> Outline<'p, 'a> {
     #[cycle(statement)]
     fn add_while(
         body: &'p Stmt<'a>,
-        condition: &Expr<'a>,
+        condition: &'p Expr<'a>,
         kept: &mut Self,
     ) -> Result<(), AllocError>
         ensures { OnOk result (marks_in kept.new ≡ marks_in kept.old
@@ -294,7 +294,7 @@ impl<'p, 'a> Outline<'p, 'a> {
     #[cycle(statement)]
     fn add_do_while(
         body: &'p Stmt<'a>,
-        condition: &Expr<'a>,
+        condition: &'p Expr<'a>,
         kept: &mut Self,
     ) -> Result<(), AllocError>
         ensures { OnOk result (marks_in kept.new ≡ marks_in kept.old
@@ -309,9 +309,9 @@ impl<'p, 'a> Outline<'p, 'a> {
     #[cycle(statement)]
     fn add_for(
         body: &'p Stmt<'a>,
-        before: &Option<Expr<'a>>,
-        condition: &Option<Expr<'a>>,
-        after: &Option<Expr<'a>>,
+        before: &'p Option<Expr<'a>>,
+        condition: &'p Option<Expr<'a>>,
+        after: &'p Option<Expr<'a>>,
         kept: &mut Self,
     ) -> Result<(), AllocError>
         ensures { OnOk result (marks_in kept.new ≡ marks_in kept.old
@@ -328,7 +328,7 @@ impl<'p, 'a> Outline<'p, 'a> {
     #[cycle(statement)]
     fn add_start(
         body: &'p Stmt<'a>,
-        count: &Option<Expr<'a>>,
+        count: &'p Option<Expr<'a>>,
         kept: &mut Self,
     ) -> Result<(), AllocError>
         ensures { OnOk result (marks_in kept.new ≡ marks_in kept.old
@@ -343,9 +343,9 @@ impl<'p, 'a> Outline<'p, 'a> {
     #[cycle(statement)]
     fn add_fork(
         body: &'p Stmt<'a>,
-        parts: &Expr<'a>,
-        part: &Expr<'a>,
-        rank: &Option<Expr<'a>>,
+        parts: &'p Expr<'a>,
+        part: &'p Expr<'a>,
+        rank: &'p Option<Expr<'a>>,
         kept: &mut Self,
     ) -> Result<(), AllocError>
         ensures { OnOk result (marks_in kept.new ≡ marks_in kept.old

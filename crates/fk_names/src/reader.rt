@@ -1,7 +1,8 @@
 //! What is visible while a text is read.
 
-ghost use Rattle.std.specs.Prelude.{◌≡◌, ◌≢◌, ◌+◌, ◌<◌, ◌≤◌, ◌++◌, ◌∷◌, [], ℕ, IfOk, OnOk, IsNone, IfSome, MatchOption, length, List, Some, false, IsTrue, slice_index};
-ghost use Rattle.fk_names.specs.Visible.{IsHidden, IsInnermost, IsVisible, depth};
+ghost use Rattle.std.specs.Prelude.{◌≡◌, ◌≢◌, ◌+◌, ◌<◌, ◌≤◌, ◌++◌, ◌∷◌, [], ℕ, IfOk, OnOk, IsNone, IfSome, MatchOption, length, List, Some, false, IsTrue, slice_get, slice_index};
+ghost use Rattle.fk_names.specs.View.{mark_of};
+ghost use Rattle.fk_names.specs.Visible.{DeclaresAt, IsHidden, IsInnermost, IsVisible, depth};
 ghost use Rattle.fk_names.specs.Reading.{IsAt, IsPast, marks_of};
 ghost use Rattle.fk_names.specs.Locals.{Each};
 ghost use Rattle.fk_names.specs.declared.reader.Local.{Local};
@@ -49,6 +50,21 @@ impl<'m, 'p, 'a> Reader<'m, 'p, 'a> {
         })
     }
 
+    /// The index behind the last mark.
+    pub(crate) fn end(&self) -> usize
+        ensures { result ≡ length (marks_of self.now) }
+    {
+        self.marks.len()
+    }
+
+    /// The mark of an index.
+    pub(crate) fn mark(&self, at: usize) -> &'m Mark<'p, 'a>
+        requires { at < length (marks_of self.now) }
+        ensures { slice_get (marks_of self.now) at ≡ Some (mark_of result.now) }
+    {
+        &self.marks[at]
+    }
+
     /// The mark of the innermost declaration of a name.
     pub fn innermost(&self, name: &[u8]) -> Option<usize>
         ensures { (at : ℕ) → IsAt self.now at → MatchOption result
@@ -93,7 +109,7 @@ impl<'m, 'p, 'a> Reader<'m, 'p, 'a> {
         }
     }
 
-    // Takes note of what is declared at an index. The first declaration of a scope counts.
+    // Takes note of what is declared at an index. What is of file scope is known from the start.
     fn declare(&mut self, at: usize) -> Result<(), AllocError>
         requires within { at < length self.old.marks.now }
         requires here { IsAt self.old at }
@@ -103,9 +119,23 @@ impl<'m, 'p, 'a> Reader<'m, 'p, 'a> {
         let Mark::Declares(declaration) = &self.marks[at] else {
             return Ok(());
         };
+        if self.depths[at] == 0 {
+            return Ok(());
+        }
         let name = declaration.name();
-        let hides = self.visible.get(name);
+        self.declare_inside(name, at)
+    }
+
+    // Takes note of a name that an inner scope declares at an index. Its first declaration counts.
+    fn declare_inside(&mut self, name: &'a [u8], at: usize) -> Result<(), AllocError>
+        requires named { DeclaresAt (marks_of self.old) name.now at }
+        requires here { IsAt self.old at }
+        ensures past { OnOk result (IsPast self.new at) }
+        ensures same { self.new.marks.now ≡ self.old.marks.now }
+    {
+        let hides = self.visible.replace(name, at)?;
         if self.is_of_scope(hides, at) {
+            self.visible.set(name, hides)?;
             return Ok(());
         }
         let local = Local {
@@ -114,7 +144,6 @@ impl<'m, 'p, 'a> Reader<'m, 'p, 'a> {
             hides,
         };
         self.locals.push(local)?;
-        self.visible.set(name, Some(at))?;
         Ok(())
     }
 

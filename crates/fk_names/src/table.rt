@@ -1,6 +1,6 @@
 //! A mark for each name.
 
-ghost use Rattle.std.specs.Prelude.{◌≡◌, ◌≢◌, ℕ, List, Option, Some, None, OnOk, IsNone, IfSome};
+ghost use Rattle.std.specs.Prelude.{◌≡◌, ◌≢◌, ℕ, List, Option, Some, None, OnOk, IfOk, IsNone, IfSome};
 
 use indexmap::IndexMap;
 use std::alloc::{AllocError, Global};
@@ -30,6 +30,20 @@ impl<'a> Table<'a> {
         self.marks.get(name).copied()
     }
 
+    /// Gives a name another mark, and returns the one that it had. Fails only for want of memory.
+    pub(crate) fn replace(
+        &mut self,
+        name: &'a [u8],
+        mark: usize,
+    ) -> Result<Option<usize>, AllocError>
+        ensures old { IfOk result (λ old. old ≡ shown self.old name.now) }
+        ensures same { OnOk result (shown self.new name.now ≡ Some mark) }
+        ensures others { OnOk result
+            ((other : List ℕ) → other ≢ name.now → shown self.new other ≡ shown self.old other) }
+    {
+        Ok(self.marks.insert(name, mark)?)
+    }
+
     /// Gives a name another mark, or none. Fails only for want of memory.
     pub fn set(&mut self, name: &'a [u8], mark: Option<usize>) -> Result<(), AllocError>
         ensures same { OnOk result (shown self.new name.now ≡ mark) }
@@ -38,7 +52,7 @@ impl<'a> Table<'a> {
     {
         match mark {
             Some(mark) => {
-                self.marks.insert(name, mark)?;
+                self.replace(name, mark)?;
             }
             None => {
                 self.marks.swap_remove(name);
@@ -57,9 +71,12 @@ impl<'a> Table<'a> {
         let Some(name) = name else {
             return Ok(());
         };
-        match self.get(name) {
-            Some(_) => Ok(()),
-            None => self.set(name, Some(mark)),
+        match self.replace(name, mark)? {
+            Some(first) => {
+                self.replace(name, first)?;
+                Ok(())
+            }
+            None => Ok(()),
         }
     }
 }

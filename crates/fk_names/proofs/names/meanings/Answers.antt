@@ -1,28 +1,30 @@
-use Rattle.std.proofs.Common.{◌≡◌, ◌+◌, inl, inr, length, map, sym, subst, ap, ◌∙◌, arith}
+use Rattle.std.proofs.Common.{inl, inr, length, map, sym, subst, ap, ◌∙◌}
+use Rattle.std.proofs.lemmas.List.{length-map}
 use Rattle.fk_names.specs.View.{mark_of}
-use Rattle.fk_names.specs.Filling.{AreFound}
+use Rattle.fk_names.specs.Filling.{AreApart, AreFound}
 use Rattle.fk_names.proofs.FindLemmas.{found_none, none_or, written}
 use Rattle.fk_names.proofs.names.meanings.Goals as goal
 
-pub loop-at-init : goal.loop-at-init
-loop-at-init c = record {
-  here = c.in_ok-reader.ensures.start;
-  same = c.in_ok-reader.ensures.marks;
-  found = found_none (map mark_of c.args.marks.now) c.args.tokens c.in_ok-meanings.meanings.items (c.in_ok-meanings.ensures.items_if_clones_equal (λ y h. elim (none_or y) [ inl e ↦ e | inr s ↦ absurd (rw s.1 at h) ]));
-}
-
-pub loop-at-preserved : goal.loop-at-preserved
-loop-at-preserved c =
+pub find_all-requires : goal.find_all-requires
+find_all-requires c =
     let marks = map mark_of c.args.marks.now in
-    let next = c.loop-at.at + 1 in
-    let items = ap length c.deref_mut.ensures.value in
-    let new = c.find_at.new.meanings in
+    let items = c.in_ok-meanings.meanings.items in
+    let value = c.deref_mut.ensures.value in
+    let start = found_none marks c.args.tokens items (c.in_ok-meanings.ensures.items_if_clones_equal (λ y h. elim (none_or y) [ inl e ↦ e | inr s ↦ absurd (rw s.1 at h) ])) in
     record {
-      here = c.in_ok-pass.ensures.next;
-      same = c.in_ok-pass.ensures.same ∙ c.loop-at.invariant.same;
-      found = subst (λ xs. AreFound marks c.args.tokens xs next) (sym (written c.loop-at.meanings.len new c.loop-at.meanings.items (sym c.loop-at.meanings.ok.0) (c.find_at.ensures.size ∙ items)))
-          (subst (λ n. AreFound marks n new next) (items ∙ c.loop-at.invariant.found.size) c.find_at.ensures);
+      known = c.in_ok-survey.ensures;
+      apart = subst (λ n. AreApart marks n) (sym (ap length value ∙ start.size)) c.requires;
+      before = subst (λ xs. AreFound marks (length xs) xs 0) (sym value) (subst (λ n. AreFound marks n items 0) (sym start.size) start);
     }
 
 pub returns : goal.returns
-returns c = let e : c.loop-at.at ≡ length c.args.marks.now = omega arith in subst (λ n. AreFound (map mark_of c.args.marks.now) c.args.tokens c.loop-at.meanings.items n) e c.loop-at.invariant.found
+returns c =
+    let marks = map mark_of c.args.marks.now in
+    let all = c.in_ok-meanings.meanings in
+    let new = c.find_all.new.meanings in
+    let items = ap length c.deref_mut.ensures.value in
+    let start = found_none marks c.args.tokens all.items (c.in_ok-meanings.ensures.items_if_clones_equal (λ y h. elim (none_or y) [ inl e ↦ e | inr s ↦ absurd (rw s.1 at h) ])) in
+    let found = c.in_ok-find_all.ensures in
+    subst (λ xs. AreFound marks c.args.tokens xs (length c.args.marks.now)) (sym (written all.len new all.items (sym all.ok.0) (found.size ∙ items)))
+    (subst (λ k. AreFound marks c.args.tokens new k) (length-map c.args.marks.now mark_of)
+    (subst (λ n. AreFound marks n new (length marks)) (items ∙ start.size) found))

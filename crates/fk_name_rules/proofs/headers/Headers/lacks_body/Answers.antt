@@ -13,6 +13,6 @@ returns-in-Some-get c =
     let name = function.name.bytes in
     let second = c.in-Some-get.second in
     let test = Decides-eqb second c.args.at in
-    let none = subst (IsFirstOf (HasBodyAt items name)) (sym c.in-None.ensures) (c.requires.bodies name) in
-    let is = subst (IsFirstOf (HasLaterAt items name)) (sym c.in-Some-get.ensures) (c.requires.seconds name) in
+    let none = subst (IsFirstOf (HasBodyAt items name)) c.in-None.is c.requires.body in
+    let is = subst (IsFirstOf (HasLaterAt items name)) (sym c.in-Some-get.ensures) (c.requires.known.seconds name) in
     (λ e. lacks_second items function c.args.at second none is (test.0 e), λ h. test.1 (second_lacks items function c.args.at second is h))

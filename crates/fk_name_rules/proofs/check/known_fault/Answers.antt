@@ -1,13 +1,13 @@
 use Rattle.std.proofs.Common.{map}
 use Rattle.fk_syntax.specs.ProgramView.{item_of}
 use Rattle.fk_rules.specs.declared.rule.Rule.TheVariants as r
-use Rattle.fk_rules.specs.Least.{IsLeast, among}
+use Rattle.fk_rules.specs.Least.{among}
 use Rattle.fk_rules.specs.Told.{told}
 use Rattle.fk_rules.proofs.LeastLemmas.{IsLeast-either}
 use Rattle.fk_rules.proofs.ToldLemmas.{told_where}
 use Rattle.fk_name_rules.specs.Headers.{HasNoMain}
 use Rattle.fk_name_rules.specs.Found.{ItemBreaks}
-use Rattle.fk_name_rules.proofs.check.functions_fault.Goals as goal
+use Rattle.fk_name_rules.proofs.check.known_fault.Goals as goal
 
 pub returns : goal.returns
 returns c =

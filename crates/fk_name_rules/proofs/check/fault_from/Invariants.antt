@@ -4,7 +4,7 @@ use Rattle.fk_rules.specs.Least.{IsLeast, among_first}
 use Rattle.fk_names.specs.View.{mark_of}
 use Rattle.fk_names.specs.Reading.{IsAt, marks_of}
 use Rattle.fk_name_rules.specs.Found.{MarkBreaks}
-use Rattle.fk_name_rules.proofs.check.marks_fault.Given as goal
+use Rattle.fk_name_rules.proofs.check.fault_from.Given as goal
 
 abbrev pub invariant-loop-at : goal.invariant-loop-at
 invariant-loop-at l = record {
