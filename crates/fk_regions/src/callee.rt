@@ -1,6 +1,6 @@
 //! What a name calls.
 
-ghost use Rattle.std.specs.Prelude.{◌≡◌, map, slice_get};
+ghost use Rattle.std.specs.Prelude.{◌≡◌, map, option_and_then, slice_get};
 ghost use Rattle.fk_names.specs.View.{declaration_of};
 ghost use Rattle.fk_regions.specs.Called.{callee_of, callee_in};
 
@@ -17,22 +17,29 @@ pub enum Callee {
 }
 
 // What the declaration of a number is called as.
-fn declared_callee(declarations: &[Declaration], number: u32) -> Option<Callee>
+fn declared_callee<'p, 'a>(declarations: &[Declaration<'p, 'a>], number: u32) -> Option<Callee>
     ensures { result ≡ callee_of (slice_get (map declaration_of declarations.now) number) }
 {
-    match declarations.get(number as usize)? {
-        Declaration::Function(function) => Some(Callee::Function(function.mode)),
-        Declaration::Variable(_) => None,
+    match declarations.get(number as usize) {
+        Some(Declaration::Function(function)) => Some(Callee::Function(function.mode)),
+        Some(Declaration::Variable(_)) | None => None,
     }
 }
 
+// What the token of an index means, where it is a name in an expression.
+fn meaning_at(meanings: &[Option<Meaning>], token: u32) -> Option<Meaning>
+    ensures { result ≡ option_and_then (λ m. m) (slice_get meanings.now token) }
+{
+    meanings.get(token as usize).copied().flatten()
+}
+
 /// What the token of an index calls, where it is a name in an expression.
-pub(crate) fn called_by(names: &Names, token: u32) -> Option<Callee>
+pub(crate) fn called_by<'p, 'a>(names: &Names<'p, 'a>, token: u32) -> Option<Callee>
     ensures { result ≡ callee_in names.now token }
 {
-    match names.meanings.get(token as usize).copied().flatten()? {
-        Meaning::Declared(number) => declared_callee(&names.declarations, number),
-        Meaning::Predeclared => Some(Callee::Predeclared),
-        Meaning::Undeclared => None,
+    match meaning_at(&names.meanings, token) {
+        Some(Meaning::Declared(number)) => declared_callee(&names.declarations, number),
+        Some(Meaning::Predeclared) => Some(Callee::Predeclared),
+        Some(Meaning::Undeclared) | None => None,
     }
 }

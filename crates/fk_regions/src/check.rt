@@ -19,7 +19,7 @@ use fk_syntax::{CheckFault, Facts, Program};
 use std::alloc::Global;
 
 // The first rule that one of the tokens breaks.
-fn first_fault(names: &Names, tokens: &[Token]) -> Option<Fault>
+fn first_fault<'p, 'a>(names: &Names<'p, 'a>, tokens: &[Token]) -> Option<Fault>
     ensures { IsLeast (among (TokenBreaks names.now) tokens.now) result }
 {
     let mut fault = None;
@@ -36,10 +36,10 @@ fn first_fault(names: &Names, tokens: &[Token]) -> Option<Fault>
 ///
 /// The first rule on regions that the program breaks, by its place and then by its number; or want
 /// of memory. The facts are then as they were.
-pub fn regions_by(
+pub fn regions_by<'p, 'a>(
     alloc: Global,
-    program: &Program,
-    names: &Names,
+    program: &'p Program<'a>,
+    names: &Names<'p, 'a>,
     facts: &mut Facts,
 ) -> Result<(), CheckFault>
     requires { AreNames (program_of program.now) names.now }

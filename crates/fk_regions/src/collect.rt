@@ -74,8 +74,7 @@ impl Tokens {
                 kept.add(around, spot_of(name), Word::Name(spelling_of(name.bytes)))
             }
             Expr::Prefix(spot, _, operand) | Expr::Cast(spot, _, operand) => {
-                kept.add_other(around, *spot)?;
-                Self::add_expression(operand, around, kept)
+                Self::add_operand(operand, around, *spot, kept)
             }
             Expr::Chain(first, links) => {
                 Self::add_expression(first, around, kept)?;
@@ -86,17 +85,66 @@ impl Tokens {
                 Self::add_suffixes(suffixes, around, kept)
             }
             Expr::Assign(spot, _, target, value) => {
-                kept.add_other(around, *spot)?;
-                Self::add_expression(target, around, kept)?;
-                Self::add_expression(value, around, kept)
+                Self::add_assigned(target, value, around, *spot, kept)
             }
             Expr::Choose(spot, condition, first, second) => {
-                kept.add(around, *spot, Word::Branching)?;
-                Self::add_expression(condition, around, kept)?;
-                Self::add_expression(first, around, kept)?;
-                Self::add_expression(second, around, kept)
+                Self::add_choice(condition, first, second, around, *spot, kept)
             }
         }
+    }
+
+    // A sign or a cast, and its operand.
+    #[cycle(expression)]
+    fn add_operand(
+        operand: &Expr,
+        around: Around,
+        spot: Spot,
+        kept: &mut Self,
+    ) -> Result<(), AllocError>
+        ensures { OnOk result (seen_in kept.new ≡ seen_in kept.old
+            ++ (other around spot ∷ tree_tokens around (tree_of operand.now))) }
+    {
+        kept.add_other(around, spot)?;
+        Self::add_expression(operand, around, kept)
+    }
+
+    // The sign and the two sides of an assignment.
+    #[cycle(expression)]
+    fn add_assigned<'e, 'a>(
+        target: &'e Expr<'a>,
+        value: &'e Expr<'a>,
+        around: Around,
+        spot: Spot,
+        kept: &mut Self,
+    ) -> Result<(), AllocError>
+        ensures { OnOk result (seen_in kept.new ≡ seen_in kept.old
+            ++ (other around spot ∷ tree_tokens around (tree_of target.now)
+            ++ tree_tokens around (tree_of value.now))) }
+    {
+        kept.add_other(around, spot)?;
+        Self::add_expression(target, around, kept)?;
+        Self::add_expression(value, around, kept)
+    }
+
+    // The sign and the three parts of a choice.
+    #[cycle(expression)]
+    fn add_choice<'e, 'a>(
+        condition: &'e Expr<'a>,
+        first: &'e Expr<'a>,
+        second: &'e Expr<'a>,
+        around: Around,
+        spot: Spot,
+        kept: &mut Self,
+    ) -> Result<(), AllocError>
+        ensures { OnOk result (seen_in kept.new ≡ seen_in kept.old
+            ++ (stands around spot w.Branching ∷ tree_tokens around (tree_of condition.now)
+            ++ tree_tokens around (tree_of first.now)
+            ++ tree_tokens around (tree_of second.now))) }
+    {
+        kept.add(around, spot, Word::Branching)?;
+        Self::add_expression(condition, around, kept)?;
+        Self::add_expression(first, around, kept)?;
+        Self::add_expression(second, around, kept)
     }
 
     #[cycle(expression)]
@@ -183,37 +231,41 @@ impl Tokens {
         Ok(())
     }
 
-    // The three expressions of a `for`.
+    // The keyword and the three expressions of a `for`.
     fn add_head<'e, 'a>(
         before: &'e Option<Expr<'a>>,
         condition: &'e Option<Expr<'a>>,
         after: &'e Option<Expr<'a>>,
         around: Around,
+        spot: Spot,
         kept: &mut Self,
     ) -> Result<(), AllocError>
         ensures { OnOk result (seen_in kept.new ≡ seen_in kept.old
-            ++ (optional_tokens around (option_map tree_of before.now)
+            ++ (stands around spot w.Loop ∷ optional_tokens around (option_map tree_of before.now)
             ++ optional_tokens around (option_map tree_of condition.now)
             ++ optional_tokens around (option_map tree_of after.now))) }
     {
+        kept.add(around, spot, Word::Loop)?;
         Self::add_optional(before, around, kept)?;
         Self::add_optional(condition, around, kept)?;
         Self::add_optional(after, around, kept)
     }
 
-    // The three expressions of a `fork`.
+    // The keyword and the three expressions of a `fork`.
     fn add_parts<'e, 'a>(
         parts: &'e Expr<'a>,
         part: &'e Expr<'a>,
         rank: &'e Option<Expr<'a>>,
         around: Around,
+        spot: Spot,
         kept: &mut Self,
     ) -> Result<(), AllocError>
         ensures { OnOk result (seen_in kept.new ≡ seen_in kept.old
-            ++ (tree_tokens around (tree_of parts.now)
+            ++ (stands around spot w.Fork ∷ tree_tokens around (tree_of parts.now)
             ++ tree_tokens around (tree_of part.now)
             ++ optional_tokens around (option_map tree_of rank.now))) }
     {
+        kept.add(around, spot, Word::Fork)?;
         Self::add_expression(parts, around, kept)?;
         Self::add_expression(part, around, kept)?;
         Self::add_optional(rank, around, kept)
@@ -265,15 +317,13 @@ impl Tokens {
                 Self::add_condition(condition, around, *spot, Word::Loop, kept)
             }
             Stmt::For(spot, before, condition, after, _) => {
-                kept.add(around, *spot, Word::Loop)?;
-                Self::add_head(before, condition, after, around, kept)
+                Self::add_head(before, condition, after, around, *spot, kept)
             }
             Stmt::Start(spot, count, _) => Self::add_value(count, around, *spot, Word::Start, kept),
             Stmt::Farm(spot, _) => kept.add(around, *spot, Word::Farm),
             Stmt::Seq(spot, _) => kept.add(around, *spot, Word::Seq),
             Stmt::Fork(spot, parts, part, rank, _) => {
-                kept.add(around, *spot, Word::Fork)?;
-                Self::add_parts(parts, part, rank, around, kept)
+                Self::add_parts(parts, part, rank, around, *spot, kept)
             }
             Stmt::Barrier(spot) => kept.add(around, *spot, Word::Barrier),
             Stmt::Break(spot) => kept.add(around, *spot, Word::Break),
@@ -293,11 +343,10 @@ impl Tokens {
                 Self::add_statements(statements, around.within(Holder::Block), kept)
             }
             Stmt::If(_, _, then, otherwise) => {
-                Self::add_statement(then, around.within(Holder::Branch), kept)?;
+                let inside = around.within(Holder::Branch);
+                Self::add_statement(then, inside, kept)?;
                 match otherwise {
-                    Some(otherwise) => {
-                        Self::add_statement(otherwise, around.within(Holder::Branch), kept)
-                    }
+                    Some(otherwise) => Self::add_statement(otherwise, inside, kept),
                     None => Ok(()),
                 }
             }

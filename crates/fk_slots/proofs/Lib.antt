@@ -1,5 +1,6 @@
 pub mod Lookups
 pub mod Alike
+pub mod Stepping
 mod Laid
 mod Functions
 mod Synchronous

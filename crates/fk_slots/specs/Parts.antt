@@ -1,4 +1,4 @@
--- The frames and places of a body, as the code goes through them.
+-- The frames and places of bodies, as the code goes through them.
 use Rattle.std.specs.Prelude.{ℕ, List, ◌++◌, if◌then◌else◌}
 use Rattle.fk_syntax.specs.Program.{Statement}
 use Rattle.fk_forms.specs.declared.tables.Slot.{Slot}
@@ -6,8 +6,8 @@ use Rattle.fk_forms.specs.declared.tables.Region.{Region}
 use Rattle.fk_slots.specs.declared.taken.Taken.{Taken}
 use Rattle.fk_slots.specs.Told.{Told, splits_at}
 use Rattle.fk_slots.specs.Frames.{deeper, body_frame, frames_in}
-use Rattle.fk_slots.specs.Places.{outside}
-use Rattle.fk_slots.specs.Slots.{begun, behind, slots_in}
+use Rattle.fk_slots.specs.Places.{within, outside}
+use Rattle.fk_slots.specs.Slots.{behind_body_frame, begun, begun_two, behind, slots_in}
 
 module _ (told : Told) where
   -- a body that has a frame
@@ -29,3 +29,32 @@ module _ (told : Told) where
 
   abbrev pub behind_split : (at : ℕ) → Taken → Statement → Taken
   behind_split at taken body = if splits_at told at then behind_framed taken body else behind told taken body
+
+  -- two bodies that have frames
+  abbrev pub both_framed_frames : (at level : ℕ) → (first second : Statement) → List Region
+  both_framed_frames at level first second =
+      body_frame told at 0 (deeper level) first ++ body_frame told at 1 (deeper level) second
+      ++ frames_in told (deeper level) first ++ frames_in told (deeper level) second
+
+  abbrev pub both_framed_slots : Taken → (first second : Statement) → List Slot
+  both_framed_slots taken first second =
+      slots_in told taken.frames (begun_two told taken first second) first
+      ++ slots_in told (behind_body_frame told taken first).frames (within (behind told (begun_two told taken first second) first)) second
+
+  abbrev pub behind_both_framed : Taken → (first second : Statement) → Taken
+  behind_both_framed taken first second = outside taken (behind told (within (behind told (begun_two told taken first second) first)) second)
+
+  -- two bodies that have them where the group splits
+  abbrev pub both_frames : (at level : ℕ) → (first second : Statement) → List Region
+  both_frames at level first second =
+      if splits_at told at then both_framed_frames at level first second else frames_in told level first ++ frames_in told level second
+
+  abbrev pub both_slots : (at frame : ℕ) → Taken → (first second : Statement) → List Slot
+  both_slots at frame taken first second =
+      if splits_at told at
+      then both_framed_slots taken first second
+      else slots_in told frame taken first ++ slots_in told frame (behind told taken first) second
+
+  abbrev pub behind_both : (at : ℕ) → Taken → (first second : Statement) → Taken
+  behind_both at taken first second =
+      if splits_at told at then behind_both_framed taken first second else behind told (behind told taken first) second

@@ -5,7 +5,7 @@ ghost use Rattle.fk_syntax.specs.Program.{statements_of};
 ghost use Rattle.fk_syntax.specs.ProgramView.{declared_of, statement_of, function_of, item_of};
 ghost use Rattle.fk_slots.specs.KnownView.{told_by};
 ghost use Rattle.fk_slots.specs.Frames.{frame, deeper as deeper_of, body_frame, frames_in, all_frames_in, item_frames, body_frames, regions_of};
-ghost use Rattle.fk_slots.specs.Parts.{framed_frames, split_frames};
+ghost use Rattle.fk_slots.specs.Parts.{framed_frames, split_frames, both_framed_frames, both_frames};
 
 use crate::known::Known;
 use crate::words::{own_words, statement_words};
@@ -95,17 +95,7 @@ impl Frames {
         match statement {
             Stmt::Block(list) => Self::add_statements(list, known, level, kept),
             Stmt::If(spot, _, first, otherwise) => match otherwise {
-                Some(second) => {
-                    if known.splits(spot.at) {
-                        let inner = deeper(level);
-                        Self::add_body_frame(first, known, spot.at, 0, inner, kept)?;
-                        Self::add_body_frame(second, known, spot.at, 1, inner, kept)?;
-                        Self::add_statement(first, known, inner, kept)?;
-                        return Self::add_statement(second, known, inner, kept);
-                    }
-                    Self::add_statement(first, known, level, kept)?;
-                    Self::add_statement(second, known, level, kept)
-                }
+                Some(second) => Self::add_both(first, second, known, spot.at, level, kept),
                 None => Self::add_split(first, known, spot.at, level, kept),
             },
             Stmt::While(spot, _, body)
@@ -161,6 +151,48 @@ impl Frames {
         let inner = deeper(level);
         Self::add_body_frame(body, known, at, 0, inner, kept)?;
         Self::add_statement(body, known, inner, kept)
+    }
+
+    // Those of two bodies that have frames where the group splits.
+    #[cycle(statement)]
+    fn add_both<'t, 'a>(
+        first: &'t Stmt<'a>,
+        second: &'t Stmt<'a>,
+        known: &Known,
+        at: u32,
+        level: u32,
+        kept: &mut Self,
+    ) -> Result<(), AllocError>
+        ensures { OnOk result (kept.new.list.items ≡ kept.old.list.items
+            ++ both_frames (told_by known.now) at level (statement_of first.now)
+            (statement_of second.now)) }
+    {
+        if known.splits(at) {
+            return Self::add_both_framed(first, second, known, at, level, kept);
+        }
+        Self::add_statement(first, known, level, kept)?;
+        Self::add_statement(second, known, level, kept)
+    }
+
+    // Those of two bodies that have frames: their own, and those within both.
+    #[cycle(statement)]
+    fn add_both_framed<'t, 'a>(
+        first: &'t Stmt<'a>,
+        second: &'t Stmt<'a>,
+        known: &Known,
+        at: u32,
+        level: u32,
+        kept: &mut Self,
+    ) -> Result<(), AllocError>
+        ensures { OnOk result (kept.new.list.items ≡ kept.old.list.items
+            ++ both_framed_frames (told_by known.now) at level (statement_of first.now)
+            (statement_of second.now)) }
+    {
+        let inner = deeper(level);
+        Self::add_body_frame(first, known, at, 0, inner, kept)?;
+        Self::add_body_frame(second, known, at, 1, inner, kept)?;
+        Self::add_statement(first, known, inner, kept)?;
+        Self::add_statement(second, known, inner, kept)
     }
 
     #[cycle(statement)]

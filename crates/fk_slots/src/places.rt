@@ -252,16 +252,7 @@ impl Places {
             Stmt::Declare(variables) => Self::add_variables(variables, known, frame, taken, kept),
             Stmt::If(spot, _, first, otherwise) => match otherwise {
                 Some(second) => {
-                    if known.splits(spot.at) {
-                        let one = behind_body_frame(first, known, taken);
-                        let begun = behind_body_frame(second, known, one).within();
-                        let behind = Self::add_statement(first, known, taken.frames, begun, kept)?;
-                        let next = behind.within();
-                        let last = Self::add_statement(second, known, one.frames, next, kept)?;
-                        return Ok(last.outside(taken));
-                    }
-                    let behind = Self::add_statement(first, known, frame, taken, kept)?;
-                    Self::add_statement(second, known, frame, behind, kept)
+                    Self::add_both(first, second, known, spot.at, frame, taken, kept)
                 }
                 None => Self::add_split(first, known, spot.at, frame, taken, kept),
             },
@@ -323,6 +314,54 @@ impl Places {
         let begun = behind_body_frame(body, known, taken).within();
         let behind = Self::add_statement(body, known, taken.frames, begun, kept)?;
         Ok(behind.outside(taken))
+    }
+
+    // Those of two bodies that have frames where the group splits.
+    #[cycle(statement)]
+    fn add_both<'t, 'a>(
+        first: &'t Stmt<'a>,
+        second: &'t Stmt<'a>,
+        known: &Known,
+        at: u32,
+        frame: u32,
+        taken: Taken,
+        kept: &mut Self,
+    ) -> Result<Taken, AllocError>
+        ensures slots { OnOk result (kept.new.list.items ≡ kept.old.list.items
+            ++ b.both_slots (told_by known.now) at frame taken (statement_of first.now)
+            (statement_of second.now)) }
+        ensures taken { IfOk result (λ behind. behind
+            ≡ b.behind_both (told_by known.now) at taken (statement_of first.now)
+            (statement_of second.now)) }
+    {
+        if known.splits(at) {
+            return Self::add_both_framed(first, second, known, taken, kept);
+        }
+        let behind = Self::add_statement(first, known, frame, taken, kept)?;
+        Self::add_statement(second, known, frame, behind, kept)
+    }
+
+    // Those of two bodies that have frames, which get the next numbers.
+    #[cycle(statement)]
+    fn add_both_framed<'t, 'a>(
+        first: &'t Stmt<'a>,
+        second: &'t Stmt<'a>,
+        known: &Known,
+        taken: Taken,
+        kept: &mut Self,
+    ) -> Result<Taken, AllocError>
+        ensures slots { OnOk result (kept.new.list.items ≡ kept.old.list.items
+            ++ b.both_framed_slots (told_by known.now) taken (statement_of first.now)
+            (statement_of second.now)) }
+        ensures taken { IfOk result (λ behind. behind
+            ≡ b.behind_both_framed (told_by known.now) taken (statement_of first.now)
+            (statement_of second.now)) }
+    {
+        let one = behind_body_frame(first, known, taken);
+        let begun = behind_body_frame(second, known, one).within();
+        let behind = Self::add_statement(first, known, taken.frames, begun, kept)?;
+        let last = Self::add_statement(second, known, one.frames, behind.within(), kept)?;
+        Ok(last.outside(taken))
     }
 
     #[cycle(statement)]
