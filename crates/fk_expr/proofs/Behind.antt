@@ -5,7 +5,7 @@ use Rattle.fk_syntax.specs.declared.place.Spot.{Spot}
 use Rattle.fk_syntax.specs.declared.sign.Sign.{Sign}
 use Rattle.fk_syntax.specs.declared.sign.Sign.TheVariants as sign
 use Rattle.fk_syntax.specs.declared.expression.Expr.{Expr}
-use Rattle.fk_syntax.specs.Tree.{Tree, LinkTree, SuffixTree}
+use Rattle.fk_syntax.specs.Tree.{Tree, LinkTree}
 use Rattle.fk_syntax.specs.View.{tree_of}
 use Rattle.fk_reading.specs.Languages.{spot, Placed}
 use Rattle.fk_expr.specs.Grammar.{operator_at, linked, comma_linked, chained, suffixed, chosen, assigned, listed}
@@ -45,11 +45,6 @@ pub link_reads : (i : Option Readers) (looseness tighter : ℕ) (ahead mid rest 
 link_reads i looseness tighter ahead mid rest s e l g h a b c =
     behind_reads linked (expect_told (operator_at looseness)) (read_joined i tighter) ahead mid rest s e g h
     ∙ ap (λ l. Ok (l, rest)) (link_made l _ _ _ a b c)
-
-pub link_halts : (i : Option Readers) (looseness tighter : ℕ) (ahead mid : List Placed) (s : Placed × Sign) (fault : SyntaxFault) (now : List Placed)
-    → expect_told (operator_at looseness) ahead ≡ Ok (s, mid) → Halts (read_joined i tighter mid) fault now → Halts (read_link i looseness tighter ahead) fault now
-link_halts i looseness tighter ahead mid s fault now g h =
-    behind_halts linked (expect_told (operator_at looseness)) (read_joined i tighter) ahead mid s fault now g h
 
 -- ---- a first part, and what comes behind it
 
