@@ -1,8 +1,9 @@
 //! Where statements are put that were read.
 
-ghost use Rattle.std.specs.Prelude.{◌≡◌, ◌∷◌, ◌++◌, List, [], IfOk, IsOk, OnOk};
+ghost use Rattle.std.specs.Prelude.{◌≡◌, ◌∷◌, ◌++◌, ◌⊎◌, List, [], Ok, Err, IfOk, IfErr, IsOk, OnOk};
 ghost use Rattle.fk_syntax.specs.Program.{Statement};
 ghost use Rattle.fk_syntax.specs.ProgramView.{statement_of};
+ghost use Rattle.fk_reading.specs.Faults.{IsMemory};
 ghost use Rattle.fk_reading.specs.Languages.{Placed};
 ghost use Rattle.fk_reading.specs.Reads.{Answer};
 ghost use Rattle.fk_reading.specs.Gives.{Gives};
@@ -14,19 +15,22 @@ use fk_reading::fault::SyntaxFault;
 use fk_syntax::program::Stmt;
 use std::alloc::{AllocError, Global};
 
-/// A statement in a box. Fails only for want of memory.
-pub(crate) fn in_box<'a>(alloc: Global, statement: Stmt<'a>) -> Result<Box<Stmt<'a>>, AllocError>
-    ensures value { IfOk result (λ boxed. boxed.value ≡ statement.entry) }
+/// What was read, in a box. A fault of its own is only want of memory.
+pub(crate) fn in_box<T: Drop>(
+    alloc: Global,
+    read: Result<T, SyntaxFault>,
+) -> Result<Box<T>, SyntaxFault>
+    ensures value { IfOk result (λ boxed. read ≡ Ok boxed.value) }
+    ensures fault { IfErr result (λ fault. read ≡ Err fault ⊎ IsMemory fault) }
 {
-    Ok(Box::new(alloc, statement)?)
+    Ok(Box::new(alloc, read?)?)
 }
 
-/// Puts a statement behind others. Fails only for want of memory.
-pub(crate) fn put<'a>(statements: &mut Vec<Stmt<'a>>, statement: Stmt<'a>) -> Result<(), AllocError>
-    ensures items { OnOk result
-        (statements.new.items ≡ statements.old.items ++ statement.entry ∷ []) }
+/// Puts an item behind others. Fails only for want of memory.
+pub(crate) fn put<T: Drop>(items: &mut Vec<T>, item: T) -> Result<(), AllocError>
+    ensures items { OnOk result (items.new.items ≡ items.old.items ++ item ∷ []) }
 {
-    statements.push(statement)?;
+    items.push(item)?;
     Ok(())
 }
 

@@ -75,8 +75,7 @@ fn boxed<'a>(
         (read_nested left cursor.old) }
     ensures shorter { IfOk result (λ _. Shortens cursor.old cursor.new) }
 {
-    let statement = nested(alloc, cursor, left)?;
-    Ok(in_box(alloc, statement)?)
+    in_box(alloc, nested(alloc, cursor, left))
 }
 
 /// A statement, with so many levels left inside.

@@ -7,7 +7,7 @@ use Rattle.fk_reading.specs.Gives.{Gives}
 use Rattle.fk_stmt.proofs.Headers.{nested_reads}
 use Rattle.fk_declarations.specs.Headers.{headed, read_header}
 use Rattle.fk_stmt.specs.Parts.{read_nested}
-use Rattle.fk_stmt.proofs.Completing.{both_give, both_shorten}
+use Rattle.fk_stmt.proofs.Completing.{both_give, both_shorten, boxed_give, boxed_shorten}
 use Rattle.fk_stmt.proofs.Blocks.{block_reads, block_stops, block_open}
 use Rattle.fk_stmt.proofs.statement.+statement.Goals as goal
 
@@ -47,3 +47,10 @@ headed-returns-clause-read t c =
 pub headed-returns-clause-shorter : goal.headed-returns-clause-shorter
 headed-returns-clause-shorter t c =
     both_shorten _ _ _ _ _ c.in_ok-header.ensures.shorter c.boxed-body.ensures.shorter c.completed.ensures.both
+
+pub boxed-returns-clause-read : goal.boxed-returns-clause-read
+boxed-returns-clause-read t c =
+    boxed_give statement_of c.nested.result _ _ _ c.in_box.ensures.value c.in_box.ensures.fault c.nested.ensures.read
+
+pub boxed-returns-clause-shorter : goal.boxed-returns-clause-shorter
+boxed-returns-clause-shorter t c = boxed_shorten c.nested.result _ _ _ c.in_box.ensures.value c.nested.ensures.shorter
