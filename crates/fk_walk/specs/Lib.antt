@@ -6,3 +6,4 @@ pub mod Through
 pub mod Ways
 pub mod Suffix
 pub mod Tally
+pub mod Builtin

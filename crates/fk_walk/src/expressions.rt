@@ -1,10 +1,11 @@
 //! The operations of expressions.
 
-ghost use Rattle.std.specs.Prelude.{◌≡◌, map, if◌then◌else◌};
+ghost use Rattle.std.specs.Prelude.{◌≡◌, map, true, if◌then◌else◌};
 ghost use Rattle.fk_syntax.specs.Tree.{links_of, suffixes_of, trees_of};
 ghost use Rattle.fk_syntax.specs.View.{tree_of, link_of, suffix_of, named};
 ghost use Rattle.fk_syntax.specs.ProgramView.{declared_of};
 ghost use Rattle.fk_forms.specs.Tables as t;
+ghost use Rattle.fk_forms.specs.Texts.{text_of};
 ghost use Rattle.fk_forms.specs.Expressions as e;
 ghost use Rattle.fk_forms.specs.Expressions.{Coded};
 ghost use Rattle.fk_walk.specs.Known.{tables_of, functions_of, IsSound};
@@ -15,6 +16,7 @@ ghost use Rattle.fk_walk.specs.Through.{through, Leads, LeadsOn};
 ghost use Rattle.fk_walk.specs.Ways.{behind_first, other_arm, rejoined};
 ghost use Rattle.fk_operation.specs.declared.operation.Operation.TheVariants as o;
 
+use crate::builtin::{Builtin, builtin_of};
 use crate::calls::enter;
 use crate::known::{Known, PREDECLARED};
 use crate::standing::Standing;
@@ -45,38 +47,29 @@ pub fn expression<'t, V: Visitor>(
 {
     match whole {
         Expr::Number(_, number, _) => single(known, visitor, Operation::Push(*number)),
-        Expr::Sizeof(spot, _) => {
-            let bytes = known.note(spot.at).binding;
-            single(known, visitor, Operation::Push(bytes))
-        }
-        Expr::Puts(_, text) => {
-            put_bytes(known, visitor, text);
-            Some(Standing::OnList)
-        }
+        Expr::Sizeof(spot, _) => size_of(known, visitor, spot.at),
+        Expr::Puts(_, text) => puts(known, visitor, text),
         Expr::Named(variable) => name(known, visitor, *variable),
         Expr::GroupNumber(_) => single(known, visitor, Operation::Get(Value::GroupNumber)),
         Expr::GroupRank(_) => single(known, visitor, Operation::Get(Value::Rank)),
-        Expr::Prefix(spot, sign, operand) => prefix(known, visitor, *spot, *sign, operand),
-        Expr::Cast(_, _, operand) => {
-            value(known, visitor, operand)?;
-            Some(Standing::OnList)
-        }
+        Expr::Prefix(spot, sign, operand) => prefix(known, visitor, operand, *spot, *sign),
+        Expr::Cast(_, _, operand) => on_list(known, visitor, operand),
         Expr::Chain(first, links) => {
             let standing = expression(known, visitor, first)?;
-            chain(known, visitor, standing, token_of(first), links)
+            chain(known, visitor, links, standing, token_of(first))
         }
         Expr::Postfix(before, suffixes) => {
             let standing = expression(known, visitor, before)?;
-            postfix(known, visitor, standing, token_of(before), suffixes)
+            postfix(known, visitor, suffixes, standing, token_of(before))
         }
         Expr::Assign(_, sign, target, right) => {
             let standing = expression(known, visitor, target)?;
-            assign(known, visitor, standing, token_of(target), *sign, right)
+            assign(known, visitor, right, standing, token_of(target), *sign)
         }
         Expr::Choose(spot, condition, first, second) => {
             value(known, visitor, condition)?;
-            let ways = first_arm(known, visitor, *spot, first);
-            second_arm(known, visitor, *spot, second, ways);
+            let ways = first_arm(known, visitor, first, *spot);
+            second_arm(known, visitor, second, *spot, ways);
             Some(Standing::OnList)
         }
     }
@@ -100,9 +93,9 @@ pub fn value<V: Visitor>(known: &Known, visitor: &mut V, whole: &Expr) -> Option
 fn prefix<'t, V: Visitor>(
     known: &Known,
     visitor: &mut V,
+    operand: &Expr<'t>,
     spot: Spot,
     sign: Sign,
-    operand: &Expr<'t>,
 ) -> Option<Standing<'t>>
     requires { IsSound known.now }
     ensures { Leads V.after V.counts (functions_of known.now) visitor.old visitor.new result
@@ -111,25 +104,65 @@ fn prefix<'t, V: Visitor>(
         (e.token (tree_of operand.now))) }
 {
     match sign {
-        Sign::Minus => unary(known, visitor, Unary::Negate, operand),
-        Sign::Tilde => unary(known, visitor, Unary::Complement, operand),
-        Sign::Exclamation => unary(known, visitor, Unary::Not, operand),
-        Sign::Star => {
-            value(known, visitor, operand)?;
-            Some(Standing::AtAddress(true, spot))
-        }
-        Sign::Ampersand => {
-            let standing = expression(known, visitor, operand)?;
-            give_address(known, visitor, standing);
-            Some(Standing::OnList)
-        }
-        Sign::Increment => increase(known, visitor, Sign::Plus, spot, operand),
-        Sign::Decrement => increase(known, visitor, Sign::Minus, spot, operand),
-        _ => {
-            value(known, visitor, operand)?;
-            Some(Standing::OnList)
-        }
+        Sign::Minus => unary(known, visitor, operand, Unary::Negate),
+        Sign::Tilde => unary(known, visitor, operand, Unary::Complement),
+        Sign::Exclamation => unary(known, visitor, operand, Unary::Not),
+        Sign::Star => dereference(known, visitor, operand, spot),
+        Sign::Ampersand => address_of(known, visitor, operand),
+        Sign::Increment => increase(known, visitor, operand, Sign::Plus, spot),
+        Sign::Decrement => increase(known, visitor, operand, Sign::Minus, spot),
+        _ => on_list(known, visitor, operand),
     }
+}
+
+// A value that stays one.
+#[cycle(expression)]
+fn on_list<'t, V: Visitor>(
+    known: &Known,
+    visitor: &mut V,
+    operand: &Expr<'t>,
+) -> Option<Standing<'t>>
+    requires { IsSound known.now }
+    ensures { Leads V.after V.counts (functions_of known.now) visitor.old visitor.new result
+        (λ k. e.value (tables_of known.now) (functions_of known.now) (tree_of operand.now)
+        (k e.OnList)) }
+{
+    value(known, visitor, operand)?;
+    Some(Standing::OnList)
+}
+
+// `*`, which makes a value an address.
+#[cycle(expression)]
+fn dereference<'t, V: Visitor>(
+    known: &Known,
+    visitor: &mut V,
+    operand: &Expr<'t>,
+    spot: Spot,
+) -> Option<Standing<'t>>
+    requires { IsSound known.now }
+    ensures { Leads V.after V.counts (functions_of known.now) visitor.old visitor.new result
+        (λ k. e.value (tables_of known.now) (functions_of known.now) (tree_of operand.now)
+        (k (e.AtAddress true spot))) }
+{
+    value(known, visitor, operand)?;
+    Some(Standing::AtAddress(true, spot))
+}
+
+// `&`, which makes an address a value.
+#[cycle(expression)]
+fn address_of<'t, V: Visitor>(
+    known: &Known,
+    visitor: &mut V,
+    operand: &Expr<'t>,
+) -> Option<Standing<'t>>
+    requires { IsSound known.now }
+    ensures { Leads V.after V.counts (functions_of known.now) visitor.old visitor.new result
+        (λ k. e.stands (tables_of known.now) (functions_of known.now) (tree_of operand.now)
+        (λ s. e.addressed (tables_of known.now) (functions_of known.now) s (k e.OnList))) }
+{
+    let standing = expression(known, visitor, operand)?;
+    give_address(known, visitor, standing);
+    Some(Standing::OnList)
 }
 
 // One operation, which leaves a value.
@@ -145,13 +178,30 @@ fn single<'t, V: Visitor>(
     Some(Standing::OnList)
 }
 
+// `sizeof`, by its token.
+fn size_of<'t, V: Visitor>(known: &Known, visitor: &mut V, at: u32) -> Option<Standing<'t>>
+    ensures { Leads V.after V.counts (functions_of known.now) visitor.old visitor.new result
+        (λ k. e.plain (o.Push (t.note (tables_of known.now) at).binding) (k e.OnList)) }
+{
+    single(known, visitor, Operation::Push(known.note(at).binding))
+}
+
+// `puts`.
+fn puts<'t, V: Visitor>(known: &Known, visitor: &mut V, text: &[u8]) -> Option<Standing<'t>>
+    ensures { Leads V.after V.counts (functions_of known.now) visitor.old visitor.new result
+        (λ k. e.put_bytes (text_of text.now) (k e.OnList)) }
+{
+    put_bytes(known, visitor, text);
+    Some(Standing::OnList)
+}
+
 // A sign in front that is one operation on a value.
 #[cycle(expression)]
 fn unary<'t, V: Visitor>(
     known: &Known,
     visitor: &mut V,
-    by: Unary,
     operand: &Expr<'t>,
+    by: Unary,
 ) -> Option<Standing<'t>>
     requires { IsSound known.now }
     ensures { Leads V.after V.counts (functions_of known.now) visitor.old visitor.new result
@@ -167,9 +217,9 @@ fn unary<'t, V: Visitor>(
 fn increase<'t, V: Visitor>(
     known: &Known,
     visitor: &mut V,
+    operand: &Expr<'t>,
     sign: Sign,
     spot: Spot,
-    operand: &Expr<'t>,
 ) -> Option<Standing<'t>>
     requires { IsSound known.now }
     ensures { Leads V.after V.counts (functions_of known.now) visitor.old visitor.new result
@@ -188,9 +238,9 @@ fn increase<'t, V: Visitor>(
 fn chain<'t, V: Visitor>(
     known: &Known,
     visitor: &mut V,
+    links: &[Link<'t>],
     first: Standing<'t>,
     at: u32,
-    links: &[Link<'t>],
 ) -> Option<Standing<'t>>
     requires { IsSound known.now }
     ensures { Leads V.after V.counts (functions_of known.now) visitor.old visitor.new result
@@ -200,7 +250,7 @@ fn chain<'t, V: Visitor>(
     let mut standing = first;
     let mut left = at;
     for link in links {
-        standing = join(known, visitor, standing, left, link)?;
+        standing = join(known, visitor, link, standing, left)?;
         left = link.spot.at;
     }
     Some(standing)
@@ -211,9 +261,9 @@ fn chain<'t, V: Visitor>(
 fn join<'t, V: Visitor>(
     known: &Known,
     visitor: &mut V,
+    link: &Link<'t>,
     left: Standing<'t>,
     at: u32,
-    link: &Link<'t>,
 ) -> Option<Standing<'t>>
     requires { IsSound known.now }
     ensures { Leads V.after V.counts (functions_of known.now) visitor.old visitor.new result
@@ -231,11 +281,11 @@ fn join<'t, V: Visitor>(
             logical(
                 known,
                 visitor,
+                &link.right,
+                left,
                 link.spot,
                 Split::AndThen,
                 true,
-                left,
-                &link.right,
             );
             Some(Standing::OnList)
         }
@@ -243,11 +293,11 @@ fn join<'t, V: Visitor>(
             logical(
                 known,
                 visitor,
+                &link.right,
+                left,
                 link.spot,
                 Split::OrElse,
                 false,
-                left,
-                &link.right,
             );
             Some(Standing::OnList)
         }
@@ -263,14 +313,14 @@ fn join<'t, V: Visitor>(
 // `&&` or `||`, behind its left side. In a synchronous region the group agrees before it
 // branches, or splits.
 #[cycle(expression)]
-fn logical<V: Visitor>(
+fn logical<'t, V: Visitor>(
     known: &Known,
     visitor: &mut V,
+    right: &Expr<'t>,
+    left: Standing<'t>,
     spot: Spot,
     split: Split,
     onward: bool,
-    left: Standing,
-    right: &Expr,
 )
     requires { IsSound known.now }
     ensures { (k : e.Standing → Coded)
@@ -344,7 +394,7 @@ fn arm<V: Visitor>(known: &Known, visitor: &mut V, whole: &Expr, ends: bool)
 // The first of the two values of `?:`, behind its condition. In a synchronous region the group
 // agrees before it branches, or splits.
 #[cycle(expression)]
-fn first_arm<V: Visitor>(known: &Known, visitor: &mut V, spot: Spot, first: &Expr) -> Ways
+fn first_arm<V: Visitor>(known: &Known, visitor: &mut V, first: &Expr, spot: Spot) -> Ways
     requires { IsSound known.now }
     ensures { (second : e.Stands) (k : e.Standing → Coded)
         → through V.after V.counts (functions_of known.now) visitor.old
@@ -383,7 +433,7 @@ fn first_arm<V: Visitor>(known: &Known, visitor: &mut V, spot: Spot, first: &Exp
 
 // The second value of `?:`, and where both ways meet.
 #[cycle(expression)]
-fn second_arm<V: Visitor>(known: &Known, visitor: &mut V, spot: Spot, second: &Expr, ways: Ways)
+fn second_arm<V: Visitor>(known: &Known, visitor: &mut V, second: &Expr, spot: Spot, ways: Ways)
     requires { IsSound known.now }
     ensures { (rest : Coded) → behind_first V.after V.counts (functions_of known.now) visitor.old
         ways (other_arm (tables_of known.now) (functions_of known.now) spot
@@ -408,10 +458,10 @@ fn second_arm<V: Visitor>(known: &Known, visitor: &mut V, spot: Spot, second: &E
 fn assign<'t, V: Visitor>(
     known: &Known,
     visitor: &mut V,
+    right: &Expr<'t>,
     target: Standing<'t>,
     at: u32,
     sign: Sign,
-    right: &Expr<'t>,
 ) -> Option<Standing<'t>>
     requires { IsSound known.now }
     ensures { Leads V.after V.counts (functions_of known.now) visitor.old visitor.new result
@@ -441,9 +491,9 @@ fn assign<'t, V: Visitor>(
 fn postfix<'t, V: Visitor>(
     known: &Known,
     visitor: &mut V,
+    suffixes: &[Suffix<'t>],
     whole: Standing<'t>,
     at: u32,
-    suffixes: &[Suffix<'t>],
 ) -> Option<Standing<'t>>
     requires { IsSound known.now }
     ensures { Leads V.after V.counts (functions_of known.now) visitor.old visitor.new result
@@ -453,7 +503,7 @@ fn postfix<'t, V: Visitor>(
     let mut standing = whole;
     let mut left = at;
     for suffix in suffixes {
-        standing = one_suffix(known, visitor, standing, left, suffix)?;
+        standing = one_suffix(known, visitor, suffix, standing, left)?;
         left = suffix_token(suffix);
     }
     Some(standing)
@@ -464,9 +514,9 @@ fn postfix<'t, V: Visitor>(
 fn one_suffix<'t, V: Visitor>(
     known: &Known,
     visitor: &mut V,
+    suffix: &Suffix<'t>,
     standing: Standing<'t>,
     at: u32,
-    suffix: &Suffix<'t>,
 ) -> Option<Standing<'t>>
     requires { IsSound known.now }
     ensures { Leads V.after V.counts (functions_of known.now) visitor.old visitor.new result
@@ -481,7 +531,7 @@ fn one_suffix<'t, V: Visitor>(
             visitor.meet(Event::Perform(element, NOWHERE));
             Some(Standing::AtAddress(true, *spot))
         }
-        Suffix::Call(_, arguments) => call(known, visitor, standing, arguments),
+        Suffix::Call(_, arguments) => call(known, visitor, arguments, standing),
         Suffix::Dot(spot, member) => {
             enter_member(known, visitor, member.at);
             Some(Standing::AtAddress(is_deep(standing), *spot))
@@ -507,8 +557,8 @@ fn one_suffix<'t, V: Visitor>(
 fn call<'t, V: Visitor>(
     known: &Known,
     visitor: &mut V,
-    standing: Standing<'t>,
     arguments: &[Expr<'t>],
+    standing: Standing<'t>,
 ) -> Option<Standing<'t>>
     requires { IsSound known.now }
     ensures { Leads V.after V.counts (functions_of known.now) visitor.old visitor.new result
@@ -520,9 +570,9 @@ fn call<'t, V: Visitor>(
         Standing::ToCall(name) => {
             let binding = known.note(name.at).binding;
             if binding == PREDECLARED {
-                call_predeclared(known, visitor, name, arguments)
+                call_predeclared(known, visitor, arguments, name)
             } else {
-                call_declared(known, visitor, name, binding, arguments)
+                call_declared(known, visitor, arguments, name, binding)
             }
         }
         _ => None,
@@ -534,9 +584,9 @@ fn call<'t, V: Visitor>(
 fn call_declared<'t, V: Visitor>(
     known: &Known,
     visitor: &mut V,
+    arguments: &[Expr<'t>],
     name: Name<'t>,
     binding: u32,
-    arguments: &[Expr<'t>],
 ) -> Option<Standing<'t>>
     requires sound { IsSound known.now }
     requires binding { (t.note (tables_of known.now) name.at).binding ≡ binding }
@@ -547,7 +597,7 @@ fn call_declared<'t, V: Visitor>(
 {
     match known.callee(binding) {
         Some(function) => {
-            argue(known, visitor, &function.params, arguments)?;
+            argue(known, visitor, arguments, &function.params)?;
             let void = is_nothing(&function.result);
             enter(
                 known,
@@ -573,8 +623,8 @@ fn call_declared<'t, V: Visitor>(
 fn argue<V: Visitor>(
     known: &Known,
     visitor: &mut V,
-    parameters: &[Declared],
     arguments: &[Expr],
+    parameters: &[Declared],
 ) -> Option<()>
     requires { IsSound known.now }
     ensures { LeadsOn V.after V.counts (functions_of known.now) visitor.old visitor.new result
@@ -598,8 +648,8 @@ fn argue<V: Visitor>(
 fn call_predeclared<'t, V: Visitor>(
     known: &Known,
     visitor: &mut V,
-    name: Name<'t>,
     arguments: &[Expr<'t>],
+    name: Name<'t>,
 ) -> Option<Standing<'t>>
     requires { IsSound known.now }
     ensures { Leads V.after V.counts (functions_of known.now) visitor.old visitor.new result
@@ -607,28 +657,12 @@ fn call_predeclared<'t, V: Visitor>(
         (e.all_stand (tables_of known.now) (functions_of known.now)
         (trees_of (map tree_of arguments.now)))) }
 {
-    let bytes = name.bytes;
-    if bytes == b"mpadd".as_slice() {
-        multiprefix(known, visitor, name, Multiprefix::MpAdd, arguments)
-    } else if bytes == b"mpmax".as_slice() {
-        multiprefix(known, visitor, name, Multiprefix::MpMax, arguments)
-    } else if bytes == b"mpand".as_slice() {
-        multiprefix(known, visitor, name, Multiprefix::MpAnd, arguments)
-    } else if bytes == b"mpor".as_slice() {
-        multiprefix(known, visitor, name, Multiprefix::MpOr, arguments)
-    } else if bytes == b"groupsize".as_slice() {
-        plain(visitor, Operation::Get(Value::GroupSize));
-        Some(Standing::OnList)
-    } else if bytes == b"putint".as_slice() {
-        with_one(known, visitor, false, Operation::PrintNumber, arguments)
-    } else if bytes == b"putchar".as_slice() {
-        with_one(known, visitor, false, Operation::PrintByte, arguments)
-    } else if bytes == b"malloc".as_slice() {
-        with_one(known, visitor, false, Operation::Take, arguments)
-    } else if bytes == b"shmalloc".as_slice() {
-        with_one(known, visitor, false, Operation::Heap, arguments)
-    } else {
-        with_one(known, visitor, true, Operation::Block, arguments)
+    match builtin_of(name.bytes) {
+        Builtin::Multiprefix(by) => multiprefix(known, visitor, arguments, name, by),
+        Builtin::GroupSize => single(known, visitor, Operation::Get(Value::GroupSize)),
+        Builtin::OnOne(agreed, operation) => {
+            with_one(known, visitor, arguments, agreed, operation)
+        }
     }
 }
 
@@ -638,9 +672,9 @@ fn call_predeclared<'t, V: Visitor>(
 fn multiprefix<'t, V: Visitor>(
     known: &Known,
     visitor: &mut V,
+    arguments: &[Expr<'t>],
     name: Name<'t>,
     by: Multiprefix,
-    arguments: &[Expr<'t>],
 ) -> Option<Standing<'t>>
     requires { IsSound known.now }
     ensures { Leads V.after V.counts (functions_of known.now) visitor.old visitor.new result
@@ -664,9 +698,9 @@ fn multiprefix<'t, V: Visitor>(
 fn with_one<'t, V: Visitor>(
     known: &Known,
     visitor: &mut V,
+    arguments: &[Expr<'t>],
     agreed: bool,
     operation: Operation,
-    arguments: &[Expr<'t>],
 ) -> Option<Standing<'t>>
     requires { IsSound known.now }
     ensures { Leads V.after V.counts (functions_of known.now) visitor.old visitor.new result

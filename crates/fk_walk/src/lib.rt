@@ -4,6 +4,7 @@
 //! No code is made, and no memory is taken.
 #![tactic(auto)]
 
+mod builtin;
 mod calls;
 mod expressions;
 mod known;

@@ -1,11 +1,11 @@
 //! Texts that are printed.
 
-ghost use Rattle.std.specs.Prelude.{◌≡◌, ℕ};
+ghost use Rattle.std.specs.Prelude.{◌≡◌, ◌<◌, ℕ, length};
 ghost use Rattle.fk_forms.specs.Expressions as e;
-ghost use Rattle.fk_forms.specs.Texts.{text_of, escaped as escaped_by};
+ghost use Rattle.fk_forms.specs.Texts.{text_of, up_to_quote, escaped as escaped_by};
 ghost use Rattle.fk_operation.specs.declared.operation.Operation.TheVariants as o;
 ghost use Rattle.fk_walk.specs.Known.{functions_of};
-ghost use Rattle.fk_walk.specs.Through.{Passes};
+ghost use Rattle.fk_walk.specs.Through.{through, Passes};
 
 use crate::known::Known;
 use crate::visitor::{Visitor, plain};
@@ -22,13 +22,27 @@ pub(crate) fn put_bytes<V: Visitor>(known: &Known, visitor: &mut V, text: &[u8])
     }
     let mut left = &text[1..];
     while left.len() > 1 {
-        if left[0] == b'\\' {
-            put_byte(visitor, escaped(left[1]));
-            left = &left[2..];
-        } else {
-            put_byte(visitor, left[0]);
-            left = &left[1..];
-        }
+        left = put_next(visitor, left);
+    }
+}
+
+// The next byte of a text is pushed and printed. What is left of the text is told.
+#[tactic(auto, using(crate::proofs::Printed::next_escaped, crate::proofs::Printed::next_byte))]
+fn put_next<'s, V: Visitor>(visitor: &mut V, left: &'s [u8]) -> &'s [u8]
+    requires { 1 < length left.now }
+    ensures shorter { length result.now < length left.now }
+    ensures put { (functions : (binding : ℕ) → e.Signature) (rest : e.Coded)
+        → through V.after V.counts functions visitor.old
+        (e.put_bytes (up_to_quote left.now) rest)
+        ≡ through V.after V.counts functions visitor.new
+        (e.put_bytes (up_to_quote result.now) rest) }
+{
+    if left[0] == b'\\' {
+        put_byte(visitor, escaped(left[1]));
+        &left[2..]
+    } else {
+        put_byte(visitor, left[0]);
+        &left[1..]
     }
 }
 
