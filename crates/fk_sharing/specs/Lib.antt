@@ -1,4 +1,5 @@
 pub mod Tokens
+pub mod Own
 pub mod Around
 pub mod Collected
 pub mod TokensView

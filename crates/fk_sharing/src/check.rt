@@ -39,10 +39,10 @@ fn first_fault(tokens: &[Token]) -> Option<Fault>
 ///
 /// The first rule on sharing that the program breaks, by its place and then by its number; or want
 /// of memory. The facts are then as they were.
-pub fn sharing_by(
+pub fn sharing_by<'p, 'a>(
     alloc: Global,
-    program: &Program,
-    names: &Names,
+    program: &'p Program<'a>,
+    names: &Names<'p, 'a>,
     facts: &mut Facts,
 ) -> Result<(), CheckFault>
     requires { AreNames (program_of program.now) names.now }

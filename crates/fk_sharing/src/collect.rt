@@ -2,6 +2,7 @@
 
 ghost use Rattle.std.specs.Prelude.{◌≡◌, ◌∷◌, ◌++◌, [], map, IfOk, OnOk};
 ghost use Rattle.std.specs.Option.{option_map};
+ghost use Rattle.fk_syntax.specs.Tree as t;
 ghost use Rattle.fk_syntax.specs.Tree.{links_of, trees_of, suffixes_of};
 ghost use Rattle.fk_syntax.specs.View.{tree_of, link_of, suffix_of, named};
 ghost use Rattle.fk_syntax.specs.Program.{statements_of};
@@ -11,7 +12,8 @@ ghost use Rattle.fk_class.specs.Class.{is_shared, is_joined_shared, is_chain_sha
 ghost use Rattle.fk_regions.specs.Tokens.{spot_of};
 ghost use Rattle.fk_sharing.specs.declared.token.Word.TheVariants as w;
 ghost use Rattle.fk_sharing.specs.TokensView.{seen_in};
-ghost use Rattle.fk_sharing.specs.Tokens.{word_of_sign, stands, plain, bare, tree_tokens, links_tokens, trees_tokens, suffixes_tokens, optional_tokens, is_condition_shared, variable_tokens, variables_tokens, condition_tokens, head_tokens, parts_tokens, simple_tokens, statement_tokens, statements_tokens, parameters_tokens, body_tokens, function_tokens, item_tokens, items_tokens};
+ghost use Rattle.fk_sharing.specs.Tokens.{word_of_sign, stands, plain, bare, tree_tokens, links_tokens, trees_tokens, suffixes_tokens, optional_tokens, is_condition_shared, variable_tokens, variables_tokens, condition_tokens, head_tokens, parts_tokens, statement_tokens, statements_tokens, parameters_tokens, body_tokens, function_tokens, item_tokens, items_tokens};
+ghost use Rattle.fk_sharing.specs.Own.{decision_tokens, is_decision_shared, own_tokens};
 ghost use Rattle.fk_sharing.specs.Collected.{within, outside, seen};
 
 use crate::around::{Around, Holder};
@@ -101,15 +103,9 @@ impl Tokens {
                 kept.add_plain(around, *spot, true)
             }
             Expr::Puts(spot, _) | Expr::GroupRank(spot) => kept.add_plain(around, *spot, false),
-            Expr::Named(name) => {
-                let shared = is_name_shared(thing_at(names, name.at), name.bytes);
-                kept.add_plain(around, spot_of(name), shared)
-            }
+            Expr::Named(name) => Self::add_named(name, names, around, kept),
             Expr::Prefix(spot, sign, operand) => {
-                let shared = Self::add_expression(operand, names, around, kept)?;
-                let word = Word::Prefix(*sign, named_thing(operand, names));
-                kept.add(around, *spot, shared, word)?;
-                Ok(shared)
+                Self::add_prefix(operand, names, around, *spot, *sign, kept)
             }
             Expr::Cast(spot, _, operand) => {
                 let shared = Self::add_expression(operand, names, around, kept)?;
@@ -121,31 +117,103 @@ impl Tokens {
             }
             Expr::Postfix(whole, suffixes) => {
                 let before = Self::add_expression(whole, names, around, kept)?;
-                Self::add_suffixes(
-                    suffixes,
-                    names,
-                    around,
-                    before,
-                    is_call_shared(names, whole),
-                    kept,
-                )
+                let called = is_call_shared(names, whole);
+                Self::add_suffixes(suffixes, names, around, before, called, kept)
             }
             Expr::Assign(spot, sign, target, value) => {
-                let target = Self::add_expression(target, names, around, kept)?;
-                let value = Self::add_expression(value, names, around, kept)?;
-                kept.add_plain(around, *spot, is_assigned_shared(*sign, target, value))
+                Self::add_assigned(target, value, names, around, *spot, *sign, kept)
             }
             Expr::Choose(spot, condition, first, second) => {
-                let condition = Self::add_expression(condition, names, around, kept)?;
-                let first = Self::add_expression(first, names, around, kept)?;
-                let second = Self::add_expression(second, names, around, kept)?;
-                kept.add_choice(around, *spot, condition, condition && first && second)
+                Self::add_choice(condition, first, second, names, around, *spot, kept)
             }
         }
     }
 
+    // A name, and whether it is shared.
+    fn add_named(
+        name: &Name,
+        names: &Names,
+        around: Around,
+        kept: &mut Self,
+    ) -> Result<bool, AllocError>
+        ensures tokens { OnOk result (seen_in kept.new ≡ seen_in kept.old
+            ++ tree_tokens (thing_in names.now) around (t.Variable (named name.now))) }
+        ensures class { IfOk result
+            (λ is. is ≡ is_shared (thing_in names.now) (t.Variable (named name.now))) }
+    {
+        let shared = is_name_shared(thing_at(names, name.at), name.bytes);
+        kept.add_plain(around, spot_of(name), shared)
+    }
+
+    // An operand behind a sign, and whether both are shared.
+    #[cycle(expression)]
+    fn add_prefix(
+        operand: &Expr,
+        names: &Names,
+        around: Around,
+        spot: Spot,
+        sign: Sign,
+        kept: &mut Self,
+    ) -> Result<bool, AllocError>
+        ensures tokens { OnOk result (seen_in kept.new ≡ seen_in kept.old
+            ++ tree_tokens (thing_in names.now) around
+            (t.Prefix spot sign (tree_of operand.now))) }
+        ensures class { IfOk result (λ is. is
+            ≡ is_shared (thing_in names.now) (t.Prefix spot sign (tree_of operand.now))) }
+    {
+        let shared = Self::add_expression(operand, names, around, kept)?;
+        let word = Word::Prefix(sign, named_thing(operand, names));
+        kept.add(around, spot, shared, word)?;
+        Ok(shared)
+    }
+
+    // An assignment, and whether it is shared.
+    #[cycle(expression)]
+    fn add_assigned<'t, 'a>(
+        target: &'t Expr<'a>,
+        value: &'t Expr<'a>,
+        names: &Names,
+        around: Around,
+        spot: Spot,
+        sign: Sign,
+        kept: &mut Self,
+    ) -> Result<bool, AllocError>
+        ensures tokens { OnOk result (seen_in kept.new ≡ seen_in kept.old
+            ++ tree_tokens (thing_in names.now) around
+            (t.Assign spot sign (tree_of target.now) (tree_of value.now))) }
+        ensures class { IfOk result (λ is. is ≡ is_shared (thing_in names.now)
+            (t.Assign spot sign (tree_of target.now) (tree_of value.now))) }
+    {
+        let target = Self::add_expression(target, names, around, kept)?;
+        let value = Self::add_expression(value, names, around, kept)?;
+        kept.add_plain(around, spot, is_assigned_shared(sign, target, value))
+    }
+
+    // A choice, and whether it is shared.
+    #[cycle(expression)]
+    fn add_choice<'t, 'a>(
+        condition: &'t Expr<'a>,
+        first: &'t Expr<'a>,
+        second: &'t Expr<'a>,
+        names: &Names,
+        around: Around,
+        spot: Spot,
+        kept: &mut Self,
+    ) -> Result<bool, AllocError>
+        ensures tokens { OnOk result (seen_in kept.new ≡ seen_in kept.old
+            ++ tree_tokens (thing_in names.now) around (t.Choose spot
+            (tree_of condition.now) (tree_of first.now) (tree_of second.now))) }
+        ensures class { IfOk result (λ is. is ≡ is_shared (thing_in names.now) (t.Choose spot
+            (tree_of condition.now) (tree_of first.now) (tree_of second.now))) }
+    {
+        let condition = Self::add_expression(condition, names, around, kept)?;
+        let first = Self::add_expression(first, names, around, kept)?;
+        let second = Self::add_expression(second, names, around, kept)?;
+        kept.add_question(around, spot, condition, condition && first && second)
+    }
+
     // The sign of a choice, by whether its condition is shared, and whether it is itself.
-    fn add_choice(
+    fn add_question(
         &mut self,
         around: Around,
         spot: Spot,
@@ -365,15 +433,53 @@ impl Tokens {
         Ok(())
     }
 
-    // A statement that holds no other.
-    fn add_simple(
+    // What decides in a statement whether what it holds is run; and whether that is shared, as it is
+    // where nothing decides.
+    fn add_decision(
+        statement: &Stmt,
+        names: &Names,
+        around: Around,
+        kept: &mut Self,
+    ) -> Result<bool, AllocError>
+        ensures tokens { OnOk result (seen_in kept.new ≡ seen_in kept.old
+            ++ decision_tokens (thing_in names.now) around (statement_of statement.now)) }
+        ensures class { IfOk result (λ is. is
+            ≡ is_decision_shared (thing_in names.now) (statement_of statement.now)) }
+    {
+        match statement {
+            Stmt::If(spot, condition, _, _) => {
+                Self::add_condition(condition, names, around, *spot, kept)
+            }
+            Stmt::While(spot, condition, _) | Stmt::DoWhile(spot, _, condition) => {
+                Self::add_condition(condition, names, around, *spot, kept)
+            }
+            Stmt::For(spot, before, condition, after, _) => {
+                Self::add_head(before, condition, after, names, around, *spot, kept)
+            }
+            Stmt::Empty
+            | Stmt::Expression(_)
+            | Stmt::Declare(_)
+            | Stmt::Block(_)
+            | Stmt::Start(_, _, _)
+            | Stmt::Farm(_, _)
+            | Stmt::Seq(_, _)
+            | Stmt::Fork(_, _, _, _, _)
+            | Stmt::Barrier(_)
+            | Stmt::Break(_)
+            | Stmt::Continue(_)
+            | Stmt::Return(_, _) => Ok(true),
+        }
+    }
+
+    // What stands directly in a statement in which nothing decides.
+    fn add_own(
         statement: &Stmt,
         names: &Names,
         around: Around,
         kept: &mut Self,
     ) -> Result<(), AllocError>
         ensures { OnOk result (seen_in kept.new ≡ seen_in kept.old
-            ++ simple_tokens (thing_in names.now) around (statement_of statement.now)) }
+            ++ own_tokens (thing_in names.now) around (statement_of statement.now)) }
     {
         match statement {
             Stmt::Expression(value) => {
@@ -381,6 +487,13 @@ impl Tokens {
                 Ok(())
             }
             Stmt::Declare(variables) => Self::add_variables(variables, names, around, kept),
+            Stmt::Start(_, count, _) => {
+                let _shared = Self::add_optional(count, names, around, kept)?;
+                Ok(())
+            }
+            Stmt::Fork(_, parts, part, rank, _) => {
+                Self::add_parts(parts, part, rank, names, around, kept)
+            }
             Stmt::Break(spot) => kept.add_bare(around, *spot, Word::Break),
             Stmt::Continue(spot) => kept.add_bare(around, *spot, Word::Continue),
             Stmt::Return(spot, value) => {
@@ -394,10 +507,8 @@ impl Tokens {
             | Stmt::While(_, _, _)
             | Stmt::DoWhile(_, _, _)
             | Stmt::For(_, _, _, _, _)
-            | Stmt::Start(_, _, _)
             | Stmt::Farm(_, _)
-            | Stmt::Seq(_, _)
-            | Stmt::Fork(_, _, _, _, _) => Ok(()),
+            | Stmt::Seq(_, _) => Ok(()),
         }
     }
 
@@ -413,8 +524,8 @@ impl Tokens {
     {
         match statement {
             Stmt::Block(statements) => Self::add_statements(statements, names, around, kept),
-            Stmt::If(spot, condition, then, otherwise) => {
-                let shared = Self::add_condition(condition, names, around, *spot, kept)?;
+            Stmt::If(_, _, then, otherwise) => {
+                let shared = Self::add_decision(statement, names, around, kept)?;
                 let inside = around.within(Holder::Branch(shared));
                 Self::add_statement(then, names, inside, kept)?;
                 match otherwise {
@@ -422,20 +533,12 @@ impl Tokens {
                     None => Ok(()),
                 }
             }
-            Stmt::While(spot, condition, body) | Stmt::DoWhile(spot, body, condition) => {
-                let shared = Self::add_condition(condition, names, around, *spot, kept)?;
+            Stmt::While(_, _, body) | Stmt::DoWhile(_, body, _) | Stmt::For(_, _, _, _, body) => {
+                let shared = Self::add_decision(statement, names, around, kept)?;
                 Self::add_statement(body, names, around.within(Holder::Loop(shared)), kept)
             }
-            Stmt::For(spot, before, condition, after, body) => {
-                let shared = Self::add_head(before, condition, after, names, around, *spot, kept)?;
-                Self::add_statement(body, names, around.within(Holder::Loop(shared)), kept)
-            }
-            Stmt::Start(_, count, body) => {
-                let _count = Self::add_optional(count, names, around, kept)?;
-                Self::add_statement(body, names, around.within(SYNCHRONOUS), kept)
-            }
-            Stmt::Fork(_, parts, part, rank, body) => {
-                Self::add_parts(parts, part, rank, names, around, kept)?;
+            Stmt::Start(_, _, body) | Stmt::Fork(_, _, _, _, body) => {
+                Self::add_own(statement, names, around, kept)?;
                 Self::add_statement(body, names, around.within(SYNCHRONOUS), kept)
             }
             Stmt::Farm(_, body) | Stmt::Seq(_, body) => {
@@ -447,7 +550,7 @@ impl Tokens {
             | Stmt::Barrier(_)
             | Stmt::Break(_)
             | Stmt::Continue(_)
-            | Stmt::Return(_, _) => Self::add_simple(statement, names, around, kept),
+            | Stmt::Return(_, _) => Self::add_own(statement, names, around, kept),
         }
     }
 

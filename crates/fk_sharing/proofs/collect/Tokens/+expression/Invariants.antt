@@ -1,6 +1,7 @@
 -- The tokens so far, and those of what is left, are those before and those of all; and what is left
 -- is shared, by what stands before it, where the whole is.
-use Rattle.std.proofs.Common.{◌≡◌, ◌++◌, map, drop}
+use Rattle.std.proofs.Common.{◌≡◌, ◌+◌, ◌*◌, ◌++◌, map, drop}
+use Rattle.std.specs.Prelude.{max}
 use Rattle.fk_syntax.specs.Tree.{links_of, trees_of, suffixes_of}
 use Rattle.fk_syntax.specs.View.{tree_of, link_of, suffix_of}
 use Rattle.fk_class.specs.Things.{thing_in}
@@ -23,3 +24,25 @@ invariant-add_suffixes-loop-suffix l = record {
   tokens : seen_in l.kept ++ (suffixes_tokens (thing_in l.names) l.around l.shared l.called (suffixes_of (map suffix_of (drop l.suffix-index l.suffixes)))) ≡ seen_in l.fn.kept ++ (suffixes_tokens (thing_in l.names) l.around l.whole l.call (suffixes_of (map suffix_of l.suffixes)));
   class : is_postfix_shared (thing_in l.names) l.shared l.called (suffixes_of (map suffix_of (drop l.suffix-index l.suffixes))) ≡ is_postfix_shared (thing_in l.names) l.whole l.call (suffixes_of (map suffix_of l.suffixes));
 }
+
+-- how deep the deepest expression is; a function that is given several passes each of them on
+abbrev pub decreases-add_expression : goal.decreases-add_expression
+decreases-add_expression l = 2 * goal.size-add_expression l
+
+abbrev pub decreases-add_links : goal.decreases-add_links
+decreases-add_links l = 2 * goal.size-add_links l
+
+abbrev pub decreases-add_suffixes : goal.decreases-add_suffixes
+decreases-add_suffixes l = 2 * goal.size-add_suffixes l
+
+abbrev pub decreases-add_expressions : goal.decreases-add_expressions
+decreases-add_expressions l = 2 * goal.size-add_expressions l + 1
+
+abbrev pub decreases-add_prefix : goal.decreases-add_prefix
+decreases-add_prefix l = 2 * goal.size-add_prefix l + 1
+
+abbrev pub decreases-add_assigned : goal.decreases-add_assigned
+decreases-add_assigned l = 2 * max (goal.size-add_assigned l) (goal.size-add_assigned (record l { target = l.value })) + 1
+
+abbrev pub decreases-add_choice : goal.decreases-add_choice
+decreases-add_choice l = 2 * max (goal.size-add_choice l) (max (goal.size-add_choice (record l { condition = l.first })) (goal.size-add_choice (record l { condition = l.second }))) + 1
