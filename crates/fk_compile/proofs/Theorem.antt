@@ -10,7 +10,7 @@ use Rattle.fk_core.specs.declared.op.CoreOp.{CoreOp}
 use Rattle.fk_image.specs.declared.Image.{Image}
 use Rattle.fk_image.specs.Limits.{IsWithinLimits}
 use Rattle.fk_simulation.specs.Follows.{Follows}
-use Rattle.fk_simulation.specs.Simulation.{ProgramsAreFollowed}
+use Rattle.fk_simulation.specs.Programs.{ProgramsAreFollowed}
 use Rattle.fk_block_law.specs.Stands.{Places}
 use Rattle.fk_group_law.specs.Node.{Nestings}
 use Rattle.fk_group_law.specs.Law.{Cycles}

@@ -1,6 +1,7 @@
 -- What a round leaves of processors, by those of the state behind it.
 use Rattle.std.proofs.Common.{◌≡◌, ◌≢◌, ⊎_elim, ℕ, zero, suc, ◌+◌, ◌<◌, ◌==◌, Bool, true, false, List, [], ◌∷◌, length, Option, Some, None, refl, sym, ap, ◌∙◌, subst, arith, ◌≤◌}
 use Rattle.std.specs.Prelude.{map, slice_get, slice_index}
+use Rattle.std.proofs.lemmas.List.{length-map}
 use Rattle.std.proofs.lemmas.Bool.{eqb-true, false≢true}
 use Rattle.fk_num.specs.Word.{Memory}
 use Rattle.fk_operation.specs.Kinds.{class_of}
@@ -32,18 +33,20 @@ use Rattle.fk_group_plans.proofs.Rounds.{lockstep_kind}
 use Rattle.fk_group_rounds.specs.Next.{JumpsLead, landed, all_landed, HasNext, AllAt, AllAbout, MayInGroup, HaveNext}
 use Rattle.fk_group_rounds.specs.After.{actings, runners_of, tree_after, owner_after, owners_after, is_halt, halts, ArePlaces}
 use Rattle.fk_group_rounds.proofs.Agreed.{place_at}
+use Rattle.fk_group_rounds.proofs.Program.{runner_at}
+use Rattle.fk_group_rounds.proofs.Way.{ended_next}
 use Rattle.fk_group_runs.specs.Beside.{landed_runner, landed_state}
 use Rattle.fk_group_runs.specs.Homes.{AllNext}
 use Rattle.fk_group_runs.proofs.Landed.{landing_twice, next_landed}
-use Rattle.fk_group_runs.proofs.Results.{counts_are_units, cycles_are_results}
+use Rattle.fk_group_runs.proofs.Results.{cycles_are_results}
 use Rattle.fk_group_course.specs.Lists.{IsOfOneGroup}
 use Rattle.fk_group_course.specs.Reached.{the_end}
 use Rattle.fk_group_course.specs.Behind.{HadNext, behind, IsRoundOf, AreReached, ReachedRoundsGoOn}
-use Rattle.fk_group_course.proofs.Ways.{ended_next, stays_within}
+use Rattle.fk_group_course.proofs.Ways.{stays_within}
 use Rattle.fk_group_course.proofs.Nexts.{leads_to, reached_processors_have_next}
-use Rattle.fk_group_course.proofs.Groups.{runner_at, runners_length, reached_groups_have_next}
+use Rattle.fk_group_course.proofs.Groups.{runners_length, reached_groups_have_next}
 use Rattle.fk_group_course.proofs.Trees.{reached_trees_have_spaces}
-use Rattle.fk_group_course.proofs.Known.{units_single, possible_landed, steppers}
+use Rattle.fk_group_course.proofs.Known.{counts_single, possible_landed, steppers}
 use Rattle.fk_group_course.proofs.Marked.{Marked, here, there, lands_alike, ended, here_is, there_is, Went, Goes as Gone, goes}
 
 -- ---- lists
@@ -58,10 +61,6 @@ actings_at ds h d at = map_at (λ (x : Doing). x.acting) ds h d at
 actings_length : (ds : List Doing) → length (actings ds) ≡ length ds
 actings_length [] = refl
 actings_length (d ∷ ds) = ap suc (actings_length ds)
-
-map_length : {A B : Type 0} (f : A → B) (xs : List A) → length (map f xs) ≡ length xs
-map_length f [] = refl
-map_length f (x ∷ xs) = ap suc (map_length f xs)
 
 -- these runners, with the heaps of owners
 abbrev seated : List (Runner Position) → List Owner → List Owner
@@ -168,7 +167,7 @@ module _ (core : List CoreOp) (nestings : Nestings) (main : ℕ) (setting : Sett
   to = there core list.jumps
 
   pub single : IsSingle counts
-  single = units_single counts (counts_are_units stages)
+  single = counts_single stages
 
   abbrev marks : State Marked
   marks = ended core list.jumps setting counts s
@@ -199,10 +198,10 @@ module _ (core : List CoreOp) (nestings : Nestings) (main : ℕ) (setting : Sett
   pub did_many : length did ≡ setting.processors
   did_many =
       sym (actings_length did) ∙ ap (λ l. length l) (sym actors_are) ∙ stepping_length (next core) setting counts (landed_state core s) single landing_possible
-      ∙ map_length (landed_runner core) s.runners ∙ many
+      ∙ length-map s.runners (landed_runner core) ∙ many
 
   owners_many : length owners ≡ setting.processors
-  owners_many = map_length (owner_after (actings did) s.tree last.tree) did ∙ did_many
+  owners_many = length-map did (owner_after (actings did) s.tree last.tree) ∙ did_many
 
   -- a processor before the round and behind it, and its owner
   record Stood (h : ℕ) : Type 0 where
@@ -236,7 +235,7 @@ module _ (core : List CoreOp) (nestings : Nestings) (main : ℕ) (setting : Sett
   no_halt : (h : ℕ) (st : Stood h) (w : Went core list.jumps setting counts s single round.possible h st.before st.mark) → h < setting.processors
       → (d : Doing) → slice_get did h ≡ Some d → halts d.acting.due ≡ false → w.step.operation ≢ o.Halt
   no_halt h st w lt d at more is_halted =
-      let size = map_length (landed_runner core) s.runners in
+      let size = length-map s.runners (landed_runner core) in
       let below : h < length (map (landed_runner core) s.runners) = omega (arith, lt, many, size) in
       let b = acts (next core) setting counts (landed_state core s) single landing_possible h below in
       let runner : b.runner ≡ landed_runner core st.before = first_is b.runner (landed_runner core st.before) (sym b.is ∙ map_at (landed_runner core) s.runners h st.before st.was) in
@@ -261,9 +260,9 @@ module _ (core : List CoreOp) (nestings : Nestings) (main : ℕ) (setting : Sett
   is_going : (h : ℕ) (st : Stood h) → h < setting.processors → next core st.before.left ≢ None → (d : Doing) → slice_get did h ≡ Some d → halts d.acting.due ≡ false → here st.mark.left ≢ the_end core
   is_going h st lt had d at more ends =
       ⊎_elim
-      (λ stays. had (ap (next core) (sym (ap here stays.left) ∙ ends) ∙ ended_next core))
+      (λ stays. had (ap (next core) (sym (ap here stays.left) ∙ ends) ∙ ended_next core []))
       (λ w.
-      let starts : st.before.left ≢ the_end core = λ e. had (ap (next core) e ∙ ended_next core) in
+      let starts : st.before.left ≢ the_end core = λ e. had (ap (next core) e ∙ ended_next core []) in
       let l = leads_to core nestings main setting s list reached.before h st.before st.was starts in
       let i = landing core st.before.left.at in
       let step : w.step ≡ step_at core i l.op l.operation st.before.left.callers = first_is w.step (step_at core i l.op l.operation st.before.left.callers) (sym w.next_is ∙ l.is_next) in

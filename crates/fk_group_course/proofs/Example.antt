@@ -93,10 +93,6 @@ outs w = outs_at w.at
 abbrev At : ℕ → Position
 At i = position i []
 
-follows_11 : Follows (next core) outs (ByItself false) (At 11)
-follows_11 zero = tt
-follows_11 (suc n) = tt
-
 follows_10 : Follows (next core) outs (ByItself false) (At 10)
 follows_10 zero = tt
 follows_10 (suc n) = λ onward. refl

@@ -1,5 +1,5 @@
 -- What the group of such a state does next.
-use Rattle.std.proofs.Common.{◌≡◌, ◌≢◌, inl, inr, ⊎_elim, ℕ, zero, suc, ◌+◌, List, [], ◌∷◌, length, Some, refl, sym, ap, ◌∙◌, subst, arith}
+use Rattle.std.proofs.Common.{◌≡◌, ◌≢◌, inl, inr, ⊎_elim, ℕ, suc, ◌+◌, List, [], ◌∷◌, length, Some, refl, sym, ap, ◌∙◌, subst, arith}
 use Rattle.std.specs.Prelude.{slice_get}
 use Rattle.fk_tree.specs.declared.node.Kind.TheVariants.{Lockstep}
 use Rattle.fk_tree.specs.Tree as trees
@@ -19,17 +19,13 @@ use Rattle.fk_group_rounds.specs.Next.{landed}
 use Rattle.fk_group_rounds.specs.After.{runners_of}
 use Rattle.fk_group_rounds.specs.Program.{IsInStep, AllInStep}
 use Rattle.fk_group_rounds.proofs.Agreed.{place_at}
-use Rattle.fk_group_rounds.proofs.Program.{groups_have_next}
+use Rattle.fk_group_rounds.proofs.Program.{runner_at, groups_have_next}
+use Rattle.fk_group_rounds.proofs.Way.{ended_next}
 use Rattle.fk_group_course.specs.Lists.{IsOfOneGroup}
 use Rattle.fk_group_course.specs.Reached.{the_end, IsReached}
 use Rattle.fk_group_course.specs.Facts.{ReachedGroupsHaveNext}
-use Rattle.fk_group_course.proofs.Ways.{StepOf, ended_next}
+use Rattle.fk_group_course.proofs.Ways.{StepOf}
 use Rattle.fk_group_course.proofs.Nexts.{none_saved, leads_to, ready, does}
-
-pub runner_at : (ps : List Owner) (h : ℕ) (p : Owner) → slice_get ps h ≡ Some p → slice_get (runners_of ps) h ≡ Some p.runner
-runner_at [] h p at = absurd (cc)
-runner_at (q ∷ ps) zero p at = let e : q ≡ p = cc in ap (λ x. Some x.runner) e
-runner_at (q ∷ ps) (suc h) p at = runner_at ps h p at
 
 pub runners_length : (ps : List Owner) → length (runners_of ps) ≡ length ps
 runners_length [] = refl
@@ -58,7 +54,7 @@ module _ (core : List CoreOp) (nestings : Nestings) (main : ℕ) (setting : Sett
       let in_group : placed.place ≡ InGroup = at_group s.tree h placed.place g not_root place kind placed.there in
       let going : p.runner.left ≢ the_end core
       = λ e.
-      let ended = ends_in_root (next core) placed.place p.runner.left placed.goes (ap (next core) e ∙ ended_next core) in
+      let ended = ends_in_root (next core) placed.place p.runner.left placed.goes (ap (next core) e ∙ ended_next core []) in
       let clash : InGroup ≡ InRoot = sym in_group ∙ ended in
       absurd (cc) in
       let leads = leads_to core nestings main setting s list is h p.runner at going in

@@ -1,63 +1,36 @@
 -- Whole runs, over whatever is known of a machine beside a state: each cycle is a round, and the rounds so far are lawful.
-use Rattle.std.proofs.Common.{◌≡◌, ℕ, zero, suc, ◌≤◌, List, [], ◌∷◌, ◌++◌, Option, Some, None, Bool, true, false, cond, sym, ap, subst, ◌∙◌, refl, arith, ◌⊎◌, inl, inr, ⊎_elim}
+use Rattle.std.proofs.Common.{◌≡◌, ℕ, zero, suc, List, [], ◌∷◌, ◌++◌, Some, None, Bool, true, false, cond, sym, ap, subst, ◌∙◌, refl, arith, ◌⊎◌, inl, inr, ⊎_elim}
 use Rattle.fk_run.specs.Processor.{Setting}
 use Rattle.fk_run.specs.Round.{State, Fault, Round, result, is_possible, IsStopped}
 use Rattle.fk_run.specs.Schedule.{Schedule, run, ArePossible, CouldAct, KeepsPace, IsLawful, all_done}
-use Rattle.fk_one_group.specs.Rounds.{IsSingle}
 use Rattle.fk_one_group.specs.Runs.{AreSingle}
+use Rattle.fk_one_group.proofs.Runs.{run-append, AllPossible, all_are}
 use Rattle.fk_core.specs.declared.op.CoreOp.{CoreOp}
 use Rattle.fk_core.specs.Next.{Position, next}
 use Rattle.fk_image.specs.declared.Image.{Image}
 use Rattle.fk_machine.specs.declared.stand.Stand.TheVariants.{Running, Finished, Faulted}
 use Rattle.fk_machine.specs.Cycle.{Machine, turns_of, is_running, after_turns, cycle}
 use Rattle.fk_machine.specs.Run.{machine, output_of, round_of, rounds}
-use Rattle.fk_plans.specs.Stage.{Stage, distance, count_for, counts_for}
+use Rattle.fk_plans.specs.Stage.{counts_for}
 use Rattle.fk_group_rounds.specs.Comes.{most_between}
 use Rattle.fk_group_course.specs.Pace.{Sight, Turns, ActsWithin, AreWaiting}
 use Rattle.fk_group_course.proofs.Pace.{paces_go_on, paces_are_kept}
-
--- ---- rounds of machines
-
-count_single : (d : Option ℕ) → count_for d ≤ 1
-count_single None = omega arith
-count_single (Some zero) = omega arith
-count_single (Some (suc d)) = omega arith
-
-counts_single : (stages : List Stage) → IsSingle (counts_for stages)
-counts_single [] h = omega arith
-counts_single (s ∷ stages) zero = count_single (distance s)
-counts_single (s ∷ stages) (suc h) = counts_single stages h
+use Rattle.fk_group_course.proofs.ReachedRuns.{single_then}
+use Rattle.fk_group_course.proofs.Known.{counts_single}
 
 module _ (core : List CoreOp) (setting : Setting) where
   -- ---- rounds one after another
 
-  run_then : (schedule : Schedule) (round : Round) (s : State Position) → run (next core) setting (schedule ++ round ∷ []) s ≡ result (next core) setting round (run (next core) setting schedule s)
-  run_then [] round s = refl
-  run_then (r ∷ schedule) round s = run_then schedule round (result (next core) setting r s)
-
-  abbrev AllPossible : Schedule → State Position → Type 0
-  AllPossible [] s = Unit {0}
-  AllPossible (round ∷ schedule) s = (is_possible (next core) setting round s ≡ true) × AllPossible schedule (result (next core) setting round s)
-
-  possible_then : (schedule : Schedule) (round : Round) (s : State Position) → AllPossible schedule s → is_possible (next core) setting round (run (next core) setting schedule s) ≡ true
-      → AllPossible (schedule ++ round ∷ []) s
+  possible_then : (schedule : Schedule) (round : Round) (s : State Position) → AllPossible (next core) setting schedule s → is_possible (next core) setting round (run (next core) setting schedule s) ≡ true
+      → AllPossible (next core) setting (schedule ++ round ∷ []) s
   possible_then [] round s all one = (one, tt)
   possible_then (r ∷ schedule) round s all one = (all.0, possible_then schedule round (result (next core) setting r s) all.1 one)
 
-  are_possible : (schedule : Schedule) (s : State Position) → AllPossible schedule s → ArePossible (next core) setting schedule s
-  are_possible [] s all = tt
-  are_possible (r ∷ []) s all = inl all.0
-  are_possible (r ∷ q ∷ schedule) s all = (all.0, are_possible (q ∷ schedule) (result (next core) setting r s) all.1)
-
-  stopped_then : (schedule : Schedule) (round : Round) (s : State Position) → AllPossible schedule s → IsStopped (next core) setting round (run (next core) setting schedule s)
+  stopped_then : (schedule : Schedule) (round : Round) (s : State Position) → AllPossible (next core) setting schedule s → IsStopped (next core) setting round (run (next core) setting schedule s)
       → ArePossible (next core) setting (schedule ++ round ∷ []) s
   stopped_then [] round s all one = inr one
   stopped_then (r ∷ []) round s all one = (all.0, inr one)
   stopped_then (r ∷ q ∷ schedule) round s all one = (all.0, stopped_then (q ∷ schedule) round (result (next core) setting r s) all.1 one)
-
-  single_then : (schedule : Schedule) (round : Round) → AreSingle schedule → IsSingle round → AreSingle (schedule ++ round ∷ [])
-  single_then [] round all one = (one, tt)
-  single_then (r ∷ schedule) round all one = (all.0, single_then schedule round all.1 one)
 
   -- ---- a machine beside a state that has no fault, or that a fault has ended
 
@@ -100,7 +73,7 @@ module _ (core : List CoreOp) (setting : Setting) where
       -- after some cycles
       pub record Goes (schedule : Schedule) (printed : List ℕ) (m : Machine) : Type 0 where
         pub stands : Stands (run (next core) setting schedule first) printed m
-        pub possible : AllPossible schedule first
+        pub possible : AllPossible (next core) setting schedule first
         pub single : AreSingle schedule
         pub pace : KeepsPace (next core) setting schedule first
         pub waiting : AreWaiting core setting first schedule (sight (run (next core) setting schedule first) printed m stands)
@@ -113,7 +86,7 @@ module _ (core : List CoreOp) (setting : Setting) where
       Reached schedule printed m = Goes schedule printed m ⊎ Ended schedule printed m
 
       lawful_so_far : (schedule : Schedule) (printed : List ℕ) (m : Machine) → Goes schedule printed m → IsLawful (next core) setting schedule first
-      lawful_so_far schedule printed m g = record { possible = are_possible schedule first g.possible; pace = g.pace }
+      lawful_so_far schedule printed m g = record { possible = all_are (next core) setting schedule first g.possible; pace = g.pace }
 
       goes_whole : (schedule : Schedule) (printed : List ℕ) (m : Machine) (g : Goes schedule printed m) → IsWhole schedule printed m g.stands
           → Goes (schedule ++ round_of image m ∷ []) (printed ++ (cycle m).shared.output) (cycle m)
@@ -124,11 +97,11 @@ module _ (core : List CoreOp) (setting : Setting) where
           let printed' = printed ++ (cycle m).shared.output in
           let possible = possible_then schedule round first g.possible w.possible in
           let pace = paces_are_kept core setting first schedule v round g.pace g.waiting in
-          let lawful : IsLawful (next core) setting (schedule ++ round ∷ []) first = record { possible = are_possible (schedule ++ round ∷ []) first possible; pace = pace } in
+          let lawful : IsLawful (next core) setting (schedule ++ round ∷ []) first = record { possible = all_are (next core) setting (schedule ++ round ∷ []) first possible; pace = pace } in
           let y = w.further lawful in
           let single = single_then schedule round g.single (counts_single v.stages) in
           let moved : (y : Stands (run (next core) setting (schedule ++ round ∷ []) first) printed' (cycle m)) × Turns v (sight (run (next core) setting (schedule ++ round ∷ []) first) printed' (cycle m) y)
-          = subst (λ z. (y : Stands z printed' (cycle m)) × Turns v (sight z printed' (cycle m) y)) (sym (run_then schedule round first)) y in
+          = subst (λ z. (y : Stands z printed' (cycle m)) × Turns v (sight z printed' (cycle m) y)) (sym (run-append (next core) setting schedule (round ∷ []) first)) y in
           let v' = sight (run (next core) setting (schedule ++ round ∷ []) first) printed' (cycle m) moved.0 in
           subst (λ r. Goes (schedule ++ r ∷ []) printed' (cycle m)) (sym w.round)
           (record {
@@ -142,7 +115,7 @@ module _ (core : List CoreOp) (setting : Setting) where
       goes_broken : (schedule : Schedule) (printed : List ℕ) (m : Machine) → Goes schedule printed m → IsBroken image (run (next core) setting schedule first) printed m
           → Ended (schedule ++ round_of image m ∷ []) (printed ++ (cycle m).shared.output) (cycle m)
       goes_broken schedule printed m g b = record {
-        over = subst (λ z. IsOver z (printed ++ (cycle m).shared.output) (cycle m)) (sym (run_then schedule (round_of image m) first)) b.over;
+        over = subst (λ z. IsOver z (printed ++ (cycle m).shared.output) (cycle m)) (sym (run-append (next core) setting schedule (round_of image m ∷ []) first)) b.over;
         lawful = record {
           possible = stopped_then schedule (round_of image m) first g.possible b.stopped;
           pace = paces_are_kept core setting first schedule (sight (run (next core) setting schedule first) printed m g.stands) (round_of image m) g.pace g.waiting;

@@ -1,7 +1,7 @@
 -- The rounds of machines are known ones.
 use Rattle.std.proofs.Common.{◌≡◌, ◌⊎◌, inl, inr, ⊎_elim, ℕ, zero, suc, ◌≤◌, ◌&&◌, true, false, List, [], ◌∷◌, length, map, slice_get, Option, Some, None, refl, sym, ap, ◌∙◌, subst, arith}
 use Rattle.std.specs.Prelude.{is_none}
-use Rattle.fk_num.specs.Word.{Memory}
+use Rattle.std.proofs.lemmas.List.{length-map}
 use Rattle.fk_operation.specs.declared.operation.Operation.{Operation}
 use Rattle.fk_operation.specs.declared.operation.Operation.TheVariants as o
 use Rattle.fk_tree.specs.declared.node.Kind.TheVariants.{Waiting, Asynchronous}
@@ -12,7 +12,7 @@ use Rattle.fk_run.specs.Round.{Step, Runner, State, Round, Phases, result, is_al
 use Rattle.fk_core.specs.declared.op.CoreOp.{CoreOp}
 use Rattle.fk_core.specs.Next.{Position, position, landing, next}
 use Rattle.fk_nodes.specs.Source.{AllPass}
-use Rattle.fk_plans.specs.Stage.{Stage, counts_for}
+use Rattle.fk_plans.specs.Stage.{Stage, distance, count_for, counts_for}
 use Rattle.fk_together.specs.OneProgram.{AreTogether, HaveOneProgram}
 use Rattle.fk_one_group.specs.Where.{Where, GoesNext, GoesFor, Goes}
 use Rattle.fk_one_group.specs.Placed.{IsPlaced, HasOneGroup}
@@ -21,26 +21,25 @@ use Rattle.fk_one_group.specs.Rounds.{IsSingle, stepping}
 use Rattle.fk_one_group.proofs.Known.{rounds_are_known}
 use Rattle.fk_together.proofs.Round.{first_is}
 use Rattle.fk_block_law.specs.Owner.{Commons, Owner, Doing, core_source}
-use Rattle.fk_simulation.proofs.Rounds as rounds
-use Rattle.fk_group_rounds.specs.After.{actings, runners_of, Keeps, AllKeep, DoesStep, StepsAt}
+use Rattle.fk_group_rounds.specs.After.{actings, Keeps, AllKeep, DoesStep, StepsAt}
 use Rattle.fk_group_rounds.specs.Next.{JumpsLead}
 use Rattle.fk_group_rounds.specs.Rounds.{IsKnownRound}
-use Rattle.fk_group_runs.specs.Beside.{landed_runner, landed_state, HaveHeaps, AreInOrder, IsBeside}
+use Rattle.fk_group_runs.specs.Beside.{landed_runner, landed_state, AreInOrder, IsBeside}
 use Rattle.fk_group_runs.proofs.Landed.{next_landed, results_land, allowed_land}
-use Rattle.fk_group_runs.proofs.Results.{counts_are_units}
+use Rattle.fk_group_runs.proofs.Results.{actings_same, all_passed}
 use Rattle.fk_group_course.specs.Facts.{BeginsGroup, ReachedRoundsAreKnown}
 
 -- ---- counts of machines
 
-unit_le : (c : ℕ) → rounds.IsUnit c → c ≤ 1
-unit_le zero unit = omega arith
-unit_le (suc zero) unit = omega arith
-unit_le (suc (suc c)) unit = absurd unit
+count_single : (d : Option ℕ) → count_for d ≤ 1
+count_single None = omega arith
+count_single (Some zero) = omega arith
+count_single (Some (suc d)) = omega arith
 
-pub units_single : (counts : List ℕ) → rounds.AreUnits counts → IsSingle counts
-units_single [] units h = omega arith
-units_single (c ∷ counts) units zero = unit_le c units.0
-units_single (c ∷ counts) units (suc h) = units_single counts units.1 h
+pub counts_single : (stages : List Stage) → IsSingle (counts_for stages)
+counts_single [] h = omega arith
+counts_single (s ∷ stages) zero = count_single (distance s)
+counts_single (s ∷ stages) (suc h) = counts_single stages h
 
 -- ---- those who step, as machines have them
 
@@ -113,10 +112,6 @@ module _ (core : List CoreOp) (leads : JumpsLead core) (setting : Setting) (s : 
   landed_at (q ∷ rs) zero r at = (q, refl, sym (first_is (landed_runner core q) r at))
   landed_at (q ∷ rs) (suc h) r at = landed_at rs h r at
 
-  map_length : (rs : List (Runner Position)) → length (map (landed_runner core) rs) ≡ length rs
-  map_length [] = refl
-  map_length (r ∷ rs) = ap suc (map_length rs)
-
   pub one_program : HaveOneProgram (next core) s → HaveOneProgram (next core) (landed_state core s)
   one_program one' n g h r q kind in_g in_h r_is q_is =
       let r' = landed_at s.runners g r r_is in
@@ -133,7 +128,7 @@ module _ (core : List CoreOp) (leads : JumpsLead core) (setting : Setting) (s : 
 
   pub one_group : HasOneGroup (next core) setting s → HasOneGroup (next core) setting (landed_state core s)
   one_group has = record {
-    many = map_length s.runners ∙ has.many;
+    many = length-map s.runners (landed_runner core) ∙ has.many;
     tree = has.tree;
     placed = λ h r at.
         let b = landed_at s.runners h r at in
@@ -151,38 +146,12 @@ module _ (core : List CoreOp) (leads : JumpsLead core) (setting : Setting) (s : 
 
 -- ---- the processors of a machine
 
-actings_same : (ds : List Doing) → rounds.actings ds ≡ actings ds
-actings_same [] = refl
-actings_same (d ∷ ds) = ap (λ l. d.acting ∷ l) (actings_same ds)
-
-module _ (core : List CoreOp) where
-  in_order : (number : ℕ) (rs : List (Runner Position)) → AreInOrder number rs → rounds.AreNumbered number (map (landed_runner core) rs)
-  in_order number [] order = tt
-  in_order number (r ∷ rs) order = (order.0, in_order (suc number) rs order.1)
-
-  owners_are : (number : ℕ) (heaps : ℕ → Memory) (ps : List Owner) (rs : List (Runner Position)) → AreInOrder number rs → runners_of ps ≡ map (landed_runner core) rs → HaveHeaps number heaps ps
-      → ps ≡ rounds.owners heaps (map (landed_runner core) rs)
-  owners_are number heaps [] [] order same own = refl
-  owners_are number heaps (p ∷ ps) (r ∷ rs) order same own =
-      let first : p.runner ≡ landed_runner core r = cc in
-      let rest : runners_of ps ≡ map (landed_runner core) rs = cc in
-      ap (λ h. let q : Owner = record { runner = p.runner; heap = h } in q ∷ ps) (sym own.0 ∙ ap heaps (sym order.0))
-      ∙ ap (λ x. let q : Owner = record { runner = x; heap = heaps r.has.number } in q ∷ ps) first
-      ∙ ap (λ l. rounds.owner heaps (landed_runner core r) ∷ l) (owners_are (suc number) heaps ps rs order.1 rest own.1)
-  owners_are number heaps [] (r ∷ rs) order same own = absurd (cc)
-  owners_are number heaps (p ∷ ps) [] order same own = absurd (cc)
-
-  -- they are those who stand before the steps of the tree
-  pub steppers : (setting : Setting) (stages : List Stage) (s : State Position) (ps : List Owner) (did : List Doing) (shared shared' : Commons) → AreInOrder 0 s.runners → IsBeside core s ps shared
-      → AllPass (core_source core setting) (counts_for stages) ps shared did shared' → stepping (next core) setting (counts_for stages) (landed_state core s) ≡ actings did
-  steppers setting stages s ps did shared shared' order beside all =
-      let round = counts_for stages in
-      let landing = landed_state core s in
-      let are = owners_are 0 s.store.heaps ps s.runners order beside.runners beside.heaps in
-      let p = rounds.passed core setting 0 round landing.runners s.store did shared' (counts_are_units stages) (in_order 0 s.runners order)
-      (subst (λ c. AllPass (core_source core setting) round (rounds.owners s.store.heaps landing.runners) c did shared') (sym beside.commons)
-      (subst (λ l. AllPass (core_source core setting) round l shared did shared') are all)) in
-      ap (λ (x : Phases Position). x.acting) p.all ∙ actings_same did
+-- they are those who stand before the steps of the tree
+pub steppers : (core : List CoreOp) (setting : Setting) (stages : List Stage) (s : State Position) (ps : List Owner) (did : List Doing) (shared shared' : Commons) → AreInOrder 0 s.runners → IsBeside core s ps shared
+    → AllPass (core_source core setting) (counts_for stages) ps shared did shared' → stepping (next core) setting (counts_for stages) (landed_state core s) ≡ actings did
+steppers core setting stages s ps did shared shared' order beside all =
+    let p = all_passed core setting stages s ps did shared shared' order beside all in
+    ap (λ (x : Phases Position). x.acting) p.all ∙ actings_same did
 
 pub reached_rounds_are_known : ReachedRoundsAreKnown
 reached_rounds_are_known core nestings main setting stages s ps did shared shared' list is order beside possible all =
@@ -191,7 +160,7 @@ reached_rounds_are_known core nestings main setting stages s ps did shared share
       sound = is.sound;
       one_program = one_program core list.jumps setting s is.one_program;
       one_group = one_group core list.jumps setting s is.one_group;
-      single = units_single round (counts_are_units stages);
+      single = counts_single stages;
       possible = possible_landed core list.jumps setting s round possible;
     }) in
     known_so s.tree did (subst (λ l. one.AreKnown s.tree l) (steppers core setting stages s ps did shared shared' order beside all) known)

@@ -1,7 +1,8 @@
 -- A round of a state, and that of the state whose processors are at the operations that jumps lead to: both leave the same to those
 -- who have gone on, and the others where they were.
-use Rattle.std.proofs.Common.{◌≡◌, ◌⊎◌, inl, inr, ⊎_elim, ℕ, suc, ◌<◌, Bool, true, List, [], ◌∷◌, length, Option, Some, None, refl, sym, ap, ◌∙◌, arith}
+use Rattle.std.proofs.Common.{◌≡◌, ◌⊎◌, inl, inr, ⊎_elim, ℕ, ◌<◌, Bool, true, List, [], ◌∷◌, length, Option, Some, None, refl, sym, ap, ◌∙◌, arith}
 use Rattle.std.specs.Prelude.{map, option_map, slice_get, slice_index}
+use Rattle.std.proofs.lemmas.List.{length-map}
 use Rattle.fk_tree.specs.Tree as trees
 use Rattle.fk_run.specs.Processor.{Setting}
 use Rattle.fk_run.specs.Group.{goes_onward}
@@ -153,15 +154,11 @@ module _ (core : List CoreOp) (leads : JumpsLead core) where
           busy.1))
           a.comes
 
-      map_length : (rs : List (Runner Position)) → length (map (runner_by Before) rs) ≡ length rs
-      map_length [] = refl
-      map_length (r ∷ rs) = ap suc (map_length rs)
-
       pub goes : (h : ℕ) (r : Runner Position) → h < length s.runners → slice_get s.runners h ≡ Some r → (m : Runner Marked) × (slice_get ended.runners h ≡ Some m) × Goes h r m
       goes h r lt at =
           let actors = stepping marked_next setting round start in
           let new = all_changes actors s.tree actors s.tree in
-          let long = map_length s.runners in
+          let long = length-map s.runners (runner_by Before) in
           let a = acts marked_next setting round start single marked_possible h (omega (arith, lt, long)) in
           let runner : a.runner ≡ runner_by Before r = first_is a.runner (runner_by Before r) (sym a.is ∙ map_at (runner_by Before) s.runners h r at) in
           let m = settled_by actors s.tree new a.acting.runner a.acting.due in (

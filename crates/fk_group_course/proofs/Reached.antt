@@ -20,10 +20,11 @@ use Rattle.fk_one_group.proofs.Runs.{are_all, round_by_round}
 use Rattle.fk_block_law.specs.Next.{step_at}
 use Rattle.fk_block_law.specs.Lists.{StaysInList}
 use Rattle.fk_simulation.specs.InRange.{ListsStayInRange}
+use Rattle.fk_group_rounds.proofs.Way.{ended_next}
 use Rattle.fk_group_law.specs.Node.{Nestings}
 use Rattle.fk_group_course.specs.Lists.{IsOfOneGroup}
 use Rattle.fk_group_course.specs.Reached.{the_end, RunsReach}
-use Rattle.fk_group_course.proofs.Ways.{leading, ended_next, goes_within}
+use Rattle.fk_group_course.proofs.Ways.{leading, goes_within}
 
 abbrev IsThere : List CoreOp → Position → Type 0
 IsThere core w = StaysInList core w ⊎ (w ≡ the_end core)
@@ -92,7 +93,7 @@ module _ (core : List CoreOp) (nestings : Nestings) (main : ℕ) (list : IsOfOne
       let may = list.may words firsts input p schedule lawful none h r l.op l.operation at l.at.stands l.at.is_read in
       subst (λ (x : Step Position). IsThere core (x.rest onward)) (sym same)
       (goes_within core nestings main list (landing core r.left.at) l.op l.operation r onward l.at may w.callers))
-      (λ ended. let clash : None ≡ Some step = sym (ended_next core) ∙ ap (next core) (sym ended) ∙ e in absurd (cc)) there
+      (λ ended. let clash : None ≡ Some step = sym (ended_next core []) ∙ ap (next core) (sym ended) ∙ e in absurd (cc)) there
 
   all_there : (schedule : Schedule) → IsLawful (next core) set schedule first → AreSingle schedule → (run (next core) set schedule first).fault ≡ None → AreThere core (run (next core) set schedule first)
   all_there schedule lawful single none =

@@ -9,12 +9,11 @@ use Rattle.fk_one_group.specs.Rounds.{IsSingle}
 use Rattle.fk_one_group.specs.Runs.{AreSingle}
 use Rattle.fk_one_group.proofs.Acts.{result_is}
 use Rattle.fk_one_group.proofs.Runs.{run-append, pace_before, are_all, all_are, possible_before, running}
-use Rattle.fk_group_runs.proofs.Results.{counts_are_units}
 use Rattle.fk_group_course.specs.Reached.{IsReached, RunsReach}
 use Rattle.fk_group_course.specs.Behind.{RunsReachRounds}
-use Rattle.fk_group_course.proofs.Known.{units_single}
+use Rattle.fk_group_course.proofs.Known.{counts_single}
 
-single_then : (schedule : Schedule) (round : Round) → AreSingle schedule → IsSingle round → AreSingle (schedule ++ round ∷ [])
+pub single_then : (schedule : Schedule) (round : Round) → AreSingle schedule → IsSingle round → AreSingle (schedule ++ round ∷ [])
 single_then [] round single one = (one, tt)
 single_then (r ∷ schedule) round single one = (single.0, single_then schedule round single.1 one)
 
@@ -24,7 +23,7 @@ runs_reach_rounds runs_reach core nestings main list words firsts input p schedu
     let first = list_opening main words firsts input p in
     let round = counts_for stages in
     let s = run (next core) setting schedule first in
-    let one = units_single round (counts_are_units stages) in
+    let one = counts_single stages in
     let last : run (next core) setting (schedule ++ round ∷ []) first ≡ result (next core) setting round s = run-append (next core) setting schedule (round ∷ []) first in
     let none : (run (next core) setting (schedule ++ round ∷ []) first).fault ≡ None
     = ap (λ (u : State Position). u.fault) last ∙ ap (λ (u : State Position). u.fault) (result_is (next core) setting round s one possible) in

@@ -1,8 +1,7 @@
 -- Which operations stand where, and where they go on in the list.
 use Rattle.std.proofs.Common.{◌≡◌, ◌≢◌, ◌⊎◌, inl, inr, ℕ, zero, suc, ◌<◌, Bool, true, false, List, [], ◌∷◌, length, Option, Some, None, refl, ap, ◌∙◌, arith}
-use Rattle.std.specs.Prelude.{slice_get, All}
+use Rattle.std.specs.Prelude.{All}
 use Rattle.std.proofs.lemmas.List.Elements.{All-cons, All-head, All-tail}
-use Rattle.std.proofs.lemmas.Option.{slice_get_past}
 use Rattle.fk_operation.specs.Kinds.{class_of}
 use Rattle.fk_operation.specs.declared.kinds.Class.{Class}
 use Rattle.fk_operation.specs.declared.kinds.Class.TheVariants as class
@@ -17,10 +16,9 @@ use Rattle.fk_core.specs.WellFormed.{LeadsOn}
 use Rattle.fk_block_law.specs.Next.{StandsOp, step_at}
 use Rattle.fk_block_law.specs.Ready.{is_no_step, MayDo}
 use Rattle.fk_block_law.specs.Lists.{StaysInList}
-use Rattle.fk_simulation.proofs.Positions.{no_jump}
 use Rattle.fk_group_law.specs.Node.{Nestings}
 use Rattle.fk_group_law.specs.Law.{is_shared_step}
-use Rattle.fk_group_rounds.proofs.Way.{landing_end}
+use Rattle.fk_group_rounds.proofs.Way.{no_jump}
 use Rattle.fk_one_group.specs.Where.{Where, InRoot, Waits, InGroup, InBody, BehindBody, stays, goes}
 use Rattle.fk_one_group.specs.Placed.{where_in}
 use Rattle.fk_group_course.specs.Lists.{IsOfOneGroup}
@@ -132,10 +130,6 @@ leading core leads w lt =
     let is = leads w.at lt in
     let at : StandsOp core (landing core w.at) is.op is.operation = record { stands = is.stands; no_jump = no_jump is.op is.operation is.is_read; is_read = is.is_read } in
     record { op = is.op; operation = is.operation; at = at; is_next = next_at core w is.op is.operation at }
-
-pub ended_next : (core : List CoreOp) → next core (the_end core) ≡ None
-ended_next core =
-    ap (λ (i : ℕ). step_of core i [] (slice_get core i)) (landing_end core) ∙ ap (step_of core (length core) []) (slice_get_past core (length core) (omega arith))
 
 -- ---- where it goes on
 

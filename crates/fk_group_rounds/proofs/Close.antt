@@ -40,7 +40,7 @@ use Rattle.fk_group_rounds.specs.Next.{JumpsLead, landed, all_landed, IsHome, Ha
 use Rattle.fk_group_rounds.specs.Comes.{IsNode}
 use Rattle.fk_group_rounds.specs.After.{actings, tree_after, owner_after, owners_after, is_halt, halts, DoesStep, StepsAt, ArePlaces, AllGoOn, GroupsGoOn, BindsAgain}
 use Rattle.fk_group_rounds.specs.Rounds.{IsBefore, IsTree, RoundsClose}
-use Rattle.fk_group_rounds.proofs.Lists.{of_map}
+use Rattle.fk_group_rounds.proofs.Lists.{of_map, committed_parts}
 use Rattle.fk_group_rounds.proofs.Comes.{groups_come_to_commits}
 use Rattle.fk_group_rounds.proofs.Keep.{AllAtHome, settled_below, met_settles}
 use Rattle.fk_group_rounds.proofs.Harts.{LockLeft, steps_into_group}
@@ -73,10 +73,6 @@ absent_arrived false k = refl
 none_at : (here member : Bool) (w : ℕ) (a : Option Stage) (k : ℕ) → (here ≡ true → a ≡ None) → and_arrived (phase_at here member (phase_of w member a)) k ≡ k
 none_at true member w a k none = ap (λ x. and_arrived (phase_of w member x) k) (none refl) ∙ absent_arrived member k
 none_at false member w a k none = absent_arrived member k
-
-committed_parts : (b : Bool) (a : Option Stage) (afters : List (Option Stage)) → AllHaveCommitted (add b a afters) → (b ≡ true → a ≡ None) × AllHaveCommitted afters
-committed_parts true a afters all = (λ e. all.0, all.1)
-committed_parts false a afters all = (λ e. absurd (false≢true e), all)
 
 pub none_arrived : (plan : Plan) (g w number : ℕ) (ns : List ℕ) (afters : List (Option Stage)) → AllHaveCommitted (of_node g ns afters) → arrived (phases_from plan g w number ns afters) ≡ 0
 none_arrived plan g w number [] afters all = refl

@@ -8,8 +8,8 @@ use Rattle.fk_tree.specs.Tree as trees
 use Rattle.fk_tree.specs.Tree.{Tree, is_member}
 use Rattle.fk_operation.specs.Kinds.{joint_of}
 use Rattle.fk_operation.specs.declared.operation.Operation.{Operation}
-use Rattle.fk_operation.specs.declared.operation.Operation.TheVariants.{End, Halt, Meet, Resume}
-use Rattle.fk_operation.specs.declared.kinds.Joint.TheVariants.{Starting}
+use Rattle.fk_operation.specs.declared.operation.Operation.TheVariants.{Begin, End, Halt, Meet, Resume}
+use Rattle.fk_operation.specs.declared.kinds.Joint.TheVariants.{Alone, Starting}
 use Rattle.fk_run.specs.Processor.{Setting}
 use Rattle.fk_run.specs.Round.{body_of}
 use Rattle.fk_core.specs.declared.op.CoreOp.{CoreOp}
@@ -43,11 +43,16 @@ use Rattle.fk_group_plans.proofs.Standing.{members_stand_at_stages, members_halt
 use Rattle.fk_group_plans.specs.Rounds.{closing_joint, joint_at_word, ending_of}
 use Rattle.fk_group_rounds.specs.Next.{JumpsLead, landed, all_landed, IsHome, MayMeet, MayStart, HasNext, AllAt, AllAbout, ActsAlike, StepsAlike, HaveNext}
 use Rattle.fk_group_rounds.specs.Comes.{AllBelow, IsNode, ComesTo, ComeTo, MembersComeToStages, GroupsComeToCommits}
-use Rattle.fk_simulation.proofs.Linked.{in_cycles_join, runs_join, runs_later, alone_joint}
-use Rattle.fk_group_rounds.proofs.Cycles.{finished_in}
+use Rattle.fk_group_rounds.proofs.Cycles.{finished_in, in_cycles_join, runs_join, runs_later}
 use Rattle.fk_group_rounds.proofs.Way.{IsWay, way}
 
 -- ---- words by which members meet
+
+alone_joint : (operation : Operation) → is_alone operation ≡ true → joint_of operation ≡ Alone
+alone_joint Begin alone = absurd (cc)
+alone_joint (Meet closing) alone = absurd (cc)
+alone_joint Resume alone = absurd (cc)
+alone_joint operation alone = refl
 
 -- by leaving, each commits
 meeting_ends : (operation : Operation) → is_meeting operation ≡ true → ending_of (joint_of operation) ≡ Commits

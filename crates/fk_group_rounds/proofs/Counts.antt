@@ -1,19 +1,20 @@
 -- Those who may meet at a word are as many as the plan says, where each of them is at a fresh stage.
-use Rattle.std.proofs.Common.{◌≡◌, ℕ, suc, ◌+◌, ◌≤◌, ◌<◌, List, [], ◌∷◌, length, Option, Some, None, Bool, true, false, sym, ap, subst, ◌∙◌, refl, arith, ⊎_elim, eq-eqb}
+use Rattle.std.proofs.Common.{◌≡◌, ℕ, suc, ◌+◌, ◌≤◌, ◌<◌, List, [], ◌∷◌, length, Option, Some, Bool, true, false, sym, ap, subst, ◌∙◌, refl, arith, ⊎_elim, eq-eqb}
 use Rattle.std.specs.Prelude.{◌==◌, ◌||◌, cond}
-use Rattle.std.proofs.lemmas.Bool.{cases_Bool, cases_eq, ne_eqb, eqb-true, and_parts, or_cases, or_left, or_right, false≢true}
+use Rattle.std.proofs.lemmas.Bool.{cases_Bool, cases_eq, ne_eqb, eqb-true, and_parts, or_cases, or_left, or_right}
 use Rattle.fk_tree.specs.Tree.{is_member}
 use Rattle.fk_tree.specs.Sound.{is_below_all, is_ascending}
 use Rattle.fk_tree.proofs.Lists.{below_all-member}
 use Rattle.fk_image.specs.declared.Image.{Image}
 use Rattle.fk_machine.specs.Hart.{Hart, Setting}
-use Rattle.fk_nodes.specs.Node.{Member, numbered, add, of_node, AreAsMany}
+use Rattle.fk_nodes.specs.Node.{Member, numbered, of_node, AreAsMany}
 use Rattle.fk_nodes.specs.Source.{Source}
 use Rattle.fk_meeting.specs.Phase.{Phase, Outside, Away, Coming, Waiting, Leaving, and_member, members}
 use Rattle.fk_plans.specs.Stage.{Stage, Ended, Acts, Meets, absent, phase_of, kept}
 use Rattle.fk_plans.specs.Plan.{Plan, Blocks, IsInside, phase_at, phases_from, StandsAt}
 use Rattle.fk_plans.specs.Cycle.{AllHaveCommitted}
 use Rattle.fk_plans.specs.Change.{AllAreNew, Changes, AllChange}
+use Rattle.fk_group_rounds.proofs.Lists.{committed_parts}
 
 -- ---- how many of the numbers from one on, one for each element of a list, are in another
 
@@ -127,10 +128,6 @@ phases_count plan g w number (n ∷ ns) (s ∷ stages) ms tells fine =
 phases_count plan g w number ns stages ms tells fine = absurd (assumption fine)
 
 -- ---- who has committed is at one
-
-committed_parts : (b : Bool) (a : Option Stage) (afters : List (Option Stage)) → AllHaveCommitted (add b a afters) → (b ≡ true → a ≡ None) × AllHaveCommitted afters
-committed_parts true a afters all = (λ e. all.0, all.1)
-committed_parts false a afters all = (λ e. absurd (false≢true e), all)
 
 pub all_new : (g : ℕ) (ns : List ℕ) (hs : List Hart) (afters : List (Option Stage)) → AreAsMany ns hs afters → AllHaveCommitted (of_node g ns afters) → AllAreNew g ns afters
 all_new g [] [] [] many all = tt

@@ -33,6 +33,7 @@ use Rattle.fk_group_plans.specs.Rounds.{joint_at_word, ending_of, IsDueAt, AllDu
 use Rattle.fk_group_rounds.specs.Next.{JumpsLead, landed, all_landed, IsHome, HasNext}
 use Rattle.fk_group_rounds.specs.Comes.{most_between, IsSoon}
 use Rattle.fk_group_rounds.specs.After.{runners_of, owner_after, halts, ArePlaces, AllLanded, AllGoOn, AllSoon}
+use Rattle.fk_group_rounds.proofs.Lists.{committed_parts}
 use Rattle.fk_group_rounds.proofs.Same.{SameNode, runs_same, opens_still, member_still, size_still}
 use Rattle.fk_group_rounds.proofs.Comes.{comes}
 use Rattle.fk_group_rounds.proofs.Keep.{AllOn, node_is_there, member_comes}
@@ -301,10 +302,6 @@ module _ (core : List CoreOp) (image : Image) (places : Places) (nestings : Nest
     pub alike : (g : ℕ) → plan'.in_lockstep g ≡ true → AllHaveCommitted (of_node g ns' afters)
         → AllAct (core_source core setting) image plan' blocks' (distances g) (of_node g ns' stages) (of_node g ns' (numbered number hs)) (of_node g ns' (all_become ds))
 
-  committed_rest : (b : Bool) (a : Option Stage) (afters : List (Option Stage)) → AllHaveCommitted (add b a afters) → (b ≡ true → a ≡ None) × AllHaveCommitted afters
-  committed_rest true a afters all = (λ e. all.0, all.1)
-  committed_rest false a afters all = (λ e. absurd (false≢true e), all)
-
   act_first : (d : ℕ) (b : Bool) (s : Stage) (stages : List Stage) (m : Member) (ms : List Member) (p : Owner) (ps : List Owner) → (b ≡ true → s ≡ Acts d)
       → AllAct (core_source core setting) image plan' blocks' d stages ms ps → AllAct (core_source core setting) image plan' blocks' d (add b s stages) (add b m ms) (add b p ps)
   act_first d true s stages m ms p ps one all = (one refl, all)
@@ -357,7 +354,7 @@ module _ (core : List CoreOp) (image : Image) (places : Places) (nestings : Nest
         due = (on.0.number_is, one.due, rest.due);
         soon = (one.soon, rest.soon);
         alike = λ k is all.
-            let parts = committed_rest (n' == k) a (of_node k ns' afters) all in
+            let parts = committed_parts (n' == k) a (of_node k ns' afters) all in
             act_first (distances k) (n' == k) one.stage (of_node k ns' rest.stages) m (of_node k ns' (numbered (suc number) hs)) (becomes d) (of_node k ns' (all_become ds))
             (λ e.
             let same : tree.places number ≡ k = sym here' ∙ eqb-true n' k e in

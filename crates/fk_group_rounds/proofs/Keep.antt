@@ -36,8 +36,7 @@ use Rattle.fk_group_plans.specs.Behind.{runs_of, HasEnded, HasGone, HasMet, AllH
 use Rattle.fk_group_rounds.specs.Next.{JumpsLead, landed, all_landed, IsHome, HasNext, HaveNext}
 use Rattle.fk_group_rounds.specs.Comes.{AllBelow, IsNode, ComesTo, ComeTo}
 use Rattle.fk_group_rounds.specs.After.{owner_after, AllKeep, is_halt, halts}
-use Rattle.fk_simulation.proofs.Linked.{ended_next}
-use Rattle.fk_group_rounds.proofs.Way.{landing_end}
+use Rattle.fk_group_rounds.proofs.Way.{landing_end, ended_next}
 use Rattle.fk_group_rounds.proofs.Lists.{map_map, SameNumbers, run_numbers, run_end}
 use Rattle.fk_group_rounds.proofs.Comes.{comes, groups_come_to_commits}
 
@@ -144,7 +143,7 @@ module _ (core : List CoreOp) (image : Image) (places : Places) (nestings : Nest
           stands = ap (λ h. h.ended) here ∙ ended.ended;
           due =
               ap (λ w. next core (position (landing core w.at) w.callers)) left
-              ∙ ap (λ i. next core (position i [])) (landing_end core) ∙ ended_next core image places setting [];
+              ∙ ap (λ i. next core (position i [])) (landing_end core) ∙ ended_next core [];
           soon = tt;
         }
 

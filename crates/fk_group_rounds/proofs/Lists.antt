@@ -1,7 +1,7 @@
 -- Lists by hart, and by node; and the numbers of members in a run of their node.
-use Rattle.std.proofs.Common.{◌≡◌, ℕ, zero, suc, ◌<◌, List, [], ◌∷◌, length, Some, Bool, true, false, sym, ap, ◌∙◌, refl, arith, eq-eqb}
+use Rattle.std.proofs.Common.{◌≡◌, ℕ, zero, suc, ◌<◌, List, [], ◌∷◌, length, Option, Some, None, Bool, true, false, sym, ap, ◌∙◌, refl, arith, eq-eqb}
 use Rattle.std.specs.Prelude.{◌==◌, map, slice_get}
-use Rattle.std.proofs.lemmas.Bool.{ne_eqb}
+use Rattle.std.proofs.lemmas.Bool.{ne_eqb, false≢true}
 use Rattle.fk_num.specs.Word.{Memory}
 use Rattle.fk_image.specs.declared.Image.{Image}
 use Rattle.fk_machine.specs.Hart.{Setting}
@@ -9,6 +9,8 @@ use Rattle.fk_nodes.specs.Node.{Member, Words, add, of_node}
 use Rattle.fk_nodes.specs.Alone.{NodeCycle, NodeRun, later}
 use Rattle.fk_nodes.specs.OnePlace.{last_or}
 use Rattle.fk_nodes.proofs.Runs.{cycle_map, run_map}
+use Rattle.fk_plans.specs.Stage.{Stage}
+use Rattle.fk_plans.specs.Cycle.{AllHaveCommitted}
 
 -- ---- by node
 
@@ -34,6 +36,11 @@ none_of g (n ∷ ns) (x ∷ xs) away =
 last_add : {A : Type 0} (f : A → ℕ) (b : Bool) (x : A) (xs : List A) (other value : ℕ) → ((v : ℕ) → last_or v (map f xs) ≡ value) → last_or other (map f (add b x xs)) ≡ value
 last_add f true x xs other value rest = rest (f x)
 last_add f false x xs other value rest = rest other
+
+-- who has committed is at one
+pub committed_parts : (b : Bool) (a : Option Stage) (afters : List (Option Stage)) → AllHaveCommitted (add b a afters) → (b ≡ true → a ≡ None) × AllHaveCommitted afters
+committed_parts true a afters all = (λ e. all.0, all.1)
+committed_parts false a afters all = (λ e. absurd (false≢true e), all)
 
 -- the last one of a node
 pub last_of : {A : Type 0} (f : A → ℕ) (g : ℕ) (ns : List ℕ) (xs : List A) (h : ℕ) (x : A) (other : ℕ) → slice_get ns h ≡ Some g → slice_get xs h ≡ Some x

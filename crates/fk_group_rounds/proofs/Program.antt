@@ -96,7 +96,7 @@ way_same (o.Branch false) p q same = ap (λ v. v == 0) (same false refl)
 way_same (o.Combine by) p q same = way_combine (class_of (o.Combine by)) by p q
 way_same operation p q same = refl
 
-runner_at : (ps : List Owner) (h : ℕ) (p : Owner) → slice_get ps h ≡ Some p → slice_get (runners_of ps) h ≡ Some p.runner
+pub runner_at : (ps : List Owner) (h : ℕ) (p : Owner) → slice_get ps h ≡ Some p → slice_get (runners_of ps) h ≡ Some p.runner
 runner_at [] h p at = absurd (cc)
 runner_at (q ∷ ps) zero p at = let e : q ≡ p = cc in ap (λ x. Some x.runner) e
 runner_at (q ∷ ps) (suc h) p at = runner_at ps h p at

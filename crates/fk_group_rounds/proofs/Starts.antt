@@ -51,7 +51,7 @@ use Rattle.fk_group_rounds.specs.Comes.{most_between, IsSoon, AllBelow, IsNode, 
 use Rattle.fk_group_rounds.specs.After.{actings, runners_of, tree_after, owner_after, owners_after, halts, is_halt, DoesStep, StepsAt, ArePlaces, AllGoOn, GroupsGoOn, AllSoon}
 use Rattle.fk_group_rounds.specs.Rounds.{IsTree, AreBoundAgain}
 use Rattle.fk_group_rounds.specs.Start.{IsBeforeStart, RoundsStart}
-use Rattle.fk_simulation.proofs.Linked.{runs_later}
+use Rattle.fk_group_rounds.proofs.Cycles.{runs_later}
 use Rattle.fk_group_rounds.proofs.Lists.{of_map, map_map}
 use Rattle.fk_group_rounds.proofs.Begun as tree_behind
 use Rattle.fk_group_rounds.proofs.Agreed.{agreed_at}

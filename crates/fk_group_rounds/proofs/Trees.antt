@@ -36,7 +36,7 @@ use Rattle.fk_group_rounds.specs.Next.{JumpsLead, all_landed}
 use Rattle.fk_group_rounds.specs.Comes.{most_between}
 use Rattle.fk_group_rounds.specs.After.{actings, owner_after, owners_after, Keeps, AllKeep, AllGoOn, GroupsGoOn, BindsAgain}
 use Rattle.fk_group_rounds.specs.Rounds.{IsBefore, RoundsKeepTrees}
-use Rattle.fk_simulation.proofs.Linked.{runs_later}
+use Rattle.fk_group_rounds.proofs.Cycles.{runs_later}
 use Rattle.fk_group_rounds.proofs.Same.{SameNode, same_node}
 use Rattle.fk_group_rounds.proofs.Harts.{AllAre, HartsGo, EachGoes, hart_goes, harts_go}
 use Rattle.fk_group_rounds.proofs.Groups.{same_all, GroupAt, group_at, lock_left}

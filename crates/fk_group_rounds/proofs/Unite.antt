@@ -54,7 +54,7 @@ use Rattle.fk_group_rounds.specs.After.{runners_of, ArePlaces}
 use Rattle.fk_group_rounds.specs.Rounds.{IsBefore}
 use Rattle.fk_group_rounds.specs.Start.{IsBeforeStart}
 use Rattle.fk_group_rounds.specs.Unite.{AllUnite, AreInRoot, CyclesUnite}
-use Rattle.fk_simulation.proofs.Linked.{runs_later}
+use Rattle.fk_group_rounds.proofs.Cycles.{runs_later}
 use Rattle.fk_group_rounds.proofs.Comes.{owns_header}
 use Rattle.fk_group_rounds.proofs.Groups.{many_length}
 use Rattle.fk_group_rounds.proofs.Trees.{some_there}

@@ -1,14 +1,26 @@
 -- The way from an index to the operation that jumps lead to.
-use Rattle.std.proofs.Common.{◌≡◌, ℕ, zero, suc, ◌<◌, List, [], ◌∷◌, length, Option, Some, None, true, sym, ap, ◌∙◌, refl, arith, ◌⊎◌, inl, inr, ⊎_elim}
+use Rattle.std.proofs.Common.{◌≡◌, ℕ, zero, suc, ◌<◌, List, [], ◌∷◌, length, Option, Some, None, true, false, sym, ap, ◌∙◌, refl, arith, ◌⊎◌, inl, inr, ⊎_elim}
 use Rattle.std.specs.Prelude.{slice_get}
-use Rattle.std.proofs.lemmas.Bool.{cases_Bool}
+use Rattle.std.proofs.lemmas.Bool.{cases_Bool, eqb-true}
 use Rattle.std.proofs.lemmas.Option.{slice_get_past}
+use Rattle.fk_operation.specs.declared.operation.Operation.{Operation}
 use Rattle.fk_core.specs.declared.op.CoreOp.{CoreOp}
-use Rattle.fk_core.specs.Next.{is_jump, through, led_by, landing_by, landing}
+use Rattle.fk_core.specs.Numbers.{operation_of}
+use Rattle.fk_core.specs.Next.{position, is_jump, through, led_by, landing_by, landing, step_of, next}
 use Rattle.fk_core.specs.WellFormed.{IsOperation}
 use Rattle.fk_block_law.proofs.Standing.{landing_at, landing_here}
-use Rattle.fk_simulation.proofs.Positions.{no_jump}
 use Rattle.fk_group_rounds.specs.Next.{JumpsLead}
+
+no_operation : (number : ℕ) → operation_of 0 number ≡ None
+no_operation number = refl
+
+-- what has an operation is no jump
+pub no_jump : (op : CoreOp) (operation : Operation) → operation_of op.kind op.number ≡ Some operation → is_jump op ≡ false
+no_jump op operation e = by (cases_Bool (is_jump op))
+  where
+    by : ((is_jump op ≡ true) ⊎ (is_jump op ≡ false)) → is_jump op ≡ false
+    by (inr f) = f
+    by (inl f) = absurd (let g = sym (ap (λ k. operation_of k op.number) (eqb-true op.kind 0 f) ∙ no_operation op.number) ∙ e in cc)
 
 -- an index is that of an operation, or of a jump to it
 abbrev pub IsWay : List CoreOp → (from i : ℕ) → Type 0
@@ -41,3 +53,7 @@ module _ (core : List CoreOp) where
   -- behind the last one there is nothing
   pub landing_end : landing core (length core) ≡ length core
   landing_end = nowhere (length core) (length core) (slice_get_past core (length core) (omega arith))
+
+  pub ended_next : (callers : List ℕ) → next core (position (length core) callers) ≡ None
+  ended_next callers =
+      ap (λ i. step_of core i callers (slice_get core i)) landing_end ∙ ap (step_of core (length core) callers) (slice_get_past core (length core) (omega arith))

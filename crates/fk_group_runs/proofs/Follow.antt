@@ -23,7 +23,7 @@ use Rattle.fk_plans.specs.Plan.{IsBound}
 use Rattle.fk_block_law.specs.Owner.{Owner, idle, core_source}
 use Rattle.fk_block_law.specs.Stands.{Places}
 use Rattle.fk_block_law.specs.Block.{gone_to}
-use Rattle.fk_simulation.proofs.Linked.{runs_later}
+use Rattle.fk_group_rounds.proofs.Cycles.{runs_later}
 use Rattle.fk_simulation.proofs.Rounds.{first_cut}
 use Rattle.fk_group_law.specs.Node.{Nestings}
 use Rattle.fk_group_law.specs.Start.{most_united}

@@ -8,8 +8,7 @@ use Rattle.fk_core.specs.declared.op.CoreOp.{CoreOp}
 use Rattle.fk_core.specs.Next.{Position, position, landing, step_of, next}
 use Rattle.fk_block_law.proofs.Standing.{landing_here}
 use Rattle.fk_group_rounds.specs.Next.{JumpsLead}
-use Rattle.fk_simulation.proofs.Positions.{no_jump}
-use Rattle.fk_group_rounds.proofs.Way.{way}
+use Rattle.fk_group_rounds.proofs.Way.{no_jump, way}
 use Rattle.fk_group_runs.specs.Beside.{landed_state, LandedRunsAreRuns}
 
 module _ (core : List CoreOp) (leads : JumpsLead core) where

@@ -28,7 +28,7 @@ pub counts_are_units : (stages : List Stage) → rounds.AreUnits (counts_for sta
 counts_are_units [] = tt
 counts_are_units (s ∷ stages) = (one_unit (distance s), counts_are_units stages)
 
-actings_same : (ds : List Doing) → rounds.actings ds ≡ actings ds
+pub actings_same : (ds : List Doing) → rounds.actings ds ≡ actings ds
 actings_same [] = refl
 actings_same (d ∷ ds) = ap (λ l. d.acting ∷ l) (actings_same ds)
 
@@ -49,6 +49,17 @@ module _ (core : List CoreOp) where
       ∙ ap (λ l. rounds.owner heaps (landed_runner core r) ∷ l) (owners_are (suc number) heaps ps rs order.1 rest own.1)
   owners_are number heaps [] (r ∷ rs) order same own = absurd (cc)
   owners_are number heaps (p ∷ ps) [] order same own = absurd (cc)
+
+  -- each does its part of the round
+  pub all_passed : (setting : Setting) (stages : List Stage) (s : State Position) (ps : List Owner) (did : List Doing) (shared shared' : Commons) → AreInOrder 0 s.runners → IsBeside core s ps shared
+      → AllPass (core_source core setting) (counts_for stages) ps shared did shared' → rounds.Passed core setting 0 (counts_for stages) (map (landed_runner core) s.runners) s.store did shared'
+  all_passed setting stages s ps did shared shared' order beside all =
+      let round = counts_for stages in
+      let runners = map (landed_runner core) s.runners in
+      let are = owners_are 0 s.store.heaps ps s.runners order beside.runners beside.heaps in
+      rounds.passed core setting 0 round runners s.store did shared' (counts_are_units stages) (in_order 0 s.runners order)
+      (subst (λ c. AllPass (core_source core setting) round (rounds.owners s.store.heaps runners) c did shared') (sym beside.commons)
+      (subst (λ l. AllPass (core_source core setting) round l shared did shared') are all))
 
   settled_are : (acting : List (Acting Position)) (old new : Tree) (ds : List Doing)
       → runners_of (all_landed core (map (owner_after acting old new) ds)) ≡ map (landed_runner core) (settled acting old new (actings ds))
@@ -84,9 +95,7 @@ module _ (core : List CoreOp) (setting : Setting) (s : State Position) (ps : Lis
       let round = counts_for stages in
       let acting = actings did in
       let new = tree_after s.tree did in
-      let p = rounds.passed core setting 0 round landing.runners s.store did shared' (counts_are_units stages) (in_order core 0 s.runners order)
-      (subst (λ c. AllPass (core_source core setting) round (rounds.owners s.store.heaps landing.runners) c did shared') (sym beside.commons)
-      (subst (λ l. AllPass (core_source core setting) round l shared did shared') are all)) in
+      let p = all_passed core setting stages s ps did shared shared' order beside all in
       let served : requests_of round ≡ record { store = p.store; acting = acting; fault = None }
       = p.all ∙ ap (λ l. let r : Phases Position = record { store = p.store; acting = l; fault = None } in r) (actings_same did) in
       let left : State Position = record { store = p.store; tree = new; runners = settled acting s.tree new acting; fault = None } in

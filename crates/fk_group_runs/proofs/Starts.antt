@@ -36,7 +36,7 @@ use Rattle.fk_group_rounds.specs.After.{actings, runners_of, tree_after, owner_a
 use Rattle.fk_group_rounds.specs.Rounds.{IsTree, IsBefore}
 use Rattle.fk_group_rounds.specs.Start.{IsBeforeStart}
 use Rattle.fk_group_rounds.specs.Unite.{AreInRoot}
-use Rattle.fk_simulation.proofs.Linked.{runs_later}
+use Rattle.fk_group_rounds.proofs.Cycles.{runs_later}
 use Rattle.fk_simulation.proofs.Rounds.{first_cut}
 use Rattle.fk_group_rounds.proofs.Groups.{many_length}
 use Rattle.fk_group_rounds.proofs.Trees.{all_keep}

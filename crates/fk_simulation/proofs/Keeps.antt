@@ -17,7 +17,7 @@ use Rattle.fk_operation.specs.declared.operation.Operation.{Operation}
 use Rattle.fk_operation.specs.declared.operation.Operation.TheVariants as o
 use Rattle.fk_store.specs.Store.{Store, address_of, shared_words}
 use Rattle.fk_store.specs.Serve.{Answer, Served, Faults, is_shared, shared_index, private_index, may_use, read, write, operator_of, combined, block_address, words_of, serve}
-use Rattle.fk_run.specs.Processor.{Processor, Setting, values, last, before, setting_of, drop_last}
+use Rattle.fk_run.specs.Processor.{Processor, Setting, values, last, setting_of, drop_last}
 use Rattle.fk_run.specs.Request.{address, arguments, entered, depth, request, with_answer}
 use Rattle.fk_run.specs.Group.{has_room}
 use Rattle.fk_run.specs.Round.{Step, Runner, State, Fault, Round, Acting, taking, runner_of, Phase, Passes, Breaks, Phases, do_local, local_phase, after_one, after_locals, begin, asking, do_request, answered, request_phase, after_phase, all_requests, highest, who, agreed, all_changes, settled_by, settled, tree_phase, result}
@@ -26,8 +26,7 @@ use Rattle.fk_core.specs.declared.op.CoreOp.{CoreOp}
 use Rattle.fk_core.specs.Next.{Position, next, position, list_opening}
 use Rattle.fk_block_law.specs.Ready.{IsInRange}
 use Rattle.fk_simulation.specs.InRange.{AreGiven, ListsStayInRange}
-use Rattle.fk_simulation.proofs.Parts.{if_either}
-use Rattle.fk_simulation.proofs.Words.{IsWord, applied-is}
+use Rattle.fk_simulation.proofs.Words.{if_either, IsWord, applied-is}
 use Rattle.fk_simulation.proofs.Few.{IsFew, all_few, root_few}
 use Rattle.fk_simulation.proofs.Ranges.{AreWords, IsSound, IsSmall, last-is, before-are, put-is, in_place-sound, drop-sound, local-sound}
 use Rattle.fk_simulation.proofs.Steps.{does-sound}
@@ -74,9 +73,6 @@ entered-sound n p s lt = record {
   top = s.top;
   waiting = lt;
 }
-
-address-is : (p : Processor) → IsSound p → IsWord (address p)
-address-is p s = last-is (before 1 (values p)) (before-are 1 (values p) s.call.values)
 
 combined-answered : (by : Multiprefix) (o' : Option Multiprefix) (p : Processor) (s : Store) → IsSound p → IsSoundStore s
     → IsAnswered (o.Combine by) p (combined o' s p.number (address p) (last (values p)))

@@ -17,8 +17,7 @@ use Rattle.fk_store.specs.Store.{address_of, private_address, private_words, sha
 use Rattle.fk_store.specs.Serve.{words_of}
 use Rattle.fk_run.specs.Processor.{Level, Call, Processor, Setting, values, last, before, with_values, push, drop_last, in_place}
 use Rattle.fk_run.specs.Local.{value_of, known, stored, applied_to, joined, in_order, taken, handed, unframed, to_caller, local}
-use Rattle.fk_simulation.proofs.Parts.{if_either}
-use Rattle.fk_simulation.proofs.Words.{IsWord, word_is, applied-is}
+use Rattle.fk_simulation.proofs.Words.{if_either, IsWord, word_is, applied-is}
 
 -- ---- processors
 

@@ -16,7 +16,7 @@ use Rattle.fk_core.specs.Next.{Position, next}
 use Rattle.fk_nodes.specs.Source as nodes
 use Rattle.fk_nodes.specs.Whole.{first_of}
 use Rattle.fk_block_law.specs.Owner.{Commons, commons_of, Owner, Doing, as_part, part, core_source}
-use Rattle.fk_simulation.proofs.Parts.{local_number, answer_number}
+use Rattle.fk_simulation.proofs.Numbers.{local_number, answer_number}
 use Rattle.fk_simulation.proofs.Stores.{seen, ArePhasesAlike, phase_alike}
 
 -- ---- owners

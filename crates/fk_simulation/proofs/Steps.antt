@@ -12,8 +12,7 @@ use Rattle.fk_store.specs.Store.{address_of, shared_words}
 use Rattle.fk_store.specs.Serve.{words_of}
 use Rattle.fk_run.specs.Processor.{Level, Processor, values, last, before, drop_last, enter_level, to_outer}
 use Rattle.fk_run.specs.Group.{parts, part, taken_by, waits_with, part_number, part_rank, part_level, divided, start_level, is_taken, framed, allotted, with_block, with_size, stays, does, has_parts, has_room}
-use Rattle.fk_simulation.proofs.Parts.{if_either}
-use Rattle.fk_simulation.proofs.Words.{IsWord}
+use Rattle.fk_simulation.proofs.Words.{if_either, IsWord}
 use Rattle.fk_simulation.proofs.Ranges.{AreWords, IsLevel, AreLevels, IsSound, last-is, before-are, with_values-sound, in_place-sound, drop-sound}
 
 -- ---- levels

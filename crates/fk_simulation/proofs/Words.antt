@@ -8,7 +8,11 @@ use Rattle.fk_num.specs.Word.{word, signed}
 use Rattle.fk_num.specs.Op.{residue, word_of, upper_word, distance, applied}
 use Rattle.fk_num.specs.declared.operator.Op.{Op}
 use Rattle.fk_num.specs.declared.operator.Op.TheVariants as f
-use Rattle.fk_simulation.proofs.Parts.{if_either}
+
+-- what is so of both is so of either
+pub if_either : {A : Type 0} (P : A → Type 0) (b : Bool) (x y : A) → P x → P y → P (if b then x else y)
+if_either P true x y p q = p
+if_either P false x y p q = q
 
 abbrev pub IsWord : ℕ → Type 0
 IsWord v = v < 2 ^ 32

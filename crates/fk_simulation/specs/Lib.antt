@@ -1,3 +1,3 @@
 pub mod Follows
-pub mod Simulation
+pub mod Programs
 pub mod InRange

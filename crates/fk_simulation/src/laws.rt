@@ -1,17 +1,7 @@
 //! Laws of the definitions.
 
 ghost use Rattle.fk_simulation.specs.InRange.{ListsStayInRange};
-ghost use Rattle.fk_simulation.specs.Simulation.{MachinesFollowCoreRuns, ProgramsAreFollowed};
-
-/// A machine of an image that has the blocks of a list follows a lawful schedule of the list's core
-/// runs, one round for each cycle, in which who could act is in one of any 256 rounds. Its output,
-/// shared data and stand, a fault at a site included, are those of that core run.
-///
-/// The list is well formed, and has only operations that processors without groups do. So it is for
-/// every input, 1 to 1,024 harts and every number of cycles below 2^32.
-pub fn machines_follow_core_runs()
-    ensures { MachinesFollowCoreRuns }
-{}
+ghost use Rattle.fk_simulation.specs.Programs.{ProgramsAreFollowed};
 
 /// What follows core runs of a list follows the runs of a program whose code stands in the list.
 pub fn programs_are_followed()

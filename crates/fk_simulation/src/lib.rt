@@ -1,4 +1,4 @@
-//! Machines follow core runs: what carries the law of blocks from single harts to whole runs.
+//! What is so of whole runs: what follows those of a list follows those of its program, and values in them are words.
 //!
 //! The definitions stand in `specs/`, and what is proved of them in `laws`. Nothing here knows an
 //! instruction, nor more of an operation than its class.

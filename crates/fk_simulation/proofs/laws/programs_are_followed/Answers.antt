@@ -1,4 +1,4 @@
-use Rattle.fk_simulation.proofs.Theorem.{programs_are_followed}
+use Rattle.fk_simulation.proofs.Programs.{programs_are_followed}
 use Rattle.fk_simulation.proofs.laws.programs_are_followed.Goals as goal
 
 pub returns : goal.returns
