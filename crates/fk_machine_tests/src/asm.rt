@@ -1,6 +1,6 @@
 //! Tests of the assembler.
 ghost use Rattle.std.specs.Prelude.{◌≡◌, ◌+◌, ◌^◌, ◌<◌, All, OnOk, OnErr, length};
-ghost use Rattle.fk_asm.specs.Assembly.{AreFollowed};
+ghost use Rattle.fk_asm.specs.Assembly.{AreFollowed, IsBound, empty};
 ghost use Rattle.fk_asm.specs.Block.{GoesToMade, HasBegun, with_block};
 
 use fk_asm::{AsmFault, Assembler, Blocks};
@@ -8,23 +8,34 @@ use fk_isa::Instruction;
 use std::alloc::AllocError;
 use std::test::Fail;
 
-#[test]
-fn a_branch_over_2000_words_is_too_far(rt: HostRuntime) -> Result<(), Fail> {
-    let mut assembler = Assembler::make(rt.alloc());
+// Writes a branch over 2000 words.
+fn write_far_branch(assembler: &mut Assembler) -> Result<(), AllocError>
+    requires new { assembler.old ≡ empty }
+    ensures bound { OnOk result (All (IsBound assembler.new.bound) assembler.new.lines) }
+    ensures followed { OnOk result (AreFollowed assembler.new) }
+{
     let end = assembler.label()?;
     assembler.jump(Instruction::Beq(0, 0, 0), end)?;
     for _ in 0..2000u32 {
         assembler.emit(Instruction::Addi(0, 0, 0))?;
     }
-    assembler.bind(end)?;
+    assembler.bind(end)
+}
+
+#[test]
+fn a_branch_over_2000_words_is_too_far(rt: HostRuntime) -> Result<(), Fail> {
+    let mut assembler = Assembler::make(rt.alloc());
+    write_far_branch(&mut assembler)?;
     assert!(rt; matches!(assembler.finish(), Err(AsmFault::TooFar(0, 8004))));
     Ok(())
 }
 
-// The words are those that the GNU assembler gives for these lines.
-#[test]
-fn jumps_have_the_words_of_the_gnu_assembler(rt: HostRuntime) -> Result<(), Fail> {
-    let mut assembler = Assembler::make(rt.alloc());
+// Writes jumps to a label before them and to one behind.
+fn write_jumps(assembler: &mut Assembler) -> Result<(), AllocError>
+    requires new { assembler.old ≡ empty }
+    ensures bound { OnOk result (All (IsBound assembler.new.bound) assembler.new.lines) }
+    ensures followed { OnOk result (AreFollowed assembler.new) }
+{
     let again = assembler.label()?;
     let done = assembler.label()?;
     assembler.bind(again)?;
@@ -34,7 +45,14 @@ fn jumps_have_the_words_of_the_gnu_assembler(rt: HostRuntime) -> Result<(), Fail
     assembler.jump(Instruction::Bltu(6, 5, 0), again)?;
     assembler.jump(Instruction::Jal(0, 0), again)?;
     assembler.bind(done)?;
-    assembler.jump(Instruction::Bge(5, 6, 0), again)?;
+    assembler.jump(Instruction::Bge(5, 6, 0), again)
+}
+
+// The words are those that the GNU assembler gives for these lines.
+#[test]
+fn jumps_have_the_words_of_the_gnu_assembler(rt: HostRuntime) -> Result<(), Fail> {
+    let mut assembler = Assembler::make(rt.alloc());
+    write_jumps(&mut assembler)?;
     let code = assembler.finish()?;
     let words = [
         0xfff2_8293,
@@ -81,13 +99,22 @@ fn add<B: Blocks<u8>>(blocks: &B, op: u8, into: &mut Assembler) -> Result<(), Al
     blocks.emit_op(&op, into)
 }
 
+// Writes two stores and a third word that commits.
+fn write_commits(assembler: &mut Assembler) -> Result<(), AllocError>
+    requires new { assembler.old ≡ empty }
+    ensures bound { OnOk result (All (IsBound assembler.new.bound) assembler.new.lines) }
+    ensures followed { OnOk result (AreFollowed assembler.new) }
+{
+    add(&Stores, 7, assembler)?;
+    add(&Stores, 8, assembler)?;
+    assembler.commit(255, 6)?;
+    assembler.emit(Instruction::Ecall)
+}
+
 #[test]
 fn entries_are_those_of_the_words_that_commit(rt: HostRuntime) -> Result<(), Fail> {
     let mut assembler = Assembler::make(rt.alloc());
-    add(&Stores, 7, &mut assembler)?;
-    add(&Stores, 8, &mut assembler)?;
-    assembler.commit(255, 6)?;
-    assembler.emit(Instruction::Ecall)?;
+    write_commits(&mut assembler)?;
     let code = assembler.finish()?;
     assert_eq!(rt;
         code.commits.as_slice(),

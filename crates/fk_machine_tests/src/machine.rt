@@ -9,7 +9,7 @@ use fk_image::Image;
 use fk_machine::stand::{ACCESS, EBREAK, ECALL, FETCH, MISALIGNED, UNKNOWN};
 use fk_machine::{Machine, Stand};
 use std::alloc::{AllocError, Global};
-use std::test::Fail;
+use std::process::Abort;
 
 // Runs an image for at most so many cycles, and answers the machine and all that it printed.
 fn run(
@@ -55,25 +55,77 @@ fn image_of(alloc: Global, code: &[u32], globals: &[u32]) -> Result<Image, Alloc
     })
 }
 
+// Runs this code without globals and input.
+fn run_code(
+    alloc: Global,
+    code: &[u32],
+    harts: u32,
+    bound: u32,
+) -> Result<(Machine, Vec<u8>), AllocError>
+    requires some_code { 1 ≤ length code.now }
+    requires code { length code.now ≤ 262144 }
+    requires some_harts { 1 ≤ harts }
+    requires few_harts { harts ≤ 1024 }
+{
+    run(alloc, &image_of(alloc, code, &[])?, &[], harts, bound)
+}
+
+// A machine stands so after so many cycles.
+fn stands(rt: &impl Abort, machine: &Machine, stand: Stand, cycles: u32) {
+    assert_eq!(rt; machine.stand(), stand);
+    assert_eq!(rt; machine.cycles(), cycles);
+}
+
+// The shared memory of a machine begins with these words.
+fn begins_with(rt: &impl Abort, machine: &Machine, words: &[u32])
+    requires { length words.now ≤ 8 }
+{
+    for (index, word) in words.iter().enumerate() {
+        assert_eq!(rt; machine.word(index as u32), *word, "word {index}");
+    }
+}
+
+// These bytes were printed.
+fn has_printed(rt: &impl Abort, bytes: &[u8], expected: &[u8]) {
+    assert_eq!(rt; bytes, expected);
+}
+
 #[test]
-fn two_harts_print_in_order(rt: HostRuntime) -> Result<(), Fail> {
-    let alloc = rt.alloc();
+fn two_harts_print_in_order(rt: HostRuntime) -> Result<(), AllocError> {
     let code = [
         0x300002b7, // lui t0, 0x30000
         0x0142a303, // lw t1, 20(t0)
         0x0062a023, // sw t1, 0(t0)
         0x0002a623, // sw zero, 12(t0)
     ];
-    let (machine, bytes) = run(alloc, &image_of(alloc, &code, &[])?, &[], 2, 10)?;
-    assert_eq!(rt; bytes.as_slice(), b"0\n1\n".as_slice());
-    assert_eq!(rt; machine.stand(), Stand::Finished);
-    assert_eq!(rt; machine.cycles(), 4);
+    let (machine, bytes) = run_code(rt.alloc(), &code, 2, 10)?;
+    has_printed(&rt, &bytes, b"0\n1\n");
+    stands(&rt, &machine, Stand::Finished, 4);
     assert_eq!(rt; machine.output().len(), 0);
     Ok(())
 }
 
+// A new machine that has run so many cycles in one call, which adds what is printed to the bytes.
+fn run_at_once(
+    alloc: Global,
+    image: &Image,
+    harts: u32,
+    cycles: u32,
+    bytes: &mut Vec<u8>,
+) -> Result<Machine, AllocError>
+    requires limits { IsWithinLimits image.now }
+    requires globals { vec_len image.now.globals ≤ 1000 }
+    requires some_harts { 1 ≤ harts }
+    requires few_harts { harts ≤ 1024 }
+    requires few_cycles { cycles ≤ 100 }
+{
+    let mut machine = Machine::make(alloc, image, &[], harts)?;
+    machine.run(cycles, bytes)?;
+    Ok(machine)
+}
+
 #[test]
-fn one_call_keeps_the_output_of_all_cycles(rt: HostRuntime) -> Result<(), Fail> {
+fn one_call_keeps_the_output_of_all_cycles(rt: HostRuntime) -> Result<(), AllocError> {
     let alloc = rt.alloc();
     let code = [
         0x300002b7, // lui t0, 0x30000
@@ -85,70 +137,53 @@ fn one_call_keeps_the_output_of_all_cycles(rt: HostRuntime) -> Result<(), Fail> 
     ];
     let image = image_of(alloc, &code, &[])?;
     let mut bytes = Vec::new(alloc);
-    let mut whole = Machine::make(alloc, &image, &[], 2)?;
-    whole.run(100, &mut bytes)?;
-    assert_eq!(rt; bytes.as_slice(), b"0\n1\n0\n1\n".as_slice());
-    assert_eq!(rt; whole.stand(), Stand::Finished);
-    assert_eq!(rt; whole.cycles(), 6);
-    let mut begun = Machine::make(alloc, &image, &[], 2)?;
-    begun.run(3, &mut bytes)?;
-    assert_eq!(rt; bytes.as_slice(), b"0\n1\n0\n1\n0\n1\n".as_slice());
-    assert_eq!(rt; begun.stand(), Stand::Running);
-    assert_eq!(rt; begun.cycles(), 3);
+    let whole = run_at_once(alloc, &image, 2, 100, &mut bytes)?;
+    has_printed(&rt, &bytes, b"0\n1\n0\n1\n");
+    stands(&rt, &whole, Stand::Finished, 6);
+    let begun = run_at_once(alloc, &image, 2, 3, &mut bytes)?;
+    has_printed(&rt, &bytes, b"0\n1\n0\n1\n0\n1\n");
+    stands(&rt, &begun, Stand::Running, 3);
     Ok(())
 }
 
-// How one hart that runs this code ends.
-fn stand_of(alloc: Global, code: &[u32]) -> Result<Stand, AllocError>
+// One hart that runs this code traps, with its pc and the number of the trap.
+fn traps(
+    rt: &impl Abort,
+    alloc: Global,
+    code: &[u32],
+    pc: u32,
+    number: u8,
+) -> Result<(), AllocError>
     requires some_code { 1 ≤ length code.now }
     requires code { length code.now ≤ 262144 }
 {
-    let (machine, _) = run(alloc, &image_of(alloc, code, &[])?, &[], 1, 10)?;
-    Ok(machine.stand())
+    let (machine, _) = run_code(alloc, code, 1, 10)?;
+    assert_eq!(rt; machine.stand(), Stand::Trapped(0, pc, number));
+    Ok(())
 }
 
 #[test]
-fn each_trap(rt: HostRuntime) -> Result<(), Fail> {
+fn each_trap(rt: HostRuntime) -> Result<(), AllocError> {
     let alloc = rt.alloc();
     let jump_out = [0x0100006f]; // jal zero, .+16
-    assert_eq!(rt; stand_of(alloc, &jump_out)?, Stand::Trapped(0, 16, FETCH));
+    traps(&rt, alloc, &jump_out, 16, FETCH)?;
     let no_instruction = [0x00000000];
-    assert_eq!(rt;
-        stand_of(alloc, &no_instruction)?,
-        Stand::Trapped(0, 0, UNKNOWN)
-    );
+    traps(&rt, alloc, &no_instruction, 0, UNKNOWN)?;
     let across_two_words = [0x00202303]; // lw t1, 2(zero)
-    assert_eq!(rt;
-        stand_of(alloc, &across_two_words)?,
-        Stand::Trapped(0, 0, MISALIGNED)
-    );
+    traps(&rt, alloc, &across_two_words, 0, MISALIGNED)?;
     let code_as_data = [0x00002303]; // lw t1, 0(zero)
-    assert_eq!(rt;
-        stand_of(alloc, &code_as_data)?,
-        Stand::Trapped(0, 0, ACCESS)
-    );
+    traps(&rt, alloc, &code_as_data, 0, ACCESS)?;
     let byte_to_device = [
         0x300002b7, // lui t0, 0x30000
         0x00528223, // sb t0, 4(t0)
     ];
-    assert_eq!(rt;
-        stand_of(alloc, &byte_to_device)?,
-        Stand::Trapped(0, 4, ACCESS)
-    );
-    assert_eq!(rt;
-        stand_of(alloc, &[0x00000073])?,
-        Stand::Trapped(0, 0, ECALL)
-    );
-    assert_eq!(rt;
-        stand_of(alloc, &[0x00100073])?,
-        Stand::Trapped(0, 0, EBREAK)
-    );
-    Ok(())
+    traps(&rt, alloc, &byte_to_device, 4, ACCESS)?;
+    traps(&rt, alloc, &[0x00000073], 0, ECALL)?;
+    traps(&rt, alloc, &[0x00100073], 0, EBREAK)
 }
 
 #[test]
-fn a_fault_ends_the_machine(rt: HostRuntime) -> Result<(), Fail> {
-    let alloc = rt.alloc();
+fn a_fault_ends_the_machine(rt: HostRuntime) -> Result<(), AllocError> {
     let code = [
         0x300002b7, // lui t0, 0x30000
         0x0142a303, // lw t1, 20(t0)
@@ -156,16 +191,14 @@ fn a_fault_ends_the_machine(rt: HostRuntime) -> Result<(), Fail> {
         0x0072a223, // sw t2, 4(t0)
         0x0072a423, // sw t2, 8(t0)
     ];
-    let (machine, bytes) = run(alloc, &image_of(alloc, &code, &[])?, &[], 3, 10)?;
-    assert_eq!(rt; bytes.as_slice(), b"ABC".as_slice());
-    assert_eq!(rt; machine.stand(), Stand::Faulted(65, 0));
-    assert_eq!(rt; machine.cycles(), 5);
+    let (machine, bytes) = run_code(rt.alloc(), &code, 3, 10)?;
+    has_printed(&rt, &bytes, b"ABC");
+    stands(&rt, &machine, Stand::Faulted(65, 0), 5);
     Ok(())
 }
 
 #[test]
-fn parts_of_words(rt: HostRuntime) -> Result<(), Fail> {
-    let alloc = rt.alloc();
+fn parts_of_words(rt: HostRuntime) -> Result<(), AllocError> {
     let code = [
         0x100002b7, // lui t0, 0x10000
         0x89abd337, // lui t1, 0x89abd
@@ -181,18 +214,18 @@ fn parts_of_words(rt: HostRuntime) -> Result<(), Fail> {
         0x300002b7, // lui t0, 0x30000
         0x0002a623, // sw zero, 12(t0)
     ];
-    let (machine, _) = run(alloc, &image_of(alloc, &code, &[])?, &[], 1, 20)?;
+    let (machine, _) = run_code(rt.alloc(), &code, 1, 20)?;
     assert_eq!(rt; machine.stand(), Stand::Finished);
-    assert_eq!(rt; machine.word(0), 0x89ab00ef);
-    assert_eq!(rt; machine.word(1), 0x0000cdef);
-    assert_eq!(rt; machine.word(2), 0xffffff89);
-    assert_eq!(rt; machine.word(3), 0x000089ab);
+    begins_with(
+        &rt,
+        &machine,
+        &[0x89ab00ef, 0x0000cdef, 0xffffff89, 0x000089ab],
+    );
     Ok(())
 }
 
 #[test]
-fn a_reservation_is_lost_to_another_hart(rt: HostRuntime) -> Result<(), Fail> {
-    let alloc = rt.alloc();
+fn a_reservation_is_lost_to_another_hart(rt: HostRuntime) -> Result<(), AllocError> {
     // Hart 0 reserves word 0 and hart 1 word 1. Hart 0 stores to word 2 and hart 1 to word 0.
     let code = [
         0x300002b7, // lui t0, 0x30000
@@ -208,15 +241,15 @@ fn a_reservation_is_lost_to_another_hart(rt: HostRuntime) -> Result<(), Fail> {
         0x00b2a023, // sw a1, 0(t0)
         0x0002a623, // sw zero, 12(t0)
     ];
-    let (machine, bytes) = run(alloc, &image_of(alloc, &code, &[])?, &[], 2, 20)?;
-    assert_eq!(rt; bytes.as_slice(), b"1\n0\n".as_slice());
-    assert_eq!(rt; machine.word(0), 0, "hart 0 has stored nothing");
-    assert_eq!(rt; machine.word(1), 0x30000000);
+    let (machine, bytes) = run_code(rt.alloc(), &code, 2, 20)?;
+    has_printed(&rt, &bytes, b"1\n0\n");
+    // hart 0 has stored nothing
+    begins_with(&rt, &machine, &[0, 0x30000000]);
     Ok(())
 }
 
 #[test]
-fn devices_answer_loads(rt: HostRuntime) -> Result<(), Fail> {
+fn devices_answer_loads(rt: HostRuntime) -> Result<(), AllocError> {
     let alloc = rt.alloc();
     let code = [
         0x300002b7, // lui t0, 0x30000
@@ -234,22 +267,22 @@ fn devices_answer_loads(rt: HostRuntime) -> Result<(), Fail> {
     let image = image_of(alloc, &code, &[100, 101, 102, 103, 104])?;
     let (machine, _) = run(alloc, &image, &[105, 106], 3, 100)?;
     assert_eq!(rt; machine.stand(), Stand::Finished);
-    assert_eq!(rt;
-        machine.word(0),
-        2,
-        "two cycles are finished at the load of CYCLE"
-    );
-    assert_eq!(rt; machine.word(1), 2, "the last of the harts 0, 1 and 2");
-    assert_eq!(rt; machine.word(2), 3, "harts");
-    assert_eq!(rt; machine.word(3), 2, "input numbers");
-    assert_eq!(rt; machine.word(4), 104, "the last global");
-    assert_eq!(rt; machine.word(6), 106, "the last input number");
-    assert_eq!(rt; machine.word(7), 0);
+    let words = [
+        2, // cycles are finished at the load of CYCLE
+        2, // is the last of the harts 0, 1 and 2
+        3, // harts
+        2, // input numbers
+        104, // the last global
+        105, // the first input number
+        106, // the last input number
+        0,
+    ];
+    begins_with(&rt, &machine, &words);
     Ok(())
 }
 
 #[test]
-fn as_many_harts_as_there_may_be(rt: HostRuntime) -> Result<(), Fail> {
+fn as_many_harts_as_there_may_be(rt: HostRuntime) -> Result<(), AllocError> {
     let alloc = rt.alloc();
     let code = [
         0x300002b7, // lui t0, 0x30000
@@ -258,10 +291,8 @@ fn as_many_harts_as_there_may_be(rt: HostRuntime) -> Result<(), Fail> {
         0x0073202f, // amoadd.w zero, t2, (t1)
         0x0002a623, // sw zero, 12(t0)
     ];
-    let made = Machine::make(alloc, &image_of(alloc, &code, &[])?, &[], 1024);
-    assert!(rt; made.is_ok());
-    let mut machine = made?;
-    machine.run(10, &mut Vec::new(alloc))?;
+    let image = image_of(alloc, &code, &[])?;
+    let machine = run_at_once(alloc, &image, 1024, 10, &mut Vec::new(alloc))?;
     assert_eq!(rt; machine.stand(), Stand::Finished);
     assert_eq!(rt; machine.word(0), 1024);
     Ok(())

@@ -1,5 +1,6 @@
 //! Tests of the operators and the texts.
 use fk_num::{Op, apply, read_unsigned, signed_text, unsigned_text};
+use std::process::Abort;
 
 // Of the suites rv32um and rv32ui of riscv-tests: the operator, its operands and the word that it gives.
 const RISCV_TESTS: [(Op, u32, u32, u32); 41] = [
@@ -46,44 +47,60 @@ const RISCV_TESTS: [(Op, u32, u32, u32); 41] = [
     (Op::LtU, 0x7fff_ffff, 0xffff_8000, 0x0000_0001),
 ];
 
-#[test]
-fn gives_what_riscv_tests_expect(rt: HostRuntime) {
-    for (op, a, b, given) in RISCV_TESTS {
-        assert_eq!(rt; apply(op, a, b), given, "{op:?} of {a:x} and {b:x}");
+const LEAST: u32 = 0x8000_0000;
+
+const GREATEST: u32 = 0x7fff_ffff;
+
+const COMPARED_BY_SIGN: [(Op, u32, u32, u32); 8] = [
+    (Op::MinS, GREATEST, LEAST, LEAST),
+    (Op::MaxS, GREATEST, LEAST, GREATEST),
+    (Op::MinU, GREATEST, LEAST, GREATEST),
+    (Op::MaxU, GREATEST, LEAST, LEAST),
+    (Op::LeS, LEAST, GREATEST, 1),
+    (Op::LeU, LEAST, GREATEST, 0),
+    (Op::Eq, LEAST, LEAST, 1),
+    (Op::Ne, LEAST, LEAST, 0),
+];
+
+// Each operator gives its word.
+fn give(rt: &impl Abort, rows: &[(Op, u32, u32, u32)]) {
+    for (op, a, b, given) in rows {
+        assert_eq!(rt; apply(*op, *a, *b), *given, "{op:?} of {a:x} and {b:x}");
     }
 }
 
 #[test]
+fn gives_what_riscv_tests_expect(rt: HostRuntime) {
+    give(&rt, &RISCV_TESTS);
+}
+
+#[test]
 fn compares_and_chooses_by_sign(rt: HostRuntime) {
-    let (least, greatest) = (0x8000_0000, 0x7fff_ffff);
-    assert_eq!(rt; apply(Op::MinS, greatest, least), least);
-    assert_eq!(rt; apply(Op::MaxS, greatest, least), greatest);
-    assert_eq!(rt; apply(Op::MinU, greatest, least), greatest);
-    assert_eq!(rt; apply(Op::MaxU, greatest, least), least);
-    assert_eq!(rt; apply(Op::LeS, least, greatest), 1);
-    assert_eq!(rt; apply(Op::LeU, least, greatest), 0);
-    assert_eq!(rt; apply(Op::Eq, least, least), 1);
-    assert_eq!(rt; apply(Op::Ne, least, least), 0);
+    give(&rt, &COMPARED_BY_SIGN);
+}
+
+// A word has this decimal as a signed number.
+fn has_signed(rt: &impl Abort, word: u32, text: &[u8]) {
+    assert_eq!(rt; signed_text(word).as_slice(), text);
+}
+
+// A text is read as this word, if it is read.
+fn is_read(rt: &impl Abort, text: &[u8], word: Option<u32>) {
+    assert_eq!(rt; read_unsigned(text), word);
 }
 
 #[test]
 fn prints_and_reads_decimal(rt: HostRuntime) {
-    assert_eq!(rt; signed_text(0).as_slice(), b"0".as_slice());
-    assert_eq!(rt;
-        signed_text(0x7fff_ffff).as_slice(),
-        b"2147483647".as_slice()
-    );
-    assert_eq!(rt;
-        signed_text(0x8000_0000).as_slice(),
-        b"-2147483648".as_slice()
-    );
-    assert_eq!(rt; signed_text(0xffff_ffff).as_slice(), b"-1".as_slice());
+    has_signed(&rt, 0, b"0");
+    has_signed(&rt, 0x7fff_ffff, b"2147483647");
+    has_signed(&rt, 0x8000_0000, b"-2147483648");
+    has_signed(&rt, 0xffff_ffff, b"-1");
     assert_eq!(rt;
         unsigned_text(0xffff_ffff).as_slice(),
         b"4294967295".as_slice()
     );
-    assert_eq!(rt; read_unsigned(b"00000000004294967295"), Some(0xffff_ffff));
-    assert_eq!(rt; read_unsigned(b"4294967296"), None);
-    assert_eq!(rt; read_unsigned(b""), None);
-    assert_eq!(rt; read_unsigned(b"+1"), None);
+    is_read(&rt, b"00000000004294967295", Some(0xffff_ffff));
+    is_read(&rt, b"4294967296", None);
+    is_read(&rt, b"", None);
+    is_read(&rt, b"+1", None);
 }

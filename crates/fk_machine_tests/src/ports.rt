@@ -5,8 +5,9 @@ use fk_ports::{
 };
 use std::alloc::{AllocError, Global};
 use std::io::{BufReader, Read, Write};
+use std::process::Abort;
 use std::test::Fail;
-use std::{env, fs, io};
+use std::{env, fmt, fs, io};
 
 // More bytes than go in one piece, each its place modulo 251.
 fn long_bytes(alloc: Global) -> Result<Vec<u8>, AllocError> {
@@ -45,8 +46,17 @@ fn gives<K: Sink>(sink: &mut K, bytes: &[u8]) -> bool {
     give_all(sink, bytes) == Ok(())
 }
 
+// Whether these bytes are put.
+fn puts<F: Store>(files: &mut F, name: &str, bytes: &[u8]) -> bool {
+    files.put(name, bytes) == Ok(())
+}
+
 fn source_of(alloc: Global, bytes: &[u8], fails: &[u64]) -> Result<MemSource, AllocError> {
     Ok(MemSource::make(bytes.to_vec(alloc)?, fails.to_vec(alloc)?))
+}
+
+fn sink_of(alloc: Global, room: usize, fails: &[u64]) -> Result<MemSink, AllocError> {
+    MemSink::make(alloc, room, fails.to_vec(alloc)?)
 }
 
 fn store_of(
@@ -63,8 +73,7 @@ fn store_of(
 #[test]
 fn takes_the_first_bytes_or_answers_the_fault(rt: HostRuntime) -> Result<(), Fail> {
     let alloc = rt.alloc();
-    let mut failing = source_of(alloc, b"abc", &[2])?;
-    assert!(rt; take_faults(alloc, &mut failing, 4));
+    assert!(rt; take_faults(alloc, &mut source_of(alloc, b"abc", &[2])?, 4));
     let mut source = source_of(alloc, b"abc", &[])?;
     assert!(rt; takes(alloc, &mut source, 2, b"ab"));
     assert!(rt; takes(alloc, &mut source, 9, b"c"));
@@ -74,7 +83,7 @@ fn takes_the_first_bytes_or_answers_the_fault(rt: HostRuntime) -> Result<(), Fai
 #[test]
 fn gives_all_or_a_prefix(rt: HostRuntime) -> Result<(), Fail> {
     let alloc = rt.alloc();
-    let mut sink = MemSink::make(alloc, 5, [2].to_vec(alloc)?)?;
+    let mut sink = sink_of(alloc, 5, &[2])?;
     assert!(rt; gives(&mut sink, b"abc"));
     assert!(rt; !gives(&mut sink, b"d"), "the second call");
     assert!(rt; !gives(&mut sink, b"def"), "a full sink");
@@ -86,8 +95,8 @@ fn gives_all_or_a_prefix(rt: HostRuntime) -> Result<(), Fail> {
 fn keeps_files_in_memory(rt: HostRuntime) -> Result<(), Fail> {
     let alloc = rt.alloc();
     let mut store = store_of(alloc, "a", b"old", &[3])?;
-    assert_eq!(rt; store.put("a", b"new"), Ok(()));
-    assert_eq!(rt; store.put("b", b"other"), Ok(()));
+    assert!(rt; puts(&mut store, "a", b"new"));
+    assert!(rt; puts(&mut store, "b", b"other"));
     assert!(rt; fetch_faults(alloc, &mut store, "a"), "the third call");
     assert!(rt; fetches(alloc, &mut store, "a", 2, b"ne"));
     assert!(rt; fetch_faults(alloc, &mut store, "c"), "no such name");
@@ -104,7 +113,7 @@ fn never_fails_where_it_is_sure(rt: HostRuntime) -> Result<(), Fail> {
     assert!(rt; gives(&mut sink, b"abc"));
     assert_eq!(rt; sink.count(), 3);
     let mut store = SureStore::make(b"same".to_vec(alloc)?);
-    assert_eq!(rt; store.put("a", b"new"), Ok(()));
+    assert!(rt; puts(&mut store, "a", b"new"));
     assert!(rt; fetches(alloc, &mut store, "a", 9, b"same"));
     Ok(())
 }
@@ -116,11 +125,11 @@ fn keeps_files_of_the_system(rt: HostRuntime) -> Result<(), Fail> {
     path.push("fk_ports_keeps_files_of_the_system")?;
     let bytes = long_bytes(alloc)?;
     let mut store = HostStore::make(&rt);
-    let put = store.put(path.as_str(), &bytes);
+    let is_put = puts(&mut store, path.as_str(), &bytes);
     let fetches_all = fetches(alloc, &mut store, path.as_str(), usize::MAX, &bytes);
     let fetches_few = fetches(alloc, &mut store, path.as_str(), 3, &[0, 1, 2]);
     fs::remove_file(&rt, path.as_str())?;
-    assert_eq!(rt; put, Ok(()));
+    assert!(rt; is_put);
     assert!(rt; fetches_all);
     assert!(rt; fetches_few);
     assert!(rt;
@@ -194,22 +203,22 @@ fn gives_to_a_writer(rt: HostRuntime) -> Result<(), Fail> {
     Ok(())
 }
 
-#[test]
-fn says_why(rt: HostRuntime) -> Result<(), Fail> {
-    let alloc = rt.alloc();
-    let texts = [
-        (format!(in alloc; "{}", Failed)?, "the other side failed"),
-        (
-            format!(in alloc; "{}", StoreFault::Fault)?,
-            "the other side failed",
-        ),
-        (
-            format!(in alloc; "{}", StoreFault::Memory)?,
-            "out of memory",
-        ),
-    ];
-    for (text, wanted) in &texts {
-        assert_eq!(rt; text.as_str(), *wanted);
-    }
+// An error is told in these words.
+fn is_told<E: fmt::Display>(
+    rt: &impl Abort,
+    alloc: Global,
+    error: &E,
+    words: &str,
+) -> Result<(), AllocError> {
+    let text = format!(in alloc; "{error}")?;
+    assert_eq!(rt; text.as_str(), words);
     Ok(())
+}
+
+#[test]
+fn says_why(rt: HostRuntime) -> Result<(), AllocError> {
+    let alloc = rt.alloc();
+    is_told(&rt, alloc, &Failed, "the other side failed")?;
+    is_told(&rt, alloc, &StoreFault::Fault, "the other side failed")?;
+    is_told(&rt, alloc, &StoreFault::Memory, "out of memory")
 }

@@ -88,101 +88,101 @@ fn run(
     (effect, hart.registers[3], hart.pc)
 }
 
+// Such a step, of a word with x1 and x2, goes to the next word and leaves this in x3.
+fn gives(rt: &impl Abort, memory: &mut FlatMemory, number: u32, operands: (u32, u32, u32), x3: u32)
+    requires { number < 2 }
+{
+    let (word, x1, x2) = operands;
+    let after = run(rt, memory, number, word, x1, x2);
+    assert_eq!(rt;
+        after,
+        (Effect::Next, x3, 4),
+        "{word:x} of {x1:x} and {x2:x}"
+    );
+}
+
 #[test]
 fn multiplies_and_divides_as_riscv_tests_expect(rt: HostRuntime) {
     for (word, x1, x2, x3) in PRODUCTS {
-        let mut memory = empty();
-        let after = run(&rt, &mut memory, 0, word, x1, x2);
-        assert_eq!(rt;
-            after,
-            (Effect::Next, x3, 4),
-            "{word:x} of {x1:x} and {x2:x}"
-        );
+        gives(&rt, &mut empty(), 0, (word, x1, x2), x3);
     }
+}
+
+// A word of memory and x2 are combined to this word, and x3 gets the word before.
+fn combines(rt: &impl Abort, word: u32, before: u32, x2: u32, after: u32) {
+    let mut memory = empty();
+    gives(rt, &mut memory, 0, (SW, 16, before), 0);
+    gives(rt, &mut memory, 1, (word, 16, x2), before);
+    gives(rt, &mut memory, 0, (LW, 16, 0), after);
 }
 
 #[test]
 fn combines_words_of_memory_as_riscv_tests_expect(rt: HostRuntime) {
     for (word, before, x2, after) in ATOMICS {
-        let mut memory = empty();
-        let stored = run(&rt, &mut memory, 0, SW, 16, before);
-        let combined = run(&rt, &mut memory, 1, word, 16, x2);
-        let loaded = run(&rt, &mut memory, 0, LW, 16, 0);
-        assert_eq!(rt; stored, (Effect::Next, 0, 4));
-        assert_eq!(rt;
-            combined,
-            (Effect::Next, before, 4),
-            "{word:x} of {before:x} and {x2:x}"
-        );
-        assert_eq!(rt;
-            loaded,
-            (Effect::Next, after, 4),
-            "{word:x} of {before:x} and {x2:x}"
-        );
+        combines(&rt, word, before, x2, after);
     }
 }
+
+// The hart, its word, x1, x2 and the x3 that is wanted.
+const CONDITIONAL_STORES: [(u32, u32, u32, u32, u32); 10] = [
+    (0, SC, 16, 5, 1), // without a reservation
+    (0, LW, 16, 0, 0),
+    (0, LR, 16, 0, 0), // with one, and once only
+    (0, SC, 16, 5, 0),
+    (0, SC, 16, 6, 1),
+    (0, LR, 16, 0, 5), // after a store of another hart to a byte of the word
+    (1, SB, 16, 0x107, 0),
+    (0, SC, 16, 6, 1),
+    (0, LR, 16, 0, 0x705), // of another word
+    (0, SC, 20, 6, 1),
+];
 
 #[test]
 fn stores_conditionally_where_the_word_is_reserved(rt: HostRuntime) {
     let mut memory = empty();
-    // the hart, its word, x1, x2 and the x3 that is wanted
-    let rows = [
-        (0, SC, 16, 5, 1), // without a reservation
-        (0, LW, 16, 0, 0),
-        (0, LR, 16, 0, 0), // with one, and once only
-        (0, SC, 16, 5, 0),
-        (0, SC, 16, 6, 1),
-        (0, LR, 16, 0, 5), // after a store of another hart to a byte of the word
-        (1, SB, 16, 0x107, 0),
-        (0, SC, 16, 6, 1),
-        (0, LR, 16, 0, 0x705), // of another word
-        (0, SC, 20, 6, 1),
-    ];
-    for (number, word, x1, x2, x3) in rows {
-        let after = run(&rt, &mut memory, number % 2, word, x1, x2);
-        assert_eq!(rt; after, (Effect::Next, x3, 4), "{word:x} at {x1}");
+    for (number, word, x1, x2, x3) in CONDITIONAL_STORES {
+        gives(&rt, &mut memory, number % 2, (word, x1, x2), x3);
     }
 }
+
+// Loads of a word 0x1234fe80, and what they give.
+const LOADS: [(u32, u32); 5] = [
+    (0x0000_8183, 0xffff_ff80), // lb
+    (0x0000_c183, 0x0000_0080), // lbu
+    (0x0000_9183, 0xffff_fe80), // lh
+    (0x0000_d183, 0x0000_fe80), // lhu
+    (0x0000_a183, 0x1234_fe80), // lw
+];
 
 #[test]
 fn loads_with_and_without_sign(rt: HostRuntime) {
     let mut memory = empty();
     let _stored = run(&rt, &mut memory, 0, SW, 16, 0x1234_fe80);
-    let loads = [
-        (0x0000_8183, 0xffff_ff80), // lb
-        (0x0000_c183, 0x0000_0080), // lbu
-        (0x0000_9183, 0xffff_fe80), // lh
-        (0x0000_d183, 0x0000_fe80), // lhu
-        (0x0000_a183, 0x1234_fe80), // lw
-    ];
-    for (word, x3) in loads {
-        assert_eq!(rt;
-            run(&rt, &mut memory, 0, word, 16, 0),
-            (Effect::Next, x3, 4),
-            "{word:x}"
-        );
+    for (word, x3) in LOADS {
+        gives(&rt, &mut memory, 0, (word, 16, 0), x3);
     }
+}
+
+// A word, x1 and the cause of its trap.
+const TRAPS: [(u32, u32, u8); 6] = [
+    (0x0000_0073, 0, 5), // ecall
+    (0x0010_0073, 0, 6), // ebreak
+    (0x0060_01ef, 0, 3), // jal to 6
+    (0x0010_81e7, 2, 3), // jalr to 2
+    (0x0000_a183, 18, 3), // lw across words
+    (0x0000_a183, 256, 4), // lw past the memory
+];
+
+// One step in an empty memory comes to this.
+fn comes_to(rt: &impl Abort, word: u32, x1: u32, after: (Effect, u32, u32)) {
+    assert_eq!(rt; run(rt, &mut empty(), 0, word, x1, 0), after, "{word:x}");
 }
 
 #[test]
 fn traps_where_the_standard_does(rt: HostRuntime) {
-    let rows = [
-        (0x0000_0073, 0, 5), // ecall
-        (0x0010_0073, 0, 6), // ebreak
-        (0x0060_01ef, 0, 3), // jal to 6
-        (0x0010_81e7, 2, 3), // jalr to 2
-        (0x0000_a183, 18, 3), // lw across words
-        (0x0000_a183, 256, 4), // lw past the memory
-    ];
-    for (word, x1, kind) in rows {
-        let mut memory = empty();
-        let after = run(&rt, &mut memory, 0, word, x1, 0);
-        assert_eq!(rt; after, (Effect::Trap(kind), 0, 0), "{word:x}");
+    for (word, x1, kind) in TRAPS {
+        comes_to(&rt, word, x1, (Effect::Trap(kind), 0, 0));
     }
     // jalr to 9 goes to 8
-    let mut memory = empty();
-    assert_eq!(rt;
-        run(&rt, &mut memory, 0, 0x0010_81e7, 8, 0),
-        (Effect::Next, 4, 8)
-    );
+    comes_to(&rt, 0x0010_81e7, 8, (Effect::Next, 4, 8));
 }
