@@ -5,7 +5,7 @@ use Rattle.fk_syntax.specs.Tree.{Tree}
 use Rattle.fk_syntax.specs.Program.{Statement, While, For, Start, Farm, Seq, Fork}
 use Rattle.fk_lex.specs.declared.token.TokenKind.{TokenKind}
 use Rattle.fk_lex.specs.declared.token.TokenKind.TheVariants as kind
-use Rattle.fk_reading.specs.Languages.{spot}
+use Rattle.fk_reading.specs.Languages.{Placed, spot}
 use Rattle.fk_reading.specs.Kinds.{just}
 use Rattle.fk_reading.specs.Readers.{Reader, giving, ◌and◌, expect, by_next, optional}
 use Rattle.fk_expr.specs.Reading.{inner, read_comma}
@@ -37,11 +37,15 @@ read_while_header left =
 abbrev pub read_part : ℕ → TokenKind → Reader (Option Tree)
 read_part left end = giving (λ (value, closing). value) (read_some (inner left) and expect end)
 
+-- [ comma ] ";" [ comma ] ")"
+abbrev pub read_last_parts : ℕ → Reader (Option Tree × Option Tree)
+read_last_parts left = read_part left kind.Semicolon and read_part left kind.CloseParenthesis
+
 -- "for" "(" [ comma ] ";" [ comma ] ";" [ comma ] ")"
 abbrev pub read_for_header : ℕ → Reader Header
 read_for_header left =
     giving (λ (word, (opening, (before, (condition, after)))). OfFor (spot word) before condition after)
-    (expect kind.For and expect kind.OpenParenthesis and read_part left kind.Semicolon and read_part left kind.Semicolon and read_part left kind.CloseParenthesis)
+    (expect kind.For and expect kind.OpenParenthesis and read_part left kind.Semicolon and read_last_parts left)
 
 -- "start" [ "(" comma ")" ]
 abbrev pub read_start_header : ℕ → Reader Header
@@ -59,11 +63,19 @@ read_parts left =
     giving (λ (word, (opening, (parts, end))). (spot word, parts))
     (expect kind.Fork and expect kind.OpenParenthesis and read_comma (inner left) and expect kind.Semicolon)
 
+-- [ ";" "$" "=" comma ] ")"
+abbrev pub read_last_rank : ℕ → Reader (Option Tree × Placed)
+read_last_rank left = optional (just kind.Semicolon) (read_rank (inner left)) and expect kind.CloseParenthesis
+
+-- "@" "=" comma [ ";" "$" "=" comma ] ")"
+abbrev pub read_portion : ℕ → Reader (Tree × (Option Tree × Placed))
+read_portion left = read_assigned left kind.At and read_last_rank left
+
 -- "fork" "(" comma ";" "@" "=" comma [ ";" "$" "=" comma ] ")"
 abbrev pub read_fork_header : ℕ → Reader Header
 read_fork_header left =
     giving (λ ((at, parts), (part, (rank, closing))). OfFork at parts part rank)
-    (read_parts left and read_assigned left kind.At and optional (just kind.Semicolon) (read_rank (inner left)) and expect kind.CloseParenthesis)
+    (read_parts left and read_portion left)
 
 -- the words that begin a header
 abbrev pub begins_header : TokenKind → Bool

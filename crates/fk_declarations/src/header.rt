@@ -1,11 +1,13 @@
 //! What stands before the last statement in a statement.
 
-ghost use Rattle.std.specs.Prelude.{◌≡◌, IfOk};
+ghost use Rattle.std.specs.Prelude.{◌≡◌, Option, IfOk};
+ghost use Rattle.std.specs.Option.{option_map};
+ghost use Rattle.fk_syntax.specs.Tree.{Tree};
 ghost use Rattle.fk_syntax.specs.View.{tree_of};
 ghost use Rattle.fk_syntax.specs.ProgramView.{statement_of};
 ghost use Rattle.fk_reading.specs.Ahead.{Shortens};
-ghost use Rattle.fk_reading.specs.Gives.{Gives};
-ghost use Rattle.fk_declarations.specs.Headers.{headed, read_header, read_while_header, read_for_header, read_start_header, read_parts, read_fork_header};
+ghost use Rattle.fk_reading.specs.Gives.{Gives, Makes};
+ghost use Rattle.fk_declarations.specs.Headers.{headed, read_header, read_while_header, read_for_header, read_last_parts, read_start_header, read_parts, read_portion, read_last_rank, read_fork_header};
 ghost use Rattle.fk_declarations.specs.View.{header_of};
 
 use crate::expressions::{assigned, condition, count, part, rank};
@@ -117,9 +119,34 @@ fn for_header<'a>(
     let word = cursor.expect(TokenKind::For)?;
     cursor.expect(TokenKind::OpenParenthesis)?;
     let before = part(alloc, cursor, left, TokenKind::Semicolon)?;
+    match last_parts(alloc, cursor, left) {
+        Ok((condition, after)) => Ok(Header::For(word.spot(), before, condition, after)),
+        Err(fault) => {
+            drop(before);
+            Err(fault)
+        }
+    }
+}
+
+/// [ comma ] ";" [ comma ] ")"
+#[tactic(auto, using(fk_expr::proofs::Halting::halting))]
+fn last_parts<'a>(
+    alloc: Global,
+    cursor: &mut Cursor<'_, 'a>,
+    left: u32,
+) -> Result<(Option<Expr<'a>>, Option<Expr<'a>>), SyntaxFault>
+    ensures read { Gives (λ x. (option_map tree_of x.0, option_map tree_of x.1)) result cursor.new
+        (read_last_parts left cursor.old) }
+    ensures shorter { IfOk result (λ _. Shortens cursor.old cursor.new) }
+{
     let condition = part(alloc, cursor, left, TokenKind::Semicolon)?;
-    let after = part(alloc, cursor, left, TokenKind::CloseParenthesis)?;
-    Ok(Header::For(word.spot(), before, condition, after))
+    match part(alloc, cursor, left, TokenKind::CloseParenthesis) {
+        Ok(after) => Ok((condition, after)),
+        Err(fault) => {
+            drop(condition);
+            Err(fault)
+        }
+    }
 }
 
 /// "fork" "(" comma ";" "@" "=" comma [ ";" "$" "=" comma ] ")"
@@ -133,10 +160,51 @@ fn fork_header<'a>(
     ensures shorter { IfOk result (λ _. Shortens cursor.old cursor.new) }
 {
     let (at, parts) = parts(alloc, cursor, left)?;
+    match portion(alloc, cursor, left) {
+        Ok((part, rank)) => Ok(Header::Fork(at, parts, part, rank)),
+        Err(fault) => {
+            drop(parts);
+            Err(fault)
+        }
+    }
+}
+
+/// "@" "=" comma [ ";" "$" "=" comma ] ")"
+#[tactic(auto, using(fk_expr::proofs::Halting::halting))]
+fn portion<'a>(
+    alloc: Global,
+    cursor: &mut Cursor<'_, 'a>,
+    left: u32,
+) -> Result<(Expr<'a>, Option<Expr<'a>>), SyntaxFault>
+    ensures read { Makes {A = Tree × Option Tree}
+        (λ x. (x.0, x.1.0)) (λ x. (tree_of x.0, option_map tree_of x.1))
+        result cursor.new (read_portion left cursor.old) }
+    ensures shorter { IfOk result (λ _. Shortens cursor.old cursor.new) }
+{
     let part = assigned(alloc, cursor, left, TokenKind::At)?;
+    match last_rank(alloc, cursor, left) {
+        Ok(rank) => Ok((part, rank)),
+        Err(fault) => {
+            drop(part);
+            Err(fault)
+        }
+    }
+}
+
+/// [ ";" "$" "=" comma ] ")"
+#[tactic(auto, using(fk_expr::proofs::Halting::halting))]
+fn last_rank<'a>(
+    alloc: Global,
+    cursor: &mut Cursor<'_, 'a>,
+    left: u32,
+) -> Result<Option<Expr<'a>>, SyntaxFault>
+    ensures read { Makes (λ x. x.0) (option_map tree_of) result cursor.new
+        (read_last_rank left cursor.old) }
+    ensures shorter { IfOk result (λ _. Shortens cursor.old cursor.new) }
+{
     let rank = rank(alloc, cursor, left)?;
     cursor.expect(TokenKind::CloseParenthesis)?;
-    Ok(Header::Fork(at, parts, part, rank))
+    Ok(rank)
 }
 
 /// "fork" "(" comma ";"
