@@ -1,9 +1,11 @@
 //! The operations of functions, and of a text.
 
-ghost use Rattle.std.specs.Prelude.{◌≡◌, ◌∷◌, List, map, is_some};
+ghost use Rattle.std.specs.Prelude.{◌≡◌, ◌∷◌, List, map, codes, is_some};
+ghost use Rattle.fk_syntax.specs.View.{named};
 ghost use Rattle.fk_syntax.specs.Program.{ItemTree, statements_of};
 ghost use Rattle.fk_syntax.specs.ProgramView.{statement_of, function_of, item_of};
 ghost use Rattle.fk_forms.specs.Tables.{frame_at};
+ghost use Rattle.fk_forms.specs.Expressions.{is_name};
 ghost use Rattle.fk_forms.specs.Statements as s;
 ghost use Rattle.fk_forms.specs.Program as f;
 ghost use Rattle.fk_walk.specs.Known.{tables_of, functions_of, IsSound};
@@ -14,24 +16,24 @@ ghost use Rattle.fk_walk_statements.specs.Texts.{functions_in, code_in, through_
 use crate::inside::Inside;
 use crate::nested::statements;
 use crate::simple::finish;
-use fk_syntax::{Function, Item, Stmt};
+use fk_syntax::{Function, Item, Name, Stmt};
 use fk_walk::{Known, Visitor, is_nothing};
 
 // What the statements of a function need to know of it.
-fn inside_function(whole: &Function, known: &Known) -> Inside
+fn inside_function(known: &Known, name: Name) -> Inside
     requires { IsSound known.now }
-    ensures main { result.main ≡ f.is_main (function_of whole.now) }
+    ensures main { result.main ≡ is_name (named name.entry) (codes "main") }
     ensures framed { result.framed
-        ≡ is_some (frame_at (tables_of known.now) (function_of whole.now).name.at 0) }
+        ≡ is_some (frame_at (tables_of known.now) (named name.entry).at 0) }
 {
     Inside {
-        main: whole.name.bytes == b"main".as_slice(),
-        framed: known.is_framed(whole.name.at, false),
+        main: name.bytes == b"main".as_slice(),
+        framed: known.is_framed(name.at, false),
     }
 }
 
 // The statements of a function, and its end.
-fn body<V: Visitor>(list: &[Stmt], void: bool, known: &Known, visitor: &mut V, inside: Inside)
+fn body<V: Visitor>(known: &Known, visitor: &mut V, list: &[Stmt], inside: Inside, void: bool)
     requires { IsSound known.now }
     ensures { visitor.new ≡ through V.after V.counts (functions_of known.now) visitor.old
         (s.body_of (tables_of known.now) (functions_of known.now) (inside_of inside) void
@@ -49,23 +51,14 @@ pub fn function<V: Visitor>(known: &Known, visitor: &mut V, whole: &Function)
     ensures { visitor.new ≡ through V.after V.counts (functions_of known.now) visitor.old
         (code_in known.now (function_of whole.now)) }
 {
-    show(whole, known, visitor);
-}
-
-// The tree comes first, which makes the proof shorter.
-fn show<V: Visitor>(whole: &Function, known: &Known, visitor: &mut V)
-    requires { IsSound known.now }
-    ensures { visitor.new ≡ through V.after V.counts (functions_of known.now) visitor.old
-        (code_in known.now (function_of whole.now)) }
-{
     if let Some(list) = &whole.body {
-        let inside = inside_function(whole, known);
-        body(list, is_nothing(&whole.result), known, visitor, inside);
+        let inside = inside_function(known, whole.name);
+        body(known, visitor, list, inside, is_nothing(&whole.result));
     }
 }
 
 // What stands in a text side by side.
-fn item<V: Visitor>(whole: &Item, known: &Known, visitor: &mut V)
+fn item<V: Visitor>(known: &Known, visitor: &mut V, whole: &Item)
     requires { IsSound known.now }
     ensures { (others : List ItemTree)
         → through_all V.after V.counts known.now visitor.old
@@ -73,18 +66,18 @@ fn item<V: Visitor>(whole: &Item, known: &Known, visitor: &mut V)
         ≡ through_all V.after V.counts known.now visitor.new (f.functions_of others) }
 {
     match whole {
-        Item::Function(whole) => show(whole, known, visitor),
+        Item::Function(whole) => function(known, visitor, whole),
         Item::Struct(_, _) | Item::Variables(_) => {}
     }
 }
 
-fn items<V: Visitor>(list: &[Item], known: &Known, visitor: &mut V)
+fn items<V: Visitor>(known: &Known, visitor: &mut V, list: &[Item])
     requires { IsSound known.now }
     ensures { visitor.new ≡ through_all V.after V.counts known.now visitor.old
         (f.functions_of (map item_of list.now)) }
 {
     for one in list {
-        item(one, known, visitor);
+        item(known, visitor, one);
     }
 }
 
@@ -94,5 +87,5 @@ pub fn text<V: Visitor>(known: &Known, visitor: &mut V)
     ensures { visitor.new ≡ through_all V.after V.counts known.now visitor.old
         (functions_in known.now) }
 {
-    items(known.items, known, visitor);
+    items(known, visitor, known.items);
 }

@@ -61,9 +61,8 @@ pub fn statement<V: Visitor>(
             repeat(known, visitor, inside, *spot, body, Turns::Until(condition))
         }
         Stmt::For(spot, before, condition, after, body) => {
-            used_or(known, visitor, before)?;
             let turns = Turns::For(condition, after);
-            repeat(known, visitor, inside, *spot, body, turns)
+            count_up(known, visitor, inside, *spot, before, body, turns)
         }
         Stmt::Start(spot, count, body) => start(known, visitor, inside, *spot, count, body),
         Stmt::Fork(spot, parts, part, rank, body) => {
@@ -102,13 +101,13 @@ pub fn statements<V: Visitor>(
 
 // A `start`, whose part has a place for its frame alone.
 #[cycle(statement)]
-fn start<V: Visitor>(
+fn start<'s, 't, V: Visitor>(
     known: &Known,
     visitor: &mut V,
     inside: Inside,
     spot: Spot,
-    count: &Option<Expr>,
-    body: &Stmt,
+    count: &'s Option<Expr<'t>>,
+    body: &'s Stmt<'t>,
 ) -> Option<()>
     requires { IsSound known.now }
     ensures { LeadsOn V.after V.counts (functions_of known.now) visitor.old visitor.new result
@@ -220,13 +219,13 @@ fn meeting<V: Visitor>(
 
 // An `if` without `else`. In a synchronous region the group agrees before it branches, or splits.
 #[cycle(statement)]
-fn alone<V: Visitor>(
+fn alone<'s, 't, V: Visitor>(
     known: &Known,
     visitor: &mut V,
     inside: Inside,
     spot: Spot,
-    first: &Stmt,
-    condition: &Expr,
+    first: &'s Stmt<'t>,
+    condition: &'s Expr<'t>,
 ) -> Option<()>
     requires { IsSound known.now }
     ensures { LeadsOn V.after V.counts (functions_of known.now) visitor.old visitor.new result
@@ -247,13 +246,13 @@ fn alone<V: Visitor>(
 
 // The condition and the first way of an `if` that has an `else`.
 #[cycle(statement)]
-fn first_way<V: Visitor>(
+fn first_way<'s, 't, V: Visitor>(
     known: &Known,
     visitor: &mut V,
     inside: Inside,
     spot: Spot,
-    first: &Stmt,
-    condition: &Expr,
+    first: &'s Stmt<'t>,
+    condition: &'s Expr<'t>,
 ) -> Option<Ways>
     requires { IsSound known.now }
     ensures { (second : Statement) (rest : Coded)
@@ -321,15 +320,38 @@ fn second_way<V: Visitor>(
     }
 }
 
-// A loop. Where a group splits at it, it runs in a part, of which each member leaves it by itself.
+// A `for`: what it does before its loop, then the loop.
 #[cycle(statement)]
-fn repeat<V: Visitor>(
+fn count_up<'s, 't, V: Visitor>(
     known: &Known,
     visitor: &mut V,
     inside: Inside,
     spot: Spot,
-    body: &Stmt,
-    turns: Turns,
+    before: &'s Option<Expr<'t>>,
+    body: &'s Stmt<'t>,
+    turns: Turns<'s, 't>,
+) -> Option<()>
+    requires { IsSound known.now }
+    ensures { LeadsOn V.after V.counts (functions_of known.now) visitor.old visitor.new result
+        (λ rest. s.used_or (tables_of known.now) (functions_of known.now)
+        (option_map tree_of before.now) (s.looping (tables_of known.now) (functions_of known.now)
+        spot (loop_of (tables_of known.now) (functions_of known.now) spot
+        (s.executed (tables_of known.now) (functions_of known.now) (inside_of inside)
+        (statement_of body.now) c.done) turns.entry) rest)) }
+{
+    used_or(known, visitor, before)?;
+    repeat(known, visitor, inside, spot, body, turns)
+}
+
+// A loop. Where a group splits at it, it runs in a part, of which each member leaves it by itself.
+#[cycle(statement)]
+fn repeat<'s, 't, V: Visitor>(
+    known: &Known,
+    visitor: &mut V,
+    inside: Inside,
+    spot: Spot,
+    body: &'s Stmt<'t>,
+    turns: Turns<'s, 't>,
 ) -> Option<()>
     requires { IsSound known.now }
     ensures { LeadsOn V.after V.counts (functions_of known.now) visitor.old visitor.new result
@@ -357,13 +379,13 @@ fn repeat<V: Visitor>(
 
 // A loop: its test, its body and its step, in the order in which a turn does them.
 #[cycle(statement)]
-fn turn<V: Visitor>(
+fn turn<'s, 't, V: Visitor>(
     known: &Known,
     visitor: &mut V,
     inside: Inside,
     spot: Spot,
-    body: &Stmt,
-    turns: Turns,
+    body: &'s Stmt<'t>,
+    turns: Turns<'s, 't>,
 )
     requires { IsSound known.now }
     ensures { Passes V.after V.counts (functions_of known.now) visitor.old visitor.new

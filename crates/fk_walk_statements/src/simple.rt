@@ -184,12 +184,12 @@ pub(crate) fn count_or_all<V: Visitor>(
 
 /// The numbers of a `fork`: of its parts, of the part that a processor enters, and of its rank
 /// there. An absent rank is the one that it has.
-pub(crate) fn numbers<V: Visitor>(
+pub(crate) fn numbers<'s, 't, V: Visitor>(
     known: &Known,
     visitor: &mut V,
-    parts: &Expr,
-    part: &Expr,
-    rank: &Option<Expr>,
+    parts: &'s Expr<'t>,
+    part: &'s Expr<'t>,
+    rank: &'s Option<Expr<'t>>,
 ) -> Option<()>
     requires { IsSound known.now }
     ensures { LeadsOn V.after V.counts (functions_of known.now) visitor.old visitor.new result

@@ -10,4 +10,4 @@ pub returns-in-Function : goal.returns-in-Function
 returns-in-Function g c = λ others.
     ap (λ (x : Item). through_all g.V.Visitor.after g.V.Visitor.counts c.args.known.now c.args.visitor.now (functions_of (item_of x ∷ others))) c.in-Function.is
     ∙ shown_or_none g.V.Visitor.after g.V.Visitor.counts c.args.known.now c.args.visitor.now (function_of c.in-Function.whole) (functions_of others)
-    ∙ ap (λ s. through_all g.V.Visitor.after g.V.Visitor.counts c.args.known.now s (functions_of others)) (sym c.show.ensures)
+    ∙ ap (λ s. through_all g.V.Visitor.after g.V.Visitor.counts c.args.known.now s (functions_of others)) (sym c.function.ensures)
