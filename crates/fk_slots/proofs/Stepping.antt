@@ -1,5 +1,5 @@
 -- A step of a loop that puts what an element comes to behind a list.
-use Rattle.std.proofs.Common.{◌≡◌, ℕ, suc, ◌+◌, ◌<◌, List, [], ◌∷◌, ◌++◌, length, get_or, map, drop, ap, ap₂, ◌∙◌, sym, arith, append_assoc}
+use Rattle.std.proofs.Common.{◌≡◌, ℕ, suc, ◌+◌, ◌<◌, List, ◌∷◌, ◌++◌, length, get_or, map, drop, ap, ap₂, ◌∙◌, sym, arith, append_assoc}
 use Rattle.std.proofs.Math.Seq.{drop-cons}
 
 -- what is left of a list is its next element, and what is left behind that

@@ -1,4 +1,4 @@
-use Rattle.std.proofs.Common.{◌+◌, ◌∷◌, ◌++◌, [], map, drop, sym, ap, ap₂, ◌∙◌}
+use Rattle.std.proofs.Common.{◌+◌, ◌∷◌, ◌++◌, [], map, drop, sym, ap, ◌∙◌}
 use Rattle.fk_syntax.specs.ProgramView.{item_of}
 use Rattle.fk_slots.specs.KnownView.{told_by}
 use Rattle.fk_slots.specs.Slots.{item_slots, items_slots, owns_of}
