@@ -7,3 +7,4 @@ pub mod Statements
 pub mod Headers
 pub mod Blocks
 pub mod Completing
+pub mod OneOf
