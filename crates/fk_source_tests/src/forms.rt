@@ -14,7 +14,7 @@ fn texts_have_escapes(rt: HostRuntime) -> Result<(), Fail> {
 }
 
 #[test]
-fn signs_have_operators(rt: HostRuntime) -> Result<(), Fail> {
+fn signs_have_operators(rt: HostRuntime) {
     assert_eq!(rt;
         operator_of(Sign::GreaterThan, true),
         Operation::Join(Op::LtU, true)
@@ -27,5 +27,4 @@ fn signs_have_operators(rt: HostRuntime) -> Result<(), Fail> {
         operator_of(Sign::Increment, false),
         Operation::Join(Op::Add, false)
     );
-    Ok(())
 }

@@ -1,6 +1,6 @@
 use fk_graph::{is_on_cycle, suspects};
 use std::alloc::{AllocError, Global};
-use std::test::Fail;
+use std::process::Abort;
 
 // Edges 0 to 1, 1 to 2, 2 to 1 and 4, 3 to 0, 4 to 4, and 5 to none.
 fn graph(alloc: Global) -> Result<Vec<Vec<usize>>, AllocError> {
@@ -11,15 +11,25 @@ fn graph(alloc: Global) -> Result<Vec<Vec<usize>>, AllocError> {
     Ok(graph)
 }
 
+// Whether a vertex is on a cycle is found so.
+fn is_found(
+    rt: &impl Abort,
+    alloc: Global,
+    graph: &[Vec<usize>],
+    vertex: usize,
+    expected: bool,
+) -> Result<(), AllocError> {
+    assert!(rt; vertex < graph.len());
+    assert!(rt; is_on_cycle(alloc, graph, vertex)? == expected);
+    Ok(())
+}
+
 #[test]
-fn cycles_are_found_and_nothing_else(rt: HostRuntime) -> Result<(), Fail> {
+fn cycles_are_found_and_nothing_else(rt: HostRuntime) -> Result<(), AllocError> {
     let graph = graph(rt.alloc())?;
     let suspects = suspects(rt.alloc(), &graph)?;
-    let cyclic = [false, true, true, false, true, false];
-    for (vertex, expected) in cyclic.iter().enumerate() {
-        if vertex < graph.len() {
-            assert!(rt; is_on_cycle(rt.alloc(), &graph, vertex)? == *expected);
-        }
+    for (vertex, expected) in [false, true, true, false, true, false].iter().enumerate() {
+        is_found(&rt, rt.alloc(), &graph, vertex, *expected)?;
         assert!(rt; suspects.get(vertex).copied() == Some(*expected));
     }
     Ok(())

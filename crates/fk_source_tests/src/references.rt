@@ -1,7 +1,6 @@
 use fk_references::{Reference, References};
 use fk_syntax::{Expr, Name, Place, Spot, Suffix};
 use std::alloc::{AllocError, Global};
-use std::test::Fail;
 
 const PLACE: Place = Place { line: 1, column: 1 };
 
@@ -27,7 +26,7 @@ fn chain(alloc: Global) -> Result<Expr<'static>, AllocError> {
 }
 
 #[test]
-fn a_member_is_told_with_the_token_before_it(rt: HostRuntime) -> Result<(), Fail> {
+fn a_member_is_told_with_the_token_before_it(rt: HostRuntime) -> Result<(), AllocError> {
     let expression = chain(rt.alloc())?;
     let mut references = References::new(rt.alloc());
     assert_eq!(rt; references.add(&expression)?, 3);
@@ -39,7 +38,7 @@ fn a_member_is_told_with_the_token_before_it(rt: HostRuntime) -> Result<(), Fail
 }
 
 #[test]
-fn what_is_absent_names_nothing(rt: HostRuntime) -> Result<(), Fail> {
+fn what_is_absent_names_nothing(rt: HostRuntime) -> Result<(), AllocError> {
     let mut references = References::new(rt.alloc());
     references.add_optional(&None)?;
     assert!(rt; references.list().is_empty());

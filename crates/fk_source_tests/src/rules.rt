@@ -1,6 +1,5 @@
 use fk_rules::{Fault, Rule, first_of};
 use fk_syntax::Place;
-use std::test::Fail;
 
 fn fault(line: u32, column: u32, rule: Rule) -> Fault {
     Fault {
@@ -10,16 +9,15 @@ fn fault(line: u32, column: u32, rule: Rule) -> Fault {
 }
 
 #[test]
-fn rules_have_their_numbers(rt: HostRuntime) -> Result<(), Fail> {
+fn rules_have_their_numbers(rt: HostRuntime) {
     assert_eq!(rt; Rule::Undeclared.number(), 1);
     assert_eq!(rt; Rule::NoStruct.number(), 6);
     assert_eq!(rt; Rule::WholeAssigned.number(), 20);
     assert_eq!(rt; Rule::SharedParameter.number(), 40);
-    Ok(())
 }
 
 #[test]
-fn lines_count_before_columns_and_columns_before_rules(rt: HostRuntime) -> Result<(), Fail> {
+fn lines_count_before_columns_and_columns_before_rules(rt: HostRuntime) {
     let rows = [
         fault(1, 9, Rule::NoStruct),
         fault(2, 3, Rule::NoVariable),
@@ -35,5 +33,4 @@ fn lines_count_before_columns_and_columns_before_rules(rt: HostRuntime) -> Resul
         assert!(rt; first_of(Some(*first), None) == Some(*first));
     }
     assert!(rt; first_of(None, None).is_none());
-    Ok(())
 }

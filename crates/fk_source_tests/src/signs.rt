@@ -6,7 +6,6 @@ use fk_signs::{
 };
 use fk_structs::{DataType, Root};
 use fk_syntax::Sign;
-use std::test::Fail;
 
 const INT_POINTER: Value = Value::Pointer(Target {
     root: Root::Int,
@@ -30,40 +29,41 @@ const ZERO: Operand = Operand {
     is_zero: true,
 };
 
+// A sign, the operands on its sides, and what it gives.
+const BETWEEN: [(Sign, Value, Value, Option<Value>); 10] = [
+    (
+        Sign::Star,
+        Value::Int,
+        Value::Unsigned,
+        Some(Value::Unsigned),
+    ),
+    (
+        Sign::ShiftLeft,
+        Value::Int,
+        Value::Unsigned,
+        Some(Value::Int),
+    ),
+    (Sign::Plus, INT_POINTER, Value::Int, Some(INT_POINTER)),
+    (Sign::Plus, Value::Int, INT_POINTER, None),
+    (Sign::Minus, INT_POINTER, INT_POINTER, None),
+    (Sign::Plus, VOID_POINTER, Value::Int, None),
+    (Sign::LessThan, INT_POINTER, VOID_POINTER, Some(Value::Int)),
+    (Sign::AndAnd, INT_POINTER, Value::Unsigned, Some(Value::Int)),
+    (Sign::Assign, Value::Int, Value::Int, None),
+    (Sign::Comma, Value::Int, Value::Int, None),
+];
+
 #[test]
-fn signs_between_operands(rt: HostRuntime) -> Result<(), Fail> {
-    let rows = [
-        (
-            Sign::Star,
-            Value::Int,
-            Value::Unsigned,
-            Some(Value::Unsigned),
-        ),
-        (
-            Sign::ShiftLeft,
-            Value::Int,
-            Value::Unsigned,
-            Some(Value::Int),
-        ),
-        (Sign::Plus, INT_POINTER, Value::Int, Some(INT_POINTER)),
-        (Sign::Plus, Value::Int, INT_POINTER, None),
-        (Sign::Minus, INT_POINTER, INT_POINTER, None),
-        (Sign::Plus, VOID_POINTER, Value::Int, None),
-        (Sign::LessThan, INT_POINTER, VOID_POINTER, Some(Value::Int)),
-        (Sign::AndAnd, INT_POINTER, Value::Unsigned, Some(Value::Int)),
-        (Sign::Assign, Value::Int, Value::Int, None),
-        (Sign::Comma, Value::Int, Value::Int, None),
-    ];
-    for (sign, left, right, expected) in rows {
+fn signs_between_operands(rt: HostRuntime) {
+    for (sign, left, right, expected) in BETWEEN {
         assert!(rt; binary(sign, some(left), some(right)) == expected);
     }
     assert!(rt; binary(Sign::LessThan, some(INT_POINTER), ZERO).is_none());
     assert!(rt; binary(Sign::EqualTo, ZERO, some(INT_POINTER)) == Some(Value::Int));
-    Ok(())
 }
 
 #[test]
-fn signs_on_one_value(rt: HostRuntime) -> Result<(), Fail> {
+fn signs_on_one_value(rt: HostRuntime) {
     assert!(rt; prefixed(Sign::Minus, Value::Unsigned) == Some(Value::Unsigned));
     assert!(rt; prefixed(Sign::Tilde, INT_POINTER).is_none());
     assert!(rt; prefixed(Sign::Exclamation, INT_POINTER) == Some(Value::Int));
@@ -71,11 +71,10 @@ fn signs_on_one_value(rt: HostRuntime) -> Result<(), Fail> {
     assert!(rt; counted(VOID_POINTER).is_none());
     assert!(rt; sign_within(Sign::MinusAssign) == Some(Sign::Minus));
     assert!(rt; sign_within(Sign::Assign).is_none());
-    Ok(())
 }
 
 #[test]
-fn values_convert(rt: HostRuntime) -> Result<(), Fail> {
+fn values_convert(rt: HostRuntime) {
     assert!(rt; converts(some(Value::Int), Value::Unsigned));
     assert!(rt; converts(some(VOID_POINTER), INT_POINTER));
     assert!(rt; converts(ZERO, INT_POINTER));
@@ -84,11 +83,10 @@ fn values_convert(rt: HostRuntime) -> Result<(), Fail> {
     assert!(rt; chosen(some(INT_POINTER), some(VOID_POINTER)) == Some(VOID_POINTER));
     assert!(rt; chosen(ZERO, some(INT_POINTER)) == Some(INT_POINTER));
     assert!(rt; chosen(some(Value::Int), some(INT_POINTER)).is_none());
-    Ok(())
 }
 
 #[test]
-fn expressions_as_values(rt: HostRuntime) -> Result<(), Fail> {
+fn expressions_as_values(rt: HostRuntime) {
     let array = ExpressionType::Stored(DataType {
         root: Root::Int,
         stars: 0,
@@ -104,5 +102,4 @@ fn expressions_as_values(rt: HostRuntime) -> Result<(), Fail> {
     };
     assert!(rt; ExpressionType::of_call(&void) == ExpressionType::Nothing);
     assert!(rt; ExpressionType::Stored(void).value().is_none());
-    Ok(())
 }

@@ -1,5 +1,4 @@
 use fk_space::{Space, heap};
-use std::test::Fail;
 
 // The group space of a program without globals and input.
 fn whole() -> Space {
@@ -7,22 +6,19 @@ fn whole() -> Space {
 }
 
 #[test]
-fn a_space_is_divided_evenly(rt: HostRuntime) -> Result<(), Fail> {
+fn a_space_is_divided_evenly(rt: HostRuntime) {
     let space = whole();
     assert_eq!(rt; space.free(), 524_280);
     assert_eq!(rt; space.share(2), Some(262_136));
     assert_eq!(rt; space.share(26_214), Some(16));
     assert_eq!(rt; space.share(26_215), None);
     assert_eq!(rt; space.share(1 << 30), None);
-    Ok(())
 }
 
 #[test]
-fn parts_follow_each_other(rt: HostRuntime) -> Result<(), Fail> {
+fn parts_follow_each_other(rt: HostRuntime) {
     let space = whole();
-    if space.share(3).is_none() {
-        return Err("no share".into());
-    }
+    assert!(rt; space.share(3).is_some());
     // 524,280 - 12 words are 174,756 for each
     assert_eq!(rt;
         space.child(3, 0),
@@ -35,7 +31,6 @@ fn parts_follow_each_other(rt: HostRuntime) -> Result<(), Fail> {
     );
     assert_eq!(rt; space.child(3, 1).low, 174_776);
     assert_eq!(rt; space.child(3, 2).high, 524_288);
-    Ok(())
 }
 
 // What a part of two gets of a part of two, and so on, to the last that has 16 words.
@@ -44,27 +39,22 @@ const SHARES: [u32; 14] = [
 ];
 
 #[test]
-fn parts_are_divided(rt: HostRuntime) -> Result<(), Fail> {
+fn parts_are_divided(rt: HostRuntime) {
     let mut space = whole();
     for words in SHARES {
         let share = space.share(2);
-        if share.is_none() {
-            return Err("no share".into());
-        }
+        assert!(rt; share.is_some());
         assert_eq!(rt; share, Some(words));
         space = space.child(2, 1);
     }
     assert_eq!(rt; space.share(2), None);
-    Ok(())
 }
 
 #[test]
-fn frames_and_blocks_meet(rt: HostRuntime) -> Result<(), Fail> {
+fn frames_and_blocks_meet(rt: HostRuntime) {
     let space = Space::whole(100, 20);
     assert_eq!(rt; space.frame(13), None);
-    let Some(framed) = space.frame(5) else {
-        return Err("no frame".into());
-    };
+    let framed = space.frame(5).expect(&rt, "a frame");
     assert_eq!(rt;
         framed,
         Space {
@@ -75,18 +65,14 @@ fn frames_and_blocks_meet(rt: HostRuntime) -> Result<(), Fail> {
         }
     );
     assert!(rt; framed.block(8).is_none());
-    let Some((first, full)) = framed.block(7) else {
-        return Err("no block".into());
-    };
+    let (first, full) = framed.block(7).expect(&rt, "a block");
     assert_eq!(rt; first, 113);
     assert_eq!(rt; full.free(), 0);
-    Ok(())
 }
 
 #[test]
-fn a_heap_fills(rt: HostRuntime) -> Result<(), Fail> {
+fn a_heap_fills(rt: HostRuntime) {
     assert!(rt; heap(0, 4, 5) == (4, None));
     assert!(rt; heap(4, 4, 1) == (4, None));
     assert!(rt; heap(0, 4, 4) == (4, Some(0)));
-    Ok(())
 }

@@ -1,19 +1,39 @@
+ghost use Rattle.std.specs.Prelude.{◌≡◌};
+ghost use Rattle.fk_tree.specs.Tree as t;
+ghost use Rattle.fk_tree.specs.View.{tree_of, processors};
+
 use fk_tree::Tree;
-use std::test::Fail;
+use std::alloc::{AllocError, Global};
+use std::process::Abort;
+
+// Starts the seven processors of a tree, and splits their group in three parts by the rest: the
+// group, and the first part.
+fn split_by_rest(alloc: Global, tree: &mut Tree) -> Result<(u64, u64), AllocError>
+    requires root { tree_of tree.old ≡ t.root 7 }
+    requires seven { processors tree.old ≡ 7 }
+    ensures { processors tree.new ≡ 7 }
+{
+    let group = tree.begin(alloc, 7)?;
+    let first = tree.split(alloc, group, 3, &[0, 1, 2, 0, 1, 2, 0])?;
+    Ok((group, first))
+}
+
+// These are the members of a node.
+fn has_members(rt: &impl Abort, tree: &Tree, node: u64, members: &[u32]) {
+    assert_eq!(rt; tree.members(node), members);
+}
 
 // Seven processors, of which all are started, in three parts by their rest.
 #[test]
-fn a_group_is_split_by_the_rest(rt: HostRuntime) -> Result<(), Fail> {
+fn a_group_is_split_by_the_rest(rt: HostRuntime) -> Result<(), AllocError> {
     let mut tree = Tree::root(rt.alloc(), 7)?;
-    assert_eq!(rt; tree.members(0), [0, 1, 2, 3, 4, 5, 6].as_slice());
+    has_members(&rt, &tree, 0, &[0, 1, 2, 3, 4, 5, 6]);
     assert_eq!(rt; tree.node_of(6), 0);
-    let group = tree.begin(rt.alloc(), 7)?;
-    assert_eq!(rt; group, 1);
-    let first = tree.split(rt.alloc(), group, 3, [0, 1, 2, 0, 1, 2, 0].as_slice())?;
-    assert_eq!(rt; first, 2);
-    assert_eq!(rt; tree.members(2), [0, 3, 6].as_slice());
-    assert_eq!(rt; tree.members(3), [1, 4].as_slice());
-    assert_eq!(rt; tree.members(4), [2, 5].as_slice());
+    let (group, first) = split_by_rest(rt.alloc(), &mut tree)?;
+    assert_eq!(rt; (group, first), (1, 2));
+    has_members(&rt, &tree, 2, &[0, 3, 6]);
+    has_members(&rt, &tree, 3, &[1, 4]);
+    has_members(&rt, &tree, 4, &[2, 5]);
     assert_eq!(rt; tree.given(), 5);
     assert_eq!(rt; tree.node_of(5), 4);
     assert!(rt; !tree.ready(group));
