@@ -5,6 +5,7 @@ pub mod WordNumbers
 pub mod Near
 pub mod Regions
 pub mod Taken
+mod Walk
 pub mod WordSlots
 pub mod WordRoom
 pub mod Bindings
