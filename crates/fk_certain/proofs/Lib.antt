@@ -2,7 +2,9 @@ mod InExpressions
 mod InStatements
 mod Whole
 pub mod WordNumbers
+mod References
 pub mod Near
+mod Parts
 pub mod Regions
 pub mod Taken
 mod Walk
