@@ -1,17 +1,13 @@
 -- How the names in a program stand.
-use Rattle.std.proofs.Common.{◌≡◌, ◌⊎◌, inl, inr, ℕ, zero, suc, ◌+◌, ◌*◌, ◌%◌, ◌^◌, ◌<◌, ◌≤◌, Bool, true, false, List, [], ◌∷◌, flat_map, get_or, codes, Option, Some, None, slice_get, Contains, refl, sym, ap, subst, ◌∙◌, arith}
+use Rattle.std.proofs.Common.{◌≡◌, ◌⊎◌, inl, inr, ℕ, zero, suc, ◌+◌, ◌*◌, ◌<◌, ◌≤◌, Bool, true, false, List, [], ◌∷◌, flat_map, get_or, codes, Option, Some, None, slice_get, Contains, refl, sym, ap, subst, ◌∙◌, arith}
 use Rattle.std.specs.Prelude.{◌==◌, is_some, map, if◌then◌else◌}
 use Rattle.std.specs.Option.{option_map}
-use Rattle.std.proofs.lemmas.Bool.{false≢true, and_from, or_left, le-leb, lt-ltb, eq-eqb, ne_eqb}
+use Rattle.std.proofs.lemmas.Bool.{false≢true, eq-eqb, ne_eqb}
 use Rattle.std.proofs.lemmas.List.{get_or_default}
 use Rattle.std.proofs.lemmas.Option.{same_Some}
-use Rattle.fk_typing.specs.Names.{Env}
-use Rattle.fk_forms.specs.Tables.{Tables}
-use Rattle.fk_forms.specs.Expressions.{Signature, is_name}
-use Rattle.fk_kept.specs.declared.places.Place.{Place}
+use Rattle.fk_forms.specs.Expressions.{is_name}
 use Rattle.fk_syntax.specs.declared.place.Place as sp
 use Rattle.fk_num.specs.Word.{word}
-use Rattle.fk_store.specs.Serve.{may_use}
 use Rattle.fk_syntax.specs.declared.facts.Facts.{Facts}
 use Rattle.fk_syntax.specs.Tree as t
 use Rattle.fk_syntax.specs.Tree.{Named, BaseType}
@@ -20,7 +16,6 @@ use Rattle.fk_structs.specs.declared.types.Root.{Root}
 use Rattle.fk_structs.specs.declared.types.Root.TheVariants as r
 use Rattle.fk_structs.specs.declared.types.DataType.{DataType}
 use Rattle.fk_structs.specs.Types.{StructTree, struct_named, type_declared, type_spelled}
-use Rattle.fk_structs.specs.Sizes.{HasTypeWords}
 use Rattle.fk_struct_rules.specs.Declarations.{DeclarationBreaks}
 use Rattle.fk_names.specs.declared.names.Meaning.{Meaning}
 use Rattle.fk_names.specs.declared.names.Meaning.TheVariants as m
@@ -39,7 +34,6 @@ use Rattle.fk_sharing.specs.Tokens.{is_struct}
 use Rattle.fk_forms.specs.declared.tables.Home.{Home}
 use Rattle.fk_forms.specs.declared.tables.Home.TheVariants as h
 use Rattle.fk_forms.specs.Tables.{no_binding, note, slot, kind_at, is_array}
-use Rattle.fk_layout.specs.Refusal.{Fits}
 use Rattle.fk_fitting.proofs.Each.{Each, one_of}
 use Rattle.fk_fitting.proofs.Typed.{Unbroken, IsGood}
 use Rattle.fk_fitting.proofs.Named.{IsKnown, meant_at, declared_low}
@@ -52,29 +46,10 @@ use Rattle.fk_typed_forms.specs.Typed.{StandsAs, IsNoWord}
 use Rattle.fk_certain.proofs.Sizes.{IsSound, has_sound}
 use Rattle.fk_certain.proofs.Tokens.{IsSoundType, kind_is, kind_words, array_is}
 use Rattle.fk_certain.proofs.Places.{lies_within}
-use Rattle.fk_certain.proofs.Scalars.{IsScalar}
-use Rattle.fk_certain.proofs.Valid.{IsGiven, E, T, F, P, things, words_declared, IsUsed, Noting, IsPiece, are_pieces}
-
--- ---- addresses of shared data
-
-shared_address : (i : ℕ) → i ≤ 524288 → may_use true (0x10000000 + 4 * i) ≡ true
-shared_address i low =
-    let a = 0x10000000 + 4 * i in
-    and_from _ _ (eq-eqb (a % 4) 0 (omega arith))
-    (or_left _ _ (and_from _ _ (le-leb 0x10000000 a (omega arith)) (lt-ltb a (0x10000000 + 4 * 2 ^ 20) (omega (arith, low)))))
+use Rattle.fk_certain.proofs.Addresses.{room_may}
+use Rattle.fk_certain.proofs.Valid.{IsGiven, about, words_declared, is_scalar, IsPiece, are_pieces}
 
 module _ (structs : List StructTree) where
-  -- a type has its words at an address, among those of the shared variables
-  pub record HasRoom (address : ℕ) (type : DataType) : Type 0 where
-    pub index : ℕ
-    pub words : ℕ
-    pub is : address ≡ 0x10000000 + 4 * index
-    pub has : HasTypeWords structs type words
-    pub within : index + words ≤ 524288
-
-  pub room_may : (address : ℕ) (type : DataType) → HasRoom address type → may_use true address ≡ true
-  room_may address type room = subst (λ a. may_use true a ≡ true) (sym room.is) (shared_address room.index (let few = room.within in omega (arith, few)))
-
   -- a type that is spelled by words that aren't those of a struct
   no_struct : (base : BaseType) (stars : ℕ) (length : Option ℕ) (type : DataType) → is_struct (record { base = base; stars = stars }) ≡ false
       → type_spelled structs (record { base = base; stars = stars }) length ≡ Some type → (type.length ≡ length) × (struct_of_root type.root type.stars ≡ None)
@@ -89,25 +64,8 @@ module _ (structs : List StructTree) where
       by None is' = absurd (cc)
       by (Some i) is' = subst (λ (x : DataType). (x.length ≡ length) × (struct_of_root x.root x.stars ≡ None)) (same_Some _ type is') (refl, refl)
 
-module _ (program : ProgramTree) (facts : Facts) (given : IsGiven program facts) (fits : Fits (T program facts given) program.items)
-    (kept : (number : ℕ) (x : DeclaredTree) → slice_get (declarations program) number ≡ Some (Variable x) → IsScalar x) where
-  abbrev env : Env
-  env = E program facts given
-
-  abbrev tables : Tables
-  tables = T program facts given
-
-  abbrev functions : (binding : ℕ) → Signature
-  functions = F program facts given
-
-  abbrev places : (binding : ℕ) → Place
-  places = P program facts given
-
-  abbrev structs : List StructTree
-  structs = env.structs
-
-  abbrev pub Room : (address : ℕ) → DataType → Type 0
-  Room = HasRoom structs
+module _ (program : ProgramTree) (facts : Facts) (given : IsGiven program facts) where
+  open about program facts given use {env, structs, tables, functions, places, thing, Room, Noting, IsUsed}
 
   abbrev bound : Named → ℕ
   bound name = (note tables name.at).binding
@@ -118,7 +76,7 @@ module _ (program : ProgramTree) (facts : Facts) (given : IsGiven program facts)
   -- ---- what is declared is noted
 
   abbrev NotedDeclared : DeclarationTree → Type 0
-  NotedDeclared (Variable x) = Noting program facts given (record { at = x.name.at; type = option_map Stored (type_declared structs x) })
+  NotedDeclared (Variable x) = Noting (record { at = x.name.at; type = option_map Stored (type_declared structs x) })
   NotedDeclared (Header f) = Unit {0}
 
   noted_by : (ps : List PieceTree) → Each (IsPiece program facts given) ps → Each NotedDeclared (flat_map declared_by_piece ps)
@@ -131,7 +89,7 @@ module _ (program : ProgramTree) (facts : Facts) (given : IsGiven program facts)
   noted_by (q.Return result spot value ∷ ps) k = noted_by ps k.1
 
   noted_at : (number : ℕ) (x : DeclaredTree) → slice_get (declarations program) number ≡ Some (Variable x)
-      → Noting program facts given (record { at = x.name.at; type = option_map Stored (type_declared structs x) })
+      → Noting (record { at = x.name.at; type = option_map Stored (type_declared structs x) })
   noted_at number x is = one_of NotedDeclared (declarations program)
       (subst (Each NotedDeclared) (of_items program.items).declared (noted_by (pieces program) (are_pieces program facts given))) number (Variable x) is
 
@@ -147,19 +105,19 @@ module _ (program : ProgramTree) (facts : Facts) (given : IsGiven program facts)
     global : (slot tables number).home ≡ h.Global → Room (0x10000000 + 4 * (slot tables number).index) type
     global e =
         let words = words_declared program facts given x type v.right v.is in
-        let noted = subst (λ o. Noting program facts given (record { at = x.name.at; type = option_map Stored o })) v.is (noted_at number x v.there) in
+        let noted = subst (λ o. Noting (record { at = x.name.at; type = option_map Stored o })) v.is (noted_at number x v.there) in
         let same = kind_words structs type (kind_at tables x.name.at) words.0 words.1 words.3 (kind_is program facts given.correct x.name.at (Stored type) noted) in
         record {
           index = (slot tables number).index;
           words = words.0;
           is = refl;
           has = words.1;
-          within = omega (arith, lies_within program facts given.correct fits number x v.there e, same);
+          within = omega (arith, lies_within program facts given.correct given.fits number x v.there e, same);
         }
 
     in_word : x.shared ≡ false → Stood Word (Stored type)
     in_word private =
-        let plain = kept number x v.there private in
+        let plain = is_scalar program facts given number x v.there private in
         let none = no_struct structs x.kind.base x.kind.stars x.length type plain.1 v.is in
         (ap is_some (none.0 ∙ plain.0), none.1)
 
@@ -237,7 +195,7 @@ module _ (program : ProgramTree) (facts : Facts) (given : IsGiven program facts)
           low = declared_low program facts given.correct number (Variable x) there;
         })
 
-    pub means_one : IsUsed program facts given name → MeansOne name
+    pub means_one : IsUsed name → MeansOne name
     means_one used = let found = meant_at program facts given.correct name used.0 used.1 used.2 in by found.0 found.1 found.2
       where
         by : (meaning : Meaning) → MeansAt (outline program) name.bytes used.0 meaning → IsKnown program facts given.correct name meaning → MeansOne name
@@ -308,11 +266,11 @@ module _ (program : ProgramTree) (facts : Facts) (given : IsGiven program facts)
     fine : (bytes : List ℕ) → Contains predeclared bytes → Fine bytes
     fine bytes (k, low, is) = subst Fine (get_or_default predeclared k [] bytes low ∙ is) (at_number k low)
 
-  stored_array : (name : Named) (type : ExpressionType) → Noting program facts given (record { at = name.at; type = Some type }) → (t' : DataType) → type ≡ Stored t'
+  stored_array : (name : Named) (type : ExpressionType) → Noting (record { at = name.at; type = Some type }) → (t' : DataType) → type ≡ Stored t'
       → is_some t'.length ≡ true → is_array tables name.at ≡ true
-  stored_array name type noted t' same some = array_is program facts given.correct name.at t' (subst (λ x. Noting program facts given (record { at = name.at; type = Some x })) same noted) some
+  stored_array name type noted t' same some = array_is program facts given.correct name.at t' (subst (λ x. Noting (record { at = name.at; type = Some x })) same noted) some
 
-  pub name_stands : (name : Named) → IsUsed program facts given name → Noting program facts given (record { at = name.at; type = name_type (env.meant name) })
+  pub name_stands : (name : Named) → IsUsed name → Noting (record { at = name.at; type = name_type (env.meant name) })
       → (type : ExpressionType) → name_type (env.meant name) ≡ Some type → NameStands name type
   name_stands name used noted type e = elim (means_one name used) [
     | inl v ↦
@@ -324,7 +282,7 @@ module _ (program : ProgramTree) (facts : Facts) (given : IsGiven program facts)
     | inr (inr p) ↦
         subst (λ (w : Way). NameAsks tables functions places name.at w × Stood w type) (sym (way_predeclared name p.binds))
         (fine name.at name.place name.bytes p.there type (sym (ap name_type p.meant) ∙ e)
-        (stored_array name type (subst (λ o. Noting program facts given (record { at = name.at; type = o })) e noted)))
+        (stored_array name type (subst (λ o. Noting (record { at = name.at; type = o })) e noted)))
   ]
 
   -- and its type may be declared
@@ -354,7 +312,7 @@ module _ (program : ProgramTree) (facts : Facts) (given : IsGiven program facts)
   sound_by : (bytes : List ℕ) → Contains predeclared bytes → Sound bytes
   sound_by bytes (k, low, is) = subst Sound (get_or_default predeclared k [] bytes low ∙ is) (sound_number k low)
 
-  pub name_sound : (name : Named) → IsUsed program facts given name → (type : ExpressionType) → name_type (env.meant name) ≡ Some type → IsSoundType structs type
+  pub name_sound : (name : Named) → IsUsed name → (type : ExpressionType) → name_type (env.meant name) ≡ Some type → IsSoundType structs type
   name_sound name used type e = elim (means_one name used) [
     | inl v ↦
         let has = has_sound structs v.variable v.known.right in
@@ -384,7 +342,7 @@ module _ (program : ProgramTree) (facts : Facts) (given : IsGiven program facts)
   shared_word h.Private index name is = is
   shared_word h.NoWord index name is = tt
 
-  pub no_word : (name : Named) → IsUsed program facts given name → (things program facts given name.at ≡ Some PrivateVariable → ⊥) → IsNoWord (way_of name)
+  pub no_word : (name : Named) → IsUsed name → (thing name.at ≡ Some PrivateVariable → ⊥) → IsNoWord (way_of name)
   no_word name used shared = elim (means_one name used) [
     | inl v ↦
         subst IsNoWord (sym (way_declared name v.number v.binds v.low)) (by v v.variable.shared refl v.known.home)

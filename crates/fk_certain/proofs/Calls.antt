@@ -5,9 +5,6 @@ use Rattle.std.specs.Option.{option_map}
 use Rattle.std.proofs.lemmas.Bool.{false≢true, eqb-true, ne_eqb}
 use Rattle.std.proofs.lemmas.List.{get_or_default, length-map}
 use Rattle.std.proofs.lemmas.Option.{same_Some}
-use Rattle.fk_typing.specs.Names.{Env}
-use Rattle.fk_forms.specs.Tables.{Tables}
-use Rattle.fk_forms.specs.Expressions.{Signature}
 use Rattle.fk_syntax.specs.declared.place.Place as sp
 use Rattle.fk_syntax.specs.declared.facts.Facts.{Facts}
 use Rattle.fk_syntax.specs.declared.place.Spot.{Spot}
@@ -20,7 +17,7 @@ use Rattle.fk_structs.specs.declared.types.Root.TheVariants as r
 use Rattle.fk_structs.specs.declared.types.DataType.{DataType}
 use Rattle.fk_structs.specs.Types.{struct_named, type_spelled}
 use Rattle.fk_struct_rules.specs.Declarations.{ResultBreaks}
-use Rattle.fk_names.specs.Outline.{Variable, Header, declarations}
+use Rattle.fk_names.specs.Outline.{Header, declarations}
 use Rattle.fk_names.specs.Means.{predeclared}
 use Rattle.fk_signs.specs.declared.values.Value.{Value}
 use Rattle.fk_signs.specs.declared.values.ExpressionType.{ExpressionType}
@@ -36,7 +33,6 @@ use Rattle.fk_forms.specs.Statements.{is_nothing}
 use Rattle.fk_forms.specs.Program.{functions_of, with_body, binding_of, signature_of, signature_in, is_main}
 use Rattle.fk_kept.specs.declared.places.Place.{Place}
 use Rattle.fk_kept.specs.declared.places.Place.TheVariants as pl
-use Rattle.fk_layout.specs.Refusal.{Fits}
 use Rattle.fk_shapes.specs.Fitting.{is_defined, NameFits}
 use Rattle.fk_fitting.proofs.Typed.{Unbroken, Not}
 use Rattle.fk_fitting.proofs.Named.{known}
@@ -44,10 +40,9 @@ use Rattle.fk_fitting.proofs.Declared.{function_number}
 use Rattle.fk_fitting.proofs.Bodies.{takes_of}
 use Rattle.fk_typed_forms.specs.Ways.{Way, Valued, Absent, Function, result, predeclared_gives, predeclared_way, place_gives, called_way}
 use Rattle.fk_typed_forms.specs.Asked.{AreEnough, IsCalled, TakesAll, NameTakes, NameAsks, CallAsks, place_by, place_in}
-use Rattle.fk_certain.proofs.Scalars.{IsScalar}
-use Rattle.fk_certain.proofs.Valid.{IsGiven, E, T, F, P, IsUsed}
+use Rattle.fk_certain.proofs.Valid.{IsGiven, about}
 use Rattle.fk_certain.proofs.AskedNames as n
-use Rattle.fk_certain.proofs.AskedNames.{MeansFunction, MeansPredeclared, means_one, way_of, way_predeclared, way_function}
+use Rattle.fk_certain.proofs.AskedNames.{MeansFunction, means_one, way_of, way_predeclared, way_function}
 
 -- what is called with so many arguments, and gives a type
 record IsCall (m : Meant) (count : ℕ) (fit : Bool) (first : Option Value) (type : ExpressionType) : Type 0 where
@@ -74,22 +69,11 @@ map_some : {X Y : Type 0} (f : X → Y) (o : Option X) (y : Y) → option_map f 
 map_some f None y h = absurd (cc)
 map_some f (Some x) y h = (x, refl, same_Some (f x) y h)
 
-module _ (program : ProgramTree) (facts : Facts) (given : IsGiven program facts) (fits : Fits (T program facts given) program.items)
-    (kept : (number : ℕ) (x : DeclaredTree) → slice_get (declarations program) number ≡ Some (Variable x) → IsScalar x) where
-  abbrev env : Env
-  env = E program facts given
-
-  abbrev tables : Tables
-  tables = T program facts given
-
-  abbrev functions : (binding : ℕ) → Signature
-  functions = F program facts given
-
-  abbrev places : (binding : ℕ) → Place
-  places = P program facts given
+module _ (program : ProgramTree) (facts : Facts) (given : IsGiven program facts) where
+  open about program facts given use {env, tables, functions, places, IsUsed}
 
   abbrev Stood : Way → ExpressionType → Type 0
-  Stood w type = n.Stood program facts given fits kept w type
+  Stood w type = n.Stood program facts given w type
 
   -- ---- the function of a binding
 
@@ -149,7 +133,7 @@ module _ (program : ProgramTree) (facts : Facts) (given : IsGiven program facts)
     place : places b ≡ place_by f
     signature : functions b ≡ signature_of f
 
-  place_is : (name : Named) (f : MeansFunction program facts given fits kept name) → is_defined tables (functions_of program.items) f.number ≡ true → IsPlace f.number f.function
+  place_is : (name : Named) (f : MeansFunction program facts given name) → is_defined tables (functions_of program.items) f.number ≡ true → IsPlace f.number f.function
   place_is name f defined =
       let x = found program.items (λ j y at. (j, at)) f.number defined in
       let number = function_number program facts given.correct x.index x.function x.there x.body in
@@ -180,14 +164,14 @@ module _ (program : ProgramTree) (facts : Facts) (given : IsGiven program facts)
 
   abbrev CallStands : Named → Trees → ExpressionType → Type 0
   CallStands name es type =
-      NameAsks tables functions places name.at (way_of program facts given fits kept name) × CallAsks tables functions places (way_of program facts given fits kept name) es
-      × Stood (called_way tables places (way_of program facts given fits kept name)) type
+      NameAsks tables functions places name.at (way_of program facts given name) × CallAsks tables functions places (way_of program facts given name) es
+      × Stood (called_way tables places (way_of program facts given name)) type
 
   abbrev bound : Named → ℕ
   bound name = (note tables name.at).binding
 
   -- of a function, by its name's way
-  by_way : (name : Named) (es : Trees) (type : ExpressionType) → way_of program facts given fits kept name ≡ Function name
+  by_way : (name : Named) (es : Trees) (type : ExpressionType) → way_of program facts given name ≡ Function name
       → NameTakes tables functions places (bound name == no_binding) name es
       → Stood (result (if bound name == no_binding then predeclared_gives name else place_gives (places (bound name)))) type → CallStands name es type
   by_way name es type same takes stood =
@@ -197,7 +181,7 @@ module _ (program : ProgramTree) (facts : Facts) (given : IsGiven program facts)
   called main f other b is = subst IsCalled (sym (is.place ∙ ap (λ (c : Bool). if c then pl.Main else pl.Called (not (is_nothing f.result))) other)) tt
 
   -- a declared one
-  module _ (name : Named) (f : MeansFunction program facts given fits kept name) (is : IsPlace f.number f.function) (es : Trees) (type : ExpressionType) where
+  module _ (name : Named) (f : MeansFunction program facts given name) (is : IsPlace f.number f.function) (es : Trees) (type : ExpressionType) where
     abbrev args : Terms
     args = with_arguments no_terms es
 
@@ -237,7 +221,7 @@ module _ (program : ProgramTree) (facts : Facts) (given : IsGiven program facts)
           enough = subst (λ s. AreEnough s es) (sym (ap (λ s. s.parameters) at.signature)) (enough f.function.parameters es no_terms (omega (arith, many, long, same)));
         } in
         let place = at.place ∙ ap (λ (c : Bool). if c then pl.Main else pl.Called (not (is_nothing f.function.result))) parts.0 in
-        by_way name es type (way_function program facts given fits kept name f)
+        by_way name es type (way_function program facts given name f)
         (subst (λ (c : Bool). NameTakes tables functions places c name es) (sym other) takes)
         (subst (λ (c : Bool). Stood (result (if c then predeclared_gives name else place_gives (places (bound name)))) type) (sym other)
         (subst (λ (x : Place). Stood (result (place_gives x)) type) (sym place) (gives_as result' f.is.2.gives parts.2)))
@@ -283,7 +267,7 @@ module _ (program : ProgramTree) (facts : Facts) (given : IsGiven program facts)
   call_none : (type' : Option DataType) (count : ℕ) (fit : Bool) (first : Option Value) (type : ExpressionType) → call_type (Kept type') count fit first ≡ Some type → ⊥
   call_none type' count fit first type h = cc
 
-  pub call_stands : (spot : Spot) (name : Named) → IsUsed program facts given name → (es : Trees) (type : ExpressionType)
+  pub call_stands : (spot : Spot) (name : Named) → IsUsed name → (es : Trees) (type : ExpressionType)
       → type_of env (e.Call spot (e.Use name) (with_arguments no_terms es)) ≡ Some type → CallStands name es type
   call_stands spot name used es type h =
       let args = with_arguments no_terms es in
@@ -291,7 +275,7 @@ module _ (program : ProgramTree) (facts : Facts) (given : IsGiven program facts)
       let first = first_value env args in
       let is = call_is (env.meant name) (count_of args) fit first type h in
       let takes = takes_of program facts given.correct functions name (known program facts given.correct name used.0 used.1 used.2) es is.function is.counted in
-      elim (means_one program facts given fits kept name used) [
+      elim (means_one program facts given name used) [
         | inl v ↦ absurd (call_none (Some v.type) (count_of args) fit first type (sym (ap (λ (m : Meant). call_type m (count_of args) fit first) v.meant) ∙ h))
         | inr (inl f) ↦
             let other : (bound name == no_binding) ≡ false = ne_eqb (bound name) no_binding (λ same. let low = f.low in omega (arith, same, f.binds, low)) in
@@ -300,7 +284,7 @@ module _ (program : ProgramTree) (facts : Facts) (given : IsGiven program facts)
         | inr (inr p) ↦
             let none : (bound name == no_binding) ≡ true = subst (λ b. (b == no_binding) ≡ true) (sym p.binds) refl in
             let g = fine name.at name.place name.bytes p.there (count_of args) fit first type (sym (ap (λ (m : Meant). call_type m (count_of args) fit first) p.meant) ∙ h) in
-            by_way name es type (way_predeclared program facts given fits kept name p.binds ∙ g.0)
+            by_way name es type (way_predeclared program facts given name p.binds ∙ g.0)
             (subst (λ (c : Bool). NameTakes tables functions places c name es) (sym none)
             (subst (λ (c : Bool). NameFits tables functions (is_defined tables (functions_of program.items)) c name es) none takes))
             (subst (λ (c : Bool). Stood (result (if c then predeclared_gives name else place_gives (places (bound name)))) type) (sym none) g.1)

@@ -18,6 +18,7 @@ mod Sizes
 mod Tokens
 mod Places
 mod Scalars
+mod Addresses
 mod Valid
 mod AskedNames
 mod Calls
