@@ -1,12 +1,10 @@
 -- How the names in a program stand.
-use Rattle.std.proofs.Common.{◌≡◌, ◌⊎◌, inl, inr, ℕ, zero, suc, ◌+◌, ◌*◌, ◌<◌, ◌≤◌, Bool, true, false, List, [], ◌∷◌, flat_map, get_or, codes, Option, Some, None, slice_get, Contains, refl, sym, ap, subst, ◌∙◌, arith}
+use Rattle.std.proofs.Common.{◌≡◌, ◌⊎◌, inl, inr, ℕ, zero, suc, ◌+◌, ◌*◌, ◌<◌, ◌≤◌, Bool, true, false, List, [], ◌∷◌, flat_map, codes, Option, Some, None, slice_get, Contains, refl, sym, ap, subst, ◌∙◌, arith}
 use Rattle.std.specs.Prelude.{◌==◌, is_some, map, if◌then◌else◌}
 use Rattle.std.specs.Option.{option_map}
 use Rattle.std.proofs.lemmas.Bool.{false≢true, eq-eqb, ne_eqb}
-use Rattle.std.proofs.lemmas.List.{get_or_default}
 use Rattle.std.proofs.lemmas.Option.{same_Some}
 use Rattle.fk_forms.specs.Expressions.{is_name}
-use Rattle.fk_syntax.specs.declared.place.Place as sp
 use Rattle.fk_num.specs.Word.{word}
 use Rattle.fk_syntax.specs.declared.facts.Facts.{Facts}
 use Rattle.fk_syntax.specs.Tree as t
@@ -22,7 +20,8 @@ use Rattle.fk_names.specs.declared.names.Meaning.TheVariants as m
 use Rattle.fk_names.specs.Outline.{DeclarationTree, Variable, Header, declarations, outline}
 use Rattle.fk_names.specs.Means.{Means, MeansAt, predeclared}
 use Rattle.fk_signs.specs.declared.values.ExpressionType.{ExpressionType}
-use Rattle.fk_signs.specs.declared.values.ExpressionType.TheVariants.{Stored}
+use Rattle.fk_signs.specs.declared.values.ExpressionType.TheVariants.{Stored, Computed}
+use Rattle.fk_signs.specs.declared.values.Value.TheVariants.{Int}
 use Rattle.fk_signs.specs.Values.{result_of}
 use Rattle.fk_pieces.specs.Pieces as q
 use Rattle.fk_pieces.specs.Pieces.{PieceTree, pieces}
@@ -63,6 +62,53 @@ module _ (structs : List StructTree) where
           → (type.length ≡ length) × (struct_of_root type.root type.stars ≡ None)
       by None is' = absurd (cc)
       by (Some i) is' = subst (λ (x : DataType). (x.length ≡ length) × (struct_of_root x.root x.stars ≡ None)) (same_Some _ type is') (refl, refl)
+
+-- ---- names that are declared before each text
+
+of_each : {X : Type 0} (P : X → Type 0) (xs : List X) → Each P xs → (x : X) → Contains xs x → P x
+of_each P [] h x (k, low, is) = absurd (omega (arith, low))
+of_each P (y ∷ xs) h x (zero, low, is) = subst P is h.0
+of_each P (y ∷ xs) h x (suc k, low, is) = of_each P xs h.1 x (k, omega (arith, low), is)
+
+-- such a name is that of a function, of an integer or of the input
+abbrev IsOne : Named → Type 0
+IsOne name =
+    let type = name_type (predeclared_meant name.bytes) in
+    (type ≡ None) ⊎ (((type ≡ Some (Computed Int)) × (predeclared_way name ≡ Valued)) ⊎ ((type ≡ Some (Stored input)) × (predeclared_way name ≡ Array)))
+
+predeclared_one : (name : Named) → Contains predeclared name.bytes → IsOne name
+predeclared_one name there =
+    of_each (λ bytes. IsOne (record name { bytes = bytes })) predeclared (
+      inl refl,
+      (
+        inl refl,
+        (
+          inl refl,
+          (
+            inl refl,
+            (
+              inl refl,
+              (
+                inl refl,
+                (
+                  inl refl,
+                  (
+                    inl refl,
+                    (
+                      inl refl,
+                      (
+                        inl refl,
+                        (inr (inl (refl, refl)), (inr (inl (refl, refl)), (inr (inr (refl, refl)), (inr (inl (refl, refl)), tt)))),
+                      ),
+                    ),
+                  ),
+                ),
+              ),
+            ),
+          ),
+        ),
+      ),
+    ) name.bytes there
 
 module _ (program : ProgramTree) (facts : Facts) (given : IsGiven program facts) where
   open about program facts given use {env, structs, tables, functions, places, thing, Room, Noting, IsUsed}
@@ -238,33 +284,18 @@ module _ (program : ProgramTree) (facts : Facts) (given : IsGiven program facts)
   no_type true other type none e = cc
   no_type false other type none e = let clash = sym none ∙ e in cc
 
-  -- of those that are declared before each text
-  module _ (at : ℕ) (place : sp.Place) where
-    abbrev Fine : List ℕ → Type 0
-    Fine bytes =
-        (type : ExpressionType) → name_type (predeclared_meant bytes) ≡ Some type → ((t' : DataType) → type ≡ Stored t' → is_some t'.length ≡ true → is_array tables at ≡ true)
-        → let w = predeclared_way (record { bytes = bytes; at = at; place = place }) in NameAsks tables functions places at w × Stood w type
-
-    at_number : (k : ℕ) → k < 14 → Fine (get_or predeclared k [])
-    at_number zero low type e array = absurd (cc)
-    at_number (suc zero) low type e array = absurd (cc)
-    at_number (suc (suc zero)) low type e array = absurd (cc)
-    at_number (suc (suc (suc zero))) low type e array = absurd (cc)
-    at_number (suc (suc (suc (suc zero)))) low type e array = absurd (cc)
-    at_number (suc (suc (suc (suc (suc zero))))) low type e array = absurd (cc)
-    at_number (suc (suc (suc (suc (suc (suc zero)))))) low type e array = absurd (cc)
-    at_number (suc (suc (suc (suc (suc (suc (suc zero))))))) low type e array = absurd (cc)
-    at_number (suc (suc (suc (suc (suc (suc (suc (suc zero)))))))) low type e array = absurd (cc)
-    at_number (suc (suc (suc (suc (suc (suc (suc (suc (suc zero))))))))) low type e array = absurd (cc)
-    at_number (suc (suc (suc (suc (suc (suc (suc (suc (suc (suc zero)))))))))) low type e array = (tt, subst (Stood Valued) (same_Some _ type e) tt)
-    at_number (suc (suc (suc (suc (suc (suc (suc (suc (suc (suc (suc zero))))))))))) low type e array = (tt, subst (Stood Valued) (same_Some _ type e) tt)
-    at_number (suc (suc (suc (suc (suc (suc (suc (suc (suc (suc (suc (suc zero)))))))))))) low type e array =
-        (array input (sym (same_Some _ type e)) refl, subst (Stood Array) (same_Some _ type e) refl)
-    at_number (suc (suc (suc (suc (suc (suc (suc (suc (suc (suc (suc (suc (suc zero))))))))))))) low type e array = (tt, subst (Stood Valued) (same_Some _ type e) tt)
-    at_number (suc (suc (suc (suc (suc (suc (suc (suc (suc (suc (suc (suc (suc (suc k)))))))))))))) low type e array = absurd (omega (arith, low))
-
-    fine : (bytes : List ℕ) → Contains predeclared bytes → Fine bytes
-    fine bytes (k, low, is) = subst Fine (get_or_default predeclared k [] bytes low ∙ is) (at_number k low)
+  predeclared_stands : (name : Named) → Contains predeclared name.bytes → (type : ExpressionType) → name_type (predeclared_meant name.bytes) ≡ Some type
+      → ((t' : DataType) → type ≡ Stored t' → is_some t'.length ≡ true → is_array tables name.at ≡ true)
+      → NameAsks tables functions places name.at (predeclared_way name) × Stood (predeclared_way name) type
+  predeclared_stands name there type e array = by (predeclared_one name there)
+    where
+      by : IsOne name → NameAsks tables functions places name.at (predeclared_way name) × Stood (predeclared_way name) type
+      by (inl none) = absurd (let clash = sym none ∙ e in cc)
+      by (inr (inl (is, way))) =
+          subst (λ (w : Way). NameAsks tables functions places name.at w × Stood w type) (sym way) (tt, subst (Stood Valued) (same_Some _ type (sym is ∙ e)) tt)
+      by (inr (inr (is, way))) =
+          let same = same_Some _ type (sym is ∙ e) in
+          subst (λ (w : Way). NameAsks tables functions places name.at w × Stood w type) (sym way) (array input (sym same) refl, subst (Stood Array) same refl)
 
   stored_array : (name : Named) (type : ExpressionType) → Noting (record { at = name.at; type = Some type }) → (t' : DataType) → type ≡ Stored t'
       → is_some t'.length ≡ true → is_array tables name.at ≡ true
@@ -281,7 +312,7 @@ module _ (program : ProgramTree) (facts : Facts) (given : IsGiven program facts)
     | inr (inl f) ↦ absurd (no_type (is_text f.function.name.bytes (codes "main")) (Called (map Typed f.is.0) (Always (option_map result_of f.is.1))) type refl (sym (ap name_type f.is.3) ∙ e))
     | inr (inr p) ↦
         subst (λ (w : Way). NameAsks tables functions places name.at w × Stood w type) (sym (way_predeclared name p.binds))
-        (fine name.at name.place name.bytes p.there type (sym (ap name_type p.meant) ∙ e)
+        (predeclared_stands name p.there type (sym (ap name_type p.meant) ∙ e)
         (stored_array name type (subst (λ o. Noting (record { at = name.at; type = o })) e noted)))
   ]
 
@@ -289,28 +320,13 @@ module _ (program : ProgramTree) (facts : Facts) (given : IsGiven program facts)
   input_sound : IsSound structs input
   input_sound = record { root = tt; length = λ n e. omega (arith, same_Some 65536 n e) }
 
-  abbrev Sound : List ℕ → Type 0
-  Sound bytes = (type' : ExpressionType) → name_type (predeclared_meant bytes) ≡ Some type' → IsSoundType structs type'
-
-  sound_number : (k : ℕ) → k < 14 → Sound (get_or predeclared k [])
-  sound_number zero low type' e' = absurd (cc)
-  sound_number (suc zero) low type' e' = absurd (cc)
-  sound_number (suc (suc zero)) low type' e' = absurd (cc)
-  sound_number (suc (suc (suc zero))) low type' e' = absurd (cc)
-  sound_number (suc (suc (suc (suc zero)))) low type' e' = absurd (cc)
-  sound_number (suc (suc (suc (suc (suc zero))))) low type' e' = absurd (cc)
-  sound_number (suc (suc (suc (suc (suc (suc zero)))))) low type' e' = absurd (cc)
-  sound_number (suc (suc (suc (suc (suc (suc (suc zero))))))) low type' e' = absurd (cc)
-  sound_number (suc (suc (suc (suc (suc (suc (suc (suc zero)))))))) low type' e' = absurd (cc)
-  sound_number (suc (suc (suc (suc (suc (suc (suc (suc (suc zero))))))))) low type' e' = absurd (cc)
-  sound_number (suc (suc (suc (suc (suc (suc (suc (suc (suc (suc zero)))))))))) low type' e' = subst (IsSoundType structs) (same_Some _ type' e') tt
-  sound_number (suc (suc (suc (suc (suc (suc (suc (suc (suc (suc (suc zero))))))))))) low type' e' = subst (IsSoundType structs) (same_Some _ type' e') tt
-  sound_number (suc (suc (suc (suc (suc (suc (suc (suc (suc (suc (suc (suc zero)))))))))))) low type' e' = subst (IsSoundType structs) (same_Some _ type' e') (λ some. input_sound)
-  sound_number (suc (suc (suc (suc (suc (suc (suc (suc (suc (suc (suc (suc (suc zero))))))))))))) low type' e' = subst (IsSoundType structs) (same_Some _ type' e') tt
-  sound_number (suc (suc (suc (suc (suc (suc (suc (suc (suc (suc (suc (suc (suc (suc k)))))))))))))) low type' e' = absurd (omega (arith, low))
-
-  sound_by : (bytes : List ℕ) → Contains predeclared bytes → Sound bytes
-  sound_by bytes (k, low, is) = subst Sound (get_or_default predeclared k [] bytes low ∙ is) (sound_number k low)
+  predeclared_sound : (name : Named) → Contains predeclared name.bytes → (type : ExpressionType) → name_type (predeclared_meant name.bytes) ≡ Some type → IsSoundType structs type
+  predeclared_sound name there type e = by (predeclared_one name there)
+    where
+      by : IsOne name → IsSoundType structs type
+      by (inl none) = absurd (let clash = sym none ∙ e in cc)
+      by (inr (inl (is, way))) = subst (IsSoundType structs) (same_Some _ type (sym is ∙ e)) tt
+      by (inr (inr (is, way))) = subst (IsSoundType structs) (same_Some _ type (sym is ∙ e)) (λ some. input_sound)
 
   pub name_sound : (name : Named) → IsUsed name → (type : ExpressionType) → name_type (env.meant name) ≡ Some type → IsSoundType structs type
   name_sound name used type e = elim (means_one name used) [
@@ -319,7 +335,7 @@ module _ (program : ProgramTree) (facts : Facts) (given : IsGiven program facts)
         let one : has.type ≡ v.type = same_Some has.type v.type (sym has.is ∙ v.known.is) in
         subst (IsSoundType structs) (same_Some _ type (sym (ap name_type v.meant) ∙ e)) (λ some. subst (IsSound structs) one has.sound)
     | inr (inl f) ↦ absurd (no_type (is_text f.function.name.bytes (codes "main")) (Called (map Typed f.is.0) (Always (option_map result_of f.is.1))) type refl (sym (ap name_type f.is.3) ∙ e))
-    | inr (inr p) ↦ sound_by name.bytes p.there type (sym (ap name_type p.meant) ∙ e)
+    | inr (inr p) ↦ predeclared_sound name p.there type (sym (ap name_type p.meant) ∙ e)
   ]
 
   -- ---- the address of a private variable isn't taken
