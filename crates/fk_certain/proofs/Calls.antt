@@ -42,6 +42,7 @@ use Rattle.fk_typed_forms.specs.Ways.{Way, Valued, Absent, Function, result, pre
 use Rattle.fk_typed_forms.specs.Asked.{AreEnough, IsCalled, TakesAll, NameTakes, NameAsks, CallAsks, place_by, place_in}
 use Rattle.fk_certain.proofs.Valid.{IsGiven, about}
 use Rattle.fk_certain.proofs.AskedNames as n
+use Rattle.fk_certain.proofs.Members.{map_some}
 use Rattle.fk_certain.proofs.AskedNames.{MeansFunction, means_one, way_of, way_predeclared, way_function}
 
 -- what is called with so many arguments, and gives a type
@@ -65,9 +66,8 @@ enough [] es before many = tt
 enough (x ∷ xs) t.no_trees before many = absurd (omega (arith, many))
 enough (x ∷ xs) (t.tree first others) before many = enough xs others (also before (term_of first)) (omega (arith, many))
 
-map_some : {X Y : Type 0} (f : X → Y) (o : Option X) (y : Y) → option_map f o ≡ Some y → (x : X) × (o ≡ Some x) × (f x ≡ y)
-map_some f None y h = absurd (cc)
-map_some f (Some x) y h = (x, refl, same_Some (f x) y h)
+pub header_same : (f g : FunctionTree) → Some (Header f) ≡ Some (Header g) → f ≡ g
+header_same f g same = cc
 
 module _ (program : ProgramTree) (facts : Facts) (given : IsGiven program facts) where
   open about program facts given use {env, tables, functions, places, IsUsed}
@@ -124,9 +124,6 @@ module _ (program : ProgramTree) (facts : Facts) (given : IsGiven program facts)
           → IsFound (with_body f o (functions_of xs)) b
       by None has others is' = others is'
       by (Some body) has others is' = later (binding_of tables f == b) refl is' others (subst IsSome (sym has) refl)
-
-  header_same : (f g : FunctionTree) → Some (Header f) ≡ Some (Header g) → f ≡ g
-  header_same f g same = cc
 
   -- that of a name
   record IsPlace (b : ℕ) (f : FunctionTree) : Type 0 where

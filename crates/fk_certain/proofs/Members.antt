@@ -37,7 +37,7 @@ then_some : {X Y : Type 0} (f : X → Option Y) (o : Option X) (y : Y) → optio
 then_some f None y h = absurd (cc)
 then_some f (Some x) y h = (x, refl, h)
 
-map_some : {X Y : Type 0} (f : X → Y) (o : Option X) (y : Y) → option_map f o ≡ Some y → (x : X) × (o ≡ Some x) × (f x ≡ y)
+pub map_some : {X Y : Type 0} (f : X → Y) (o : Option X) (y : Y) → option_map f o ≡ Some y → (x : X) × (o ≡ Some x) × (f x ≡ y)
 map_some f None y h = absurd (cc)
 map_some f (Some x) y h = (x, refl, same_Some (f x) y h)
 

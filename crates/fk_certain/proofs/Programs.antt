@@ -5,7 +5,7 @@ use Rattle.std.proofs.lemmas.Bool.{false≢true, eqb-true, eq-eqb, false_from_ne
 use Rattle.std.proofs.lemmas.Slice.Eq.{bytes_eq-Decides}
 use Rattle.fk_syntax.specs.declared.facts.Facts.{Facts}
 use Rattle.fk_syntax.specs.Program.{Statements, FunctionTree, ItemTree, ProgramTree, StructItem, VariablesItem, FunctionItem}
-use Rattle.fk_names.specs.Outline.{Header, declarations, outline, variables_marks, body_marks, item_marks, items_marks}
+use Rattle.fk_names.specs.Outline.{declarations, outline, variables_marks, body_marks, item_marks, items_marks}
 use Rattle.fk_pieces.specs.Pieces.{PieceTree, parameters_pieces, body_pieces, item_pieces, items_pieces}
 use Rattle.fk_sharing.specs.declared.around.Holder.{Holder}
 use Rattle.fk_sharing.specs.Tokens as s
@@ -29,6 +29,7 @@ use Rattle.fk_typed_forms.proofs.Mains.{main_has_its_place}
 use Rattle.fk_certain.specs.AskedLaws.{CorrectProgramsAreAsked, MainsHaveTheirPlace}
 use Rattle.fk_certain.proofs.Places.{AreFrom, from_first, from_next, item_homed, Homes, by_pieces}
 use Rattle.fk_certain.proofs.Valid.{IsGiven, about, all_kept, IsPiece, are_pieces}
+use Rattle.fk_certain.proofs.Calls.{header_same}
 use Rattle.fk_certain.proofs.Statements as st
 use Rattle.fk_certain.proofs.Statements.{IsPlaceOf, statements}
 
@@ -147,9 +148,6 @@ module _ (program : ProgramTree) (facts : Facts) (valid : IsCorrect program fact
             main = x.main;
             binds = ap (λ (c : Bool). if c then bound g else main_in (tables_by program facts) gs) e ∙ x.binds;
           }
-
-  header_same : (g h : FunctionTree) → Some (Header g) ≡ Some (Header h) → g ≡ h
-  header_same g h same = cc
 
   main_bytes : (g : FunctionTree) → is_main g ≡ true → g.name.bytes ≡ codes "main"
   main_bytes g is = (bytes_eq-Decides g.name.bytes (codes "main")).0 is
