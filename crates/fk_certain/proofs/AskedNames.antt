@@ -20,13 +20,12 @@ use Rattle.fk_names.specs.declared.names.Meaning.TheVariants as m
 use Rattle.fk_names.specs.Outline.{DeclarationTree, Variable, Header, declarations, outline}
 use Rattle.fk_names.specs.Means.{Means, MeansAt, predeclared}
 use Rattle.fk_signs.specs.declared.values.ExpressionType.{ExpressionType}
-use Rattle.fk_signs.specs.declared.values.ExpressionType.TheVariants.{Stored, Computed}
-use Rattle.fk_signs.specs.declared.values.Value.TheVariants.{Int}
+use Rattle.fk_signs.specs.declared.values.ExpressionType.TheVariants.{Stored, Computed, Nothing}
 use Rattle.fk_signs.specs.Values.{result_of}
 use Rattle.fk_pieces.specs.Pieces as q
 use Rattle.fk_pieces.specs.Pieces.{PieceTree, pieces}
 use Rattle.fk_token_laws.proofs.Pieces.{declared_by_piece, of_items}
-use Rattle.fk_typing.specs.Names.{Meant, Kept, Called, Main, Always, Typed, IsDeclared, HasDeclaredType, is_text, predeclared_meant, input}
+use Rattle.fk_typing.specs.Names.{Result, Pointed, Meant, Kept, Constant, Called, Main, Undeclared, Always, Typed, IsDeclared, HasDeclaredType, is_text, predeclared_meant, input}
 use Rattle.fk_typing.specs.Typing.{name_type, struct_of_root}
 use Rattle.fk_class.specs.declared.thing.Thing.TheVariants.{PrivateVariable}
 use Rattle.fk_sharing.specs.Tokens.{is_struct}
@@ -39,12 +38,13 @@ use Rattle.fk_fitting.proofs.Named.{IsKnown, meant_at, declared_low}
 use Rattle.fk_fitting.proofs.Declared.{IsHomeFor, header_at}
 use Rattle.fk_fitting.proofs.Homes.{home_of}
 use Rattle.fk_fitting.proofs.Things.{thing_tells}
-use Rattle.fk_typed_forms.specs.Ways.{Way, Valued, Array, Word, Function, placed_way, predeclared_way, named_way}
+use Rattle.fk_typed_forms.specs.Ways.{Way, Valued, Array, Word, Function, placed_way, predeclared_gives, predeclared_way, named_way}
 use Rattle.fk_typed_forms.specs.Asked.{NameAsks}
 use Rattle.fk_typed_forms.specs.Typed.{StandsAs, IsNoWord}
 use Rattle.fk_certain.proofs.Sizes.{IsSound, has_sound}
 use Rattle.fk_certain.proofs.Tokens.{IsSoundType, kind_is, kind_words, array_is}
 use Rattle.fk_certain.proofs.Places.{lies_within}
+use Rattle.fk_certain.proofs.Parts.{of_each}
 use Rattle.fk_certain.proofs.Addresses.{room_may}
 use Rattle.fk_certain.proofs.Valid.{IsGiven, about, words_declared, is_scalar, IsPiece, are_pieces}
 
@@ -65,50 +65,25 @@ module _ (structs : List StructTree) where
 
 -- ---- names that are declared before each text
 
-of_each : {X : Type 0} (P : X → Type 0) (xs : List X) → Each P xs → (x : X) → Contains xs x → P x
-of_each P [] h x (k, low, is) = absurd (omega (arith, low))
-of_each P (y ∷ xs) h x (zero, low, is) = subst P is h.0
-of_each P (y ∷ xs) h x (suc k, low, is) = of_each P xs h.1 x (k, omega (arith, low), is)
+-- what a function gives: a value or nothing
+abbrev pub Gives : Result → Bool → Type 0
+Gives Pointed gives = gives ≡ true
+Gives (Always (Some (Computed value))) gives = gives ≡ true
+Gives (Always (Some Nothing)) gives = gives ≡ false
+Gives result gives = ⊥
 
--- such a name is that of a function, of an integer or of the input
-abbrev IsOne : Named → Type 0
-IsOne name =
-    let type = name_type (predeclared_meant name.bytes) in
-    (type ≡ None) ⊎ (((type ≡ Some (Computed Int)) × (predeclared_way name ≡ Valued)) ⊎ ((type ≡ Some (Stored input)) × (predeclared_way name ≡ Array)))
+-- so such a name stands by what it is: a function, an integer or the input
+abbrev pub IsSo : Named → Meant → Type 0
+IsSo name (Called parameters result) = (predeclared_way name ≡ Function name) × Gives result (predeclared_gives name)
+IsSo name (Constant value) = predeclared_way name ≡ Valued
+IsSo name (Kept (Some type)) = (predeclared_way name ≡ Array) × (type ≡ input)
+IsSo name meant = ⊥
 
-predeclared_one : (name : Named) → Contains predeclared name.bytes → IsOne name
-predeclared_one name there =
-    of_each (λ bytes. IsOne (record name { bytes = bytes })) predeclared (
-      inl refl,
-      (
-        inl refl,
-        (
-          inl refl,
-          (
-            inl refl,
-            (
-              inl refl,
-              (
-                inl refl,
-                (
-                  inl refl,
-                  (
-                    inl refl,
-                    (
-                      inl refl,
-                      (
-                        inl refl,
-                        (inr (inl (refl, refl)), (inr (inl (refl, refl)), (inr (inr (refl, refl)), (inr (inl (refl, refl)), tt)))),
-                      ),
-                    ),
-                  ),
-                ),
-              ),
-            ),
-          ),
-        ),
-      ),
-    ) name.bytes there
+pub predeclared_so : (name : Named) → Contains predeclared name.bytes → IsSo name (predeclared_meant name.bytes)
+predeclared_so name there =
+    of_each (λ bytes. IsSo (record name { bytes = bytes }) (predeclared_meant bytes)) predeclared
+    ((refl, refl), ((refl, refl), ((refl, refl), ((refl, refl), ((refl, refl), ((refl, refl), ((refl, refl), ((refl, refl), ((refl, refl), ((refl, refl), (refl, (refl, ((refl, refl), (refl, tt))))))))))))))
+    name.bytes there
 
 module _ (program : ProgramTree) (facts : Facts) (given : IsGiven program facts) where
   open about program facts given use {env, structs, tables, functions, places, thing, Room, Noting, IsUsed}
@@ -287,15 +262,18 @@ module _ (program : ProgramTree) (facts : Facts) (given : IsGiven program facts)
   predeclared_stands : (name : Named) → Contains predeclared name.bytes → (type : ExpressionType) → name_type (predeclared_meant name.bytes) ≡ Some type
       → ((t' : DataType) → type ≡ Stored t' → is_some t'.length ≡ true → is_array tables name.at ≡ true)
       → NameAsks tables functions places name.at (predeclared_way name) × Stood (predeclared_way name) type
-  predeclared_stands name there type e array = by (predeclared_one name there)
+  predeclared_stands name there type e array = by (predeclared_meant name.bytes) e (predeclared_so name there)
     where
-      by : IsOne name → NameAsks tables functions places name.at (predeclared_way name) × Stood (predeclared_way name) type
-      by (inl none) = absurd (let clash = sym none ∙ e in cc)
-      by (inr (inl (is, way))) =
-          subst (λ (w : Way). NameAsks tables functions places name.at w × Stood w type) (sym way) (tt, subst (Stood Valued) (same_Some _ type (sym is ∙ e)) tt)
-      by (inr (inr (is, way))) =
-          let same = same_Some _ type (sym is ∙ e) in
-          subst (λ (w : Way). NameAsks tables functions places name.at w × Stood w type) (sym way) (array input (sym same) refl, subst (Stood Array) same refl)
+      by : (meant : Meant) → name_type meant ≡ Some type → IsSo name meant → NameAsks tables functions places name.at (predeclared_way name) × Stood (predeclared_way name) type
+      by (Called parameters result) e' so = absurd (cc)
+      by (Constant value) e' so = subst (λ (w : Way). NameAsks tables functions places name.at w × Stood w type) (sym so) (tt, subst (Stood Valued) (same_Some _ type e') tt)
+      by (Kept (Some t)) e' so =
+          let same = same_Some _ type e' in
+          let long = subst (λ (x : DataType). is_some x.length ≡ true) (sym so.1) refl in
+          subst (λ (w : Way). NameAsks tables functions places name.at w × Stood w type) (sym so.0) (array t (sym same) long, subst (Stood Array) same long)
+      by (Kept None) e' so = absurd so
+      by Main e' so = absurd so
+      by Undeclared e' so = absurd so
 
   stored_array : (name : Named) (type : ExpressionType) → Noting (record { at = name.at; type = Some type }) → (t' : DataType) → type ≡ Stored t'
       → is_some t'.length ≡ true → is_array tables name.at ≡ true
@@ -321,12 +299,15 @@ module _ (program : ProgramTree) (facts : Facts) (given : IsGiven program facts)
   input_sound = record { root = tt; length = λ n e. omega (arith, same_Some 65536 n e) }
 
   predeclared_sound : (name : Named) → Contains predeclared name.bytes → (type : ExpressionType) → name_type (predeclared_meant name.bytes) ≡ Some type → IsSoundType structs type
-  predeclared_sound name there type e = by (predeclared_one name there)
+  predeclared_sound name there type e = by (predeclared_meant name.bytes) e (predeclared_so name there)
     where
-      by : IsOne name → IsSoundType structs type
-      by (inl none) = absurd (let clash = sym none ∙ e in cc)
-      by (inr (inl (is, way))) = subst (IsSoundType structs) (same_Some _ type (sym is ∙ e)) tt
-      by (inr (inr (is, way))) = subst (IsSoundType structs) (same_Some _ type (sym is ∙ e)) (λ some. input_sound)
+      by : (meant : Meant) → name_type meant ≡ Some type → IsSo name meant → IsSoundType structs type
+      by (Called parameters result) e' so = absurd (cc)
+      by (Constant value) e' so = subst (IsSoundType structs) (same_Some _ type e') tt
+      by (Kept (Some t)) e' so = subst (IsSoundType structs) (same_Some _ type e') (λ some. subst (IsSound structs) (sym so.1) input_sound)
+      by (Kept None) e' so = absurd so
+      by Main e' so = absurd so
+      by Undeclared e' so = absurd so
 
   pub name_sound : (name : Named) → IsUsed name → (type : ExpressionType) → name_type (env.meant name) ≡ Some type → IsSoundType structs type
   name_sound name used type e = elim (means_one name used) [

@@ -1,11 +1,10 @@
 -- Calls are of functions, with their arguments, and give what their types say.
-use Rattle.std.proofs.Common.{◌≡◌, inl, inr, ℕ, zero, suc, ◌+◌, ◌<◌, ◌≤◌, Bool, true, false, not, ◌&&◌, List, [], ◌∷◌, length, nat_eq, get_or, codes, Option, Some, None, slice_get, Contains, refl, sym, ap, subst, ◌∙◌, arith}
+use Rattle.std.proofs.Common.{◌≡◌, inl, inr, ℕ, zero, suc, ◌+◌, ◌≤◌, Bool, true, false, not, ◌&&◌, List, [], ◌∷◌, length, nat_eq, codes, Option, Some, None, slice_get, Contains, refl, sym, ap, subst, ◌∙◌, arith}
 use Rattle.std.specs.Prelude.{◌==◌, ◌||◌, IsSome, map, if◌then◌else◌}
 use Rattle.std.specs.Option.{option_map}
 use Rattle.std.proofs.lemmas.Bool.{false≢true, eqb-true, ne_eqb}
-use Rattle.std.proofs.lemmas.List.{get_or_default, length-map}
+use Rattle.std.proofs.lemmas.List.{length-map}
 use Rattle.std.proofs.lemmas.Option.{same_Some}
-use Rattle.fk_syntax.specs.declared.place.Place as sp
 use Rattle.fk_syntax.specs.declared.facts.Facts.{Facts}
 use Rattle.fk_syntax.specs.declared.place.Spot.{Spot}
 use Rattle.fk_syntax.specs.Tree as t
@@ -21,12 +20,12 @@ use Rattle.fk_names.specs.Outline.{Header, declarations}
 use Rattle.fk_names.specs.Means.{predeclared}
 use Rattle.fk_signs.specs.declared.values.Value.{Value}
 use Rattle.fk_signs.specs.declared.values.ExpressionType.{ExpressionType}
-use Rattle.fk_signs.specs.declared.values.ExpressionType.TheVariants.{Computed}
+use Rattle.fk_signs.specs.declared.values.ExpressionType.TheVariants.{Stored, Computed, Nothing}
 use Rattle.fk_signs.specs.Values.{result_of}
 use Rattle.fk_typing.specs.Term as e
 use Rattle.fk_typing.specs.Term.{Terms, no_terms, also, count_of, term_of, with_arguments}
-use Rattle.fk_typing.specs.Names.{Meant, Kept, Constant, Called, Main, Undeclared, Always, Typed, HasDeclaredType, is_text, predeclared_meant}
-use Rattle.fk_typing.specs.Typing.{type_of, computed, parameters_of, result_in, call_type, do_all_fit, first_value}
+use Rattle.fk_typing.specs.Names.{Result, Pointed, Meant, Kept, Constant, Called, Main, Undeclared, Always, Typed, HasDeclaredType, is_text, predeclared_meant}
+use Rattle.fk_typing.specs.Typing.{type_of, parameters_of, result_in, call_type, do_all_fit, first_value}
 use Rattle.fk_typing.specs.Broken.{is_no_function, is_wrong_count}
 use Rattle.fk_forms.specs.Tables.{no_binding, note}
 use Rattle.fk_forms.specs.Statements.{is_nothing}
@@ -43,7 +42,7 @@ use Rattle.fk_typed_forms.specs.Asked.{AreEnough, IsCalled, TakesAll, NameTakes,
 use Rattle.fk_certain.proofs.Valid.{IsGiven, about}
 use Rattle.fk_certain.proofs.AskedNames as n
 use Rattle.fk_certain.proofs.Members.{map_some}
-use Rattle.fk_certain.proofs.AskedNames.{MeansFunction, means_one, way_of, way_predeclared, way_function}
+use Rattle.fk_certain.proofs.AskedNames.{Gives, IsSo, predeclared_so, MeansFunction, means_one, way_of, way_predeclared, way_function}
 
 -- what is called with so many arguments, and gives a type
 record IsCall (m : Meant) (count : ℕ) (fit : Bool) (first : Option Value) (type : ExpressionType) : Type 0 where
@@ -224,42 +223,29 @@ module _ (program : ProgramTree) (facts : Facts) (given : IsGiven program facts)
         (subst (λ (x : Place). Stood (result (place_gives x)) type) (sym place) (gives_as result' f.is.2.gives parts.2)))
 
   -- one that is declared before each text
-  module _ (at : ℕ) (place : sp.Place) where
-    abbrev Given : List ℕ → Type 0
-    Given bytes =
-        (count : ℕ) (fit : Bool) (first : Option Value) (type : ExpressionType) → call_type (predeclared_meant bytes) count fit first ≡ Some type
-        → let name : Named = record { bytes = bytes; at = at; place = place } in (predeclared_way name ≡ Function name) × Stood (result (predeclared_gives name)) type
+  by_result : (a b : Bool) (o : Option ExpressionType) (type : ExpressionType) → (if a && b then o else None) ≡ Some type → o ≡ Some type
+  by_result true true o type h = h
+  by_result true false o type h = absurd (cc)
+  by_result false b o type h = absurd (cc)
 
-    by_result : (a b : Bool) (o : Option ExpressionType) (type : ExpressionType) → (if a && b then o else None) ≡ Some type → o ≡ Some type
-    by_result true true o type h = h
-    by_result true false o type h = absurd (cc)
-    by_result false b o type h = absurd (cc)
+  gives_so : (is : Result) (b : Bool) → Gives is b → (first : Option Value) (type : ExpressionType) → result_in is first ≡ Some type → Stood (result b) type
+  gives_so Pointed b so first type h = let x = map_some Computed _ type h in subst (λ (b : Bool). Stood (result b) type) (sym so) (subst (Stood Valued) x.2 tt)
+  gives_so (Always (Some (Computed value))) b so first type h = subst (λ (b : Bool). Stood (result b) type) (sym so) (subst (Stood Valued) (same_Some _ type h) tt)
+  gives_so (Always (Some Nothing)) b so first type h = subst (λ (b : Bool). Stood (result b) type) (sym so) (subst (Stood Absent) (same_Some _ type h) tt)
+  gives_so (Always (Some (Stored x))) b so first type h = absurd so
+  gives_so (Always None) b so first type h = absurd so
 
-    pointed : (a b : Bool) (o : Option Value) (type : ExpressionType) → (if a && b then computed o else None) ≡ Some type → Stood Valued type
-    pointed a b o type h = let x = map_some Computed o type (by_result a b (computed o) type h) in subst (Stood Valued) x.2 tt
-
-    always : (a b : Bool) (type' type : ExpressionType) (w : Way) → Stood w type' → (if a && b then Some type' else None) ≡ Some type → Stood w type
-    always a b type' type w stood h = subst (Stood w) (same_Some type' type (by_result a b (Some type') type h)) stood
-
-    at_number : (k : ℕ) → k < 14 → Given (get_or predeclared k [])
-    at_number zero low count fit first type h = (refl, pointed _ fit _ type h)
-    at_number (suc zero) low count fit first type h = (refl, pointed _ fit _ type h)
-    at_number (suc (suc zero)) low count fit first type h = (refl, pointed _ fit _ type h)
-    at_number (suc (suc (suc zero))) low count fit first type h = (refl, pointed _ fit _ type h)
-    at_number (suc (suc (suc (suc zero)))) low count fit first type h = (refl, always _ fit _ type Valued tt h)
-    at_number (suc (suc (suc (suc (suc zero))))) low count fit first type h = (refl, always _ fit _ type Valued tt h)
-    at_number (suc (suc (suc (suc (suc (suc zero)))))) low count fit first type h = (refl, always _ fit _ type Valued tt h)
-    at_number (suc (suc (suc (suc (suc (suc (suc zero))))))) low count fit first type h = (refl, always _ fit _ type Absent tt h)
-    at_number (suc (suc (suc (suc (suc (suc (suc (suc zero)))))))) low count fit first type h = (refl, always _ fit _ type Absent tt h)
-    at_number (suc (suc (suc (suc (suc (suc (suc (suc (suc zero))))))))) low count fit first type h = (refl, always _ fit _ type Valued tt h)
-    at_number (suc (suc (suc (suc (suc (suc (suc (suc (suc (suc zero)))))))))) low count fit first type h = absurd (cc)
-    at_number (suc (suc (suc (suc (suc (suc (suc (suc (suc (suc (suc zero))))))))))) low count fit first type h = absurd (cc)
-    at_number (suc (suc (suc (suc (suc (suc (suc (suc (suc (suc (suc (suc zero)))))))))))) low count fit first type h = absurd (cc)
-    at_number (suc (suc (suc (suc (suc (suc (suc (suc (suc (suc (suc (suc (suc zero))))))))))))) low count fit first type h = absurd (cc)
-    at_number (suc (suc (suc (suc (suc (suc (suc (suc (suc (suc (suc (suc (suc (suc k)))))))))))))) low count fit first type h = absurd (omega (arith, low))
-
-    fine : (bytes : List ℕ) → Contains predeclared bytes → Given bytes
-    fine bytes (k, low, is) = subst Given (get_or_default predeclared k [] bytes low ∙ is) (at_number k low)
+  predeclared_call : (name : Named) → Contains predeclared name.bytes → (count : ℕ) (fit : Bool) (first : Option Value) (type : ExpressionType)
+      → call_type (predeclared_meant name.bytes) count fit first ≡ Some type → (predeclared_way name ≡ Function name) × Stood (result (predeclared_gives name)) type
+  predeclared_call name there count fit first type h = by (predeclared_meant name.bytes) h (predeclared_so name there)
+    where
+      by : (meant : Meant) → call_type meant count fit first ≡ Some type → IsSo name meant → (predeclared_way name ≡ Function name) × Stood (result (predeclared_gives name)) type
+      by (Called parameters is) h' so =
+          (so.0, gives_so is (predeclared_gives name) so.1 first type (by_result (nat_eq count (length parameters)) fit (result_in is first) type h'))
+      by (Constant value) h' so = absurd (cc)
+      by (Kept type') h' so = absurd (cc)
+      by Main h' so = absurd so
+      by Undeclared h' so = absurd so
 
   call_none : (type' : Option DataType) (count : ℕ) (fit : Bool) (first : Option Value) (type : ExpressionType) → call_type (Kept type') count fit first ≡ Some type → ⊥
   call_none type' count fit first type h = cc
@@ -280,7 +266,7 @@ module _ (program : ProgramTree) (facts : Facts) (given : IsGiven program facts)
             declared_call name f (place_is name f (subst (λ b. is_defined tables (functions_of program.items) b ≡ true) f.binds defined)) es type fit first h
         | inr (inr p) ↦
             let none : (bound name == no_binding) ≡ true = subst (λ b. (b == no_binding) ≡ true) (sym p.binds) refl in
-            let g = fine name.at name.place name.bytes p.there (count_of args) fit first type (sym (ap (λ (m : Meant). call_type m (count_of args) fit first) p.meant) ∙ h) in
+            let g = predeclared_call name p.there (count_of args) fit first type (sym (ap (λ (m : Meant). call_type m (count_of args) fit first) p.meant) ∙ h) in
             by_way name es type (way_predeclared program facts given name p.binds ∙ g.0)
             (subst (λ (c : Bool). NameTakes tables functions places c name es) (sym none)
             (subst (λ (c : Bool). NameFits tables functions (is_defined tables (functions_of program.items)) c name es) none takes))
