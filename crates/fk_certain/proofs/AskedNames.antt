@@ -1,17 +1,11 @@
 -- How the names in a program stand.
-use Rattle.std.proofs.Common.{◌≡◌, ◌⊎◌, inl, inr, ℕ, zero, suc, ◌+◌, ◌*◌, ◌%◌, ◌^◌, ◌<◌, ◌≤◌, Bool, true, false, List, [], ◌∷◌, flat_map, get_or, codes, Option, Some, None, slice_get, Contains, refl, sym, ap, subst, ◌∙◌, arith}
+use Rattle.std.proofs.Common.{◌≡◌, ◌⊎◌, inl, inr, ℕ, zero, suc, ◌+◌, ◌*◌, ◌<◌, ◌≤◌, Bool, true, false, List, [], ◌∷◌, flat_map, codes, Option, Some, None, slice_get, Contains, refl, sym, ap, subst, ◌∙◌, arith}
 use Rattle.std.specs.Prelude.{◌==◌, is_some, map, if◌then◌else◌}
 use Rattle.std.specs.Option.{option_map}
-use Rattle.std.proofs.lemmas.Bool.{false≢true, and_from, or_left, le-leb, lt-ltb, eq-eqb, ne_eqb}
-use Rattle.std.proofs.lemmas.List.{get_or_default}
+use Rattle.std.proofs.lemmas.Bool.{false≢true, eq-eqb, ne_eqb}
 use Rattle.std.proofs.lemmas.Option.{same_Some}
-use Rattle.fk_typing.specs.Names.{Env}
-use Rattle.fk_forms.specs.Tables.{Tables}
-use Rattle.fk_forms.specs.Expressions.{Signature, is_name}
-use Rattle.fk_kept.specs.declared.places.Place.{Place}
-use Rattle.fk_syntax.specs.declared.place.Place as sp
+use Rattle.fk_forms.specs.Expressions.{is_name}
 use Rattle.fk_num.specs.Word.{word}
-use Rattle.fk_store.specs.Serve.{may_use}
 use Rattle.fk_syntax.specs.declared.facts.Facts.{Facts}
 use Rattle.fk_syntax.specs.Tree as t
 use Rattle.fk_syntax.specs.Tree.{Named, BaseType}
@@ -20,61 +14,41 @@ use Rattle.fk_structs.specs.declared.types.Root.{Root}
 use Rattle.fk_structs.specs.declared.types.Root.TheVariants as r
 use Rattle.fk_structs.specs.declared.types.DataType.{DataType}
 use Rattle.fk_structs.specs.Types.{StructTree, struct_named, type_declared, type_spelled}
-use Rattle.fk_structs.specs.Sizes.{HasTypeWords}
 use Rattle.fk_struct_rules.specs.Declarations.{DeclarationBreaks}
 use Rattle.fk_names.specs.declared.names.Meaning.{Meaning}
 use Rattle.fk_names.specs.declared.names.Meaning.TheVariants as m
 use Rattle.fk_names.specs.Outline.{DeclarationTree, Variable, Header, declarations, outline}
 use Rattle.fk_names.specs.Means.{Means, MeansAt, predeclared}
 use Rattle.fk_signs.specs.declared.values.ExpressionType.{ExpressionType}
-use Rattle.fk_signs.specs.declared.values.ExpressionType.TheVariants.{Stored}
+use Rattle.fk_signs.specs.declared.values.ExpressionType.TheVariants.{Stored, Computed, Nothing}
 use Rattle.fk_signs.specs.Values.{result_of}
 use Rattle.fk_pieces.specs.Pieces as q
 use Rattle.fk_pieces.specs.Pieces.{PieceTree, pieces}
 use Rattle.fk_token_laws.proofs.Pieces.{declared_by_piece, of_items}
-use Rattle.fk_typing.specs.Names.{Meant, Kept, Called, Main, Always, Typed, IsDeclared, HasDeclaredType, is_text, predeclared_meant, input}
+use Rattle.fk_typing.specs.Names.{Result, Pointed, Meant, Kept, Constant, Called, Main, Undeclared, Always, Typed, IsDeclared, HasDeclaredType, is_text, predeclared_meant, input}
 use Rattle.fk_typing.specs.Typing.{name_type, struct_of_root}
 use Rattle.fk_class.specs.declared.thing.Thing.TheVariants.{PrivateVariable}
 use Rattle.fk_sharing.specs.Tokens.{is_struct}
 use Rattle.fk_forms.specs.declared.tables.Home.{Home}
 use Rattle.fk_forms.specs.declared.tables.Home.TheVariants as h
 use Rattle.fk_forms.specs.Tables.{no_binding, note, slot, kind_at, is_array}
-use Rattle.fk_layout.specs.Refusal.{Fits}
 use Rattle.fk_fitting.proofs.Each.{Each, one_of}
 use Rattle.fk_fitting.proofs.Typed.{Unbroken, IsGood}
 use Rattle.fk_fitting.proofs.Named.{IsKnown, meant_at, declared_low}
 use Rattle.fk_fitting.proofs.Declared.{IsHomeFor, header_at}
 use Rattle.fk_fitting.proofs.Homes.{home_of}
 use Rattle.fk_fitting.proofs.Things.{thing_tells}
-use Rattle.fk_typed_forms.specs.Ways.{Way, Valued, Array, Word, Function, placed_way, predeclared_way, named_way}
+use Rattle.fk_typed_forms.specs.Ways.{Way, Valued, Array, Word, Function, placed_way, predeclared_gives, predeclared_way, named_way}
 use Rattle.fk_typed_forms.specs.Asked.{NameAsks}
 use Rattle.fk_typed_forms.specs.Typed.{StandsAs, IsNoWord}
 use Rattle.fk_certain.proofs.Sizes.{IsSound, has_sound}
 use Rattle.fk_certain.proofs.Tokens.{IsSoundType, kind_is, kind_words, array_is}
 use Rattle.fk_certain.proofs.Places.{lies_within}
-use Rattle.fk_certain.proofs.Scalars.{IsScalar}
-use Rattle.fk_certain.proofs.Valid.{IsGiven, E, T, F, P, things, words_declared, IsUsed, Noting, IsPiece, are_pieces}
-
--- ---- addresses of shared data
-
-shared_address : (i : ℕ) → i ≤ 524288 → may_use true (0x10000000 + 4 * i) ≡ true
-shared_address i low =
-    let a = 0x10000000 + 4 * i in
-    and_from _ _ (eq-eqb (a % 4) 0 (omega arith))
-    (or_left _ _ (and_from _ _ (le-leb 0x10000000 a (omega arith)) (lt-ltb a (0x10000000 + 4 * 2 ^ 20) (omega (arith, low)))))
+use Rattle.fk_certain.proofs.Parts.{of_each}
+use Rattle.fk_certain.proofs.Addresses.{room_may}
+use Rattle.fk_certain.proofs.Valid.{IsGiven, about, words_declared, is_scalar, IsPiece, are_pieces}
 
 module _ (structs : List StructTree) where
-  -- a type has its words at an address, among those of the shared variables
-  pub record HasRoom (address : ℕ) (type : DataType) : Type 0 where
-    pub index : ℕ
-    pub words : ℕ
-    pub is : address ≡ 0x10000000 + 4 * index
-    pub has : HasTypeWords structs type words
-    pub within : index + words ≤ 524288
-
-  pub room_may : (address : ℕ) (type : DataType) → HasRoom address type → may_use true address ≡ true
-  room_may address type room = subst (λ a. may_use true a ≡ true) (sym room.is) (shared_address room.index (let few = room.within in omega (arith, few)))
-
   -- a type that is spelled by words that aren't those of a struct
   no_struct : (base : BaseType) (stars : ℕ) (length : Option ℕ) (type : DataType) → is_struct (record { base = base; stars = stars }) ≡ false
       → type_spelled structs (record { base = base; stars = stars }) length ≡ Some type → (type.length ≡ length) × (struct_of_root type.root type.stars ≡ None)
@@ -89,25 +63,30 @@ module _ (structs : List StructTree) where
       by None is' = absurd (cc)
       by (Some i) is' = subst (λ (x : DataType). (x.length ≡ length) × (struct_of_root x.root x.stars ≡ None)) (same_Some _ type is') (refl, refl)
 
-module _ (program : ProgramTree) (facts : Facts) (given : IsGiven program facts) (fits : Fits (T program facts given) program.items)
-    (kept : (number : ℕ) (x : DeclaredTree) → slice_get (declarations program) number ≡ Some (Variable x) → IsScalar x) where
-  abbrev env : Env
-  env = E program facts given
+-- ---- names that are declared before each text
 
-  abbrev tables : Tables
-  tables = T program facts given
+-- what a function gives: a value or nothing
+abbrev pub Gives : Result → Bool → Type 0
+Gives Pointed gives = gives ≡ true
+Gives (Always (Some (Computed value))) gives = gives ≡ true
+Gives (Always (Some Nothing)) gives = gives ≡ false
+Gives result gives = ⊥
 
-  abbrev functions : (binding : ℕ) → Signature
-  functions = F program facts given
+-- so such a name stands by what it is: a function, an integer or the input
+abbrev pub IsSo : Named → Meant → Type 0
+IsSo name (Called parameters result) = (predeclared_way name ≡ Function name) × Gives result (predeclared_gives name)
+IsSo name (Constant value) = predeclared_way name ≡ Valued
+IsSo name (Kept (Some type)) = (predeclared_way name ≡ Array) × (type ≡ input)
+IsSo name meant = ⊥
 
-  abbrev places : (binding : ℕ) → Place
-  places = P program facts given
+pub predeclared_so : (name : Named) → Contains predeclared name.bytes → IsSo name (predeclared_meant name.bytes)
+predeclared_so name there =
+    of_each (λ bytes. IsSo (record name { bytes = bytes }) (predeclared_meant bytes)) predeclared
+    ((refl, refl), ((refl, refl), ((refl, refl), ((refl, refl), ((refl, refl), ((refl, refl), ((refl, refl), ((refl, refl), ((refl, refl), ((refl, refl), (refl, (refl, ((refl, refl), (refl, tt))))))))))))))
+    name.bytes there
 
-  abbrev structs : List StructTree
-  structs = env.structs
-
-  abbrev pub Room : (address : ℕ) → DataType → Type 0
-  Room = HasRoom structs
+module _ (program : ProgramTree) (facts : Facts) (given : IsGiven program facts) where
+  open about program facts given use {env, structs, tables, functions, places, thing, Room, Noting, IsUsed}
 
   abbrev bound : Named → ℕ
   bound name = (note tables name.at).binding
@@ -118,7 +97,7 @@ module _ (program : ProgramTree) (facts : Facts) (given : IsGiven program facts)
   -- ---- what is declared is noted
 
   abbrev NotedDeclared : DeclarationTree → Type 0
-  NotedDeclared (Variable x) = Noting program facts given (record { at = x.name.at; type = option_map Stored (type_declared structs x) })
+  NotedDeclared (Variable x) = Noting (record { at = x.name.at; type = option_map Stored (type_declared structs x) })
   NotedDeclared (Header f) = Unit {0}
 
   noted_by : (ps : List PieceTree) → Each (IsPiece program facts given) ps → Each NotedDeclared (flat_map declared_by_piece ps)
@@ -131,7 +110,7 @@ module _ (program : ProgramTree) (facts : Facts) (given : IsGiven program facts)
   noted_by (q.Return result spot value ∷ ps) k = noted_by ps k.1
 
   noted_at : (number : ℕ) (x : DeclaredTree) → slice_get (declarations program) number ≡ Some (Variable x)
-      → Noting program facts given (record { at = x.name.at; type = option_map Stored (type_declared structs x) })
+      → Noting (record { at = x.name.at; type = option_map Stored (type_declared structs x) })
   noted_at number x is = one_of NotedDeclared (declarations program)
       (subst (Each NotedDeclared) (of_items program.items).declared (noted_by (pieces program) (are_pieces program facts given))) number (Variable x) is
 
@@ -147,19 +126,19 @@ module _ (program : ProgramTree) (facts : Facts) (given : IsGiven program facts)
     global : (slot tables number).home ≡ h.Global → Room (0x10000000 + 4 * (slot tables number).index) type
     global e =
         let words = words_declared program facts given x type v.right v.is in
-        let noted = subst (λ o. Noting program facts given (record { at = x.name.at; type = option_map Stored o })) v.is (noted_at number x v.there) in
+        let noted = subst (λ o. Noting (record { at = x.name.at; type = option_map Stored o })) v.is (noted_at number x v.there) in
         let same = kind_words structs type (kind_at tables x.name.at) words.0 words.1 words.3 (kind_is program facts given.correct x.name.at (Stored type) noted) in
         record {
           index = (slot tables number).index;
           words = words.0;
           is = refl;
           has = words.1;
-          within = omega (arith, lies_within program facts given.correct fits number x v.there e, same);
+          within = omega (arith, lies_within program facts given.correct given.fits number x v.there e, same);
         }
 
     in_word : x.shared ≡ false → Stood Word (Stored type)
     in_word private =
-        let plain = kept number x v.there private in
+        let plain = is_scalar program facts given number x v.there private in
         let none = no_struct structs x.kind.base x.kind.stars x.length type plain.1 v.is in
         (ap is_some (none.0 ∙ plain.0), none.1)
 
@@ -237,7 +216,7 @@ module _ (program : ProgramTree) (facts : Facts) (given : IsGiven program facts)
           low = declared_low program facts given.correct number (Variable x) there;
         })
 
-    pub means_one : IsUsed program facts given name → MeansOne name
+    pub means_one : IsUsed name → MeansOne name
     means_one used = let found = meant_at program facts given.correct name used.0 used.1 used.2 in by found.0 found.1 found.2
       where
         by : (meaning : Meaning) → MeansAt (outline program) name.bytes used.0 meaning → IsKnown program facts given.correct name meaning → MeansOne name
@@ -280,39 +259,27 @@ module _ (program : ProgramTree) (facts : Facts) (given : IsGiven program facts)
   no_type true other type none e = cc
   no_type false other type none e = let clash = sym none ∙ e in cc
 
-  -- of those that are declared before each text
-  module _ (at : ℕ) (place : sp.Place) where
-    abbrev Fine : List ℕ → Type 0
-    Fine bytes =
-        (type : ExpressionType) → name_type (predeclared_meant bytes) ≡ Some type → ((t' : DataType) → type ≡ Stored t' → is_some t'.length ≡ true → is_array tables at ≡ true)
-        → let w = predeclared_way (record { bytes = bytes; at = at; place = place }) in NameAsks tables functions places at w × Stood w type
+  predeclared_stands : (name : Named) → Contains predeclared name.bytes → (type : ExpressionType) → name_type (predeclared_meant name.bytes) ≡ Some type
+      → ((t' : DataType) → type ≡ Stored t' → is_some t'.length ≡ true → is_array tables name.at ≡ true)
+      → NameAsks tables functions places name.at (predeclared_way name) × Stood (predeclared_way name) type
+  predeclared_stands name there type e array = by (predeclared_meant name.bytes) e (predeclared_so name there)
+    where
+      by : (meant : Meant) → name_type meant ≡ Some type → IsSo name meant → NameAsks tables functions places name.at (predeclared_way name) × Stood (predeclared_way name) type
+      by (Called parameters result) e' so = absurd (cc)
+      by (Constant value) e' so = subst (λ (w : Way). NameAsks tables functions places name.at w × Stood w type) (sym so) (tt, subst (Stood Valued) (same_Some _ type e') tt)
+      by (Kept (Some t)) e' so =
+          let same = same_Some _ type e' in
+          let long = subst (λ (x : DataType). is_some x.length ≡ true) (sym so.1) refl in
+          subst (λ (w : Way). NameAsks tables functions places name.at w × Stood w type) (sym so.0) (array t (sym same) long, subst (Stood Array) same long)
+      by (Kept None) e' so = absurd so
+      by Main e' so = absurd so
+      by Undeclared e' so = absurd so
 
-    at_number : (k : ℕ) → k < 14 → Fine (get_or predeclared k [])
-    at_number zero low type e array = absurd (cc)
-    at_number (suc zero) low type e array = absurd (cc)
-    at_number (suc (suc zero)) low type e array = absurd (cc)
-    at_number (suc (suc (suc zero))) low type e array = absurd (cc)
-    at_number (suc (suc (suc (suc zero)))) low type e array = absurd (cc)
-    at_number (suc (suc (suc (suc (suc zero))))) low type e array = absurd (cc)
-    at_number (suc (suc (suc (suc (suc (suc zero)))))) low type e array = absurd (cc)
-    at_number (suc (suc (suc (suc (suc (suc (suc zero))))))) low type e array = absurd (cc)
-    at_number (suc (suc (suc (suc (suc (suc (suc (suc zero)))))))) low type e array = absurd (cc)
-    at_number (suc (suc (suc (suc (suc (suc (suc (suc (suc zero))))))))) low type e array = absurd (cc)
-    at_number (suc (suc (suc (suc (suc (suc (suc (suc (suc (suc zero)))))))))) low type e array = (tt, subst (Stood Valued) (same_Some _ type e) tt)
-    at_number (suc (suc (suc (suc (suc (suc (suc (suc (suc (suc (suc zero))))))))))) low type e array = (tt, subst (Stood Valued) (same_Some _ type e) tt)
-    at_number (suc (suc (suc (suc (suc (suc (suc (suc (suc (suc (suc (suc zero)))))))))))) low type e array =
-        (array input (sym (same_Some _ type e)) refl, subst (Stood Array) (same_Some _ type e) refl)
-    at_number (suc (suc (suc (suc (suc (suc (suc (suc (suc (suc (suc (suc (suc zero))))))))))))) low type e array = (tt, subst (Stood Valued) (same_Some _ type e) tt)
-    at_number (suc (suc (suc (suc (suc (suc (suc (suc (suc (suc (suc (suc (suc (suc k)))))))))))))) low type e array = absurd (omega (arith, low))
-
-    fine : (bytes : List ℕ) → Contains predeclared bytes → Fine bytes
-    fine bytes (k, low, is) = subst Fine (get_or_default predeclared k [] bytes low ∙ is) (at_number k low)
-
-  stored_array : (name : Named) (type : ExpressionType) → Noting program facts given (record { at = name.at; type = Some type }) → (t' : DataType) → type ≡ Stored t'
+  stored_array : (name : Named) (type : ExpressionType) → Noting (record { at = name.at; type = Some type }) → (t' : DataType) → type ≡ Stored t'
       → is_some t'.length ≡ true → is_array tables name.at ≡ true
-  stored_array name type noted t' same some = array_is program facts given.correct name.at t' (subst (λ x. Noting program facts given (record { at = name.at; type = Some x })) same noted) some
+  stored_array name type noted t' same some = array_is program facts given.correct name.at t' (subst (λ x. Noting (record { at = name.at; type = Some x })) same noted) some
 
-  pub name_stands : (name : Named) → IsUsed program facts given name → Noting program facts given (record { at = name.at; type = name_type (env.meant name) })
+  pub name_stands : (name : Named) → IsUsed name → Noting (record { at = name.at; type = name_type (env.meant name) })
       → (type : ExpressionType) → name_type (env.meant name) ≡ Some type → NameStands name type
   name_stands name used noted type e = elim (means_one name used) [
     | inl v ↦
@@ -323,45 +290,33 @@ module _ (program : ProgramTree) (facts : Facts) (given : IsGiven program facts)
     | inr (inl f) ↦ absurd (no_type (is_text f.function.name.bytes (codes "main")) (Called (map Typed f.is.0) (Always (option_map result_of f.is.1))) type refl (sym (ap name_type f.is.3) ∙ e))
     | inr (inr p) ↦
         subst (λ (w : Way). NameAsks tables functions places name.at w × Stood w type) (sym (way_predeclared name p.binds))
-        (fine name.at name.place name.bytes p.there type (sym (ap name_type p.meant) ∙ e)
-        (stored_array name type (subst (λ o. Noting program facts given (record { at = name.at; type = o })) e noted)))
+        (predeclared_stands name p.there type (sym (ap name_type p.meant) ∙ e)
+        (stored_array name type (subst (λ o. Noting (record { at = name.at; type = o })) e noted)))
   ]
 
   -- and its type may be declared
   input_sound : IsSound structs input
   input_sound = record { root = tt; length = λ n e. omega (arith, same_Some 65536 n e) }
 
-  abbrev Sound : List ℕ → Type 0
-  Sound bytes = (type' : ExpressionType) → name_type (predeclared_meant bytes) ≡ Some type' → IsSoundType structs type'
+  predeclared_sound : (name : Named) → Contains predeclared name.bytes → (type : ExpressionType) → name_type (predeclared_meant name.bytes) ≡ Some type → IsSoundType structs type
+  predeclared_sound name there type e = by (predeclared_meant name.bytes) e (predeclared_so name there)
+    where
+      by : (meant : Meant) → name_type meant ≡ Some type → IsSo name meant → IsSoundType structs type
+      by (Called parameters result) e' so = absurd (cc)
+      by (Constant value) e' so = subst (IsSoundType structs) (same_Some _ type e') tt
+      by (Kept (Some t)) e' so = subst (IsSoundType structs) (same_Some _ type e') (λ some. subst (IsSound structs) (sym so.1) input_sound)
+      by (Kept None) e' so = absurd so
+      by Main e' so = absurd so
+      by Undeclared e' so = absurd so
 
-  sound_number : (k : ℕ) → k < 14 → Sound (get_or predeclared k [])
-  sound_number zero low type' e' = absurd (cc)
-  sound_number (suc zero) low type' e' = absurd (cc)
-  sound_number (suc (suc zero)) low type' e' = absurd (cc)
-  sound_number (suc (suc (suc zero))) low type' e' = absurd (cc)
-  sound_number (suc (suc (suc (suc zero)))) low type' e' = absurd (cc)
-  sound_number (suc (suc (suc (suc (suc zero))))) low type' e' = absurd (cc)
-  sound_number (suc (suc (suc (suc (suc (suc zero)))))) low type' e' = absurd (cc)
-  sound_number (suc (suc (suc (suc (suc (suc (suc zero))))))) low type' e' = absurd (cc)
-  sound_number (suc (suc (suc (suc (suc (suc (suc (suc zero)))))))) low type' e' = absurd (cc)
-  sound_number (suc (suc (suc (suc (suc (suc (suc (suc (suc zero))))))))) low type' e' = absurd (cc)
-  sound_number (suc (suc (suc (suc (suc (suc (suc (suc (suc (suc zero)))))))))) low type' e' = subst (IsSoundType structs) (same_Some _ type' e') tt
-  sound_number (suc (suc (suc (suc (suc (suc (suc (suc (suc (suc (suc zero))))))))))) low type' e' = subst (IsSoundType structs) (same_Some _ type' e') tt
-  sound_number (suc (suc (suc (suc (suc (suc (suc (suc (suc (suc (suc (suc zero)))))))))))) low type' e' = subst (IsSoundType structs) (same_Some _ type' e') (λ some. input_sound)
-  sound_number (suc (suc (suc (suc (suc (suc (suc (suc (suc (suc (suc (suc (suc zero))))))))))))) low type' e' = subst (IsSoundType structs) (same_Some _ type' e') tt
-  sound_number (suc (suc (suc (suc (suc (suc (suc (suc (suc (suc (suc (suc (suc (suc k)))))))))))))) low type' e' = absurd (omega (arith, low))
-
-  sound_by : (bytes : List ℕ) → Contains predeclared bytes → Sound bytes
-  sound_by bytes (k, low, is) = subst Sound (get_or_default predeclared k [] bytes low ∙ is) (sound_number k low)
-
-  pub name_sound : (name : Named) → IsUsed program facts given name → (type : ExpressionType) → name_type (env.meant name) ≡ Some type → IsSoundType structs type
+  pub name_sound : (name : Named) → IsUsed name → (type : ExpressionType) → name_type (env.meant name) ≡ Some type → IsSoundType structs type
   name_sound name used type e = elim (means_one name used) [
     | inl v ↦
         let has = has_sound structs v.variable v.known.right in
         let one : has.type ≡ v.type = same_Some has.type v.type (sym has.is ∙ v.known.is) in
         subst (IsSoundType structs) (same_Some _ type (sym (ap name_type v.meant) ∙ e)) (λ some. subst (IsSound structs) one has.sound)
     | inr (inl f) ↦ absurd (no_type (is_text f.function.name.bytes (codes "main")) (Called (map Typed f.is.0) (Always (option_map result_of f.is.1))) type refl (sym (ap name_type f.is.3) ∙ e))
-    | inr (inr p) ↦ sound_by name.bytes p.there type (sym (ap name_type p.meant) ∙ e)
+    | inr (inr p) ↦ predeclared_sound name p.there type (sym (ap name_type p.meant) ∙ e)
   ]
 
   -- ---- the address of a private variable isn't taken
@@ -384,7 +339,7 @@ module _ (program : ProgramTree) (facts : Facts) (given : IsGiven program facts)
   shared_word h.Private index name is = is
   shared_word h.NoWord index name is = tt
 
-  pub no_word : (name : Named) → IsUsed program facts given name → (things program facts given name.at ≡ Some PrivateVariable → ⊥) → IsNoWord (way_of name)
+  pub no_word : (name : Named) → IsUsed name → (thing name.at ≡ Some PrivateVariable → ⊥) → IsNoWord (way_of name)
   no_word name used shared = elim (means_one name used) [
     | inl v ↦
         subst IsNoWord (sym (way_declared name v.number v.binds v.low)) (by v v.variable.shared refl v.known.home)

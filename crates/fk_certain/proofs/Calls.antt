@@ -1,14 +1,10 @@
 -- Calls are of functions, with their arguments, and give what their types say.
-use Rattle.std.proofs.Common.{◌≡◌, inl, inr, ℕ, zero, suc, ◌+◌, ◌<◌, ◌≤◌, Bool, true, false, not, ◌&&◌, List, [], ◌∷◌, length, nat_eq, get_or, codes, Option, Some, None, slice_get, Contains, refl, sym, ap, subst, ◌∙◌, arith}
+use Rattle.std.proofs.Common.{◌≡◌, inl, inr, ℕ, zero, suc, ◌+◌, ◌≤◌, Bool, true, false, not, ◌&&◌, List, [], ◌∷◌, length, nat_eq, codes, Option, Some, None, slice_get, Contains, refl, sym, ap, subst, ◌∙◌, arith}
 use Rattle.std.specs.Prelude.{◌==◌, ◌||◌, IsSome, map, if◌then◌else◌}
 use Rattle.std.specs.Option.{option_map}
 use Rattle.std.proofs.lemmas.Bool.{false≢true, eqb-true, ne_eqb}
-use Rattle.std.proofs.lemmas.List.{get_or_default, length-map}
+use Rattle.std.proofs.lemmas.List.{length-map}
 use Rattle.std.proofs.lemmas.Option.{same_Some}
-use Rattle.fk_typing.specs.Names.{Env}
-use Rattle.fk_forms.specs.Tables.{Tables}
-use Rattle.fk_forms.specs.Expressions.{Signature}
-use Rattle.fk_syntax.specs.declared.place.Place as sp
 use Rattle.fk_syntax.specs.declared.facts.Facts.{Facts}
 use Rattle.fk_syntax.specs.declared.place.Spot.{Spot}
 use Rattle.fk_syntax.specs.Tree as t
@@ -20,23 +16,22 @@ use Rattle.fk_structs.specs.declared.types.Root.TheVariants as r
 use Rattle.fk_structs.specs.declared.types.DataType.{DataType}
 use Rattle.fk_structs.specs.Types.{struct_named, type_spelled}
 use Rattle.fk_struct_rules.specs.Declarations.{ResultBreaks}
-use Rattle.fk_names.specs.Outline.{Variable, Header, declarations}
+use Rattle.fk_names.specs.Outline.{Header, declarations}
 use Rattle.fk_names.specs.Means.{predeclared}
 use Rattle.fk_signs.specs.declared.values.Value.{Value}
 use Rattle.fk_signs.specs.declared.values.ExpressionType.{ExpressionType}
-use Rattle.fk_signs.specs.declared.values.ExpressionType.TheVariants.{Computed}
+use Rattle.fk_signs.specs.declared.values.ExpressionType.TheVariants.{Stored, Computed, Nothing}
 use Rattle.fk_signs.specs.Values.{result_of}
 use Rattle.fk_typing.specs.Term as e
 use Rattle.fk_typing.specs.Term.{Terms, no_terms, also, count_of, term_of, with_arguments}
-use Rattle.fk_typing.specs.Names.{Meant, Kept, Constant, Called, Main, Undeclared, Always, Typed, HasDeclaredType, is_text, predeclared_meant}
-use Rattle.fk_typing.specs.Typing.{type_of, computed, parameters_of, result_in, call_type, do_all_fit, first_value}
+use Rattle.fk_typing.specs.Names.{Result, Pointed, Meant, Kept, Constant, Called, Main, Undeclared, Always, Typed, HasDeclaredType, is_text, predeclared_meant}
+use Rattle.fk_typing.specs.Typing.{type_of, parameters_of, result_in, call_type, do_all_fit, first_value}
 use Rattle.fk_typing.specs.Broken.{is_no_function, is_wrong_count}
 use Rattle.fk_forms.specs.Tables.{no_binding, note}
 use Rattle.fk_forms.specs.Statements.{is_nothing}
 use Rattle.fk_forms.specs.Program.{functions_of, with_body, binding_of, signature_of, signature_in, is_main}
 use Rattle.fk_kept.specs.declared.places.Place.{Place}
 use Rattle.fk_kept.specs.declared.places.Place.TheVariants as pl
-use Rattle.fk_layout.specs.Refusal.{Fits}
 use Rattle.fk_shapes.specs.Fitting.{is_defined, NameFits}
 use Rattle.fk_fitting.proofs.Typed.{Unbroken, Not}
 use Rattle.fk_fitting.proofs.Named.{known}
@@ -44,10 +39,10 @@ use Rattle.fk_fitting.proofs.Declared.{function_number}
 use Rattle.fk_fitting.proofs.Bodies.{takes_of}
 use Rattle.fk_typed_forms.specs.Ways.{Way, Valued, Absent, Function, result, predeclared_gives, predeclared_way, place_gives, called_way}
 use Rattle.fk_typed_forms.specs.Asked.{AreEnough, IsCalled, TakesAll, NameTakes, NameAsks, CallAsks, place_by, place_in}
-use Rattle.fk_certain.proofs.Scalars.{IsScalar}
-use Rattle.fk_certain.proofs.Valid.{IsGiven, E, T, F, P, IsUsed}
+use Rattle.fk_certain.proofs.Valid.{IsGiven, about}
 use Rattle.fk_certain.proofs.AskedNames as n
-use Rattle.fk_certain.proofs.AskedNames.{MeansFunction, MeansPredeclared, means_one, way_of, way_predeclared, way_function}
+use Rattle.fk_certain.proofs.Members.{map_some}
+use Rattle.fk_certain.proofs.AskedNames.{Gives, IsSo, predeclared_so, MeansFunction, means_one, way_of, way_predeclared, way_function}
 
 -- what is called with so many arguments, and gives a type
 record IsCall (m : Meant) (count : ℕ) (fit : Bool) (first : Option Value) (type : ExpressionType) : Type 0 where
@@ -70,26 +65,14 @@ enough [] es before many = tt
 enough (x ∷ xs) t.no_trees before many = absurd (omega (arith, many))
 enough (x ∷ xs) (t.tree first others) before many = enough xs others (also before (term_of first)) (omega (arith, many))
 
-map_some : {X Y : Type 0} (f : X → Y) (o : Option X) (y : Y) → option_map f o ≡ Some y → (x : X) × (o ≡ Some x) × (f x ≡ y)
-map_some f None y h = absurd (cc)
-map_some f (Some x) y h = (x, refl, same_Some (f x) y h)
+pub header_same : (f g : FunctionTree) → Some (Header f) ≡ Some (Header g) → f ≡ g
+header_same f g same = cc
 
-module _ (program : ProgramTree) (facts : Facts) (given : IsGiven program facts) (fits : Fits (T program facts given) program.items)
-    (kept : (number : ℕ) (x : DeclaredTree) → slice_get (declarations program) number ≡ Some (Variable x) → IsScalar x) where
-  abbrev env : Env
-  env = E program facts given
-
-  abbrev tables : Tables
-  tables = T program facts given
-
-  abbrev functions : (binding : ℕ) → Signature
-  functions = F program facts given
-
-  abbrev places : (binding : ℕ) → Place
-  places = P program facts given
+module _ (program : ProgramTree) (facts : Facts) (given : IsGiven program facts) where
+  open about program facts given use {env, tables, functions, places, IsUsed}
 
   abbrev Stood : Way → ExpressionType → Type 0
-  Stood w type = n.Stood program facts given fits kept w type
+  Stood w type = n.Stood program facts given w type
 
   -- ---- the function of a binding
 
@@ -141,15 +124,12 @@ module _ (program : ProgramTree) (facts : Facts) (given : IsGiven program facts)
       by None has others is' = others is'
       by (Some body) has others is' = later (binding_of tables f == b) refl is' others (subst IsSome (sym has) refl)
 
-  header_same : (f g : FunctionTree) → Some (Header f) ≡ Some (Header g) → f ≡ g
-  header_same f g same = cc
-
   -- that of a name
   record IsPlace (b : ℕ) (f : FunctionTree) : Type 0 where
     place : places b ≡ place_by f
     signature : functions b ≡ signature_of f
 
-  place_is : (name : Named) (f : MeansFunction program facts given fits kept name) → is_defined tables (functions_of program.items) f.number ≡ true → IsPlace f.number f.function
+  place_is : (name : Named) (f : MeansFunction program facts given name) → is_defined tables (functions_of program.items) f.number ≡ true → IsPlace f.number f.function
   place_is name f defined =
       let x = found program.items (λ j y at. (j, at)) f.number defined in
       let number = function_number program facts given.correct x.index x.function x.there x.body in
@@ -180,14 +160,14 @@ module _ (program : ProgramTree) (facts : Facts) (given : IsGiven program facts)
 
   abbrev CallStands : Named → Trees → ExpressionType → Type 0
   CallStands name es type =
-      NameAsks tables functions places name.at (way_of program facts given fits kept name) × CallAsks tables functions places (way_of program facts given fits kept name) es
-      × Stood (called_way tables places (way_of program facts given fits kept name)) type
+      NameAsks tables functions places name.at (way_of program facts given name) × CallAsks tables functions places (way_of program facts given name) es
+      × Stood (called_way tables places (way_of program facts given name)) type
 
   abbrev bound : Named → ℕ
   bound name = (note tables name.at).binding
 
   -- of a function, by its name's way
-  by_way : (name : Named) (es : Trees) (type : ExpressionType) → way_of program facts given fits kept name ≡ Function name
+  by_way : (name : Named) (es : Trees) (type : ExpressionType) → way_of program facts given name ≡ Function name
       → NameTakes tables functions places (bound name == no_binding) name es
       → Stood (result (if bound name == no_binding then predeclared_gives name else place_gives (places (bound name)))) type → CallStands name es type
   by_way name es type same takes stood =
@@ -197,7 +177,7 @@ module _ (program : ProgramTree) (facts : Facts) (given : IsGiven program facts)
   called main f other b is = subst IsCalled (sym (is.place ∙ ap (λ (c : Bool). if c then pl.Main else pl.Called (not (is_nothing f.result))) other)) tt
 
   -- a declared one
-  module _ (name : Named) (f : MeansFunction program facts given fits kept name) (is : IsPlace f.number f.function) (es : Trees) (type : ExpressionType) where
+  module _ (name : Named) (f : MeansFunction program facts given name) (is : IsPlace f.number f.function) (es : Trees) (type : ExpressionType) where
     abbrev args : Terms
     args = with_arguments no_terms es
 
@@ -237,53 +217,40 @@ module _ (program : ProgramTree) (facts : Facts) (given : IsGiven program facts)
           enough = subst (λ s. AreEnough s es) (sym (ap (λ s. s.parameters) at.signature)) (enough f.function.parameters es no_terms (omega (arith, many, long, same)));
         } in
         let place = at.place ∙ ap (λ (c : Bool). if c then pl.Main else pl.Called (not (is_nothing f.function.result))) parts.0 in
-        by_way name es type (way_function program facts given fits kept name f)
+        by_way name es type (way_function program facts given name f)
         (subst (λ (c : Bool). NameTakes tables functions places c name es) (sym other) takes)
         (subst (λ (c : Bool). Stood (result (if c then predeclared_gives name else place_gives (places (bound name)))) type) (sym other)
         (subst (λ (x : Place). Stood (result (place_gives x)) type) (sym place) (gives_as result' f.is.2.gives parts.2)))
 
   -- one that is declared before each text
-  module _ (at : ℕ) (place : sp.Place) where
-    abbrev Given : List ℕ → Type 0
-    Given bytes =
-        (count : ℕ) (fit : Bool) (first : Option Value) (type : ExpressionType) → call_type (predeclared_meant bytes) count fit first ≡ Some type
-        → let name : Named = record { bytes = bytes; at = at; place = place } in (predeclared_way name ≡ Function name) × Stood (result (predeclared_gives name)) type
+  by_result : (a b : Bool) (o : Option ExpressionType) (type : ExpressionType) → (if a && b then o else None) ≡ Some type → o ≡ Some type
+  by_result true true o type h = h
+  by_result true false o type h = absurd (cc)
+  by_result false b o type h = absurd (cc)
 
-    by_result : (a b : Bool) (o : Option ExpressionType) (type : ExpressionType) → (if a && b then o else None) ≡ Some type → o ≡ Some type
-    by_result true true o type h = h
-    by_result true false o type h = absurd (cc)
-    by_result false b o type h = absurd (cc)
+  gives_so : (is : Result) (b : Bool) → Gives is b → (first : Option Value) (type : ExpressionType) → result_in is first ≡ Some type → Stood (result b) type
+  gives_so Pointed b so first type h = let x = map_some Computed _ type h in subst (λ (b : Bool). Stood (result b) type) (sym so) (subst (Stood Valued) x.2 tt)
+  gives_so (Always (Some (Computed value))) b so first type h = subst (λ (b : Bool). Stood (result b) type) (sym so) (subst (Stood Valued) (same_Some _ type h) tt)
+  gives_so (Always (Some Nothing)) b so first type h = subst (λ (b : Bool). Stood (result b) type) (sym so) (subst (Stood Absent) (same_Some _ type h) tt)
+  gives_so (Always (Some (Stored x))) b so first type h = absurd so
+  gives_so (Always None) b so first type h = absurd so
 
-    pointed : (a b : Bool) (o : Option Value) (type : ExpressionType) → (if a && b then computed o else None) ≡ Some type → Stood Valued type
-    pointed a b o type h = let x = map_some Computed o type (by_result a b (computed o) type h) in subst (Stood Valued) x.2 tt
-
-    always : (a b : Bool) (type' type : ExpressionType) (w : Way) → Stood w type' → (if a && b then Some type' else None) ≡ Some type → Stood w type
-    always a b type' type w stood h = subst (Stood w) (same_Some type' type (by_result a b (Some type') type h)) stood
-
-    at_number : (k : ℕ) → k < 14 → Given (get_or predeclared k [])
-    at_number zero low count fit first type h = (refl, pointed _ fit _ type h)
-    at_number (suc zero) low count fit first type h = (refl, pointed _ fit _ type h)
-    at_number (suc (suc zero)) low count fit first type h = (refl, pointed _ fit _ type h)
-    at_number (suc (suc (suc zero))) low count fit first type h = (refl, pointed _ fit _ type h)
-    at_number (suc (suc (suc (suc zero)))) low count fit first type h = (refl, always _ fit _ type Valued tt h)
-    at_number (suc (suc (suc (suc (suc zero))))) low count fit first type h = (refl, always _ fit _ type Valued tt h)
-    at_number (suc (suc (suc (suc (suc (suc zero)))))) low count fit first type h = (refl, always _ fit _ type Valued tt h)
-    at_number (suc (suc (suc (suc (suc (suc (suc zero))))))) low count fit first type h = (refl, always _ fit _ type Absent tt h)
-    at_number (suc (suc (suc (suc (suc (suc (suc (suc zero)))))))) low count fit first type h = (refl, always _ fit _ type Absent tt h)
-    at_number (suc (suc (suc (suc (suc (suc (suc (suc (suc zero))))))))) low count fit first type h = (refl, always _ fit _ type Valued tt h)
-    at_number (suc (suc (suc (suc (suc (suc (suc (suc (suc (suc zero)))))))))) low count fit first type h = absurd (cc)
-    at_number (suc (suc (suc (suc (suc (suc (suc (suc (suc (suc (suc zero))))))))))) low count fit first type h = absurd (cc)
-    at_number (suc (suc (suc (suc (suc (suc (suc (suc (suc (suc (suc (suc zero)))))))))))) low count fit first type h = absurd (cc)
-    at_number (suc (suc (suc (suc (suc (suc (suc (suc (suc (suc (suc (suc (suc zero))))))))))))) low count fit first type h = absurd (cc)
-    at_number (suc (suc (suc (suc (suc (suc (suc (suc (suc (suc (suc (suc (suc (suc k)))))))))))))) low count fit first type h = absurd (omega (arith, low))
-
-    fine : (bytes : List ℕ) → Contains predeclared bytes → Given bytes
-    fine bytes (k, low, is) = subst Given (get_or_default predeclared k [] bytes low ∙ is) (at_number k low)
+  predeclared_call : (name : Named) → Contains predeclared name.bytes → (count : ℕ) (fit : Bool) (first : Option Value) (type : ExpressionType)
+      → call_type (predeclared_meant name.bytes) count fit first ≡ Some type → (predeclared_way name ≡ Function name) × Stood (result (predeclared_gives name)) type
+  predeclared_call name there count fit first type h = by (predeclared_meant name.bytes) h (predeclared_so name there)
+    where
+      by : (meant : Meant) → call_type meant count fit first ≡ Some type → IsSo name meant → (predeclared_way name ≡ Function name) × Stood (result (predeclared_gives name)) type
+      by (Called parameters is) h' so =
+          (so.0, gives_so is (predeclared_gives name) so.1 first type (by_result (nat_eq count (length parameters)) fit (result_in is first) type h'))
+      by (Constant value) h' so = absurd (cc)
+      by (Kept type') h' so = absurd (cc)
+      by Main h' so = absurd so
+      by Undeclared h' so = absurd so
 
   call_none : (type' : Option DataType) (count : ℕ) (fit : Bool) (first : Option Value) (type : ExpressionType) → call_type (Kept type') count fit first ≡ Some type → ⊥
   call_none type' count fit first type h = cc
 
-  pub call_stands : (spot : Spot) (name : Named) → IsUsed program facts given name → (es : Trees) (type : ExpressionType)
+  pub call_stands : (spot : Spot) (name : Named) → IsUsed name → (es : Trees) (type : ExpressionType)
       → type_of env (e.Call spot (e.Use name) (with_arguments no_terms es)) ≡ Some type → CallStands name es type
   call_stands spot name used es type h =
       let args = with_arguments no_terms es in
@@ -291,7 +258,7 @@ module _ (program : ProgramTree) (facts : Facts) (given : IsGiven program facts)
       let first = first_value env args in
       let is = call_is (env.meant name) (count_of args) fit first type h in
       let takes = takes_of program facts given.correct functions name (known program facts given.correct name used.0 used.1 used.2) es is.function is.counted in
-      elim (means_one program facts given fits kept name used) [
+      elim (means_one program facts given name used) [
         | inl v ↦ absurd (call_none (Some v.type) (count_of args) fit first type (sym (ap (λ (m : Meant). call_type m (count_of args) fit first) v.meant) ∙ h))
         | inr (inl f) ↦
             let other : (bound name == no_binding) ≡ false = ne_eqb (bound name) no_binding (λ same. let low = f.low in omega (arith, same, f.binds, low)) in
@@ -299,8 +266,8 @@ module _ (program : ProgramTree) (facts : Facts) (given : IsGiven program facts)
             declared_call name f (place_is name f (subst (λ b. is_defined tables (functions_of program.items) b ≡ true) f.binds defined)) es type fit first h
         | inr (inr p) ↦
             let none : (bound name == no_binding) ≡ true = subst (λ b. (b == no_binding) ≡ true) (sym p.binds) refl in
-            let g = fine name.at name.place name.bytes p.there (count_of args) fit first type (sym (ap (λ (m : Meant). call_type m (count_of args) fit first) p.meant) ∙ h) in
-            by_way name es type (way_predeclared program facts given fits kept name p.binds ∙ g.0)
+            let g = predeclared_call name p.there (count_of args) fit first type (sym (ap (λ (m : Meant). call_type m (count_of args) fit first) p.meant) ∙ h) in
+            by_way name es type (way_predeclared program facts given name p.binds ∙ g.0)
             (subst (λ (c : Bool). NameTakes tables functions places c name es) (sym none)
             (subst (λ (c : Bool). NameFits tables functions (is_defined tables (functions_of program.items)) c name es) none takes))
             (subst (λ (c : Bool). Stood (result (if c then predeclared_gives name else place_gives (places (bound name)))) type) (sym none) g.1)

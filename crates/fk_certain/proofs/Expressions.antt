@@ -1,25 +1,19 @@
 -- What is asked of the names, members and calls of an expression is so in a program that keeps all rules.
-use Rattle.std.proofs.Common.{◌≡◌, ℕ, Bool, true, false, List, [], ◌∷◌, ◌++◌, Option, Some, None, slice_get, refl, sym, ap, subst, ◌∙◌}
+use Rattle.std.proofs.Common.{◌≡◌, ℕ, Bool, true, false, List, [], ◌∷◌, ◌++◌, Option, Some, None, refl, sym, ap, subst, ◌∙◌}
 use Rattle.std.specs.Prelude.{is_some, if◌then◌else◌}
 use Rattle.std.specs.Option.{option_and_then}
 use Rattle.std.proofs.lemmas.Bool.{false≢true}
 use Rattle.std.proofs.lemmas.Option.{same_Some}
-use Rattle.fk_typing.specs.Names.{Env}
-use Rattle.fk_forms.specs.Tables.{Tables}
-use Rattle.fk_forms.specs.Expressions.{Signature}
-use Rattle.fk_kept.specs.declared.places.Place.{Place}
-use Rattle.fk_references.specs.References.{ReferenceTree}
 use Rattle.fk_syntax.specs.declared.facts.Facts.{Facts}
 use Rattle.fk_syntax.specs.declared.place.Spot.{Spot}
 use Rattle.fk_syntax.specs.declared.sign.Sign.{Sign}
 use Rattle.fk_syntax.specs.declared.sign.Sign.TheVariants as g
 use Rattle.fk_syntax.specs.Tree as t
-use Rattle.fk_syntax.specs.Tree.{Named, Tree, Links, Trees, Suffixes}
-use Rattle.fk_syntax.specs.Program.{DeclaredTree, ProgramTree}
+use Rattle.fk_syntax.specs.Tree.{Tree, Links, Trees, Suffixes}
+use Rattle.fk_syntax.specs.Program.{ProgramTree}
 use Rattle.fk_rules.specs.declared.rule.Rule.TheVariants as rules
 use Rattle.fk_structs.specs.declared.types.DataType.{DataType}
 use Rattle.fk_structs.specs.Types.{StructTree, type_spelled}
-use Rattle.fk_names.specs.Outline.{Variable, declarations}
 use Rattle.fk_references.specs.References.{main_token, after_links, after_suffixes, tree_references, links_references, trees_references, suffixes_references}
 use Rattle.fk_signs.specs.declared.values.Value.{Value}
 use Rattle.fk_signs.specs.declared.values.Value.TheVariants.{Int, Unsigned, Pointer}
@@ -38,7 +32,6 @@ use Rattle.fk_sharing.specs.declared.token.Word.TheVariants as w
 use Rattle.fk_sharing.specs.Tokens as s
 use Rattle.fk_sharing.specs.Broken as sb
 use Rattle.fk_forms.specs.Expressions.{token, last_link, last_suffix}
-use Rattle.fk_layout.specs.Refusal.{Fits}
 use Rattle.fk_lockstep.specs.Told.{Told, LinksTold, SuffixesTold, AllTold}
 use Rattle.fk_parsed.specs.Trim.{IsTrim, LinksAreTrim, TreesAreTrim, SuffixesAreTrim}
 use Rattle.fk_fitting.proofs.Each.{Each, front_of, rest_of}
@@ -48,9 +41,7 @@ use Rattle.fk_typed_forms.specs.Asked.{CallAsks, Asked}
 use Rattle.fk_typed_forms.specs.Typed.{StandsAs, CommaIs, IsNoWord, PrefixIs, Known, LinksKnown, SuffixesKnown, AllKnown}
 use Rattle.fk_typed_forms.proofs.Typing.{is_use, uncalled}
 use Rattle.fk_certain.proofs.Tokens.{IsSoundType, void_is}
-use Rattle.fk_certain.proofs.Scalars.{Kept as KeptBy, IsScalar}
-use Rattle.fk_certain.proofs.Valid.{IsGiven, E, T, F, P, things, words_of, Referred, Noting, IsUsed}
-use Rattle.fk_certain.proofs.AskedNames as n
+use Rattle.fk_certain.proofs.Valid.{IsGiven, about, words_of}
 use Rattle.fk_certain.proofs.AskedNames.{name_stands, name_sound, no_word}
 use Rattle.fk_certain.proofs.Members.{member_sound, member_room}
 use Rattle.fk_certain.proofs.Calls.{call_stands}
@@ -207,34 +198,8 @@ module _ (structs : List StructTree) where
   of_number true type h = of_value Unsigned type (same_Some _ type h)
   of_number false type h = of_value Int type (same_Some _ type h)
 
-module _ (program : ProgramTree) (facts : Facts) (given : IsGiven program facts) (fits : Fits (T program facts given) program.items)
-    (scalar : (number : ℕ) (x : DeclaredTree) → slice_get (declarations program) number ≡ Some (Variable x) → IsScalar x) where
-  abbrev env : Env
-  env = E program facts given
-
-  abbrev tables : Tables
-  tables = T program facts given
-
-  abbrev functions : (binding : ℕ) → Signature
-  functions = F program facts given
-
-  abbrev places : (binding : ℕ) → Place
-  places = P program facts given
-
-  abbrev Room : (address : ℕ) → DataType → Type 0
-  Room = n.Room program facts given fits scalar
-
-  abbrev Used : Named → Type 0
-  Used name = IsUsed program facts given name
-
-  abbrev N : Noted → Type 0
-  N x = Noting program facts given x
-
-  abbrev R : ReferenceTree → Type 0
-  R x = Referred program facts given x
-
-  abbrev pub K : s.Standing (List Holder) → Type 0
-  K token' = KeptBy (things program facts given) token'
+module _ (program : ProgramTree) (facts : Facts) (given : IsGiven program facts) where
+  open about program facts given use {env, tables, functions, places, thing, Room, Kept as K, Referred as R, Noting as N, IsUsed as Used}
 
   abbrev pub SoundOf : Term → Type 0
   SoundOf term = Sound env.structs (type_of env term)
@@ -357,8 +322,8 @@ module _ (program : ProgramTree) (facts : Facts) (given : IsGiven program facts)
   no_word_prefix sign = tt
 
   -- an expression whose address is taken is no private variable
-  no_word_tree : (x : Tree) → IsTrim x → Told Any Used x → (s.named_thing (things program facts given) x ≡ Some PrivateVariable → ⊥) → IsNoWord (way tables places x)
-  no_word_tree (t.Variable name) trim told h = no_word program facts given fits scalar name told h
+  no_word_tree : (x : Tree) → IsTrim x → Told Any Used x → (s.named_thing thing x ≡ Some PrivateVariable → ⊥) → IsNoWord (way tables places x)
+  no_word_tree (t.Variable name) trim told h = no_word program facts given name told h
   no_word_tree (t.Prefix spot sign operand) trim told h = no_word_prefix sign
   no_word_tree (t.Chain first t.no_links) trim told h = absurd trim.0
   no_word_tree (t.Chain first (t.link spot sign right others)) trim told h =
@@ -382,7 +347,7 @@ module _ (program : ProgramTree) (facts : Facts) (given : IsGiven program facts)
   no_word_tree (t.Choose spot condition first second) trim told h = no_word_result (gives (way tables places first))
 
   prefix_is : (around : List Holder) (spot : Spot) (shared : Bool) (sign : Sign) (x : Tree) → IsTrim x → Told Any Used x
-      → K (s.stands around spot shared (w.Prefix sign (s.named_thing (things program facts given) x))) → PrefixIs sign (way tables places x)
+      → K (s.stands around spot shared (w.Prefix sign (s.named_thing thing x))) → PrefixIs sign (way tables places x)
   prefix_is around spot shared g.Ampersand x trim told kept =
       no_word_tree x trim told (λ is. kept rules.PrivateAddress (subst (λ o. sb.BreaksRule around (w.Prefix g.Ampersand o) rules.PrivateAddress) (sym is) sb.private_address))
   prefix_is around spot shared sign x trim told kept = tt
@@ -403,7 +368,7 @@ module _ (program : ProgramTree) (facts : Facts) (given : IsGiven program facts)
   uncallable_tree x unused = uncallable (Asked tables functions places x) (term_of x) (way tables places x) unused
 
   callable : (x : Tree) → IsTrim x → Told Any Used x → Callable (Asked tables functions places x) (term_of x) (way tables places x)
-  callable (t.Variable name) trim told = λ spot es type h. call_stands program facts given fits scalar spot name told es type h
+  callable (t.Variable name) trim told = λ spot es type h. call_stands program facts given spot name told es type h
   callable (t.Prefix spot sign operand) trim told = uncallable_tree (t.Prefix spot sign operand) (prefix_use spot sign (term_of operand))
   callable (t.Chain first t.no_links) trim told = absurd trim.0
   callable (t.Chain first (t.link spot sign right others)) trim told = uncallable_tree (t.Chain first (t.link spot sign right others)) (links_use (joined_term spot sign (term_of first) (term_of right)) others (joined_use spot sign (term_of first) (term_of right)))
@@ -431,50 +396,50 @@ module _ (program : ProgramTree) (facts : Facts) (given : IsGiven program facts)
   -- all of the block are over what else there is, as suffixes are over what stands before them
   module _ (around : List Holder) where
     mutual
-      pub known : (x : Tree) (other : Type 0) → IsTrim x → Told Any Used x → Each K (s.tree_tokens (things program facts given) around x) → Each R (tree_references x) → Each N (noted env (term_of x))
+      pub known : (x : Tree) (other : Type 0) → IsTrim x → Told Any Used x → Each K (s.tree_tokens thing around x) → Each R (tree_references x) → Each N (noted env (term_of x))
           → KnownTree x × SoundOf (term_of x)
       known (t.Number spot value unsigned) other trim told k c h = (tt, sound_term (e.Number spot value unsigned) tt)
       known (t.Puts spot text) other trim told k c h = (tt, sound_term (e.Puts spot) tt)
       known (t.Sizeof spot type) other trim told k c h = (tt, sound_term (e.Sizeof spot type) tt)
       known (t.Variable name) other trim told k c h = (
-        (λ type typed. name_stands program facts given fits scalar name told h.0 type typed),
-        (λ type typed. name_sound program facts given fits scalar name told type typed),
+        (λ type typed. name_stands program facts given name told h.0 type typed),
+        (λ type typed. name_sound program facts given name told type typed),
       )
       known (t.GroupNumber spot) other trim told k c h = (tt, sound_term (e.GroupNumber spot) tt)
       known (t.GroupRank spot) other trim told k c h = (tt, sound_term (e.GroupRank spot) tt)
       known (t.Prefix spot sign x) other trim told k c h =
           let h' = subst (Each N) (sym (noted-prefix env spot sign (term_of x))) h in
-          let r = known x (Unit {0}) trim told (front_of K (s.tree_tokens (things program facts given) around x) _ k) c (front_of N (noted env (term_of x)) _ h') in (
-            (r.0, prefix_is around spot (is_shared (things program facts given) (t.Prefix spot sign x)) sign x trim told (rest_of K (s.tree_tokens (things program facts given) around x) _ k).0),
+          let r = known x (Unit {0}) trim told (front_of K (s.tree_tokens thing around x) _ k) c (front_of N (noted env (term_of x)) _ h') in (
+            (r.0, prefix_is around spot (is_shared thing (t.Prefix spot sign x)) sign x trim told (rest_of K (s.tree_tokens thing around x) _ k).0),
             sound_term (prefix_term spot sign (term_of x)) (prefix_other spot sign (term_of x)),
           )
       known (t.Cast spot type x) other trim told k c h =
-          let r = known x (Unit {0}) trim told (front_of K (s.tree_tokens (things program facts given) around x) _ k) c (front_of N (noted env (term_of x)) _ h) in
+          let r = known x (Unit {0}) trim told (front_of K (s.tree_tokens thing around x) _ k) c (front_of N (noted env (term_of x)) _ h) in
           (r.0, sound_term (e.Cast spot type (term_of x)) tt)
       known (t.Chain first links) other trim told k c h =
-          let all = links_known (Unit {0}) (term_of first) (token first) (own_tree first) links trim.2 told.1 (is_shared (things program facts given) first)
-          (rest_of K (s.tree_tokens (things program facts given) around first) _ k) (rest_of R (tree_references first) (links_references links) c) h in
-          let r = known first (Unit {0}) trim.1 told.0 (front_of K (s.tree_tokens (things program facts given) around first) _ k) (front_of R (tree_references first) (links_references links) c) all.0 in
+          let all = links_known (Unit {0}) (term_of first) (token first) (own_tree first) links trim.2 told.1 (is_shared thing first)
+          (rest_of K (s.tree_tokens thing around first) _ k) (rest_of R (tree_references first) (links_references links) c) h in
+          let r = known first (Unit {0}) trim.1 told.0 (front_of K (s.tree_tokens thing around first) _ k) (front_of R (tree_references first) (links_references links) c) all.0 in
           let rest = all.1 r.1 in
           ((r.0, rest.0), rest.1)
       known (t.Postfix x suffixes) other trim told k c h =
           let A = Asked tables functions places x in
           let c' = subst (λ at. Each R (suffixes_references at suffixes)) (same_token x) (rest_of R (tree_references x) (suffixes_references (main_token x) suffixes) c) in
-          let all = suffixes_known A (term_of x) (way tables places x) (token x) (own_tree x) suffixes trim.2 told.1 (is_shared (things program facts given) x) (is_call_shared (things program facts given) x)
-          (rest_of K (s.tree_tokens (things program facts given) around x) _ k) c' h in
-          let r = known x (Unit {0}) trim.1 told.0 (front_of K (s.tree_tokens (things program facts given) around x) _ k) (front_of R (tree_references x) (suffixes_references (main_token x) suffixes) c) all.0 in
+          let all = suffixes_known A (term_of x) (way tables places x) (token x) (own_tree x) suffixes trim.2 told.1 (is_shared thing x) (is_call_shared thing x)
+          (rest_of K (s.tree_tokens thing around x) _ k) c' h in
+          let r = known x (Unit {0}) trim.1 told.0 (front_of K (s.tree_tokens thing around x) _ k) (front_of R (tree_references x) (suffixes_references (main_token x) suffixes) c) all.0 in
           let rest = all.1 r.1 (callable x trim.1 told.0) in
           ((r.0, rest.0), rest.1)
       known (t.Assign spot sign x y) other trim told k c h =
-          let k' = front_of K (s.tree_tokens (things program facts given) around x ++ s.tree_tokens (things program facts given) around y) _ k in
+          let k' = front_of K (s.tree_tokens thing around x ++ s.tree_tokens thing around y) _ k in
           let h' = front_of N (noted env (term_of x) ++ noted env (term_of y)) _ h in
-          let a = known x (Unit {0}) trim.0 told.0 (front_of K (s.tree_tokens (things program facts given) around x) _ k') (front_of R (tree_references x) (tree_references y) c) (front_of N (noted env (term_of x)) _ h') in
-          let b = known y (Unit {0}) trim.1 told.1 (rest_of K (s.tree_tokens (things program facts given) around x) _ k') (rest_of R (tree_references x) (tree_references y) c) (rest_of N (noted env (term_of x)) _ h') in
+          let a = known x (Unit {0}) trim.0 told.0 (front_of K (s.tree_tokens thing around x) _ k') (front_of R (tree_references x) (tree_references y) c) (front_of N (noted env (term_of x)) _ h') in
+          let b = known y (Unit {0}) trim.1 told.1 (rest_of K (s.tree_tokens thing around x) _ k') (rest_of R (tree_references x) (tree_references y) c) (rest_of N (noted env (term_of x)) _ h') in
           ((a.0, b.0), sound_term (e.Assign spot sign (term_of x) (term_of y)) tt)
       known (t.Choose spot x y z) other trim told k c h =
-          let kx = s.tree_tokens (things program facts given) around x in
-          let ky = s.tree_tokens (things program facts given) around y in
-          let kz = s.tree_tokens (things program facts given) around z in
+          let kx = s.tree_tokens thing around x in
+          let ky = s.tree_tokens thing around y in
+          let kz = s.tree_tokens thing around z in
           let k' = front_of K (kx ++ ky ++ kz) _ k in
           let h' = front_of N (noted env (term_of x) ++ noted env (term_of y) ++ noted env (term_of z)) _ h in
           let k2 = front_of K (kx ++ ky) kz k' in
@@ -487,13 +452,13 @@ module _ (program : ProgramTree) (facts : Facts) (given : IsGiven program facts)
           ((a.0, b.0, d.0), sound_term (e.Choose spot (term_of x) (term_of y) (term_of z)) tt)
 
       links_known : (other : Type 0) (before : Term) (at : ℕ) → Own before at → (x : Links) → LinksAreTrim x → LinksTold Any Used x → (shared : Bool)
-          → Each K (s.links_tokens (things program facts given) around shared x) → Each R (links_references x) → Each N (noted env (with_links before x))
+          → Each K (s.links_tokens thing around shared x) → Each R (links_references x) → Each N (noted env (with_links before x))
           → Each N (noted env before) × (SoundOf before → LinksKnown Room env tables functions places before at x × SoundOf (with_links before x))
       links_known other before at own t.no_links trim told shared k c h = (h, (λ sound. (tt, sound)))
       links_known other before at own (t.link spot sign right others) trim told shared k c h =
           let j = joined_term spot sign before (term_of right) in
-          let ks = s.tree_tokens (things program facts given) around right in
-          let rest = links_known (Unit {0}) j spot.at (own_joined spot sign before (term_of right)) others trim.1 told.2 (is_joined_shared sign shared (is_shared (things program facts given) right))
+          let ks = s.tree_tokens thing around right in
+          let rest = links_known (Unit {0}) j spot.at (own_joined spot sign before (term_of right)) others trim.1 told.2 (is_joined_shared sign shared (is_shared thing right))
           (rest_of K ks _ k).1 (rest_of R (tree_references right) (links_references others) c) h in
           let h' = subst (Each N) (sym (noted-joined env spot sign before (term_of right))) rest.0 in
           let h2 = front_of N (noted env before ++ noted env (term_of right)) _ h' in
@@ -502,23 +467,23 @@ module _ (program : ProgramTree) (facts : Facts) (given : IsGiven program facts)
           let more = rest.1 (sound_term j (joined_other spot sign before (term_of right))) in
           (hb, (λ sound. ((r.0, comma_is sign before at (own hb) sound, more.0), more.1)))
 
-      arguments_known : (x : Trees) (other : Type 0) (before : Terms) → TreesAreTrim x → AllTold Any Used x → Each K (s.trees_tokens (things program facts given) around x) → Each R (trees_references x)
+      arguments_known : (x : Trees) (other : Type 0) (before : Terms) → TreesAreTrim x → AllTold Any Used x → Each K (s.trees_tokens thing around x) → Each R (trees_references x)
           → Each N (all_noted env (with_arguments before x)) → Each N (all_noted env before) × AllKnown Room env tables functions places x
       arguments_known t.no_trees other before trim told k c h = (h, tt)
       arguments_known (t.tree first others) other before trim told k c h =
-          let ks = s.tree_tokens (things program facts given) around first in
+          let ks = s.tree_tokens thing around first in
           let rest = arguments_known others (Unit {0}) (also before (term_of first)) trim.1 told.1 (rest_of K ks _ k) (rest_of R (tree_references first) (trees_references others) c) h in
           let r = known first (Unit {0}) trim.0 told.0 (front_of K ks _ k) (front_of R (tree_references first) (trees_references others) c) (rest_of N (all_noted env before) (noted env (term_of first)) rest.0) in
           (front_of N (all_noted env before) (noted env (term_of first)) rest.0, (r.0, rest.1))
 
       suffixes_known : (A : Type 0) (before : Term) (y : Way) (at : ℕ) → Own before at → (x : Suffixes) → SuffixesAreTrim x → SuffixesTold Any Used x → (shared called : Bool)
-          → Each K (s.suffixes_tokens (things program facts given) around shared called x) → Each R (suffixes_references at x) → Each N (noted env (with_suffixes before x))
+          → Each K (s.suffixes_tokens thing around shared called x) → Each R (suffixes_references at x) → Each N (noted env (with_suffixes before x))
           → Each N (noted env before)
           × (SoundOf before → Callable A before y → SuffixesKnown Room env tables functions places A before y x × SoundOf (with_suffixes before x))
       suffixes_known A before y at own t.no_suffixes trim told shared called k c h = (h, (λ sound calls. (tt, sound)))
       suffixes_known A before y at own (t.index spot by others) trim told shared called k c h =
           let j = e.Index spot before (term_of by) in
-          let ks = s.tree_tokens (things program facts given) around by in
+          let ks = s.tree_tokens thing around by in
           let rest = suffixes_known A j Unchecked spot.at (λ i. last_own (noted env before ++ noted env (term_of by)) _ i) others trim.1 told.1 _ _
           (rest_of K ks _ k).1 (rest_of R (tree_references by) (suffixes_references spot.at others) c) h in
           let h2 = front_of N (noted env before ++ noted env (term_of by)) _ rest.0 in
@@ -528,7 +493,7 @@ module _ (program : ProgramTree) (facts : Facts) (given : IsGiven program facts)
       suffixes_known A before y at own (t.call spot es others) trim told shared called k c h =
           let args = with_arguments no_terms es in
           let j = e.Call spot before args in
-          let ks = s.trees_tokens (things program facts given) around es in
+          let ks = s.trees_tokens thing around es in
           let rest = suffixes_known A j (called_way tables places y) spot.at (λ i. last_own (noted env before ++ all_noted env args) _ i) others trim.1 told.1 _ _
           (rest_of K ks _ k).1 (rest_of R (trees_references es) (suffixes_references spot.at others) c) h in
           let h2 = front_of N (noted env before ++ all_noted env args) _ rest.0 in

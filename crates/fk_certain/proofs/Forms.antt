@@ -1,6 +1,6 @@
 -- The code of expressions names words that are there before code that does, where each name that is used means a declaration with
 -- its word.
-use Rattle.std.proofs.Common.{◌≡◌, ℕ, suc, ◌≤◌, Bool, true, false, true≢false, List, [], ◌∷◌, ◌++◌, length, Option, Some, None, sym, refl, subst, arith}
+use Rattle.std.proofs.Common.{◌≡◌, ℕ, suc, ◌≤◌, Bool, true, false, true≢false, List, [], ◌∷◌, length, Option, Some, None, sym, refl, subst}
 use Rattle.std.specs.Prelude.{◌==◌, ◌*◌, ◌||◌, codes, if◌then◌else◌}
 use Rattle.fk_num.specs.declared.operator.Op.TheVariants as f
 use Rattle.fk_syntax.specs.declared.place.Place.{Place}
@@ -38,18 +38,10 @@ use Rattle.fk_nesting.proofs.Kept.{is_predeclared, entered}
 use Rattle.fk_shapes.specs.Fitting.{NameFits, Takes, Fits, OptionFits}
 use Rattle.fk_text.specs.Plain.{is_plain}
 use Rattle.fk_typed_forms.proofs.Along.{AllOf}
-use Rattle.fk_certain.specs.Named.{HasWord, IsNamed, AreNamed}
+use Rattle.fk_fitting.proofs.Each.{Each, front_of, rest_of}
+use Rattle.fk_certain.specs.Named.{HasWord, IsNamed}
+use Rattle.fk_certain.proofs.Parts.{three_of}
 use Rattle.fk_certain.proofs.Ok.{names_none, HasItsWord, freely, gets, sets, Ok, ended, on, branch, enters}
-
--- names among marks, by parts
-module _ (tables : Tables) (firsts words : ℕ) where
-  pub front : (xs ys : List MarkTree) → AreNamed tables firsts words (xs ++ ys) → AreNamed tables firsts words xs
-  front [] ys h = tt
-  front (x ∷ xs) ys h = (h.0, front xs ys h.1)
-
-  pub back : (xs ys : List MarkTree) → AreNamed tables firsts words (xs ++ ys) → AreNamed tables firsts words ys
-  back [] ys h = h
-  back (x ∷ xs) ys h = back xs ys h.1
 
 module _ (tables : Tables) (functions : (binding : ℕ) → Signature) (has_body : (binding : ℕ) → Bool) (firsts words : ℕ)
     (room : (binding : ℕ) → length (functions binding).parameters ≤ 56) where
@@ -416,8 +408,11 @@ module _ (tables : Tables) (functions : (binding : ℕ) → Signature) (has_body
   call_is (t.Choose spot condition first second) arguments' fits good k p = absurd fits
 
   -- expressions
+  abbrev Is : MarkTree → Type 0
+  Is = IsNamed tables firsts words
+
   abbrev Scoped : List MarkTree → Type 0
-  Scoped marks = AreNamed tables firsts words marks
+  Scoped marks = Each Is marks
 
   mutual
     expression : (e : Tree) → Fits tables functions has_body e → Scoped (tree_marks e) → Good (stands tables functions e)
@@ -430,27 +425,26 @@ module _ (tables : Tables) (functions : (binding : ℕ) → Signature) (has_body
     expression (t.Prefix spot sign operand) fits asks k p = prefixes spot sign (stands tables functions operand) (expression operand fits asks) (token operand) k p
     expression (t.Cast spot type operand) fits asks k p = value_is (stands tables functions operand) (expression operand fits asks) (k OnList) (p OnList tt)
     expression (t.Chain first links) fits asks k p =
-        chain (stands tables functions first) (expression first fits.0 (front tables firsts words (tree_marks first) (links_marks links) asks)) (token first) links fits.1
-        (back tables firsts words (tree_marks first) (links_marks links) asks) k p
+        chain (stands tables functions first) (expression first fits.0 (front_of Is (tree_marks first) (links_marks links) asks)) (token first) links fits.1
+        (rest_of Is (tree_marks first) (links_marks links) asks) k p
     expression (t.Postfix whole suffixes) fits asks k p =
-        first_suffix whole (expression whole fits.0 (front tables firsts words (tree_marks whole) (suffixes_marks suffixes) asks)) suffixes fits.1
-        (back tables firsts words (tree_marks whole) (suffixes_marks suffixes) asks) k p
+        first_suffix whole (expression whole fits.0 (front_of Is (tree_marks whole) (suffixes_marks suffixes) asks)) suffixes fits.1
+        (rest_of Is (tree_marks whole) (suffixes_marks suffixes) asks) k p
     expression (t.Assign spot sign target value) fits asks k p =
-        gives sign (stands tables functions target) (expression target fits.0 (front tables firsts words (tree_marks target) (tree_marks value) asks)) (token target)
-        (stands tables functions value) (expression value fits.1 (back tables firsts words (tree_marks target) (tree_marks value) asks)) (token value) k p
+        gives sign (stands tables functions target) (expression target fits.0 (front_of Is (tree_marks target) (tree_marks value) asks)) (token target)
+        (stands tables functions value) (expression value fits.1 (rest_of Is (tree_marks target) (tree_marks value) asks)) (token value) k p
     expression (t.Choose spot condition first second) fits asks k p =
-        let both = front tables firsts words (tree_marks condition ++ tree_marks first) (tree_marks second) asks in
-        chooses spot (stands tables functions condition) (expression condition fits.0 (front tables firsts words (tree_marks condition) (tree_marks first) both))
-        (stands tables functions first) (expression first fits.1 (back tables firsts words (tree_marks condition) (tree_marks first) both))
-        (stands tables functions second) (expression second fits.2 (back tables firsts words (tree_marks condition ++ tree_marks first) (tree_marks second) asks)) k p
+        let ms = three_of Is (tree_marks condition) (tree_marks first) (tree_marks second) asks in
+        chooses spot (stands tables functions condition) (expression condition fits.0 ms.0) (stands tables functions first) (expression first fits.1 ms.1)
+        (stands tables functions second) (expression second fits.2 ms.2) k p
 
     chain : (e : Stands) → Good e → (at : ℕ) (links : Links) → LinksFit tables functions (Takes tables functions has_body) links → Scoped (links_marks links)
         → Good (linked tables functions e at links)
     chain e good at t.no_links fits asks k p = good k p
     chain e good at (t.link spot sign right others) fits asks k p =
         chain (joined tables functions spot sign e at (stands tables functions right) (token right))
-        (joins spot sign e good at (stands tables functions right) (expression right fits.0 (front tables firsts words (tree_marks right) (links_marks others) asks)) (token right))
-        spot.at others fits.1 (back tables firsts words (tree_marks right) (links_marks others) asks) k p
+        (joins spot sign e good at (stands tables functions right) (expression right fits.0 (front_of Is (tree_marks right) (links_marks others) asks)) (token right))
+        spot.at others fits.1 (rest_of Is (tree_marks right) (links_marks others) asks) k p
 
     first_suffix : (whole : Tree) → Good (stands tables functions whole) → (suffixes : Suffixes) → FirstFits tables functions (Takes tables functions has_body) whole suffixes
         → Scoped (suffixes_marks suffixes) → Good (suffixed tables functions (stands tables functions whole) (token whole) suffixes)
@@ -458,13 +452,13 @@ module _ (tables : Tables) (functions : (binding : ℕ) → Signature) (has_body
     first_suffix whole good (t.index spot by others) fits asks k p =
         let e = stands tables functions whole in
         postfix (indexed tables functions spot e (stands tables functions by))
-        (indexes spot e good (stands tables functions by) (expression by fits.0 (front tables firsts words (tree_marks by) (suffixes_marks others) asks)))
-        spot.at others fits.1 (back tables firsts words (tree_marks by) (suffixes_marks others) asks) k p
+        (indexes spot e good (stands tables functions by) (expression by fits.0 (front_of Is (tree_marks by) (suffixes_marks others) asks)))
+        spot.at others fits.1 (rest_of Is (tree_marks by) (suffixes_marks others) asks) k p
     first_suffix whole good (t.call spot arguments' others) fits asks k p =
         let es = all_stand tables functions arguments' in
         postfix (λ j. stands tables functions whole (calling tables functions es j))
-        (call_is whole arguments' fits.0 (all_expressions arguments' fits.1 (front tables firsts words (trees_marks arguments') (suffixes_marks others) asks)))
-        spot.at others fits.2 (back tables firsts words (trees_marks arguments') (suffixes_marks others) asks) k p
+        (call_is whole arguments' fits.0 (all_expressions arguments' fits.1 (front_of Is (trees_marks arguments') (suffixes_marks others) asks)))
+        spot.at others fits.2 (rest_of Is (trees_marks arguments') (suffixes_marks others) asks) k p
     first_suffix whole good (t.dot spot name others) fits asks k p =
         let e = stands tables functions whole in
         postfix (dotted tables functions spot name.at e) (dots spot name.at e good) spot.at others fits asks k p
@@ -483,8 +477,8 @@ module _ (tables : Tables) (functions : (binding : ℕ) → Signature) (has_body
     postfix e good at t.no_suffixes fits asks k p = good k p
     postfix e good at (t.index spot by others) fits asks k p =
         postfix (indexed tables functions spot e (stands tables functions by))
-        (indexes spot e good (stands tables functions by) (expression by fits.0 (front tables firsts words (tree_marks by) (suffixes_marks others) asks)))
-        spot.at others fits.1 (back tables firsts words (tree_marks by) (suffixes_marks others) asks) k p
+        (indexes spot e good (stands tables functions by) (expression by fits.0 (front_of Is (tree_marks by) (suffixes_marks others) asks)))
+        spot.at others fits.1 (rest_of Is (tree_marks by) (suffixes_marks others) asks) k p
     postfix e good at (t.call spot arguments' others) fits asks k p = absurd fits
     postfix e good at (t.dot spot name others) fits asks k p = postfix (dotted tables functions spot name.at e) (dots spot name.at e good) spot.at others fits asks k p
     postfix e good at (t.arrow spot name others) fits asks k p = postfix (pointed tables functions spot name.at e) (points spot name.at e good) spot.at others fits asks k p
@@ -494,20 +488,20 @@ module _ (tables : Tables) (functions : (binding : ℕ) → Signature) (has_body
     all_expressions : (es : Trees) → AllFit tables functions (Takes tables functions has_body) es → Scoped (trees_marks es) → AllGood (all_stand tables functions es)
     all_expressions t.no_trees fits asks = tt
     all_expressions (t.tree first others) fits asks =
-        (expression first fits.0 (front tables firsts words (tree_marks first) (trees_marks others) asks), all_expressions others fits.1 (back tables firsts words (tree_marks first) (trees_marks others) asks))
+        (expression first fits.0 (front_of Is (tree_marks first) (trees_marks others) asks), all_expressions others fits.1 (rest_of Is (tree_marks first) (trees_marks others) asks))
 
-  pub values_kept : (e : Tree) → Fits tables functions has_body e → AreNamed tables firsts words (tree_marks e) → Keeps (value tables functions e)
+  pub values_kept : (e : Tree) → Fits tables functions has_body e → Scoped (tree_marks e) → Keeps (value tables functions e)
   values_kept e fits asks rest p = value_is (stands tables functions e) (expression e fits asks) rest p
 
   -- what statements have of expressions
-  pub uses : (e : Tree) → Fits tables functions has_body e → AreNamed tables firsts words (tree_marks e) → Keeps (used tables functions e)
+  pub uses : (e : Tree) → Fits tables functions has_body e → Scoped (tree_marks e) → Keeps (used tables functions e)
   uses e fits asks rest p = values_kept e fits asks (dropped tables functions (token e) rest) (drops (token e) rest p)
 
-  pub uses_or : (e : Option Tree) → OptionFits tables functions has_body e → AreNamed tables firsts words (optional_marks e) → Keeps (used_or tables functions e)
+  pub uses_or : (e : Option Tree) → OptionFits tables functions has_body e → Scoped (optional_marks e) → Keeps (used_or tables functions e)
   uses_or None fits asks rest p = p
   uses_or (Some e) fits asks rest p = uses e fits asks rest p
 
-  pub gives_or : (absent : Coded → Coded) → Keeps absent → (e : Option Tree) → OptionFits tables functions has_body e → AreNamed tables firsts words (optional_marks e)
+  pub gives_or : (absent : Coded → Coded) → Keeps absent → (e : Option Tree) → OptionFits tables functions has_body e → Scoped (optional_marks e)
       → Keeps (value_or tables functions absent e)
   gives_or absent keeps None fits asks rest p = keeps rest p
   gives_or absent keeps (Some e) fits asks rest p = values_kept e fits asks rest p

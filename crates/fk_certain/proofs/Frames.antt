@@ -1,5 +1,5 @@
 -- Where frames have room, the private words and the values of functions have.
-use Rattle.std.proofs.Common.{◌≡◌, ℕ, ◌+◌, ◌*◌, ◌≤◌, Bool, true, false, List, [], ◌∷◌, Option, sym, ap, arith}
+use Rattle.std.proofs.Common.{◌≡◌, ℕ, ◌+◌, ◌*◌, ◌≤◌, Bool, true, false, List, [], ◌∷◌, Option, refl, sym, ap, arith}
 use Rattle.std.specs.Prelude.{◌==◌, not, if◌then◌else◌}
 use Rattle.fk_syntax.specs.Program.{FunctionTree, ItemTree}
 use Rattle.fk_sizes.specs.Places.{beginning, places}
@@ -74,7 +74,7 @@ module _ (tables : Tables) (items : List ItemTree) where
         let code = code_of tables everyone f in
         let functions = signature_in tables everyone in
         let most = values_of tables items f in
-        lows functions places' most code beginning first
+        lows functions places' most code beginning first refl
         (counted functions places' (agree_in tables everyone) has_body code first false l s e shaped typed (along is_plain code all))
         (low most (places functions beginning code) (omega arith))
 

@@ -4,20 +4,20 @@ use Rattle.std.specs.Prelude.{◌==◌, is_some, if◌then◌else◌}
 use Rattle.fk_syntax.specs.declared.program.Mode.{Mode}
 use Rattle.fk_syntax.specs.Tree.{Named, TypeTree}
 use Rattle.fk_syntax.specs.Program.{DeclaredTree, Statements, FunctionTree}
-use Rattle.fk_names.specs.Outline.{variables_marks, body_marks, statements_marks}
+use Rattle.fk_names.specs.Outline.{MarkTree, variables_marks, body_marks, statements_marks}
 use Rattle.fk_forms.specs.Code.{size, numbered}
 use Rattle.fk_forms.specs.Tables.{Tables, frame_at}
 use Rattle.fk_forms.specs.Expressions.{Signature}
 use Rattle.fk_forms.specs.Statements.{Inside, is_nothing}
 use Rattle.fk_forms.specs.Program.{functions_of, binding_of, signature_of, signature_in, is_main, code_of, body_in}
+use Rattle.fk_fitting.proofs.Each.{Each, rest_of}
 use Rattle.fk_shapes.specs.Fitting.{is_defined, BodyFits, FunctionsFit}
 use Rattle.fk_text.specs.Built.{operations, operations_in, operations_of}
 use Rattle.fk_text.specs.Plain.{is_plain}
 use Rattle.fk_typed_forms.proofs.Along.{AllOf, EachOf, each_of, front, back, along}
 use Rattle.fk_certain.specs.Rooms.{HasWords}
-use Rattle.fk_certain.proofs.Forms as forms
 use Rattle.fk_certain.proofs.NamedStatements.{body_fine}
-use Rattle.fk_certain.specs.Named.{AreNamed, FunctionNames, FunctionsName, words_in, CodeNamesWords}
+use Rattle.fk_certain.specs.Named.{IsNamed, AreNamed, FunctionNames, FunctionsName, words_in, CodeNamesWords}
 
 -- the signature of a binding has few parameters
 room_in : (tables : Tables) (words : FunctionTree → ℕ) (firsts : ℕ) (fs : List FunctionTree) → FunctionsName tables words firsts fs → (b : ℕ)
@@ -28,6 +28,10 @@ room_in tables words firsts (f ∷ fs) names b = by (binding_of tables f == b) (
     by : (is : Bool) → length (signature_in tables fs b).parameters ≤ 56 → length (if is then signature_of f else signature_in tables fs b).parameters ≤ 56
     by true more = names.0.room
     by false more = more
+
+each_named : (tables : Tables) (firsts words : ℕ) (marks : List MarkTree) → AreNamed tables firsts words marks → Each (IsNamed tables firsts words) marks
+each_named tables firsts words [] h = tt
+each_named tables firsts words (mark ∷ marks) h = (h.0, each_named tables firsts words marks h.1)
 
 module _ (tables : Tables) (everyone : List FunctionTree) (has_body : (binding : ℕ) → Bool) (firsts : ℕ)
     (room : (b : ℕ) → length (signature_in tables everyone b).parameters ≤ 56) where
@@ -43,7 +47,7 @@ module _ (tables : Tables) (everyone : List FunctionTree) (has_body : (binding :
       let f : FunctionTree = record { mode = mode; result = kind; name = name; parameters = parameters; body = Some statements } in
       let inside : Inside = record { main = is_main f; framed = is_some (frame_at tables name.at 0) } in
       let fine = body_fine tables functions has_body firsts words room inside (is_nothing kind) statements fits
-      (forms.back tables firsts words (variables_marks parameters) (statements_marks statements) names) in
+      (rest_of (IsNamed tables firsts words) (variables_marks parameters) (statements_marks statements) (each_named tables firsts words _ names)) in
       fine.names built' first
 
   function_names : (words : ℕ) (f : FunctionTree) → BodyFits tables functions has_body f.body → FunctionNames tables firsts words f

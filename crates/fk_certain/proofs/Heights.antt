@@ -1,5 +1,5 @@
 -- Code has heights where the depths at its sites are those that are told of it.
-use Rattle.std.proofs.Common.{◌≡◌, ℕ, suc, ◌+◌, ◌-◌, true, false, List, [], ◌∷◌, ◌++◌, length, sym, ap, subst, ◌∙◌, arith, length-append}
+use Rattle.std.proofs.Common.{◌≡◌, ℕ, suc, ◌+◌, ◌-◌, true, false, List, [], ◌∷◌, ◌++◌, length, refl, sym, ap, subst, ◌∙◌, arith, length-append}
 use Rattle.fk_operation.specs.declared.operation.Operation.{Operation}
 use Rattle.fk_sizes.specs.Operations.{takes, pushes}
 use Rattle.fk_sizes.specs.Places.{At, behind_operation, behind_call, behind, beginning}
@@ -9,7 +9,7 @@ use Rattle.fk_forms.specs.Expressions.{Coded, Signature}
 use Rattle.fk_kept.specs.declared.places.Place.{Place}
 use Rattle.fk_lower_text.specs.Depths.{depths_from, IsStraight, HasOpenings}
 use Rattle.fk_lower_text.proofs.Deep.{many}
-use Rattle.fk_typed_code.specs.Heights.{raised, height, HasHeights}
+use Rattle.fk_typed_code.specs.Heights.{raised, HasHeights}
 use Rattle.fk_certain.proofs.Low.{Counted, raised_so, called_so, heights}
 
 module _ (depth : (site : ℕ) → ℕ) where
@@ -18,17 +18,40 @@ module _ (depth : (site : ℕ) → ℕ) where
   Tell n [] = Unit {0}
   Tell n (d ∷ ds) = (depth n ≡ d) × Tell (suc n) ds
 
-  pub front : (xs ys : List ℕ) (n : ℕ) → Tell n (xs ++ ys) → Tell n xs
+  front : (xs ys : List ℕ) (n : ℕ) → Tell n (xs ++ ys) → Tell n xs
   front [] ys n h = tt
   front (x ∷ xs) ys n h = (h.0, front xs ys (suc n) h.1)
 
-  pub back : (xs ys : List ℕ) (n m : ℕ) → n + length xs ≡ m → Tell n (xs ++ ys) → Tell m ys
+  back : (xs ys : List ℕ) (n m : ℕ) → n + length xs ≡ m → Tell n (xs ++ ys) → Tell m ys
   back [] ys n m e h = let same : n ≡ m = omega (arith, e) in subst (λ k. Tell k ys) same h
   back (x ∷ xs) ys n m e h = back xs ys (suc n) m (omega (arith, e)) h.1
+
+  -- so it is of lists in a row, where each begins behind the one before it
+  pub two : (xs ys : List ℕ) (n m : ℕ) → n + length xs ≡ m → Tell n (xs ++ ys) → Tell n xs × Tell m ys
+  two xs ys n m a h = (front xs ys n h, back xs ys n m a h)
+
+  pub three : (xs ys zs : List ℕ) (n m k : ℕ) → n + length xs ≡ m → m + length ys ≡ k → Tell n (xs ++ ys ++ zs) → Tell n xs × Tell m ys × Tell k zs
+  three xs ys zs n m k a b h =
+      let long = length-append xs ys in
+      let both = two (xs ++ ys) zs n k (omega (arith, long, a, b)) h in
+      let parts = two xs ys n m a both.0 in
+      (parts.0, parts.1, both.1)
+
+  pub four : (xs ys zs ws : List ℕ) (n m k j : ℕ) → n + length xs ≡ m → m + length ys ≡ k → k + length zs ≡ j → Tell n (xs ++ ys ++ zs ++ ws)
+      → Tell n xs × Tell m ys × Tell k zs × Tell j ws
+  four xs ys zs ws n m k j a b c h =
+      let long = length-append xs ys in
+      let longer = length-append (xs ++ ys) zs in
+      let both = two (xs ++ ys ++ zs) ws n j (omega (arith, long, longer, a, b, c)) h in
+      let parts = three xs ys zs n m k a b both.0 in
+      (parts.0, parts.1, parts.2, both.1)
 
 -- what goes straight on leaves what it pushes
 leaves_on : (op : Operation) → leaves op true ≡ pushes op
 leaves_on op = grind arith
+
+rises : (op : Operation) (p : At) {h : ℕ} → h ≡ p.values → raised h op true ≡ (behind_operation p op).values
+rises op p same = ap (λ k. raised k op true) same ∙ ap (λ k. p.values - takes op + k) (leaves_on op)
 
 module _ (functions : (binding : ℕ) → Signature) (place_of : (binding : ℕ) → Place) (depth : (site : ℕ) → ℕ) where
   abbrev all : At → Coded → List ℕ
@@ -37,103 +60,65 @@ module _ (functions : (binding : ℕ) → Signature) (place_of : (binding : ℕ)
   abbrev Tall : ℕ → Code ℕ → Type 0
   Tall h code = HasHeights place_of depth h code
 
-  from : (code : Code ℕ) {a b : ℕ} → a ≡ b → Tall b code → Tall a code
-  from code is h = subst (λ k. Tall k code) (sym is) h
-
-  abbrev up : ℕ → Coded → ℕ → ℕ
-  up n code h = height place_of h (numbered n code)
-
-  straight : (code : Coded) (p : At) (n : ℕ) → IsStraight code → Tell depth n (all p code) → Tall p.values (numbered n code)
-  straight done p n w h = tt
-  straight (perform t op rest) p n w h =
-      let same : raised p.values op true ≡ (behind_operation p op).values = ap (λ k. p.values - takes op + k) (leaves_on op) in
-      (h.0, from (numbered (suc n) rest) same (straight rest (behind_operation p op) (suc n) w h.1))
-  straight code p n w h = absurd w
+  straight : (code : Coded) (p : At) (n : ℕ) {h : ℕ} → h ≡ p.values → IsStraight code → Tell depth n (all p code) → Tall h (numbered n code)
+  straight done p n same w l = tt
+  straight (perform t op rest) p n same w l =
+      (l.0 ∙ sym same, straight rest (behind_operation p op) (suc n) (rises op p same) w l.1)
+  straight code p n same w l = absurd w
 
   -- in its parts the sites go on
   next : (code : Coded) (p : At) (n : ℕ) → n + length (all p code) ≡ n + size code
   next code p n = ap (λ k. n + k) (many functions code p)
 
-  pub tall : (code : Coded) (p : At) (n : ℕ) → Counted functions place_of code → HasOpenings code → Tell depth n (all p code) → Tall p.values (numbered n code)
-  tall done p n c w h = tt
-  tall (perform t op rest) p n c w h =
-      let e = raised_so functions place_of op true c.0 p in
-      (h.0, from (numbered (suc n) rest) e (tall rest (behind_operation p op) (suc n) c.1 w h.1))
-  tall (choose t op x y rest) p n c w h =
+  pub tall : (code : Coded) (p : At) (n : ℕ) {h : ℕ} → h ≡ p.values → Counted functions place_of code → HasOpenings code → Tell depth n (all p code) → Tall h (numbered n code)
+  tall done p n same c w l = tt
+  tall (perform t op rest) p n same c w l = (l.0 ∙ sym same, tall rest (behind_operation p op) (suc n) (rises op p same) c.1 w l.1)
+  tall (choose t op x y rest) p n same c w l =
       let f = behind_operation p op in
       let q : At = record { values = (behind functions f x).values; nesting = p.nesting } in
       let m = suc n + size x in
-      let xs = all f x in
-      let ys = all f y in
-      let both = front depth (xs ++ ys) (all q rest) (suc n) h.1 in
-      let k : suc n + length (xs ++ ys) ≡ m + size y = omega (arith, length-append xs ys, many functions x f, many functions y f) in
-      let e = raised_so functions place_of op true c.0 p in (
-        h.0,
-        from (numbered (suc n) x) e (tall x f (suc n) c.1 w.0 (front depth xs ys (suc n) both)),
-        from (numbered m y) (raised_so functions place_of op false c.0 p) (tall y f m c.2 w.1 (back depth xs ys (suc n) m (next x f (suc n)) both)),
-        from (numbered (m + size y) rest) (ap (up (suc n) x) e ∙ heights functions place_of x f (suc n) c.1)
-            (tall rest q (m + size y) c.3 w.2 (back depth (xs ++ ys) (all q rest) (suc n) (m + size y) k h.1)),
+      let ls = three depth (all f x) (all f y) (all q rest) (suc n) m (m + size y) (next x f (suc n)) (next y f m) l.1 in
+      let onward = rises op p same in (
+        l.0 ∙ sym same,
+        tall x f (suc n) onward c.1 w.0 ls.0,
+        tall y f m (raised_so functions place_of op false c.0 p same) c.2 w.1 ls.1,
+        tall rest q (m + size y) (heights functions place_of x f (suc n) onward c.1) c.3 w.2 ls.2,
       )
-  tall (while test body step rest) p n c w h =
+  tall (while test body step rest) p n same c w l =
       let b = n + size test in
       let s = b + size body in
-      let r = s + size step in
       let q = behind functions p test in
       let u = behind functions q body in
       let v = behind functions u step in
-      let ts = all p test in
-      let bs = all q body in
-      let ss = all u step in
-      let three = front depth (ts ++ bs ++ ss) (all v rest) n h in
-      let two = front depth (ts ++ bs) ss n three in
-      let first = heights functions place_of test p n c.0 in
-      let second = ap (up b body) first ∙ heights functions place_of body q b c.1 in
-      let third = ap (up s step) second ∙ heights functions place_of step u s c.2 in
-      let i = length-append ts bs in
-      let j = length-append (ts ++ bs) ss in
-      let nt = many functions test p in
-      let nb = many functions body q in
-      let ns = many functions step u in
-      let l : n + length (ts ++ bs) ≡ s = omega (arith, i, nt, nb) in
-      let k : n + length (ts ++ bs ++ ss) ≡ r = omega (arith, i, j, nt, nb, ns) in (
-        tall test p n c.0 w.0 (front depth ts bs n two),
-        from (numbered b body) first (tall body q b c.1 w.1 (back depth ts bs n b (next test p n) two)),
-        from (numbered s step) second (tall step u s c.2 w.2 (back depth (ts ++ bs) ss n s l three)),
-        from (numbered r rest) third (tall rest v r c.3 w.3 (back depth (ts ++ bs ++ ss) (all v rest) n r k h)),
+      let ls = four depth (all p test) (all q body) (all u step) (all v rest) n b s (s + size step) (next test p n) (next body q b) (next step u s) l in
+      let first = heights functions place_of test p n same c.0 in
+      let second = heights functions place_of body q b first c.1 in (
+        tall test p n same c.0 w.0 ls.0,
+        tall body q b first c.1 w.1 ls.1,
+        tall step u s second c.2 w.2 ls.2,
+        tall rest v (s + size step) (heights functions place_of step u s second c.2) c.3 w.3 ls.3,
       )
-  tall (until body test rest) p n c w h =
+  tall (until body test rest) p n same c w l =
       let t = n + size body in
-      let r = t + size test in
       let q = behind functions p body in
       let v = behind functions q test in
-      let bs = all p body in
-      let ts = all q test in
-      let two = front depth (bs ++ ts) (all v rest) n h in
-      let first = heights functions place_of body p n c.0 in
-      let second = ap (up t test) first ∙ heights functions place_of test q t c.1 in
-      let nb = many functions body p in
-      let nt = many functions test q in
-      let k : n + length (bs ++ ts) ≡ r = omega (arith, length-append bs ts, nb, nt) in (
-        tall body p n c.0 w.0 (front depth bs ts n two),
-        from (numbered t test) first (tall test q t c.1 w.1 (back depth bs ts n t (next body p n) two)),
-        from (numbered r rest) second (tall rest v r c.2 w.2 (back depth (bs ++ ts) (all v rest) n r k h)),
+      let ls = three depth (all p body) (all q test) (all v rest) n t (t + size test) (next body p n) (next test q t) l in
+      let first = heights functions place_of body p n same c.0 in (
+        tall body p n same c.0 w.0 ls.0,
+        tall test q t first c.1 w.1 ls.1,
+        tall rest v (t + size test) (heights functions place_of test q t first c.1) c.2 w.2 ls.2,
       )
-  tall (turn test body step rest) p n c w h = absurd c
-  tall (again test body step rest) p n c w h = absurd c
-  tall (quit t op rest) p n c w h =
-      let e = raised_so functions place_of op true c.0 p in
-      (h.0, from (numbered (suc n) rest) e (tall rest (behind_operation p op) (suc n) c.1 w h.1))
-  tall (break rest) p n c w h = tall rest p n c w h
-  tall (continue rest) p n c w h = tall rest p n c w h
-  tall (call t op f opening rest) p n c w h =
+  tall (turn test body step rest) p n same c w l = absurd c
+  tall (again test body step rest) p n same c w l = absurd c
+  tall (quit t op rest) p n same c w l = (l.0 ∙ sym same, tall rest (behind_operation p op) (suc n) (rises op p same) c.1 w l.1)
+  tall (break rest) p n same c w l = tall rest p n same c w l
+  tall (continue rest) p n same c w l = tall rest p n same c w l
+  tall (call t op f opening rest) p n same c w l =
       let q = behind_call functions p op f in
-      let os = all beginning opening in
-      let m = suc n + size opening in (
-        h.0,
-        straight opening beginning (suc n) w.0 (front depth os (all q rest) (suc n) h.1),
-        from (numbered m rest) (called_so functions place_of op f c.0 c.1 p)
-            (tall rest q m c.2 w.1 (back depth os (all q rest) (suc n) m (next opening beginning (suc n)) h.1)),
+      let m = suc n + size opening in
+      let ls = two depth (all beginning opening) (all q rest) (suc n) m (next opening beginning (suc n)) l.1 in (
+        l.0 ∙ sym same,
+        straight opening beginning (suc n) refl w.0 ls.0,
+        tall rest q m (called_so functions place_of op f c.0 c.1 p same) c.2 w.1 ls.1,
       )
-  tall (ends t op rest) p n c w h =
-      let e = raised_so functions place_of op true c.0 p in
-      (h.0, from (numbered (suc n) rest) e (tall rest (behind_operation p op) (suc n) c.1 w h.1))
+  tall (ends t op rest) p n same c w l = (l.0 ∙ sym same, tall rest (behind_operation p op) (suc n) (rises op p same) c.1 w l.1)

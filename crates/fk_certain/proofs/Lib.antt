@@ -2,9 +2,12 @@ mod InExpressions
 mod InStatements
 mod Whole
 pub mod WordNumbers
+mod References
 pub mod Near
+mod Parts
 pub mod Regions
 pub mod Taken
+mod Walk
 pub mod WordSlots
 pub mod WordRoom
 pub mod Bindings
@@ -15,6 +18,7 @@ mod Sizes
 mod Tokens
 mod Places
 mod Scalars
+mod Addresses
 mod Valid
 mod AskedNames
 mod Calls

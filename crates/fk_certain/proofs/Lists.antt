@@ -11,6 +11,7 @@ use Rattle.fk_globals.specs.Variables.{variables_of}
 use Rattle.fk_layout.specs.Frames.{file_privates}
 use Rattle.fk_layout.specs.Layout.{tables_by}
 use Rattle.fk_kept.specs.declared.places.Place.TheVariants.{Main}
+use Rattle.fk_flat.specs.Laws.{IsFlat}
 use Rattle.fk_kept.specs.Live.{words_in}
 use Rattle.fk_known.proofs.Enough.{knowledge_is_enough}
 use Rattle.fk_shapes.specs.Fitting.{is_defined}
@@ -36,7 +37,7 @@ use Rattle.fk_text.specs.Plain.{ArePlain}
 use Rattle.fk_shapes.specs.Fitting.{ProgramFits}
 use Rattle.fk_fitting.specs.Correct.{IsCorrect}
 use Rattle.fk_typed_code.specs.Typed.{AreTyped}
-use Rattle.fk_typed_code.specs.Laws.{HasHeightsOf}
+use Rattle.fk_typed_code.specs.Laws.{IsTypedList, HasHeightsOf}
 use Rattle.fk_typed_code.proofs.Depths.{typed_lists_have_depths}
 use Rattle.fk_typed_forms.proofs.Programs.{forms_are_typed}
 use Rattle.fk_certain.specs.Proper.{ProgramIsProper}
@@ -54,6 +55,14 @@ is_there tables (f ∷ fs) b is = by (binding_of tables f == b) (is_there tables
     by true others is = refl
     by false others is = others is
 
+typed_of : (program : ProgramTree) (facts : Facts) → IsCorrect program facts → ProgramIsTrim program → ProgramIsProper program
+    → let tables = tables_by program facts in
+    Fits tables program.items → ArePlain tables program
+    → (core : List CoreOp) (entry : (binding : ℕ) → ℕ) → IsFlat (bodies_of tables program) core entry → IsTypedList (bodies_of tables program) core entry (place_of tables program)
+typed_of program facts valid trim proper fits plain core entry flat =
+    let tables = tables_by program facts in
+    typed_list tables program core entry (correct_programs_are_asked program facts valid trim proper fits) plain (forms_are_shaped tables program (correct_programs_fit program facts valid trim)) flat
+
 pub correct_lists_are_steady : CorrectListsAreSteady
 correct_lists_are_steady program facts valid trim proper fits plain core entry flat =
     let tables = tables_by program facts in
@@ -63,7 +72,7 @@ correct_lists_are_steady program facts valid trim proper fits plain core entry f
     let shaped = forms_are_shaped tables program fitting in
     let place = (mains_have_their_place program facts valid).0 in
     let closed = functions_are_closed tables program fitting main (is_there tables (functions_of program.items) main place) in
-    let typed = typed_list tables program core entry asked plain shaped flat in
+    let typed = typed_of program facts valid trim proper fits plain core entry flat in
     record {
       within = lists_go_on_within tables program core entry asked plain shaped flat closed;
       plain = lists_are_plain tables program core entry plain flat;
@@ -74,10 +83,8 @@ pub correct_lists_have_frames : CorrectListsHaveFrames
 correct_lists_have_frames program facts valid trim proper fits plain core entry kept lowered =
     let tables = tables_by program facts in
     let main = main_of tables program in
-    let asked = correct_programs_are_asked program facts valid trim proper fits in
-    let shaped = forms_are_shaped tables program (correct_programs_fit program facts valid trim) in
     let place = (mains_have_their_place program facts valid).0 in
-    let typed = typed_list tables program core entry asked plain shaped lowered.flat in
+    let typed = typed_of program facts valid trim proper fits plain core entry lowered.flat in
     let count = length-map (variables_of false program.items) (first_of (told facts.notes.items facts.kinds.items)) in
     let suits = live_words_suit (bodies_of tables program) core entry (place_of tables program) (file_privates program.items) typed lowered.tall
     (correct_programs_have_room program facts valid trim proper fits plain) (words_in kept) lowered.live lowered.least main place in
@@ -106,10 +113,8 @@ pub lowered_lists_can_have_groups : LoweredListsCanHaveGroups
 lowered_lists_can_have_groups program facts known of valid trim proper fits plain core entry flat told =
     let tables = tables_by program facts in
     let main = main_of tables program in
-    let asked = correct_programs_are_asked program facts valid trim proper fits in
-    let shaped = forms_are_shaped tables program (correct_programs_fit program facts valid trim) in
     let place = (mains_have_their_place program facts valid).0 in
-    let typed = typed_list tables program core entry asked plain shaped flat in
+    let typed = typed_of program facts valid trim proper fits plain core entry flat in
     let high = tall program facts known of valid trim proper fits plain core told in
     let deep = typed_lists_have_depths (bodies_of tables program) core entry (place_of tables program) typed high main place in
     record {

@@ -1,5 +1,5 @@
 -- Code has few values at each of its places, where the layout counts as few.
-use Rattle.std.proofs.Common.{◌≡◌, ℕ, suc, ◌+◌, ◌-◌, ◌≤◌, Bool, true, false, true≢false, List, [], ◌∷◌, ◌++◌, Option, Some, refl, sym, ap, subst, ◌∙◌, arith}
+use Rattle.std.proofs.Common.{◌≡◌, ℕ, suc, ◌+◌, ◌-◌, ◌≤◌, Bool, true, false, true≢false, List, [], ◌∷◌, Option, Some, refl, sym, ap, ◌∙◌, arith}
 use Rattle.std.specs.Prelude.{not}
 use Rattle.fk_operation.specs.declared.operation.Operation.{Operation}
 use Rattle.fk_operation.specs.declared.operation.Operation.TheVariants as o
@@ -7,7 +7,7 @@ use Rattle.fk_sizes.specs.Operations.{takes, pushes}
 use Rattle.fk_sizes.specs.Operations as z
 use Rattle.fk_sizes.specs.Places.{At, behind_operation, behind_call, behind, places, most_values}
 use Rattle.fk_depths.specs.Local.{results, leaves}
-use Rattle.fk_forms.specs.Code.{Code, done, perform, choose, while, until, turn, again, quit, break, continue, call, ends, size, numbered}
+use Rattle.fk_forms.specs.Code.{done, perform, choose, while, until, turn, again, quit, break, continue, call, ends, size, numbered}
 use Rattle.fk_forms.specs.Expressions.{Coded, Signature}
 use Rattle.fk_kept.specs.declared.places.Place.{Place}
 use Rattle.fk_kept.specs.declared.places.Place.TheVariants.{Called}
@@ -19,7 +19,9 @@ use Rattle.fk_typed_code.specs.Values as w
 use Rattle.fk_typed_code.specs.Typed.{Typed}
 use Rattle.fk_typed_code.specs.Heights.{raised, results_of, height}
 use Rattle.fk_typed_forms.proofs.Along.{AllOf}
+use Rattle.fk_fitting.proofs.Each.{Each}
 use Rattle.fk_certain.specs.Room.{HasFew}
+use Rattle.fk_certain.proofs.Parts.{three_of, four_of}
 
 -- an operation that is plain leaves as many values on both ways
 leaves_so : (op : Operation) (onward : Bool) → is_plain op ≡ true → leaves op onward ≡ pushes op
@@ -28,20 +30,11 @@ leaves_so op onward e = refl
 
 -- so many values are at each of these places
 abbrev pub AreLow : (most : ℕ) → List At → Type 0
-AreLow most [] = Unit {0}
-AreLow most (p ∷ ps) = (p.values ≤ most) × AreLow most ps
+AreLow most ps = Each (λ (p : At). p.values ≤ most) ps
 
 pub low : (most : ℕ) (ps : List At) → most_values ps ≤ most → AreLow most ps
 low most [] h = tt
 low most (p ∷ ps) h = (omega (arith, h), low most ps (omega (arith, h)))
-
-front : (most : ℕ) (ps qs : List At) → AreLow most (ps ++ qs) → AreLow most ps
-front most [] qs h = tt
-front most (p ∷ ps) qs h = (h.0, front most ps qs h.1)
-
-back : (most : ℕ) (ps qs : List At) → AreLow most (ps ++ qs) → AreLow most qs
-back most [] qs h = h
-back most (p ∷ ps) qs h = back most ps qs h.1
 
 -- an operation that calls pushes nothing by itself
 pushes_none : (op : Operation) → way_of op ≡ into → pushes op ≡ 0
@@ -116,114 +109,86 @@ module _ (functions : (binding : ℕ) → Signature) (place_of : (binding : ℕ)
   )
   counted agree has (ends t op rest) n i l s e sh ty b = (b.0, counted agree has rest (suc n) i l (w.behind op true s) e sh.1 ty.2 b.1)
 
-  pub raised_so : (op : Operation) (onward : Bool) → is_plain op ≡ true → (p : At) → raised p.values op onward ≡ (behind_operation p op).values
-  raised_so op onward e p = ap (λ k. p.values - takes op + k) (leaves_so op onward e)
+  -- where so many values stand as are told of a place, so many stand behind an operation, a call and code as are told
+  pub raised_so : (op : Operation) (onward : Bool) → is_plain op ≡ true → (p : At) {h : ℕ} → h ≡ p.values → raised h op onward ≡ (behind_operation p op).values
+  raised_so op onward e p same = ap (λ k. raised k op onward) same ∙ ap (λ k. p.values - takes op + k) (leaves_so op onward e)
 
-  pub called_so : (op : Operation) (f : ℕ) → pushes op ≡ 0 → results_of (place_of f) ≡ z.results (functions f).void → (p : At)
-      → p.values - takes op + results_of (place_of f) ≡ (behind_call functions p op f).values
-  called_so op f none gives p = omega (arith, none, gives)
+  pub called_so : (op : Operation) (f : ℕ) → pushes op ≡ 0 → results_of (place_of f) ≡ z.results (functions f).void → (p : At) {h : ℕ} → h ≡ p.values
+      → h - takes op + results_of (place_of f) ≡ (behind_call functions p op f).values
+  called_so op f none gives p same = omega (arith, none, gives, same)
 
-  abbrev up : ℕ → Coded → ℕ → ℕ
-  up n code h = height place_of h (numbered n code)
-
-  pub heights : (code : Coded) (p : At) (n : ℕ) → Counted code → up n code p.values ≡ (behind functions p code).values
-  heights done p n c = refl
-  heights (perform t op rest) p n c = ap (up (suc n) rest) (raised_so op true c.0 p) ∙ heights rest (behind_operation p op) (suc n) c.1
-  heights (choose t op x y rest) p n c =
-      let k = suc n + size x + size y in
-      ap (λ h. up k rest (up (suc n) x h)) (raised_so op true c.0 p)
-      ∙ ap (up k rest) (heights x (behind_operation p op) (suc n) c.1)
-      ∙ heights rest (record { values = (behind functions (behind_operation p op) x).values; nesting = p.nesting }) k c.3
-  heights (while test body step rest) p n c =
-      let b = n + size test in
-      let s = b + size body in
-      let r = s + size step in
+  pub heights : (code : Coded) (p : At) (n : ℕ) {h : ℕ} → h ≡ p.values → Counted code → height place_of h (numbered n code) ≡ (behind functions p code).values
+  heights done p n same c = same
+  heights (perform t op rest) p n same c = heights rest (behind_operation p op) (suc n) (raised_so op true c.0 p same) c.1
+  heights (choose t op x y rest) p n same c =
+      let q : At = record { values = (behind functions (behind_operation p op) x).values; nesting = p.nesting } in
+      heights rest q (suc n + size x + size y) (heights x (behind_operation p op) (suc n) (raised_so op true c.0 p same) c.1) c.3
+  heights (while test body step rest) p n same c =
       let q = behind functions p test in
-      ap (λ h. up r rest (up s step (up b body h))) (heights test p n c.0)
-      ∙ ap (λ h. up r rest (up s step h)) (heights body q b c.1)
-      ∙ ap (up r rest) (heights step (behind functions q body) s c.2)
-      ∙ heights rest (behind functions (behind functions q body) step) r c.3
-  heights (until body test rest) p n c =
-      let t = n + size body in
-      let r = t + size test in
-      ap (λ h. up r rest (up t test h)) (heights body p n c.0)
-      ∙ ap (up r rest) (heights test (behind functions p body) t c.1)
-      ∙ heights rest (behind functions (behind functions p body) test) r c.2
-  heights (turn test body step rest) p n c = absurd c
-  heights (again test body step rest) p n c = absurd c
-  heights (quit t op rest) p n c = ap (up (suc n) rest) (raised_so op true c.0 p) ∙ heights rest (behind_operation p op) (suc n) c.1
-  heights (break rest) p n c = heights rest p n c
-  heights (continue rest) p n c = heights rest p n c
-  heights (call t op f opening rest) p n c =
-      ap (up (suc n + size opening) rest) (called_so op f c.0 c.1 p) ∙ heights rest (behind_call functions p op f) (suc n + size opening) c.2
-  heights (ends t op rest) p n c = ap (up (suc n) rest) (raised_so op true c.0 p) ∙ heights rest (behind_operation p op) (suc n) c.1
+      let u = behind functions q body in
+      let first = heights test p n same c.0 in
+      let second = heights body q (n + size test) first c.1 in
+      heights rest (behind functions u step) (n + size test + size body + size step) (heights step u (n + size test + size body) second c.2) c.3
+  heights (until body test rest) p n same c =
+      let q = behind functions p body in
+      heights rest (behind functions q test) (n + size body + size test) (heights test q (n + size body) (heights body p n same c.0) c.1) c.2
+  heights (turn test body step rest) p n same c = absurd c
+  heights (again test body step rest) p n same c = absurd c
+  heights (quit t op rest) p n same c = heights rest (behind_operation p op) (suc n) (raised_so op true c.0 p same) c.1
+  heights (break rest) p n same c = heights rest p n same c
+  heights (continue rest) p n same c = heights rest p n same c
+  heights (call t op f opening rest) p n same c = heights rest (behind_call functions p op f) (suc n + size opening) (called_so op f c.0 c.1 p same) c.2
+  heights (ends t op rest) p n same c = heights rest (behind_operation p op) (suc n) (raised_so op true c.0 p same) c.1
 
   module _ (most : ℕ) where
-    abbrev Low : ℕ → Code ℕ → Type 0
-    Low h code = HasFew place_of most h code
+    abbrev IsLow : At → Type 0
+    IsLow p = p.values ≤ most
 
-    from : (code : Code ℕ) {a b : ℕ} → a ≡ b → Low b code → Low a code
-    from code is h = subst (λ k. Low k code) (sym is) h
+    here : (p : At) {h : ℕ} → h ≡ p.values → IsLow p → h ≤ most
+    here p same few = omega (arith, same, few)
 
-    pub lows : (code : Coded) (p : At) (n : ℕ) → Counted code → AreLow most (places functions p code) → Low p.values (numbered n code)
-    lows done p n c h = h.0
-    lows (perform t op rest) p n c h =
-        (h.0, from (numbered (suc n) rest) (raised_so op true c.0 p) (lows rest (behind_operation p op) (suc n) c.1 h.1))
-    lows (choose t op x y rest) p n c h =
-        let k = suc n + size x + size y in
+    pub lows : (code : Coded) (p : At) (n : ℕ) {h : ℕ} → h ≡ p.values → Counted code → AreLow most (places functions p code) → HasFew place_of most h (numbered n code)
+    lows done p n same c l = here p same l.0
+    lows (perform t op rest) p n same c l = (here p same l.0, lows rest (behind_operation p op) (suc n) (raised_so op true c.0 p same) c.1 l.1)
+    lows (choose t op x y rest) p n same c l =
         let f = behind_operation p op in
         let q : At = record { values = (behind functions f x).values; nesting = p.nesting } in
-        let both = front most (places functions f x ++ places functions f y) (places functions q rest) h.1 in (
-          h.0,
-          from (numbered (suc n) x) (raised_so op true c.0 p) (lows x f (suc n) c.1 (front most (places functions f x) (places functions f y) both)),
-          from (numbered (suc n + size x) y) (raised_so op false c.0 p)
-              (lows y f (suc n + size x) c.2 (back most (places functions f x) (places functions f y) both)),
-          from (numbered k rest) (ap (up (suc n) x) (raised_so op true c.0 p) ∙ heights x f (suc n) c.1)
-              (lows rest q k c.3 (back most (places functions f x ++ places functions f y) (places functions q rest) h.1)),
+        let ls = three_of IsLow (places functions f x) (places functions f y) (places functions q rest) l.1 in
+        let onward = raised_so op true c.0 p same in (
+          here p same l.0,
+          lows x f (suc n) onward c.1 ls.0,
+          lows y f (suc n + size x) (raised_so op false c.0 p same) c.2 ls.1,
+          lows rest q (suc n + size x + size y) (heights x f (suc n) onward c.1) c.3 ls.2,
         )
-    lows (while test body step rest) p n c h =
+    lows (while test body step rest) p n same c l =
         let b = n + size test in
-        let s = b + size body in
-        let r = s + size step in
         let q = behind functions p test in
         let u = behind functions q body in
         let v = behind functions u step in
-        let ps = places functions p test in
-        let qs = places functions q body in
-        let us = places functions u step in
-        let three = front most (ps ++ qs ++ us) (places functions v rest) h in
-        let two = front most (ps ++ qs) us three in
-        let first = heights test p n c.0 in
-        let second = ap (up b body) first ∙ heights body q b c.1 in
-        let third = ap (up s step) second ∙ heights step u s c.2 in (
-          lows test p n c.0 (front most ps qs two),
-          from (numbered b body) first (lows body q b c.1 (back most ps qs two)),
-          from (numbered s step) second (lows step u s c.2 (back most (ps ++ qs) us three)),
-          from (numbered r rest) third (lows rest v r c.3 (back most (ps ++ qs ++ us) (places functions v rest) h)),
+        let ls = four_of IsLow (places functions p test) (places functions q body) (places functions u step) (places functions v rest) l in
+        let first = heights test p n same c.0 in
+        let second = heights body q b first c.1 in
+        let third = heights step u (b + size body) second c.2 in (
+          lows test p n same c.0 ls.0,
+          lows body q b first c.1 ls.1,
+          lows step u (b + size body) second c.2 ls.2,
+          lows rest v (b + size body + size step) third c.3 ls.3,
         )
-    lows (until body test rest) p n c h =
+    lows (until body test rest) p n same c l =
         let t = n + size body in
-        let r = t + size test in
         let q = behind functions p body in
         let v = behind functions q test in
-        let ps = places functions p body in
-        let qs = places functions q test in
-        let two = front most (ps ++ qs) (places functions v rest) h in
-        let first = heights body p n c.0 in
-        let second = ap (up t test) first ∙ heights test q t c.1 in (
-          lows body p n c.0 (front most ps qs two),
-          from (numbered t test) first (lows test q t c.1 (back most ps qs two)),
-          from (numbered r rest) second (lows rest v r c.2 (back most (ps ++ qs) (places functions v rest) h)),
+        let ls = three_of IsLow (places functions p body) (places functions q test) (places functions v rest) l in
+        let first = heights body p n same c.0 in (
+          lows body p n same c.0 ls.0,
+          lows test q t first c.1 ls.1,
+          lows rest v (t + size test) (heights test q t first c.1) c.2 ls.2,
         )
-    lows (turn test body step rest) p n c h = absurd c
-    lows (again test body step rest) p n c h = absurd c
-    lows (quit t op rest) p n c h =
-        (h.0, from (numbered (suc n) rest) (raised_so op true c.0 p) (lows rest (behind_operation p op) (suc n) c.1 h.1))
-    lows (break rest) p n c h = lows rest p n c h
-    lows (continue rest) p n c h = lows rest p n c h
-    lows (call t op f opening rest) p n c h = (
-      h.0,
-      from (numbered (suc n + size opening) rest) (called_so op f c.0 c.1 p) (lows rest (behind_call functions p op f) (suc n + size opening) c.2 h.1.1),
-    )
-    lows (ends t op rest) p n c h =
-        (h.0, from (numbered (suc n) rest) (raised_so op true c.0 p) (lows rest (behind_operation p op) (suc n) c.1 h.1))
+    lows (turn test body step rest) p n same c l = absurd c
+    lows (again test body step rest) p n same c l = absurd c
+    lows (quit t op rest) p n same c l = (here p same l.0, lows rest (behind_operation p op) (suc n) (raised_so op true c.0 p same) c.1 l.1)
+    lows (break rest) p n same c l = lows rest p n same c l
+    lows (continue rest) p n same c l = lows rest p n same c l
+    lows (call t op f opening rest) p n same c l =
+        (here p same l.0, lows rest (behind_call functions p op f) (suc n + size opening) (called_so op f c.0 c.1 p same) c.2 l.1.1)
+    lows (ends t op rest) p n same c l = (here p same l.0, lows rest (behind_operation p op) (suc n) (raised_so op true c.0 p same) c.1 l.1)

@@ -1,10 +1,9 @@
 -- A member of a struct at a constant address has its words there; and members have types that may be declared.
-use Rattle.std.proofs.Common.{◌≡◌, ℕ, zero, suc, ◌+◌, ◌*◌, ◌%◌, ◌^◌, ◌≤◌, false, List, Option, Some, None, slice_get, refl, sym, ap, subst, ◌∙◌, arith}
+use Rattle.std.proofs.Common.{◌≡◌, ℕ, zero, suc, ◌+◌, ◌*◌, ◌%◌, ◌^◌, ◌≤◌, false, Option, Some, None, slice_get, refl, sym, ap, subst, ◌∙◌, arith}
 use Rattle.std.specs.Prelude.{is_some, if◌then◌else◌}
 use Rattle.std.specs.Option.{option_map, option_and_then}
 use Rattle.std.proofs.lemmas.List.{length-map}
 use Rattle.std.proofs.lemmas.Option.{same_Some}
-use Rattle.fk_typing.specs.Names.{Env}
 use Rattle.fk_syntax.specs.declared.facts.Facts.{Facts}
 use Rattle.fk_syntax.specs.declared.place.Spot.{Spot}
 use Rattle.fk_syntax.specs.Tree.{Named}
@@ -32,14 +31,13 @@ use Rattle.fk_fitting.proofs.Notes.{binding_is}
 use Rattle.fk_typed_forms.specs.Typed.{MemberIs}
 use Rattle.fk_certain.proofs.Sizes.{IsSound, first_within, has_sound, member_lies}
 use Rattle.fk_certain.proofs.Tokens.{IsSoundType}
-use Rattle.fk_certain.proofs.Valid.{IsGiven, E, T, F, P, Referred, Noting}
-use Rattle.fk_certain.proofs.AskedNames.{HasRoom}
+use Rattle.fk_certain.proofs.Valid.{IsGiven, about}
 
 then_some : {X Y : Type 0} (f : X → Option Y) (o : Option X) (y : Y) → option_and_then f o ≡ Some y → (x : X) × (o ≡ Some x) × (f x ≡ Some y)
 then_some f None y h = absurd (cc)
 then_some f (Some x) y h = (x, refl, h)
 
-map_some : {X Y : Type 0} (f : X → Y) (o : Option X) (y : Y) → option_map f o ≡ Some y → (x : X) × (o ≡ Some x) × (f x ≡ y)
+pub map_some : {X Y : Type 0} (f : X → Y) (o : Option X) (y : Y) → option_map f o ≡ Some y → (x : X) × (o ≡ Some x) × (f x ≡ y)
 map_some f None y h = absurd (cc)
 map_some f (Some x) y h = (x, refl, same_Some (f x) y h)
 
@@ -64,14 +62,7 @@ behind : (address index offset binding : ℕ) → address ≡ 0x10000000 + 4 * i
 behind address index offset binding at same few = omega (arith, at, same, few)
 
 module _ (program : ProgramTree) (facts : Facts) (given : IsGiven program facts) where
-  abbrev env : Env
-  env = E program facts given
-
-  abbrev structs : List StructTree
-  structs = env.structs
-
-  abbrev Room : (address : ℕ) → DataType → Type 0
-  Room = HasRoom structs
+  open about program facts given use {env, structs, tables, functions, places, Room, Referred, Noting}
 
   -- a member of a name is declared
   record IsMember (index : ℕ) (name : Named) (type : DataType) : Type 0 where
@@ -104,9 +95,9 @@ module _ (program : ProgramTree) (facts : Facts) (given : IsGiven program facts)
       let one : has.type ≡ m.1 = same_Some has.type m.1 (sym has.is ∙ m.4.is) in
       subst (IsSoundType structs) (sym m.3) (λ some. subst (IsSound structs) one has.sound)
 
-  pub member_room : (at : ℕ) (spot : Spot) (before : Term) (name : Named) → Referred program facts given (Member at false name)
-      → Noting program facts given (record { at = at; type = type_of env before })
-      → MemberIs Room env (T program facts given) (F program facts given) (P program facts given) spot before name
+  pub member_room : (at : ℕ) (spot : Spot) (before : Term) (name : Named) → Referred (Member at false name)
+      → Noting (record { at = at; type = type_of env before })
+      → MemberIs Room env tables functions places spot before name
   member_room at spot before name referred noted address type member typed has room =
       let m = member_is (option_and_then struct_of (type_of env before)) name (Stored member) has in
       let index : struct_of (Stored type) ≡ Some m.0 = sym (ap (option_and_then struct_of) typed) ∙ m.2 in
@@ -115,7 +106,7 @@ module _ (program : ProgramTree) (facts : Facts) (given : IsGiven program facts)
       let words = subst (λ t. HasTypeWords structs t room.words) (whole_is type m.0 index) room.has in
       let lies = member_lies structs m.0 x.place x.struct x.declared member room.words x.at x.there (x.is ∙ ap Some one) words in
       let low = references_below program given.correct.well_formed (Member at false name) referred in
-      let here = subst (λ o. Noting program facts given (record { at = at; type = o })) typed noted in
+      let here = subst (λ o. Noting (record { at = at; type = o })) typed noted in
       let binding = binding_is program facts given.correct name.at (capped lies.offset) low
       (b.refers (Member at false name) (capped lies.offset) referred refl (b.member at false name (Stored type) m.0 x.place lies.offset here index x.named lies.lies)) in
       let inner = lies.within in
@@ -123,7 +114,7 @@ module _ (program : ProgramTree) (facts : Facts) (given : IsGiven program facts)
       record {
         index = room.index + lies.offset;
         words = lies.own;
-        is = behind address room.index lies.offset (note (T program facts given) name.at).binding room.is binding (omega (arith, inner, outer));
+        is = behind address room.index lies.offset (note tables name.at).binding room.is binding (omega (arith, inner, outer));
         has = lies.has;
         within = omega (arith, inner, outer);
       }

@@ -1,5 +1,5 @@
 -- The code of statements and functions names words that are there, where each name that is used means a declaration with its word.
-use Rattle.std.proofs.Common.{◌≡◌, ℕ, ◌≤◌, Bool, true, false, true≢false, List, [], ◌∷◌, ◌++◌, length, Option, Some, None, sym, refl}
+use Rattle.std.proofs.Common.{◌≡◌, ℕ, ◌≤◌, Bool, true, false, true≢false, List, [], ◌∷◌, length, Option, Some, None, refl}
 use Rattle.std.specs.Prelude.{◌==◌, if◌then◌else◌}
 use Rattle.fk_syntax.specs.declared.place.Spot.{Spot}
 use Rattle.fk_syntax.specs.Tree.{Named, Tree}
@@ -19,7 +19,9 @@ use Rattle.fk_forms.specs.Tables.{Tables, no_binding, note, slot}
 use Rattle.fk_forms.specs.Expressions.{Coded, nowhere, plain, agreed, Signature, Standing, addressed, assigned, predeclared, placed, variable, value}
 use Rattle.fk_forms.specs.Statements.{Inside, is_scalar, used_or, value_or, declared, all_declared, part_frame, leaving, tested, looping, left_by, executed, all_executed, end_of, body_of}
 use Rattle.fk_shapes.specs.Fitting.{Fits, OptionFits, OptionConditionFits, VariablesFit, StatementFits, StatementsFit}
-use Rattle.fk_certain.specs.Named.{HasWord, AreNamed}
+use Rattle.fk_fitting.proofs.Each.{Each, front_of}
+use Rattle.fk_certain.specs.Named.{HasWord, IsNamed}
+use Rattle.fk_certain.proofs.Parts.{two_of, three_of, four_of}
 use Rattle.fk_certain.proofs.Ok.{names_none, freely, sets, Ok, ended, on, branch, looped, looped_first, quits, broken, continued, left}
 use Rattle.fk_certain.proofs.Forms as e
 
@@ -32,17 +34,14 @@ module _ (tables : Tables) (functions : (binding : ℕ) → Signature) (has_body
   Keeps f = (rest : Coded) → Fine rest → Fine (f rest)
 
   -- names among marks
+  abbrev Is : MarkTree → Type 0
+  Is = IsNamed tables firsts words
+
   abbrev Scoped : List MarkTree → Type 0
-  Scoped marks = AreNamed tables firsts words marks
-
-  front : (xs ys : List MarkTree) → Scoped (xs ++ ys) → Scoped xs
-  front xs ys h = e.front tables firsts words xs ys h
-
-  back : (xs ys : List MarkTree) → Scoped (xs ++ ys) → Scoped ys
-  back xs ys h = e.back tables firsts words xs ys h
+  Scoped marks = Each Is marks
 
   inside : (marks : List MarkTree) → Scoped (scope marks) → Scoped marks
-  inside marks h = front marks (Closes ∷ []) h.1
+  inside marks h = front_of Is marks (Closes ∷ []) h.1
 
   -- of expressions
   does : {op : Operation} {rest : Coded} → names_none op ≡ true → Fine rest → Fine (plain op rest)
@@ -100,8 +99,8 @@ module _ (tables : Tables) (functions : (binding : ℕ) → Signature) (has_body
   all_declare : (xs : List DeclaredTree) → VariablesFit tables functions has_body xs → Scoped (variables_marks xs) → Keeps (all_declared tables functions xs)
   all_declare [] fits asks rest q = q
   all_declare (x ∷ xs) fits asks rest q =
-      declares_one x fits.0 (front (variable_marks x) (variables_marks xs) asks) (all_declared tables functions xs rest)
-      (all_declare xs fits.1 (back (variable_marks x) (variables_marks xs) asks) rest q)
+      let ms = two_of Is (variable_marks x) (variables_marks xs) asks in
+      declares_one x fits.0 ms.0 (all_declared tables functions xs rest) (all_declare xs fits.1 ms.1 rest q)
 
   -- ---- statements
 
@@ -152,83 +151,61 @@ module _ (tables : Tables) (functions : (binding : ℕ) → Signature) (has_body
     statement i l (m.Declare variables) fits asks rest q = all_declare variables fits asks rest q
     statement i l (m.If spot condition first) fits asks rest q =
         let here = note tables spot.at in
-        let t = tree_marks condition in
-        let b = statement_marks first in
+        let ms = two_of Is (tree_marks condition) (scope (statement_marks first)) asks in
         let body = executed tables functions i first in
-        let runs = statement i l first fits.1 (inside b (back t (scope b) asks)) in
+        let runs = statement i l first fits.1 (inside (statement_marks first) ms.1) in
         let parted = choose spot.place (o.Divide IfAlone) (part_frame tables functions spot 0 (body (plain o.End done))) done (plain o.Resume rest) in
         let branched = choose nowhere (o.Branch true) (body done) done rest in
-        values condition fits.0 (front t (scope b) asks) (if here.splits then parted else agreed here.sync branched)
+        values condition fits.0 ms.0 (if here.splits then parted else agreed here.sync branched)
         (any here.splits parted (agreed here.sync branched)
         (branch (freely firsts words (o.Divide IfAlone) refl) (parts spot 0 body runs) ended (does refl q))
         (agreeing here.sync branched (branch (freely firsts words (o.Branch true) refl) (runs done ended) ended q)))
     statement i l (m.IfElse spot condition first second') fits asks rest q =
         let here = note tables spot.at in
-        let t = tree_marks condition in
-        let b = statement_marks first in
-        let d = statement_marks second' in
-        let two = front (t ++ scope b) (scope d) asks in
+        let ms = three_of Is (tree_marks condition) (scope (statement_marks first)) (scope (statement_marks second')) asks in
         let x = executed tables functions i first in
         let y = executed tables functions i second' in
-        let runs_x = statement i l first fits.1 (inside b (back t (scope b) two)) in
-        let runs_y = statement i l second' fits.2 (inside d (back (t ++ scope b) (scope d) asks)) in
+        let runs_x = statement i l first fits.1 (inside (statement_marks first) ms.1) in
+        let runs_y = statement i l second' fits.2 (inside (statement_marks second') ms.2) in
         let parted = choose spot.place (o.Divide IfElse) (part_frame tables functions spot 0 (x (plain o.End done))) (part_frame tables functions spot 1 (y (plain o.End done))) (plain o.Resume rest) in
         let branched = choose nowhere (o.Branch true) (x done) (y done) rest in
-        values condition fits.0 (front t (scope b) two) (if here.splits then parted else agreed here.sync branched)
+        values condition fits.0 ms.0 (if here.splits then parted else agreed here.sync branched)
         (any here.splits parted (agreed here.sync branched)
         (branch (freely firsts words (o.Divide IfElse) refl) (parts spot 0 x runs_x) (parts spot 1 y runs_y) (does refl q))
         (agreeing here.sync branched (branch (freely firsts words (o.Branch true) refl) (runs_x done ended) (runs_y done ended) q)))
     statement i l (m.While spot condition body) fits asks rest q =
-        let t = tree_marks condition in
-        let b = statement_marks body in
-        let run = executed tables functions i body in
-        let runs = statement i true body fits.1 (inside b (back t (scope b) asks)) in
-        loops spot (c.while (tested tables functions spot (Some condition)) (run done) done)
-        (λ rest' q'. looped (tests spot (Some condition) fits.0.0 (front t (scope b) asks)) (runs done ended) ended q') rest q
+        let ms = two_of Is (tree_marks condition) (scope (statement_marks body)) asks in
+        let runs = statement i true body fits.1 (inside (statement_marks body) ms.1) in
+        loops spot (c.while (tested tables functions spot (Some condition)) (executed tables functions i body done) done)
+        (λ rest' q'. looped (tests spot (Some condition) fits.0.0 ms.0) (runs done ended) ended q') rest q
     statement i l (m.DoWhile spot body condition) fits asks rest q =
-        let t = tree_marks condition in
-        let b = statement_marks body in
-        let run = executed tables functions i body in
-        let runs = statement i true body fits.1 (inside b (front (scope b) t asks)) in
-        loops spot (c.until (run done) (tested tables functions spot (Some condition)))
-        (λ rest' q'. looped_first (runs done ended) (tests spot (Some condition) fits.0.0 (back (scope b) t asks)) q') rest q
+        let ms = two_of Is (scope (statement_marks body)) (tree_marks condition) asks in
+        let runs = statement i true body fits.1 (inside (statement_marks body) ms.0) in
+        loops spot (c.until (executed tables functions i body done) (tested tables functions spot (Some condition)))
+        (λ rest' q'. looped_first (runs done ended) (tests spot (Some condition) fits.0.0 ms.1) q') rest q
     statement i l (m.For spot before condition after body) fits asks rest q =
-        let a = optional_marks before in
-        let t = optional_marks condition in
-        let d = optional_marks after in
-        let b = statement_marks body in
-        let three = front (a ++ t ++ d) (scope b) asks in
-        let two = front (a ++ t) d three in
-        let run = executed tables functions i body in
-        let runs = statement i true body fits.3 (inside b (back (a ++ t ++ d) (scope b) asks)) in
-        let loop = c.while (tested tables functions spot condition) (run done) (used_or tables functions after done) in
-        e.uses_or tables functions has_body firsts words room before fits.0 (front a t two) (looping tables functions spot loop rest)
+        let ms = four_of Is (optional_marks before) (optional_marks condition) (optional_marks after) (scope (statement_marks body)) asks in
+        let runs = statement i true body fits.3 (inside (statement_marks body) ms.3) in
+        let loop = c.while (tested tables functions spot condition) (executed tables functions i body done) (used_or tables functions after done) in
+        e.uses_or tables functions has_body firsts words room before fits.0 ms.0 (looping tables functions spot loop rest)
         (loops spot loop
-        (λ rest' q'. looped (tests spot condition (condition_fits condition fits.1) (back a t two)) (runs done ended)
-        (e.uses_or tables functions has_body firsts words room after fits.2 (back (a ++ t) d three) done ended) q') rest q)
+        (λ rest' q'. looped (tests spot condition (condition_fits condition fits.1) ms.1) (runs done ended)
+        (e.uses_or tables functions has_body firsts words room after fits.2 ms.2 done ended) q') rest q)
     statement i l (m.Start spot count body) fits asks rest q =
-        let t = optional_marks count in
-        let b = statement_marks body in
+        let ms = two_of Is (optional_marks count) (scope (statement_marks body)) asks in
         let run = executed tables functions i body in
-        given_or (plain (o.Get n.Processors)) (λ rest' q'. does refl q') count fits.0 (front t (scope b) asks)
+        given_or (plain (o.Get n.Processors)) (λ rest' q'. does refl q') count fits.0 ms.0
         (choose nowhere o.Begin (part_frame tables functions spot 0 (run (plain o.End done))) done (plain o.Resume rest))
-        (branch (freely firsts words o.Begin refl) (parts spot 0 run (statement i l body fits.1 (inside b (back t (scope b) asks)))) ended (does refl q))
+        (branch (freely firsts words o.Begin refl) (parts spot 0 run (statement i l body fits.1 (inside (statement_marks body) ms.1))) ended (does refl q))
     statement i l (m.Fork spot k number rank body) fits asks rest q =
-        let a = tree_marks k in
-        let t = tree_marks number in
-        let d = optional_marks rank in
-        let b = statement_marks body in
-        let three = front (a ++ t ++ d) (scope b) asks in
-        let two = front (a ++ t) d three in
+        let ms = four_of Is (tree_marks k) (tree_marks number) (optional_marks rank) (scope (statement_marks body)) asks in
         let run = executed tables functions i body in
         let split = choose spot.place (o.Divide Fork) (part_frame tables functions spot 0 (run (plain o.End done))) done (plain o.Resume rest) in
         let ranked = value_or tables functions (plain (o.Get n.Rank)) rank split in
-        let numbered' = value tables functions number ranked in
-        values k fits.0 (front a t two) (plain o.Agree numbered') (does refl
-        (values number fits.1 (back a t two) ranked
-        (given_or (plain (o.Get n.Rank)) (λ rest' q'. does refl q') rank fits.2 (back (a ++ t) d three) split
-        (branch (freely firsts words (o.Divide Fork) refl)
-        (parts spot 0 run (statement i l body fits.3 (inside b (back (a ++ t ++ d) (scope b) asks)))) ended (does refl q)))))
+        values k fits.0 ms.0 (plain o.Agree (value tables functions number ranked)) (does refl
+        (values number fits.1 ms.1 ranked
+        (given_or (plain (o.Get n.Rank)) (λ rest' q'. does refl q') rank fits.2 ms.2 split
+        (branch (freely firsts words (o.Divide Fork) refl) (parts spot 0 run (statement i l body fits.3 (inside (statement_marks body) ms.3))) ended (does refl q)))))
     statement i l (m.Farm spot body) fits asks rest q =
         branch (freely firsts words o.Farm refl) (statement i l body fits (inside (statement_marks body) asks) done ended) ended (does refl q)
     statement i l (m.Seq spot body) fits asks rest q =
@@ -242,8 +219,8 @@ module _ (tables : Tables) (functions : (binding : ℕ) → Signature) (has_body
         → Keeps (all_executed tables functions i ss)
     all_statements i l m.no_statements fits asks rest q = q
     all_statements i l (m.statement first others) fits asks rest q =
-        statement i l first fits.0 (front (statement_marks first) (statements_marks others) asks) (all_executed tables functions i others rest)
-        (all_statements i l others fits.1 (back (statement_marks first) (statements_marks others) asks) rest q)
+        let ms = two_of Is (statement_marks first) (statements_marks others) asks in
+        statement i l first fits.0 ms.0 (all_executed tables functions i others rest) (all_statements i l others fits.1 ms.1 rest q)
 
   end_fine : (main framed void : Bool) → Fine (
       if main then ends nowhere o.Halt done

@@ -1,13 +1,12 @@
 -- The members in a correct program are near the first words of their structs, and no function has many parameters.
 use Rattle.std.proofs.Common.{◌≡◌, inl, inr, ℕ, zero, suc, ◌+◌, ◌^◌, ◌<◌, ◌≤◌, Bool, List, [], ◌∷◌, ◌++◌, length, Option, Some, None, slice_get, refl, sym, ap, ◌∙◌, length-append, arith}
-use Rattle.std.specs.Prelude.{Contains}
 use Rattle.std.proofs.lemmas.Bool.{cases_order}
 use Rattle.std.proofs.lemmas.Option.{same_Some, slice_get_read}
 use Rattle.fk_syntax.specs.declared.facts.Facts.{Facts}
 use Rattle.fk_syntax.specs.Tree as t
 use Rattle.fk_syntax.specs.Tree.{Named, TypeTree, Tree, Links, Trees, Suffixes}
 use Rattle.fk_syntax.specs.Program as p
-use Rattle.fk_syntax.specs.Program.{DeclaredTree, Statement, Statements, FunctionTree, ItemTree, ProgramTree, StructItem, VariablesItem, FunctionItem}
+use Rattle.fk_syntax.specs.Program.{DeclaredTree, Statement, Statements, ItemTree, ProgramTree, StructItem, VariablesItem, FunctionItem}
 use Rattle.fk_names.specs.Outline.{DeclarationTree, MarkTree, Closes, declarations, declared_in, variable_marks, variables_marks, body_marks, item_marks, items_marks}
 use Rattle.fk_name_rules.proofs.ListLemmas.{some_at}
 use Rattle.fk_pieces.specs.declared.piece.Role.{Role}
@@ -16,7 +15,7 @@ use Rattle.fk_pieces.specs.Pieces as q
 use Rattle.fk_pieces.specs.Pieces.{PieceTree, pieces, optional_pieces, variables_pieces, parameters_pieces, statement_pieces, statements_pieces, body_pieces, item_pieces, items_pieces}
 use Rattle.fk_references.specs.References.{ReferenceTree, Member, main_token, tree_references, links_references, trees_references, suffixes_references, optional_references}
 use Rattle.fk_type_rules.specs.Bound as b
-use Rattle.fk_type_rules.specs.Bound.{IsBound, Refers, token_of, piece_references, pieces_references}
+use Rattle.fk_type_rules.specs.Bound.{IsBound, Refers, token_of, pieces_references}
 use Rattle.fk_token_laws.proofs.References.{declared_in-append}
 use Rattle.fk_token_laws.proofs.Tokens.{tokens_apart}
 use Rattle.fk_bindings.proofs.Below.{references_below}
@@ -24,9 +23,10 @@ use Rattle.fk_forms.specs.Tables.{Tables}
 use Rattle.fk_layout.specs.Layout.{tables_by}
 use Rattle.fk_certain.specs.WordRoom.{IsNear, MembersAreNear, AreNearInLinks, AreNearInTrees, AreNearInSuffixes, OptionIsNear, VariablesAreNear, StatementIsNear, StatementsAreNear, BodyIsNear, ItemsAreNear}
 use Rattle.fk_fitting.specs.Correct.{IsCorrect}
-use Rattle.fk_fitting.proofs.Each.{Each, each, front_of, rest_of}
+use Rattle.fk_certain.proofs.Parts.{two_of, three_of, four_of}
+use Rattle.fk_certain.proofs.References.{Referred, AllReferred, all_refer}
+use Rattle.fk_fitting.proofs.Each.{Each, front_of, rest_of}
 use Rattle.fk_fitting.proofs.Named.{env}
-use Rattle.fk_fitting.proofs.Notes.{among}
 use Rattle.fk_fitting.proofs.Numbers.{number_low}
 use Rattle.fk_certain.proofs.WordNumbers.{below, declared_number}
 
@@ -37,10 +37,10 @@ module _ (program : ProgramTree) (facts : Facts) (valid : IsCorrect program fact
   abbrev all : List ReferenceTree
   all = pieces_references (pieces program)
 
-  abbrev Referred : ReferenceTree → Type 0
-  Referred r = Contains all r
+  abbrev Is : ReferenceTree → Type 0
+  Is = Referred program
 
-  one_reference : (r m : ReferenceTree) → Referred r → Referred m → token_of r ≡ token_of m → r ≡ m
+  one_reference : (r m : ReferenceTree) → Is r → Is m → token_of r ≡ token_of m → r ≡ m
   one_reference r m h k same =
       let i = slice_get_read all (length all) h.0 r refl h.1 (sym h.2) in
       let j = slice_get_read all (length all) k.0 m refl k.1 (sym k.2) in
@@ -56,7 +56,7 @@ module _ (program : ProgramTree) (facts : Facts) (valid : IsCorrect program fact
   member_low r whole is_arrow name number e (b.member w a other type index place words has before named offset) = omega arith
   member_low r whole is_arrow name number e (b.size spot tree type words spelled has) = absurd (cc)
 
-  near_member : (whole : ℕ) (is_arrow : Bool) (name : Named) → Referred (Member whole is_arrow name) → IsNear T name
+  near_member : (whole : ℕ) (is_arrow : Bool) (name : Named) → Is (Member whole is_arrow name) → IsNear T name
   near_member whole is_arrow name h = below program facts valid (2 ^ 29) (omega arith) name.at (references_below program valid.well_formed (Member whole is_arrow name) h) by
     where
       by : (bound : ℕ) → IsBound (env program facts valid) program name.at bound → bound < 2 ^ 29
@@ -66,61 +66,34 @@ module _ (program : ProgramTree) (facts : Facts) (valid : IsCorrect program fact
   -- ---- expressions
 
   abbrev R : List ReferenceTree → Type 0
-  R rs = Each Referred rs
+  R rs = Each Is rs
 
   mutual
     near : (x : Tree) → R (tree_references x) → MembersAreNear T x
-    near (t.Number spot value unsigned) h = tt
-    near (t.Puts spot text) h = tt
-    near (t.Sizeof spot type) h = tt
-    near (t.Variable name) h = tt
-    near (t.GroupNumber spot) h = tt
-    near (t.GroupRank spot) h = tt
     near (t.Prefix spot sign operand) h = near operand h
     near (t.Cast spot type operand) h = near operand h
-    near (t.Chain first links) h = (
-      near first (front_of Referred (tree_references first) (links_references links) h),
-      near_links links (rest_of Referred (tree_references first) (links_references links) h),
-    )
-    near (t.Postfix whole suffixes) h = (
-      near whole (front_of Referred (tree_references whole) (suffixes_references (main_token whole) suffixes) h),
-      near_suffixes (main_token whole) suffixes (rest_of Referred (tree_references whole) (suffixes_references (main_token whole) suffixes) h),
-    )
-    near (t.Assign spot sign target value) h = (
-      near target (front_of Referred (tree_references target) (tree_references value) h),
-      near value (rest_of Referred (tree_references target) (tree_references value) h),
-    )
+    near (t.Chain first links) h = let rs = two_of Is (tree_references first) (links_references links) h in (near first rs.0, near_links links rs.1)
+    near (t.Postfix whole suffixes) h =
+        let rs = two_of Is (tree_references whole) (suffixes_references (main_token whole) suffixes) h in (near whole rs.0, near_suffixes (main_token whole) suffixes rs.1)
+    near (t.Assign spot sign target value) h = let rs = two_of Is (tree_references target) (tree_references value) h in (near target rs.0, near value rs.1)
     near (t.Choose spot condition first second) h =
-        let two = front_of Referred (tree_references condition ++ tree_references first) (tree_references second) h in (
-          near condition (front_of Referred (tree_references condition) (tree_references first) two),
-          near first (rest_of Referred (tree_references condition) (tree_references first) two),
-          near second (rest_of Referred (tree_references condition ++ tree_references first) (tree_references second) h),
-        )
+        let rs = three_of Is (tree_references condition) (tree_references first) (tree_references second) h in (near condition rs.0, near first rs.1, near second rs.2)
+    near leaf h = tt
 
     near_links : (x : Links) → R (links_references x) → AreNearInLinks T x
     near_links t.no_links h = tt
-    near_links (t.link spot sign right others) h = (
-      near right (front_of Referred (tree_references right) (links_references others) h),
-      near_links others (rest_of Referred (tree_references right) (links_references others) h),
-    )
+    near_links (t.link spot sign right others) h = let rs = two_of Is (tree_references right) (links_references others) h in (near right rs.0, near_links others rs.1)
 
     near_trees : (x : Trees) → R (trees_references x) → AreNearInTrees T x
     near_trees t.no_trees h = tt
-    near_trees (t.tree first others) h = (
-      near first (front_of Referred (tree_references first) (trees_references others) h),
-      near_trees others (rest_of Referred (tree_references first) (trees_references others) h),
-    )
+    near_trees (t.tree first others) h = let rs = two_of Is (tree_references first) (trees_references others) h in (near first rs.0, near_trees others rs.1)
 
     near_suffixes : (whole : ℕ) (x : Suffixes) → R (suffixes_references whole x) → AreNearInSuffixes T x
     near_suffixes whole t.no_suffixes h = tt
-    near_suffixes whole (t.index spot by others) h = (
-      near by (front_of Referred (tree_references by) (suffixes_references spot.at others) h),
-      near_suffixes spot.at others (rest_of Referred (tree_references by) (suffixes_references spot.at others) h),
-    )
-    near_suffixes whole (t.call spot arguments others) h = (
-      near_trees arguments (front_of Referred (trees_references arguments) (suffixes_references spot.at others) h),
-      near_suffixes spot.at others (rest_of Referred (trees_references arguments) (suffixes_references spot.at others) h),
-    )
+    near_suffixes whole (t.index spot by others) h =
+        let rs = two_of Is (tree_references by) (suffixes_references spot.at others) h in (near by rs.0, near_suffixes spot.at others rs.1)
+    near_suffixes whole (t.call spot arguments others) h =
+        let rs = two_of Is (trees_references arguments) (suffixes_references spot.at others) h in (near_trees arguments rs.0, near_suffixes spot.at others rs.1)
     near_suffixes whole (t.dot spot member others) h = (near_member whole _ member h.0, near_suffixes spot.at others h.1)
     near_suffixes whole (t.arrow spot member others) h = (near_member whole _ member h.0, near_suffixes spot.at others h.1)
     near_suffixes whole (t.up spot others) h = near_suffixes spot.at others h
@@ -133,7 +106,7 @@ module _ (program : ProgramTree) (facts : Facts) (valid : IsCorrect program fact
   -- ---- statements
 
   abbrev P : PieceTree → Type 0
-  P piece = R (piece_references piece)
+  P = AllReferred program
 
   near_or : (r : Role) (x : Option Tree) → Each P (optional_pieces r x) → OptionIsNear T x
   near_or r None h = tt
@@ -145,54 +118,32 @@ module _ (program : ProgramTree) (facts : Facts) (valid : IsCorrect program fact
 
   mutual
     near_statement : (result : TypeTree) (x : Statement) → Each P (statement_pieces result x) → StatementIsNear T x
-    near_statement result p.Empty h = tt
     near_statement result (p.Expression value) h = near value h.0
     near_statement result (p.Block statements) h = near_statements result statements h
     near_statement result (p.Declare variables) h = near_variables variables h
     near_statement result (p.If spot condition body) h = (near condition h.0, near_statement result body h.1)
-    near_statement result (p.IfElse spot condition body otherwise) h = (
-      near condition h.0,
-      near_statement result body (front_of P (statement_pieces result body) (statement_pieces result otherwise) h.1),
-      near_statement result otherwise (rest_of P (statement_pieces result body) (statement_pieces result otherwise) h.1),
-    )
+    near_statement result (p.IfElse spot condition body otherwise) h =
+        let ps = two_of P (statement_pieces result body) (statement_pieces result otherwise) h.1 in (near condition h.0, near_statement result body ps.0, near_statement result otherwise ps.1)
     near_statement result (p.While spot condition body) h = (near condition h.0, near_statement result body h.1)
-    near_statement result (p.DoWhile spot body condition) h = (
-      near_statement result body (front_of P (statement_pieces result body) (q.Used role.Condition condition ∷ []) h),
-      near condition (rest_of P (statement_pieces result body) (q.Used role.Condition condition ∷ []) h).0,
-    )
+    near_statement result (p.DoWhile spot body condition) h =
+        let ps = two_of P (statement_pieces result body) (q.Used role.Condition condition ∷ []) h in (near_statement result body ps.0, near condition ps.1.0)
     near_statement result (p.For spot before condition after body) h =
-        let f1 = optional_pieces role.Alone before in
-        let f2 = optional_pieces role.Condition condition in
-        let f3 = optional_pieces role.Alone after in
-        let parts = front_of P (f1 ++ f2 ++ f3) (statement_pieces result body) h in (
-          near_or role.Alone before (front_of P f1 f2 (front_of P (f1 ++ f2) f3 parts)),
-          near_or role.Condition condition (rest_of P f1 f2 (front_of P (f1 ++ f2) f3 parts)),
-          near_or role.Alone after (rest_of P (f1 ++ f2) f3 parts),
-          near_statement result body (rest_of P (f1 ++ f2 ++ f3) (statement_pieces result body) h),
-        )
-    near_statement result (p.Start spot count body) h = (
-      near_or role.Word count (front_of P (optional_pieces role.Word count) (statement_pieces result body) h),
-      near_statement result body (rest_of P (optional_pieces role.Word count) (statement_pieces result body) h),
-    )
+        let ps = four_of P (optional_pieces role.Alone before) (optional_pieces role.Condition condition) (optional_pieces role.Alone after) (statement_pieces result body) h in
+        (near_or role.Alone before ps.0, near_or role.Condition condition ps.1, near_or role.Alone after ps.2, near_statement result body ps.3)
+    near_statement result (p.Start spot count body) h =
+        let ps = two_of P (optional_pieces role.Word count) (statement_pieces result body) h in (near_or role.Word count ps.0, near_statement result body ps.1)
     near_statement result (p.Farm spot body) h = near_statement result body h
     near_statement result (p.Seq spot body) h = near_statement result body h
-    near_statement result (p.Fork spot parts part rank body) h = (
-      near parts h.0,
-      near part h.1.0,
-      near_or role.Word rank (front_of P (optional_pieces role.Word rank) (statement_pieces result body) h.1.1),
-      near_statement result body (rest_of P (optional_pieces role.Word rank) (statement_pieces result body) h.1.1),
-    )
-    near_statement result (p.Barrier spot) h = tt
-    near_statement result (p.Break spot) h = tt
-    near_statement result (p.Continue spot) h = tt
+    near_statement result (p.Fork spot parts part rank body) h =
+        let ps = two_of P (optional_pieces role.Word rank) (statement_pieces result body) h.1.1 in
+        (near parts h.0, near part h.1.0, near_or role.Word rank ps.0, near_statement result body ps.1)
     near_statement result (p.Return spot value) h = near_option value h.0
+    near_statement result leaf h = tt
 
     near_statements : (result : TypeTree) (x : Statements) → Each P (statements_pieces result x) → StatementsAreNear T x
     near_statements result p.no_statements h = tt
-    near_statements result (p.statement first others) h = (
-      near_statement result first (front_of P (statement_pieces result first) (statements_pieces result others) h),
-      near_statements result others (rest_of P (statement_pieces result first) (statements_pieces result others) h),
-    )
+    near_statements result (p.statement first others) h =
+        let ps = two_of P (statement_pieces result first) (statements_pieces result others) h in (near_statement result first ps.0, near_statements result others ps.1)
 
   near_body : (result : TypeTree) (x : Option Statements) → Each P (body_pieces result x) → BodyIsNear T x
   near_body result None h = tt
@@ -231,10 +182,6 @@ module _ (program : ProgramTree) (facts : Facts) (valid : IsCorrect program fact
         near_items xs (rest_of P (item_pieces x) (items_pieces xs) h) (omega (arith, counts (item_marks x) (items_marks xs), few)),
       )
 
-  of_pieces : (ps : List PieceTree) → Each Referred (pieces_references ps) → Each P ps
-  of_pieces [] h = tt
-  of_pieces (x ∷ ps) h = (front_of Referred (piece_references x) (pieces_references ps) h, of_pieces ps (rest_of Referred (piece_references x) (pieces_references ps) h))
-
   pub all_near : ItemsAreNear T program.items
-  all_near = near_items program.items (of_pieces (pieces program) (each Referred all (λ i x is. among all i x is)))
+  all_near = near_items program.items (all_refer program)
       (omega (arith, declared_few (length (declarations program)) refl, valid.small))

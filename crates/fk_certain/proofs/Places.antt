@@ -1,23 +1,20 @@
 -- Where shared variables of file scope lie: within the words that a layout has for them. And each declaration with its slot.
 use Rattle.std.proofs.Common.{◌≡◌, ℕ, zero, suc, ◌+◌, ◌≤◌, Bool, true, false, List, [], ◌∷◌, ◌++◌, length, Option, Some, None, slice_get, refl, sym, ap, subst, ◌∙◌, arith}
-use Rattle.std.specs.Prelude.{min, if◌then◌else◌}
+use Rattle.std.specs.Prelude.{if◌then◌else◌}
 use Rattle.std.proofs.lemmas.List.Concat.{flat_map-append}
 use Rattle.fk_syntax.specs.declared.facts.Facts.{Facts}
-use Rattle.fk_syntax.specs.Program as p
-use Rattle.fk_syntax.specs.Program.{DeclaredTree, Statement, Statements, FunctionTree, ItemTree, ProgramTree, StructItem, VariablesItem, FunctionItem}
+use Rattle.fk_syntax.specs.Program.{DeclaredTree, Statements, ItemTree, ProgramTree, StructItem, VariablesItem, FunctionItem}
 use Rattle.fk_name_rules.proofs.ListLemmas.{some_at}
 use Rattle.fk_names.specs.Outline.{DeclarationTree, Variable, Header, declarations}
 use Rattle.fk_pieces.specs.Pieces as q
-use Rattle.fk_pieces.specs.Pieces.{PieceTree, pieces, file_pieces, item_pieces, items_pieces}
+use Rattle.fk_pieces.specs.Pieces.{PieceTree, file_pieces, item_pieces, items_pieces}
 use Rattle.fk_token_laws.proofs.Pieces.{declared_by_piece, of_items}
-use Rattle.fk_forms.specs.declared.tables.Home.TheVariants.{Global, FilePrivate, Private, Group}
+use Rattle.fk_forms.specs.declared.tables.Home.TheVariants.{Global, FilePrivate}
 use Rattle.fk_forms.specs.declared.tables.Slot.{Slot}
 use Rattle.fk_forms.specs.Tables.{Tables, no_slot, slot, kind_at}
-use Rattle.fk_slots.specs.Told.{Told, splits_at, words_at}
-use Rattle.fk_slots.specs.Frames.{last_word}
-use Rattle.fk_slots.specs.Places as l
-use Rattle.fk_slots.specs.Places.{none_taken, no_slots, slot_in, file_slot, variables_slots, parameters_slots, file_slots, behind_words, behind_private, behind_variable, behind_variables}
-use Rattle.fk_slots.specs.Slots.{behind_body_frame, begun, begun_two, behind, taken_first, slots_in, all_slots_in, body_slots, item_slots, items_slots, slots_of, behind_item, behind_body}
+use Rattle.fk_slots.specs.Told.{Told, words_at}
+use Rattle.fk_slots.specs.Places.{none_taken, file_slot, file_slots, behind_words, behind_private, behind_variable, behind_variables}
+use Rattle.fk_slots.specs.Slots.{body_slots, item_slots, items_slots, slots_of, behind_item, behind_body}
 use Rattle.fk_layout.specs.Layout.{told_by}
 use Rattle.fk_layout.specs.Refusal.{Fits}
 use Rattle.fk_fitting.specs.Correct.{IsCorrect}
@@ -26,6 +23,7 @@ use Rattle.fk_fitting.proofs.Notes.{tables, nth_at}
 use Rattle.fk_fitting.proofs.Declared.{Beside, beside_at, Declared, MayHaveHome, IsWholeItem, item_homes, item_length}
 use Rattle.fk_fitting.proofs.Homes.{back_get}
 use Rattle.fk_certain.proofs.Regions.{join}
+use Rattle.fk_certain.proofs.Walk.{Joins, of_body, of_header}
 use Rattle.fk_certain.proofs.WordRoom.{total_words}
 use Rattle.fk_certain.proofs.WordSlots.{words_of, all_words, file_words}
 
@@ -49,62 +47,22 @@ beside_each P Q go (s ∷ ss) (d ∷ ds) h same = (go s d h.0, beside_each P Q g
 abbrev IsElsewhere : Slot → Type 0
 IsElsewhere s = s.home ≡ Global → ⊥
 
-one_elsewhere : (frame : ℕ) (taken : _) (x : DeclaredTree) → IsElsewhere (slot_in frame taken x)
-unfolding slot_in
-one_elsewhere frame taken x = by x.shared
-  where
-    by : (b : Bool) → IsElsewhere (if b then record { home = Group frame; index = min taken.words last_word } else record { home = Private; index = taken.privates })
-    by true e = cc
-    by false e = cc
+abbrev AreElsewhere : List Slot → (from to : ℕ) → Type 0
+AreElsewhere slots from to = Each IsElsewhere slots
 
-either_elsewhere : (b : Bool) (ss ts : List Slot) → Each IsElsewhere ss → Each IsElsewhere ts → Each IsElsewhere (if b then ss else ts)
-either_elsewhere true ss ts h k = h
-either_elsewhere false ss ts h k = k
+elsewhere : Joins AreElsewhere
+elsewhere = record {
+  none = λ n. tt;
+  both = λ xs ys a b c h k. join IsElsewhere xs ys h k;
+  own = λ n. ((λ e. cc), tt);
+  word = λ frame words n. ((λ e. cc), tt);
+  counted = λ frame words n. ((λ e. cc), tt);
+}
 
 module _ (told : Told) where
-  variables_elsewhere : (frame : ℕ) (taken : _) (xs : List DeclaredTree) → Each IsElsewhere (variables_slots told frame taken xs)
-  variables_elsewhere frame taken [] = tt
-  variables_elsewhere frame taken (x ∷ xs) = (one_elsewhere frame taken x, variables_elsewhere frame (behind_variable told taken x) xs)
-
-  parameters_elsewhere : (frame : ℕ) (taken : _) (xs : List DeclaredTree) → Each IsElsewhere (parameters_slots told frame taken xs)
-  parameters_elsewhere frame taken [] = tt
-  parameters_elsewhere frame taken (x ∷ xs) = (one_elsewhere frame taken x, parameters_elsewhere frame (l.behind_parameter told taken x) xs)
-
-  mutual
-    elsewhere : (frame : ℕ) (taken : _) (x : Statement) → Each IsElsewhere (slots_in told frame taken x)
-    elsewhere frame taken p.Empty = tt
-    elsewhere frame taken (p.Expression value) = tt
-    elsewhere frame taken (p.Block list) = all_elsewhere frame taken list
-    elsewhere frame taken (p.Declare variables) = variables_elsewhere frame taken variables
-    elsewhere frame taken (p.If spot condition first) = either_elsewhere (splits_at told spot.at) _ _ (elsewhere taken.frames (begun told taken first) first) (elsewhere frame taken first)
-    elsewhere frame taken (p.IfElse spot condition first second) = either_elsewhere (splits_at told spot.at) _ _
-        (join IsElsewhere _ _ (elsewhere taken.frames (begun_two told taken first second) first)
-        (elsewhere (behind_body_frame told taken first).frames (l.within (behind told (begun_two told taken first second) first)) second))
-        (join IsElsewhere _ _ (elsewhere frame taken first) (elsewhere frame (behind told taken first) second))
-    elsewhere frame taken (p.While spot condition body) = either_elsewhere (splits_at told spot.at) _ _ (elsewhere taken.frames (begun told taken body) body) (elsewhere frame taken body)
-    elsewhere frame taken (p.DoWhile spot body condition) = either_elsewhere (splits_at told spot.at) _ _ (elsewhere taken.frames (begun told taken body) body) (elsewhere frame taken body)
-    elsewhere frame taken (p.For spot before condition after body) = either_elsewhere (splits_at told spot.at) _ _ (elsewhere taken.frames (begun told taken body) body) (elsewhere frame taken body)
-    elsewhere frame taken (p.Start spot count body) = elsewhere taken.frames (begun told taken body) body
-    elsewhere frame taken (p.Fork spot parts part rank body) = elsewhere taken.frames (begun told taken body) body
-    elsewhere frame taken (p.Farm spot body) = elsewhere frame taken body
-    elsewhere frame taken (p.Seq spot body) = elsewhere frame taken body
-    elsewhere frame taken (p.Barrier spot) = tt
-    elsewhere frame taken (p.Break spot) = tt
-    elsewhere frame taken (p.Continue spot) = tt
-    elsewhere frame taken (p.Return spot value) = tt
-
-    all_elsewhere : (frame : ℕ) (taken : _) (x : Statements) → Each IsElsewhere (all_slots_in told frame taken x)
-    all_elsewhere frame taken p.no_statements = tt
-    all_elsewhere frame taken (p.statement first others) = join IsElsewhere _ _ (elsewhere frame taken first) (all_elsewhere frame (behind told taken first) others)
-
-  none_elsewhere : (xs : List DeclaredTree) → Each IsElsewhere (no_slots xs)
-  none_elsewhere [] = tt
-  none_elsewhere (x ∷ xs) = ((λ e. cc), none_elsewhere xs)
-
   body_elsewhere : (file : _) (parameters : List DeclaredTree) (body : Option Statements) → Each IsElsewhere (body_slots told file parameters body)
-  body_elsewhere file parameters None = none_elsewhere parameters
-  body_elsewhere file parameters (Some body) = join IsElsewhere _ _ (parameters_elsewhere file.frames (taken_first told file parameters body) parameters)
-      (all_elsewhere file.frames (l.behind_parameters told (taken_first told file parameters body) parameters) body)
+  body_elsewhere file parameters None = of_header IsElsewhere (λ e. cc) parameters
+  body_elsewhere file parameters (Some body) = of_body AreElsewhere elsewhere told file parameters body
 
   -- ---- a slot of shared data lies with its words within those of the layout
 

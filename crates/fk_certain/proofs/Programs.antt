@@ -3,17 +3,15 @@ use Rattle.std.proofs.Common.{◌≡◌, ◌⊎◌, inl, inr, ℕ, suc, ◌+◌,
 use Rattle.std.specs.Prelude.{◌==◌, IsSome, if◌then◌else◌}
 use Rattle.std.proofs.lemmas.Bool.{false≢true, eqb-true, eq-eqb, false_from_ne_true}
 use Rattle.std.proofs.lemmas.Slice.Eq.{bytes_eq-Decides}
-use Rattle.fk_class.specs.declared.thing.Thing.{Thing}
 use Rattle.fk_syntax.specs.declared.facts.Facts.{Facts}
-use Rattle.fk_syntax.specs.Program.{DeclaredTree, Statements, FunctionTree, ItemTree, ProgramTree, StructItem, VariablesItem, FunctionItem}
-use Rattle.fk_names.specs.Outline.{MarkTree, Variable, Header, declarations, outline, variables_marks, body_marks, item_marks, items_marks}
+use Rattle.fk_syntax.specs.Program.{Statements, FunctionTree, ItemTree, ProgramTree, StructItem, VariablesItem, FunctionItem}
+use Rattle.fk_names.specs.Outline.{declarations, outline, variables_marks, body_marks, item_marks, items_marks}
 use Rattle.fk_pieces.specs.Pieces.{PieceTree, parameters_pieces, body_pieces, item_pieces, items_pieces}
 use Rattle.fk_sharing.specs.declared.around.Holder.{Holder}
 use Rattle.fk_sharing.specs.Tokens as s
 use Rattle.fk_slots.specs.Places.{none_taken}
 use Rattle.fk_slots.specs.Slots.{item_slots, behind_item}
 use Rattle.fk_layout.specs.Layout.{told_by, tables_by}
-use Rattle.fk_layout.specs.Refusal.{Fits}
 use Rattle.fk_forms.specs.Statements.{is_nothing}
 use Rattle.fk_forms.specs.Program.{functions_of, with_body, binding_of, is_main, main_in, main_of}
 use Rattle.fk_kept.specs.declared.places.Place.TheVariants.{Main, Called}
@@ -23,7 +21,6 @@ use Rattle.fk_shapes.specs.Fitting.{is_defined, FunctionsFit}
 use Rattle.fk_fitting.specs.Correct.{IsCorrect}
 use Rattle.fk_fitting.proofs.Each.{Each, each, front_of, rest_of}
 use Rattle.fk_fitting.proofs.Declared.{same_function, function_number}
-use Rattle.fk_fitting.proofs.Things.{thing_tells}
 use Rattle.fk_fitting.proofs.Main.{there_is_main}
 use Rattle.fk_fitting.proofs.Programs.{correct_programs_fit}
 use Rattle.fk_typed_forms.specs.Asked.{BodyAsked, FunctionsAsked, place_by}
@@ -31,8 +28,8 @@ use Rattle.fk_typed_forms.specs.Laws.{HasMain, IsMainAlone}
 use Rattle.fk_typed_forms.proofs.Mains.{main_has_its_place}
 use Rattle.fk_certain.specs.AskedLaws.{CorrectProgramsAreAsked, MainsHaveTheirPlace}
 use Rattle.fk_certain.proofs.Places.{AreFrom, from_first, from_next, item_homed, Homes, by_pieces}
-use Rattle.fk_certain.proofs.Scalars.{Kept as KeptBy, IsScalar, is_scalar}
-use Rattle.fk_certain.proofs.Valid.{IsGiven, T, F, P, things, Stands, IsPiece, are_pieces}
+use Rattle.fk_certain.proofs.Valid.{IsGiven, about, all_kept, IsPiece, are_pieces}
+use Rattle.fk_certain.proofs.Calls.{header_same}
 use Rattle.fk_certain.proofs.Statements as st
 use Rattle.fk_certain.proofs.Statements.{IsPlaceOf, statements}
 
@@ -44,51 +41,37 @@ place_for g = by (is_main g)
     by true = tt
     by false = refl
 
-module _ (program : ProgramTree) (facts : Facts) (given : IsGiven program facts) (fits : Fits (T program facts given) program.items) where
-  abbrev thing : ℕ → Option Thing
-  thing = things program facts given
-
-  abbrev Unbroken' : s.Standing (List Holder) → Type 0
-  Unbroken' token = KeptBy thing token
-
-  all_kept : Each Unbroken' (s.tokens thing program)
-  all_kept = each Unbroken' (s.tokens thing program)
-      (λ i token is rule broken. given.correct.known.sharing.kept token.spot.place rule (thing, thing_tells program given.correct.well_formed, i, token, is, refl, broken))
-
-  scalar : (number : ℕ) (x : DeclaredTree) → slice_get (declarations program) number ≡ Some (Variable x) → IsScalar x
-  scalar number x is = is_scalar program facts given.correct given.proper thing all_kept number x is
-
-  abbrev S : MarkTree → Type 0
-  S = Stands program facts given
+module _ (program : ProgramTree) (facts : Facts) (given : IsGiven program facts) where
+  open about program facts given use {tables, functions, places, thing, Kept, Stands as S}
 
   abbrev Piece : PieceTree → Type 0
   Piece x = IsPiece program facts given x
 
   abbrev One : PieceTree → Type 0
-  One x = st.IsOne program facts given fits scalar x
+  One x = st.IsOne program facts given x
 
   ones : (ps : List PieceTree) → Each Piece ps → Each (λ x. Homes program facts given.correct x) ps → Each One ps
   ones [] f h = tt
   ones (x ∷ ps) f h = (record { piece = f.0; homes = h.0 }, ones ps f.1 h.1)
 
   abbrev Fit : List FunctionTree → Type 0
-  Fit gs = FunctionsFit (T program facts given) (F program facts given) (is_defined (T program facts given) (functions_of program.items)) gs
+  Fit gs = FunctionsFit tables functions (is_defined tables (functions_of program.items)) gs
 
   abbrev AllAsked : List FunctionTree → Type 0
-  AllAsked gs = FunctionsAsked (T program facts given) (F program facts given) (P program facts given) gs
+  AllAsked gs = FunctionsAsked tables functions places gs
 
-  with_asked : (g : FunctionTree) (around : List Holder) (o : Option Statements) → g.body ≡ o → BodyIsTrim o → Each Unbroken' (s.body_tokens thing ◌∷◌ around o) → Each S (body_marks o)
+  with_asked : (g : FunctionTree) (around : List Holder) (o : Option Statements) → g.body ≡ o → BodyIsTrim o → Each Kept (s.body_tokens thing ◌∷◌ around o) → Each S (body_marks o)
       → (IsSome g.body → Each One (body_pieces g.result o)) → (others : List FunctionTree) → (Fit others → AllAsked others) → Fit (with_body g o others) → AllAsked (with_body g o others)
   with_asked g around None has t k m f others go i = go i
   with_asked g around (Some body) has t k m f others go i = (
-    subst (BodyAsked (T program facts given) (F program facts given) (P program facts given) (place_by g)) (sym has)
-        (statements program facts given fits scalar (place_by g) g.result (place_for g) false around body
-        (subst (fit.BodyFits (T program facts given) (F program facts given) (is_defined (T program facts given) (functions_of program.items))) has i.0) t k m
+    subst (BodyAsked tables functions places (place_by g)) (sym has)
+        (statements program facts given (place_by g) g.result (place_for g) false around body
+        (subst (fit.BodyFits tables functions (is_defined tables (functions_of program.items))) has i.0) t k m
         (f (subst IsSome (sym has) refl))),
     go i.1,
   )
 
-  all_asked : (xs : List ItemTree) (n : ℕ) (file : _) → AreFrom program facts given.correct n file xs → ItemsAreTrim xs → Each Unbroken' (s.items_tokens thing ◌∷◌ [] xs) → Each S (items_marks xs)
+  all_asked : (xs : List ItemTree) (n : ℕ) (file : _) → AreFrom program facts given.correct n file xs → ItemsAreTrim xs → Each Kept (s.items_tokens thing ◌∷◌ [] xs) → Each S (items_marks xs)
       → Each Piece (items_pieces xs) → Fit (functions_of xs) → AllAsked (functions_of xs)
   all_asked [] n file h t k m f i = tt
   all_asked (StructItem name members ∷ xs) n file h t k m f i =
@@ -96,24 +79,24 @@ module _ (program : ProgramTree) (facts : Facts) (given : IsGiven program facts)
   all_asked (VariablesItem variables ∷ xs) n file h t k m f i =
       let x = VariablesItem variables in
       all_asked xs (n + length (item_slots (told_by facts) file x)) (behind_item (told_by facts) file x) (from_next program facts given.correct n file x xs h) t.1
-      (rest_of Unbroken' (s.item_tokens thing ◌∷◌ [] x) _ k) (rest_of S (item_marks x) (items_marks xs) m) (rest_of Piece (item_pieces x) (items_pieces xs) f) i
+      (rest_of Kept (s.item_tokens thing ◌∷◌ [] x) _ k) (rest_of S (item_marks x) (items_marks xs) m) (rest_of Piece (item_pieces x) (items_pieces xs) f) i
   all_asked (FunctionItem g ∷ xs) n file h t k m f i =
       let x = FunctionItem g in
-      let marks' = st.scope_of program facts given fits scalar (variables_marks g.parameters ++ body_marks g.body) (front_of S (item_marks x) (items_marks xs) m).1 in
+      let marks' = st.scope_of program facts given (variables_marks g.parameters ++ body_marks g.body) (front_of S (item_marks x) (items_marks xs) m).1 in
       let own = front_of Piece (item_pieces x) (items_pieces xs) f in
       let homed : IsSome g.body → Each One (body_pieces g.result g.body) =
       λ whole. rest_of One (parameters_pieces g.parameters) (body_pieces g.result g.body)
       (ones (item_pieces x) own (by_pieces program facts given.correct (item_pieces x) (item_homed program facts given.correct n file x xs whole h))).1 in
-      with_asked g _ g.body refl t.0.1 (rest_of Unbroken' (s.parameters_tokens [] g.mode g.parameters) _ (front_of Unbroken' (s.item_tokens thing ◌∷◌ [] x) _ k))
+      with_asked g _ g.body refl t.0.1 (rest_of Kept (s.parameters_tokens [] g.mode g.parameters) _ (front_of Kept (s.item_tokens thing ◌∷◌ [] x) _ k))
       (rest_of S (variables_marks g.parameters) (body_marks g.body) marks') homed (functions_of xs)
       (all_asked xs (n + length (item_slots (told_by facts) file x)) (behind_item (told_by facts) file x) (from_next program facts given.correct n file x xs h) t.1
-      (rest_of Unbroken' (s.item_tokens thing ◌∷◌ [] x) _ k) (rest_of S (item_marks x) (items_marks xs) m) (rest_of Piece (item_pieces x) (items_pieces xs) f)) i
+      (rest_of Kept (s.item_tokens thing ◌∷◌ [] x) _ k) (rest_of S (item_marks x) (items_marks xs) m) (rest_of Piece (item_pieces x) (items_pieces xs) f)) i
 
 pub correct_programs_are_asked : CorrectProgramsAreAsked
 correct_programs_are_asked program facts valid trim proper fits =
-    let given : IsGiven program facts = record { correct = valid; trim = trim; proper = proper } in
-    all_asked program facts given fits program.items 0 none_taken (from_first program facts valid) trim (all_kept program facts given fits)
-    (each (S program facts given fits) (outline program) (λ i x is. (i, is))) (are_pieces program facts given) (correct_programs_fit program facts valid trim)
+    let given : IsGiven program facts = record { correct = valid; trim = trim; proper = proper; fits = fits } in
+    all_asked program facts given program.items 0 none_taken (from_first program facts valid) trim (all_kept program facts given)
+    (each (about program facts given).Stands (outline program) (λ i x is. (i, is))) (are_pieces program facts given) (correct_programs_fit program facts valid trim)
 
 -- ---- `main`
 
@@ -165,9 +148,6 @@ module _ (program : ProgramTree) (facts : Facts) (valid : IsCorrect program fact
             main = x.main;
             binds = ap (λ (c : Bool). if c then bound g else main_in (tables_by program facts) gs) e ∙ x.binds;
           }
-
-  header_same : (g h : FunctionTree) → Some (Header g) ≡ Some (Header h) → g ≡ h
-  header_same g h same = cc
 
   main_bytes : (g : FunctionTree) → is_main g ≡ true → g.name.bytes ≡ codes "main"
   main_bytes g is = (bytes_eq-Decides g.name.bytes (codes "main")).0 is

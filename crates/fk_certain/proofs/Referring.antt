@@ -3,29 +3,28 @@ use Rattle.std.proofs.Common.{◌≡◌, ℕ, List, [], ◌∷◌, ◌++◌, Opt
 use Rattle.fk_syntax.specs.Tree as t
 use Rattle.fk_syntax.specs.Tree.{TypeTree, Tree, Links, Trees, Suffixes}
 use Rattle.fk_syntax.specs.Program as p
-use Rattle.fk_syntax.specs.Program.{DeclaredTree, Statement, Statements, FunctionTree, ItemTree, ProgramTree}
-use Rattle.std.specs.Prelude.{Contains}
+use Rattle.fk_syntax.specs.Program.{DeclaredTree, Statement, Statements, ItemTree, ProgramTree}
 use Rattle.fk_names.specs.Outline.{MarkTree, Closes, Uses, tree_marks, links_marks, trees_marks, suffixes_marks, optional_marks, variable_marks, variables_marks, scope, statement_marks, statements_marks, body_marks, item_marks, items_marks, outline}
 use Rattle.fk_references.specs.References.{ReferenceTree, Name, main_token, tree_references, links_references, trees_references, suffixes_references, optional_references}
 use Rattle.fk_pieces.specs.declared.piece.Role.{Role}
 use Rattle.fk_pieces.specs.declared.piece.Role.TheVariants as role
 use Rattle.fk_pieces.specs.Pieces as q
-use Rattle.fk_pieces.specs.Pieces.{PieceTree, pieces, optional_pieces, variables_pieces, file_pieces, parameters_pieces, statement_pieces, statements_pieces, body_pieces, item_pieces, items_pieces}
-use Rattle.fk_type_rules.specs.Bound.{piece_references, pieces_references}
-use Rattle.fk_fitting.proofs.Each.{Each, each, front_of, rest_of}
-use Rattle.fk_fitting.proofs.Notes.{among}
+use Rattle.fk_pieces.specs.Pieces.{PieceTree, optional_pieces, variables_pieces, file_pieces, parameters_pieces, statement_pieces, statements_pieces, body_pieces, item_pieces, items_pieces}
+use Rattle.fk_certain.proofs.Parts.{two_of, three_of, four_of}
+use Rattle.fk_certain.proofs.References.{Referred, AllReferred, all_refer}
+use Rattle.fk_fitting.proofs.Each.{Each, front_of, rest_of}
 use Rattle.fk_parsed.specs.Trim.{ParametersAreTrim, ItemsAreTrim}
 use Rattle.fk_certain.proofs.Regions.{join}
 
 module _ (program : ProgramTree) (trim : ItemsAreTrim program.items) where
-  abbrev Referred : ReferenceTree → Type 0
-  Referred x = Contains (pieces_references (pieces program)) x
+  abbrev Is : ReferenceTree → Type 0
+  Is = Referred program
 
   abbrev R : List ReferenceTree → Type 0
-  R rs = Each Referred rs
+  R rs = Each Is rs
 
   abbrev pub IsReferred : MarkTree → Type 0
-  IsReferred (Uses name) = Referred (Name name)
+  IsReferred (Uses name) = Is (Name name)
   IsReferred mark = Unit {0}
 
   abbrev Good : List MarkTree → Type 0
@@ -41,50 +40,40 @@ module _ (program : ProgramTree) (trim : ItemsAreTrim program.items) where
 
   mutual
     of_tree : (x : Tree) → R (tree_references x) → Good (tree_marks x)
-    of_tree (t.Number spot value unsigned) h = tt
-    of_tree (t.Puts spot text) h = tt
-    of_tree (t.Sizeof spot type) h = tt
     of_tree (t.Variable name) h = h
-    of_tree (t.GroupNumber spot) h = tt
-    of_tree (t.GroupRank spot) h = tt
     of_tree (t.Prefix spot sign operand) h = of_tree operand h
     of_tree (t.Cast spot type operand) h = of_tree operand h
     of_tree (t.Chain first links) h =
-        both (tree_marks first) (links_marks links) (of_tree first (front_of Referred (tree_references first) (links_references links) h))
-        (of_links links (rest_of Referred (tree_references first) (links_references links) h))
+        let rs = two_of Is (tree_references first) (links_references links) h in both (tree_marks first) (links_marks links) (of_tree first rs.0) (of_links links rs.1)
     of_tree (t.Postfix whole suffixes) h =
-        both (tree_marks whole) (suffixes_marks suffixes) (of_tree whole (front_of Referred (tree_references whole) (suffixes_references (main_token whole) suffixes) h))
-        (of_suffixes (main_token whole) suffixes (rest_of Referred (tree_references whole) (suffixes_references (main_token whole) suffixes) h))
+        let rs = two_of Is (tree_references whole) (suffixes_references (main_token whole) suffixes) h in
+        both (tree_marks whole) (suffixes_marks suffixes) (of_tree whole rs.0) (of_suffixes (main_token whole) suffixes rs.1)
     of_tree (t.Assign spot sign target value) h =
-        both (tree_marks target) (tree_marks value) (of_tree target (front_of Referred (tree_references target) (tree_references value) h))
-        (of_tree value (rest_of Referred (tree_references target) (tree_references value) h))
+        let rs = two_of Is (tree_references target) (tree_references value) h in both (tree_marks target) (tree_marks value) (of_tree target rs.0) (of_tree value rs.1)
     of_tree (t.Choose spot condition first second) h =
-        let two = front_of Referred (tree_references condition ++ tree_references first) (tree_references second) h in
+        let rs = three_of Is (tree_references condition) (tree_references first) (tree_references second) h in
         both (tree_marks condition ++ tree_marks first) (tree_marks second)
-        (both (tree_marks condition) (tree_marks first) (of_tree condition (front_of Referred (tree_references condition) (tree_references first) two))
-        (of_tree first (rest_of Referred (tree_references condition) (tree_references first) two)))
-        (of_tree second (rest_of Referred (tree_references condition ++ tree_references first) (tree_references second) h))
+        (both (tree_marks condition) (tree_marks first) (of_tree condition rs.0) (of_tree first rs.1)) (of_tree second rs.2)
+    of_tree leaf h = tt
 
     of_links : (x : Links) → R (links_references x) → Good (links_marks x)
     of_links t.no_links h = tt
     of_links (t.link spot sign right others) h =
-        both (tree_marks right) (links_marks others) (of_tree right (front_of Referred (tree_references right) (links_references others) h))
-        (of_links others (rest_of Referred (tree_references right) (links_references others) h))
+        let rs = two_of Is (tree_references right) (links_references others) h in both (tree_marks right) (links_marks others) (of_tree right rs.0) (of_links others rs.1)
 
     of_trees : (x : Trees) → R (trees_references x) → Good (trees_marks x)
     of_trees t.no_trees h = tt
     of_trees (t.tree first others) h =
-        both (tree_marks first) (trees_marks others) (of_tree first (front_of Referred (tree_references first) (trees_references others) h))
-        (of_trees others (rest_of Referred (tree_references first) (trees_references others) h))
+        let rs = two_of Is (tree_references first) (trees_references others) h in both (tree_marks first) (trees_marks others) (of_tree first rs.0) (of_trees others rs.1)
 
     of_suffixes : (whole : ℕ) (x : Suffixes) → R (suffixes_references whole x) → Good (suffixes_marks x)
     of_suffixes whole t.no_suffixes h = tt
     of_suffixes whole (t.index spot by others) h =
-        both (tree_marks by) (suffixes_marks others) (of_tree by (front_of Referred (tree_references by) (suffixes_references spot.at others) h))
-        (of_suffixes spot.at others (rest_of Referred (tree_references by) (suffixes_references spot.at others) h))
+        let rs = two_of Is (tree_references by) (suffixes_references spot.at others) h in
+        both (tree_marks by) (suffixes_marks others) (of_tree by rs.0) (of_suffixes spot.at others rs.1)
     of_suffixes whole (t.call spot arguments others) h =
-        both (trees_marks arguments) (suffixes_marks others) (of_trees arguments (front_of Referred (trees_references arguments) (suffixes_references spot.at others) h))
-        (of_suffixes spot.at others (rest_of Referred (trees_references arguments) (suffixes_references spot.at others) h))
+        let rs = two_of Is (trees_references arguments) (suffixes_references spot.at others) h in
+        both (trees_marks arguments) (suffixes_marks others) (of_trees arguments rs.0) (of_suffixes spot.at others rs.1)
     of_suffixes whole (t.dot spot member others) h = of_suffixes spot.at others h.1
     of_suffixes whole (t.arrow spot member others) h = of_suffixes spot.at others h.1
     of_suffixes whole (t.up spot others) h = of_suffixes spot.at others h
@@ -97,7 +86,7 @@ module _ (program : ProgramTree) (trim : ItemsAreTrim program.items) where
   -- ---- statements
 
   abbrev P : PieceTree → Type 0
-  P piece = R (piece_references piece)
+  P = AllReferred program
 
   of_optional : (r : Role) (x : Option Tree) → Each P (optional_pieces r x) → Good (optional_marks x)
   of_optional r None h = tt
@@ -122,60 +111,47 @@ module _ (program : ProgramTree) (trim : ItemsAreTrim program.items) where
 
   mutual
     of_statement : (result : TypeTree) (x : Statement) → Each P (statement_pieces result x) → Good (statement_marks x)
-    of_statement result p.Empty h = tt
     of_statement result (p.Expression value) h = of_tree value h.0
     of_statement result (p.Block statements) h = in_scope (statements_marks statements) (of_statements result statements h)
     of_statement result (p.Declare variables) h = of_variables variables h
     of_statement result (p.If spot condition body) h =
         both (tree_marks condition) (scope (statement_marks body)) (of_tree condition h.0) (in_scope (statement_marks body) (of_statement result body h.1))
     of_statement result (p.IfElse spot condition body otherwise) h =
+        let ps = two_of P (statement_pieces result body) (statement_pieces result otherwise) h.1 in
         both (tree_marks condition ++ scope (statement_marks body)) (scope (statement_marks otherwise))
-        (both (tree_marks condition) (scope (statement_marks body)) (of_tree condition h.0)
-        (in_scope (statement_marks body) (of_statement result body (front_of P (statement_pieces result body) (statement_pieces result otherwise) h.1))))
-        (in_scope (statement_marks otherwise) (of_statement result otherwise (rest_of P (statement_pieces result body) (statement_pieces result otherwise) h.1)))
+        (both (tree_marks condition) (scope (statement_marks body)) (of_tree condition h.0) (in_scope (statement_marks body) (of_statement result body ps.0)))
+        (in_scope (statement_marks otherwise) (of_statement result otherwise ps.1))
     of_statement result (p.While spot condition body) h =
         both (tree_marks condition) (scope (statement_marks body)) (of_tree condition h.0) (in_scope (statement_marks body) (of_statement result body h.1))
     of_statement result (p.DoWhile spot body condition) h =
-        both (scope (statement_marks body)) (tree_marks condition)
-        (in_scope (statement_marks body) (of_statement result body (front_of P (statement_pieces result body) (q.Used role.Condition condition ∷ []) h)))
-        (of_tree condition (rest_of P (statement_pieces result body) (q.Used role.Condition condition ∷ []) h).0)
+        let ps = two_of P (statement_pieces result body) (q.Used role.Condition condition ∷ []) h in
+        both (scope (statement_marks body)) (tree_marks condition) (in_scope (statement_marks body) (of_statement result body ps.0)) (of_tree condition ps.1.0)
     of_statement result (p.For spot before condition after body) h =
-        let f1 = optional_pieces role.Alone before in
-        let f2 = optional_pieces role.Condition condition in
-        let f3 = optional_pieces role.Alone after in
-        let parts = front_of P (f1 ++ f2 ++ f3) (statement_pieces result body) h in
+        let ps = four_of P (optional_pieces role.Alone before) (optional_pieces role.Condition condition) (optional_pieces role.Alone after) (statement_pieces result body) h in
         let a = optional_marks before in
         let c = optional_marks condition in
         let d = optional_marks after in
         both (a ++ c ++ d) (scope (statement_marks body))
-        (both (a ++ c) d
-        (both a c (of_optional role.Alone before (front_of P f1 f2 (front_of P (f1 ++ f2) f3 parts)))
-        (of_optional role.Condition condition (rest_of P f1 f2 (front_of P (f1 ++ f2) f3 parts))))
-        (of_optional role.Alone after (rest_of P (f1 ++ f2) f3 parts)))
-        (in_scope (statement_marks body) (of_statement result body (rest_of P (f1 ++ f2 ++ f3) (statement_pieces result body) h)))
+        (both (a ++ c) d (both a c (of_optional role.Alone before ps.0) (of_optional role.Condition condition ps.1)) (of_optional role.Alone after ps.2))
+        (in_scope (statement_marks body) (of_statement result body ps.3))
     of_statement result (p.Start spot count body) h =
-        both (optional_marks count) (scope (statement_marks body))
-        (of_optional role.Word count (front_of P (optional_pieces role.Word count) (statement_pieces result body) h))
-        (in_scope (statement_marks body) (of_statement result body (rest_of P (optional_pieces role.Word count) (statement_pieces result body) h)))
+        let ps = two_of P (optional_pieces role.Word count) (statement_pieces result body) h in
+        both (optional_marks count) (scope (statement_marks body)) (of_optional role.Word count ps.0) (in_scope (statement_marks body) (of_statement result body ps.1))
     of_statement result (p.Farm spot body) h = in_scope (statement_marks body) (of_statement result body h)
     of_statement result (p.Seq spot body) h = in_scope (statement_marks body) (of_statement result body h)
     of_statement result (p.Fork spot parts part rank body) h =
+        let ps = two_of P (optional_pieces role.Word rank) (statement_pieces result body) h.1.1 in
         both (tree_marks parts ++ tree_marks part ++ optional_marks rank) (scope (statement_marks body))
-        (both (tree_marks parts ++ tree_marks part) (optional_marks rank)
-        (both (tree_marks parts) (tree_marks part) (of_tree parts h.0) (of_tree part h.1.0))
-        (of_optional role.Word rank (front_of P (optional_pieces role.Word rank) (statement_pieces result body) h.1.1)))
-        (in_scope (statement_marks body) (of_statement result body (rest_of P (optional_pieces role.Word rank) (statement_pieces result body) h.1.1)))
-    of_statement result (p.Barrier spot) h = tt
-    of_statement result (p.Break spot) h = tt
-    of_statement result (p.Continue spot) h = tt
+        (both (tree_marks parts ++ tree_marks part) (optional_marks rank) (both (tree_marks parts) (tree_marks part) (of_tree parts h.0) (of_tree part h.1.0)) (of_optional role.Word rank ps.0))
+        (in_scope (statement_marks body) (of_statement result body ps.1))
     of_statement result (p.Return spot value) h = of_option value h.0
+    of_statement result leaf h = tt
 
     of_statements : (result : TypeTree) (x : Statements) → Each P (statements_pieces result x) → Good (statements_marks x)
     of_statements result p.no_statements h = tt
     of_statements result (p.statement first others) h =
-        both (statement_marks first) (statements_marks others)
-        (of_statement result first (front_of P (statement_pieces result first) (statements_pieces result others) h))
-        (of_statements result others (rest_of P (statement_pieces result first) (statements_pieces result others) h))
+        let ps = two_of P (statement_pieces result first) (statements_pieces result others) h in
+        both (statement_marks first) (statements_marks others) (of_statement result first ps.0) (of_statements result others ps.1)
 
   of_body : (result : TypeTree) (x : Option Statements) → Each P (body_pieces result x) → Good (body_marks x)
   of_body result None h = tt
@@ -200,9 +176,5 @@ module _ (program : ProgramTree) (trim : ItemsAreTrim program.items) where
       )
       (of_items xs w.1 (rest_of P (item_pieces x) (items_pieces xs) h))
 
-  of_pieces : (ps : List PieceTree) → R (pieces_references ps) → Each P ps
-  of_pieces [] h = tt
-  of_pieces (x ∷ ps) h = (front_of Referred (piece_references x) (pieces_references ps) h, of_pieces ps (rest_of Referred (piece_references x) (pieces_references ps) h))
-
   pub all_referred : Good (outline program)
-  all_referred = of_items program.items trim (of_pieces (pieces program) (each Referred (pieces_references (pieces program)) (λ i x is. among (pieces_references (pieces program)) i x is)))
+  all_referred = of_items program.items trim (all_refer program)

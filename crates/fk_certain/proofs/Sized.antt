@@ -1,5 +1,5 @@
 -- What is known of values, and the room in a function's frame, as one system of states.
-use Rattle.std.proofs.Common.{◌≡◌, ℕ, ◌+◌, ◌-◌, ◌≤◌, Bool, true, false, length, Option, None, Some, inl, inr, refl, sym, ap, ◌∙◌, subst}
+use Rattle.std.proofs.Common.{◌≡◌, ℕ, ◌+◌, ◌≤◌, Bool, true, false, length, Option, None, Some, inl, inr, refl, sym, ap, ◌∙◌, subst}
 use Rattle.std.specs.Prelude.{◌⊎◌}
 use Rattle.fk_operation.specs.declared.operation.Operation.{Operation}
 use Rattle.fk_operation.specs.declared.operation.Operation.TheVariants as o
@@ -13,7 +13,7 @@ use Rattle.fk_flat.specs.Shape.{is_done, IsShaped}
 use Rattle.fk_typed_code.specs.Values.{State, bare, behind, behind_call, May, Grants}
 use Rattle.fk_typed_code.specs.Typed as t
 use Rattle.fk_typed_code.specs.Typed.{EndsIn, Typed}
-use Rattle.fk_typed_code.specs.Heights.{raised, results_of, height}
+use Rattle.fk_typed_code.specs.Heights.{raised, height}
 use Rattle.fk_typed_code.proofs.Done.{by_done}
 use Rattle.fk_typed_code.proofs.Granting.{as_long, grants_itself, grants_both}
 use Rattle.fk_typed_code.proofs.Valued.{values, values_lawful}
@@ -103,6 +103,11 @@ module _ (firsts : ℕ) (place_of : ℕ → Place) (words most : ℕ → ℕ) wh
   placed (call n op f opening rest) l s e h = placed rest l (behind_call (takes op) h.1 s) e h.4
   placed (ends n op rest) l s e h = placed rest l (behind op true s) e h.2
 
+  -- code from so many values on leads to as many as it ends with
+  leads : (code : Code ℕ) (l : Option State) (s e : State) → Typed place_of l s code e → {n : ℕ} → n ≡ length s.values → height place_of n code ≡ length e.values
+  leads code l s e t same =
+      ap (λ n. height place_of n code) same ∙ stands_at (values place_of) place_of (values_lawful place_of) code l s e (u.judged place_of code l s e t)
+
   -- in a function, with so many words and values
   module _ (W M : ℕ) where
     -- so it is where low code begins
@@ -120,8 +125,12 @@ module _ (firsts : ℕ) (place_of : ℕ → Place) (words most : ℕ → ℕ) wh
     low_here (call n op f opening rest) h is = is.0
     low_here (ends n op rest) h is = is.0
 
-    low_at : (code : Code ℕ) (a b : ℕ) → a ≡ b → HasFew place_of M a code → HasFew place_of M b code
-    low_at code a b e is = subst (λ h. HasFew place_of M h code) e is
+    low_at : (code : Code ℕ) {a b : ℕ} → a ≡ b → HasFew place_of M a code → HasFew place_of M b code
+    low_at code e is = subst (λ h. HasFew place_of M h code) e is
+
+    low_behind : (op : Operation) (onward : Bool) (s : State) (rest : Code ℕ) → HasFew place_of M (raised (length s.values) op onward) rest
+        → HasFew place_of M (length (behind op onward s).values) rest
+    low_behind op onward s rest is = low_at rest (sym (rises op onward s)) is
 
     -- the loop round a place, in both judgements
     abbrev Loops : Option State → Option Sized → Type 0
@@ -171,6 +180,10 @@ module _ (firsts : ℕ) (place_of : ℕ → Place) (words most : ℕ → ℕ) wh
       straight_roomy op s rest (inl e) a = roomy op s w.straight e not_straight a
       straight_roomy op s rest (inr e) a = roomy op s w.onto e.0 not_onto a
 
+      -- where a loop begins
+      begins : (s r : State) → Grants s r → Room s.place → Room r.place × (length s.values ≡ length r.values)
+      begins s r g room = (subst Room g.place room, as_long s.values r.values g.values)
+
       -- the judgements together
       pub all_sized : (code : Code ℕ) (inside : Bool) (l : Option State) (lh : Option Sized) (s e : State)
           → IsShaped has_body inside code → Loops l lh → Room s.place
@@ -179,61 +192,49 @@ module _ (firsts : ℕ) (place_of : ℕ → Place) (words most : ℕ → ℕ) wh
       all_sized done inside l lh s e p ls room t h low = record { state = t; words = refl; most = refl }
       all_sized (perform n op rest) inside l lh s e p ls room t h low =
           let b = behind op true s in
-          let lr = low_at rest (raised (length s.values) op true) (length b.values) (sym (rises op true s)) low.1 in (
+          let lr = low_behind op true s rest low.1 in (
             record { may = t.0; there = h.0; room = room; low = low.0; roomy = straight_roomy op s rest p.0 (low_here rest (length b.values) lr) },
             all_sized rest inside l lh b e p.1 ls room t.1 h.1 lr,
           )
       all_sized (choose n op x y rest) inside l lh s e p ls room t h low =
           let b = behind op true s in
-          let b' = behind op false s in
           let m = t.1 in
-          let lx = low_at x (raised (length s.values) op true) (length b.values) (sym (rises op true s)) low.1 in
-          let ly = low_at y (raised (length s.values) op false) (length b'.values) (sym (rises op false s)) low.2 in
-          let up = ap (λ n. height place_of n x) (sym (rises op true s)) ∙ stands_at (values place_of) place_of (values_lawful place_of) x l b m (u.judged place_of x l b m t.2) in
-          let lr = low_at rest (height place_of (raised (length s.values) op true) x) (length m.values) up low.3 in (
+          let lx = low_behind op true s x low.1 in
+          let lr = low_at rest (leads x l b m t.2 (sym (rises op true s))) low.3 in (
             record { may = t.0; there = h.0; room = room; low = low.0; roomy = roomy op s w.either p.0 not_either (low_here x (length b.values) lx) },
             sized m W M,
             all_sized x inside l lh b m p.1 ls room t.2 h.1 lx,
-            all_sized y inside l lh b' m p.2 ls room t.3 h.2 ly,
+            all_sized y inside l lh (behind op false s) m p.2 ls room t.3 h.2 (low_behind op false s y low.2),
             all_sized rest inside l lh m e p.3 ls (subst Room (placed x l b m t.2) room) t.4 h.3 lr,
           )
       all_sized (while test body step rest) inside l lh s e p ls room t h low =
           let r = t.0 in
-          let both = sized r W M in
-          let rr = subst Room t.1.place room in
-          let u0 : length s.values ≡ length r.values = as_long s.values r.values t.1.values in
-          let v = values place_of in
-          let vl = values_lawful place_of in
-          let u1 : height place_of (length s.values) test ≡ length r.values = ap (λ n. height place_of n test) u0 ∙ stands_at v place_of vl test (Some r) r r (u.judged place_of test (Some r) r r t.2) in
-          let u2 : height place_of (height place_of (length s.values) test) body ≡ length r.values = ap (λ n. height place_of n body) u1 ∙ stands_at v place_of vl body (Some r) r r (u.judged place_of body (Some r) r r t.3) in
-          let u3 : height place_of (height place_of (height place_of (length s.values) test) body) step ≡ length r.values = ap (λ n. height place_of n step) u2 ∙ stands_at v place_of vl step (Some r) r r (u.judged place_of step (Some r) r r t.4) in (
-            both,
+          let here = begins s r t.1 room in
+          let second = leads test (Some r) r r t.2 here.1 in
+          let third = leads body (Some r) r r t.3 second in
+          let last = leads step (Some r) r r t.4 third in (
+            sized r W M,
             record { state = t.1; words = refl; most = refl },
-            all_sized test true (Some r) (Some both) r r p.2 refl rr t.2 h.0 (low_at test (length s.values) (length r.values) u0 low.0),
-            all_sized body true (Some r) (Some both) r r p.3 refl rr t.3 h.1 (low_at body (height place_of (length s.values) test) (length r.values) u1 low.1),
-            all_sized step true (Some r) (Some both) r r p.4 refl rr t.4 h.2 (low_at step (height place_of (height place_of (length s.values) test) body) (length r.values) u2 low.2),
-            all_sized rest inside l lh r e p.5 ls rr t.5 h.3 (low_at rest (height place_of (height place_of (height place_of (length s.values) test) body) step) (length r.values) u3 low.3),
+            all_sized test true (Some r) (Some (sized r W M)) r r p.2 refl here.0 t.2 h.0 (low_at test here.1 low.0),
+            all_sized body true (Some r) (Some (sized r W M)) r r p.3 refl here.0 t.3 h.1 (low_at body second low.1),
+            all_sized step true (Some r) (Some (sized r W M)) r r p.4 refl here.0 t.4 h.2 (low_at step third low.2),
+            all_sized rest inside l lh r e p.5 ls here.0 t.5 h.3 (low_at rest last low.3),
           )
       all_sized (until body test rest) inside l lh s e p ls room t h low =
           let r = t.0 in
-          let both = sized r W M in
-          let rr = subst Room t.1.place room in
-          let u0 : length s.values ≡ length r.values = as_long s.values r.values t.1.values in
-          let v = values place_of in
-          let vl = values_lawful place_of in
-          let u1 : height place_of (length s.values) body ≡ length r.values = ap (λ n. height place_of n body) u0 ∙ stands_at v place_of vl body (Some r) r r (u.judged place_of body (Some r) r r t.2) in
-          let u2 : height place_of (height place_of (length s.values) body) test ≡ length r.values = ap (λ n. height place_of n test) u1 ∙ stands_at v place_of vl test (Some r) r r (u.judged place_of test (Some r) r r t.3) in (
-            both,
+          let here = begins s r t.1 room in
+          let second = leads body (Some r) r r t.2 here.1 in (
+            sized r W M,
             record { state = t.1; words = refl; most = refl },
-            all_sized body true (Some r) (Some both) r r p.1 refl rr t.2 h.0 (low_at body (length s.values) (length r.values) u0 low.0),
-            all_sized test true (Some r) (Some both) r r p.2 refl rr t.3 h.1 (low_at test (height place_of (length s.values) body) (length r.values) u1 low.1),
-            all_sized rest inside l lh r e p.3 ls rr t.4 h.2 (low_at rest (height place_of (height place_of (length s.values) body) test) (length r.values) u2 low.2),
+            all_sized body true (Some r) (Some (sized r W M)) r r p.1 refl here.0 t.2 h.0 (low_at body here.1 low.0),
+            all_sized test true (Some r) (Some (sized r W M)) r r p.2 refl here.0 t.3 h.1 (low_at test second low.1),
+            all_sized rest inside l lh r e p.3 ls here.0 t.4 h.2 (low_at rest (leads test (Some r) r r t.3 second) low.2),
           )
       all_sized (turn test body step rest) inside l lh s e p ls room t h low = absurd t
       all_sized (again test body step rest) inside l lh s e p ls room t h low = absurd t
       all_sized (quit n op rest) inside l lh s e p ls room t h low =
           let b = behind op true s in
-          let lr = low_at rest (raised (length s.values) op true) (length b.values) (sym (rises op true s)) low.1 in (
+          let lr = low_behind op true s rest low.1 in (
             record { may = t.0; there = h.0; room = room; low = low.0; roomy = roomy op s w.either p.1 not_either (low_here rest (length b.values) lr) },
             looped l lh (behind op false s) ls t.1,
             all_sized rest inside l lh b e p.2 ls room t.2 h.1 lr,
@@ -242,7 +243,7 @@ module _ (firsts : ℕ) (place_of : ℕ → Place) (words most : ℕ → ℕ) wh
       all_sized (continue rest) inside l lh s e p ls room t h low = (looped l lh s ls t.0, all_sized rest inside l lh s e p.1 ls room t.1 h low)
       all_sized (call n op f opening rest) inside l lh s e p ls room t h low =
           let b = behind_call (takes op) t.1 s in
-          let lr = low_at rest (length s.values - takes op + results_of (place_of f)) (length b.values) (called_rises place_of op f t.1 s t.2) low.1 in (
+          let lr = low_at rest (called_rises place_of op f t.1 s t.2) low.1 in (
             record { may = t.0; there = there_call op p.0; room = room; low = low.0; roomy = roomy_call op s p.0 },
             t.1,
             record { place = t.2; direct = h.0; few = h.1 },
@@ -251,7 +252,7 @@ module _ (firsts : ℕ) (place_of : ℕ → Place) (words most : ℕ → ℕ) wh
           )
       all_sized (ends n op rest) inside l lh s e p ls room t h low =
           let b = behind op true s in
-          let lr = low_at rest (raised (length s.values) op true) (length b.values) (sym (rises op true s)) low.1 in (
+          let lr = low_behind op true s rest low.1 in (
             record { may = t.0; there = h.0; room = room; low = low.0; roomy = roomy op s w.out p.0 not_out (low_here rest (length b.values) lr) },
             t.1,
             all_sized rest inside l lh b e p.1 ls room t.2 h.1 lr,

@@ -1,18 +1,17 @@
 -- The private words of a function lie one behind the other: each below the number of them all.
-use Rattle.std.proofs.Common.{◌≡◌, ℕ, ◌+◌, ◌<◌, ◌≤◌, Bool, true, false, List, [], ◌∷◌, ◌++◌, length, Some, refl, sym, subst, arith}
-use Rattle.std.specs.Prelude.{min, if◌then◌else◌}
-use Rattle.fk_syntax.specs.Program as p
-use Rattle.fk_syntax.specs.Program.{DeclaredTree, Statement, Statements}
+use Rattle.std.proofs.Common.{◌≡◌, ℕ, ◌+◌, ◌<◌, ◌≤◌, Bool, true, false, List, [], ◌∷◌, ◌++◌, length, Some, subst, arith}
+use Rattle.std.specs.Prelude.{if◌then◌else◌}
+use Rattle.fk_syntax.specs.Program.{DeclaredTree, Statements}
 use Rattle.fk_forms.specs.declared.tables.Home.{Home}
 use Rattle.fk_forms.specs.declared.tables.Home.TheVariants as h
 use Rattle.fk_forms.specs.declared.tables.Slot.{Slot}
-use Rattle.fk_slots.specs.Told.{Told, splits_at}
-use Rattle.fk_slots.specs.Places.{none_taken, within, outside, behind_private, slot_in, behind_words, behind_variable, behind_variables, behind_parameter, behind_parameters, variables_slots, parameters_slots}
-use Rattle.fk_slots.specs.Slots.{behind_body_frame, begun, begun_two, behind, behind_all, slots_in, all_slots_in, taken_first, at_end, body_slots}
+use Rattle.fk_slots.specs.Told.{Told}
+use Rattle.fk_slots.specs.Places.{none_taken, within, behind_private, behind_words, behind_parameter, behind_parameters}
+use Rattle.fk_slots.specs.Slots.{taken_first, at_end, body_slots}
 use Rattle.fk_slots.proofs.Alike.{same_privates}
 use Rattle.fk_fitting.proofs.Each.{Each, each_map}
 use Rattle.fk_certain.proofs.Regions.{join}
-use Rattle.fk_certain.proofs.Taken.{same_within, same_outside, same_body_frame, same_two}
+use Rattle.fk_certain.proofs.Walk.{Joins, of_statements, of_body}
 
 -- a word of a function is below this number. No variable of a function lies in the file's words
 abbrev pub IsBelow : (count : ℕ) → Home → (index : ℕ) → Type 0
@@ -49,45 +48,14 @@ both xs ys a b c h k = record {
       (omega (arith, first.0, up), join (Below c) xs ys (each_map (Below b) (Below c) (more b c up) xs first.1) second.1);
 }
 
--- one of two ways
-either : {T : Type 0} (count : T → ℕ) (b : Bool) (xs ys : List Slot) (n : ℕ) (t u : T) → Good xs n (count t) → Good ys n (count u)
-    → Good (if b then xs else ys) n (count (if b then t else u))
-either count true xs ys n t u h k = h
-either count false xs ys n t u h k = k
-
-again : (xs : List Slot) (a b c d : ℕ) → a ≡ c → b ≡ d → Good xs a b → Good xs c d
-again xs a b c d same ends h = subst (λ n. Good xs n d) same (subst (λ n. Good xs a n) ends h)
-
-module _ (told : Told) (frame : ℕ) where
-  shared_or : (b : Bool) (taken : _) (x : DeclaredTree)
-      → Good ((if b then record { home = h.Group frame; index = min taken.words 1048576 } else record { home = h.Private; index = taken.privates }) ∷ [])
-      (within taken).privates (within (if b then behind_words told taken x else behind_private taken)).privates
-  unfolding within behind_words behind_private
-  shared_or true taken x = record { own = λ few. (omega arith, (tt, tt)) }
-  shared_or false taken x = record { own = λ few. (omega (arith, few), (omega (arith, few), tt)) }
-
-  one_variable : (taken : _) (x : DeclaredTree) → Good (slot_in frame taken x ∷ []) (within taken).privates (within (behind_variable told taken x)).privates
-  unfolding slot_in behind_variable
-  one_variable taken x = shared_or x.shared taken x
-
-  parameter_or : (b : Bool) (taken : _) (x : DeclaredTree)
-      → Good ((if b then record { home = h.Group frame; index = min taken.words 1048576 } else record { home = h.Private; index = taken.privates }) ∷ [])
-      (within taken).privates (within (behind_private (if b then behind_words told taken x else taken))).privates
-  unfolding within behind_words behind_private
-  parameter_or true taken x = record { own = λ few. (omega (arith, few), (tt, tt)) }
-  parameter_or false taken x = record { own = λ few. (omega (arith, few), (omega (arith, few), tt)) }
-
-  one_parameter : (taken : _) (x : DeclaredTree) → Good (slot_in frame taken x ∷ []) (within taken).privates (within (behind_parameter told taken x)).privates
-  unfolding slot_in behind_parameter
-  one_parameter taken x = parameter_or x.shared taken x
-
-  of_variables : (taken : _) (xs : List DeclaredTree) → Good (variables_slots told frame taken xs) (within taken).privates (within (behind_variables told taken xs)).privates
-  of_variables taken [] = none _
-  of_variables taken (x ∷ xs) = both _ _ _ _ _ (one_variable taken x) (of_variables (behind_variable told taken x) xs)
-
-  of_parameters : (taken : _) (xs : List DeclaredTree) → Good (parameters_slots told frame taken xs) (within taken).privates (within (behind_parameters told taken xs)).privates
-  of_parameters taken [] = none _
-  of_parameters taken (x ∷ xs) = both _ _ _ _ _ (one_parameter taken x) (of_parameters (behind_parameter told taken x) xs)
+joined : Joins Good
+joined = record {
+  none = none;
+  both = both;
+  own = λ n. record { own = λ few. (omega (arith, few), (omega (arith, few), tt)) };
+  word = λ frame words n. record { own = λ few. (omega arith, (tt, tt)) };
+  counted = λ frame words n. record { own = λ few. (omega (arith, few), (tt, tt)) };
+}
 
 module _ (told : Told) where
   -- a parameter takes one more
@@ -110,44 +78,6 @@ module _ (told : Told) where
       let one = takes_one taken x (omega (arith, rest, few)) in
       omega (arith, rest, one)
 
-  -- a body with its frame
-  framed : (taken : _) (x : Statement) → (frame : ℕ) → Good (slots_in told frame (begun told taken x) x) (within (begun told taken x)).privates (within (behind told (begun told taken x) x)).privates
-      → Good (slots_in told frame (begun told taken x) x) (within taken).privates (within (outside taken (behind told (begun told taken x) x))).privates
-  framed taken x frame h = again _ _ _ _ _ (same_body_frame told taken x) (sym (same_outside taken (behind told (begun told taken x) x))) h
-
-  mutual
-    good : (frame : ℕ) (taken : _) (x : Statement) → Good (slots_in told frame taken x) (within taken).privates (within (behind told taken x)).privates
-    good frame taken p.Empty = none _
-    good frame taken (p.Expression value) = none _
-    good frame taken (p.Block list) = all_good frame taken list
-    good frame taken (p.Declare variables) = of_variables told frame taken variables
-    good frame taken (p.If spot condition first) = either (λ t. (within t).privates) (splits_at told spot.at) _ _ _ _ _ (framed taken first taken.frames (good taken.frames (begun told taken first) first)) (good frame taken first)
-    good frame taken (p.IfElse spot condition first second) = either (λ t. (within t).privates) (splits_at told spot.at) _ _ _ _ _
-        (both _ _ _ _ _
-        (again _ _ _ _ _ (same_two told taken first second) refl (good taken.frames (begun_two told taken first second) first))
-        (again _ _ _ _ _ (same_within (behind told (begun_two told taken first second) first)) (sym (same_outside taken (behind told (within (behind told (begun_two told taken first second) first)) second)))
-        (good (behind_body_frame told taken first).frames (within (behind told (begun_two told taken first second) first)) second)))
-        (both _ _ _ _ _ (good frame taken first) (good frame (behind told taken first) second))
-    good frame taken (p.While spot condition body) = either (λ t. (within t).privates) (splits_at told spot.at) _ _ _ _ _ (framed taken body taken.frames (good taken.frames (begun told taken body) body)) (good frame taken body)
-    good frame taken (p.DoWhile spot body condition) = either (λ t. (within t).privates) (splits_at told spot.at) _ _ _ _ _ (framed taken body taken.frames (good taken.frames (begun told taken body) body)) (good frame taken body)
-    good frame taken (p.For spot before condition after body) = either (λ t. (within t).privates) (splits_at told spot.at) _ _ _ _ _ (framed taken body taken.frames (good taken.frames (begun told taken body) body)) (good frame taken body)
-    good frame taken (p.Start spot count body) = framed taken body taken.frames (good taken.frames (begun told taken body) body)
-    good frame taken (p.Fork spot parts part rank body) = framed taken body taken.frames (good taken.frames (begun told taken body) body)
-    good frame taken (p.Farm spot body) = good frame taken body
-    good frame taken (p.Seq spot body) = good frame taken body
-    good frame taken (p.Barrier spot) = none _
-    good frame taken (p.Break spot) = none _
-    good frame taken (p.Continue spot) = none _
-    good frame taken (p.Return spot value) = none _
-
-    all_good : (frame : ℕ) (taken : _) (x : Statements) → Good (all_slots_in told frame taken x) (within taken).privates (within (behind_all told taken x)).privates
-    all_good frame taken p.no_statements = none _
-    all_good frame taken (p.statement first others) = both _ _ _ _ _ (good frame taken first) (all_good frame (behind told taken first) others)
-
-  from_none : (file : _) (parameters : List DeclaredTree) (body : Statements) → (within (taken_first told file parameters body)).privates ≡ 0
-  unfolding within
-  from_none file parameters body = refl
-
   ends_so : (file : _) (parameters : List DeclaredTree) (body : Statements) → (within (at_end told file parameters body)).privates ≡ (at_end told none_taken parameters body).privates
   unfolding within
   ends_so file parameters body = same_privates told file parameters body
@@ -158,9 +88,7 @@ module _ (told : Told) where
   own_slots file parameters body few =
       let end = ends_so file parameters body in
       let first = taken_first told file parameters body in
-      let start = from_none file parameters body in
-      let body_good = all_good file.frames (behind_parameters told first parameters) body in
-      let all = again _ _ _ _ _ refl end (both _ _ _ _ _ (of_parameters told file.frames first parameters) body_good) in
-      let up = (body_good.own (omega (arith, few, end))).0 in
+      let all = subst (λ n. Good (body_slots told file parameters (Some body)) 0 n) end (of_body Good joined told file parameters body) in
+      let up = ((of_statements Good joined told file.frames (behind_parameters told first parameters) body).own (omega (arith, few, end))).0 in
       let count = parameters_take first parameters (omega (arith, few, end, up)) in
-      ((all.own few).1, omega (arith, count, start, up, end))
+      ((all.own few).1, omega (arith, count, up, end))

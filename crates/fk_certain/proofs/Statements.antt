@@ -1,12 +1,7 @@
 -- The statements of a program that keeps all rules are as they are asked.
-use Rattle.std.proofs.Common.{◌≡◌, inl, inr, ℕ, Bool, true, false, not, List, [], ◌∷◌, ◌++◌, Option, Some, None, slice_get, refl, sym, ap, subst, ◌∙◌}
+use Rattle.std.proofs.Common.{◌≡◌, inl, inr, ℕ, Bool, true, false, not, List, [], ◌∷◌, Option, Some, None, refl, sym, ap, subst, ◌∙◌}
 use Rattle.std.specs.Prelude.{is_some, is_none}
 use Rattle.std.proofs.lemmas.Bool.{false≢true, eq-eqb, eqb-true, false_from_ne_true, true_from_ne_false}
-use Rattle.fk_typing.specs.Names.{Env}
-use Rattle.fk_forms.specs.Tables.{Tables}
-use Rattle.fk_forms.specs.Expressions.{Signature}
-use Rattle.fk_class.specs.declared.thing.Thing.{Thing}
-use Rattle.fk_references.specs.References.{ReferenceTree}
 use Rattle.fk_syntax.specs.declared.facts.Facts.{Facts}
 use Rattle.fk_syntax.specs.declared.place.Spot.{Spot}
 use Rattle.fk_syntax.specs.Tree as t
@@ -14,17 +9,18 @@ use Rattle.fk_syntax.specs.Tree.{Named, BaseType, TypeTree, Tree}
 use Rattle.fk_syntax.specs.Program as p
 use Rattle.fk_syntax.specs.Program.{DeclaredTree, Statement, Statements, ProgramTree}
 use Rattle.fk_rules.specs.declared.rule.Rule.TheVariants as rules
-use Rattle.fk_structs.specs.declared.types.DataType.{DataType}
+use Rattle.fk_rules.specs.Least.{either}
 use Rattle.fk_struct_rules.specs.Declarations.{IsVoid, DeclarationBreaks}
 use Rattle.fk_names.specs.Outline as o
-use Rattle.fk_names.specs.Outline.{DeclarationTree, MarkTree, Variable, Declares, Uses, declarations, outline, tree_marks, optional_marks, variable_marks, variables_marks, statement_marks, statements_marks}
+use Rattle.fk_names.specs.Outline.{MarkTree, Variable, Declares, declarations, outline, tree_marks, optional_marks, variables_marks, statement_marks, statements_marks}
 use Rattle.fk_names.specs.Means.{binding}
 use Rattle.fk_bindings.proofs.BodyLemmas.{declared_here}
 use Rattle.fk_signs.specs.declared.values.ExpressionType.{ExpressionType}
 use Rattle.fk_signs.specs.Values.{value_of}
 use Rattle.fk_typing.specs.Term.{term_of, first_place}
-use Rattle.fk_typing.specs.Typing.{Noted, noted, type_of, value_in, left_of}
+use Rattle.fk_typing.specs.Typing.{noted, type_of, value_in, left_of}
 use Rattle.fk_typing.specs.Broken.{Broken, where_so, is_such, is_no_value, is_struct}
+use Rattle.fk_pieces.specs.declared.piece.Role.{Role}
 use Rattle.fk_pieces.specs.declared.piece.Role.TheVariants as role
 use Rattle.fk_pieces.specs.Pieces as q
 use Rattle.fk_pieces.specs.Pieces.{PieceTree, optional_pieces, variables_pieces, statement_pieces, statements_pieces}
@@ -43,7 +39,6 @@ use Rattle.fk_forms.specs.Statements.{is_nothing, is_scalar}
 use Rattle.fk_forms.specs.Program.{functions_of}
 use Rattle.fk_kept.specs.declared.places.Place.{Place}
 use Rattle.fk_kept.specs.declared.places.Place.TheVariants.{Main, Called}
-use Rattle.fk_layout.specs.Refusal.{Fits}
 use Rattle.fk_lockstep.specs.Told.{Told}
 use Rattle.fk_parsed.specs.Trim.{IsTrim, OptionIsTrim, VariablesAreTrim, StatementIsTrim, StatementsAreTrim}
 use Rattle.fk_shapes.specs.Fitting.{is_defined, StatementFits, StatementsFit}
@@ -60,14 +55,14 @@ use Rattle.fk_typed_forms.specs.Ways.{placed_way, way}
 use Rattle.fk_typed_forms.specs.Asked.{IsTarget, NameAsks, Asked, ValueAsked, OptionValueAsked, UsedAsked, OptionUsedAsked, ScalarAsked, VariablesAsked, ReturnAsked, StatementAsked, StatementsAsked}
 use Rattle.fk_typed_forms.specs.Typed.{IsNothing, StandsAs}
 use Rattle.fk_typed_forms.proofs.Typing.{tree_is, gives_value, gives_by}
+use Rattle.fk_certain.proofs.Parts.{two_of, three_of, four_of}
 use Rattle.fk_certain.proofs.Sizes.{has_sound}
 use Rattle.fk_certain.proofs.Tokens.{void_is}
 use Rattle.fk_certain.proofs.Places.{Homes}
-use Rattle.fk_certain.proofs.Scalars.{IsScalar}
-use Rattle.fk_certain.proofs.Valid.{IsGiven, E, T, F, P, things, words_of, Stands, Referred, Noting, IsUsed, IsPiece}
-use Rattle.fk_certain.proofs.AskedNames as n
-use Rattle.fk_certain.proofs.AskedNames.{room_may, IsVariable, variable_stands, way_declared}
-use Rattle.fk_certain.proofs.Expressions.{K, own_tree, known}
+use Rattle.fk_certain.proofs.Addresses.{room_may}
+use Rattle.fk_certain.proofs.Valid.{IsGiven, about, words_of, IsPiece}
+use Rattle.fk_certain.proofs.AskedNames.{IsVariable, variable_stands, way_declared}
+use Rattle.fk_certain.proofs.Expressions.{own_tree, known}
 
 anything : {X : Type 0} (xs : List X) → Each (λ (x : X). Unit {0}) xs
 anything [] = tt
@@ -102,37 +97,8 @@ abbrev pub IsPlaceOf : Place → TypeTree → Type 0
 IsPlaceOf Main result = Unit {0}
 IsPlaceOf (Called gives') result = gives' ≡ not (is_nothing result)
 
-module _ (program : ProgramTree) (facts : Facts) (given : IsGiven program facts) (fits : Fits (T program facts given) program.items)
-    (scalar : (number : ℕ) (x : DeclaredTree) → slice_get (declarations program) number ≡ Some (Variable x) → IsScalar x) where
-  abbrev env : Env
-  env = E program facts given
-
-  abbrev tables : Tables
-  tables = T program facts given
-
-  abbrev functions : (binding : ℕ) → Signature
-  functions = F program facts given
-
-  abbrev places : (binding : ℕ) → Place
-  places = P program facts given
-
-  abbrev Room : (address : ℕ) → DataType → Type 0
-  Room = n.Room program facts given fits scalar
-
-  abbrev S : MarkTree → Type 0
-  S = Stands program facts given
-
-  abbrev R : ReferenceTree → Type 0
-  R y = Referred program facts given y
-
-  abbrev N : Noted → Type 0
-  N y = Noting program facts given y
-
-  abbrev pub Kept : s.Standing (List Holder) → Type 0
-  Kept y = K program facts given fits scalar y
-
-  abbrev thing : ℕ → Option Thing
-  thing = things program facts given
+module _ (program : ProgramTree) (facts : Facts) (given : IsGiven program facts) where
+  open about program facts given use {env, tables, functions, places, thing, Room, Kept, Stands as S, Referred as R, Noting as N, IsUsed}
 
   -- a piece with the homes of what it declares
   pub record IsOne (y : PieceTree) : Type 0 where
@@ -149,7 +115,7 @@ module _ (program : ProgramTree) (facts : Facts) (given : IsGiven program facts)
     void : is_some (left_of type) ≡ true → is_void tables (token e) ≡ IsNothing type
 
   module _ (around : List Holder) where
-    told_of : (Means : Named → Type 0) → ((name : Named) → IsUsed program facts given name → Means name) → (e : Tree) → Each S (tree_marks e) → Each R (tree_references e) → Told Any Means e
+    told_of : (Means : Named → Type 0) → ((name : Named) → IsUsed name → Means name) → (e : Tree) → Each S (tree_marks e) → Each R (tree_references e) → Told Any Means e
     told_of Means go e marks refs =
         told (λ token'. Unit {0}) S R [] Any Means (λ spot y. tt) (λ name y used referred. go name (used.0, used.1, referred)) e (anything (r.tree_tokens [] e)) marks refs
 
@@ -158,7 +124,7 @@ module _ (program : ProgramTree) (facts : Facts) (given : IsGiven program facts)
         let is_read = read program facts given.correct functions (Takes program facts given.correct functions) (takes_of program facts given.correct functions) e un
         (told_of (IsNamed program facts given.correct functions) (λ name used. named program facts given.correct name used.0 used.1 used.2) e marks refs) in
         let typed = some_of (type_of env (term_of e)) is_read.typed in
-        let all = known program facts given fits scalar around e (Unit {0}) trim (told_of (IsUsed program facts given) (λ name used. used) e marks refs) k refs notes in
+        let all = known program facts given around e (Unit {0}) trim (told_of IsUsed (λ name used. used) e marks refs) k refs notes in
         let is = tree_is Room env tables functions places (room_may env.structs) e (Unit {0}) all.0 typed.0 typed.1 in
         record {
           type = typed.0;
@@ -166,7 +132,7 @@ module _ (program : ProgramTree) (facts : Facts) (given : IsGiven program facts)
           asked = is.0;
           stands = is.1;
           void = λ some. void_is program facts given.correct (words_of program facts given) (token e) typed.0
-              (subst (λ y. N (record { at = token e; type = y })) typed.1 (own_tree program facts given fits scalar e notes)) (all.1 typed.0 typed.1) some;
+              (subst (λ y. N (record { at = token e; type = y })) typed.1 (own_tree program facts given e notes)) (all.1 typed.0 typed.1) some;
         }
 
     valued : (e : Tree) (is : IsRight e) → There (value_of is.type) → ValueAsked tables functions places e
@@ -175,45 +141,48 @@ module _ (program : ProgramTree) (facts : Facts) (given : IsGiven program facts)
         (is.asked, gives_value Room (way tables places e) is.type v.0 v.1 is.stands)
 
     -- a value, where the rule is kept that asks for one
-    as_value : (rule : _) (e : Tree) (is : IsRight e) → Unbroken (where_so rule (first_place (term_of e)) (is_such is_no_value (type_of env (term_of e)))) → ValueAsked tables functions places e
-    as_value rule e is un =
+    valued_by : (rule : _) (e : Tree) → IsTrim e → Each Kept (s.tree_tokens thing around e) → Each S (tree_marks e) → Each R (tree_references e) → Each N (noted env (term_of e))
+        → Unbroken (either (Broken env (term_of e)) (where_so rule (first_place (term_of e)) (is_such is_no_value (type_of env (term_of e))))) → ValueAsked tables functions places e
+    valued_by rule e trim k m refs notes un =
+        let is = right e trim k m refs notes (λ place rule' broken. un place rule' (inl broken)) in
         valued e is (subst (λ y. There (value_in y)) is.typed
-        (value_there (type_of env (term_of e)) (some_there (type_of env (term_of e)) is.type is.typed) (so_not rule (first_place (term_of e)) _ un)))
+        (value_there (type_of env (term_of e)) (some_there (type_of env (term_of e)) is.type is.typed) (so_not rule (first_place (term_of e)) _ (λ place rule' broken. un place rule' (inr broken)))))
 
     as_used : (e : Tree) (is : IsRight e) → Unbroken (where_so rules.NoValue (first_place (term_of e)) (is_such is_struct (type_of env (term_of e)))) → UsedAsked tables functions places e
     as_used e is un =
         let left = not_none (left_of is.type) (subst (λ y. Not (is_such is_struct y)) is.typed (so_not rules.NoValue (first_place (term_of e)) _ un)) in
         (is.asked, gives_by Room (way tables places e) is.type is.stands ∙ ap not (sym (is.void left)))
 
-    condition : (e : Tree) → IsTrim e → Each Kept (s.tree_tokens thing around e) → Each S (tree_marks e) → IsOne (q.Used role.Condition e) → ValueAsked tables functions places e
-    condition e trim k m one =
-        as_value rules.NoCondition e (right e trim k m one.piece.refers one.piece.notes (λ place rule broken. one.piece.whole place rule (inl broken)))
-        (λ place rule broken. one.piece.whole place rule (inr broken))
+    -- so it is with an expression that is used for something, which may be absent
+    abbrev Asks : Role → (Tree → Type 0) → Type 0
+    Asks r Of = (e : Tree) → IsTrim e → Each Kept (s.tree_tokens thing around e) → Each S (tree_marks e) → IsOne (q.Used r e) → Of e
 
-    word : (e : Tree) → IsTrim e → Each Kept (s.tree_tokens thing around e) → Each S (tree_marks e) → IsOne (q.Used role.Word e) → ValueAsked tables functions places e
-    word e trim k m one =
-        as_value rules.NoValue e (right e trim k m one.piece.refers one.piece.notes (λ place rule broken. one.piece.whole place rule (inl broken)))
-        (λ place rule broken. one.piece.whole place rule (inr broken))
+    abbrev AsksAny : Role → (Option Tree → Type 0) → Type 0
+    AsksAny r Of = (e : Option Tree) → OptionIsTrim e → Each Kept (s.optional_tokens thing around e) → Each S (optional_marks e) → Each IsOne (optional_pieces r e) → Of e
 
-    alone : (e : Tree) → IsTrim e → Each Kept (s.tree_tokens thing around e) → Each S (tree_marks e) → IsOne (q.Used role.Alone e) → UsedAsked tables functions places e
+    or_none : (r : Role) (Of : Option Tree → Type 0) → Of None → Asks r (λ e. Of (Some e)) → AsksAny r Of
+    or_none r Of none some None trim k m f = none
+    or_none r Of none some (Some e) trim k m f = some e trim k m f.0
+
+    condition : Asks role.Condition (ValueAsked tables functions places)
+    condition e trim k m one = valued_by rules.NoCondition e trim k m one.piece.refers one.piece.notes one.piece.whole
+
+    condition_or : AsksAny role.Condition (OptionValueAsked tables functions places)
+    condition_or = or_none role.Condition (OptionValueAsked tables functions places) tt condition
+
+    word : Asks role.Word (ValueAsked tables functions places)
+    word e trim k m one = valued_by rules.NoValue e trim k m one.piece.refers one.piece.notes one.piece.whole
+
+    word_or : AsksAny role.Word (OptionValueAsked tables functions places)
+    word_or = or_none role.Word (OptionValueAsked tables functions places) tt word
+
+    alone : Asks role.Alone (UsedAsked tables functions places)
     alone e trim k m one =
         as_used e (right e trim k m one.piece.refers one.piece.notes (λ place rule broken. one.piece.whole place rule (inl broken)))
         (λ place rule broken. one.piece.whole place rule (inr broken))
 
-    condition_or : (e : Option Tree) → OptionIsTrim e → Each Kept (s.optional_tokens thing around e) → Each S (optional_marks e) → Each IsOne (optional_pieces role.Condition e)
-        → OptionValueAsked tables functions places e
-    condition_or None trim k m f = tt
-    condition_or (Some e) trim k m f = condition e trim k m f.0
-
-    word_or : (e : Option Tree) → OptionIsTrim e → Each Kept (s.optional_tokens thing around e) → Each S (optional_marks e) → Each IsOne (optional_pieces role.Word e)
-        → OptionValueAsked tables functions places e
-    word_or None trim k m f = tt
-    word_or (Some e) trim k m f = word e trim k m f.0
-
-    alone_or : (e : Option Tree) → OptionIsTrim e → Each Kept (s.optional_tokens thing around e) → Each S (optional_marks e) → Each IsOne (optional_pieces role.Alone e)
-        → OptionUsedAsked tables functions places e
-    alone_or None trim k m f = tt
-    alone_or (Some e) trim k m f = alone e trim k m f.0
+    alone_or : AsksAny role.Alone (OptionUsedAsked tables functions places)
+    alone_or = or_none role.Alone (OptionUsedAsked tables functions places) tt alone
 
     -- ---- returns
 
@@ -221,15 +190,13 @@ module _ (program : ProgramTree) (facts : Facts) (given : IsGiven program facts)
         → IsOne (q.Return result spot e) → ReturnAsked tables functions places place e
     returned Main result of spot None trim k m one = tt
     returned Main result of spot (Some e) trim k m one =
-        as_value rules.NoValue e (right e trim k m one.piece.refers one.piece.notes (λ place rule broken. one.piece.whole place rule (inl (inl broken))))
-        (λ place rule broken. one.piece.whole place rule (inl (inr broken)))
+        valued_by rules.NoValue e trim k m one.piece.refers one.piece.notes (λ place rule broken. one.piece.whole place rule (inl broken))
     returned (Called gives') result of spot None trim k m one =
         of ∙ ap not (true_from_ne_false (is_nothing result) (λ some. one.piece.whole spot.place rules.WrongReturn
         (refl, ((λ void. false≢true (sym some ∙ void_is_nothing result.base result.stars void)), refl))))
     returned (Called gives') result of spot (Some e) trim k m one = (
       of ∙ ap not (false_from_ne_true (is_nothing result) (λ none. one.piece.whole spot.place rules.WrongReturn (inr (inr (refl, (is_void_type result.base result.stars none, refl)))))),
-      as_value rules.NoValue e (right e trim k m one.piece.refers one.piece.notes (λ place rule broken. one.piece.whole place rule (inl (inl broken))))
-          (λ place rule broken. one.piece.whole place rule (inl (inr broken))),
+      valued_by rules.NoValue e trim k m one.piece.refers one.piece.notes (λ place rule broken. one.piece.whole place rule (inl broken)),
     )
 
     -- ---- declarations
@@ -249,8 +216,7 @@ module _ (program : ProgramTree) (facts : Facts) (given : IsGiven program facts)
     first_asked : (y : DeclaredTree) (first : Option Tree) → OptionIsTrim first → Each Kept (s.optional_tokens thing around first) → Each S (optional_marks first) → Each R (optional_references first)
         → Each N (optional_noted env first) → Unbroken (if_there (InitialBreaks env y) first) → OptionValueAsked tables functions places first
     first_asked y None trim k m c notes un = tt
-    first_asked y (Some e) trim k m c notes un =
-        as_value rules.NoValue e (right e trim k m c notes (λ place rule broken. un place rule (inl (inl broken)))) (λ place rule broken. un place rule (inl (inr broken)))
+    first_asked y (Some e) trim k m c notes un = valued_by rules.NoValue e trim k m c notes (λ place rule broken. un place rule (inl broken))
 
     declared : (y : DeclaredTree) → S (Declares (Variable y)) → IsOne (q.Variable y) → OptionIsTrim y.first → Each Kept (s.optional_tokens thing around y.first) → Each S (optional_marks y.first)
         → ScalarAsked tables functions places (is_scalar y) y
@@ -266,9 +232,9 @@ module _ (program : ProgramTree) (facts : Facts) (given : IsGiven program facts)
             let binds = binding_is program facts given.correct y.name.at (binding (outline program) mark.0) low (b.declares (Variable y) mark.0 mark.0 mark.1 refl refl) ∙ number in
             let right' : Unbroken (DeclarationBreaks env.structs y) = λ place rule broken. one.piece.whole place rule (inl broken) in
             let has = has_sound env.structs y right' in
-            let v : IsVariable program facts given fits scalar home.number y has.type = record { there = home.there; is = has.is; right = right'; home = home.home } in
-            let stands = variable_stands program facts given fits scalar home.number y has.type v y.name y.name.at in
-            let same = way_declared program facts given fits scalar y.name home.number binds (declared_low program facts given.correct home.number (Variable y) home.there) in (
+            let v : IsVariable program facts given home.number y has.type = record { there = home.there; is = has.is; right = right'; home = home.home } in
+            let stands = variable_stands program facts given home.number y has.type v y.name y.name.at in
+            let same = way_declared program facts given y.name home.number binds (declared_low program facts given.correct home.number (Variable y) home.there) in (
               subst (NameAsks tables functions places y.name.at) (sym same) stands.0,
               subst IsTarget (sym same) (target_is y.shared (slot tables home.number).home (slot tables home.number).index y.name home.home),
               first_asked y y.first trim k m (one.piece.refers) (one.piece.notes.1) (λ place rule broken. one.piece.whole place rule (inr broken)),
@@ -312,13 +278,12 @@ module _ (program : ProgramTree) (facts : Facts) (given : IsGiven program facts)
           )
       statement l around (p.IfElse spot c body otherwise) i t' k m f =
           let kc = s.condition_tokens thing around spot c in
-          let ms = o.scope (statement_marks body) in
-          let k' = front_of Kept (kc ++ tokens_of _ body) _ k in
-          let m' = front_of S (tree_marks c ++ ms) (o.scope (statement_marks otherwise)) m in (
-            condition around c t'.0 (front_of Kept (s.tree_tokens thing around c) _ (front_of Kept kc _ k')) (front_of S (tree_marks c) ms m') f.0,
-            statement l _ body i.1 t'.1 (rest_of Kept kc _ k') (scope_of (statement_marks body) (rest_of S (tree_marks c) ms m')) (front_of IsOne (statement_pieces result body) (statement_pieces result otherwise) f.1),
-            statement l _ otherwise i.2 t'.2 (rest_of Kept (kc ++ tokens_of _ body) _ k) (scope_of (statement_marks otherwise) (rest_of S (tree_marks c ++ ms) _ m))
-                (rest_of IsOne (statement_pieces result body) (statement_pieces result otherwise) f.1),
+          let ks = three_of Kept kc (tokens_of _ body) _ k in
+          let ms = three_of S (tree_marks c) (o.scope (statement_marks body)) (o.scope (statement_marks otherwise)) m in
+          let fs = two_of IsOne (statement_pieces result body) (statement_pieces result otherwise) f.1 in (
+            condition around c t'.0 (front_of Kept (s.tree_tokens thing around c) _ ks.0) ms.0 f.0,
+            statement l _ body i.1 t'.1 ks.1 (scope_of (statement_marks body) ms.1) fs.0,
+            statement l _ otherwise i.2 t'.2 ks.2 (scope_of (statement_marks otherwise) ms.2) fs.1,
           )
       statement l around (p.While spot c body) i t' k m f =
           let kc = s.condition_tokens thing around spot c in (
@@ -326,53 +291,37 @@ module _ (program : ProgramTree) (facts : Facts) (given : IsGiven program facts)
             statement true _ body i.1 t'.1 (rest_of Kept kc _ k) (scope_of (statement_marks body) (rest_of S (tree_marks c) _ m)) f.1,
           )
       statement l around (p.DoWhile spot body c) i t' k m f =
-          let kc = s.condition_tokens thing around spot c in
-          let ms = o.scope (statement_marks body) in
-          let last = q.Used role.Condition c ∷ [] in (
-            condition around c t'.1 (front_of Kept (s.tree_tokens thing around c) _ (front_of Kept kc _ k)) (rest_of S ms (tree_marks c) m) (rest_of IsOne (statement_pieces result body) last f).0,
-            statement true _ body i.1 t'.0 (rest_of Kept kc _ k) (scope_of (statement_marks body) (front_of S ms (tree_marks c) m)) (front_of IsOne (statement_pieces result body) last f),
+          let ks = two_of Kept (s.condition_tokens thing around spot c) _ k in
+          let ms = two_of S (o.scope (statement_marks body)) (tree_marks c) m in
+          let fs = two_of IsOne (statement_pieces result body) (q.Used role.Condition c ∷ []) f in (
+            condition around c t'.1 (front_of Kept (s.tree_tokens thing around c) _ ks.0) ms.1 fs.1.0,
+            statement true _ body i.1 t'.0 ks.1 (scope_of (statement_marks body) ms.0) fs.0,
           )
       statement l around (p.For spot before c after body) i t' k m f =
-          let k1 = s.optional_tokens thing around before in
-          let k2 = s.optional_tokens thing around c in
-          let k3 = s.optional_tokens thing around after in
-          let m1 = optional_marks before in
-          let m2 = optional_marks c in
-          let m3 = optional_marks after in
-          let f1 = optional_pieces role.Alone before in
-          let f2 = optional_pieces role.Condition c in
-          let f3 = optional_pieces role.Alone after in
           let kh = s.head_tokens thing around spot before c after in
-          let heads = front_of Kept (k1 ++ k2 ++ k3) _ (front_of Kept kh _ k) in
-          let marks = front_of S (m1 ++ m2 ++ m3) _ m in
-          let parts = front_of IsOne (f1 ++ f2 ++ f3) (statement_pieces result body) f in (
-            alone_or around before t'.0 (front_of Kept k1 k2 (front_of Kept (k1 ++ k2) k3 heads)) (front_of S m1 m2 (front_of S (m1 ++ m2) m3 marks)) (front_of IsOne f1 f2 (front_of IsOne (f1 ++ f2) f3 parts)),
-            condition_or around c t'.1 (rest_of Kept k1 k2 (front_of Kept (k1 ++ k2) k3 heads)) (rest_of S m1 m2 (front_of S (m1 ++ m2) m3 marks)) (rest_of IsOne f1 f2 (front_of IsOne (f1 ++ f2) f3 parts)),
-            alone_or around after t'.2 (rest_of Kept (k1 ++ k2) k3 heads) (rest_of S (m1 ++ m2) m3 marks) (rest_of IsOne (f1 ++ f2) f3 parts),
-            statement true _ body i.3 t'.3 (rest_of Kept kh _ k) (scope_of (statement_marks body) (rest_of S (m1 ++ m2 ++ m3) _ m)) (rest_of IsOne (f1 ++ f2 ++ f3) (statement_pieces result body) f),
+          let ks = four_of Kept (s.optional_tokens thing around before) (s.optional_tokens thing around c) (s.optional_tokens thing around after) _ (front_of Kept kh _ k) in
+          let ms = four_of S (optional_marks before) (optional_marks c) (optional_marks after) _ m in
+          let fs = four_of IsOne (optional_pieces role.Alone before) (optional_pieces role.Condition c) (optional_pieces role.Alone after) _ f in (
+            alone_or around before t'.0 ks.0 ms.0 fs.0,
+            condition_or around c t'.1 ks.1 ms.1 fs.1,
+            alone_or around after t'.2 ks.2 ms.2 fs.2,
+            statement true _ body i.3 t'.3 (rest_of Kept kh _ k) (scope_of (statement_marks body) ms.3) fs.3,
           )
       statement l around (p.Start spot count body) i t' k m f =
-          let kc = s.optional_tokens thing around count in
-          let fc = optional_pieces role.Word count in (
-            word_or around count t'.0 (front_of Kept kc _ k) (front_of S (optional_marks count) _ m) (front_of IsOne fc (statement_pieces result body) f),
-            statement l _ body i.1 t'.1 (rest_of Kept kc _ k) (scope_of (statement_marks body) (rest_of S (optional_marks count) _ m)) (rest_of IsOne fc (statement_pieces result body) f),
-          )
+          let ks = two_of Kept (s.optional_tokens thing around count) _ k in
+          let ms = two_of S (optional_marks count) _ m in
+          let fs = two_of IsOne (optional_pieces role.Word count) (statement_pieces result body) f in
+          (word_or around count t'.0 ks.0 ms.0 fs.0, statement l _ body i.1 t'.1 ks.1 (scope_of (statement_marks body) ms.1) fs.1)
       statement l around (p.Farm spot body) i t' k m f = statement l _ body i t' k (scope_of (statement_marks body) m) f
       statement l around (p.Seq spot body) i t' k m f = statement l _ body i t' k (scope_of (statement_marks body) m) f
       statement l around (p.Fork spot parts part rank body) i t' k m f =
-          let k1 = s.tree_tokens thing around parts in
-          let k2 = s.tree_tokens thing around part in
-          let k3 = s.optional_tokens thing around rank in
-          let m1 = tree_marks parts in
-          let m2 = tree_marks part in
-          let m3 = optional_marks rank in
-          let f3 = optional_pieces role.Word rank in
-          let heads = front_of Kept (k1 ++ k2 ++ k3) _ k in
-          let marks = front_of S (m1 ++ m2 ++ m3) _ m in (
-            word around parts t'.0 (front_of Kept k1 k2 (front_of Kept (k1 ++ k2) k3 heads)) (front_of S m1 m2 (front_of S (m1 ++ m2) m3 marks)) f.0,
-            word around part t'.1 (rest_of Kept k1 k2 (front_of Kept (k1 ++ k2) k3 heads)) (rest_of S m1 m2 (front_of S (m1 ++ m2) m3 marks)) f.1.0,
-            word_or around rank t'.2 (rest_of Kept (k1 ++ k2) k3 heads) (rest_of S (m1 ++ m2) m3 marks) (front_of IsOne f3 (statement_pieces result body) f.1.1),
-            statement l _ body i.3 t'.3 (rest_of Kept (k1 ++ k2 ++ k3) _ k) (scope_of (statement_marks body) (rest_of S (m1 ++ m2 ++ m3) _ m)) (rest_of IsOne f3 (statement_pieces result body) f.1.1),
+          let ks = four_of Kept (s.tree_tokens thing around parts) (s.tree_tokens thing around part) (s.optional_tokens thing around rank) _ k in
+          let ms = four_of S (tree_marks parts) (tree_marks part) (optional_marks rank) _ m in
+          let fs = two_of IsOne (optional_pieces role.Word rank) (statement_pieces result body) f.1.1 in (
+            word around parts t'.0 ks.0 ms.0 f.0,
+            word around part t'.1 ks.1 ms.1 f.1.0,
+            word_or around rank t'.2 ks.2 ms.2 fs.0,
+            statement l _ body i.3 t'.3 ks.3 (scope_of (statement_marks body) ms.3) fs.1,
           )
       statement l around (p.Barrier spot) i t' k m f = tt
       statement l around (p.Break spot) i t' k m f = i

@@ -32,8 +32,7 @@ use Rattle.fk_shapes.proofs.Programs.{forms_are_shaped}
 use Rattle.fk_certain.proofs.Low.{counted}
 use Rattle.fk_certain.proofs.Frames.{agree_in}
 use Rattle.fk_certain.specs.HeightLaws.{ListsHaveHeights}
-use Rattle.fk_certain.proofs.Heights as t
-use Rattle.fk_certain.proofs.Heights.{Tell, tall}
+use Rattle.fk_certain.proofs.Heights.{Tell, two, tall}
 
 -- a list tells its own elements
 at_length : (before : List ℕ) (x : ℕ) (xs : List ℕ) → slice_get (before ++ x ∷ xs) (length before) ≡ Some x
@@ -74,7 +73,7 @@ module _ (known : Known) (has_body : ℕ → Bool) where
   function_tall depth f site l s e all shaped typed told =
       let code = code_of tables everyone f in
       let functions = signature_in tables everyone in
-      tall functions places depth code beginning site
+      tall functions places depth code beginning site refl
       (counted functions places (agree_in tables everyone) has_body code site false l s e shaped typed (along is_plain code all))
       (opened has_body code site false shaped) told
 
@@ -93,16 +92,18 @@ module _ (known : Known) (has_body : ℕ → Bool) where
   bodies_tall depth [] site b l s e all shaped typed told = tt
   bodies_tall depth (f ∷ fs) site b l s e all shaped typed told =
       by (binding_of tables f == b)
-      (λ shaped typed. bodies_tall depth fs (site + size (code f)) b l s e (back is_plain (operations (code f)) (operations_in tables everyone fs) all) shaped typed
-      (t.back depth (own f) (depths_of known fs) site (site + size (code f)) (ap (λ k. site + k) (many (signature_in tables everyone) (code f) beginning)) told))
+      (λ shaped typed. bodies_tall depth fs (site + size (code f)) b l s e (back is_plain (operations (code f)) (operations_in tables everyone fs) all) shaped typed parts.1)
       shaped typed
     where
+      parts : Tell depth site (own f) × Tell depth (site + size (code f)) (depths_of known fs)
+      parts = two depth (own f) (depths_of known fs) site (site + size (code f)) (ap (λ k. site + k) (many (signature_in tables everyone) (code f) beginning)) told
+
       by : (is : Bool) → (IsShaped has_body false (behind f fs site b) → Typed places l s (behind f fs site b) e → HasHeights places depth 0 (behind f fs site b))
           → IsShaped has_body false (if is then numbered site (code f) else behind f fs site b)
           → Typed places l s (if is then numbered site (code f) else behind f fs site b) e
           → HasHeights places depth 0 (if is then numbered site (code f) else behind f fs site b)
       by true more shaped' typed' =
-          function_tall depth f site l s e (front is_plain (operations (code f)) (operations_in tables everyone fs) all) shaped' typed' (t.front depth (own f) (depths_of known fs) site told)
+          function_tall depth f site l s e (front is_plain (operations (code f)) (operations_in tables everyone fs) all) shaped' typed' parts.0
       by false more shaped' typed' = more shaped' typed'
 
 abbrev Holds : Known → List CoreOp → ProgramTree → Type 0

@@ -1,16 +1,16 @@
 -- The places of the declarations of a text are low: there are few private ones, and shared words are few.
-use Rattle.std.proofs.Common.{◌≡◌, ℕ, ◌+◌, ◌^◌, ◌≤◌, Bool, true, false, List, [], ◌∷◌, ◌++◌, length, Option, Some, None, refl, sym, subst, length-append, arith}
-use Rattle.std.specs.Prelude.{min, if◌then◌else◌}
+use Rattle.std.proofs.Common.{◌≡◌, ℕ, ◌+◌, ◌^◌, ◌≤◌, Bool, true, false, List, [], ◌∷◌, ◌++◌, length, Option, Some, None, refl, length-append, arith}
+use Rattle.std.specs.Prelude.{if◌then◌else◌}
 use Rattle.fk_syntax.specs.Program as p
-use Rattle.fk_syntax.specs.Program.{DeclaredTree, Statement, Statements, ItemTree}
+use Rattle.fk_syntax.specs.Program.{DeclaredTree, Statements, ItemTree}
 use Rattle.fk_forms.specs.declared.tables.Home.TheVariants as h
 use Rattle.fk_forms.specs.declared.tables.Slot.{Slot}
-use Rattle.fk_slots.specs.Told.{Told, splits_at, words_at}
-use Rattle.fk_slots.specs.Places.{none_taken, within, outside, behind_private, slot_in, file_slot, no_slot, no_slots, behind_words, behind_variable, behind_variables, behind_parameter, behind_parameters, variables_slots, parameters_slots, file_slots}
-use Rattle.fk_slots.specs.Slots.{behind_body_frame, begun, begun_two, behind, behind_all, slots_in, all_slots_in, taken_first, body_slots, items_slots, behind_body}
+use Rattle.fk_slots.specs.Told.{Told, words_at}
+use Rattle.fk_slots.specs.Places.{none_taken, within, outside, behind_private, file_slot, no_slot, behind_words, behind_variable, behind_variables, file_slots}
+use Rattle.fk_slots.specs.Slots.{body_slots, items_slots, behind_body}
 use Rattle.fk_fitting.proofs.Each.{Each}
 use Rattle.fk_certain.proofs.Regions.{join}
-use Rattle.fk_certain.proofs.Taken.{same_within, same_outside, same_body_frame, same_two}
+use Rattle.fk_certain.proofs.Walk.{Joins, of_body, of_header}
 
 abbrev pub most : ℕ
 most = 2 ^ 20
@@ -22,9 +22,6 @@ IsLow s = s.index ≤ most
 record Good (slots : List Slot) (from to : ℕ) : Type 0 where
   low : from + length slots ≤ most → Each IsLow slots
   few : to ≤ from + length slots
-
--- so many private places are taken
--- (what is taken is told by the beginning of a frame, which has as many)
 
 none : (n : ℕ) → Good [] n n
 none n = record { low = λ h. tt; few = omega arith }
@@ -38,96 +35,19 @@ both xs ys a b c h k = record {
   few = let sum = length-append xs ys in let hf = h.few in let kf = k.few in omega (arith, sum, hf, kf);
 }
 
--- one of two ways
-either : {T : Type 0} (count : T → ℕ) (b : Bool) (xs ys : List Slot) (n : ℕ) (t u : T) → Good xs n (count t) → Good ys n (count u)
-    → Good (if b then xs else ys) n (count (if b then t else u))
-either count true xs ys n t u h k = h
-either count false xs ys n t u h k = k
-
-again : (xs : List Slot) (a b c d : ℕ) → a ≡ c → b ≡ d → Good xs a b → Good xs c d
-again xs a b c d same ends h = subst (λ n. Good xs n d) same (subst (λ n. Good xs a n) ends h)
-
-module _ (told : Told) (frame : ℕ) where
-  shared_or : (b : Bool) (taken : _) (x : DeclaredTree)
-      → Good ((if b then record { home = h.Group frame; index = min taken.words 1048576 } else record { home = h.Private; index = taken.privates }) ∷ [])
-      (within taken).privates (within (if b then behind_words told taken x else behind_private taken)).privates
-  unfolding within behind_words behind_private
-  shared_or true taken x = record { low = λ few. (omega arith, tt); few = omega arith }
-  shared_or false taken x = record { low = λ few. (omega (arith, few), tt); few = omega arith }
-
-  one_variable : (taken : _) (x : DeclaredTree) → Good (slot_in frame taken x ∷ []) (within taken).privates (within (behind_variable told taken x)).privates
-  unfolding slot_in behind_variable
-  one_variable taken x = shared_or x.shared taken x
-
-  parameter_or : (b : Bool) (taken : _) (x : DeclaredTree)
-      → Good ((if b then record { home = h.Group frame; index = min taken.words 1048576 } else record { home = h.Private; index = taken.privates }) ∷ [])
-      (within taken).privates (within (behind_private (if b then behind_words told taken x else taken))).privates
-  unfolding within behind_words behind_private
-  parameter_or true taken x = record { low = λ few. (omega arith, tt); few = omega arith }
-  parameter_or false taken x = record { low = λ few. (omega (arith, few), tt); few = omega arith }
-
-  one_parameter : (taken : _) (x : DeclaredTree) → Good (slot_in frame taken x ∷ []) (within taken).privates (within (behind_parameter told taken x)).privates
-  unfolding slot_in behind_parameter
-  one_parameter taken x = parameter_or x.shared taken x
-
-  of_variables : (taken : _) (xs : List DeclaredTree) → Good (variables_slots told frame taken xs) (within taken).privates (within (behind_variables told taken xs)).privates
-  of_variables taken [] = none _
-  of_variables taken (x ∷ xs) = both _ _ _ _ _ (one_variable taken x) (of_variables (behind_variable told taken x) xs)
-
-  of_parameters : (taken : _) (xs : List DeclaredTree) → Good (parameters_slots told frame taken xs) (within taken).privates (within (behind_parameters told taken xs)).privates
-  of_parameters taken [] = none _
-  of_parameters taken (x ∷ xs) = both _ _ _ _ _ (one_parameter taken x) (of_parameters (behind_parameter told taken x) xs)
+joined : Joins Good
+joined = record {
+  none = none;
+  both = both;
+  own = λ n. record { low = λ few. (omega (arith, few), tt); few = omega arith };
+  word = λ frame words n. record { low = λ few. (omega arith, tt); few = omega arith };
+  counted = λ frame words n. record { low = λ few. (omega arith, tt); few = omega arith };
+}
 
 module _ (told : Told) where
-  -- a body with its frame
-  framed : (taken : _) (x : Statement) → (frame : ℕ) → Good (slots_in told frame (begun told taken x) x) (within (begun told taken x)).privates (within (behind told (begun told taken x) x)).privates
-      → Good (slots_in told frame (begun told taken x) x) (within taken).privates (within (outside taken (behind told (begun told taken x) x))).privates
-  framed taken x frame h = again _ _ _ _ _ (same_body_frame told taken x) (sym (same_outside taken (behind told (begun told taken x) x))) h
-
-  mutual
-    good : (frame : ℕ) (taken : _) (x : Statement) → Good (slots_in told frame taken x) (within taken).privates (within (behind told taken x)).privates
-    good frame taken p.Empty = none _
-    good frame taken (p.Expression value) = none _
-    good frame taken (p.Block list) = all_good frame taken list
-    good frame taken (p.Declare variables) = of_variables told frame taken variables
-    good frame taken (p.If spot condition first) = either (λ t. (within t).privates) (splits_at told spot.at) _ _ _ _ _ (framed taken first taken.frames (good taken.frames (begun told taken first) first)) (good frame taken first)
-    good frame taken (p.IfElse spot condition first second) = either (λ t. (within t).privates) (splits_at told spot.at) _ _ _ _ _
-        (both _ _ _ _ _
-        (again _ _ _ _ _ (same_two told taken first second) refl (good taken.frames (begun_two told taken first second) first))
-        (again _ _ _ _ _ (same_within (behind told (begun_two told taken first second) first)) (sym (same_outside taken (behind told (within (behind told (begun_two told taken first second) first)) second)))
-        (good (behind_body_frame told taken first).frames (within (behind told (begun_two told taken first second) first)) second)))
-        (both _ _ _ _ _ (good frame taken first) (good frame (behind told taken first) second))
-    good frame taken (p.While spot condition body) = either (λ t. (within t).privates) (splits_at told spot.at) _ _ _ _ _ (framed taken body taken.frames (good taken.frames (begun told taken body) body)) (good frame taken body)
-    good frame taken (p.DoWhile spot body condition) = either (λ t. (within t).privates) (splits_at told spot.at) _ _ _ _ _ (framed taken body taken.frames (good taken.frames (begun told taken body) body)) (good frame taken body)
-    good frame taken (p.For spot before condition after body) = either (λ t. (within t).privates) (splits_at told spot.at) _ _ _ _ _ (framed taken body taken.frames (good taken.frames (begun told taken body) body)) (good frame taken body)
-    good frame taken (p.Start spot count body) = framed taken body taken.frames (good taken.frames (begun told taken body) body)
-    good frame taken (p.Fork spot parts part rank body) = framed taken body taken.frames (good taken.frames (begun told taken body) body)
-    good frame taken (p.Farm spot body) = good frame taken body
-    good frame taken (p.Seq spot body) = good frame taken body
-    good frame taken (p.Barrier spot) = none _
-    good frame taken (p.Break spot) = none _
-    good frame taken (p.Continue spot) = none _
-    good frame taken (p.Return spot value) = none _
-
-    all_good : (frame : ℕ) (taken : _) (x : Statements) → Good (all_slots_in told frame taken x) (within taken).privates (within (behind_all told taken x)).privates
-    all_good frame taken p.no_statements = none _
-    all_good frame taken (p.statement first others) = both _ _ _ _ _ (good frame taken first) (all_good frame (behind told taken first) others)
-
-  opens_at_0 : (file : _) (parameters : List DeclaredTree) (body : Statements) → (within (taken_first told file parameters body)).privates ≡ 0
-  unfolding within
-  opens_at_0 file parameters body = refl
-
-  no_slots_low : (xs : List DeclaredTree) → Each IsLow (no_slots xs)
-  no_slots_low [] = tt
-  no_slots_low (x ∷ xs) = (omega arith, no_slots_low xs)
-
   body_low : (file : _) (parameters : List DeclaredTree) (body : Option Statements) → length (body_slots told file parameters body) ≤ most → Each IsLow (body_slots told file parameters body)
-  body_low file parameters None few = no_slots_low parameters
-  body_low file parameters (Some body) few =
-      let all = both _ _ _ _ _ (of_parameters told file.frames (taken_first told file parameters body) parameters)
-      (all_good file.frames (behind_parameters told (taken_first told file parameters body) parameters) body) in
-      let from = opens_at_0 file parameters body in
-      all.low (omega (arith, few, from))
+  body_low file parameters None few = of_header IsLow (omega arith) parameters
+  body_low file parameters (Some body) few = (of_body Good joined told file parameters body).low (omega (arith, few))
 
   -- ---- items
 
