@@ -14,7 +14,7 @@ use Rattle.fk_flat.specs.Laws.{AreShaped, IsFlat}
 use Rattle.fk_text.specs.Built.{operations_of}
 use Rattle.fk_text.specs.Plain.{is_plain, ArePlain}
 use Rattle.fk_typed_code.specs.Laws.{IsTypedList}
-use Rattle.fk_typed_code.proofs.Free.{typed_lists_lead_within, entries_are_within}
+use Rattle.fk_typed_code.proofs.Within.{typed_lists_lead_within, entries_are_within}
 use Rattle.fk_typed_forms.specs.Asked.{place_of, ProgramAsked}
 use Rattle.fk_typed_forms.proofs.Programs.{forms_are_typed}
 use Rattle.fk_certain.specs.FreeLaws.{ListsArePlain, ListsGoOnWithin}

@@ -56,9 +56,6 @@ module _ (n : ℕ) (opening : List MarkedLine) where
   pub followed_labelled : AreFollowed labelled
   followed_labelled = All-nil (λ entry. entry.0 < 0)
 
-  pub count_labelled : length labelled.bound ≡ label_of n
-  count_labelled = length-replicate (label_of n) None
-
   module _ (opened : Assembly) (made : opened ≡ with_block labelled opening) where
     same_bound : opened.bound ≡ replicate (label_of n) None
     same_bound = ap (λ (a : Assembly). a.bound) made

@@ -8,7 +8,6 @@ pub mod Shapes
 pub mod Whole
 pub mod Laying
 pub mod Suited
-pub mod Free
 pub mod Laws
 pub mod Done
 pub mod Steps

@@ -1,6 +1,5 @@
 pub mod Granting
 pub mod Examples
-pub mod Weaker
 pub mod Done
 pub mod System
 mod Marks
@@ -9,7 +8,7 @@ pub mod Standing
 pub mod Sound
 pub mod Listed
 pub mod Valued
-pub mod Free
+pub mod Within
 pub mod Knowing
 pub mod Depths
 mod ListExample

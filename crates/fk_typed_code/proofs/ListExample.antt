@@ -1,20 +1,15 @@
 -- A list that another interpreter of the same rules made, of functions that are well typed:
 -- int f(int n) { return n ? 1 + f(n - 1) : 0; } void main(void) { putint(f(3)); }
-use Rattle.std.proofs.Common.{◌≡◌, ℕ, zero, suc, ◌+◌, ◌<◌, ◌≤◌, Bool, true, false, List, [], ◌∷◌, slice_get, get_or, Option, None, Some, inl, inr, refl, sym, ap, ◌∙◌, subst, arith}
+use Rattle.std.proofs.Common.{◌≡◌, ℕ, zero, suc, ◌+◌, ◌<◌, ◌≤◌, Bool, true, false, List, [], ◌∷◌, slice_get, get_or, None, Some, inl, inr, refl, sym, ap, ◌∙◌, subst, arith}
 use Rattle.std.specs.Prelude.{◌==◌, ◌||◌, ◌&&◌, ◌⊎◌}
 use Rattle.std.proofs.lemmas.Bool.{eqb-true}
-use Rattle.fk_operation.specs.declared.operation.Operation.{Operation}
-use Rattle.fk_operation.specs.declared.operation.Operation.TheVariants as o
 use Rattle.fk_forms.specs.Code.{done}
 use Rattle.fk_core.specs.declared.op.CoreOp.{CoreOp}
-use Rattle.fk_core.specs.Numbers.{operation_of}
 use Rattle.fk_core.specs.Next.{is_jump}
 use Rattle.fk_core.proofs.Leading.{op_stops}
 use Rattle.fk_core.proofs.Examples.{recursion_core as core}
 use Rattle.fk_flat.specs.Flat.{extent}
 use Rattle.fk_flat.proofs.ListExamples.{f_code, main_code, of_binding, bodies, entry, is_flat, are_shaped}
-use Rattle.fk_block_law.specs.Ready.{is_alone}
-use Rattle.fk_block_law.specs.Lists.{IsFree}
 use Rattle.fk_depths.specs.Local.{HasLocalDepths}
 use Rattle.fk_kept.specs.declared.places.Place.{Place}
 use Rattle.fk_kept.specs.declared.places.Place.TheVariants.{Main, Called}
@@ -23,10 +18,10 @@ use Rattle.fk_known.specs.Values.{constants}
 use Rattle.fk_typed_code.specs.Values.{Unknown, State, bare, Grants}
 use Rattle.fk_typed_code.specs.Typed.{Typed, IsTyped, AreTyped}
 use Rattle.fk_typed_code.specs.Heights.{HasHeights}
-use Rattle.fk_typed_code.specs.Laws.{IsTypedList, IsLone, HasHeightsOf}
+use Rattle.fk_typed_code.specs.Laws.{IsTypedList, LeadsWithin, HasHeightsOf}
 use Rattle.fk_typed_code.proofs.Granting.{none_asked, good_as_itself, grants_itself}
 use Rattle.fk_typed_code.proofs.Examples.{may, at}
-use Rattle.fk_typed_code.proofs.Free.{typed_lists_are_free}
+use Rattle.fk_typed_code.proofs.Within.{typed_lists_lead_within}
 use Rattle.fk_typed_code.proofs.Knowing.{typed_lists_know}
 use Rattle.fk_typed_code.proofs.Depths.{typed_lists_have_depths}
 
@@ -140,29 +135,8 @@ has_heights = record {
 has_depths : HasLocalDepths core 14
 has_depths = typed_lists_have_depths bodies core entry place_of typed_list has_heights 1 refl
 
--- and each operation is one without a group, or a halt
-abbrev is_halt : Operation → Bool
-is_halt o.Halt = true
-is_halt op = false
-
-abbrev is_lone_by : Option Operation → Bool
-is_lone_by None = true
-is_lone_by (Some op) = is_alone op || is_halt op
-
-lone_or_halt : (op : Operation) → (is_alone op || is_halt op) ≡ true → (is_alone op ≡ true) ⊎ (op ≡ o.Halt)
-lone_or_halt o.Halt e = inr refl
-lone_or_halt op e = inl (only (is_alone op) e)
-  where
-    only : (b : Bool) → (b || false) ≡ true → b ≡ true
-    only true e = refl
-    only false e = e
-
-lone : IsLone core
-lone i op operation e r =
-    lone_or_halt operation (ap is_lone_by (sym r) ∙ each_at (λ op. is_lone_by (operation_of op.kind op.number)) core i op refl e)
-
 has_knowledge : HasKnowledge core 14
 has_knowledge = typed_lists_know bodies core entry place_of typed_list 1 refl
 
-is_free : IsFree core
-is_free = typed_lists_are_free bodies core entry place_of typed_list lone
+leads_within : LeadsWithin core
+leads_within = typed_lists_lead_within bodies core entry place_of typed_list

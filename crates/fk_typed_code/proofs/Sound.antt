@@ -23,11 +23,6 @@ use Rattle.fk_typed_code.proofs.System.{System, GrantsLoop, Judged, IsLawful}
 use Rattle.fk_typed_code.proofs.Marks.{skip_mark, skip_length, Noted, noted_front, noted_back, marks, mark_length}
 use Rattle.fk_typed_code.proofs.Standing.{stands_at}
 
-either_false : (a b : Bool) → (a || b) ≡ false → (a ≡ false) × (b ≡ false)
-either_false false false e = (refl, refl)
-either_false false true e = absurd (cc)
-either_false true b e = absurd (cc)
-
 -- the list, the states at its indices, and where depths are told, the depth of each site
 module _ (core : List CoreOp) (entry : ℕ → ℕ) (place_of : ℕ → Place) (sys : System) (lawful : IsLawful sys place_of) (state : ℕ → sys.State) (told : Bool) (depth : ℕ → ℕ) where
   -- who comes to an index in a state finds what is asked there, and an operation or a jump

@@ -1,7 +1,6 @@
 -- What is so of the flat lists of well typed code.
-use Rattle.std.specs.Prelude.{◌≡◌, ℕ, ◌+◌, ◌<◌, ◌≤◌, ◌⊎◌, List, [], slice_get, Bool, true, false, Some}
+use Rattle.std.specs.Prelude.{◌≡◌, ℕ, ◌+◌, ◌<◌, ◌≤◌, List, [], slice_get, Bool, true, false, Some}
 use Rattle.fk_operation.specs.declared.operation.Operation.{Operation}
-use Rattle.fk_operation.specs.declared.operation.Operation.TheVariants.{Halt}
 use Rattle.fk_forms.specs.Code.{Code}
 use Rattle.fk_core.specs.declared.op.CoreOp.{CoreOp}
 use Rattle.fk_core.specs.Numbers.{operation_of}
@@ -9,8 +8,7 @@ use Rattle.fk_core.specs.Next.{is_jump, follows}
 use Rattle.fk_core.specs.WellFormed.{IsOperation}
 use Rattle.fk_flat.specs.Flat.{extent}
 use Rattle.fk_flat.specs.Laws.{AreShaped, IsFlat}
-use Rattle.fk_block_law.specs.Ready.{is_alone}
-use Rattle.fk_block_law.specs.Lists.{is_end, StaysInList, IsFree}
+use Rattle.fk_block_law.specs.Lists.{is_end, StaysInList}
 use Rattle.fk_depths.specs.Local.{HasLocalDepths}
 use Rattle.fk_kept.specs.declared.places.Place.{Place}
 use Rattle.fk_kept.specs.declared.places.Place.TheVariants.{Main}
@@ -37,12 +35,6 @@ pub record LeadsWithin (core : List CoreOp) : Type 0 where
       → operation_of op.kind op.number ≡ Some operation → is_end operation ≡ false
       → (onward : Bool) → StaysInList core (follows core operation i op.target [] onward)
 
--- each operation is one without a group, or a halt
-abbrev pub IsLone : List CoreOp → Type 0
-IsLone core =
-    (i : ℕ) (op : CoreOp) (operation : Operation) → slice_get core i ≡ Some op → operation_of op.kind op.number ≡ Some operation
-    → (is_alone operation ≡ true) ⊎ (operation ≡ Halt)
-
 -- the depth of each operation of a list is told by its site, and is as high as the code before it makes it
 pub record HasHeightsOf (bodies : (binding : ℕ) → Code ℕ) (core : List CoreOp) (place_of : (binding : ℕ) → Place) : Type 0 where
   pub depth : (site : ℕ) → ℕ
@@ -54,11 +46,6 @@ abbrev pub TypedListsLeadWithin : Type 0
 TypedListsLeadWithin =
     (bodies : (binding : ℕ) → Code ℕ) (core : List CoreOp) (entry : ℕ → ℕ) (place_of : (binding : ℕ) → Place)
     → IsTypedList bodies core entry place_of → LeadsWithin core
-
-abbrev pub TypedListsAreFree : Type 0
-TypedListsAreFree =
-    (bodies : (binding : ℕ) → Code ℕ) (core : List CoreOp) (entry : ℕ → ℕ) (place_of : (binding : ℕ) → Place)
-    → IsTypedList bodies core entry place_of → IsLone core → IsFree core
 
 abbrev pub TypedListsKnow : Type 0
 TypedListsKnow =

@@ -1,16 +1,11 @@
 //! Laws of the flat lists of well typed code.
 
-ghost use Rattle.fk_typed_code.specs.Laws.{TypedListsLeadWithin, TypedListsAreFree, TypedListsKnow, TypedListsHaveDepths};
+ghost use Rattle.fk_typed_code.specs.Laws.{TypedListsLeadWithin, TypedListsKnow, TypedListsHaveDepths};
 
 /// A flat list of well typed functions goes on within itself: its jumps lead to operations, and no
 /// operation but an end goes on outside it.
 pub fn typed_lists_lead_within()
     ensures { TypedListsLeadWithin }
-{}
-
-/// So it does where each operation is one without a group, or a halt.
-pub fn typed_lists_are_free()
-    ensures { TypedListsAreFree }
 {}
 
 /// A flat list of well typed functions has knowledge of each address that it uses, with nothing known where `main` begins.

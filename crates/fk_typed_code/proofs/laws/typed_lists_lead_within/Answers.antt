@@ -1,4 +1,4 @@
-use Rattle.fk_typed_code.proofs.Free.{typed_lists_lead_within}
+use Rattle.fk_typed_code.proofs.Within.{typed_lists_lead_within}
 use Rattle.fk_typed_code.proofs.laws.typed_lists_lead_within.Goals as goal
 
 pub returns : goal.returns

@@ -14,7 +14,7 @@ use Rattle.fk_flat.proofs.Jumps.{jumps_lead_to_operations}
 use Rattle.fk_block_law.specs.Lists.{is_end, StaysInList}
 use Rattle.fk_kept.specs.declared.places.Place.TheVariants.{Main}
 use Rattle.fk_typed_code.specs.Values.{bare}
-use Rattle.fk_typed_code.specs.Laws.{IsTypedList, TypedListsLeadWithin, TypedListsAreFree}
+use Rattle.fk_typed_code.specs.Laws.{IsTypedList, TypedListsLeadWithin}
 use Rattle.fk_typed_code.proofs.Sound.{Goes}
 use Rattle.fk_typed_code.proofs.System.{System, IsLawful}
 use Rattle.fk_typed_code.proofs.Valued.{values, values_lawful, all_judged, at}
@@ -60,8 +60,3 @@ typed_lists_lead_within bodies core entry place_of typed =
           (let sound = of_operation bodies core entry place_of typed (values place_of) (values_lawful place_of) (all_judged bodies core entry place_of typed) (bare Main) false none (λ z. absurd (true≢false (sym z))) i op operation e is in
           inside core entry place_of (values place_of) (values_lawful place_of) (at bodies core entry place_of typed) false none operation (at bodies core entry place_of typed i) i op.target (way_of operation) refl n sound.goes onward);
     }
-
-pub typed_lists_are_free : TypedListsAreFree
-typed_lists_are_free bodies core entry place_of typed lone =
-    let leads = typed_lists_lead_within bodies core entry place_of typed in
-    record { jumps = leads.jumps; alone = lone; within = leads.within }

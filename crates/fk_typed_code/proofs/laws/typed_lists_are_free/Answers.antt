@@ -1,5 +1,0 @@
-use Rattle.fk_typed_code.proofs.Free.{typed_lists_are_free}
-use Rattle.fk_typed_code.proofs.laws.typed_lists_are_free.Goals as goal
-
-pub returns : goal.returns
-returns c = typed_lists_are_free
