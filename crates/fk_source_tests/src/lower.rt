@@ -1,5 +1,8 @@
-use fk_lower::{CodeEvent, build, lower};
+use fk_core::CoreOp;
+use fk_lower::{CodeEvent, Lowered, build, lower};
 use fk_operation::{Known, Operation};
+use std::alloc::Global;
+use std::process::Abort;
 use std::test::Fail;
 
 const GET: CodeEvent = CodeEvent::Perform(Operation::Get(Known::Rank));
@@ -30,19 +33,39 @@ static LEFT_LOOP: [CodeEvent; 18] = [
     CodeEvent::Ends(Operation::Halt),
 ];
 
+// The kind, the target and the depth of each operation and jump of its list.
+static LISTED: [(u8, u32, u32); 11] = [
+    (2, 0, 0),
+    (9, 10, 1),
+    (2, 0, 0),
+    (9, 5, 1),
+    (0, 0, 0),
+    (2, 0, 0),
+    (9, 8, 1),
+    (0, 10, 0),
+    (2, 0, 0),
+    (0, 0, 0),
+    (34, 0, 7),
+];
+
+// The list of that body, which the binding 1 has, where the binding 0 has none.
+fn lowered(alloc: Global) -> Result<Lowered, Fail> {
+    let bodies = vec![in alloc; build(alloc, 0, &[])?, build(alloc, 0, &LEFT_LOOP)?]?;
+    Ok(lower(alloc, &bodies, &[0, 1, 0, 1, 0, 1, 0, 7])?)
+}
+
+fn is_listed(rt: &impl Abort, op: &CoreOp, (kind, target, depth): (u8, u32, u32)) {
+    assert_eq!(rt; op.kind, kind);
+    assert_eq!(rt; op.target, target);
+    assert_eq!(rt; op.depth, depth);
+}
+
 #[test]
 fn loop_that_is_left(rt: HostRuntime) -> Result<(), Fail> {
-    let alloc = rt.alloc();
-    let bodies = vec![in alloc; build(alloc, 0, &[])?, build(alloc, 0, &LEFT_LOOP)?]?;
-    let lowered = lower(alloc, &bodies, &[0, 1, 0, 1, 0, 1, 0, 7])?;
-    let kinds = [2, 9, 2, 9, 0, 2, 9, 0, 2, 0, 34];
-    let targets = [0, 10, 0, 5, 0, 0, 8, 10, 0, 0, 0];
-    let depths = [0, 1, 0, 1, 0, 0, 1, 0, 0, 0, 7];
-    assert_eq!(rt; lowered.ops.len(), kinds.len());
-    for (index, op) in lowered.ops.iter().enumerate() {
-        assert_eq!(rt; op.kind, kinds[index]);
-        assert_eq!(rt; op.target, targets[index]);
-        assert_eq!(rt; op.depth, depths[index]);
+    let lowered = lowered(rt.alloc())?;
+    assert_eq!(rt; lowered.ops.len(), LISTED.len());
+    for (op, expected) in lowered.ops.iter().zip(&LISTED) {
+        is_listed(&rt, op, *expected);
     }
     assert_eq!(rt; lowered.entries.of_bindings.as_slice(), [11, 0].as_slice());
     Ok(())

@@ -16,7 +16,7 @@ const HEAP_0: u32 = 0x2001_0000;
 const LAST_OF_HEAP: u32 = 0x2001_FFFC;
 
 // A processor's request is answered so.
-fn answers(
+pub(crate) fn answers(
     rt: &impl Abort,
     store: &mut Store32,
     request: Request,

@@ -8,7 +8,7 @@ use std::process::Abort;
 
 // Starts the seven processors of a tree, and splits their group in three parts by the rest: the
 // group, and the first part.
-fn split_by_rest(alloc: Global, tree: &mut Tree) -> Result<(u64, u64), AllocError>
+pub(crate) fn split_by_rest(alloc: Global, tree: &mut Tree) -> Result<(u64, u64), AllocError>
     requires root { tree_of tree.old ≡ t.root 7 }
     requires seven { processors tree.old ≡ 7 }
     ensures { processors tree.new ≡ 7 }
@@ -19,7 +19,7 @@ fn split_by_rest(alloc: Global, tree: &mut Tree) -> Result<(u64, u64), AllocErro
 }
 
 // These are the members of a node.
-fn has_members(rt: &impl Abort, tree: &Tree, node: u64, members: &[u32]) {
+pub(crate) fn has_members(rt: &impl Abort, tree: &Tree, node: u64, members: &[u32]) {
     assert_eq!(rt; tree.members(node), members);
 }
 
