@@ -4,8 +4,6 @@
 #[cfg(test)]
 mod flat_list;
 #[cfg(test)]
-mod fork;
-#[cfg(test)]
 mod forms;
 #[cfg(test)]
 mod graph;
@@ -13,6 +11,8 @@ mod graph;
 mod lookup;
 #[cfg(test)]
 mod lower;
+#[cfg(test)]
+mod opening;
 #[cfg(test)]
 mod operation;
 #[cfg(test)]

@@ -8,7 +8,7 @@ use std::process::Abort;
 
 // Starts the seven processors of a tree, and splits their group in three parts by the rest: the
 // group, and the first part.
-pub(crate) fn split_by_rest(alloc: Global, tree: &mut Tree) -> Result<(u64, u64), AllocError>
+fn split_by_rest(alloc: Global, tree: &mut Tree) -> Result<(u64, u64), AllocError>
     requires root { tree_of tree.old ≡ t.root 7 }
     requires seven { processors tree.old ≡ 7 }
     ensures { processors tree.new ≡ 7 }
@@ -23,7 +23,8 @@ pub(crate) fn has_members(rt: &impl Abort, tree: &Tree, node: u64, members: &[u3
     assert_eq!(rt; tree.members(node), members);
 }
 
-// Seven processors, of which all are started, in three parts by their rest.
+// The tree of `start fork (3; @=$%3; $=$/3) ..` on seven processors: the part with each number has those
+// whose number has it as its rest, so the sizes of the parts are 3, 2 and 2.
 #[test]
 fn a_group_is_split_by_the_rest(rt: HostRuntime) -> Result<(), AllocError> {
     let mut tree = Tree::root(rt.alloc(), 7)?;
@@ -35,6 +36,8 @@ fn a_group_is_split_by_the_rest(rt: HostRuntime) -> Result<(), AllocError> {
     has_members(&rt, &tree, 3, &[1, 4]);
     has_members(&rt, &tree, 4, &[2, 5]);
     assert_eq!(rt; tree.given(), 5);
+    assert_eq!(rt; tree.node_of(6), 2);
+    assert_eq!(rt; tree.node_of(4), 3);
     assert_eq!(rt; tree.node_of(5), 4);
     assert!(rt; !tree.ready(group));
     Ok(())

@@ -1,11 +1,9 @@
 use crate::state::{PLACE, WORD_0, facts_of, opened, text_of};
 use crate::store::answers;
-use crate::tree::{has_members, split_by_rest};
+use crate::tree::has_members;
 use fk_state::Processor;
 use fk_store::Request;
 use fk_syntax::{Base, Declared, Kind, Name, Note, TypeName};
-use fk_tree::Tree;
-use std::alloc::AllocError;
 use std::process::Abort;
 use std::test::Fail;
 
@@ -42,26 +40,6 @@ fn three_words() -> Declared<'static> {
     }
 }
 
-// The tree of `start fork (3; @=$%3; $=$/3) ..` on seven processors: the part with each number has those
-// whose number has it as its rest.
-#[test]
-fn seven_processors_make_three_parts(rt: HostRuntime) -> Result<(), AllocError> {
-    let mut tree = Tree::root(rt.alloc(), 7)?;
-    has_members(&rt, &tree, 0, &[0, 1, 2, 3, 4, 5, 6]);
-    let (group, first) = split_by_rest(rt.alloc(), &mut tree)?;
-    assert!(rt; first == 2);
-    // so the sizes of the parts are 3, 2 and 2
-    has_members(&rt, &tree, first, &[0, 3, 6]);
-    has_members(&rt, &tree, first + 1, &[1, 4]);
-    has_members(&rt, &tree, first + 2, &[2, 5]);
-    assert_eq!(rt; tree.node_of(6), first);
-    assert_eq!(rt; tree.node_of(4), first + 1);
-    assert_eq!(rt; tree.node_of(5), first + 2);
-    assert_eq!(rt; tree.given(), 5);
-    assert!(rt; !tree.ready(group));
-    Ok(())
-}
-
 // A processor begins at the root, in a group of all seven.
 fn begins(rt: &impl Abort, processor: &Processor) {
     assert_eq!(rt; processor.level.number, 0);
@@ -69,7 +47,7 @@ fn begins(rt: &impl Abort, processor: &Processor) {
     assert_eq!(rt; processor.level.size, 7);
 }
 
-// The opening of such a text with `sh int s[3];`, of which the name of `s` alone is a token.
+// The opening of a text with `sh int s[3];`, of which the name of `s` alone is a token.
 #[test]
 fn seven_processors_share_three_words(rt: HostRuntime) -> Result<(), Fail> {
     let alloc = rt.alloc();
