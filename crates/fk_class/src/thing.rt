@@ -24,7 +24,11 @@ pub enum Thing {
 fn declared_thing(declarations: &[Declaration], number: u32) -> Option<Thing>
     ensures { result ≡ thing_of (slice_get (map declaration_of declarations.now) number) }
 {
-    match declarations.get(number as usize)? {
+    let at = number as usize;
+    if at >= declarations.len() {
+        return None;
+    }
+    match &declarations[at] {
         Declaration::Variable(variable) if variable.shared => Some(Thing::SharedVariable),
         Declaration::Variable(_) => Some(Thing::PrivateVariable),
         Declaration::Function(_) => Some(Thing::Function),
@@ -36,7 +40,7 @@ pub fn thing_at(names: &Names, token: u32) -> Option<Thing>
     ensures { result ≡ thing_in names.now token }
 {
     match names.meanings.get(token as usize).copied().flatten()? {
-        Meaning::Declared(number) => declared_thing(&names.declarations, number),
+        Meaning::Declared(number) => declared_thing(names.declared(), number),
         Meaning::Predeclared => Some(Thing::Predeclared),
         Meaning::Undeclared => None,
     }

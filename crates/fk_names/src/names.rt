@@ -41,6 +41,15 @@ pub struct Names<'p, 'a> {
     pub meanings: Vec<Option<Meaning>>,
 }
 
+impl<'p, 'a> Names<'p, 'a> {
+    /// The declarations, by their numbers.
+    pub fn declared(&self) -> &[Declaration<'p, 'a>]
+        ensures { result.now ≡ self.now.declarations.items }
+    {
+        &self.declarations
+    }
+}
+
 const PREDECLARED: [&[u8]; 14] = [
     b"mpadd",
     b"mpmax",

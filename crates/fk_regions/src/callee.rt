@@ -20,9 +20,13 @@ pub enum Callee {
 fn declared_callee<'p, 'a>(declarations: &[Declaration<'p, 'a>], number: u32) -> Option<Callee>
     ensures { result ≡ callee_of (slice_get (map declaration_of declarations.now) number) }
 {
-    match declarations.get(number as usize) {
-        Some(Declaration::Function(function)) => Some(Callee::Function(function.mode)),
-        Some(Declaration::Variable(_)) | None => None,
+    let at = number as usize;
+    if at >= declarations.len() {
+        return None;
+    }
+    match &declarations[at] {
+        Declaration::Function(function) => Some(Callee::Function(function.mode)),
+        Declaration::Variable(_) => None,
     }
 }
 
@@ -38,7 +42,7 @@ pub(crate) fn called_by<'p, 'a>(names: &Names<'p, 'a>, token: u32) -> Option<Cal
     ensures { result ≡ callee_in names.now token }
 {
     match meaning_at(&names.meanings, token) {
-        Some(Meaning::Declared(number)) => declared_callee(&names.declarations, number),
+        Some(Meaning::Declared(number)) => declared_callee(names.declared(), number),
         Some(Meaning::Predeclared) => Some(Callee::Predeclared),
         Some(Meaning::Undeclared) | None => None,
     }
