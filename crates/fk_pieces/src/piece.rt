@@ -3,7 +3,7 @@
 use fk_syntax::{Declared, Expr, Function, Spot, TypeName};
 
 /// How an expression is used.
-#[derive(Clone, Copy, PartialEq, Eq, Debug)]
+#[derive(Clone, Copy)]
 pub enum Role {
     /// The condition of an `if` or a loop.
     Condition,

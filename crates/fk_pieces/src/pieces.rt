@@ -12,7 +12,7 @@ ghost use Rattle.fk_pieces.specs.View.{piece_of};
 ghost use Rattle.fk_pieces.specs.PiecesView.{pieces_in};
 
 use crate::piece::{Piece, Role};
-use fk_syntax::{Declared, Expr, Function, Item, Stmt, TypeName};
+use fk_syntax::{Declared, Expr, Function, Item, Spot, Stmt, TypeName};
 use std::alloc::{AllocError, Global};
 
 /// The pieces of a text, in the order in which it is read: a `do` has its body before its
@@ -134,6 +134,22 @@ impl<'p, 'a> Pieces<'p, 'a> {
         Self::add_optional(rank, Role::Word, kept)
     }
 
+    // A `return` in a function of a result.
+    //
+    // Here and below a piece is made in a function of its own: what makes it and does more has a
+    // longer proof.
+    fn add_return(
+        value: &'p Option<Expr<'a>>,
+        gives: &'p TypeName<'a>,
+        spot: Spot,
+        kept: &mut Self,
+    ) -> Result<(), AllocError>
+        ensures { OnOk result (pieces_in kept.new ≡ pieces_in kept.old
+            ++ t.Return (type_of gives.now) spot (option_map tree_of value.now) ∷ []) }
+    {
+        Self::add(Piece::Return(gives, spot, value), kept)
+    }
+
     #[cycle(statement)]
     fn add_statement(
         statement: &'p Stmt<'a>,
@@ -177,7 +193,7 @@ impl<'p, 'a> Pieces<'p, 'a> {
                 Self::add_parts(parts, part, rank, kept)?;
                 Self::add_statement(body, gives, kept)
             }
-            Stmt::Return(spot, value) => Self::add(Piece::Return(gives, *spot, value), kept),
+            Stmt::Return(spot, value) => Self::add_return(value, gives, *spot, kept),
         }
     }
 
@@ -196,11 +212,19 @@ impl<'p, 'a> Pieces<'p, 'a> {
         Ok(())
     }
 
+    // The header of a function.
+    fn add_header(function: &'p Function<'a>, kept: &mut Self) -> Result<(), AllocError>
+        ensures { OnOk result (pieces_in kept.new
+            ≡ pieces_in kept.old ++ t.Header (function_of function.now) ∷ []) }
+    {
+        Self::add(Piece::Header(function), kept)
+    }
+
     fn add_function(function: &'p Function<'a>, kept: &mut Self) -> Result<(), AllocError>
         ensures { OnOk result (pieces_in kept.new
             ≡ pieces_in kept.old ++ function_pieces (function_of function.now)) }
     {
-        Self::add(Piece::Header(function), kept)?;
+        Self::add_header(function, kept)?;
         Self::add_parameters(&function.params, kept)?;
         match &function.body {
             Some(body) => Self::add_statements(body, &function.result, kept),

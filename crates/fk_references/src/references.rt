@@ -46,21 +46,31 @@ impl<'a> References<'a> {
         &self.list
     }
 
-    fn push(&mut self, reference: Reference<'a>) -> Result<(), AllocError>
-        ensures { OnOk result (found_in self.new
-            ≡ found_in self.old ++ reference_of reference.entry ∷ []) }
+    fn push(reference: Reference<'a>, kept: &mut Self) -> Result<(), AllocError>
+        ensures { OnOk result (found_in kept.new
+            ≡ found_in kept.old ++ reference_of reference.entry ∷ []) }
     {
-        self.list.push(reference)?;
+        kept.list.push(reference)?;
         Ok(())
     }
 
     /// Adds those of an expression, and answers the index of its main token: of its last sign, or
     /// of its name or number. Fails only for want of memory.
-    #[cycle(expression)]
     pub fn add(&mut self, expression: &Expr<'a>) -> Result<u32, AllocError>
         ensures main { IfOk result (λ at. at ≡ main_token (tree_of expression.now)) }
         ensures added { OnOk result (found_in self.new
             ≡ found_in self.old ++ tree_references (tree_of expression.now)) }
+    {
+        Self::add_tree(expression, self)
+    }
+
+    // Here and below what is read stands before what it is added to: such calls have shorter proofs
+    // than methods.
+    #[cycle(expression)]
+    fn add_tree(expression: &Expr<'a>, kept: &mut Self) -> Result<u32, AllocError>
+        ensures main { IfOk result (λ at. at ≡ main_token (tree_of expression.now)) }
+        ensures added { OnOk result (found_in kept.new
+            ≡ found_in kept.old ++ tree_references (tree_of expression.now)) }
     {
         match expression {
             Expr::Number(spot, _, _)
@@ -68,49 +78,49 @@ impl<'a> References<'a> {
             | Expr::GroupNumber(spot)
             | Expr::GroupRank(spot) => Ok(spot.at),
             Expr::Named(name) => {
-                self.push(Reference::Name(*name))?;
+                Self::push(Reference::Name(*name), kept)?;
                 Ok(name.at)
             }
             Expr::Sizeof(spot, kind) => {
-                self.push(Reference::Size(*spot, *kind))?;
+                Self::push(Reference::Size(*spot, *kind), kept)?;
                 Ok(spot.at)
             }
             Expr::Prefix(spot, _, operand) | Expr::Cast(spot, _, operand) => {
-                self.add(operand)?;
+                Self::add_tree(operand, kept)?;
                 Ok(spot.at)
             }
             Expr::Chain(first, links) => {
-                let at = self.add(first)?;
-                self.add_links(at, links)
+                let at = Self::add_tree(first, kept)?;
+                Self::add_links(links, at, kept)
             }
             Expr::Postfix(whole, suffixes) => {
-                let at = self.add(whole)?;
-                self.add_suffixes(at, suffixes)
+                let at = Self::add_tree(whole, kept)?;
+                Self::add_suffixes(suffixes, at, kept)
             }
             Expr::Assign(spot, _, target, value) => {
-                self.add(target)?;
-                self.add(value)?;
+                Self::add_tree(target, kept)?;
+                Self::add_tree(value, kept)?;
                 Ok(spot.at)
             }
             Expr::Choose(spot, condition, first, second) => {
-                self.add(condition)?;
-                self.add(first)?;
-                self.add(second)?;
+                Self::add_tree(condition, kept)?;
+                Self::add_tree(first, kept)?;
+                Self::add_tree(second, kept)?;
                 Ok(spot.at)
             }
         }
     }
 
     #[cycle(expression)]
-    fn add_links(&mut self, first: u32, links: &[Link<'a>]) -> Result<u32, AllocError>
+    fn add_links(links: &[Link<'a>], first: u32, kept: &mut Self) -> Result<u32, AllocError>
         ensures main { IfOk result
             (λ at. at ≡ after_links first (links_of (map link_of links.now))) }
-        ensures added { OnOk result (found_in self.new
-            ≡ found_in self.old ++ links_references (links_of (map link_of links.now))) }
+        ensures added { OnOk result (found_in kept.new
+            ≡ found_in kept.old ++ links_references (links_of (map link_of links.now))) }
     {
         let mut at = first;
         for link in links {
-            self.add(&link.right)?;
+            Self::add_tree(&link.right, kept)?;
             at = link.spot.at;
         }
         Ok(at)
@@ -118,27 +128,27 @@ impl<'a> References<'a> {
 
     // One suffix of an expression with this main token.
     #[cycle(expression)]
-    fn add_suffix(&mut self, whole: u32, suffix: &Suffix<'a>) -> Result<u32, AllocError>
+    fn add_suffix(suffix: &Suffix<'a>, whole: u32, kept: &mut Self) -> Result<u32, AllocError>
         ensures main { IfOk result
             (λ at. at ≡ after_suffixes whole (suffixes_of (suffix_of suffix.now ∷ []))) }
-        ensures added { OnOk result (found_in self.new ≡ found_in self.old
+        ensures added { OnOk result (found_in kept.new ≡ found_in kept.old
             ++ suffixes_references whole (suffixes_of (suffix_of suffix.now ∷ []))) }
     {
         match suffix {
             Suffix::Index(spot, by) => {
-                self.add(by)?;
+                Self::add_tree(by, kept)?;
                 Ok(spot.at)
             }
             Suffix::Call(spot, arguments) => {
-                self.add_all(arguments)?;
+                Self::add_all(arguments, kept)?;
                 Ok(spot.at)
             }
             Suffix::Dot(spot, name) => {
-                self.push(Reference::Member(whole, false, *name))?;
+                Self::push(Reference::Member(whole, false, *name), kept)?;
                 Ok(spot.at)
             }
             Suffix::Arrow(spot, name) => {
-                self.push(Reference::Member(whole, true, *name))?;
+                Self::push(Reference::Member(whole, true, *name), kept)?;
                 Ok(spot.at)
             }
             Suffix::Up(spot) | Suffix::Down(spot) => Ok(spot.at),
@@ -146,26 +156,26 @@ impl<'a> References<'a> {
     }
 
     #[cycle(expression)]
-    fn add_suffixes(&mut self, whole: u32, suffixes: &[Suffix<'a>]) -> Result<u32, AllocError>
+    fn add_suffixes(suffixes: &[Suffix<'a>], whole: u32, kept: &mut Self) -> Result<u32, AllocError>
         ensures main { IfOk result
             (λ at. at ≡ after_suffixes whole (suffixes_of (map suffix_of suffixes.now))) }
-        ensures added { OnOk result (found_in self.new ≡ found_in self.old
+        ensures added { OnOk result (found_in kept.new ≡ found_in kept.old
             ++ suffixes_references whole (suffixes_of (map suffix_of suffixes.now))) }
     {
         let mut at = whole;
         for suffix in suffixes {
-            at = self.add_suffix(at, suffix)?;
+            at = Self::add_suffix(suffix, at, kept)?;
         }
         Ok(at)
     }
 
     #[cycle(expression)]
-    fn add_all(&mut self, expressions: &[Expr<'a>]) -> Result<(), AllocError>
-        ensures { OnOk result (found_in self.new
-            ≡ found_in self.old ++ trees_references (trees_of (map tree_of expressions.now))) }
+    fn add_all(expressions: &[Expr<'a>], kept: &mut Self) -> Result<(), AllocError>
+        ensures { OnOk result (found_in kept.new
+            ≡ found_in kept.old ++ trees_references (trees_of (map tree_of expressions.now))) }
     {
         for expression in expressions {
-            self.add(expression)?;
+            Self::add_tree(expression, kept)?;
         }
         Ok(())
     }
@@ -176,7 +186,7 @@ impl<'a> References<'a> {
             ≡ found_in self.old ++ optional_references (option_map tree_of expression.now)) }
     {
         if let Some(expression) = expression {
-            self.add(expression)?;
+            Self::add_tree(expression, self)?;
         }
         Ok(())
     }

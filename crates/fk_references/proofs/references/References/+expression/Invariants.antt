@@ -8,16 +8,16 @@ use Rattle.fk_references.specs.Found.{found_in}
 use Rattle.fk_references.proofs.references.References.+expression.Given as goal
 
 abbrev pub invariant-add_all-loop-expression : goal.invariant-add_all-loop-expression
-invariant-add_all-loop-expression l = found_in l.self ++ trees_references (trees_of (map tree_of (drop l.expression-index l.expressions))) ≡ found_in l.fn.self ++ trees_references (trees_of (map tree_of l.expressions))
+invariant-add_all-loop-expression l = found_in l.kept ++ trees_references (trees_of (map tree_of (drop l.expression-index l.expressions))) ≡ found_in l.fn.kept ++ trees_references (trees_of (map tree_of l.expressions))
 
 abbrev pub invariant-add_links-loop-link : goal.invariant-add_links-loop-link
 invariant-add_links-loop-link l = record {
   main : after_links l.at (links_of (map link_of (drop l.link-index l.links))) ≡ after_links l.first (links_of (map link_of l.links));
-  added : found_in l.self ++ links_references (links_of (map link_of (drop l.link-index l.links))) ≡ found_in l.fn.self ++ links_references (links_of (map link_of l.links));
+  added : found_in l.kept ++ links_references (links_of (map link_of (drop l.link-index l.links))) ≡ found_in l.fn.kept ++ links_references (links_of (map link_of l.links));
 }
 
 abbrev pub invariant-add_suffixes-loop-suffix : goal.invariant-add_suffixes-loop-suffix
 invariant-add_suffixes-loop-suffix l = record {
   main : after_suffixes l.at (suffixes_of (map suffix_of (drop l.suffix-index l.suffixes))) ≡ after_suffixes l.whole (suffixes_of (map suffix_of l.suffixes));
-  added : found_in l.self ++ suffixes_references l.at (suffixes_of (map suffix_of (drop l.suffix-index l.suffixes))) ≡ found_in l.fn.self ++ suffixes_references l.whole (suffixes_of (map suffix_of l.suffixes));
+  added : found_in l.kept ++ suffixes_references l.at (suffixes_of (map suffix_of (drop l.suffix-index l.suffixes))) ≡ found_in l.fn.kept ++ suffixes_references l.whole (suffixes_of (map suffix_of l.suffixes));
 }
