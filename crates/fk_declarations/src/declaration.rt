@@ -13,6 +13,7 @@ ghost use Rattle.fk_declarations.specs.Reading.{read_variables, read_variable, r
 ghost use Rattle.fk_declarations.specs.Parts.{read_sharing, read_array_length, read_first_value, read_others};
 ghost use Rattle.fk_declarations.specs.View.{declarator_of};
 
+use crate::lists::{one, put};
 use crate::told::{expect_sharing, parameter_is_next, sharing_is_next};
 use fk_expr::at_cursor::{assignment, base};
 use fk_expr::told::{expect_number, type_is_next};
@@ -71,8 +72,13 @@ pub fn variables<'a>(
     let base = base(cursor)?;
     let first = variable(alloc, cursor, left)?;
     let rows = rows(alloc, cursor, left, shared, base, first)?;
-    cursor.expect(TokenKind::Semicolon)?;
-    Ok(rows)
+    match cursor.expect(TokenKind::Semicolon) {
+        Ok(_end) => Ok(rows),
+        Err(fault) => {
+            drop(rows);
+            Err(fault)
+        }
+    }
 }
 
 /// The first variable, and { "," variable }: a row for each.
@@ -90,10 +96,12 @@ pub fn rows<'a>(
     ensures few { IfOk result (λ _. Leaves cursor.old cursor.new) }
 {
     // Most declarations have one variable.
-    let mut rows = Vec::with_capacity(alloc, 1)?;
-    rows.push(first.complete(shared, base))?;
+    let mut rows = one(alloc, first.complete(shared, base))?;
     while let Some(_comma) = cursor.accept(TokenKind::Comma) {
-        rows.push(variable(alloc, cursor, left)?.complete(shared, base))?;
+        put(
+            &mut rows,
+            variable(alloc, cursor, left)?.complete(shared, base),
+        )?;
     }
     Ok(rows)
 }
@@ -162,9 +170,9 @@ pub fn add_member<'a>(
     ensures shorter { IfOk result (λ _. Shortens cursor.old cursor.new) }
 {
     let base = base(cursor)?;
-    members.push(member_name(cursor)?.complete(false, base))?;
+    put(members, member_name(cursor)?.complete(false, base))?;
     while let Some(_comma) = cursor.accept(TokenKind::Comma) {
-        members.push(member_name(cursor)?.complete(false, base))?;
+        put(members, member_name(cursor)?.complete(false, base))?;
     }
     cursor.expect(TokenKind::Semicolon)?;
     Ok(())
@@ -234,9 +242,9 @@ fn some_parameters<'a>(
     ensures shorter { IfOk result (λ _. Shortens cursor.old cursor.new) }
 {
     let mut parameters = Vec::new(alloc);
-    parameters.push(parameter(cursor)?)?;
+    put(&mut parameters, parameter(cursor)?)?;
     while let Some(_comma) = cursor.accept(TokenKind::Comma) {
-        parameters.push(parameter(cursor)?)?;
+        put(&mut parameters, parameter(cursor)?)?;
     }
     Ok(parameters)
 }

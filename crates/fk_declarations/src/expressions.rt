@@ -35,8 +35,13 @@ pub fn condition<'a>(
 {
     cursor.expect(TokenKind::OpenParenthesis)?;
     let condition = comma(alloc, cursor, left)?;
-    cursor.expect(TokenKind::CloseParenthesis)?;
-    Ok(condition)
+    match cursor.expect(TokenKind::CloseParenthesis) {
+        Ok(_end) => Ok(condition),
+        Err(fault) => {
+            drop(condition);
+            Err(fault)
+        }
+    }
 }
 
 /// "while" "(" comma ")" ";", behind the body of `do`
@@ -52,8 +57,13 @@ pub fn do_condition<'a>(
 {
     cursor.expect(TokenKind::While)?;
     let condition = condition(alloc, cursor, left)?;
-    cursor.expect(TokenKind::Semicolon)?;
-    Ok(condition)
+    match cursor.expect(TokenKind::Semicolon) {
+        Ok(_end) => Ok(condition),
+        Err(fault) => {
+            drop(condition);
+            Err(fault)
+        }
+    }
 }
 
 /// [ "(" comma ")" ]
@@ -121,8 +131,13 @@ pub(crate) fn part<'a>(
     ensures shorter { IfOk result (λ _. Shortens cursor.old cursor.new) }
 {
     let part = some_expression(alloc, cursor, left)?;
-    cursor.expect(end)?;
-    Ok(part)
+    match cursor.expect(end) {
+        Ok(_end) => Ok(part),
+        Err(fault) => {
+            drop(part);
+            Err(fault)
+        }
+    }
 }
 
 /// A word, "=" and comma

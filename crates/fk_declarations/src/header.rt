@@ -203,8 +203,13 @@ fn last_rank<'a>(
     ensures shorter { IfOk result (λ _. Shortens cursor.old cursor.new) }
 {
     let rank = rank(alloc, cursor, left)?;
-    cursor.expect(TokenKind::CloseParenthesis)?;
-    Ok(rank)
+    match cursor.expect(TokenKind::CloseParenthesis) {
+        Ok(_end) => Ok(rank),
+        Err(fault) => {
+            drop(rank);
+            Err(fault)
+        }
+    }
 }
 
 /// "fork" "(" comma ";"
@@ -221,6 +226,11 @@ fn parts<'a>(
     let word = cursor.expect(TokenKind::Fork)?;
     cursor.expect(TokenKind::OpenParenthesis)?;
     let parts = comma(alloc, cursor, left)?;
-    cursor.expect(TokenKind::Semicolon)?;
-    Ok((word.spot(), parts))
+    match cursor.expect(TokenKind::Semicolon) {
+        Ok(_end) => Ok((word.spot(), parts)),
+        Err(fault) => {
+            drop(parts);
+            Err(fault)
+        }
+    }
 }

@@ -10,5 +10,6 @@ pub mod declaration;
 pub mod expressions;
 pub mod header;
 pub mod kinds;
+pub mod lists;
 pub mod simple;
 pub mod told;

@@ -77,8 +77,13 @@ fn returned<'a>(
 {
     let word = cursor.expect(TokenKind::Return)?;
     let value = some_expression(alloc, cursor, left)?;
-    cursor.expect(TokenKind::Semicolon)?;
-    Ok(Stmt::Return(word.spot(), value))
+    match cursor.expect(TokenKind::Semicolon) {
+        Ok(_end) => Ok(Stmt::Return(word.spot(), value)),
+        Err(fault) => {
+            drop(value);
+            Err(fault)
+        }
+    }
 }
 
 /// comma ";"
@@ -93,8 +98,13 @@ fn expression<'a>(
     ensures shorter { IfOk result (λ _. Shortens cursor.old cursor.new) }
 {
     let value = comma(alloc, cursor, left)?;
-    cursor.expect(TokenKind::Semicolon)?;
-    Ok(Stmt::Expression(value))
+    match cursor.expect(TokenKind::Semicolon) {
+        Ok(_end) => Ok(Stmt::Expression(value)),
+        Err(fault) => {
+            drop(value);
+            Err(fault)
+        }
+    }
 }
 
 /// A word and ";"

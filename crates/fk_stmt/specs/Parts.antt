@@ -17,6 +17,10 @@ read_nested left = nested (statements_with left)
 abbrev pub read_otherwise : ℕ → Reader (Option Statement)
 read_otherwise left = optional (just kind.Else) (giving (λ (mark, inside). inside) (expect kind.Else and read_nested left))
 
+-- stmt [ "else" stmt ]
+abbrev pub read_branches : ℕ → Reader (Statement × Option Statement)
+read_branches left = read_nested left and read_otherwise left
+
 -- a header, and the statement behind it
 abbrev pub read_headed : ℕ → Reader Statement
 read_headed left = giving (λ (header, body). headed header body) (read_header left and read_nested left)

@@ -1,6 +1,6 @@
 //! Where statements are put that were read.
 
-ghost use Rattle.std.specs.Prelude.{◌≡◌, ◌∷◌, ◌++◌, ◌⊎◌, List, [], Ok, Err, IfOk, IfErr, IsOk, OnOk};
+ghost use Rattle.std.specs.Prelude.{◌≡◌, ◌⊎◌, List, Ok, Err, IfOk, IfErr, IsOk};
 ghost use Rattle.fk_syntax.specs.Program.{Statement};
 ghost use Rattle.fk_syntax.specs.ProgramView.{statement_of};
 ghost use Rattle.fk_reading.specs.Faults.{IsMemory};
@@ -13,7 +13,7 @@ ghost use Rattle.fk_declarations.specs.View.{header_of};
 use fk_declarations::header::Header;
 use fk_reading::fault::SyntaxFault;
 use fk_syntax::program::Stmt;
-use std::alloc::{AllocError, Global};
+use std::alloc::Global;
 
 /// What was read, in a box. A fault of its own is only want of memory.
 pub(crate) fn in_box<T: Drop>(
@@ -24,14 +24,6 @@ pub(crate) fn in_box<T: Drop>(
     ensures fault { IfErr result (λ fault. read ≡ Err fault ⊎ IsMemory fault) }
 {
     Ok(Box::new(alloc, read?)?)
-}
-
-/// Puts an item behind others. Fails only for want of memory.
-pub(crate) fn put<T: Drop>(items: &mut Vec<T>, item: T) -> Result<(), AllocError>
-    ensures items { OnOk result (items.new.items ≡ items.old.items ++ item ∷ []) }
-{
-    items.push(item)?;
-    Ok(())
 }
 
 /// The statement of a header and a body, if that was read.

@@ -14,13 +14,13 @@ ghost use Rattle.fk_reading.specs.Ahead.{Shortens, Leaves};
 ghost use Rattle.fk_reading.specs.Gives.{Gives};
 ghost use Rattle.fk_expr.specs.Reading.{inner};
 ghost use Rattle.fk_stmt.specs.Reading.{statements_with, read_block, read_if, read_do};
-ghost use Rattle.fk_stmt.specs.Parts.{read_nested, read_otherwise};
-ghost use Rattle.fk_stmt.specs.Parts.{read_headed, read_any};
+ghost use Rattle.fk_stmt.specs.Parts.{read_nested, read_otherwise, read_branches, read_headed, read_any};
 
-use crate::boxes::{completed, in_box, put};
+use crate::boxes::{completed, in_box};
 use crate::told::{open_statement, statement_is_next};
 use fk_declarations::expressions::{condition, do_condition};
 use fk_declarations::header::any_header;
+use fk_declarations::lists::put;
 use fk_declarations::simple::simple;
 use fk_declarations::told::header_is_next;
 use fk_lex::token::TokenKind;
@@ -118,9 +118,38 @@ fn if_else<'a>(
 {
     let word = cursor.expect(TokenKind::If)?;
     let condition = condition(alloc, cursor, left)?;
+    match branches(alloc, cursor, left) {
+        Ok((then, otherwise)) => Ok(Stmt::If(word.spot(), condition, then, otherwise)),
+        Err(fault) => {
+            drop(condition);
+            Err(fault)
+        }
+    }
+}
+
+/// stmt [ "else" stmt ]
+#[cycle(statement)]
+#[tactic(auto, using(fk_expr::proofs::Halting::halting))]
+fn branches<'a>(
+    alloc: Global,
+    cursor: &mut Cursor<'_, 'a>,
+    left: u32,
+) -> Result<(Box<Stmt<'a>>, Option<Box<Stmt<'a>>>), SyntaxFault>
+    ensures read { Gives (λ x. (
+      statement_of x.0.value,
+      option_map (λ (s : Box Stmt Global). statement_of s.value) x.1,
+    )) result cursor.new
+        (read_branches left cursor.old) }
+    ensures shorter { IfOk result (λ _. Shortens cursor.old cursor.new) }
+{
     let then = boxed(alloc, cursor, left)?;
-    let otherwise = otherwise(alloc, cursor, left)?;
-    Ok(Stmt::If(word.spot(), condition, then, otherwise))
+    match otherwise(alloc, cursor, left) {
+        Ok(otherwise) => Ok((then, otherwise)),
+        Err(fault) => {
+            drop(then);
+            Err(fault)
+        }
+    }
 }
 
 /// [ "else" stmt ]
@@ -155,8 +184,13 @@ fn do_while<'a>(
 {
     let word = cursor.expect(TokenKind::Do)?;
     let body = boxed(alloc, cursor, left)?;
-    let condition = do_condition(alloc, cursor, left)?;
-    Ok(Stmt::DoWhile(word.spot(), body, condition))
+    match do_condition(alloc, cursor, left) {
+        Ok(condition) => Ok(Stmt::DoWhile(word.spot(), body, condition)),
+        Err(fault) => {
+            drop(body);
+            Err(fault)
+        }
+    }
 }
 
 /// A statement that ends in one.

@@ -4,6 +4,6 @@ use Rattle.fk_syntax.specs.View.{tree_of}
 use Rattle.fk_reading.specs.Ahead.{seen}
 use Rattle.fk_declarations.proofs.expressions.do_condition.Goals as goal
 
-pub returns-clause-read : goal.returns-clause-read
-returns-clause-read c =
-    ((seen c.in_ok-expect.field-0, (tree_of c.in_ok-condition.condition, seen c.in_ok-expect-2.field-0)), search rules, refl)
+pub returns-in-Ok-clause-read : goal.returns-in-Ok-clause-read
+returns-in-Ok-clause-read c =
+    ((seen c.in_ok-expect.field-0, (tree_of c.in_ok-condition.condition, seen c.in-Ok._end)), search rules, refl)

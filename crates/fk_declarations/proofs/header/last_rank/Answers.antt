@@ -5,5 +5,5 @@ use Rattle.fk_syntax.specs.View.{tree_of}
 use Rattle.fk_reading.specs.Ahead.{seen}
 use Rattle.fk_declarations.proofs.header.last_rank.Goals as goal
 
-pub returns-clause-read : goal.returns-clause-read
-returns-clause-read c = ((option_map tree_of c.in_ok-rank.rank, seen c.in_ok-expect.field-0), search rules, refl)
+pub returns-in-Ok-clause-read : goal.returns-in-Ok-clause-read
+returns-in-Ok-clause-read c = ((option_map tree_of c.in_ok-rank.rank, seen c.in-Ok._end), search rules, refl)

@@ -6,13 +6,16 @@ use Rattle.fk_stmt.specs.Parts.{read_nested}
 use Rattle.fk_stmt.proofs.statement.+statement.Given as goal
 
 abbrev pub decreases-statement : goal.decreases-statement
-decreases-statement l = 8 * l.left + 4
+decreases-statement l = 8 * l.left + 5
 
 abbrev pub decreases-block : goal.decreases-block
 decreases-block l = 8 * l.left + 2
 
 abbrev pub decreases-if_else : goal.decreases-if_else
-decreases-if_else l = 8 * l.left + 3
+decreases-if_else l = 8 * l.left + 4
+
+abbrev pub decreases-branches : goal.decreases-branches
+decreases-branches l = 8 * l.left + 3
 
 abbrev pub decreases-do_while : goal.decreases-do_while
 decreases-do_while l = 8 * l.left + 2
