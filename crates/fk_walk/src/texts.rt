@@ -1,6 +1,6 @@
-//! Texts that are printed.
+//! Names, and texts that are printed.
 
-ghost use Rattle.std.specs.Prelude.{◌≡◌, ◌<◌, ℕ, length};
+ghost use Rattle.std.specs.Prelude.{◌≡◌, ◌<◌, ℕ, bytes_eq, length};
 ghost use Rattle.fk_forms.specs.Expressions as e;
 ghost use Rattle.fk_forms.specs.Texts.{text_of, up_to_quote, escaped as escaped_by};
 ghost use Rattle.fk_operation.specs.declared.operation.Operation.TheVariants as o;
@@ -10,6 +10,13 @@ ghost use Rattle.fk_walk.specs.Through.{through, Passes};
 use crate::known::Known;
 use crate::visitor::{Visitor, plain};
 use fk_operation::Operation;
+
+/// Whether a name is spelled so.
+pub(crate) fn is_spelled(bytes: &[u8], name: &[u8]) -> bool
+    ensures { result ≡ bytes_eq bytes.now name.now }
+{
+    bytes == name
+}
 
 /// `puts`: each byte of a text, which has its quotes, is pushed and printed.
 #[tactic(auto, using(crate::proofs::Printed::short))]
