@@ -118,6 +118,13 @@ fn never_fails_where_it_is_sure(rt: HostRuntime) -> Result<(), Fail> {
     Ok(())
 }
 
+// Whether these bytes, which begin with 0, 1 and 2, are put, and fetched whole and in part.
+fn keeps<F: Store>(alloc: Global, files: &mut F, name: &str, bytes: &[u8]) -> bool {
+    puts(files, name, bytes)
+        && fetches(alloc, files, name, usize::MAX, bytes)
+        && fetches(alloc, files, name, 3, &[0, 1, 2])
+}
+
 #[test]
 fn keeps_files_of_the_system(rt: HostRuntime) -> Result<(), Fail> {
     let alloc = rt.alloc();
@@ -125,13 +132,9 @@ fn keeps_files_of_the_system(rt: HostRuntime) -> Result<(), Fail> {
     path.push("fk_ports_keeps_files_of_the_system")?;
     let bytes = long_bytes(alloc)?;
     let mut store = HostStore::make(&rt);
-    let is_put = puts(&mut store, path.as_str(), &bytes);
-    let fetches_all = fetches(alloc, &mut store, path.as_str(), usize::MAX, &bytes);
-    let fetches_few = fetches(alloc, &mut store, path.as_str(), 3, &[0, 1, 2]);
+    let is_kept = keeps(alloc, &mut store, path.as_str(), &bytes);
     fs::remove_file(&rt, path.as_str())?;
-    assert!(rt; is_put);
-    assert!(rt; fetches_all);
-    assert!(rt; fetches_few);
+    assert!(rt; is_kept);
     assert!(rt;
         fetch_faults(alloc, &mut store, path.as_str()),
         "no such file"
