@@ -26,8 +26,6 @@ mod signs;
 #[cfg(test)]
 mod space;
 #[cfg(test)]
-mod state;
-#[cfg(test)]
 mod store;
 #[cfg(test)]
 mod tree;
