@@ -8,6 +8,7 @@ PROGRAM is ./fork95 where it isn't given. The last line counts the rows that pas
 import os
 import re
 import resource
+import signal
 import struct
 import subprocess
 import sys
@@ -43,9 +44,11 @@ BAD_ADDRESS = image([DEVICES, FAULT], sites=[(12, 7, 9)])
 FILES = {
     "sums.f95": SUMS,
     "wraps.f95": WRAPS,
+    "five.f95": b"void main(void) { putint(5); }",
     "empty.f95": b"void main(void) { }\n",
     "open.f95": b"void main(void) { start {\n",
     "semicolon.f95": b"void main(void) { putint(1) }\n",
+    "refused.f95": b"?",
     "byte.f95": b"?#",
     "comment.f95": b"/*",
     "text.f95": b'"a',
@@ -153,12 +156,14 @@ class Row:
     report: str = ""
     # files that must be there afterwards with these bytes (or of which a function holds), or not at all
     files: dict = field(default_factory=dict)
-    # where standard output and error go, if not to us, and the most memory in bytes
+    # where standard output and error go, if not to us, the most memory, and the most of a file, in bytes
     out_to: str = ""
     report_to: str = ""
     memory: int = 0
-    # standard input
+    file_bytes: int = 0
+    # standard input, or the folder that stands in its place, of which each reading fails
     given: bytes = b""
+    given_from: str = ""
 
 
 def run(name, harts=1, cycles=1000000):
@@ -239,7 +244,13 @@ ROWS = [
     Row(["list", "atomic.image"], 4, b"", "", out_to="/dev/full"),
     Row(run("sums.f95"), 4, b"5\n", "", report_to="/dev/full"),
     Row(["nonsense"], 4, b"", "", report_to="/dev/full"),
+    # in mid-stream
+    Row(run("five.f95", harts=2), 4, b"", "", out_to="cut.out", file_bytes=3, files={"cut.out": b"5\n5"}),
     Row(build("sums.f95", "absent/x.image"), 4, b"", "", files={"absent": None}),
+    # an input that can't be read counts before the text, and is nothing to a command that takes none
+    Row(run("refused.f95", harts=2), 3, b"", r"read fault\n", given_from="."),
+    Row(execute("halt.image"), 3, b"", r"read fault\n", given_from="."),
+    Row(build("empty.f95", "unread.image"), 0, b"", r"built 216 words\n", files={"unread.image": is_image}, given_from="."),
     # a machine of 1,024 harts takes 136 MiB, one of a single hart 8
     Row(run("sums.f95", harts=1024), 5, b"", "", memory=100 << 20),
     Row(run("sums.f95"), 0, b"5\n", FINISHED, memory=100 << 20),
@@ -550,22 +561,35 @@ ROWS += [
 ]
 
 
-def limited(memory):
-    return (lambda: resource.setrlimit(resource.RLIMIT_AS, (memory, memory))) if memory else None
+def limited(row):
+    """What sets the limits of a row, if it has any, where its command begins."""
+
+    def limit():
+        if row.memory:
+            resource.setrlimit(resource.RLIMIT_AS, (row.memory, row.memory))
+        if row.file_bytes:
+            # a write past the end is refused, and no signal comes
+            signal.signal(signal.SIGXFSZ, signal.SIG_IGN)
+            resource.setrlimit(resource.RLIMIT_FSIZE, (row.file_bytes, row.file_bytes))
+
+    return limit if row.memory or row.file_bytes else None
 
 
 def faults(program, row, folder):
     """What of a row isn't as it must be."""
-    outs = [open(to, "wb") if to else subprocess.PIPE for to in (row.out_to, row.report_to)]
+    outs = [Path(folder, to).open("wb") if to else subprocess.PIPE for to in (row.out_to, row.report_to)]
+    source = os.open(Path(folder, row.given_from), os.O_RDONLY) if row.given_from else None
     ended = subprocess.run(
         [program, *row.words],
         cwd=folder,
-        input=row.given,
         stdout=outs[0],
         stderr=outs[1],
         timeout=SECONDS,
-        preexec_fn=limited(row.memory),
+        preexec_fn=limited(row),
+        **({"stdin": source} if row.given_from else {"input": row.given}),
     )
+    if row.given_from:
+        os.close(source)
     out, report = ended.stdout or b"", (ended.stderr or b"").decode(errors="replace")
     if ended.returncode != row.status:
         yield f"status {ended.returncode}, not {row.status}"

@@ -4,8 +4,6 @@
 mod blocks;
 pub mod laws;
 mod start;
-#[cfg(test)]
-mod tests;
 
 pub use blocks::GroupBlocks;
 pub use start::{START_LABEL, emit_start};

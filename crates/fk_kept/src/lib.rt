@@ -5,8 +5,6 @@ mod list;
 mod live;
 mod places;
 mod set;
-#[cfg(test)]
-mod tests;
 
 pub use live::live_words;
 pub use places::Place;

@@ -34,35 +34,33 @@ static FAULTS: [(&[u8], u32, InputFault); 16] = [
     (b"x", 0, InputFault::TooMany(1)),
 ];
 
-// A text is read as these numbers.
-fn is_read(rt: &impl Abort, alloc: Global, text: &[u8], numbers: &[u32]) -> Result<(), InputFault> {
-    let read = read_input(alloc, text, 65_536)?;
-    assert_eq!(rt; read.as_slice(), numbers);
-    Ok(())
+// Whether a text is read as these numbers.
+fn is_read(alloc: Global, text: &[u8], numbers: &[u32]) -> Result<bool, InputFault> {
+    Ok(read_input(alloc, text, 65_536)?.as_slice() == numbers)
 }
 
 #[test]
 fn numbers_are_read_in_order(rt: HostRuntime) -> Result<(), InputFault> {
     for (text, numbers) in &NUMBERS {
-        is_read(&rt, rt.alloc(), text, numbers)?;
+        assert!(rt; is_read(rt.alloc(), text, numbers)?, "{text:?}");
     }
     Ok(())
 }
 
-// A text of at most so many numbers has this fault.
-fn has_fault(rt: &impl Abort, alloc: Global, text: &[u8], limit: u32, fault: InputFault) {
-    assert_eq!(rt; read_input(alloc, text, limit).err(), Some(fault));
+// Whether a text of at most so many numbers has this fault.
+fn has_fault(alloc: Global, text: &[u8], limit: u32, fault: InputFault) -> bool {
+    read_input(alloc, text, limit).err() == Some(fault)
 }
 
 #[test]
 fn the_first_word_at_fault_counts(rt: HostRuntime) {
     for (text, limit, fault) in &FAULTS {
-        has_fault(&rt, rt.alloc(), text, *limit, *fault);
+        assert!(rt; has_fault(rt.alloc(), text, *limit, *fault), "{text:?}");
     }
 }
 
 // So many times this piece.
-fn repeated(alloc: Global, piece: &[u8], count: u32) -> Result<Vec<u8>, AllocError> {
+pub(crate) fn repeated(alloc: Global, piece: &[u8], count: u32) -> Result<Vec<u8>, AllocError> {
     let mut text = Vec::new(alloc);
     for _ in 0..count {
         text.extend_from_slice(piece)?;
@@ -70,27 +68,38 @@ fn repeated(alloc: Global, piece: &[u8], count: u32) -> Result<Vec<u8>, AllocErr
     Ok(text)
 }
 
-// A text is read as so many numbers.
-fn has_count(
+// Whether a text is read as so many numbers, the most that there may be.
+fn has_count(alloc: Global, text: &[u8], count: u32) -> Result<bool, InputFault> {
+    Ok(read_input(alloc, text, count)?.len() == count as usize)
+}
+
+// A text is so many numbers, and with a byte more they are too many.
+fn are_as_many(
     rt: &impl Abort,
     alloc: Global,
-    text: &[u8],
-    limit: u32,
-    count: usize,
-) -> Result<(), InputFault> {
-    assert_eq!(rt; read_input(alloc, text, limit)?.len(), count);
+    text: &mut Vec<u8>,
+    numbers: u32,
+    more: u8,
+    fault: InputFault,
+) -> Result<(), Fail> {
+    assert!(rt; has_count(alloc, text, numbers)?);
+    text.push(more)?;
+    assert!(rt; has_fault(alloc, text, 65_536, fault));
     Ok(())
 }
 
 #[test]
 fn a_long_text_is_too_many(rt: HostRuntime) -> Result<(), Fail> {
-    let mut text = repeated(rt.alloc(), b"0 ", 65_536)?;
-    has_count(&rt, rt.alloc(), &text, 65_536, 65_536)?;
-    text.push(b'x')?;
-    has_fault(&rt, rt.alloc(), &text, 65_536, InputFault::TooMany(65_537));
-    let mut blanks = repeated(rt.alloc(), b" ", 1_048_576)?;
-    has_count(&rt, rt.alloc(), &blanks, 0, 0)?;
-    blanks.push(b' ')?;
-    has_fault(&rt, rt.alloc(), &blanks, 65_536, InputFault::TooMany(0));
-    Ok(())
+    let alloc = rt.alloc();
+    let mut zeros = repeated(alloc, b"0 ", 65_536)?;
+    are_as_many(
+        &rt,
+        alloc,
+        &mut zeros,
+        65_536,
+        b'x',
+        InputFault::TooMany(65_537),
+    )?;
+    let mut blanks = repeated(alloc, b" ", 1_048_576)?;
+    are_as_many(&rt, alloc, &mut blanks, 0, b' ', InputFault::TooMany(0))
 }

@@ -1,205 +1,164 @@
 //! Hand-made images, in words as an assembler for RV32IMA writes them.
 
-ghost use Rattle.std.specs.Prelude.{◌≡◌, ◌≤◌, ◌+◌, length, vec_len, IfOk};
-ghost use Rattle.fk_image.specs.Limits.{IsWithinLimits};
-ghost use Rattle.fk_machine.specs.Run.{machine, output_of};
+ghost use Rattle.std.specs.Prelude.{◌≡◌, IfOk};
 ghost use Rattle.fk_machine.specs.View.{machine_of};
 
+use crate::input::repeated;
 use fk_image::Image;
 use fk_machine::stand::{ACCESS, EBREAK, ECALL, FETCH, MISALIGNED, UNKNOWN};
 use fk_machine::{Machine, Stand};
 use std::alloc::{AllocError, Global};
 use std::process::Abort;
 
-// Runs an image for at most so many cycles, and answers the machine and all that it printed.
-fn run(
-    alloc: Global,
-    image: &Image,
-    input: &[u32],
+/// An image, how it is run, and what that comes to.
+#[derive(Clone, Copy)]
+struct Case {
+    name: &'static str,
+    code: &'static [u32],
+    globals: &'static [u32],
+    input: &'static [u32],
     harts: u32,
+    /// The most cycles that it is run.
     bound: u32,
-) -> Result<(Machine, Vec<u8>), AllocError>
-    requires limits { IsWithinLimits image.now }
-    requires some_harts { 1 ≤ harts }
-    requires few_harts { harts ≤ 1024 }
-    requires few_inputs { length input.now ≤ 65536 }
-    requires room { vec_len image.now.globals + length input.now ≤ 524288 }
-    ensures machine { IfOk result (λ r. machine_of r.0 ≡ machine image.now input.now harts bound) }
-    ensures bytes { IfOk result (λ r. r.1.items ≡ output_of image.now input.now harts bound) }
-{
-    let mut machine = Machine::make(alloc, image, input, harts)?;
-    let mut bytes = Vec::new(alloc);
-    for _ in 0..bound {
-        if machine.stand() != Stand::Running {
-            break;
-        }
-        machine.cycle();
-        bytes.extend_from_slice(machine.output())?;
-    }
-    Ok((machine, bytes))
+    /// What each cycle prints that prints, and how many do.
+    text: &'static [u8],
+    times: u32,
+    stand: Stand,
+    /// How many cycles were begun, if that is told.
+    cycles: Option<u32>,
+    /// How shared data begins.
+    words: &'static [u32],
 }
 
-// An image with this code and these globals.
-fn image_of(alloc: Global, code: &[u32], globals: &[u32]) -> Result<Image, AllocError>
-    requires some_code { 1 ≤ length code.now }
-    requires code { length code.now ≤ 262144 }
-    requires globals { length globals.now ≤ 1000 }
-    ensures limits { IfOk result IsWithinLimits }
-    ensures globals { IfOk result (λ image. vec_len image.globals ≡ length globals.now) }
-{
-    Ok(Image {
-        code: code.to_vec(alloc)?,
-        globals: globals.to_vec(alloc)?,
-        sites: Vec::new(alloc),
-        commits: Vec::new(alloc),
-    })
-}
+// One hart that ends and prints nothing.
+const ALONE: Case = Case {
+    name: "",
+    code: &[],
+    globals: &[],
+    input: &[],
+    harts: 1,
+    bound: 20,
+    text: b"",
+    times: 0,
+    stand: Stand::Finished,
+    cycles: None,
+    words: &[],
+};
 
-// Runs this code without globals and input.
-fn run_code(
-    alloc: Global,
-    code: &[u32],
-    harts: u32,
-    bound: u32,
-) -> Result<(Machine, Vec<u8>), AllocError>
-    requires some_code { 1 ≤ length code.now }
-    requires code { length code.now ≤ 262144 }
-    requires some_harts { 1 ≤ harts }
-    requires few_harts { harts ≤ 1024 }
-{
-    run(alloc, &image_of(alloc, code, &[])?, &[], harts, bound)
-}
-
-// A machine stands so after so many cycles.
-fn stands(rt: &impl Abort, machine: &Machine, stand: Stand, cycles: u32) {
-    assert_eq!(rt; machine.stand(), stand);
-    assert_eq!(rt; machine.cycles(), cycles);
-}
-
-// The shared memory of a machine begins with these words.
-fn begins_with(rt: &impl Abort, machine: &Machine, words: &[u32])
-    requires { length words.now ≤ 8 }
-{
-    for (index, word) in words.iter().enumerate() {
-        assert_eq!(rt; machine.word(index as u32), *word, "word {index}");
-    }
-}
-
-// These bytes were printed.
-fn has_printed(rt: &impl Abort, bytes: &[u8], expected: &[u8]) {
-    assert_eq!(rt; bytes, expected);
-}
-
-#[test]
-fn two_harts_print_in_order(rt: HostRuntime) -> Result<(), AllocError> {
-    let code = [
+const TWO_PRINT: Case = Case {
+    name: "two harts print in order",
+    code: &[
         0x300002b7, // lui t0, 0x30000
         0x0142a303, // lw t1, 20(t0)
         0x0062a023, // sw t1, 0(t0)
         0x0002a623, // sw zero, 12(t0)
-    ];
-    let (machine, bytes) = run_code(rt.alloc(), &code, 2, 10)?;
-    has_printed(&rt, &bytes, b"0\n1\n");
-    stands(&rt, &machine, Stand::Finished, 4);
-    assert_eq!(rt; machine.output().len(), 0);
-    Ok(())
-}
+    ],
+    harts: 2,
+    text: b"0\n1\n",
+    times: 1,
+    cycles: Some(4),
+    ..ALONE
+};
 
-// A new machine that has run so many cycles in one call, which adds what is printed to the bytes.
-fn run_at_once(
-    alloc: Global,
-    image: &Image,
-    harts: u32,
-    cycles: u32,
-    bytes: &mut Vec<u8>,
-) -> Result<Machine, AllocError>
-    requires limits { IsWithinLimits image.now }
-    requires globals { vec_len image.now.globals ≤ 1000 }
-    requires some_harts { 1 ≤ harts }
-    requires few_harts { harts ≤ 1024 }
-    requires few_cycles { cycles ≤ 100 }
-{
-    let mut machine = Machine::make(alloc, image, &[], harts)?;
-    machine.run(cycles, bytes)?;
-    Ok(machine)
-}
-
-#[test]
-fn one_call_keeps_the_output_of_all_cycles(rt: HostRuntime) -> Result<(), AllocError> {
-    let alloc = rt.alloc();
-    let code = [
+const TWO_PRINT_TWICE: Case = Case {
+    name: "two harts print twice",
+    code: &[
         0x300002b7, // lui t0, 0x30000
         0x0142a303, // lw t1, 20(t0)
         0x0062a023, // sw t1, 0(t0)
         0x00000013, // addi zero, zero, 0
         0x0062a023, // sw t1, 0(t0)
         0x0002a623, // sw zero, 12(t0)
-    ];
-    let image = image_of(alloc, &code, &[])?;
-    let mut bytes = Vec::new(alloc);
-    let whole = run_at_once(alloc, &image, 2, 100, &mut bytes)?;
-    has_printed(&rt, &bytes, b"0\n1\n0\n1\n");
-    stands(&rt, &whole, Stand::Finished, 6);
-    let begun = run_at_once(alloc, &image, 2, 3, &mut bytes)?;
-    has_printed(&rt, &bytes, b"0\n1\n0\n1\n0\n1\n");
-    stands(&rt, &begun, Stand::Running, 3);
-    Ok(())
-}
+    ],
+    harts: 2,
+    bound: 100,
+    text: b"0\n1\n",
+    times: 2,
+    cycles: Some(6),
+    ..ALONE
+};
 
-// One hart that runs this code traps, with its pc and the number of the trap.
-fn traps(
-    rt: &impl Abort,
-    alloc: Global,
-    code: &[u32],
-    pc: u32,
-    number: u8,
-) -> Result<(), AllocError>
-    requires some_code { 1 ≤ length code.now }
-    requires code { length code.now ≤ 262144 }
-{
-    let (machine, _) = run_code(alloc, code, 1, 10)?;
-    assert_eq!(rt; machine.stand(), Stand::Trapped(0, pc, number));
-    Ok(())
-}
+const TWO_BEGIN: Case = Case {
+    name: "two harts have printed once so far",
+    bound: 3,
+    times: 1,
+    stand: Stand::Running,
+    cycles: Some(3),
+    ..TWO_PRINT_TWICE
+};
 
-#[test]
-fn each_trap(rt: HostRuntime) -> Result<(), AllocError> {
-    let alloc = rt.alloc();
-    let jump_out = [0x0100006f]; // jal zero, .+16
-    traps(&rt, alloc, &jump_out, 16, FETCH)?;
-    let no_instruction = [0x00000000];
-    traps(&rt, alloc, &no_instruction, 0, UNKNOWN)?;
-    let across_two_words = [0x00202303]; // lw t1, 2(zero)
-    traps(&rt, alloc, &across_two_words, 0, MISALIGNED)?;
-    let code_as_data = [0x00002303]; // lw t1, 0(zero)
-    traps(&rt, alloc, &code_as_data, 0, ACCESS)?;
-    let byte_to_device = [
+const OUT_OF_CODE: Case = Case {
+    name: "a jump out of the code",
+    code: &[0x0100006f], // jal zero, .+16
+    stand: Stand::Trapped(0, 16, FETCH),
+    ..ALONE
+};
+
+const NO_INSTRUCTION: Case = Case {
+    name: "no instruction",
+    code: &[0x00000000],
+    stand: Stand::Trapped(0, 0, UNKNOWN),
+    ..ALONE
+};
+
+const ACROSS_WORDS: Case = Case {
+    name: "across two words",
+    code: &[0x00202303], // lw t1, 2(zero)
+    stand: Stand::Trapped(0, 0, MISALIGNED),
+    ..ALONE
+};
+
+const CODE_AS_DATA: Case = Case {
+    name: "code as data",
+    code: &[0x00002303], // lw t1, 0(zero)
+    stand: Stand::Trapped(0, 0, ACCESS),
+    ..ALONE
+};
+
+const BYTE_TO_DEVICE: Case = Case {
+    name: "a byte to a device",
+    code: &[
         0x300002b7, // lui t0, 0x30000
         0x00528223, // sb t0, 4(t0)
-    ];
-    traps(&rt, alloc, &byte_to_device, 4, ACCESS)?;
-    traps(&rt, alloc, &[0x00000073], 0, ECALL)?;
-    traps(&rt, alloc, &[0x00100073], 0, EBREAK)
-}
+    ],
+    stand: Stand::Trapped(0, 4, ACCESS),
+    ..ALONE
+};
 
-#[test]
-fn a_fault_ends_the_machine(rt: HostRuntime) -> Result<(), AllocError> {
-    let code = [
+const CALL: Case = Case {
+    name: "ecall",
+    code: &[0x00000073],
+    stand: Stand::Trapped(0, 0, ECALL),
+    ..ALONE
+};
+
+const BREAK: Case = Case {
+    name: "ebreak",
+    code: &[0x00100073],
+    stand: Stand::Trapped(0, 0, EBREAK),
+    ..ALONE
+};
+
+const FAULT: Case = Case {
+    name: "a fault ends the machine",
+    code: &[
         0x300002b7, // lui t0, 0x30000
         0x0142a303, // lw t1, 20(t0)
         0x04130393, // addi t2, t1, 65
         0x0072a223, // sw t2, 4(t0)
         0x0072a423, // sw t2, 8(t0)
-    ];
-    let (machine, bytes) = run_code(rt.alloc(), &code, 3, 10)?;
-    has_printed(&rt, &bytes, b"ABC");
-    stands(&rt, &machine, Stand::Faulted(65, 0), 5);
-    Ok(())
-}
+    ],
+    harts: 3,
+    text: b"ABC",
+    times: 1,
+    stand: Stand::Faulted(65, 0),
+    cycles: Some(5),
+    ..ALONE
+};
 
-#[test]
-fn parts_of_words(rt: HostRuntime) -> Result<(), AllocError> {
-    let code = [
+const PARTS_OF_WORDS: Case = Case {
+    name: "parts of words",
+    code: &[
         0x100002b7, // lui t0, 0x10000
         0x89abd337, // lui t1, 0x89abd
         0xdef30313, // addi t1, t1, -529
@@ -213,21 +172,16 @@ fn parts_of_words(rt: HostRuntime) -> Result<(), AllocError> {
         0x0072a623, // sw t2, 12(t0)
         0x300002b7, // lui t0, 0x30000
         0x0002a623, // sw zero, 12(t0)
-    ];
-    let (machine, _) = run_code(rt.alloc(), &code, 1, 20)?;
-    assert_eq!(rt; machine.stand(), Stand::Finished);
-    begins_with(
-        &rt,
-        &machine,
-        &[0x89ab00ef, 0x0000cdef, 0xffffff89, 0x000089ab],
-    );
-    Ok(())
-}
+    ],
+    words: &[0x89ab00ef, 0x0000cdef, 0xffffff89, 0x000089ab],
+    ..ALONE
+};
 
-#[test]
-fn a_reservation_is_lost_to_another_hart(rt: HostRuntime) -> Result<(), AllocError> {
-    // Hart 0 reserves word 0 and hart 1 word 1. Hart 0 stores to word 2 and hart 1 to word 0.
-    let code = [
+// Hart 0 reserves word 0 and hart 1 word 1. Hart 0 stores to word 2 and hart 1 to word 0, so hart 0
+// has stored nothing to the word that it reserved.
+const LOST_RESERVATION: Case = Case {
+    name: "a reservation is lost to another hart",
+    code: &[
         0x300002b7, // lui t0, 0x30000
         0x0142a303, // lw t1, 20(t0)
         0x00231313, // slli t1, t1, 2
@@ -240,18 +194,17 @@ fn a_reservation_is_lost_to_another_hart(rt: HostRuntime) -> Result<(), AllocErr
         0x185e25af, // sc.w a1, t0, (t3)
         0x00b2a023, // sw a1, 0(t0)
         0x0002a623, // sw zero, 12(t0)
-    ];
-    let (machine, bytes) = run_code(rt.alloc(), &code, 2, 20)?;
-    has_printed(&rt, &bytes, b"1\n0\n");
-    // hart 0 has stored nothing
-    begins_with(&rt, &machine, &[0, 0x30000000]);
-    Ok(())
-}
+    ],
+    harts: 2,
+    text: b"1\n0\n",
+    times: 1,
+    words: &[0, 0x30000000],
+    ..ALONE
+};
 
-#[test]
-fn devices_answer_loads(rt: HostRuntime) -> Result<(), AllocError> {
-    let alloc = rt.alloc();
-    let code = [
+const DEVICES: Case = Case {
+    name: "devices answer loads",
+    code: &[
         0x300002b7, // lui t0, 0x30000
         0x10000337, // lui t1, 0x10000
         0x0102a383, // lw t2, 16(t0)
@@ -263,11 +216,12 @@ fn devices_answer_loads(rt: HostRuntime) -> Result<(), AllocError> {
         0x01c2a383, // lw t2, 28(t0)
         0x00732623, // sw t2, 12(t1)
         0x0002a623, // sw zero, 12(t0)
-    ];
-    let image = image_of(alloc, &code, &[100, 101, 102, 103, 104])?;
-    let (machine, _) = run(alloc, &image, &[105, 106], 3, 100)?;
-    assert_eq!(rt; machine.stand(), Stand::Finished);
-    let words = [
+    ],
+    globals: &[100, 101, 102, 103, 104],
+    input: &[105, 106],
+    harts: 3,
+    bound: 100,
+    words: &[
         2, // cycles are finished at the load of CYCLE
         2, // is the last of the harts 0, 1 and 2
         3, // harts
@@ -276,24 +230,209 @@ fn devices_answer_loads(rt: HostRuntime) -> Result<(), AllocError> {
         105, // the first input number
         106, // the last input number
         0,
-    ];
-    begins_with(&rt, &machine, &words);
-    Ok(())
-}
+    ],
+    ..ALONE
+};
 
-#[test]
-fn as_many_harts_as_there_may_be(rt: HostRuntime) -> Result<(), AllocError> {
-    let alloc = rt.alloc();
-    let code = [
+const ALL_HARTS: Case = Case {
+    name: "as many harts as there may be",
+    code: &[
         0x300002b7, // lui t0, 0x30000
         0x10000337, // lui t1, 0x10000
         0x00100393, // addi t2, zero, 1
         0x0073202f, // amoadd.w zero, t2, (t1)
         0x0002a623, // sw zero, 12(t0)
-    ];
-    let image = image_of(alloc, &code, &[])?;
-    let machine = run_at_once(alloc, &image, 1024, 10, &mut Vec::new(alloc))?;
-    assert_eq!(rt; machine.stand(), Stand::Finished);
-    assert_eq!(rt; machine.word(0), 1024);
+    ],
+    harts: 1024,
+    words: &[1024],
+    ..ALONE
+};
+
+// Harts that come to a barrier at different times print in one and the same cycle behind it, three times.
+const BARRIER: Case = Case {
+    name: "all print in one cycle",
+    code: &[
+        0x300002b7, // lui t0, 0x30000
+        0x0142a503, // lw a0, 20(t0)
+        0x0182ad83, // lw s11, 24(t0)
+        0x18400cb7, // lui s9, 0x18400
+        0x00300413, // addi s0, zero, 3
+        0x00050593, // addi a1, a0, 0
+        0x00058663, // beq a1, zero, +12
+        0xfff58593, // addi a1, a1, -1
+        0xff9ff06f, // jal zero, -8
+        0x000c8393, // addi t2, s9, 0      the block
+        0x300002b7, // lui t0, 0x30000
+        0x0102a283, // lw t0, 16(t0)
+        0x0012f293, // andi t0, t0, 1
+        0x00100313, // addi t1, zero, 1
+        0x00028463, // beq t0, zero, +8
+        0x00000013, // addi zero, zero, 0
+        0x0063a02f, // amoadd.w zero, t1, (t2)
+        0x0003a283, // lw t0, 0(t2)
+        0xffb29ee3, // bne t0, s11, -4
+        0x0003a023, // sw zero, 0(t2)       all leave
+        0x30000637, // lui a2, 0x30000
+        0x00a62023, // sw a0, 0(a2)
+        0xfff40413, // addi s0, s0, -1
+        0xfa041ce3, // bne s0, zero, top
+        0x00062623, // sw zero, 12(a2)
+    ],
+    harts: 5,
+    bound: 400,
+    text: b"0\n1\n2\n3\n4\n",
+    times: 3,
+    ..ALONE
+};
+
+// Five harts in lockstep, each with 8 times its number as last value, agree on that of the highest.
+const HIGHEST: Case = Case {
+    name: "the highest decides",
+    code: &[
+        0x300002b7, // lui t0, 0x30000
+        0x0142a503, // lw a0, 20(t0)
+        0x18400cb7, // lui s9, 0x18400
+        0x200004b7, // lui s1, 0x20000
+        0x10048493, // addi s1, s1, 256
+        0x00351593, // slli a1, a0, 3
+        0xfeb4ae23, // sw a1, -4(s1)
+        0xffc4a283, // lw t0, -4(s1)        the block
+        0x005ca423, // sw t0, 8(s9)
+        0x008ca283, // lw t0, 8(s9)
+        0xfe54ae23, // sw t0, -4(s1)
+        0xffc4a583, // lw a1, -4(s1)
+        0x30000637, // lui a2, 0x30000
+        0x00b62023, // sw a1, 0(a2)
+        0x00062623, // sw zero, 12(a2)
+    ],
+    harts: 5,
+    text: b"32\n32\n32\n32\n32\n",
+    times: 1,
+    ..ALONE
+};
+
+static CASES: [Case; 17] = [
+    TWO_PRINT,
+    TWO_PRINT_TWICE,
+    TWO_BEGIN,
+    OUT_OF_CODE,
+    NO_INSTRUCTION,
+    ACROSS_WORDS,
+    CODE_AS_DATA,
+    BYTE_TO_DEVICE,
+    CALL,
+    BREAK,
+    FAULT,
+    PARTS_OF_WORDS,
+    LOST_RESERVATION,
+    DEVICES,
+    ALL_HARTS,
+    BARRIER,
+    HIGHEST,
+];
+
+// A new machine for a case.
+fn machine_for(rt: &impl Abort, alloc: Global, case: &Case) -> Result<Machine, AllocError>
+    ensures { IfOk result (λ machine. (machine_of machine).begun ≡ 0) }
+{
+    assert!(rt; 1 <= case.code.len() && case.code.len() <= 1000);
+    assert!(rt; case.globals.len() <= 1000 && case.input.len() <= 1000);
+    assert!(rt; 1 <= case.harts && case.harts <= 1024);
+    let image = Image {
+        code: case.code.to_vec(alloc)?,
+        globals: case.globals.to_vec(alloc)?,
+        sites: Vec::new(alloc),
+        commits: Vec::new(alloc),
+    };
+    let machine = Machine::make(alloc, &image, case.input, case.harts)?;
+    Ok(machine)
+}
+
+// How many texts the last cycle printed, if it printed nothing else.
+fn texts_printed(machine: &Machine, text: &[u8]) -> Option<u32> {
+    let bytes = machine.output();
+    if bytes.len() == 0 {
+        return Some(0);
+    }
+    if bytes == text { Some(1) } else { None }
+}
+
+// Runs a new machine cycle by cycle. Answers in how many it printed the text of a case, if no cycle
+// printed another.
+fn times_printed(machine: &mut Machine, case: &Case) -> Option<u32>
+    requires { (machine_of machine.old).begun ≡ 0 }
+{
+    let mut times: u32 = 0;
+    for _ in 0..case.bound {
+        if machine.stand() != Stand::Running {
+            break;
+        }
+        machine.cycle();
+        times = times.wrapping_add(texts_printed(&*machine, case.text)?);
+    }
+    Some(times)
+}
+
+// Whether the shared data of a machine begins with these words.
+fn begins_with(machine: &Machine, words: &[u32]) -> bool {
+    for (index, word) in words.iter().enumerate() {
+        if index >= 1000 || machine.word(index as u32) != *word {
+            return false;
+        }
+    }
+    true
+}
+
+// Whether a machine stands as a case says.
+fn stands(machine: &Machine, case: &Case) -> bool {
+    let cycles = match case.cycles {
+        Some(cycles) => machine.cycles() == cycles,
+        None => true,
+    };
+    cycles && machine.stand() == case.stand && begins_with(machine, case.words)
+}
+
+// Whether one call that runs a new machine appends all that a case prints to these bytes.
+fn appends(
+    alloc: Global,
+    machine: &mut Machine,
+    case: &Case,
+    bytes: &mut Vec<u8>,
+) -> Result<bool, AllocError>
+    requires { (machine_of machine.old).begun ≡ 0 }
+{
+    let mut expected = bytes.clone()?;
+    expected.extend_from_slice(&repeated(alloc, case.text, case.times)?)?;
+    machine.run(case.bound, bytes)?;
+    Ok(bytes.as_slice() == expected.as_slice())
+}
+
+// A case comes to what it says, cycle by cycle and in one call, which adds to what was printed before.
+fn comes_true(
+    rt: &impl Abort,
+    alloc: Global,
+    case: &Case,
+    bytes: &mut Vec<u8>,
+) -> Result<(), AllocError> {
+    let mut machine = machine_for(rt, alloc, case)?;
+    let times = times_printed(&mut machine, case);
+    assert!(rt;
+        times == Some(case.times) && stands(&machine, case),
+        "{}",
+        case.name
+    );
+    let mut machine = machine_for(rt, alloc, case)?;
+    let all = appends(alloc, &mut machine, case, bytes)?;
+    assert!(rt; all && stands(&machine, case), "{} at once", case.name);
+    Ok(())
+}
+
+#[test]
+fn images_run_as_they_are_told(rt: HostRuntime) -> Result<(), AllocError> {
+    let alloc = rt.alloc();
+    let mut bytes = Vec::new(alloc);
+    for case in &CASES {
+        comes_true(&rt, alloc, case, &mut bytes)?;
+    }
     Ok(())
 }

@@ -65,7 +65,7 @@ const COMPARED_BY_SIGN: [(Op, u32, u32, u32); 8] = [
 // Each operator gives its word.
 fn give(rt: &impl Abort, rows: &[(Op, u32, u32, u32)]) {
     for (op, a, b, given) in rows {
-        assert_eq!(rt; apply(*op, *a, *b), *given, "{op:?} of {a:x} and {b:x}");
+        assert!(rt; apply(*op, *a, *b) == *given, "{op:?} of {a:x} and {b:x}");
     }
 }
 
@@ -79,28 +79,33 @@ fn compares_and_chooses_by_sign(rt: HostRuntime) {
     give(&rt, &COMPARED_BY_SIGN);
 }
 
-// A word has this decimal as a signed number.
-fn has_signed(rt: &impl Abort, word: u32, text: &[u8]) {
-    assert_eq!(rt; signed_text(word).as_slice(), text);
-}
-
-// A text is read as this word, if it is read.
-fn is_read(rt: &impl Abort, text: &[u8], word: Option<u32>) {
-    assert_eq!(rt; read_unsigned(text), word);
-}
+// Words with their decimals as signed numbers.
+static SIGNED: [(u32, &[u8]); 4] = [
+    (0, b"0"),
+    (0x7fff_ffff, b"2147483647"),
+    (0x8000_0000, b"-2147483648"),
+    (0xffff_ffff, b"-1"),
+];
 
 #[test]
-fn prints_and_reads_decimal(rt: HostRuntime) {
-    has_signed(&rt, 0, b"0");
-    has_signed(&rt, 0x7fff_ffff, b"2147483647");
-    has_signed(&rt, 0x8000_0000, b"-2147483648");
-    has_signed(&rt, 0xffff_ffff, b"-1");
-    assert_eq!(rt;
-        unsigned_text(0xffff_ffff).as_slice(),
-        b"4294967295".as_slice()
-    );
-    is_read(&rt, b"00000000004294967295", Some(0xffff_ffff));
-    is_read(&rt, b"4294967296", None);
-    is_read(&rt, b"", None);
-    is_read(&rt, b"+1", None);
+fn prints_decimal(rt: HostRuntime) {
+    for (word, text) in &SIGNED {
+        assert!(rt; signed_text(*word).as_slice() == *text, "{word:x}");
+    }
+    assert!(rt; unsigned_text(0xffff_ffff).as_slice() == b"4294967295".as_slice());
+}
+
+// Texts, and the words that they are read as, if they are read.
+static READ: [(&[u8], Option<u32>); 4] = [
+    (b"00000000004294967295", Some(0xffff_ffff)),
+    (b"4294967296", None),
+    (b"", None),
+    (b"+1", None),
+];
+
+#[test]
+fn reads_decimal(rt: HostRuntime) {
+    for (text, word) in &READ {
+        assert!(rt; read_unsigned(text) == *word, "{text:?}");
+    }
 }

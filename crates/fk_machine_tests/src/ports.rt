@@ -87,7 +87,7 @@ fn gives_all_or_a_prefix(rt: HostRuntime) -> Result<(), Fail> {
     assert!(rt; gives(&mut sink, b"abc"));
     assert!(rt; !gives(&mut sink, b"d"), "the second call");
     assert!(rt; !gives(&mut sink, b"def"), "a full sink");
-    assert_eq!(rt; sink.bytes(), b"abcde".as_slice());
+    assert!(rt; sink.bytes() == b"abcde".as_slice());
     Ok(())
 }
 
@@ -100,7 +100,7 @@ fn keeps_files_in_memory(rt: HostRuntime) -> Result<(), Fail> {
     assert!(rt; fetch_faults(alloc, &mut store, "a"), "the third call");
     assert!(rt; fetches(alloc, &mut store, "a", 2, b"ne"));
     assert!(rt; fetch_faults(alloc, &mut store, "c"), "no such name");
-    assert_eq!(rt; store.bytes("b"), Some(b"other".as_slice()));
+    assert!(rt; store.bytes("b") == Some(b"other".as_slice()));
     Ok(())
 }
 
@@ -111,11 +111,18 @@ fn never_fails_where_it_is_sure(rt: HostRuntime) -> Result<(), Fail> {
     assert!(rt; takes(alloc, &mut source, 9, b"abc"));
     let mut sink = SureSink::make();
     assert!(rt; gives(&mut sink, b"abc"));
-    assert_eq!(rt; sink.count(), 3);
+    assert!(rt; sink.count() == 3);
     let mut store = SureStore::make(b"same".to_vec(alloc)?);
     assert!(rt; puts(&mut store, "a", b"new"));
     assert!(rt; fetches(alloc, &mut store, "a", 9, b"same"));
     Ok(())
+}
+
+// Whether these bytes, which begin with 0, 1 and 2, are put, and fetched whole and in part.
+fn keeps<F: Store>(alloc: Global, files: &mut F, name: &str, bytes: &[u8]) -> bool {
+    puts(files, name, bytes)
+        && fetches(alloc, files, name, usize::MAX, bytes)
+        && fetches(alloc, files, name, 3, &[0, 1, 2])
 }
 
 #[test]
@@ -125,13 +132,9 @@ fn keeps_files_of_the_system(rt: HostRuntime) -> Result<(), Fail> {
     path.push("fk_ports_keeps_files_of_the_system")?;
     let bytes = long_bytes(alloc)?;
     let mut store = HostStore::make(&rt);
-    let is_put = puts(&mut store, path.as_str(), &bytes);
-    let fetches_all = fetches(alloc, &mut store, path.as_str(), usize::MAX, &bytes);
-    let fetches_few = fetches(alloc, &mut store, path.as_str(), 3, &[0, 1, 2]);
+    let is_kept = keeps(alloc, &mut store, path.as_str(), &bytes);
     fs::remove_file(&rt, path.as_str())?;
-    assert!(rt; is_put);
-    assert!(rt; fetches_all);
-    assert!(rt; fetches_few);
+    assert!(rt; is_kept);
     assert!(rt;
         fetch_faults(alloc, &mut store, path.as_str()),
         "no such file"
@@ -195,7 +198,7 @@ fn gives_to_a_writer(rt: HostRuntime) -> Result<(), Fail> {
         taken: Vec::new(alloc),
     };
     assert!(rt; gives(&mut HostSink::make(&mut writer), &bytes));
-    assert_eq!(rt; writer.taken.as_slice(), bytes.as_slice());
+    assert!(rt; writer.taken.as_slice() == bytes.as_slice());
     let mut room = [0; 4];
     let mut sink = HostSink::make(room.as_mut_slice());
     assert!(rt; gives(&mut sink, b"abc"));
@@ -211,7 +214,7 @@ fn is_told<E: fmt::Display>(
     words: &str,
 ) -> Result<(), AllocError> {
     let text = format!(in alloc; "{error}")?;
-    assert_eq!(rt; text.as_str(), words);
+    assert!(rt; text.as_str() == words);
     Ok(())
 }
 

@@ -1,4 +1,4 @@
-//! Tests of the crates of rules, layouts and runs.
+//! Tests of the crates of rules, layouts, runs and lists.
 #![tactic(auto)]
 
 #[cfg(test)]
@@ -7,6 +7,8 @@ mod flat_list;
 mod forms;
 #[cfg(test)]
 mod graph;
+#[cfg(test)]
+mod kept;
 #[cfg(test)]
 mod lookup;
 #[cfg(test)]
@@ -23,8 +25,6 @@ mod rules;
 mod signs;
 #[cfg(test)]
 mod space;
-#[cfg(test)]
-mod state;
 #[cfg(test)]
 mod store;
 #[cfg(test)]

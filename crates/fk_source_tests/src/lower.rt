@@ -55,18 +55,19 @@ fn lowered(alloc: Global) -> Result<Lowered, Fail> {
 }
 
 fn is_listed(rt: &impl Abort, op: &CoreOp, (kind, target, depth): (u8, u32, u32)) {
-    assert_eq!(rt; op.kind, kind);
-    assert_eq!(rt; op.target, target);
-    assert_eq!(rt; op.depth, depth);
+    assert!(rt;
+        op.kind == kind && op.target == target && op.depth == depth,
+        "{op:?}"
+    );
 }
 
 #[test]
 fn loop_that_is_left(rt: HostRuntime) -> Result<(), Fail> {
     let lowered = lowered(rt.alloc())?;
-    assert_eq!(rt; lowered.ops.len(), LISTED.len());
+    assert!(rt; lowered.ops.len() == LISTED.len());
     for (op, expected) in lowered.ops.iter().zip(&LISTED) {
         is_listed(&rt, op, *expected);
     }
-    assert_eq!(rt; lowered.entries.of_bindings.as_slice(), [11, 0].as_slice());
+    assert!(rt; lowered.entries.of_bindings.as_slice() == [11, 0].as_slice());
     Ok(())
 }

@@ -1,20 +1,25 @@
 use fk_num::Op;
 use fk_operation::{FaultKind, Multiprefix, Operation, Split};
 
-#[test]
-fn kinds_have_their_numbers(rt: HostRuntime) {
-    assert_eq!(rt; Operation::Push(7).kind(), 1);
-    assert_eq!(rt; Operation::Join(Op::Add, false).kind(), 7);
-    assert_eq!(rt; Operation::Combine(Multiprefix::MpMax).kind(), 16);
-    assert_eq!(rt; Operation::Halt.kind(), 34);
-}
+// Operations with their kinds, and how they may fault.
+static OPERATIONS: [(Operation, u8, Option<FaultKind>); 7] = [
+    (Operation::Push(7), 1, None),
+    (Operation::Join(Op::Add, false), 7, None),
+    (Operation::Check(true), 12, Some(FaultKind::BadAddress)),
+    (Operation::Combine(Multiprefix::MpMax), 16, None),
+    (Operation::Block, 26, None),
+    (
+        Operation::Divide(Split::Loop),
+        27,
+        Some(FaultKind::GroupSpace),
+    ),
+    (Operation::Halt, 34, None),
+];
 
 #[test]
-fn kinds_that_fault(rt: HostRuntime) {
-    assert_eq!(rt; Operation::Check(true).fault(), Some(FaultKind::BadAddress));
-    assert_eq!(rt;
-        Operation::Divide(Split::Loop).fault(),
-        Some(FaultKind::GroupSpace)
-    );
-    assert_eq!(rt; Operation::Block.fault(), None);
+fn operations_have_kinds_and_faults(rt: HostRuntime) {
+    for (operation, kind, fault) in &OPERATIONS {
+        assert!(rt; operation.kind() == *kind, "{operation:?}");
+        assert!(rt; operation.fault() == *fault, "{operation:?}");
+    }
 }

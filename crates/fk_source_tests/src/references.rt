@@ -28,7 +28,7 @@ fn chain(alloc: Global) -> Result<Expr<'static>, AllocError> {
 
 // These are the references of that chain.
 fn are_of_chain(rt: &impl Abort, list: &[Reference]) {
-    assert_eq!(rt; list.len(), 3);
+    assert!(rt; list.len() == 3);
     assert!(rt; matches!(&list[0], Reference::Name(_)));
     assert!(rt; matches!(&list[1], Reference::Member(0, false, _)));
     assert!(rt; matches!(&list[2], Reference::Member(1, true, _)));
@@ -38,7 +38,7 @@ fn are_of_chain(rt: &impl Abort, list: &[Reference]) {
 fn a_member_is_told_with_the_token_before_it(rt: HostRuntime) -> Result<(), AllocError> {
     let expression = chain(rt.alloc())?;
     let mut references = References::new(rt.alloc());
-    assert_eq!(rt; references.add(&expression)?, 3);
+    assert!(rt; references.add(&expression)? == 3);
     are_of_chain(&rt, references.list());
     Ok(())
 }
@@ -51,7 +51,7 @@ fn names<'a>(
     count: usize,
 ) -> Result<(), AllocError> {
     references.add_optional(expression)?;
-    assert_eq!(rt; references.list().len(), count);
+    assert!(rt; references.list().len() == count);
     Ok(())
 }
 

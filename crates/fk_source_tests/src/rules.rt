@@ -8,12 +8,18 @@ fn fault(line: u32, column: u32, rule: Rule) -> Fault {
     }
 }
 
+static NUMBERS: [(Rule, u8); 4] = [
+    (Rule::Undeclared, 1),
+    (Rule::NoStruct, 6),
+    (Rule::WholeAssigned, 20),
+    (Rule::SharedParameter, 40),
+];
+
 #[test]
 fn rules_have_their_numbers(rt: HostRuntime) {
-    assert_eq!(rt; Rule::Undeclared.number(), 1);
-    assert_eq!(rt; Rule::NoStruct.number(), 6);
-    assert_eq!(rt; Rule::WholeAssigned.number(), 20);
-    assert_eq!(rt; Rule::SharedParameter.number(), 40);
+    for (rule, number) in &NUMBERS {
+        assert!(rt; rule.number() == *number, "{number}");
+    }
 }
 
 #[test]

@@ -1,4 +1,4 @@
-//! A table of signs.
+//! Tables of signs.
 
 use fk_signs::{
     ExpressionType, Operand, Target, Value, binary, chosen, converts, counted, prefixed,
@@ -17,12 +17,26 @@ const VOID_POINTER: Value = Value::Pointer(Target {
     stars: 0,
 });
 
-fn some(value: Value) -> Operand {
-    Operand {
-        value,
-        is_zero: false,
-    }
-}
+// Operands that are no zero.
+const INT: Operand = Operand {
+    value: Value::Int,
+    is_zero: false,
+};
+
+const UNSIGNED: Operand = Operand {
+    value: Value::Unsigned,
+    is_zero: false,
+};
+
+const TO_INT: Operand = Operand {
+    value: INT_POINTER,
+    is_zero: false,
+};
+
+const TO_VOID: Operand = Operand {
+    value: VOID_POINTER,
+    is_zero: false,
+};
 
 const ZERO: Operand = Operand {
     value: Value::Int,
@@ -30,76 +44,105 @@ const ZERO: Operand = Operand {
 };
 
 // A sign, the operands on its sides, and what it gives.
-const BETWEEN: [(Sign, Value, Value, Option<Value>); 10] = [
-    (
-        Sign::Star,
-        Value::Int,
-        Value::Unsigned,
-        Some(Value::Unsigned),
-    ),
-    (
-        Sign::ShiftLeft,
-        Value::Int,
-        Value::Unsigned,
-        Some(Value::Int),
-    ),
-    (Sign::Plus, INT_POINTER, Value::Int, Some(INT_POINTER)),
-    (Sign::Plus, Value::Int, INT_POINTER, None),
-    (Sign::Minus, INT_POINTER, INT_POINTER, None),
-    (Sign::Plus, VOID_POINTER, Value::Int, None),
-    (Sign::LessThan, INT_POINTER, VOID_POINTER, Some(Value::Int)),
-    (Sign::AndAnd, INT_POINTER, Value::Unsigned, Some(Value::Int)),
-    (Sign::Assign, Value::Int, Value::Int, None),
-    (Sign::Comma, Value::Int, Value::Int, None),
+static BETWEEN: [(Sign, Operand, Operand, Option<Value>); 12] = [
+    (Sign::Star, INT, UNSIGNED, Some(Value::Unsigned)),
+    (Sign::ShiftLeft, INT, UNSIGNED, Some(Value::Int)),
+    (Sign::Plus, TO_INT, INT, Some(INT_POINTER)),
+    (Sign::Plus, INT, TO_INT, None),
+    (Sign::Minus, TO_INT, TO_INT, None),
+    (Sign::Plus, TO_VOID, INT, None),
+    (Sign::LessThan, TO_INT, TO_VOID, Some(Value::Int)),
+    (Sign::AndAnd, TO_INT, UNSIGNED, Some(Value::Int)),
+    (Sign::Assign, INT, INT, None),
+    (Sign::Comma, INT, INT, None),
+    (Sign::LessThan, TO_INT, ZERO, None),
+    (Sign::EqualTo, ZERO, TO_INT, Some(Value::Int)),
 ];
 
 #[test]
 fn signs_between_operands(rt: HostRuntime) {
-    for (sign, left, right, expected) in BETWEEN {
-        assert!(rt; binary(sign, some(left), some(right)) == expected);
+    for (sign, left, right, expected) in &BETWEEN {
+        assert!(rt; binary(*sign, *left, *right) == *expected);
     }
-    assert!(rt; binary(Sign::LessThan, some(INT_POINTER), ZERO).is_none());
-    assert!(rt; binary(Sign::EqualTo, ZERO, some(INT_POINTER)) == Some(Value::Int));
 }
+
+// A value, and what it gives before `-`, `~` and `!`, and as it is counted by `++` and `--`.
+static ALONE: [(Value, [Option<Value>; 4]); 3] = [
+    (
+        Value::Unsigned,
+        [
+            Some(Value::Unsigned),
+            Some(Value::Unsigned),
+            Some(Value::Int),
+            Some(Value::Unsigned),
+        ],
+    ),
+    (
+        INT_POINTER,
+        [None, None, Some(Value::Int), Some(INT_POINTER)],
+    ),
+    (VOID_POINTER, [None, None, Some(Value::Int), None]),
+];
 
 #[test]
 fn signs_on_one_value(rt: HostRuntime) {
-    assert!(rt; prefixed(Sign::Minus, Value::Unsigned) == Some(Value::Unsigned));
-    assert!(rt; prefixed(Sign::Tilde, INT_POINTER).is_none());
-    assert!(rt; prefixed(Sign::Exclamation, INT_POINTER) == Some(Value::Int));
-    assert!(rt; counted(INT_POINTER) == Some(INT_POINTER));
-    assert!(rt; counted(VOID_POINTER).is_none());
+    for (value, expected) in &ALONE {
+        assert!(rt; prefixed(Sign::Minus, *value) == expected[0]);
+        assert!(rt; prefixed(Sign::Tilde, *value) == expected[1]);
+        assert!(rt; prefixed(Sign::Exclamation, *value) == expected[2]);
+        assert!(rt; counted(*value) == expected[3]);
+    }
     assert!(rt; sign_within(Sign::MinusAssign) == Some(Sign::Minus));
     assert!(rt; sign_within(Sign::Assign).is_none());
 }
 
+// An operand, a value, and whether it converts to that.
+static CONVERTED: [(Operand, Value, bool); 5] = [
+    (INT, Value::Unsigned, true),
+    (TO_VOID, INT_POINTER, true),
+    (ZERO, INT_POINTER, true),
+    (INT, INT_POINTER, false),
+    (TO_INT, Value::Int, false),
+];
+
 #[test]
 fn values_convert(rt: HostRuntime) {
-    assert!(rt; converts(some(Value::Int), Value::Unsigned));
-    assert!(rt; converts(some(VOID_POINTER), INT_POINTER));
-    assert!(rt; converts(ZERO, INT_POINTER));
-    assert!(rt; !converts(some(Value::Int), INT_POINTER));
-    assert!(rt; !converts(some(INT_POINTER), Value::Int));
-    assert!(rt; chosen(some(INT_POINTER), some(VOID_POINTER)) == Some(VOID_POINTER));
-    assert!(rt; chosen(ZERO, some(INT_POINTER)) == Some(INT_POINTER));
-    assert!(rt; chosen(some(Value::Int), some(INT_POINTER)).is_none());
+    for (from, to, expected) in &CONVERTED {
+        assert!(rt; converts(*from, *to) == *expected);
+    }
 }
+
+// The operands behind a `?`, and what is chosen.
+static CHOSEN: [(Operand, Operand, Option<Value>); 3] = [
+    (TO_INT, TO_VOID, Some(VOID_POINTER)),
+    (ZERO, TO_INT, Some(INT_POINTER)),
+    (INT, TO_INT, None),
+];
+
+#[test]
+fn values_are_chosen(rt: HostRuntime) {
+    for (first, second, expected) in &CHOSEN {
+        assert!(rt; chosen(*first, *second) == *expected);
+    }
+}
+
+const FOUR_INTS: ExpressionType = ExpressionType::Stored(DataType {
+    root: Root::Int,
+    stars: 0,
+    length: Some(4),
+});
+
+const VOID: DataType = DataType {
+    root: Root::Void,
+    stars: 0,
+    length: None,
+};
 
 #[test]
 fn expressions_as_values(rt: HostRuntime) {
-    let array = ExpressionType::Stored(DataType {
-        root: Root::Int,
-        stars: 0,
-        length: Some(4),
-    });
-    assert!(rt; array.value() == Some(INT_POINTER));
-    assert!(rt; array.address() == Some(INT_POINTER));
-    assert!(rt; array.is_array());
-    let void = DataType {
-        root: Root::Void,
-        stars: 0,
-        length: None,
-    };
-    assert!(rt; ExpressionType::of_call(&void) == ExpressionType::Nothing);
-    assert!(rt; ExpressionType::Stored(void).value().is_none());
+    assert!(rt; FOUR_INTS.value() == Some(INT_POINTER));
+    assert!(rt; FOUR_INTS.address() == Some(INT_POINTER));
+    assert!(rt; FOUR_INTS.is_array());
+    assert!(rt; ExpressionType::of_call(&VOID) == ExpressionType::Nothing);
+    assert!(rt; ExpressionType::Stored(VOID).value().is_none());
 }

@@ -5,32 +5,38 @@ fn whole() -> Space {
     Space::whole(0, 524_288)
 }
 
+// So many parts, and what each gets.
+const DIVIDED: [(u32, Option<u32>); 4] = [
+    (2, Some(262_136)),
+    (26_214, Some(16)),
+    (26_215, None),
+    (1 << 30, None),
+];
+
 #[test]
 fn a_space_is_divided_evenly(rt: HostRuntime) {
     let space = whole();
-    assert_eq!(rt; space.free(), 524_280);
-    assert_eq!(rt; space.share(2), Some(262_136));
-    assert_eq!(rt; space.share(26_214), Some(16));
-    assert_eq!(rt; space.share(26_215), None);
-    assert_eq!(rt; space.share(1 << 30), None);
+    assert!(rt; space.free() == 524_280);
+    for (parts, words) in DIVIDED {
+        assert!(rt; parts >= 1 && space.share(parts) == words, "{parts}");
+    }
 }
+
+// 524,280 - 12 words are 174,756 for each of three parts.
+const FIRST: Space = Space {
+    low: 20,
+    high: 174_776,
+    frames: 28,
+    blocks: 174_776,
+};
 
 #[test]
 fn parts_follow_each_other(rt: HostRuntime) {
     let space = whole();
     assert!(rt; space.share(3).is_some());
-    // 524,280 - 12 words are 174,756 for each
-    assert_eq!(rt;
-        space.child(3, 0),
-        Space {
-            low: 20,
-            high: 174_776,
-            frames: 28,
-            blocks: 174_776
-        }
-    );
-    assert_eq!(rt; space.child(3, 1).low, 174_776);
-    assert_eq!(rt; space.child(3, 2).high, 524_288);
+    assert!(rt; space.child(3, 0) == FIRST);
+    assert!(rt; space.child(3, 1).low == 174_776);
+    assert!(rt; space.child(3, 2).high == 524_288);
 }
 
 // What a part of two gets of a part of two, and so on, to the last that has 16 words.
@@ -43,31 +49,36 @@ fn parts_are_divided(rt: HostRuntime) {
     let mut space = whole();
     for words in SHARES {
         let share = space.share(2);
-        assert!(rt; share.is_some());
-        assert_eq!(rt; share, Some(words));
+        assert!(rt; share.is_some() && share == Some(words));
         space = space.child(2, 1);
     }
-    assert_eq!(rt; space.share(2), None);
+    assert!(rt; space.share(2).is_none());
 }
+
+// Twenty words, of which a frame has taken five.
+const FRAMED: Space = Space {
+    low: 100,
+    high: 120,
+    frames: 113,
+    blocks: 120,
+};
+
+// And a block the other seven.
+const FULL: Space = Space {
+    low: 100,
+    high: 120,
+    frames: 113,
+    blocks: 113,
+};
 
 #[test]
 fn frames_and_blocks_meet(rt: HostRuntime) {
     let space = Space::whole(100, 20);
-    assert_eq!(rt; space.frame(13), None);
-    let framed = space.frame(5).expect(&rt, "a frame");
-    assert_eq!(rt;
-        framed,
-        Space {
-            low: 100,
-            high: 120,
-            frames: 113,
-            blocks: 120
-        }
-    );
-    assert!(rt; framed.block(8).is_none());
-    let (first, full) = framed.block(7).expect(&rt, "a block");
-    assert_eq!(rt; first, 113);
-    assert_eq!(rt; full.free(), 0);
+    assert!(rt; space.frame(13).is_none());
+    assert!(rt; space.frame(5) == Some(FRAMED));
+    assert!(rt; FRAMED.block(8).is_none());
+    assert!(rt; FRAMED.block(7) == Some((113, FULL)));
+    assert!(rt; FULL.free() == 0);
 }
 
 #[test]

@@ -27,7 +27,7 @@ pub(crate) fn answers(
     requires request { IsTrue (can_serve (room_of store.old) request) }
     ensures { KeepsRoom store.old store.new }
 {
-    assert_eq!(rt; serve(store, request, processor), answer);
+    assert!(rt; serve(store, request, processor) == answer);
 }
 
 #[test]
@@ -136,7 +136,7 @@ fn output_takes_the_room_that_was_reserved(rt: HostRuntime) -> Result<(), AllocE
     assert!(rt; store.processors() == 1 && store.spare() >= 1);
     answers(&rt, &mut store, Request::Byte(0x141), 0, Ok(0));
     store.reserve(1)?;
-    assert_eq!(rt; store.output(), b"-2147483648\n0\nA".as_slice());
+    assert!(rt; store.output() == b"-2147483648\n0\nA".as_slice());
     Ok(())
 }
 

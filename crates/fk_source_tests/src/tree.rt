@@ -20,7 +20,25 @@ fn split_by_rest(alloc: Global, tree: &mut Tree) -> Result<(u64, u64), AllocErro
 
 // These are the members of a node.
 pub(crate) fn has_members(rt: &impl Abort, tree: &Tree, node: u64, members: &[u32]) {
-    assert_eq!(rt; tree.members(node), members);
+    assert!(rt; tree.members(node) == members, "{node}");
+}
+
+// Nodes and their members.
+static MEMBERS: [(u64, &[u32]); 3] = [(2, &[0, 3, 6]), (3, &[1, 4]), (4, &[2, 5])];
+
+// Processors, and the node of each.
+static PLACES: [(u32, u64); 3] = [(6, 2), (4, 3), (5, 4)];
+
+// The parts are at their nodes.
+fn is_split(rt: &impl Abort, tree: &Tree)
+    requires seven { processors tree.now ≡ 7 }
+{
+    for (processor, node) in &PLACES {
+        assert!(rt;
+            *processor < 7 && tree.node_of(*processor) == *node,
+            "{processor}"
+        );
+    }
 }
 
 // The tree of `start fork (3; @=$%3; $=$/3) ..` on seven processors: the part with each number has those
@@ -29,16 +47,12 @@ pub(crate) fn has_members(rt: &impl Abort, tree: &Tree, node: u64, members: &[u3
 fn a_group_is_split_by_the_rest(rt: HostRuntime) -> Result<(), AllocError> {
     let mut tree = Tree::root(rt.alloc(), 7)?;
     has_members(&rt, &tree, 0, &[0, 1, 2, 3, 4, 5, 6]);
-    assert_eq!(rt; tree.node_of(6), 0);
+    assert!(rt; tree.node_of(6) == 0);
     let (group, first) = split_by_rest(rt.alloc(), &mut tree)?;
-    assert_eq!(rt; (group, first), (1, 2));
-    has_members(&rt, &tree, 2, &[0, 3, 6]);
-    has_members(&rt, &tree, 3, &[1, 4]);
-    has_members(&rt, &tree, 4, &[2, 5]);
-    assert_eq!(rt; tree.given(), 5);
-    assert_eq!(rt; tree.node_of(6), 2);
-    assert_eq!(rt; tree.node_of(4), 3);
-    assert_eq!(rt; tree.node_of(5), 4);
-    assert!(rt; !tree.ready(group));
+    assert!(rt; group == 1 && first == 2 && tree.given() == 5 && !tree.ready(group));
+    is_split(&rt, &tree);
+    for (node, members) in &MEMBERS {
+        has_members(&rt, &tree, *node, members);
+    }
     Ok(())
 }

@@ -1,4 +1,4 @@
-//! Tests of whole calls over stores, sources and sinks that fail.
+//! A test of a whole call over a store, a source and sinks that never fail.
 #![tactic(auto)]
 
 #[cfg(test)]

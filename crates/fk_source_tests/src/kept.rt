@@ -1,7 +1,7 @@
 //! A list made by hand, of loops in one another.
 
-use crate::live_words;
 use fk_core::CoreOp;
+use fk_kept::live_words;
 use fk_operation::{Known, Operation, Variable};
 use std::alloc::{AllocError, Global};
 
