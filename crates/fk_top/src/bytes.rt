@@ -17,14 +17,14 @@ use std::alloc::{AllocError, Global};
 /// Reads an image and runs it over an input text.
 pub fn run_bytes<'a>(
     alloc: Global,
-    bytes: &[u8],
+    run: RunWords<'a>,
     text: &[u8],
-    run: RunWords,
+    bytes: &[u8],
 ) -> Result<Ending<'a>, AllocError>
     ensures { IfOk result (λ e. RefusesImage bytes.now (outcome_of e) ⊎ RunsImage bytes.now text.now run.entry.harts run.entry.cycles (outcome_of e)) }
 {
     match read_image(alloc, bytes) {
-        Ok(image) => run_ending(alloc, &image, text, run, None),
+        Ok(image) => run_ending(alloc, run, None, text, &image),
         Err(fault) => refused(alloc, Status::ImageRefused, image_report_of(fault)),
     }
 }
