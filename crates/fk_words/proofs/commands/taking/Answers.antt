@@ -1,4 +1,4 @@
-use Rattle.std.proofs.Common.{◌≡◌, ◌∙◌, ◌||◌, Result, IfOk, ap₂, subst}
+use Rattle.std.proofs.Common.{◌∙◌, ◌||◌, Result, IfOk, ap₂, subst}
 use Rattle.std.proofs.lemmas.Result.{IfOk-weaker}
 use Rattle.clap.specs.Simple.{with_rule}
 use Rattle.clap.specs.declared.builder.command.Command.{Command}
