@@ -17,14 +17,14 @@ use std::alloc::{AllocError, Global};
 /// Reads an image and runs it over an input text.
 pub fn run_bytes<'a>(
     alloc: Global,
-    run: RunWords<'a>,
-    text: &[u8],
     bytes: &[u8],
+    text: &[u8],
+    run: RunWords,
 ) -> Result<Ending<'a>, AllocError>
     ensures { IfOk result (λ e. RefusesImage bytes.now (outcome_of e) ⊎ RunsImage bytes.now text.now run.entry.harts run.entry.cycles (outcome_of e)) }
 {
     match read_image(alloc, bytes) {
-        Ok(image) => run_ending(alloc, run, None, text, &image),
+        Ok(image) => run_ending(alloc, &image, text, run, None),
         Err(fault) => refused(alloc, Status::ImageRefused, image_report_of(fault)),
     }
 }

@@ -49,7 +49,7 @@ pub fn find_ending<'a, F: Store, S: Source>(
         return unread(alloc, fault);
     }
     match take_input(alloc, command, input) {
-        Ok(text) => command_ending(alloc, command, text.as_slice(), bytes.as_slice()),
+        Ok(text) => command_ending(alloc, command, bytes.as_slice(), text.as_slice()),
         Err(fault) => unread(alloc, fault),
     }
 }
@@ -69,15 +69,15 @@ fn unread<'a>(alloc: Global, fault: StoreFault) -> Result<Ending<'a>, AllocError
 fn command_ending<'a>(
     alloc: Global,
     command: CommandWords<'a>,
-    text: &[u8],
     bytes: &[u8],
+    text: &[u8],
 ) -> Result<Ending<'a>, AllocError>
     ensures { IfOk result (λ e. ComesTo (command_of command.entry) bytes.now text.now (outcome_of e)) }
 {
     match command {
-        CommandWords::Run(run, show) => run_source(alloc, run, show, text, bytes),
-        CommandWords::Build(_, image) => build_source(alloc, image, bytes),
-        CommandWords::Exec(run) => run_bytes(alloc, run, text, bytes),
+        CommandWords::Run(run, show) => run_source(alloc, bytes, text, run, show),
+        CommandWords::Build(_, image) => build_source(alloc, bytes, image),
+        CommandWords::Exec(run) => run_bytes(alloc, bytes, text, run),
         CommandWords::List(_) => list_bytes(alloc, bytes),
     }
 }

@@ -1,7 +1,7 @@
 //! Kinds of faults and of traps.
 
 /// Why a program faults.
-#[derive(Clone, Copy, PartialEq, Eq)]
+#[derive(Clone, Copy, PartialEq, Eq, Debug)]
 pub enum FaultKind {
     /// A check met an address that is none of shared data or of a private heap.
     BadAddress,
@@ -44,7 +44,7 @@ impl FaultKind {
 }
 
 /// Why a machine traps (RISC-V Unprivileged ISA, "Exceptions, Traps, and Interrupts").
-#[derive(Clone, Copy, PartialEq, Eq)]
+#[derive(Clone, Copy, PartialEq, Eq, Debug)]
 pub enum TrapKind {
     /// The pc is outside the code.
     Fetch,

@@ -13,7 +13,7 @@ use fk_asm::listing::eight_digits;
 use fk_syntax::Place;
 
 /// What a call reports.
-#[derive(Clone, Copy)]
+#[derive(Clone, Copy, PartialEq, Eq, Debug)]
 pub enum Report {
     /// All harts ended: after so many cycles.
     Finished(u32),

@@ -34,10 +34,10 @@ struct Ran<'a> {
 /// What a run of an image comes to over an input text.
 pub fn run_ending<'a>(
     alloc: Global,
-    run: RunWords<'a>,
-    variable: Option<Variable<'a>>,
-    text: &[u8],
     image: &Image,
+    text: &[u8],
+    run: RunWords,
+    variable: Option<Variable<'a>>,
 ) -> Result<Ending<'a>, AllocError>
     requires limits { IsWithinLimits image.now }
     ensures { IfOk result (λ e. EndsOn image.now text.now run.entry.harts run.entry.cycles (option_map variable_of variable.entry) (outcome_of e)) }
@@ -49,11 +49,11 @@ pub fn run_ending<'a>(
     };
     let ran = run_image(
         alloc,
-        variable,
-        input.as_slice(),
         image,
+        input.as_slice(),
         run.harts,
         run.cycles,
+        variable,
     )?;
     Ok(Ending {
         status: status_of(ran.stand),
@@ -82,11 +82,11 @@ fn most_numbers(globals: usize) -> u32
 // Runs an image over input numbers on so many harts, until it ends or the bound on the cycles is reached.
 fn run_image<'a>(
     alloc: Global,
-    variable: Option<Variable<'a>>,
-    input: &[u32],
     image: &Image,
+    input: &[u32],
     harts: u32,
     bound: u32,
+    variable: Option<Variable<'a>>,
 ) -> Result<Ran<'a>, AllocError>
     requires limits { IsWithinLimits image.now }
     requires some_harts { 1 ≤ harts }
@@ -103,7 +103,7 @@ fn run_image<'a>(
     machine.run(bound, &mut output)?;
     Ok(Ran {
         output,
-        shown: show(alloc, variable, &machine)?,
+        shown: show(alloc, &machine, variable)?,
         stand: machine.stand(),
         cycles: machine.cycles(),
     })
@@ -112,8 +112,8 @@ fn run_image<'a>(
 // A variable, as the machine has it.
 fn show<'a>(
     alloc: Global,
-    variable: Option<Variable<'a>>,
     machine: &Machine,
+    variable: Option<Variable<'a>>,
 ) -> Result<Option<Shown<'a>>, AllocError>
     ensures { IfOk result (λ shown. (output : List ℕ)
         → with_line output shown ≡ with_shown output (option_map variable_of variable.entry) (machine_of machine.now)) }
@@ -123,13 +123,13 @@ fn show<'a>(
     };
     Ok(Some(Shown {
         name: variable.name,
-        words: words_of(alloc, variable, machine)?,
+        words: words_of(alloc, machine, variable)?,
         signed: variable.signed,
     }))
 }
 
 // The words of a variable, as the machine has them.
-fn words_of(alloc: Global, variable: Variable, machine: &Machine) -> Result<Vec<u32>, AllocError>
+fn words_of(alloc: Global, machine: &Machine, variable: Variable) -> Result<Vec<u32>, AllocError>
     ensures { IfOk result (λ words. words.items ≡ words_in (machine_of machine.now) (variable_of variable.entry)) }
 {
     let mut words = Vec::with_capacity(alloc, variable.words as usize)?;

@@ -19,16 +19,16 @@ use std::alloc::{AllocError, Global};
 /// Compiles a source, runs it over an input text, and shows the variable of a name, if one is named.
 pub fn run_source<'a>(
     alloc: Global,
-    run: RunWords<'a>,
-    show: Option<&'a str>,
-    text: &[u8],
     source: &[u8],
+    text: &[u8],
+    run: RunWords,
+    show: Option<&'a str>,
 ) -> Result<Ending<'a>, AllocError>
     ensures { IfOk result (λ e. RefusesSource source.now (outcome_of e) ⊎ LacksGlobal source.now (option_map (λ s. s.now) show.entry) (outcome_of e)
         ⊎ RunsSource source.now text.now run.entry.harts run.entry.cycles (option_map (λ s. s.now) show.entry) (outcome_of e)) }
 {
     match compile(alloc, source) {
-        Ok(image) => run_and_show(alloc, run, show, text, &image, source),
+        Ok(image) => run_and_show(alloc, source, &image, text, run, show),
         Err(refusal) => refused_source(alloc, last_line_of(refusal)),
     }
 }
@@ -36,18 +36,18 @@ pub fn run_source<'a>(
 // Runs the image of a source, and shows the variable of a name, if one is named.
 fn run_and_show<'a>(
     alloc: Global,
-    run: RunWords<'a>,
-    show: Option<&'a str>,
-    text: &[u8],
-    image: &Image,
     source: &[u8],
+    image: &Image,
+    text: &[u8],
+    run: RunWords,
+    show: Option<&'a str>,
 ) -> Result<Ending<'a>, AllocError>
     requires { IsBuiltFrom source.now image.now }
     ensures { IfOk result (λ e. RefusesSource source.now (outcome_of e) ⊎ LacksGlobal source.now (option_map (λ s. s.now) show.entry) (outcome_of e)
         ⊎ RunsSource source.now text.now run.entry.harts run.entry.cycles (option_map (λ s. s.now) show.entry) (outcome_of e)) }
 {
     let Some(name) = show else {
-        return run_ending(alloc, run, None, text, image);
+        return run_ending(alloc, image, text, run, None);
     };
     match find_global(alloc, source, name.as_bytes()) {
         Ok(Some(row)) => {
@@ -57,7 +57,7 @@ fn run_and_show<'a>(
                 words: row.words,
                 signed: row.signed,
             };
-            run_ending(alloc, run, Some(variable), text, image)
+            run_ending(alloc, image, text, run, Some(variable))
         }
         Ok(None) => Ok(no_global(alloc, name)),
         Err(refusal) => refused_source(alloc, last_line_of(refusal)),
@@ -67,8 +67,8 @@ fn run_and_show<'a>(
 /// Compiles a source and makes the bytes of its image.
 pub fn build_source<'a>(
     alloc: Global,
-    name: &'a str,
     source: &[u8],
+    name: &'a str,
 ) -> Result<Ending<'a>, AllocError>
     ensures { IfOk result (λ e. RefusesSource source.now (outcome_of e) ⊎ PutsImage source.now name.now (outcome_of e)) }
 {
