@@ -4,7 +4,8 @@ use Rattle.std.specs.Option.{option_map}
 use Rattle.std.proofs.Math.Nat.{eq-or-lt_of_le}
 use Rattle.std.proofs.lemmas.Option.{same_Some, slice_get_within, slice_get-map, slice_get-get_or, slice_get_past}
 use Rattle.std.proofs.lemmas.Bool.{cases_lt}
-use Rattle.std.proofs.lemmas.List.{map_more}
+use Rattle.std.proofs.lemmas.List.{map_more, take_more}
+use Rattle.std.proofs.lemmas.List.Elements.{Contains-push_cases}
 use Rattle.fk_graph.specs.Graph.{HasEdge, Walk, IsOnCycle}
 use Rattle.fk_graph.specs.Marks.{IsMarked}
 use Rattle.fk_graph.specs.Ranks.{Covers, Keeps, CoversAll, CoversFirst}
@@ -63,6 +64,18 @@ CoversFirst-more marks before ranks graph n row there keeps all one from to l e 
   where
     le_of_lt_add_one : (i k : ℕ) → i < k + 1 → i ≤ k
     le_of_lt_add_one i k less = omega (arith, less)
+
+-- one vertex more of a row
+pub CoversAll-more : (first before marks : List Bool) (ranks vertices : List ℕ) (low i : ℕ) → i < length vertices → Keeps first before → CoversAll before ranks low (take i vertices)
+    → Keeps before marks → (get_or vertices i 0 < length ranks → Covers marks low (slice_index ranks (get_or vertices i 0)))
+    → Keeps first marks × CoversAll marks ranks low (take (i + 1) vertices)
+CoversAll-more first before marks ranks vertices low i within kept all keeps one = (
+  record { same_length = keeps.same_length ∙ kept.same_length; kept = λ v m. keeps.kept v (kept.kept v m) },
+  λ to has inside rank above below less. elim (Contains-push_cases (take i vertices) (get_or vertices i 0) to (subst (λ xs. Contains xs to) (take_more vertices i 0 within) has)) [
+    | inl old ↦ keeps.kept rank (all to old inside rank above below (subst (λ k. rank < k) keeps.same_length less))
+    | inr same ↦ subst (λ v. v < length ranks → Covers marks low (slice_index ranks v)) same one inside rank above below less
+  ],
+)
 
 -- one rank more is told
 pub told-more : (f : ℕ → Bool) (ranks : List ℕ) (n : ℕ) (before after : List Bool) (b : Bool) → n < length ranks → before ≡ map f (take n ranks) → after ≡ before ++ b ∷ [] → b ≡ f (get_or ranks n 0) → after ≡ map f (take (n + 1) ranks)

@@ -1,11 +1,12 @@
 -- Marks, and what a search has reached.
 use Rattle.std.proofs.Common.{◌≡◌, ℕ, zero, suc, ◌+◌, ◌<◌, ◌≢◌, inl, inr, Bool, true, false, not, cond, List, [], ◌∷◌, ◌++◌, Some, Vec, Global, Contains, length, length-append, set, slice_get, count_by, get_or, take, refl, sym, ap, subst, ◌∙◌, arith}
-use Rattle.std.proofs.Math.ListN.{length-set}
-use Rattle.std.proofs.lemmas.Option.{same_Some, slice_get_within, get_or_from_slice_get}
+use Rattle.std.specs.Prelude.{◌↔◌, IsTrue}
+use Rattle.std.proofs.Math.ListN.{length-set, replicate}
+use Rattle.std.proofs.lemmas.Option.{none-some, same_Some, slice_get-get_or, slice_get_within, get_or_from_slice_get}
 use Rattle.std.proofs.lemmas.List.{take_more}
 use Rattle.std.proofs.lemmas.List.Elements.{Contains-append_left, Contains-append_right, Contains-append_cases, Contains-push, Contains-push_cases}
 use Rattle.std.proofs.lemmas.List.Sums.{sum_by-set}
-use Rattle.std.proofs.lemmas.Bool.{cases_eq}
+use Rattle.std.proofs.lemmas.Bool.{cases_eq, false≢true}
 use Rattle.fk_graph.specs.Graph.{HasEdge, Walk, LeadsTo, IsOnCycle}
 use Rattle.fk_graph.specs.Marks.{IsMarked, Marks, IsDone, IsSearch}
 
@@ -211,3 +212,15 @@ module _ (graph : List (Vec ℕ Global)) (from : ℕ) where
 
     pub IsSearch-tells : IsMarked marks from → IsOnCycle graph from
     IsSearch-tells k = s.reached from k
+
+-- marks before a search
+pub none_marked : (n v : ℕ) → IsMarked (replicate n false) v → ⊥
+none_marked zero v m = none-some true m
+none_marked (suc n) zero m = false≢true (same_Some false true m)
+none_marked (suc n) (suc v) m = none_marked n v m
+
+-- a mark that is read
+pub read_mark : (marks : List Bool) (v : ℕ) (b : Bool) (P : Type 0) → v < length marks → b ≡ get_or marks v b → (IsMarked marks v ↔ P) → (IsTrue b ↔ P)
+read_mark marks v b P within is h =
+    let there : slice_get marks v ≡ Some b = slice_get-get_or marks v b within ∙ ap Some (sym is) in
+    (λ t. h.0 (there ∙ ap Some t), λ p. same_Some b true (sym there ∙ h.1 p))

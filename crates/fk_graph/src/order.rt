@@ -13,16 +13,34 @@ struct Visit {
 
 /// The graph with each edge turned round.
 pub(crate) fn turned(alloc: Global, graph: &[Vec<usize>]) -> Result<Vec<Vec<usize>>, AllocError> {
-    let mut turned = Vec::new(alloc);
-    for _ in graph {
-        turned.push(Vec::new(alloc))?;
-    }
-    for (from, row) in graph.iter().enumerate() {
-        for to in row {
-            add(&mut turned, *to, from)?;
-        }
-    }
+    let mut turned = without_edges(alloc, graph.len())?;
+    add_turned(&mut turned, graph)?;
     Ok(turned)
+}
+
+// A graph of so many vertices without edges.
+fn without_edges(alloc: Global, vertices: usize) -> Result<Vec<Vec<usize>>, AllocError> {
+    let mut graph = Vec::new(alloc);
+    for _ in 0..vertices {
+        graph.push(Vec::new(alloc))?;
+    }
+    Ok(graph)
+}
+
+// The edges of another graph, turned round.
+fn add_turned(turned: &mut [Vec<usize>], graph: &[Vec<usize>]) -> Result<(), AllocError> {
+    for (from, row) in graph.iter().enumerate() {
+        add_all(turned, row, from)?;
+    }
+    Ok(())
+}
+
+// An edge more from each of these vertices to one.
+fn add_all(graph: &mut [Vec<usize>], vertices: &[usize], to: usize) -> Result<(), AllocError> {
+    for from in vertices {
+        add(graph, *from, to)?;
+    }
+    Ok(())
 }
 
 // An edge more.
@@ -68,8 +86,8 @@ fn begin(seen: &mut [bool], visits: &mut Vec<Visit>, vertex: usize) -> Result<()
 fn go_through(
     graph: &[Vec<usize>],
     seen: &mut [bool],
-    order: &mut Vec<usize>,
     visits: &mut Vec<Visit>,
+    order: &mut Vec<usize>,
 ) -> Result<(), AllocError> {
     for _ in 0..u64::MAX {
         let Some(visit) = visits.pop() else {
@@ -82,14 +100,25 @@ fn go_through(
     Ok(())
 }
 
+// Adds all vertices that were not seen yet, each after those that it leads to itself.
+fn go_through_all(
+    alloc: Global,
+    graph: &[Vec<usize>],
+    seen: &mut [bool],
+    order: &mut Vec<usize>,
+) -> Result<(), AllocError> {
+    let mut visits = Vec::new(alloc);
+    for vertex in 0..graph.len() {
+        begin(seen, &mut visits, vertex)?;
+        go_through(graph, seen, &mut visits, order)?;
+    }
+    Ok(())
+}
+
 /// The vertices, each after those that it leads to, but where it lies on a cycle.
 pub(crate) fn order(alloc: Global, graph: &[Vec<usize>]) -> Result<Vec<usize>, AllocError> {
     let mut seen = vec![in alloc; false; graph.len()]?;
     let mut order = Vec::new(alloc);
-    let mut visits = Vec::new(alloc);
-    for vertex in 0..graph.len() {
-        begin(&mut seen, &mut visits, vertex)?;
-        go_through(graph, &mut seen, &mut order, &mut visits)?;
-    }
+    go_through_all(alloc, graph, &mut seen, &mut order)?;
     Ok(order)
 }

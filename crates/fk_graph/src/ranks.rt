@@ -24,19 +24,36 @@ fn rank_waiting(
     Ok(())
 }
 
+// Gives a rank to each vertex of an order, from its end on, and to all that it leads to.
+fn rank_all(
+    alloc: Global,
+    graph: &[Vec<usize>],
+    marks: &mut [bool],
+    order: &[usize],
+    ranks: &mut [usize],
+) -> Result<(), AllocError> {
+    let mut waiting = Vec::new(alloc);
+    for rank in 0..order.len() {
+        mark(marks, &mut waiting, order[order.len() - 1 - rank])?;
+        rank_waiting(graph, marks, &mut waiting, ranks, rank)?;
+    }
+    Ok(())
+}
+
+// The order of the graph with each edge turned round.
+fn turned_order(alloc: Global, graph: &[Vec<usize>]) -> Result<Vec<usize>, AllocError> {
+    let turned = turned(alloc, graph)?;
+    order(alloc, &turned)
+}
+
 /// The ranks of the vertices. Those of one rank are gone through from the one that the turned graph
 /// ends last.
 pub(crate) fn ranks(alloc: Global, graph: &[Vec<usize>]) -> Result<Vec<usize>, AllocError>
     ensures { IfOk result (λ ranks. length ranks.items ≡ length graph.now) }
 {
-    let turned = turned(alloc, graph)?;
-    let order = order(alloc, &turned)?;
-    let mut ranks = vec![in alloc; 0; graph.len()]?;
+    let order = turned_order(alloc, graph)?;
     let mut marks = vec![in alloc; false; graph.len()]?;
-    let mut waiting = Vec::new(alloc);
-    for rank in 0..order.len() {
-        mark(&mut marks, &mut waiting, order[order.len() - 1 - rank])?;
-        rank_waiting(graph, &mut marks, &mut waiting, &mut ranks, rank)?;
-    }
+    let mut ranks = vec![in alloc; 0; graph.len()]?;
+    rank_all(alloc, graph, &mut marks, &order, &mut ranks)?;
     Ok(ranks)
 }

@@ -1,9 +1,11 @@
 -- The parts of an image's bytes.
-use Rattle.std.proofs.Common.{◌≡◌, ℕ, ◌+◌, ◌<◌, List, [], ◌∷◌, ◌++◌, All, flat_map, get_or, length, drop, take, ap, ◌∙◌, append_assoc}
+use Rattle.std.proofs.Common.{◌≡◌, ℕ, ◌+◌, ◌*◌, ◌<◌, List, [], ◌∷◌, ◌++◌, All, flat_map, get_or, length, drop, take, ap, ◌∙◌, append_assoc, length-drop, length-take, arith}
 use Rattle.std.proofs.lemmas.List.{append-nil, drop-drop, take_more}
 use Rattle.std.proofs.lemmas.List.Concat.{flat_map-append}
 use Rattle.std.proofs.lemmas.List.Elements.{All-append, All-same}
+use Rattle.fk_image.specs.Refusals.{HasLength, code_words, commit_count, commits_place, global_words, site_count, sites_place}
 use Rattle.fk_image.specs.Spelling.{IsWord, word_bytes}
+use Rattle.fk_image.specs.Tables.{code_table, commit_table, global_table, site_table}
 
 pub spelled-parts : (front a b c d e : List ℕ) → front ++ flat_map word_bytes (a ++ b ++ c ++ d ++ e) ≡ front ++ flat_map word_bytes a ++ flat_map word_bytes b ++ flat_map word_bytes c ++ flat_map word_bytes d ++ flat_map word_bytes e
 spelled-parts front a b c d e = simp (flat_map-append, append_assoc)
@@ -30,3 +32,18 @@ drop-next bytes rest n m p e at =
 
 pub take-same : (bytes rest : List ℕ) (n m p : ℕ) → rest ≡ drop p bytes → n ≡ m → take n rest ≡ take m (drop p bytes)
 take-same bytes rest n m p e same = cc
+
+-- how many bytes each table has
+pub length-code : (bytes : List ℕ) → HasLength bytes → length (code_table bytes) ≡ 4 * code_words bytes
+length-code bytes has = omega (arith, has.1, length-take (4 * code_words bytes) (drop 24 bytes), length-drop 24 bytes)
+
+pub length-globals : (bytes : List ℕ) → HasLength bytes → length (global_table bytes) ≡ 4 * global_words bytes
+length-globals bytes has =
+    omega (arith, has.1, length-take (4 * global_words bytes) (drop (24 + 4 * code_words bytes) bytes), length-drop (24 + 4 * code_words bytes) bytes)
+
+pub length-sites_table : (bytes : List ℕ) → HasLength bytes → length (site_table bytes) ≡ 12 * site_count bytes
+length-sites_table bytes has =
+    omega (arith, has.1, length-take (12 * site_count bytes) (drop (4 * sites_place bytes) bytes), length-drop (4 * sites_place bytes) bytes)
+
+pub length-commits_table : (bytes : List ℕ) → HasLength bytes → length (commit_table bytes) ≡ 8 * commit_count bytes
+length-commits_table bytes has = omega (arith, has.1, length-drop (4 * commits_place bytes) bytes)

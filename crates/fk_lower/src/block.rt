@@ -7,7 +7,7 @@ use crate::span::Spans;
 use fk_operation::Operation;
 
 /// An operation of a program.
-#[derive(Clone, Copy, PartialEq, Eq, Debug)]
+#[derive(Clone, Copy)]
 pub struct Act {
     /// The number of its site.
     pub site: u32,

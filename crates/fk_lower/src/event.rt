@@ -3,7 +3,7 @@
 use fk_operation::Operation;
 
 /// What is shown of code, from its beginning.
-#[derive(Clone, Copy, PartialEq, Eq, Debug)]
+#[derive(Clone, Copy)]
 pub enum CodeEvent {
     Perform(Operation),
     /// An operation that goes one of two ways. Its first way comes next.

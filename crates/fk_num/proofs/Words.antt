@@ -1,7 +1,8 @@
 -- Lemmas on words and their signed values.
-use Rattle.std.proofs.Common.{◌≡◌, ℕ, ℤ, pos, negsuc, ◌^◌, ◌<◌, ◌≤◌, ◌*ℤ◌, FitsSigned, w32, w64, of_z, to_z, arith}
-use Rattle.std.specs.Prelude.{unsigned_abs}
+use Rattle.std.proofs.Common.{◌≡◌, ℕ, ℤ, pos, negsuc, ◌^◌, ◌<◌, ◌≤◌, ◌-◌, ◌*ℤ◌, FitsSigned, w32, w64, of_z, to_z, arith}
+use Rattle.std.specs.Prelude.{int_div, int_rem, unsigned_abs}
 use Rattle.std.proofs.lemmas.Int.{fits_signed_mul, to_z-of_z}
+use Rattle.fk_num.specs.Op.{word_of}
 use Rattle.fk_num.specs.Word.{signed}
 
 -- what a cast to i32 and on to i64 gives of a word
@@ -27,3 +28,21 @@ wide_product a b f g =
 
 pub signed-fits : (a : ℕ) → a < 2 ^ 32 → FitsSigned w32 (signed a)
 signed-fits a h = grind arith
+
+-- and so does one of a signed and an unsigned value
+pub mixed_product : (a : ℤ) (b : ℕ) → FitsSigned w32 a → b < 2 ^ 32
+    → to_z w64 (of_z w64 (to_z w64 (of_z w64 a) *ℤ to_z w64 (of_z w64 (pos b)))) ≡ a *ℤ pos b
+mixed_product a b f h =
+    let g : b < 2 ^ 63 = omega arith in
+    let p = to_z-of_z w64 a (fits_wide a f) in
+    let q = to_z-of_z w64 (pos b) (record { sfits = g }) in
+    let product : FitsSigned w64 (a *ℤ pos b) = fits_signed_mul w64 a (pos b) (2 ^ 31) (2 ^ 32 - 1) (abs-le a f) (omega arith) (omega arith) in
+    rw (p, q) (to_z-of_z w64 (a *ℤ pos b) product)
+
+-- the bits of a quotient and of a remainder of two values of 32 bits
+pub quotient-bits : (x y : ℤ) → FitsSigned w32 x → FitsSigned w32 y
+    → of_z w32 (to_z w32 (of_z w32 (to_z w32 (of_z w32 (int_div x y))))) ≡ word_of (int_div x y)
+quotient-bits x y f g = grind arith
+
+pub remainder-bits : (x y : ℤ) → FitsSigned w32 x → FitsSigned w32 y → of_z w32 (to_z w32 (of_z w32 (int_rem x y))) ≡ word_of (int_rem x y)
+remainder-bits x y f g = grind arith

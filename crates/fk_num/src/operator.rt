@@ -6,7 +6,7 @@ ghost use Rattle.fk_num.specs.Word.{signed};
 /// An operator on two words, after the instructions of RV32I and of its M extension
 /// (RISC-V Unprivileged ISA, "RV32I Base Integer Instruction Set" and "M" Extension).
 /// The names end in S for signed and U for unsigned operands.
-#[derive(Clone, Copy, PartialEq, Eq, Debug)]
+#[derive(Clone, Copy, PartialEq, Eq)]
 pub enum Op {
     Add,
     Sub,

@@ -1,7 +1,7 @@
 //! What is said of kinds of operations.
 
 /// When in a round an operation is done.
-#[derive(Clone, Copy, PartialEq, Eq, Debug)]
+#[derive(Clone, Copy, PartialEq, Eq)]
 pub enum Class {
     /// By the processor alone.
     Local,
@@ -12,7 +12,7 @@ pub enum Class {
 }
 
 /// What those who do a joint operation do together.
-#[derive(Clone, Copy, PartialEq, Eq, Debug)]
+#[derive(Clone, Copy, PartialEq, Eq)]
 pub enum Joint {
     /// Nothing: it is no joint operation.
     Alone,

@@ -3,7 +3,7 @@
 use fk_num::Op;
 
 /// A private word of a processor.
-#[derive(Clone, Copy, PartialEq, Eq, Debug)]
+#[derive(Clone, Copy)]
 pub enum Variable {
     /// A parameter or variable of the running call, by its place.
     Private(u32),
@@ -12,7 +12,7 @@ pub enum Variable {
 }
 
 /// What a processor can push of what it knows by itself.
-#[derive(Clone, Copy, PartialEq, Eq, Debug)]
+#[derive(Clone, Copy)]
 pub enum Known {
     Value(Variable),
     /// `$`.
@@ -32,7 +32,7 @@ pub enum Known {
     InputAddress,
 }
 
-#[derive(Clone, Copy, PartialEq, Eq, Debug)]
+#[derive(Clone, Copy, PartialEq, Eq)]
 pub enum Unary {
     Negate,
     Complement,
@@ -40,7 +40,7 @@ pub enum Unary {
 }
 
 /// An operator by which a word of shared data is combined with a value.
-#[derive(Clone, Copy, PartialEq, Eq, Debug)]
+#[derive(Clone, Copy, PartialEq, Eq)]
 pub enum Multiprefix {
     MpAdd,
     /// The signed greater one.
@@ -50,7 +50,7 @@ pub enum Multiprefix {
 }
 
 /// Who of a group enters which part.
-#[derive(Clone, Copy, PartialEq, Eq, Debug)]
+#[derive(Clone, Copy, PartialEq, Eq)]
 pub enum Split {
     /// `if` without `else`: one part, of those whose value isn't 0.
     IfAlone,
@@ -66,7 +66,7 @@ pub enum Split {
     Fork,
 }
 
-#[derive(Clone, Copy, PartialEq, Eq, Debug)]
+#[derive(Clone, Copy)]
 pub enum Operation {
     /// Pushes a number, or the address of a global.
     Push(u32),

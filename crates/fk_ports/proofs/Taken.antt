@@ -1,5 +1,6 @@
 -- What was taken of a source so far.
 use Rattle.std.proofs.Common.{◌≡◌, ℕ, ◌+◌, ◌≤◌, List, [], ◌++◌, Option, Some, None, IfSome, length, take, arith, refl, sym, ap, subst, ◌∙◌, append_assoc, append-nil, length-append}
+use Rattle.std.specs.Prelude.{◌↔◌}
 use Rattle.std.proofs.Math.Seq.{take-append_seam}
 use Rattle.std.proofs.lemmas.List.{take_all}
 use Rattle.std.specs.Io.KnownBytes.{prepend_known}
@@ -66,3 +67,14 @@ end_moved most missing before now old new moved end = record {
   left = moved.left;
   first = subst (λ known. IfSome known (λ left. moved.bytes ≡ take most left)) (sym moved.left) (at_end most moved.bytes now (omega (arith, moved.count)) end);
 }
+
+emptied : (n : ℕ) (known : Option (List ℕ)) → IfSome known (λ bytes. (n ≡ 0) ↔ (bytes ≡ [])) → n ≡ 0 → IfSome known (λ left. left ≡ [])
+emptied n None end e = tt
+emptied n (Some bytes) end e = end.0 e
+
+-- a call that gave nothing found the end
+pub ended : (most missing n : ℕ) (before between now : Option (List ℕ)) (old new piece : List ℕ) → HasMoved most missing before between old new
+    → between ≡ prepend_known (take n piece) now → IfSome between (λ bytes. (n ≡ 0) ↔ (bytes ≡ [])) → n ≡ 0 → MovesFirst most before now old new
+ended most missing n before between now old new piece moved step end e =
+    let same : between ≡ now = step ∙ ap (λ k. prepend_known (take k piece) now) e ∙ prepend_known-nil now in
+    subst (λ known. MovesFirst most before known old new) same (end_moved most missing before between old new moved (emptied n between end e))

@@ -1,11 +1,10 @@
 -- The first fault of all that several parts break.
-use Rattle.std.proofs.Common.{◌≡◌, ℕ, suc, ◌+◌, ◌<◌, ◌≤◌, ◌⊎◌, inl, inr, List, Option, Some, None, slice_get, length, refl, sym, ap, subst, ◌∙◌, arith}
+use Rattle.std.proofs.Common.{◌≡◌, ℕ, ◌+◌, ◌<◌, ◌≤◌, inl, inr, List, Option, Some, None, slice_get, length, refl, sym, ap, subst, ◌∙◌, arith}
 use Rattle.std.proofs.lemmas.Option.{same_Some, slice_get_within}
 use Rattle.std.proofs.Math.Nat.{eq-or-lt_of_le}
 use Rattle.fk_syntax.specs.declared.place.Place.{Place}
 use Rattle.fk_rules.specs.declared.rule.Rule.{Rule}
 use Rattle.fk_rules.specs.declared.fault.Fault.{Fault}
-use Rattle.fk_rules.specs.Rules.{number_of}
 use Rattle.fk_rules.specs.Least.{IsNoLater, IsEarlier, Breaks, IsLeast, only, either, among_first, among}
 
 pub IsNoLater-refl : (f : Fault) → IsNoLater f f

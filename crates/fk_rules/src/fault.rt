@@ -9,7 +9,7 @@ use crate::rule::Rule;
 use fk_syntax::Place;
 
 /// A rule that is broken, and where.
-#[derive(Clone, Copy, PartialEq, Eq, Debug)]
+#[derive(Clone, Copy, PartialEq, Eq)]
 pub struct Fault {
     pub place: Place,
     pub rule: Rule,

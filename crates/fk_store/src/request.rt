@@ -1,7 +1,7 @@
 //! Requests.
 
 /// What a processor asks of what all of them share. Addresses are in bytes.
-#[derive(Clone, Copy, PartialEq, Eq, Debug)]
+#[derive(Clone, Copy)]
 pub enum Request {
     /// The word at an address.
     Read(u32),

@@ -97,7 +97,7 @@ pub(crate) fn join(
 pub(crate) fn copy_of(alloc: Global, processors: &[u32]) -> Result<Vec<u32>, AllocError>
     ensures { IfOk result (λ copy. copy.items ≡ processors.now) }
 {
-    processors.iter().copied().collect(alloc)
+    Vec::from_slice(alloc, processors)
 }
 
 /// Makes the parts of a node: each member joins the one that `of` names, if there is such a one of

@@ -1,8 +1,10 @@
 -- The commands as `clap` has them: what is written down of each argument and each command.
-use Rattle.std.specs.Prelude.{ℕ, Bool, true, false, List, [], ◌∷◌, Option, Some, None, codes, map}
+use Rattle.std.specs.Prelude.{◌≡◌, ℕ, Bool, true, false, List, [], ◌∷◌, Option, Some, None, codes, map}
 use Rattle.clap.specs.declared.builder.action.ArgAction.TheVariants.{Set}
+use Rattle.clap.specs.declared.builder.command.Command.{Command}
+use Rattle.clap.specs.declared.builder.command.Command.TheViews.{out-Command}
 use Rattle.clap.specs.Walk.{Rule}
-use Rattle.clap.specs.Simple.{App, Shape, new_rule, new_shape}
+use Rattle.clap.specs.Simple.{App, Shape, app_of, new_rule, new_shape}
 use Rattle.fk_words.specs.Arguments.{Text, Part, File, Harts, Cycles, Show, Image}
 
 abbrev pub id_of : Part → Text
@@ -36,6 +38,10 @@ written p = record (new_rule (id_of p)) {
   required = is_required p;
 }
 
+-- an option `--name` with a value
+abbrev pub option_rule : Text → Bool → Rule
+option_rule name required = record (new_rule name) { long = Some name; action = Some Set; required = required }
+
 abbrev pub run_parts : List Part
 run_parts = File ∷ Harts ∷ Cycles ∷ Show ∷ []
 
@@ -55,6 +61,11 @@ written_command name ps = record (new_shape name) { rules = map written ps }
 -- a command without commands of its own
 abbrev pub leaf : Text → List Part → App
 leaf name ps = record { top = written_command name ps; subs = [] }
+
+-- the command is this one, and has no argument that those below it have too
+pub record IsLocal (app : App) (command : Command) : Type 0 where
+  pub shape : app_of command ≡ app
+  pub local : (out-Command command).has_globals ≡ false
 
 abbrev pub written_top : Shape
 written_top = record (new_shape (codes "fork95")) {

@@ -17,26 +17,26 @@ pub(crate) fn asked<'a>(matches: &ArgMatches<'a>) -> Option<CommandWords<'a>>
     ensures none { IsNone result → (c : Command) → AsksOf (subcommand_rows_of matches.now) c → ⊥ }
 {
     let (name, given) = matches.subcommand()?;
-    asked_for(name, given)
+    asked_for(given, name)
 }
 
 /// The command of this name that these values ask for.
-fn asked_for<'a>(name: &str, given: &ArgMatches<'a>) -> Option<CommandWords<'a>>
+fn asked_for<'a>(given: &ArgMatches<'a>, name: &str) -> Option<CommandWords<'a>>
     ensures some { IfSome result (λ c. AsksFor name.now (rows_of (found_of given.now)) (command_of c)) }
     ensures none { IsNone result → (c : Command) → AsksFor name.now (rows_of (found_of given.now)) c → ⊥ }
 {
     let file = text_of(given, "file")?;
     match name {
-        "run" => Some(CommandWords::Run(asked_run(file, given)?, text_of(given, "show"))),
+        "run" => Some(CommandWords::Run(asked_run(given, file)?, text_of(given, "show"))),
         "build" => Some(CommandWords::Build(file, text_of(given, "image")?)),
-        "exec" => Some(CommandWords::Exec(asked_run(file, given)?)),
+        "exec" => Some(CommandWords::Exec(asked_run(given, file)?)),
         "list" => Some(CommandWords::List(file)),
         _ => None,
     }
 }
 
 /// The run of a file with these values, where its numbers are in range.
-fn asked_run<'a>(file: &'a str, given: &ArgMatches<'a>) -> Option<RunWords<'a>>
+fn asked_run<'a>(given: &ArgMatches<'a>, file: &'a str) -> Option<RunWords<'a>>
     ensures file { IfSome result (λ run. run.file.now ≡ file.now) }
     ensures some { IfSome result (λ run. RunsBy (rows_of (found_of given.now)) run.harts run.cycles) }
     ensures none { IsNone result → (p : ℕ) (n : ℕ) → RunsBy (rows_of (found_of given.now)) p n → ⊥ }

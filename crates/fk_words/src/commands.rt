@@ -1,11 +1,10 @@
 //! The commands as `clap` reads them.
 
-ghost use Rattle.std.specs.Prelude.{◌≡◌, false, IfOk, codes};
-ghost use Rattle.clap.specs.Simple.{app_of};
-ghost use Rattle.clap.specs.declared.builder.command.Command.TheViews.{out-Command as fields_of};
-ghost use Rattle.clap.specs.Walk.{rule_of};
-ghost use Rattle.fk_words.specs.Arguments.{File, Harts, Cycles, Show, Image};
-ghost use Rattle.fk_words.specs.Written.{written, leaf, run_parts, build_parts, exec_parts, list_parts, written_app};
+ghost use Rattle.std.specs.Prelude.{◌≡◌, ℕ, List, [], false, IfOk, codes};
+ghost use Rattle.clap.specs.Simple.{App, app_of, with_rule, with_subcommand};
+ghost use Rattle.clap.specs.Walk.{Rule, rule_of};
+ghost use Rattle.fk_words.specs.Arguments.{Part, File, Image};
+ghost use Rattle.fk_words.specs.Written.{written, option_rule, IsLocal, leaf, written_command, run_parts, build_parts, exec_parts, list_parts, written_top, written_app};
 
 use clap::{Arg, ArgAction, Command};
 use std::alloc::{AllocError, Global};
@@ -20,31 +19,15 @@ fn file<'a>(alloc: Global) -> Arg<'a>
         .required(true)
 }
 
-fn harts<'a>(alloc: Global) -> Arg<'a>
-    ensures rule { rule_of result ≡ written Harts }
+// An option that is named by a word, and has a value.
+fn option<'a>(alloc: Global, name: &'a str, required: bool) -> Arg<'a>
+    ensures rule { rule_of result ≡ option_rule name.now required }
     ensures local { result.global ≡ false }
 {
-    Arg::new(alloc, "harts")
-        .long("harts")
+    Arg::new(alloc, name)
+        .long(name)
         .action(ArgAction::Set)
-        .required(true)
-}
-
-fn cycles<'a>(alloc: Global) -> Arg<'a>
-    ensures rule { rule_of result ≡ written Cycles }
-    ensures local { result.global ≡ false }
-{
-    Arg::new(alloc, "cycles")
-        .long("cycles")
-        .action(ArgAction::Set)
-        .required(true)
-}
-
-fn show<'a>(alloc: Global) -> Arg<'a>
-    ensures rule { rule_of result ≡ written Show }
-    ensures local { result.global ≡ false }
-{
-    Arg::new(alloc, "show").long("show").action(ArgAction::Set)
+        .required(required)
 }
 
 fn image<'a>(alloc: Global) -> Arg<'a>
@@ -57,54 +40,75 @@ fn image<'a>(alloc: Global) -> Arg<'a>
         .required(true)
 }
 
-fn run<'a>(alloc: Global) -> Result<Command<'a>, AllocError>
-    ensures app { IfOk result (λ c. app_of c ≡ leaf (codes "run") run_parts) }
-    ensures local { IfOk result (λ c. (fields_of c).has_globals ≡ false) }
+// A command with one argument more. Want of memory for the command is want of it here.
+fn taking<'a>(
+    command: Result<Command<'a>, AllocError>,
+    arg: Arg<'a>,
+) -> Result<Command<'a>, AllocError>
+    requires { arg.global ≡ false }
+    ensures { (app : App) (rule : Rule) → rule_of arg.entry ≡ rule → IfOk command.entry (IsLocal app)
+        → IfOk result (IsLocal (with_rule app rule)) }
 {
-    Command::new(alloc, "run")
-        .arg(file(alloc))?
-        .arg(harts(alloc))?
-        .arg(cycles(alloc))?
-        .arg(show(alloc))
+    command?.arg(arg)
+}
+
+// A command with one command more below it. Want of memory for one of them is want of it here.
+fn holding<'a>(
+    command: Result<Command<'a>, AllocError>,
+    inner: Result<Command<'a>, AllocError>,
+) -> Result<Command<'a>, AllocError>
+    ensures { (app : App) (name : List ℕ) (parts : List Part) → IfOk command.entry (λ c. app_of c ≡ app)
+        → IfOk inner.entry (IsLocal (leaf name parts))
+        → IfOk result (λ c. app_of c ≡ with_subcommand app (written_command name parts)) }
+{
+    command?.subcommand(inner?)
+}
+
+// A command that reads a file.
+fn reading<'a>(alloc: Global, name: &'a str) -> Result<Command<'a>, AllocError>
+    ensures { IfOk result (IsLocal (leaf name.now list_parts)) }
+{
+    taking(Ok(Command::new(alloc, name)), file(alloc))
+}
+
+// A command that runs what it makes of a file.
+fn running<'a>(alloc: Global, name: &'a str) -> Result<Command<'a>, AllocError>
+    ensures { IfOk result (IsLocal (leaf name.now exec_parts)) }
+{
+    let reading = reading(alloc, name);
+    let harts = taking(reading, option(alloc, "harts", true));
+    taking(harts, option(alloc, "cycles", true))
+}
+
+fn run<'a>(alloc: Global) -> Result<Command<'a>, AllocError>
+    ensures { IfOk result (IsLocal (leaf (codes "run") run_parts)) }
+{
+    taking(running(alloc, "run"), option(alloc, "show", false))
 }
 
 fn build<'a>(alloc: Global) -> Result<Command<'a>, AllocError>
-    ensures app { IfOk result (λ c. app_of c ≡ leaf (codes "build") build_parts) }
-    ensures local { IfOk result (λ c. (fields_of c).has_globals ≡ false) }
+    ensures { IfOk result (IsLocal (leaf (codes "build") build_parts)) }
 {
-    Command::new(alloc, "build")
-        .arg(file(alloc))?
-        .arg(image(alloc))
+    taking(reading(alloc, "build"), image(alloc))
 }
 
-fn exec<'a>(alloc: Global) -> Result<Command<'a>, AllocError>
-    ensures app { IfOk result (λ c. app_of c ≡ leaf (codes "exec") exec_parts) }
-    ensures local { IfOk result (λ c. (fields_of c).has_globals ≡ false) }
-{
-    Command::new(alloc, "exec")
-        .arg(file(alloc))?
-        .arg(harts(alloc))?
-        .arg(cycles(alloc))
-}
-
-fn list<'a>(alloc: Global) -> Result<Command<'a>, AllocError>
-    ensures app { IfOk result (λ c. app_of c ≡ leaf (codes "list") list_parts) }
-    ensures local { IfOk result (λ c. (fields_of c).has_globals ≡ false) }
-{
-    Command::new(alloc, "list").arg(file(alloc))
-}
-
-/// All commands. None of them has help: a call for it is no command.
-pub(crate) fn commands<'a>(alloc: Global) -> Result<Command<'a>, AllocError>
-    ensures { IfOk result (λ c. app_of c ≡ written_app) }
+// The program. It has no help: a call for it is no command.
+fn program<'a>(alloc: Global) -> Command<'a>
+    ensures { app_of result ≡ record { top = written_top; subs = [] } }
 {
     Command::new(alloc, "fork95")
         .no_binary_name(true)
         .disable_help_flag(true)
         .disable_help_subcommand(true)
         .subcommand_required(true)
-        .subcommand(run(alloc)?)?
-        .subcommand(build(alloc)?)?
-        .subcommand(exec(alloc)?)?
-        .subcommand(list(alloc)?)
+}
+
+/// All commands.
+pub(crate) fn commands<'a>(alloc: Global) -> Result<Command<'a>, AllocError>
+    ensures { IfOk result (λ c. app_of c ≡ written_app) }
+{
+    let sources = holding(Ok(program(alloc)), run(alloc));
+    let sources = holding(sources, build(alloc));
+    let images = holding(sources, running(alloc, "exec"));
+    holding(images, reading(alloc, "list"))
 }

@@ -1,7 +1,9 @@
-use Rattle.std.proofs.Common.{◌≡◌, ◌*◌, ◌∷◌, ◌++◌, [], refl, sym, ◌∙◌, arith, rules}
+use Rattle.std.proofs.Common.{◌≡◌, ◌*◌, ◌∷◌, ◌++◌, [], flat_map, refl, subst, sym, ◌∙◌, arith, rules}
 use Rattle.std.proofs.lemmas.Bool.{false≢true}
+use Rattle.std.proofs.lemmas.List.{take_all}
 use Rattle.fk_image.specs.Limits.{IsCommit}
 use Rattle.fk_image.specs.Refusals.{commit_at}
+use Rattle.fk_image.specs.Spelling.{Spells, commit_words}
 use Rattle.fk_image.specs.Tables.{IsAboveLast}
 use Rattle.fk_image.proofs.Tables.{HasCommits-bad, HasCommits-push}
 use Rattle.fk_image.proofs.reading.read_commits.Goals as goal
@@ -28,3 +30,13 @@ loop-i-preserved c =
     let follows : IsCommit c.args.header.code commit × IsAboveLast commits commit.0 = rw (c.deref.ensures.value, c.read_word-address.ensures, c.read_word-word.ensures) at read in
     let pushed : c.push.new.self.items ≡ commits ++ commit ∷ [] = search rules in
     rw pushed (HasCommits-push (λ k. omega (arith, c.type_inv.table k)) (omega arith) c.loop-i.invariant follows.0 follows.1)
+
+pub returns-clause-spelling : goal.returns-clause-spelling
+returns-clause-spelling c =
+    subst (λ bytes. Spells (flat_map commit_words c.loop-i.commits.items) bytes) (take_all (8 * c.loop-i.i) c.args.table.now (omega (arith, c.requires.whole, c.loop-i-test.false))) c.loop-i.invariant.spells
+
+pub returns-clause-commits : goal.returns-clause-commits
+returns-clause-commits c = c.loop-i.invariant.limits
+
+pub returns-clause-rise : goal.returns-clause-rise
+returns-clause-rise c = c.loop-i.invariant.rise

@@ -1,4 +1,4 @@
-use Rattle.std.proofs.Common.{ℕ, ◌*◌, ◌<◌, length, arith, rules}
+use Rattle.std.proofs.Common.{ℕ, ◌*◌, ◌<◌, ap, length, arith, rules}
 use Rattle.std.proofs.lemmas.Result.{err_from_is_err_and}
 use Rattle.fk_image.specs.Limits.{IsSite}
 use Rattle.fk_image.specs.Refusals.{site_at}
@@ -6,7 +6,32 @@ use Rattle.fk_image.specs.Spelling.{Spells}
 use Rattle.fk_image.specs.Tables.{site_table}
 use Rattle.fk_image.proofs.Faults.{commit_fault-is, site_fault-is, sites-are}
 use Rattle.fk_image.proofs.Images.{is_image}
+use Rattle.fk_image.proofs.Parts.{length-code, length-commits_table, length-globals, length-sites_table}
 use Rattle.fk_image.proofs.reading.read_image.Goals as goal
+
+pub read_words-requires : goal.read_words-requires
+read_words-requires c = omega (arith, ap length c.split_tables-tables.ensures.code, length-code c.args.bytes.now c.in_ok-check_length.ensures.length)
+
+pub read_words-requires-2 : goal.read_words-requires-2
+read_words-requires-2 c = omega (arith, ap length c.split_tables-tables.ensures.globals, length-globals c.args.bytes.now c.in_ok-check_length.ensures.length)
+
+pub read_sites-requires-clause-whole : goal.read_sites-requires-clause-whole
+read_sites-requires-clause-whole c = omega (arith, ap length c.split_tables-tables.ensures.sites, length-sites_table c.args.bytes.now c.in_ok-check_length.ensures.length)
+
+pub read_sites-requires-clause-few : goal.read_sites-requires-clause-few
+read_sites-requires-clause-few c =
+    let few = (c.in_ok-header.ensures.header.holds.1 4 (omega arith) (omega arith)).1 in
+    omega (arith, few, ap length c.split_tables-tables.ensures.sites, length-sites_table c.args.bytes.now c.in_ok-check_length.ensures.length)
+
+pub read_commits-requires-clause-whole : goal.read_commits-requires-clause-whole
+read_commits-requires-clause-whole c =
+    omega (arith, ap length c.split_tables-tables.ensures.commits, length-commits_table c.args.bytes.now c.in_ok-check_length.ensures.length)
+
+pub read_commits-requires-clause-few : goal.read_commits-requires-clause-few
+read_commits-requires-clause-few c =
+    let code = (c.in_ok-header.ensures.header.holds.1 2 (omega arith) (omega arith)).1 in
+    let few = (c.in_ok-header.ensures.header.holds.1 5 (omega arith) (omega arith)).1 in
+    omega (arith, code, few, ap length c.split_tables-tables.ensures.commits, length-commits_table c.args.bytes.now c.in_ok-check_length.ensures.length)
 
 pub returns-in_err-read_sites-clause-fault : goal.returns-in_err-read_sites-clause-fault
 returns-in_err-read_sites-clause-fault c =
