@@ -29,7 +29,7 @@ BENCH = os.path.dirname(os.path.abspath(__file__))
 TOP = os.path.dirname(BENCH)
 FORK95 = os.path.join(TOP, "fork95")
 PROGRAM = os.path.join(TOP, "crates", "fork95", "out", "fork95")
-RULES = os.path.join(TOP, "crates", "fk_rule_cases", "out", "fk_rule_cases")
+RULES = os.path.join(TOP, "crates", "fk_check_cases", "out", "fk_check_cases")
 HARTS = (1, 64, 1024)
 # how many hart-instructions a run of the image has
 LOOPED = 2**26

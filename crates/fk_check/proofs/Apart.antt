@@ -3,12 +3,12 @@ use Rattle.std.proofs.Common.{◌≡◌, ℕ, Some, sym, ap, ◌∙◌, arith}
 use Rattle.fk_syntax.specs.declared.place.Place.{Place}
 use Rattle.fk_syntax.specs.declared.facts.CheckFault.TheVariants as fault
 use Rattle.fk_syntax.specs.Program.{ProgramTree}
-use Rattle.fk_rules.specs.declared.rule.Rule.{Rule}
-use Rattle.fk_rules.specs.declared.fault.Fault.{Fault}
-use Rattle.fk_rules.specs.Rules.{number_of}
-use Rattle.fk_rules.specs.Least.{Breaks, IsLeast, IsNoLater}
-use Rattle.fk_type_rules.specs.Broken as types
-use Rattle.fk_type_rules.proofs.Alike.{alike}
+use Rattle.fk_check_rules.specs.declared.rule.Rule.{Rule}
+use Rattle.fk_check_rules.specs.declared.fault.Fault.{Fault}
+use Rattle.fk_check_rules.specs.Rules.{number_of}
+use Rattle.fk_check_rules.specs.Least.{Breaks, IsLeast, IsNoLater}
+use Rattle.fk_types_rules.specs.Broken as types
+use Rattle.fk_types_rules.proofs.Alike.{alike}
 use Rattle.fk_regions.specs.Broken as regions
 use Rattle.fk_sharing.specs.Broken as sharing
 use Rattle.fk_check.specs.Rules.{KeepsTypes, KeepsRegions, KeepsSharing, Keeps, BreaksFirst, by_types, by_regions, by_sharing}

@@ -1,7 +1,7 @@
 -- What is known of a program that keeps all rules.
 use Rattle.fk_syntax.specs.declared.facts.Facts.{Facts}
 use Rattle.fk_syntax.specs.Program.{ProgramTree}
-use Rattle.fk_type_rules.specs.Facts.{AreFacts}
+use Rattle.fk_types_rules.specs.Facts.{AreFacts}
 use Rattle.fk_regions.specs.Broken.{AreRegions}
 use Rattle.fk_sharing.specs.Broken.{AreShared}
 

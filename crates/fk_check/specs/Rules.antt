@@ -4,9 +4,9 @@ use Rattle.fk_syntax.specs.declared.place.Place.{Place}
 use Rattle.fk_syntax.specs.declared.facts.CheckFault.{CheckFault}
 use Rattle.fk_syntax.specs.declared.facts.CheckFault.TheVariants as fault
 use Rattle.fk_syntax.specs.Program.{ProgramTree}
-use Rattle.fk_rules.specs.declared.rule.Rule.{Rule}
-use Rattle.fk_typing.specs.Names.{Env, IsEnv}
-use Rattle.fk_type_rules.specs.Broken as types
+use Rattle.fk_check_rules.specs.declared.rule.Rule.{Rule}
+use Rattle.fk_types_judgments.specs.Names.{Env, IsEnv}
+use Rattle.fk_types_rules.specs.Broken as types
 use Rattle.fk_regions.specs.Broken as regions
 use Rattle.fk_sharing.specs.Broken as sharing
 

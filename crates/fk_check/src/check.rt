@@ -6,7 +6,7 @@ ghost use Rattle.fk_syntax.specs.WellFormed.{IsWellFormed};
 ghost use Rattle.fk_check.specs.Rules.{IsRefusal, Keeps};
 ghost use Rattle.fk_check.specs.Known.{AreAllFacts};
 
-use fk_names::resolve;
+use fk_types_names::resolve;
 use fk_regions::regions_by;
 use fk_sharing::sharing_by;
 use fk_syntax::{CheckFault, Facts, Program};

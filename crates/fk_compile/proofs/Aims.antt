@@ -2,17 +2,17 @@
 use Rattle.std.proofs.Common.{◌≡◌, ℕ, zero, suc, ◌+◌, ◌-◌, ◌<◌, Bool, true, false, List, [], ◌∷◌, ◌++◌, length, slice_get, Option, Some, None, refl, sym, ap, ◌∙◌, subst, arith}
 use Rattle.std.specs.Prelude.{◌||◌}
 use Rattle.std.proofs.lemmas.Option.{slice_get_within}
-use Rattle.fk_operation.specs.declared.operation.Operation.{Operation}
-use Rattle.fk_forms.specs.Code.{Code, done, perform, choose, while, until, turn, again, quit, break, continue, call, ends}
+use Rattle.fk_meaning_operation.specs.declared.operation.Operation.{Operation}
+use Rattle.fk_meaning_forms.specs.Code.{Code, done, perform, choose, while, until, turn, again, quit, break, continue, call, ends}
 use Rattle.fk_core.specs.declared.op.CoreOp.{CoreOp}
 use Rattle.fk_core.specs.Numbers.{operation_of}
 use Rattle.fk_core.specs.Next.{is_jump}
 use Rattle.fk_core.specs.Stands.{Around}
-use Rattle.fk_flat.specs.Items.{Item, jump, act, IsItem, Has, Way, straight, either, into, way_of, goes_away, aim}
-use Rattle.fk_flat.specs.Flat.{begins_here, skip, gap, label, flat}
-use Rattle.fk_flat.specs.Shape.{is_closed, IsShaped, IsOpening}
-use Rattle.fk_flat.proofs.Lengths.{flat_length}
-use Rattle.fk_flat.proofs.Parts.{choice_at, turns_at, rounds_at, entering_at}
+use Rattle.fk_core_flat.specs.Items.{Item, jump, act, IsItem, Has, Way, straight, either, into, way_of, goes_away, aim}
+use Rattle.fk_core_flat.specs.Flat.{begins_here, skip, gap, label, flat}
+use Rattle.fk_core_flat.specs.Shape.{is_closed, IsShaped, IsOpening}
+use Rattle.fk_core_flat.proofs.Lengths.{flat_length}
+use Rattle.fk_core_flat.proofs.Parts.{choice_at, turns_at, rounds_at, entering_at}
 use Rattle.fk_compile.specs.PlainLists.{StraightHasNoTarget}
 
 -- of each operation among items

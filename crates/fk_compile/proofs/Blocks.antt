@@ -1,20 +1,20 @@
 -- Plain operations have blocks, with their targets in the list, and find their values.
 use Rattle.std.proofs.Common.{◌≡◌, ℕ, ◌<◌, ◌≤◌, List, length, true, false, arith, refl, inl, inr}
 use Rattle.std.proofs.lemmas.Option.{slice_get_within}
-use Rattle.fk_operation.specs.declared.operation.Known.TheVariants.{FrameAddress}
-use Rattle.fk_operation.specs.declared.operation.Multiprefix.{Multiprefix}
-use Rattle.fk_operation.specs.declared.operation.Multiprefix.TheVariants.{MpAdd, MpMax, MpAnd, MpOr}
-use Rattle.fk_operation.specs.declared.operation.Operation.{Operation}
-use Rattle.fk_operation.specs.declared.operation.Operation.TheVariants.{Get, Branch, Leave, Combine, Heap, Begin, Agree, Frame, Block, Divide, Shrink, End, Resume, Farm, Seq, Meet, Halt}
+use Rattle.fk_meaning_operation.specs.declared.operation.Known.TheVariants.{FrameAddress}
+use Rattle.fk_meaning_operation.specs.declared.operation.Multiprefix.{Multiprefix}
+use Rattle.fk_meaning_operation.specs.declared.operation.Multiprefix.TheVariants.{MpAdd, MpMax, MpAnd, MpOr}
+use Rattle.fk_meaning_operation.specs.declared.operation.Operation.{Operation}
+use Rattle.fk_meaning_operation.specs.declared.operation.Operation.TheVariants.{Get, Branch, Leave, Combine, Heap, Begin, Agree, Frame, Block, Divide, Shrink, End, Resume, Farm, Seq, Meet, Halt}
 use Rattle.fk_core.specs.declared.op.CoreOp.{CoreOp}
-use Rattle.fk_flat.specs.Items.{straight, way_of}
-use Rattle.fk_depths.specs.Local.{needs}
-use Rattle.fk_block_law.specs.Next.{StandsOp}
-use Rattle.fk_block_law.specs.Ready.{is_alone}
-use Rattle.fk_typed_code.specs.Laws.{LeadsWithin}
-use Rattle.fk_generate.specs.Generable.{HasOwnBlock, has_target}
-use Rattle.fk_group_law.specs.Lockstep.{values_of_step}
-use Rattle.fk_text.specs.Plain.{is_plain}
+use Rattle.fk_core_flat.specs.Items.{straight, way_of}
+use Rattle.fk_core_typing.specs.LocalDepths.{needs}
+use Rattle.fk_sim_block.specs.Next.{StandsOp}
+use Rattle.fk_sim_block.specs.Ready.{is_alone}
+use Rattle.fk_core_typing.specs.Laws.{LeadsWithin}
+use Rattle.fk_gen_list.specs.Generable.{HasOwnBlock, has_target}
+use Rattle.fk_sim_block.specs.Lockstep.{values_of_step}
+use Rattle.fk_compile_text.specs.Plain.{is_plain}
 use Rattle.fk_compile.specs.PlainLists.{PlainListsHaveBlocks, StepsFindValues}
 use Rattle.fk_compile.proofs.Aims.{straight_has_no_target}
 

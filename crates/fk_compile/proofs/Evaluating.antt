@@ -6,21 +6,21 @@ use Rattle.fk_syntax.specs.declared.sign.Sign.TheVariants as g
 use Rattle.fk_syntax.specs.Tree as t
 use Rattle.fk_syntax.specs.Tree.{Named, Tree, Links, Trees, Suffixes}
 use Rattle.fk_syntax.specs.Program.{DeclaredTree}
-use Rattle.fk_structs.specs.declared.types.DataType.{DataType}
-use Rattle.fk_signs.specs.declared.values.ExpressionType.{ExpressionType}
-use Rattle.fk_signs.specs.declared.values.ExpressionType.TheVariants.{Stored, Computed, Nothing}
-use Rattle.fk_forms.specs.declared.tables.Home.{Home}
-use Rattle.fk_forms.specs.declared.tables.Home.TheVariants as h
-use Rattle.fk_forms.specs.Tables.{Tables, no_binding, note, slot}
-use Rattle.fk_forms.specs.Expressions.{Signature, is_name, token}
-use Rattle.fk_kept.specs.declared.places.Place.{Place}
-use Rattle.fk_course.specs.Valued as c
-use Rattle.fk_course.specs.Valued.{Evaluates, LinksEvaluate, SuffixesEvaluate, AllEvaluate}
-use Rattle.fk_typed_forms.specs.Ways as w
-use Rattle.fk_typed_forms.specs.Asked as a
-use Rattle.fk_typed_forms.specs.Asked.{Asked, LinksAsked, SuffixesAsked, AllAsked}
-use Rattle.fk_typed_forms.specs.Typed.{IsNothing, StandsAs}
-use Rattle.fk_typed_forms.proofs.Typing.{typed_is_asked}
+use Rattle.fk_types_structs.specs.declared.types.DataType.{DataType}
+use Rattle.fk_types_operators.specs.declared.values.ExpressionType.{ExpressionType}
+use Rattle.fk_types_operators.specs.declared.values.ExpressionType.TheVariants.{Stored, Computed, Nothing}
+use Rattle.fk_meaning_forms.specs.declared.tables.Home.{Home}
+use Rattle.fk_meaning_forms.specs.declared.tables.Home.TheVariants as h
+use Rattle.fk_meaning_forms.specs.Tables.{Tables, no_binding, note, slot}
+use Rattle.fk_meaning_forms.specs.Expressions.{Signature, is_name, token}
+use Rattle.fk_core_liveness.specs.declared.places.Place.{Place}
+use Rattle.fk_lockstep_structure.specs.Valued as c
+use Rattle.fk_lockstep_structure.specs.Valued.{Evaluates, LinksEvaluate, SuffixesEvaluate, AllEvaluate}
+use Rattle.fk_lower_laws.specs.Ways as w
+use Rattle.fk_lower_laws.specs.Asked as a
+use Rattle.fk_lower_laws.specs.Asked.{Asked, LinksAsked, SuffixesAsked, AllAsked}
+use Rattle.fk_lower_laws.specs.Typed.{IsNothing, StandsAs}
+use Rattle.fk_lower_laws.proofs.Typing.{typed_is_asked}
 use Rattle.fk_compile.specs.OneProgram.{GiveResults, AskedEvaluates, TypedEvaluates}
 
 -- the ways of well typed code tell more of an address

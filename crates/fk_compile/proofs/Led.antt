@@ -5,22 +5,22 @@ use Rattle.std.specs.Prelude.{◌==◌, is_some, if◌then◌else◌}
 use Rattle.fk_syntax.specs.declared.program.Mode.{Mode}
 use Rattle.fk_syntax.specs.Tree.{Named, TypeTree}
 use Rattle.fk_syntax.specs.Program.{DeclaredTree, Statements, FunctionTree}
-use Rattle.fk_forms.specs.Code.{Code, done, perform, choose, while, until, turn, again, quit, break, continue, call, ends, size, numbered}
-use Rattle.fk_forms.specs.Tables.{Tables, frame_at}
-use Rattle.fk_forms.specs.Expressions.{Signature}
-use Rattle.fk_forms.specs.Statements.{Inside, is_nothing}
-use Rattle.fk_forms.specs.Program.{functions_of, binding_of, signature_of, signature_in, is_main, code_of, body_in, main_of}
-use Rattle.fk_nesting.specs.Shape.{of_function}
-use Rattle.fk_nesting.specs.Shaped.{BodyShaped, FunctionsShaped}
-use Rattle.fk_nesting.proofs.Spine.{untrue}
-use Rattle.fk_nesting.proofs.Programs.{body_shaped}
-use Rattle.fk_one_group.specs.Where.{Where}
-use Rattle.fk_course.specs.Placed as w
-use Rattle.fk_course.specs.InPlace.{NoneShared, BodyInPlace, FunctionsInPlace}
-use Rattle.fk_one_course.specs.Leads.{Leads}
-use Rattle.fk_text.specs.Built.{operations, operations_in}
-use Rattle.fk_text.specs.Plain.{is_plain}
-use Rattle.fk_typed_forms.proofs.Along.{EachOf, each_of, front, back, along}
+use Rattle.fk_meaning_forms.specs.Code.{Code, done, perform, choose, while, until, turn, again, quit, break, continue, call, ends, size, numbered}
+use Rattle.fk_meaning_forms.specs.Tables.{Tables, frame_at}
+use Rattle.fk_meaning_forms.specs.Expressions.{Signature}
+use Rattle.fk_meaning_forms.specs.Statements.{Inside, is_nothing}
+use Rattle.fk_meaning_forms.specs.Program.{functions_of, binding_of, signature_of, signature_in, is_main, code_of, body_in, main_of}
+use Rattle.fk_meaning.specs.Shape.{of_function}
+use Rattle.fk_meaning.specs.Shaped.{BodyShaped, FunctionsShaped}
+use Rattle.fk_meaning.proofs.Spine.{untrue}
+use Rattle.fk_meaning.proofs.NestedPrograms.{body_shaped}
+use Rattle.fk_lockstep_one_group.specs.Where.{Where}
+use Rattle.fk_lockstep_structure.specs.Placed as w
+use Rattle.fk_lockstep_structure.specs.InPlace.{NoneShared, BodyInPlace, FunctionsInPlace}
+use Rattle.fk_lockstep_one_group.specs.Leads.{Leads}
+use Rattle.fk_compile_text.specs.Built.{operations, operations_in}
+use Rattle.fk_compile_text.specs.Plain.{is_plain}
+use Rattle.fk_lower_laws.proofs.Along.{EachOf, each_of, front, back, along}
 use Rattle.fk_compile.specs.Led.{ProgramsAreLed}
 use Rattle.fk_compile.proofs.Wants.{Base, Main, Group, Body, place_of, who_of, Want}
 use Rattle.fk_compile.proofs.LedTexts.{body_leads}

@@ -5,26 +5,26 @@ use Rattle.fk_syntax.specs.declared.place.Spot.{Spot}
 use Rattle.fk_syntax.specs.Tree.{Tree}
 use Rattle.fk_syntax.specs.Program as p
 use Rattle.fk_syntax.specs.Program.{DeclaredTree, Statement, Statements}
-use Rattle.fk_operation.specs.declared.operation.Operation.{Operation}
-use Rattle.fk_operation.specs.declared.operation.Operation.TheVariants as o
-use Rattle.fk_operation.specs.declared.operation.Known.TheVariants as n
-use Rattle.fk_operation.specs.declared.operation.Split.TheVariants.{IfAlone, IfElse, Loop, Fork}
-use Rattle.fk_forms.specs.Code as c
-use Rattle.fk_forms.specs.Code.{Code, done, perform, choose, while, until, turn, again, quit, break, continue, call, ends}
-use Rattle.fk_forms.specs.Tables.{Tables, note, frame_at}
-use Rattle.fk_forms.specs.Expressions.{Coded, Standing, nowhere, plain, agreed, token, Signature, addressed, assigned, dropped, framed, variable, value}
-use Rattle.fk_forms.specs.Statements.{Inside, is_scalar, used, used_or, value_or, declared, all_declared, part_frame, leaving, tested, looping, left_by, executed, all_executed, end_of, body_of}
-use Rattle.fk_nesting.specs.Behind.{is_shrink, shrinks}
-use Rattle.fk_nesting.specs.Shape.{Exits, none, of_test, of_turn, Either, Shape}
-use Rattle.fk_nesting.proofs.Spine.{untrue, test_is}
-use Rattle.fk_one_group.specs.Where.{Where, InRoot, Waits, InGroup, InBody, BehindBody, goes}
-use Rattle.fk_course.specs.Placed as w
-use Rattle.fk_course.specs.Placed.{Who, is_group, is_outermost, inner}
-use Rattle.fk_course.specs.InPlace.{Splits, Calls, InPlace, OptionInPlace, VariablesInPlace, NoneShared, StatementInPlace, StatementsInPlace}
-use Rattle.fk_course.proofs.Behind.{either_no}
-use Rattle.fk_one_course.specs.Leads.{Comes, Leads}
-use Rattle.fk_text.specs.Plain.{is_plain}
-use Rattle.fk_typed_forms.proofs.Along.{AllOf}
+use Rattle.fk_meaning_operation.specs.declared.operation.Operation.{Operation}
+use Rattle.fk_meaning_operation.specs.declared.operation.Operation.TheVariants as o
+use Rattle.fk_meaning_operation.specs.declared.operation.Known.TheVariants as n
+use Rattle.fk_meaning_operation.specs.declared.operation.Split.TheVariants.{IfAlone, IfElse, Loop, Fork}
+use Rattle.fk_meaning_forms.specs.Code as c
+use Rattle.fk_meaning_forms.specs.Code.{Code, done, perform, choose, while, until, turn, again, quit, break, continue, call, ends}
+use Rattle.fk_meaning_forms.specs.Tables.{Tables, note, frame_at}
+use Rattle.fk_meaning_forms.specs.Expressions.{Coded, Standing, nowhere, plain, agreed, token, Signature, addressed, assigned, dropped, framed, variable, value}
+use Rattle.fk_meaning_forms.specs.Statements.{Inside, is_scalar, used, used_or, value_or, declared, all_declared, part_frame, leaving, tested, looping, left_by, executed, all_executed, end_of, body_of}
+use Rattle.fk_meaning.specs.Behind.{is_shrink, shrinks}
+use Rattle.fk_meaning.specs.Shape.{Exits, none, of_test, of_turn, Either, Shape}
+use Rattle.fk_meaning.proofs.Spine.{untrue, test_is}
+use Rattle.fk_lockstep_one_group.specs.Where.{Where, InRoot, Waits, InGroup, InBody, BehindBody, goes}
+use Rattle.fk_lockstep_structure.specs.Placed as w
+use Rattle.fk_lockstep_structure.specs.Placed.{Who, is_group, is_outermost, inner}
+use Rattle.fk_lockstep_structure.specs.InPlace.{Splits, Calls, InPlace, OptionInPlace, VariablesInPlace, NoneShared, StatementInPlace, StatementsInPlace}
+use Rattle.fk_lockstep_structure.proofs.Behind.{either_no}
+use Rattle.fk_lockstep_one_group.specs.Leads.{Comes, Leads}
+use Rattle.fk_compile_text.specs.Plain.{is_plain}
+use Rattle.fk_lower_laws.proofs.Along.{AllOf}
 use Rattle.fk_compile.proofs.Wants as wants
 use Rattle.fk_compile.proofs.Wants.{Base, Main, Group, Body, place_of, in_group, who_of, inner_is, group_is, keeps_at, Want, arm}
 

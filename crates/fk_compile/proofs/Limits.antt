@@ -5,14 +5,14 @@ use Rattle.std.specs.List.Sorted.{IsStrictlyIncreasing}
 use Rattle.std.proofs.lemmas.List.Elements.{All-nil, All-cons, All-append, All-map}
 use Rattle.fk_syntax.specs.declared.place.Place.{Place}
 use Rattle.fk_syntax.specs.Program.{FunctionTree}
-use Rattle.fk_operation.specs.Kinds.{kind_of}
-use Rattle.fk_operation.specs.declared.operation.Operation.{Operation}
-use Rattle.fk_operation.specs.declared.operation.Operation.TheVariants.{Combine, Push}
-use Rattle.fk_operation.specs.declared.operation.Multiprefix.TheVariants.{MpAdd, MpMax, MpAnd, MpOr}
-use Rattle.fk_forms.specs.Code.{done, perform, choose, while, until, turn, again, quit, break, continue, call, ends, sites}
-use Rattle.fk_forms.specs.Expressions.{Coded}
-use Rattle.fk_forms.specs.Tables.{Tables}
-use Rattle.fk_forms.specs.Program.{code_of, sites_in}
+use Rattle.fk_meaning_operation.specs.Kinds.{kind_of}
+use Rattle.fk_meaning_operation.specs.declared.operation.Operation.{Operation}
+use Rattle.fk_meaning_operation.specs.declared.operation.Operation.TheVariants.{Combine, Push}
+use Rattle.fk_meaning_operation.specs.declared.operation.Multiprefix.TheVariants.{MpAdd, MpMax, MpAnd, MpOr}
+use Rattle.fk_meaning_forms.specs.Code.{done, perform, choose, while, until, turn, again, quit, break, continue, call, ends, sites}
+use Rattle.fk_meaning_forms.specs.Expressions.{Coded}
+use Rattle.fk_meaning_forms.specs.Tables.{Tables}
+use Rattle.fk_meaning_forms.specs.Program.{code_of, sites_in}
 use Rattle.fk_image.specs.Limits.{IsSite, IsCommit, Rise}
 use Rattle.fk_asm.specs.Commits.{IsCommitTable}
 use Rattle.fk_compile.specs.Faithful.{in_image}

@@ -3,28 +3,28 @@ use Rattle.std.proofs.Common.{◌≤◌, ℕ, List, length, refl, sym, subst}
 use Rattle.std.specs.Prelude.{Result, Ok, Err, IfOk}
 use Rattle.fk_syntax.specs.declared.facts.Facts.{Facts}
 use Rattle.fk_syntax.specs.Program.{ItemTree, ProgramTree}
-use Rattle.fk_forms.specs.Tables.{Tables}
-use Rattle.fk_forms.specs.Program.{functions_of, bodies_of, sites_in}
-use Rattle.fk_walk.specs.declared.known.Known.{Known}
-use Rattle.fk_walk.specs.Known.{tables_of}
-use Rattle.fk_walk_statements.specs.Texts.{functions_in, sites_of_text}
+use Rattle.fk_meaning_forms.specs.Tables.{Tables}
+use Rattle.fk_meaning_forms.specs.Program.{functions_of, bodies_of, sites_in}
+use Rattle.fk_layout_walk.specs.declared.known.Known.{Known}
+use Rattle.fk_layout_walk.specs.Known.{tables_of}
+use Rattle.fk_layout_walk_statements.specs.Texts.{functions_in, sites_of_text}
 use Rattle.fk_core.specs.declared.op.CoreOp.{CoreOp}
-use Rattle.fk_flat.specs.Laws.{AreShaped}
+use Rattle.fk_core_flat.specs.Laws.{AreShaped}
 use Rattle.fk_layout.specs.Layout.{tables_by}
 use Rattle.fk_layout.specs.Refusal.{Fits}
 use Rattle.fk_lower_text.specs.Whole.{AreWhole}
 use Rattle.fk_lower_text.specs.Lowered.{IsLowerable, HasSites}
-use Rattle.fk_shapes.specs.Fitting.{FormsAreShaped}
-use Rattle.fk_parsed.specs.Trim.{ProgramIsTrim}
-use Rattle.fk_fitting.specs.Correct.{IsCorrect}
-use Rattle.fk_fitting.specs.Laws.{CorrectProgramsFit}
-use Rattle.fk_certain.specs.LoweringLaws.{IsKnownOf}
-use Rattle.fk_text.specs.Plain.{ArePlain}
-use Rattle.fk_certain.specs.Proper.{ProgramIsProper}
+use Rattle.fk_core_flat.specs.Fitting.{FormsAreShaped}
+use Rattle.fk_parse_laws.specs.Trim.{ProgramIsTrim}
+use Rattle.fk_check_laws.specs.Correct.{IsCorrect}
+use Rattle.fk_check_laws.specs.Laws.{CorrectProgramsFit}
+use Rattle.fk_lower_laws.specs.LoweringLaws.{IsKnownOf}
+use Rattle.fk_compile_text.specs.Plain.{ArePlain}
+use Rattle.fk_lower_laws.specs.Proper.{ProgramIsProper}
 use Rattle.fk_lower.specs.Depths.{AreTold}
 use Rattle.fk_lower_text.specs.Depths.{depths_of}
-use Rattle.fk_certain.specs.Laws.{LoweredListsCanHaveGroups, count_of_file}
-use Rattle.fk_group_code.specs.Laws.{none_saved}
+use Rattle.fk_lower_laws.specs.Laws.{LoweredListsCanHaveGroups, count_of_file}
+use Rattle.fk_gen_list.specs.Laws.{none_saved}
 use Rattle.fk_compile.specs.OneProgram.{IsLaidOut}
 use Rattle.fk_compile.specs.PlainLists.{PlainListsHaveBlocks}
 use Rattle.fk_compile.specs.OneGroup.{PlainListsAreOfOneGroup}

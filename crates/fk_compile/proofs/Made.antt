@@ -6,10 +6,10 @@ use Rattle.std.proofs.lemmas.List.{length-map}
 use Rattle.fk_syntax.specs.declared.facts.Facts.{Facts}
 use Rattle.fk_syntax.specs.declared.place.Place.{Place}
 use Rattle.fk_syntax.specs.Program.{ProgramTree}
-use Rattle.fk_forms.specs.Program.{functions_of, sites_of}
-use Rattle.fk_globals.specs.Constants.{told}
-use Rattle.fk_globals.specs.Variables.{variables_of}
-use Rattle.fk_globals.proofs.Lengths.{length_of_words}
+use Rattle.fk_meaning_forms.specs.Program.{functions_of, sites_of}
+use Rattle.fk_layout_globals.specs.Constants.{told}
+use Rattle.fk_layout_globals.specs.Variables.{variables_of}
+use Rattle.fk_layout_globals.proofs.Lengths.{length_of_words}
 use Rattle.fk_layout.specs.Layout.{IsLayout, tables_by}
 use Rattle.fk_layout.specs.Listing.{site}
 use Rattle.fk_layout.specs.Refusal.{Fits}
@@ -20,18 +20,18 @@ use Rattle.fk_image.specs.declared.Image.{Image}
 use Rattle.fk_image.specs.Limits.{IsSite, IsCommit, Rise}
 use Rattle.fk_asm.specs.Commits.{IsCommitTable}
 use Rattle.fk_asm.specs.declared.code.Code.{Code}
-use Rattle.fk_group_law.specs.Node.{Gathering}
-use Rattle.fk_group_law.specs.Law.{GroupLaw}
-use Rattle.fk_group_code.specs.Cycles.{cycles_of}
-use Rattle.fk_group_code.specs.Laws.{none_saved}
-use Rattle.fk_group_code.specs.Whole.{GivesGroupLaw}
+use Rattle.fk_sim_block.specs.Node.{Gathering}
+use Rattle.fk_sim_block.specs.Law.{GroupLaw}
+use Rattle.fk_gen_list.specs.Cycles.{cycles_of}
+use Rattle.fk_gen_list.specs.Laws.{none_saved}
+use Rattle.fk_gen_list.specs.Whole.{GivesGroupLaw}
 use Rattle.fk_compile.specs.PlainLists.{StepsFindValues}
-use Rattle.fk_group_course.specs.Follow.{CarriesGroups}
-use Rattle.fk_kept.specs.declared.set.Set.{Set}
-use Rattle.fk_certain.specs.Certain.{HasFrames}
-use Rattle.fk_text.specs.declared.refusal.Refusal.{Refusal}
-use Rattle.fk_text.specs.Refusal.{IsRefusedText}
-use Rattle.fk_generate.specs.Generable.{IsGenerable, HasCode}
+use Rattle.fk_sim_runs.specs.Follow.{CarriesGroups}
+use Rattle.fk_core_liveness.specs.declared.set.Set.{Set}
+use Rattle.fk_lower_laws.specs.Certain.{HasFrames}
+use Rattle.fk_compile_text.specs.declared.refusal.Refusal.{Refusal}
+use Rattle.fk_compile_text.specs.Refusal.{IsRefusedText}
+use Rattle.fk_gen_list.specs.Generable.{IsGenerable, HasCode}
 use Rattle.fk_compile.specs.Lists.{HasListOf, IsGrouped}
 use Rattle.fk_compile.specs.Faithful.{in_image, in_table, words_by}
 use Rattle.fk_compile.proofs.Limits.{sites_fit, commits_fit, commits_rise}

@@ -1,16 +1,16 @@
 -- The lists of plain programs have one group at a time.
 use Rattle.std.proofs.Common.{◌≡◌, true, true≢false, sym}
-use Rattle.fk_operation.specs.Kinds.{class_of}
-use Rattle.fk_operation.specs.declared.operation.Operation.{Operation}
-use Rattle.fk_operation.specs.declared.operation.Operation.TheVariants as o
-use Rattle.fk_operation.specs.declared.operation.Known.TheVariants.{FrameAddress}
+use Rattle.fk_meaning_operation.specs.Kinds.{class_of}
+use Rattle.fk_meaning_operation.specs.declared.operation.Operation.{Operation}
+use Rattle.fk_meaning_operation.specs.declared.operation.Operation.TheVariants as o
+use Rattle.fk_meaning_operation.specs.declared.operation.Known.TheVariants.{FrameAddress}
 use Rattle.fk_layout.specs.Layout.{tables_by}
-use Rattle.fk_flat.proofs.FlatCode.{flat_code_stands}
-use Rattle.fk_shapes.proofs.Programs.{forms_are_shaped}
-use Rattle.fk_fitting.proofs.Programs.{correct_programs_fit}
-use Rattle.fk_block_law.specs.Ready.{is_no_step, is_alone}
-use Rattle.fk_text.specs.Plain.{is_plain}
-use Rattle.fk_certain.proofs.Lists.{lowered_lists_can_have_groups}
+use Rattle.fk_core_flat.proofs.FlatCode.{flat_code_stands}
+use Rattle.fk_core_flat.proofs.Programs.{forms_are_shaped}
+use Rattle.fk_check_laws.proofs.Programs.{correct_programs_fit}
+use Rattle.fk_sim_block.specs.Ready.{is_no_step, is_alone}
+use Rattle.fk_compile_text.specs.Plain.{is_plain}
+use Rattle.fk_lower_laws.proofs.Lists.{lowered_lists_can_have_groups}
 use Rattle.fk_compile.proofs.Sites.{sites_are_own}
 use Rattle.fk_compile.proofs.PlainTexts.{plain_programs_have_one_group}
 use Rattle.fk_compile.specs.OneGroup.{PlainListsAreOfOneGroup}

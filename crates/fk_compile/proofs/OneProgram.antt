@@ -8,28 +8,28 @@ use Rattle.fk_syntax.specs.Program as p
 use Rattle.fk_syntax.specs.Program.{Statement, Statements, FunctionTree, ProgramTree}
 use Rattle.fk_lex.specs.Reading.{Spelled, Tokens}
 use Rattle.fk_parse.specs.Parses.{SpellsProgram}
-use Rattle.fk_forms.specs.declared.tables.Region.{Region}
-use Rattle.fk_forms.specs.Tables.{Tables, frame_in}
-use Rattle.fk_forms.specs.Expressions.{Signature}
-use Rattle.fk_forms.specs.Statements.{is_nothing}
-use Rattle.fk_forms.specs.Program.{functions_of, binding_of, signature_of, signature_in, is_main}
-use Rattle.fk_kept.specs.declared.places.Place.{Place}
-use Rattle.fk_kept.specs.declared.places.Place.TheVariants.{Main, Called}
-use Rattle.fk_slots.specs.Frames.{regions_of}
+use Rattle.fk_meaning_forms.specs.declared.tables.Region.{Region}
+use Rattle.fk_meaning_forms.specs.Tables.{Tables, frame_in}
+use Rattle.fk_meaning_forms.specs.Expressions.{Signature}
+use Rattle.fk_meaning_forms.specs.Statements.{is_nothing}
+use Rattle.fk_meaning_forms.specs.Program.{functions_of, binding_of, signature_of, signature_in, is_main}
+use Rattle.fk_core_liveness.specs.declared.places.Place.{Place}
+use Rattle.fk_core_liveness.specs.declared.places.Place.TheVariants.{Main, Called}
+use Rattle.fk_layout_slots.specs.Frames.{regions_of}
 use Rattle.fk_layout.specs.Layout.{told_by, tables_by}
 use Rattle.fk_layout.specs.Refusal.{Fits}
-use Rattle.fk_frame_order.specs.Program.{FramesStandBehindFirst}
-use Rattle.fk_fitting.specs.Correct.{IsCorrect}
-use Rattle.fk_course.specs.Valued.{IsValued, OptionValued}
-use Rattle.fk_course.specs.Forks.{StatementValued, StatementsValued, BodyValued, ForksAreValued}
-use Rattle.fk_in_place.specs.Valid.{IsValid}
-use Rattle.fk_in_place.proofs.Programs.{valid_programs_have_one_program}
-use Rattle.fk_in_place.proofs.Spaces.{valid_programs_have_one_space}
-use Rattle.fk_typed_forms.specs.Asked.{ValueAsked, OptionValueAsked, StatementAsked, StatementsAsked, BodyAsked, FunctionsAsked, IsCalled, place_in, place_of, place_by}
-use Rattle.fk_typed_forms.specs.Ways.{place_gives}
-use Rattle.fk_parsed.specs.Trim.{TextsAreTrim}
-use Rattle.fk_certain.specs.Proper.{TextsAreProper}
-use Rattle.fk_certain.proofs.Programs.{correct_programs_are_asked}
+use Rattle.fk_parse_laws.specs.Program.{FramesStandBehindFirst}
+use Rattle.fk_check_laws.specs.Correct.{IsCorrect}
+use Rattle.fk_lockstep_structure.specs.Valued.{IsValued, OptionValued}
+use Rattle.fk_lockstep_structure.specs.Forks.{StatementValued, StatementsValued, BodyValued, ForksAreValued}
+use Rattle.fk_check_laws.specs.Valid.{IsValid}
+use Rattle.fk_check_laws.proofs.PlacedPrograms.{valid_programs_have_one_program}
+use Rattle.fk_check_laws.proofs.Spaces.{valid_programs_have_one_space}
+use Rattle.fk_lower_laws.specs.Asked.{ValueAsked, OptionValueAsked, StatementAsked, StatementsAsked, BodyAsked, FunctionsAsked, IsCalled, place_in, place_of, place_by}
+use Rattle.fk_lower_laws.specs.Ways.{place_gives}
+use Rattle.fk_parse_laws.specs.Trim.{TextsAreTrim}
+use Rattle.fk_lower_laws.specs.Proper.{TextsAreProper}
+use Rattle.fk_lower_laws.proofs.Programs.{correct_programs_are_asked}
 use Rattle.fk_compile.specs.OneProgram.{GiveResults, IsLaidOut, ForksGiveValues, CorrectProgramsHaveOneProgram, TextsHaveOneProgram, TextsHaveOneSpace}
 use Rattle.fk_compile.proofs.Evaluating.{evaluates_as}
 

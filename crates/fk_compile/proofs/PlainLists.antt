@@ -6,7 +6,7 @@ use Rattle.fk_core.specs.declared.op.CoreOp.{CoreOp}
 use Rattle.fk_core.specs.Next.{is_jump}
 use Rattle.fk_core.specs.Numbers.{operation_of}
 use Rattle.fk_core.specs.WellFormed.{IsOperation, LeadsOn}
-use Rattle.fk_block_law.proofs.Standing.{landing_here}
+use Rattle.fk_sim_block.proofs.Standing.{landing_here}
 use Rattle.fk_compile.specs.PlainLists.{GroupedListsAreGenerable}
 
 -- what is no jump is where an index leads, so it is an operation

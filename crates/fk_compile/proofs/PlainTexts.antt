@@ -1,14 +1,14 @@
 -- The runs of lists of plain programs.
-use Rattle.fk_forms.specs.Program.{bodies_of, main_of}
+use Rattle.fk_meaning_forms.specs.Program.{bodies_of, main_of}
 use Rattle.fk_layout.specs.Layout.{tables_by}
-use Rattle.fk_flat.proofs.FlatCode.{flat_code_stands}
-use Rattle.fk_shapes.proofs.Programs.{forms_are_shaped}
-use Rattle.fk_fitting.proofs.Programs.{correct_programs_fit}
-use Rattle.fk_course.proofs.Programs.{programs_follow}
-use Rattle.fk_one_course.proofs.Run.{code_goes}
-use Rattle.fk_one_list.proofs.Lists.{lists_have_one_group}
-use Rattle.fk_in_place.specs.Valid.{may_call}
-use Rattle.fk_in_place.proofs.Programs.{valid_programs_are_in_place}
+use Rattle.fk_core_flat.proofs.FlatCode.{flat_code_stands}
+use Rattle.fk_core_flat.proofs.Programs.{forms_are_shaped}
+use Rattle.fk_check_laws.proofs.Programs.{correct_programs_fit}
+use Rattle.fk_lockstep_structure.proofs.Programs.{programs_follow}
+use Rattle.fk_lockstep_one_group.proofs.Run.{code_goes}
+use Rattle.fk_lockstep_one_group.proofs.Lists.{lists_have_one_group}
+use Rattle.fk_check_laws.specs.Valid.{may_call}
+use Rattle.fk_check_laws.proofs.PlacedPrograms.{valid_programs_are_in_place}
 use Rattle.fk_compile.proofs.OneProgram.{forks_give_values}
 use Rattle.fk_compile.proofs.Led.{programs_are_led}
 use Rattle.fk_compile.specs.PlainTexts.{PlainProgramsHaveOneGroup}

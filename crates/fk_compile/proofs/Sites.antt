@@ -2,14 +2,14 @@
 use Rattle.std.proofs.Common.{◌≡◌, ℕ, zero, suc, ◌+◌, ◌<◌, ◌≤◌, true, List, [], ◌∷◌, length, Option, Some, None, slice_get, sym, ap, subst, ◌∙◌, arith, refl}
 use Rattle.std.proofs.lemmas.Bool.{eqb-true}
 use Rattle.std.proofs.lemmas.Option.{slice_get_within}
-use Rattle.fk_operation.specs.declared.operation.Operation.{Operation}
-use Rattle.fk_operation.specs.Kinds.{kind_of}
-use Rattle.fk_forms.specs.Ranks.{ranked}
+use Rattle.fk_meaning_operation.specs.declared.operation.Operation.{Operation}
+use Rattle.fk_meaning_operation.specs.Kinds.{kind_of}
+use Rattle.fk_meaning_forms.specs.Ranks.{ranked}
 use Rattle.fk_syntax.specs.declared.place.Place.{Place}
 use Rattle.fk_core.specs.declared.op.CoreOp.{CoreOp}
 use Rattle.fk_core.specs.Numbers.{operation_of}
 use Rattle.fk_core.specs.Next.{is_jump}
-use Rattle.fk_flat.specs.Items.{Item, jump, act, IsItem, Has, acts}
+use Rattle.fk_core_flat.specs.Items.{Item, jump, act, IsItem, Has, acts}
 use Rattle.fk_compile.specs.PlainTexts.{SitesAreOwn}
 
 -- the item at an index is an operation with this site

@@ -3,16 +3,16 @@ use Rattle.std.proofs.Common.{◌≡◌, ℕ, suc, ◌+◌, ◌*◌, ◌≤◌, 
 use Rattle.std.specs.Prelude.{if◌then◌else◌}
 use Rattle.std.proofs.lemmas.List.Sums.{sum_by-cons}
 use Rattle.std.proofs.lemmas.Option.{same_Some}
-use Rattle.fk_operation.specs.declared.operation.Operation.{Operation}
-use Rattle.fk_operation.specs.declared.operation.Operation.TheVariants as o
+use Rattle.fk_meaning_operation.specs.declared.operation.Operation.{Operation}
+use Rattle.fk_meaning_operation.specs.declared.operation.Operation.TheVariants as o
 use Rattle.fk_syntax.specs.declared.place.Place.{Place}
-use Rattle.fk_forms.specs.Ranks.{ranked}
+use Rattle.fk_meaning_forms.specs.Ranks.{ranked}
 use Rattle.fk_core.specs.declared.op.CoreOp.{CoreOp}
 use Rattle.fk_core.specs.Next.{is_jump}
 use Rattle.fk_core.specs.Numbers.{operation_of}
-use Rattle.fk_flat.specs.Items.{Item, jump, act, into, IsItem, Has, acts, jumps, calls, one_call, way_of}
-use Rattle.fk_walk_statements.specs.Texts.{sites_of_text}
-use Rattle.fk_generate.specs.Generable.{words_by, most_words}
+use Rattle.fk_core_flat.specs.Items.{Item, jump, act, into, IsItem, Has, acts, jumps, calls, one_call, way_of}
+use Rattle.fk_layout_walk_statements.specs.Texts.{sites_of_text}
+use Rattle.fk_gen_list.specs.Generable.{words_by, most_words}
 use Rattle.fk_compile.specs.PlainLists.{ListsAreSmall}
 
 -- a list and its items, one beside the other

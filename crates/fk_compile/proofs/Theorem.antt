@@ -3,18 +3,18 @@ use Rattle.std.proofs.Common.{◌≡◌, ℕ, List, subst}
 use Rattle.std.specs.Prelude.{map}
 use Rattle.fk_syntax.specs.declared.facts.Facts.{Facts}
 use Rattle.fk_syntax.specs.Program.{ProgramTree}
-use Rattle.fk_forms.specs.Program.{main_of, sites_of}
-use Rattle.fk_source.specs.Program.{next_in, program_opening}
+use Rattle.fk_meaning_forms.specs.Program.{main_of, sites_of}
+use Rattle.fk_meaning.specs.Program.{next_in, program_opening}
 use Rattle.fk_layout.specs.Layout.{tables_by}
 use Rattle.fk_core.specs.declared.op.CoreOp.{CoreOp}
 use Rattle.fk_image.specs.declared.Image.{Image}
 use Rattle.fk_image.specs.Limits.{IsWithinLimits}
-use Rattle.fk_simulation.specs.Follows.{Follows}
-use Rattle.fk_simulation.specs.Programs.{ProgramsAreFollowed}
-use Rattle.fk_block_law.specs.Stands.{Places}
-use Rattle.fk_group_law.specs.Node.{Nestings}
-use Rattle.fk_group_law.specs.Law.{Cycles}
-use Rattle.fk_group_course.specs.Follow.{CarriesGroups, MachinesFollowGroups}
+use Rattle.fk_sim_rounds.specs.Follows.{Follows}
+use Rattle.fk_sim_rounds.specs.Programs.{ProgramsAreFollowed}
+use Rattle.fk_sim_block.specs.Stands.{Places}
+use Rattle.fk_sim_block.specs.Node.{Nestings}
+use Rattle.fk_sim_block.specs.Law.{Cycles}
+use Rattle.fk_sim_runs.specs.Follow.{CarriesGroups, MachinesFollowGroups}
 use Rattle.fk_compile.specs.Lists.{HasListOf}
 use Rattle.fk_compile.specs.Faithful.{in_image, words_by, firsts_by, IsFaithfulTo}
 

@@ -1,8 +1,8 @@
 -- No image of a text traps, since a trap agrees with no stand of a run.
-use Rattle.fk_run.specs.Schedule.{SourceStand, SourceRunning, SourceFinished, SourceFaulted}
+use Rattle.fk_meaning.specs.Schedule.{SourceStand, SourceRunning, SourceFinished, SourceFaulted}
 use Rattle.fk_machine.specs.declared.stand.Stand.{Stand}
 use Rattle.fk_machine.specs.declared.stand.Stand.TheVariants.{Running, Finished, Faulted, Trapped}
-use Rattle.fk_simulation.specs.Follows.{StandsAgree}
+use Rattle.fk_sim_rounds.specs.Follows.{StandsAgree}
 use Rattle.fk_compile.specs.Laws.{IsUntrapped, NeverTraps}
 
 untrapped : (stand : Stand) (source : SourceStand) → StandsAgree stand source → IsUntrapped stand

@@ -5,31 +5,31 @@ use Rattle.fk_syntax.specs.declared.place.Place.{Place}
 use Rattle.fk_syntax.specs.declared.place.Spot.{Spot}
 use Rattle.fk_syntax.specs.Tree.{Named, Tree}
 use Rattle.fk_syntax.specs.Program.{DeclaredTree}
-use Rattle.fk_operation.specs.declared.kinds.Class.TheVariants.{Request}
-use Rattle.fk_operation.specs.declared.operation.Operation.{Operation}
-use Rattle.fk_operation.specs.declared.operation.Operation.TheVariants as o
-use Rattle.fk_operation.specs.declared.operation.Known.TheVariants as n
-use Rattle.fk_operation.specs.declared.operation.Variable.TheVariants as v
-use Rattle.fk_operation.specs.declared.operation.Multiprefix.{Multiprefix}
-use Rattle.fk_operation.specs.declared.operation.Multiprefix.TheVariants.{MpAdd, MpMax, MpAnd, MpOr}
-use Rattle.fk_operation.specs.declared.operation.Split.{Split}
-use Rattle.fk_operation.specs.Kinds.{class_of}
-use Rattle.fk_forms.specs.declared.tables.Region.{Region}
-use Rattle.fk_forms.specs.Code.{done, perform, choose}
-use Rattle.fk_forms.specs.Tables.{Tables, note, slot, frame_at}
-use Rattle.fk_forms.specs.Expressions.{Coded, nowhere, plain, Standing, Signature, agreed, addressed, assigned, dropped, variable, framed, parameters, value}
-use Rattle.fk_nesting.specs.Shape.{Exits, of_arm, ends_part, Shape}
-use Rattle.fk_nesting.proofs.Spine.{untrue}
-use Rattle.fk_nesting.proofs.Kept.{entered}
+use Rattle.fk_meaning_operation.specs.declared.kinds.Class.TheVariants.{Request}
+use Rattle.fk_meaning_operation.specs.declared.operation.Operation.{Operation}
+use Rattle.fk_meaning_operation.specs.declared.operation.Operation.TheVariants as o
+use Rattle.fk_meaning_operation.specs.declared.operation.Known.TheVariants as n
+use Rattle.fk_meaning_operation.specs.declared.operation.Variable.TheVariants as v
+use Rattle.fk_meaning_operation.specs.declared.operation.Multiprefix.{Multiprefix}
+use Rattle.fk_meaning_operation.specs.declared.operation.Multiprefix.TheVariants.{MpAdd, MpMax, MpAnd, MpOr}
+use Rattle.fk_meaning_operation.specs.declared.operation.Split.{Split}
+use Rattle.fk_meaning_operation.specs.Kinds.{class_of}
+use Rattle.fk_meaning_forms.specs.declared.tables.Region.{Region}
+use Rattle.fk_meaning_forms.specs.Code.{done, perform, choose}
+use Rattle.fk_meaning_forms.specs.Tables.{Tables, note, slot, frame_at}
+use Rattle.fk_meaning_forms.specs.Expressions.{Coded, nowhere, plain, Standing, Signature, agreed, addressed, assigned, dropped, variable, framed, parameters, value}
+use Rattle.fk_meaning.specs.Shape.{Exits, of_arm, ends_part, Shape}
+use Rattle.fk_meaning.proofs.Spine.{untrue}
+use Rattle.fk_meaning.proofs.Kept.{entered}
 use Rattle.fk_lockstep.proofs.Kept as k
 use Rattle.fk_lockstep.proofs.Kept.{is_of_value, SharesAgree, all_agree, IsKept}
-use Rattle.fk_one_group.specs.Where.{Where, InRoot, Waits, InGroup, InBody, stays}
-use Rattle.fk_course.specs.Placed.{Who, OfGroup, OfBody, OfMain, is_group, inner}
-use Rattle.fk_course.specs.InPlace.{Splits, Calls, InPlace, NoneShared}
-use Rattle.fk_course.proofs.Behind.{either_no}
-use Rattle.fk_one_course.specs.Leads.{is_in_group, Comes, Leads}
-use Rattle.fk_text.specs.Plain.{is_plain}
-use Rattle.fk_typed_forms.proofs.Along.{AllOf}
+use Rattle.fk_lockstep_one_group.specs.Where.{Where, InRoot, Waits, InGroup, InBody, stays}
+use Rattle.fk_lockstep_structure.specs.Placed.{Who, OfGroup, OfBody, OfMain, is_group, inner}
+use Rattle.fk_lockstep_structure.specs.InPlace.{Splits, Calls, InPlace, NoneShared}
+use Rattle.fk_lockstep_structure.proofs.Behind.{either_no}
+use Rattle.fk_lockstep_one_group.specs.Leads.{is_in_group, Comes, Leads}
+use Rattle.fk_compile_text.specs.Plain.{is_plain}
+use Rattle.fk_lower_laws.proofs.Along.{AllOf}
 
 -- who runs code: processors by themselves in `main`; a group; processors by themselves in a function that is called in the root,
 -- or in the body of a group

@@ -3,17 +3,17 @@ use Rattle.std.specs.Prelude.{◌≡◌, ℕ, ◌^◌, ◌<◌, ◌≤◌, List,
 use Rattle.fk_syntax.specs.declared.facts.Facts.{Facts}
 use Rattle.fk_syntax.specs.declared.place.Place.{Place}
 use Rattle.fk_syntax.specs.Program.{ProgramTree}
-use Rattle.fk_forms.specs.Program.{sites_of}
-use Rattle.fk_source.specs.Program.{next_in, program_opening}
-use Rattle.fk_globals.specs.Constants.{told}
-use Rattle.fk_globals.specs.Rows.{words, firsts}
+use Rattle.fk_meaning_forms.specs.Program.{sites_of}
+use Rattle.fk_meaning.specs.Program.{next_in, program_opening}
+use Rattle.fk_layout_globals.specs.Constants.{told}
+use Rattle.fk_layout_globals.specs.Rows.{words, firsts}
 use Rattle.fk_layout.specs.Layout.{tables_by}
 use Rattle.fk_layout.specs.declared.listed.Site.{Site}
 use Rattle.fk_image.specs.declared.Image.{Image}
 use Rattle.fk_image.specs.Limits.{IsWithinLimits}
-use Rattle.fk_simulation.specs.Follows.{IsInput, Follows}
-use Rattle.fk_text.specs.Plain.{ArePlain}
-use Rattle.fk_text.specs.Text.{IsChecked}
+use Rattle.fk_sim_rounds.specs.Follows.{IsInput, Follows}
+use Rattle.fk_compile_text.specs.Plain.{ArePlain}
+use Rattle.fk_compile_text.specs.Text.{IsChecked}
 
 -- a site of a text as an image has it: its kind, line and column
 abbrev pub in_image : ℕ × Place → ℕ × ℕ × ℕ

@@ -4,7 +4,7 @@ use Rattle.fk_image.specs.declared.Image.{Image}
 use Rattle.fk_machine.specs.declared.stand.Stand.{Stand}
 use Rattle.fk_machine.specs.declared.stand.Stand.TheVariants.{Trapped}
 use Rattle.fk_machine.specs.Run.{machine}
-use Rattle.fk_simulation.specs.Follows.{IsInput}
+use Rattle.fk_sim_rounds.specs.Follows.{IsInput}
 use Rattle.fk_compile.specs.Faithful.{IsFaithful}
 
 -- no trap

@@ -1,12 +1,12 @@
 -- Plain programs that are in place have one group at a time.
 use Rattle.std.specs.Prelude.{ℕ, Bool}
 use Rattle.fk_syntax.specs.Program.{ProgramTree}
-use Rattle.fk_forms.specs.Tables.{Tables}
-use Rattle.fk_forms.specs.Program.{bodies_of, main_of}
-use Rattle.fk_flat.specs.Laws.{AreShaped}
-use Rattle.fk_course.specs.InPlace.{IsInPlace}
-use Rattle.fk_one_course.specs.Led.{AreLed}
-use Rattle.fk_text.specs.Plain.{ArePlain}
+use Rattle.fk_meaning_forms.specs.Tables.{Tables}
+use Rattle.fk_meaning_forms.specs.Program.{bodies_of, main_of}
+use Rattle.fk_core_flat.specs.Laws.{AreShaped}
+use Rattle.fk_lockstep_structure.specs.InPlace.{IsInPlace}
+use Rattle.fk_lockstep_one_group.specs.Led.{AreLed}
+use Rattle.fk_compile_text.specs.Plain.{ArePlain}
 
 -- their code leads from place to place
 abbrev pub ProgramsAreLed : Type 0

@@ -1,16 +1,16 @@
 -- Flat lists that have the code of a program.
 use Rattle.std.specs.Prelude.{◌≡◌, ℕ, List}
 use Rattle.fk_syntax.specs.Program.{ProgramTree}
-use Rattle.fk_forms.specs.Tables.{Tables}
-use Rattle.fk_forms.specs.Program.{bodies_of, main_of}
+use Rattle.fk_meaning_forms.specs.Tables.{Tables}
+use Rattle.fk_meaning_forms.specs.Program.{bodies_of, main_of}
 use Rattle.fk_core.specs.declared.op.CoreOp.{CoreOp}
 use Rattle.fk_core.specs.KeepsRuns.{HasCodeOf}
-use Rattle.fk_flat.specs.Laws.{IsFlat}
-use Rattle.fk_generate.specs.Generable.{HasBlocks}
-use Rattle.fk_group_law.specs.Node.{Gathering}
-use Rattle.fk_group_code.specs.Laws.{none_saved}
-use Rattle.fk_group_course.specs.Lists.{IsOfOneGroup}
-use Rattle.fk_certain.specs.Laws.{CanHaveGroups}
+use Rattle.fk_core_flat.specs.Laws.{IsFlat}
+use Rattle.fk_gen_list.specs.Generable.{HasBlocks}
+use Rattle.fk_sim_block.specs.Node.{Gathering}
+use Rattle.fk_gen_list.specs.Laws.{none_saved}
+use Rattle.fk_sim_runs.specs.Lists.{IsOfOneGroup}
+use Rattle.fk_lower_laws.specs.Laws.{CanHaveGroups}
 
 -- it is flat, and the code of each function stands at its entry, that of `main` at this index
 pub record HasListOf (tables : Tables) (program : ProgramTree) (core : List CoreOp) (main : ℕ) : Type 0 where

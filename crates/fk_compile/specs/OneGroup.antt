@@ -2,19 +2,19 @@
 use Rattle.std.specs.Prelude.{◌≡◌, ℕ, List}
 use Rattle.fk_syntax.specs.declared.facts.Facts.{Facts}
 use Rattle.fk_syntax.specs.Program.{ProgramTree}
-use Rattle.fk_forms.specs.Program.{bodies_of, main_of}
-use Rattle.fk_walk.specs.declared.known.Known.{Known}
-use Rattle.fk_walk_statements.specs.Texts.{functions_in}
+use Rattle.fk_meaning_forms.specs.Program.{bodies_of, main_of}
+use Rattle.fk_layout_walk.specs.declared.known.Known.{Known}
+use Rattle.fk_layout_walk_statements.specs.Texts.{functions_in}
 use Rattle.fk_layout.specs.Layout.{tables_by}
 use Rattle.fk_core.specs.declared.op.CoreOp.{CoreOp}
-use Rattle.fk_flat.specs.Laws.{IsFlat}
+use Rattle.fk_core_flat.specs.Laws.{IsFlat}
 use Rattle.fk_lower.specs.Depths.{AreTold}
 use Rattle.fk_lower_text.specs.Depths.{depths_of}
 use Rattle.fk_lower_text.specs.Lowered.{HasSites}
-use Rattle.fk_group_law.specs.Node.{Nestings}
-use Rattle.fk_group_course.specs.Lists.{IsOfOneGroup}
-use Rattle.fk_text.specs.Plain.{ArePlain}
-use Rattle.fk_certain.specs.LoweringLaws.{IsKnownOf}
+use Rattle.fk_sim_block.specs.Node.{Nestings}
+use Rattle.fk_sim_runs.specs.Lists.{IsOfOneGroup}
+use Rattle.fk_compile_text.specs.Plain.{ArePlain}
+use Rattle.fk_lower_laws.specs.LoweringLaws.{IsKnownOf}
 use Rattle.fk_compile.specs.OneProgram.{IsLaidOut}
 
 -- where no level stands in a frame

@@ -1,35 +1,35 @@
 -- Programs that keep all rules have one remaining program, and their groups one space.
 use Rattle.std.specs.Prelude.{◌≡◌, ℕ, ◌≤◌, Bool, true, not, List, Some, None}
-use Rattle.fk_store.specs.Serve.{may_use}
+use Rattle.fk_meaning_store.specs.Serve.{may_use}
 use Rattle.fk_syntax.specs.declared.facts.Facts.{Facts}
 use Rattle.fk_syntax.specs.Tree.{Tree}
 use Rattle.fk_syntax.specs.Program.{ProgramTree}
-use Rattle.fk_structs.specs.declared.types.DataType.{DataType}
-use Rattle.fk_signs.specs.declared.values.ExpressionType.{ExpressionType}
-use Rattle.fk_typing.specs.Term.{term_of}
-use Rattle.fk_typing.specs.Names.{Env}
-use Rattle.fk_typing.specs.Typing.{type_of}
-use Rattle.fk_run.specs.Processor.{Setting}
-use Rattle.fk_run.specs.Schedule.{Schedule, run, IsLawful}
-use Rattle.fk_forms.specs.Tables.{Tables}
-use Rattle.fk_forms.specs.Expressions.{Signature}
-use Rattle.fk_forms.specs.Program.{functions_of, signature_in}
-use Rattle.fk_source.specs.Program.{next_in, program_opening}
-use Rattle.fk_kept.specs.declared.places.Place.{Place}
+use Rattle.fk_types_structs.specs.declared.types.DataType.{DataType}
+use Rattle.fk_types_operators.specs.declared.values.ExpressionType.{ExpressionType}
+use Rattle.fk_types_judgments.specs.Term.{term_of}
+use Rattle.fk_types_judgments.specs.Names.{Env}
+use Rattle.fk_types_judgments.specs.Typing.{type_of}
+use Rattle.fk_meaning.specs.Processor.{Setting}
+use Rattle.fk_meaning.specs.Schedule.{Schedule, run, IsLawful}
+use Rattle.fk_meaning_forms.specs.Tables.{Tables}
+use Rattle.fk_meaning_forms.specs.Expressions.{Signature}
+use Rattle.fk_meaning_forms.specs.Program.{functions_of, signature_in}
+use Rattle.fk_meaning.specs.Program.{next_in, program_opening}
+use Rattle.fk_core_liveness.specs.declared.places.Place.{Place}
 use Rattle.fk_layout.specs.Layout.{tables_by}
 use Rattle.fk_layout.specs.Refusal.{Fits}
 use Rattle.fk_lex.specs.Reading.{Spelled, Tokens}
 use Rattle.fk_parse.specs.Parses.{SpellsProgram}
-use Rattle.fk_parsed.specs.Trim.{ProgramIsTrim}
-use Rattle.fk_fitting.specs.Correct.{IsCorrect}
-use Rattle.fk_together.specs.OneProgram.{KeepOneProgram}
-use Rattle.fk_levels.specs.OneSpace.{KeepOneSpace}
-use Rattle.fk_course.specs.Valued.{gives, gives_value, way, Evaluates}
-use Rattle.fk_course.specs.Forks.{ForksAreValued}
-use Rattle.fk_typed_forms.specs.Ways as w
-use Rattle.fk_typed_forms.specs.Asked.{IsCalled, Asked}
-use Rattle.fk_typed_forms.specs.Typed.{IsNothing, Known}
-use Rattle.fk_certain.specs.Proper.{ProgramIsProper}
+use Rattle.fk_parse_laws.specs.Trim.{ProgramIsTrim}
+use Rattle.fk_check_laws.specs.Correct.{IsCorrect}
+use Rattle.fk_lockstep.specs.OneProgram.{KeepOneProgram}
+use Rattle.fk_lockstep.specs.OneSpace.{KeepOneSpace}
+use Rattle.fk_lockstep_structure.specs.Valued.{gives, gives_value, way, Evaluates}
+use Rattle.fk_lockstep_structure.specs.Forks.{ForksAreValued}
+use Rattle.fk_lower_laws.specs.Ways as w
+use Rattle.fk_lower_laws.specs.Asked.{IsCalled, Asked}
+use Rattle.fk_lower_laws.specs.Typed.{IsNothing, Known}
+use Rattle.fk_lower_laws.specs.Proper.{ProgramIsProper}
 
 -- a function that is called gives a value where it has a result
 abbrev pub GiveResults : (functions : (binding : ℕ) → Signature) → (place_of : (binding : ℕ) → Place) → Type 0

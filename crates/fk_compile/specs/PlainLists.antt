@@ -1,23 +1,23 @@
 -- Lists of plain operations are as code is made of them.
 use Rattle.std.specs.Prelude.{◌≡◌, ℕ, ◌^◌, ◌<◌, ◌≤◌, List, All, length, sum_by}
-use Rattle.fk_operation.specs.declared.operation.Operation.{Operation}
-use Rattle.fk_forms.specs.Code.{Code}
-use Rattle.fk_walk.specs.declared.known.Known.{Known}
-use Rattle.fk_walk_statements.specs.Texts.{sites_of_text}
+use Rattle.fk_meaning_operation.specs.declared.operation.Operation.{Operation}
+use Rattle.fk_meaning_forms.specs.Code.{Code}
+use Rattle.fk_layout_walk.specs.declared.known.Known.{Known}
+use Rattle.fk_layout_walk_statements.specs.Texts.{sites_of_text}
 use Rattle.fk_core.specs.declared.op.CoreOp.{CoreOp}
 use Rattle.fk_core.specs.WellFormed.{LeadsOn}
-use Rattle.fk_flat.specs.Items.{straight, way_of}
-use Rattle.fk_flat.specs.Laws.{AreShaped, IsFlat}
+use Rattle.fk_core_flat.specs.Items.{straight, way_of}
+use Rattle.fk_core_flat.specs.Laws.{AreShaped, IsFlat}
 use Rattle.fk_lower_text.specs.Lowered.{HasSites}
-use Rattle.fk_block_law.specs.Next.{StandsOp}
-use Rattle.fk_kept.specs.declared.set.Set.{Set}
-use Rattle.fk_kept.specs.Live.{IsLive, IsLeast, words_in}
-use Rattle.fk_typed_code.specs.Laws.{LeadsWithin}
-use Rattle.fk_generate.specs.Generable.{HasBlocks, IsGenerable, most_words}
-use Rattle.fk_group_code.specs.Laws.{StepsHaveValues}
-use Rattle.fk_certain.specs.FreeLaws.{IsPlain}
-use Rattle.fk_certain.specs.Certain.{HasEnough}
-use Rattle.fk_certain.specs.Laws.{CanHaveGroups}
+use Rattle.fk_sim_block.specs.Next.{StandsOp}
+use Rattle.fk_core_liveness.specs.declared.set.Set.{Set}
+use Rattle.fk_core_liveness.specs.Live.{IsLive, IsLeast, words_in}
+use Rattle.fk_core_typing.specs.Laws.{LeadsWithin}
+use Rattle.fk_gen_list.specs.Generable.{HasBlocks, IsGenerable, most_words}
+use Rattle.fk_gen_list.specs.Laws.{StepsHaveValues}
+use Rattle.fk_lower_laws.specs.FreeLaws.{IsPlain}
+use Rattle.fk_lower_laws.specs.Certain.{HasEnough}
+use Rattle.fk_lower_laws.specs.Laws.{CanHaveGroups}
 
 -- what goes straight on has no target
 abbrev pub StraightHasNoTarget : Type 0

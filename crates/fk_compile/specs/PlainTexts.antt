@@ -2,16 +2,16 @@
 use Rattle.std.specs.Prelude.{ℕ, List, []}
 use Rattle.fk_syntax.specs.declared.facts.Facts.{Facts}
 use Rattle.fk_syntax.specs.Program.{ProgramTree}
-use Rattle.fk_forms.specs.Program.{bodies_of, main_of}
-use Rattle.fk_walk.specs.declared.known.Known.{Known}
+use Rattle.fk_meaning_forms.specs.Program.{bodies_of, main_of}
+use Rattle.fk_layout_walk.specs.declared.known.Known.{Known}
 use Rattle.fk_layout.specs.Layout.{tables_by}
 use Rattle.fk_core.specs.declared.op.CoreOp.{CoreOp}
 use Rattle.fk_core.specs.Next.{position, landing, next}
-use Rattle.fk_flat.specs.Laws.{IsFlat}
+use Rattle.fk_core_flat.specs.Laws.{IsFlat}
 use Rattle.fk_lower_text.specs.Lowered.{HasSites}
-use Rattle.fk_one_group.specs.Runs.{AlwaysOneGroup}
-use Rattle.fk_one_list.specs.Lists.{HasOwnSites}
-use Rattle.fk_text.specs.Plain.{ArePlain}
+use Rattle.fk_lockstep_one_group.specs.Runs.{AlwaysOneGroup}
+use Rattle.fk_lockstep_one_group.specs.Lists.{HasOwnSites}
+use Rattle.fk_compile_text.specs.Plain.{ArePlain}
 use Rattle.fk_compile.specs.OneProgram.{IsLaidOut}
 
 abbrev pub SitesAreOwn : Type 0

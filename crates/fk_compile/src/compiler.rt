@@ -3,18 +3,18 @@
 ghost use Rattle.std.specs.Prelude.{◌≡◌, ◌≤◌, ◌<◌, ℕ, List, IfOk, IfErr, OnOk, length};
 ghost use Rattle.fk_syntax.specs.ProgramView.{program_of};
 ghost use Rattle.fk_syntax.specs.WellFormed.{IsWellFormed};
-ghost use Rattle.fk_text.specs.Refusal.{IsRefusedText};
-ghost use Rattle.fk_text.specs.Text.{HasLayout, IsBuilt, KeepsRules};
+ghost use Rattle.fk_compile_text.specs.Refusal.{IsRefusedText};
+ghost use Rattle.fk_compile_text.specs.Text.{HasLayout, IsBuilt, KeepsRules};
 ghost use Rattle.fk_compile.specs.Faithful.{IsFaithful};
 
 use crate::image::{are_words, site_table};
 use crate::laws::steps_find_values;
 use crate::list::{kept_words, list_of};
-use fk_group_code::generate;
-use fk_group_course::laws::machines_follow_groups;
+use fk_gen_list::generate;
+use fk_sim_runs::laws::machines_follow_groups;
 use fk_image::Image;
-use fk_simulation::laws::programs_are_followed;
-use fk_text::{Refusal, built_text};
+use fk_sim_rounds::laws::programs_are_followed;
+use fk_compile_text::{Refusal, built_text};
 use std::alloc::Global;
 
 /// The image of a text. Every run of it, of up to 2^32 - 1 cycles, with 1 to 1,024 harts and an input of

@@ -7,9 +7,9 @@ ghost use Rattle.fk_compile.specs.PlainLists.{StraightHasNoTarget, PlainListsHav
 ghost use Rattle.fk_compile.specs.OneGroup.{PlainListsAreOfOneGroup};
 ghost use Rattle.fk_compile.specs.Laws.{NeverTraps};
 
-use fk_certain::laws::texts_are_proper;
-use fk_frame_order::laws::frames_stand_behind_first;
-use fk_parsed::laws::texts_are_trim;
+use fk_lower_laws::laws::texts_are_proper;
+use fk_parse_laws::laws::frames_stand_behind_first;
+use fk_parse_laws::laws::texts_are_trim;
 
 /// Where a program is in place, and none of its operations splits a group or takes a frame or a block of one, its code leads each
 /// processor from place to place.

@@ -4,22 +4,22 @@ ghost use Rattle.std.specs.Prelude.{◌≡◌, ◌<◌, ◌≤◌, ◌^◌, ℕ,
 ghost use Rattle.fk_syntax.specs.Program.{ProgramTree};
 ghost use Rattle.fk_syntax.specs.ProgramView.{program_of};
 ghost use Rattle.fk_syntax.specs.WellFormed.{IsWellFormed};
-ghost use Rattle.fk_walk.specs.Known.{IsSound, tables_of};
+ghost use Rattle.fk_layout_walk.specs.Known.{IsSound, tables_of};
 ghost use Rattle.fk_layout.specs.Layout.{IsLayout, tables_by};
 ghost use Rattle.fk_layout.specs.Refusal.{Fits};
-ghost use Rattle.fk_walk_statements.specs.Texts.{functions_in};
+ghost use Rattle.fk_layout_walk_statements.specs.Texts.{functions_in};
 ghost use Rattle.fk_lower_text.specs.Laid.{CanBeLaid};
 ghost use Rattle.fk_lower.specs.Depths.{AreTold};
 ghost use Rattle.fk_lower_text.specs.Depths.{depths_of};
 ghost use Rattle.fk_lower_text.specs.Whole.{AreNumbered};
 ghost use Rattle.fk_lower_text.specs.Lowered.{IsLowerable, HasSites};
 ghost use Rattle.fk_core.specs.WellFormed.{LeadsOn};
-ghost use Rattle.fk_certain.specs.Certain.{HasFrames};
-ghost use Rattle.fk_certain.specs.Laws.{count_of_file};
-ghost use Rattle.fk_generate.specs.Generable.{IsGenerable, most_words};
-ghost use Rattle.fk_text.specs.Plain.{ArePlain};
-ghost use Rattle.fk_text.specs.Refusal.{IsRefusedText};
-ghost use Rattle.fk_text.specs.Text.{IsChecked};
+ghost use Rattle.fk_lower_laws.specs.Certain.{HasFrames};
+ghost use Rattle.fk_lower_laws.specs.Laws.{count_of_file};
+ghost use Rattle.fk_gen_list.specs.Generable.{IsGenerable, most_words};
+ghost use Rattle.fk_compile_text.specs.Plain.{ArePlain};
+ghost use Rattle.fk_compile_text.specs.Refusal.{IsRefusedText};
+ghost use Rattle.fk_compile_text.specs.Text.{IsChecked};
 ghost use Rattle.fk_compile.specs.Lists.{HasListOf, IsGrouped};
 
 use crate::image::are_words;
@@ -27,21 +27,21 @@ use crate::laws::{
     grouped_lists_are_generable, lists_are_small, plain_lists_are_of_one_group,
     plain_lists_have_blocks,
 };
-use fk_certain::laws::{
+use fk_lower_laws::laws::{
     lowered_lists_can_have_groups, numbers_have_room, operations_have_numbers, texts_are_proper,
     texts_can_be_laid,
 };
 use fk_core::CoreOp;
-use fk_fitting::laws::correct_programs_fit;
-use fk_kept::{Set, live_words};
-use fk_lookup::Lookup;
+use fk_check_laws::laws::correct_programs_fit;
+use fk_core_liveness::{Set, live_words};
+use fk_layout_lookup::Lookup;
 use fk_lower::LowerFault;
 use fk_lower_text::{entry_of_main, lower_text};
-use fk_numbers::laws::texts_have_words;
-use fk_parsed::laws::texts_are_trim;
-use fk_shapes::laws::forms_are_shaped;
-use fk_text::{Built, Refusal, known_of};
-use fk_walk::Known;
+use fk_parse_laws::laws::texts_have_words;
+use fk_parse_laws::laws::texts_are_trim;
+use fk_core_flat::laws::forms_are_shaped;
+use fk_compile_text::{Built, Refusal, known_of};
+use fk_layout_walk::Known;
 use std::alloc::{AllocError, Global};
 
 /// The flat list of a text, and the index where its `main` begins.

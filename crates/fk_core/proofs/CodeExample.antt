@@ -6,14 +6,14 @@ use Rattle.fk_syntax.specs.declared.sign.Sign.TheVariants as g
 use Rattle.fk_syntax.specs.Tree as t
 use Rattle.fk_syntax.specs.Program as p
 use Rattle.fk_syntax.specs.Program.{ProgramTree}
-use Rattle.fk_operation.specs.declared.operation.Known.TheVariants.{Rank, Processors}
-use Rattle.fk_operation.specs.declared.operation.Operation.{Operation}
-use Rattle.fk_operation.specs.declared.operation.Operation.TheVariants as o
-use Rattle.fk_forms.specs.declared.tables.Home.TheVariants as h
-use Rattle.fk_forms.specs.Code.{Code, done}
-use Rattle.fk_forms.specs.Tables.{Tables}
-use Rattle.fk_forms.specs.Program.{bodies_of}
-use Rattle.fk_forms.proofs.Short.{place, sp, nm, ty, dc, nn, nt, kd, sl, function}
+use Rattle.fk_meaning_operation.specs.declared.operation.Known.TheVariants.{Rank, Processors}
+use Rattle.fk_meaning_operation.specs.declared.operation.Operation.{Operation}
+use Rattle.fk_meaning_operation.specs.declared.operation.Operation.TheVariants as o
+use Rattle.fk_meaning_forms.specs.declared.tables.Home.TheVariants as h
+use Rattle.fk_meaning_forms.specs.Code.{Code, done}
+use Rattle.fk_meaning_forms.specs.Tables.{Tables}
+use Rattle.fk_meaning_forms.specs.Program.{bodies_of}
+use Rattle.fk_meaning_forms.proofs.Short.{place, sp, nm, ty, dc, nn, nt, kd, sl, function}
 use Rattle.fk_core.specs.declared.op.CoreOp.{CoreOp}
 use Rattle.fk_core.specs.Numbers.{operation_of}
 use Rattle.fk_core.specs.Next.{landing}

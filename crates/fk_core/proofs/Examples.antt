@@ -2,10 +2,10 @@
 use Rattle.std.proofs.Common.{◌≡◌, ℕ, Bool, true, List, [], ◌∷◌, length, slice_get, Option, Some, None, refl}
 use Rattle.std.specs.Prelude.{◌==◌, ◌&&◌}
 use Rattle.std.specs.List.{list_all}
-use Rattle.fk_run.specs.Processor.{Setting, setting_of, values}
-use Rattle.fk_run.specs.Round.{Runner, State, result}
-use Rattle.fk_run.specs.Schedule.{Schedule, SourceFinished, SourceFaulted}
-use Rattle.fk_source.proofs.Seen.{Line, Byte, lines, seen}
+use Rattle.fk_meaning.specs.Processor.{Setting, setting_of, values}
+use Rattle.fk_meaning.specs.Round.{Runner, State, result}
+use Rattle.fk_meaning.specs.Schedule.{Schedule, SourceFinished, SourceFaulted}
+use Rattle.fk_meaning.proofs.Seen.{Line, Byte, lines, seen}
 use Rattle.fk_core.specs.declared.op.CoreOp.{CoreOp}
 use Rattle.fk_core.specs.Next.{Position, landing, next, list_opening}
 

@@ -1,10 +1,10 @@
 -- A program and a list that has its code in it have the same runs.
 use Rattle.std.proofs.Common.{ℕ, List, [], length, None}
 use Rattle.std.specs.Prelude.{slice_index}
-use Rattle.fk_forms.specs.Program.{bodies_of, main_of}
-use Rattle.fk_run.proofs.Span.{alike_from}
-use Rattle.fk_source.specs.Next as source
-use Rattle.fk_source.specs.Next.{going}
+use Rattle.fk_meaning_forms.specs.Program.{bodies_of, main_of}
+use Rattle.fk_meaning.proofs.Span.{alike_from}
+use Rattle.fk_meaning.specs.Next as source
+use Rattle.fk_meaning.specs.Next.{going}
 use Rattle.fk_core.specs.Next.{position, next}
 use Rattle.fk_core.specs.KeepsRuns.{FlatListsKeepRuns}
 use Rattle.fk_core.proofs.Running.{IsAt, same_next, body_at}

@@ -1,12 +1,12 @@
 -- A program and a list that has its code in it.
 use Rattle.std.specs.Prelude.{ℕ, List, length, None}
 use Rattle.fk_syntax.specs.Program.{ProgramTree}
-use Rattle.fk_run.specs.Processor.{Setting}
-use Rattle.fk_run.specs.Schedule.{Schedule}
-use Rattle.fk_run.specs.Alike.{RunAlike}
-use Rattle.fk_forms.specs.Tables.{Tables}
-use Rattle.fk_forms.specs.Program.{bodies_of, main_of}
-use Rattle.fk_source.specs.Program as source
+use Rattle.fk_meaning.specs.Processor.{Setting}
+use Rattle.fk_meaning.specs.Schedule.{Schedule}
+use Rattle.fk_meaning.specs.Alike.{RunAlike}
+use Rattle.fk_meaning_forms.specs.Tables.{Tables}
+use Rattle.fk_meaning_forms.specs.Program.{bodies_of, main_of}
+use Rattle.fk_meaning.specs.Program as source
 use Rattle.fk_core.specs.declared.op.CoreOp.{CoreOp}
 use Rattle.fk_core.specs.Next.{next, list_opening}
 use Rattle.fk_core.specs.Stands.{Stands}

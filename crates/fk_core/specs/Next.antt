@@ -1,9 +1,9 @@
 -- Runs of a flat list: what is left to do is an index into it, and those to which calls return.
 use Rattle.std.specs.Prelude.{ℕ, zero, suc, ◌==◌, Bool, true, false, List, [], ◌∷◌, length, slice_get, slice_index, Option, Some, None, if◌then◌else◌}
-use Rattle.fk_operation.specs.declared.operation.Operation.{Operation}
-use Rattle.fk_operation.specs.declared.operation.Operation.TheVariants as o
-use Rattle.fk_run.specs.Round.{Step, State}
-use Rattle.fk_run.specs.Schedule as run
+use Rattle.fk_meaning_operation.specs.declared.operation.Operation.{Operation}
+use Rattle.fk_meaning_operation.specs.declared.operation.Operation.TheVariants as o
+use Rattle.fk_meaning.specs.Round.{Step, State}
+use Rattle.fk_meaning.specs.Schedule as run
 use Rattle.fk_core.specs.declared.op.CoreOp.{CoreOp}
 use Rattle.fk_core.specs.Numbers.{operation_of}
 

@@ -2,19 +2,19 @@
 use Rattle.std.specs.Prelude.{ℕ, ◌/◌, ◌%◌, ◌^◌, ◌<◌, ◌≤◌, ◌==◌, Bool, true, false, Option, Some, None, option_map, if◌then◌else◌}
 use Rattle.fk_num.specs.declared.operator.Op.{Op}
 use Rattle.fk_num.specs.declared.operator.Op.TheVariants as f
-use Rattle.fk_operation.specs.declared.kinds.Class.{Class}
-use Rattle.fk_operation.specs.declared.kinds.Class.TheVariants.{Local, Request, Tree}
-use Rattle.fk_operation.specs.declared.operation.Known.{Known}
-use Rattle.fk_operation.specs.declared.operation.Known.TheVariants as k
-use Rattle.fk_operation.specs.declared.operation.Operation.{Operation}
-use Rattle.fk_operation.specs.declared.operation.Operation.TheVariants as o
-use Rattle.fk_operation.specs.declared.operation.Split.{Split}
-use Rattle.fk_operation.specs.declared.operation.Split.TheVariants as s
-use Rattle.fk_operation.specs.declared.operation.Unary.{Unary}
-use Rattle.fk_operation.specs.declared.operation.Unary.TheVariants as u
-use Rattle.fk_operation.specs.declared.operation.Variable.{Variable}
-use Rattle.fk_operation.specs.declared.operation.Variable.TheVariants as v
-use Rattle.fk_operation.specs.Kinds.{class_of_kind, multiprefix_of}
+use Rattle.fk_meaning_operation.specs.declared.kinds.Class.{Class}
+use Rattle.fk_meaning_operation.specs.declared.kinds.Class.TheVariants.{Local, Request, Tree}
+use Rattle.fk_meaning_operation.specs.declared.operation.Known.{Known}
+use Rattle.fk_meaning_operation.specs.declared.operation.Known.TheVariants as k
+use Rattle.fk_meaning_operation.specs.declared.operation.Operation.{Operation}
+use Rattle.fk_meaning_operation.specs.declared.operation.Operation.TheVariants as o
+use Rattle.fk_meaning_operation.specs.declared.operation.Split.{Split}
+use Rattle.fk_meaning_operation.specs.declared.operation.Split.TheVariants as s
+use Rattle.fk_meaning_operation.specs.declared.operation.Unary.{Unary}
+use Rattle.fk_meaning_operation.specs.declared.operation.Unary.TheVariants as u
+use Rattle.fk_meaning_operation.specs.declared.operation.Variable.{Variable}
+use Rattle.fk_meaning_operation.specs.declared.operation.Variable.TheVariants as v
+use Rattle.fk_meaning_operation.specs.Kinds.{class_of_kind, multiprefix_of}
 
 -- odd numbers say yes
 abbrev pub is_odd : ℕ → Bool

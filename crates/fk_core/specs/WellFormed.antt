@@ -1,9 +1,9 @@
 -- Well-formed lists.
 use Rattle.std.specs.Prelude.{◌≡◌, ℕ, ◌<◌, List, length, slice_get, Some, None}
-use Rattle.fk_operation.specs.declared.operation.Operation.{Operation}
-use Rattle.fk_run.specs.Processor.{values, setting_of}
-use Rattle.fk_run.specs.Round.{Runner}
-use Rattle.fk_run.specs.Schedule.{Schedule, run, IsLawful}
+use Rattle.fk_meaning_operation.specs.declared.operation.Operation.{Operation}
+use Rattle.fk_meaning.specs.Processor.{values, setting_of}
+use Rattle.fk_meaning.specs.Round.{Runner}
+use Rattle.fk_meaning.specs.Schedule.{Schedule, run, IsLawful}
 use Rattle.fk_core.specs.declared.op.CoreOp.{CoreOp}
 use Rattle.fk_core.specs.Numbers.{operation_of}
 use Rattle.fk_core.specs.Next.{Position, landing, next, list_opening}

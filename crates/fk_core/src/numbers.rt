@@ -1,11 +1,11 @@
 //! The table of numbers: which operation a kind and a number stand for, and back.
 
 ghost use Rattle.std.specs.Prelude.{◌≡◌, ◌+◌, ◌*◌, ◌/◌, ◌%◌, ◌^◌, ◌<◌, ◌≤◌, Some};
-ghost use Rattle.fk_operation.specs.Kinds.{kind_of};
+ghost use Rattle.fk_meaning_operation.specs.Kinds.{kind_of};
 ghost use Rattle.fk_core.specs.Numbers.{is_odd, nestings, variable_of, known_of, unary_of, split_of, operator_of, operation_of, local_of as local_by, request_of as request_by, tree_step_of as tree_step_by, IsNear, IsKnownNear, HasNumber};
 
 use fk_num::Op;
-use fk_operation::{Known, Multiprefix, Operation, Split, Unary, Variable};
+use fk_meaning_operation::{Known, Multiprefix, Operation, Split, Unary, Variable};
 
 const NESTINGS: u32 = 129;
 

@@ -1,12 +1,12 @@
 //! What stands in a list.
 
 ghost use Rattle.std.specs.Prelude.{◌≡◌, Some};
-ghost use Rattle.fk_operation.specs.Kinds.{kind_of};
+ghost use Rattle.fk_meaning_operation.specs.Kinds.{kind_of};
 ghost use Rattle.fk_core.specs.Numbers.{operation_of, HasNumber};
 ghost use Rattle.fk_core.specs.Next.{is_jump};
 
 use crate::numbers::{local_of, number_of, request_of, tree_step_of};
-use fk_operation::Operation;
+use fk_meaning_operation::Operation;
 
 /// An operation of a flat list, or a jump.
 #[derive(Clone, Copy, PartialEq, Eq, Debug)]

@@ -3,7 +3,7 @@
 ghost use Rattle.std.specs.Prelude.{◌≡◌, ◌-◌, ◌^◌, ◌<◌, [], ◌∷◌, ◌++◌, IfOk, OnOk, OnErr, vec_len};
 
 use crate::op::CoreOp;
-use fk_forms::FrameSize;
+use fk_meaning_forms::FrameSize;
 use std::alloc::{AllocError, Global};
 
 /// The operations of a program, and its functions with a body in the order of the text.

@@ -2,19 +2,19 @@
 use Rattle.std.proofs.Common.{ℕ, zero, suc, ◌+◌, ◌≤◌, refl, arith, false}
 use Rattle.fk_lex.specs.declared.token.TokenKind.TheVariants as kind
 use Rattle.fk_syntax.specs.declared.sign.Sign.TheVariants as sign
-use Rattle.fk_reading.specs.Languages.{telling, ◌then◌}
+use Rattle.fk_parse_combinators.specs.Languages.{telling, ◌then◌}
 use Rattle.fk_expr.specs.Kinds.{number_told, prefix_told}
 use Rattle.fk_expr.specs.Grammar.{Deeper, deeper, parenthesized, puts, primary, suffix, postfix, cast, sizeof, prefix, joined, choice, assignment, comma}
-use Rattle.fk_reading.specs.Readers.{tells}
+use Rattle.fk_parse_combinators.specs.Readers.{tells}
 use Rattle.fk_expr.specs.Reading.{begins_primary, begins_expression}
-use Rattle.fk_reading.proofs.Sets.{Kinds, ◌∪◌}
-use Rattle.fk_reading.proofs.EachKind.{within_by}
-use Rattle.fk_reading.proofs.Exact.{Example, Shape}
-use Rattle.fk_reading.proofs.Token.{example_token, example_telling, shape_token, shape_telling}
-use Rattle.fk_reading.proofs.Shapes.{example_making, example_then, example_left, example_right, example_empty, empty_many, empty_maybe, shape_lower, shape_kinds, shape_nothing, shape_making, shape_then, shape_or}
-use Rattle.fk_reading.proofs.Productions.{shape_in_parentheses, example_in_parentheses}
+use Rattle.fk_parse_combinators.proofs.Sets.{Kinds, ◌∪◌}
+use Rattle.fk_parse_combinators.proofs.EachKind.{within_by}
+use Rattle.fk_parse_combinators.proofs.Exact.{Example, Shape}
+use Rattle.fk_parse_combinators.proofs.Token.{example_token, example_telling, shape_token, shape_telling}
+use Rattle.fk_parse_combinators.proofs.Shapes.{example_making, example_then, example_left, example_right, example_empty, empty_many, empty_maybe, shape_lower, shape_kinds, shape_nothing, shape_making, shape_then, shape_or}
+use Rattle.fk_parse_combinators.proofs.Productions.{shape_in_parentheses, example_in_parentheses}
 use Rattle.fk_expr.proofs.TypeNames.{example_type_name}
-use Rattle.fk_reading.specs.Kinds.{just}
+use Rattle.fk_parse_combinators.specs.Kinds.{just}
 
 -- ---- examples
 

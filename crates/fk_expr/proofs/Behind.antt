@@ -7,19 +7,19 @@ use Rattle.fk_syntax.specs.declared.sign.Sign.TheVariants as sign
 use Rattle.fk_syntax.specs.declared.expression.Expr.{Expr}
 use Rattle.fk_syntax.specs.Tree.{Tree, LinkTree}
 use Rattle.fk_syntax.specs.View.{tree_of}
-use Rattle.fk_reading.specs.Languages.{spot, Placed}
+use Rattle.fk_parse_combinators.specs.Languages.{spot, Placed}
 use Rattle.fk_expr.specs.Grammar.{operator_at, linked, comma_linked, chained, suffixed, chosen, assigned, listed}
 use Rattle.fk_expr.specs.Kinds.{assignment_told}
-use Rattle.fk_reading.specs.declared.fault.SyntaxFault.{SyntaxFault}
-use Rattle.fk_reading.specs.Readers.{after, giving, ◌and◌, either, next_is, tells, expect, expect_told, repeated}
+use Rattle.fk_parse_combinators.specs.declared.fault.SyntaxFault.{SyntaxFault}
+use Rattle.fk_parse_combinators.specs.Readers.{after, giving, ◌and◌, either, next_is, tells, expect, expect_told, repeated}
 use Rattle.fk_expr.specs.Reading.{Readers, begins_expression, read_primary, read_suffixes, read_postfix, read_prefix, read_joined, read_branches, read_choice, read_assigned, read_assignment, read_comma_link, read_comma_links, read_comma, read_next_argument, read_arguments}
 use Rattle.fk_expr.specs.Ahead.{read_link, read_links, NoOperator}
-use Rattle.fk_reading.specs.Gives.{Gives, Makes, Halts}
-use Rattle.fk_reading.proofs.Halting.{halts_after}
-use Rattle.fk_reading.proofs.Repeats.{repeated_none}
-use Rattle.fk_reading.specs.Kinds.{just}
+use Rattle.fk_parse_combinators.specs.Gives.{Gives, Makes, Halts}
+use Rattle.fk_parse_combinators.proofs.Halting.{halts_after}
+use Rattle.fk_parse_combinators.proofs.Repeats.{repeated_none}
+use Rattle.fk_parse_combinators.specs.Kinds.{just}
 use Rattle.fk_lex.specs.declared.token.TokenKind.TheVariants as kind
-use Rattle.fk_reading.proofs.Behind.{behind_reads, behind_halts}
+use Rattle.fk_parse_combinators.proofs.Behind.{behind_reads, behind_halts}
 use Rattle.fk_expr.proofs.Completing.{behind_gives, optional_gives}
 
 -- ---- links

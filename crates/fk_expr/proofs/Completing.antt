@@ -2,14 +2,14 @@
 use Rattle.std.proofs.Common.{◌≡◌, ◌≤◌, List, Option, Some, None, Bool, Result, Ok, Err, true, false, length, sym, ap, subst, ◌∙◌, arith}
 use Rattle.std.specs.Prelude.{IfOk, IsOk}
 use Rattle.fk_lex.specs.declared.token.TokenKind.{TokenKind}
-use Rattle.fk_reading.specs.declared.fault.SyntaxFault.{SyntaxFault}
-use Rattle.fk_reading.specs.Languages.{Placed}
-use Rattle.fk_reading.specs.Readers.{Reader, after, giving, ◌and◌, next_is, optional}
-use Rattle.fk_reading.specs.Ahead.{Shortens}
-use Rattle.fk_reading.specs.Gives.{Gives, Makes, Halts}
-use Rattle.fk_reading.proofs.Behind.{behind_reads, behind_halts}
-use Rattle.fk_reading.proofs.Halting.{halts_after}
-use Rattle.fk_reading.proofs.Or.{by_next-yes}
+use Rattle.fk_parse_combinators.specs.declared.fault.SyntaxFault.{SyntaxFault}
+use Rattle.fk_parse_combinators.specs.Languages.{Placed}
+use Rattle.fk_parse_combinators.specs.Readers.{Reader, after, giving, ◌and◌, next_is, optional}
+use Rattle.fk_parse_combinators.specs.Ahead.{Shortens}
+use Rattle.fk_parse_combinators.specs.Gives.{Gives, Makes, Halts}
+use Rattle.fk_parse_combinators.proofs.Behind.{behind_reads, behind_halts}
+use Rattle.fk_parse_combinators.proofs.Halting.{halts_after}
+use Rattle.fk_parse_combinators.proofs.Or.{by_next-yes}
 
 pub behind_gives : {A B C D : Type 0} (f : A × B → C) (P : Reader A) (Q : Reader B) (view : D → C) (ts mid now : List Placed) (a : A) (r : Result D SyntaxFault)
     → P ts ≡ Ok (a, mid) → Makes (λ b. f (a, b)) view r now (Q mid) → Gives view r now (giving f (P and Q) ts)

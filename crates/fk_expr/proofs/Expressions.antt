@@ -1,18 +1,18 @@
 -- Expressions are read as the grammar says, at each level.
 use Rattle.std.proofs.Common.{◌≡◌, ℕ, zero, suc, ◌+◌, ◌-◌, ◌≤◌, List, inl, inr, refl, arith}
-use Rattle.fk_reading.specs.Languages.{Placed}
-use Rattle.fk_reading.specs.Reads.{Reads}
-use Rattle.fk_reading.specs.declared.limits.TheConstants.{LEVELS}
+use Rattle.fk_parse_combinators.specs.Languages.{Placed}
+use Rattle.fk_parse_combinators.specs.Reads.{Reads}
+use Rattle.fk_parse_combinators.specs.declared.limits.TheConstants.{LEVELS}
 use Rattle.fk_expr.specs.Grammar.{deeper, Comma, Assignment}
 use Rattle.fk_expr.specs.Reading.{inner, begins_suffix, begins_expression, read_comma, read_assignment}
 use Rattle.fk_expr.specs.Ahead.{readers}
-use Rattle.fk_reading.proofs.Productions.{reads_nothing}
+use Rattle.fk_parse_combinators.proofs.Productions.{reads_nothing}
 use Rattle.fk_expr.proofs.Beginnings.{deeper_shapes}
 use Rattle.fk_expr.proofs.Followers.{goes_choice, goes_assignment, goes_comma}
 use Rattle.fk_expr.proofs.Inner.{Inner}
 use Rattle.fk_expr.proofs.Prefixes.{reads_prefix}
 use Rattle.fk_expr.proofs.Operands.{reads_choice, reads_assignment_at, reads_comma_at}
-use Rattle.fk_reading.proofs.Longest.{Faithful, reads}
+use Rattle.fk_parse_combinators.proofs.Longest.{Faithful, reads}
 
 -- where so many levels are left, there are readers for the next level, or that is past the bound
 pub inner_at : {levels : ℕ} {room : Type 0} (left l bound : ℕ) → left + l ≡ levels → (room → left + 2 ≤ bound) → Inner levels (deeper bound) l (inner left) room

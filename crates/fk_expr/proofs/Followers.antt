@@ -3,11 +3,11 @@ use Rattle.std.proofs.Common.{◌≡◌, ℕ, zero, suc, ◌<◌, Option, Some, 
 use Rattle.fk_syntax.specs.declared.sign.Sign.{Sign}
 use Rattle.fk_expr.specs.Kinds.{assignment_told, operator_told}
 use Rattle.fk_expr.specs.Grammar.{only, operator_at}
-use Rattle.fk_reading.specs.Readers.{tells, does_tell}
+use Rattle.fk_parse_combinators.specs.Readers.{tells, does_tell}
 use Rattle.fk_expr.specs.Reading.{begins_suffix}
-use Rattle.fk_reading.proofs.Sets.{Kinds, ◌∪◌, Apart, union_apart}
-use Rattle.fk_reading.proofs.EachKind.{apart_by}
-use Rattle.fk_reading.specs.Kinds.{just}
+use Rattle.fk_parse_combinators.proofs.Sets.{Kinds, ◌∪◌, Apart, union_apart}
+use Rattle.fk_parse_combinators.proofs.EachKind.{apart_by}
+use Rattle.fk_parse_combinators.specs.Kinds.{just}
 use Rattle.fk_lex.specs.declared.token.TokenKind.TheVariants as kind
 
 -- joined operands go on with a suffix, and with an operator that binds so loosely or tighter

@@ -1,16 +1,16 @@
 -- Where a token opens a level too many, reading stops.
 use Rattle.std.proofs.Common.{Result, ◌≡◌, ℕ, ◌<◌, List, [], ◌∷◌, Option, Bool, true, false, Ok, Err, length, ap, sym, subst, inl, inr, arith}
 use Rattle.fk_lex.specs.declared.token.TokenKind.{TokenKind}
-use Rattle.fk_reading.specs.declared.fault.SyntaxFault.{SyntaxFault}
-use Rattle.fk_reading.specs.declared.fault.SyntaxFault.TheVariants.{Unexpected, EndOfText, Nesting, Memory}
-use Rattle.fk_reading.specs.Languages.{Placed}
-use Rattle.fk_reading.specs.Reads.{Stop}
-use Rattle.fk_reading.specs.Readers.{Reader, opened, within, unexpected, next_is, either}
+use Rattle.fk_parse_combinators.specs.declared.fault.SyntaxFault.{SyntaxFault}
+use Rattle.fk_parse_combinators.specs.declared.fault.SyntaxFault.TheVariants.{Unexpected, EndOfText, Nesting, Memory}
+use Rattle.fk_parse_combinators.specs.Languages.{Placed}
+use Rattle.fk_parse_combinators.specs.Reads.{Stop}
+use Rattle.fk_parse_combinators.specs.Readers.{Reader, opened, within, unexpected, next_is, either}
 use Rattle.fk_expr.specs.Reading.{Readers}
-use Rattle.fk_reading.specs.Gives.{Halts}
+use Rattle.fk_parse_combinators.specs.Gives.{Halts}
 use Rattle.fk_expr.specs.Gives.{CannotOpen, Nests, Opens}
-use Rattle.fk_reading.proofs.Halting.{same, halts_after, halts_memory, halts_going}
-use Rattle.fk_reading.proofs.Repeats.{going_start, going_more, going_end}
+use Rattle.fk_parse_combinators.proofs.Halting.{same, halts_after, halts_memory, halts_going}
+use Rattle.fk_parse_combinators.proofs.Repeats.{going_start, going_more, going_end}
 
 other_value : (A B : Type 0) (s : Stop) (fault : SyntaxFault) (now : List Placed) → Halts {A = A} (Err s) fault now → Halts {A = B} (Err s) fault now
 other_value A B s (Unexpected place) now h = (ap (same A B) h.0, h.1)

@@ -1,13 +1,13 @@
 -- The readers of what stands one level deeper, where there may be one.
 use Rattle.std.proofs.Common.{◌≡◌, ℕ, ◌+◌, ◌≤◌, Option, Some, ◌⊎◌, inl, inr}
-use Rattle.fk_reading.specs.Languages.{Language}
+use Rattle.fk_parse_combinators.specs.Languages.{Language}
 use Rattle.fk_expr.specs.Grammar.{Deeper}
-use Rattle.fk_reading.specs.Readers.{Reader, opened}
+use Rattle.fk_parse_combinators.specs.Readers.{Reader, opened}
 use Rattle.fk_expr.specs.Reading.{Readers, begins_suffix, begins_expression}
-use Rattle.fk_reading.proofs.Sets.{Kinds}
-use Rattle.fk_reading.proofs.Exact.{Shape, Exact}
-use Rattle.fk_reading.proofs.Opened.{Bottom, exact_opened_none, exact_opened_some}
-use Rattle.fk_reading.proofs.Productions.{IsRead}
+use Rattle.fk_parse_combinators.proofs.Sets.{Kinds}
+use Rattle.fk_parse_combinators.proofs.Exact.{Shape, Exact}
+use Rattle.fk_parse_combinators.proofs.Opened.{Bottom, exact_opened_none, exact_opened_some}
+use Rattle.fk_parse_combinators.proofs.Productions.{IsRead}
 use Rattle.fk_expr.proofs.Beginnings.{Examples, DeeperShapes}
 use Rattle.fk_expr.proofs.Followers.{goes_choice, goes_assignment, goes_comma}
 

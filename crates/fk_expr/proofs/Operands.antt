@@ -7,16 +7,16 @@ use Rattle.fk_lex.specs.declared.token.TokenKind.TheVariants as kind
 use Rattle.fk_expr.specs.Kinds.{assignment_told}
 use Rattle.fk_expr.specs.Grammar.{Deeper, operator_at, joined, choice, assignment, comma}
 use Rattle.fk_expr.specs.Reading.{Readers, begins_expression, read_joined, read_choice, read_assignment, read_comma}
-use Rattle.fk_reading.specs.Readers.{tells}
-use Rattle.fk_reading.proofs.Sets.{Kinds, ◌∪◌, Apart, Within, none_apart, within_left, union_within}
-use Rattle.fk_reading.proofs.EachKind.{apart_by, within_by}
-use Rattle.fk_reading.proofs.Token.{example_token, shape_token}
-use Rattle.fk_reading.proofs.Shapes.{example_then, shape_then}
-use Rattle.fk_reading.proofs.Productions.{IsRead, reads_token, reads_telling, reads_making, reads_then, reads_then_loose, reads_maybe, reads_many, reads_wider}
+use Rattle.fk_parse_combinators.specs.Readers.{tells}
+use Rattle.fk_parse_combinators.proofs.Sets.{Kinds, ◌∪◌, Apart, Within, none_apart, within_left, union_within}
+use Rattle.fk_parse_combinators.proofs.EachKind.{apart_by, within_by}
+use Rattle.fk_parse_combinators.proofs.Token.{example_token, shape_token}
+use Rattle.fk_parse_combinators.proofs.Shapes.{example_then, shape_then}
+use Rattle.fk_parse_combinators.proofs.Productions.{IsRead, reads_token, reads_telling, reads_making, reads_then, reads_then_loose, reads_maybe, reads_many, reads_wider}
 use Rattle.fk_expr.proofs.Followers.{goes_joined, goes_choice, goes_assignment, goes_comma, joined_apart}
 use Rattle.fk_expr.proofs.Inner.{Inner, examples_of, reads_opened}
 use Rattle.fk_expr.proofs.Prefixes.{reads_prefix}
-use Rattle.fk_reading.specs.Kinds.{just}
+use Rattle.fk_parse_combinators.specs.Kinds.{just}
 
 -- ---- joined operands
 

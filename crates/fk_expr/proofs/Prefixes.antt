@@ -5,25 +5,25 @@ use Rattle.fk_syntax.specs.Tree.{Tree, Prefix}
 use Rattle.fk_syntax.specs.declared.sign.Sign.TheVariants as sign
 use Rattle.fk_lex.specs.declared.token.TokenKind.{TokenKind}
 use Rattle.fk_lex.specs.declared.token.TokenKind.TheVariants as kind
-use Rattle.fk_reading.specs.Languages.{Placed, Stretch, Language, tokens_of, token, telling, ◌then◌, ◌or◌, making, spot}
+use Rattle.fk_parse_combinators.specs.Languages.{Placed, Stretch, Language, tokens_of, token, telling, ◌then◌, ◌or◌, making, spot}
 use Rattle.fk_expr.specs.Kinds.{number_told, prefix_told}
 use Rattle.fk_expr.specs.Grammar.{Deeper, parenthesized, primary, suffix, postfix, cast, sizeof, prefix, type_name}
 use Rattle.fk_expr.specs.Reading.{Readers, begins_type, begins_primary, begins_suffix, begins_expression, read_cast, read_sizeof, read_signed, read_prefix, read_postfix, cast_is_next}
-use Rattle.fk_reading.specs.Readers.{tells, by_next, either}
-use Rattle.fk_reading.proofs.Sets.{Kinds, ◌∪◌, none, Apart, none_apart, apart-false, union_within}
-use Rattle.fk_reading.proofs.EachKind.{apart_by, within_by}
-use Rattle.fk_reading.proofs.Exact.{Fronts}
-use Rattle.fk_reading.proofs.Stretches.{tokens_regroup}
-use Rattle.fk_reading.proofs.Token.{example_token, shape_telling}
-use Rattle.fk_reading.proofs.Shapes.{example_then, example_empty, empty_many, shape_making, shape_or, shape_lower, fronts_before}
-use Rattle.fk_reading.proofs.Then.{exact_wider}
-use Rattle.fk_reading.proofs.Productions.{IsRead, reads_token, reads_telling, reads_making, reads_then, reads_or, reads_in_parentheses, shape_in_parentheses, reads_lower, reads_kinds, reads_wider}
-use Rattle.fk_reading.proofs.TwoTokens.{two, StartsAt, exact_two, starts_at_token, starts_at_making, starts_at_then, starts_at_left, starts_at_right}
+use Rattle.fk_parse_combinators.specs.Readers.{tells, by_next, either}
+use Rattle.fk_parse_combinators.proofs.Sets.{Kinds, ◌∪◌, none, Apart, none_apart, apart-false, union_within}
+use Rattle.fk_parse_combinators.proofs.EachKind.{apart_by, within_by}
+use Rattle.fk_parse_combinators.proofs.Exact.{Fronts}
+use Rattle.fk_parse_combinators.proofs.Stretches.{tokens_regroup}
+use Rattle.fk_parse_combinators.proofs.Token.{example_token, shape_telling}
+use Rattle.fk_parse_combinators.proofs.Shapes.{example_then, example_empty, empty_many, shape_making, shape_or, shape_lower, fronts_before}
+use Rattle.fk_parse_combinators.proofs.Then.{exact_wider}
+use Rattle.fk_parse_combinators.proofs.Productions.{IsRead, reads_token, reads_telling, reads_making, reads_then, reads_or, reads_in_parentheses, shape_in_parentheses, reads_lower, reads_kinds, reads_wider}
+use Rattle.fk_parse_combinators.proofs.TwoTokens.{two, StartsAt, exact_two, starts_at_token, starts_at_making, starts_at_then, starts_at_left, starts_at_right}
 use Rattle.fk_expr.proofs.TypeNames.{goes_type, shape_type_name, reads_type_name, example_type_name}
 use Rattle.fk_expr.proofs.Beginnings.{Examples, DeeperShapes, shape_puts, shape_cast, shape_sizeof, shape_signed, prefixes}
 use Rattle.fk_expr.proofs.Inner.{Inner, examples_of, reads_opened}
 use Rattle.fk_expr.proofs.Suffixes.{reads_postfix}
-use Rattle.fk_reading.specs.Kinds.{just}
+use Rattle.fk_parse_combinators.specs.Kinds.{just}
 
 -- a cast is read exactly
 pub reads_cast : {levels : ℕ} {room : Type 0} (D : Deeper) (l : ℕ) (inner : Option Readers) → Inner levels D l inner room

@@ -4,15 +4,15 @@ use Rattle.fk_lex.specs.declared.token.TokenKind.TheVariants as kind
 use Rattle.fk_expr.specs.Kinds.{number_told}
 use Rattle.fk_expr.specs.Grammar.{Deeper, parenthesized, puts, primary}
 use Rattle.fk_expr.specs.Reading.{Readers, begins_primary, read_parenthesized, read_puts, read_primary}
-use Rattle.fk_reading.specs.Readers.{tells}
-use Rattle.fk_reading.proofs.Sets.{none, none_apart}
-use Rattle.fk_reading.proofs.EachKind.{apart_by, within_by}
-use Rattle.fk_reading.proofs.Token.{example_token}
-use Rattle.fk_reading.proofs.Productions.{IsRead, reads_token, reads_telling, reads_making, reads_then, reads_or, reads_in_parentheses, shape_in_parentheses, reads_lower, reads_kinds, reads_wider}
+use Rattle.fk_parse_combinators.specs.Readers.{tells}
+use Rattle.fk_parse_combinators.proofs.Sets.{none, none_apart}
+use Rattle.fk_parse_combinators.proofs.EachKind.{apart_by, within_by}
+use Rattle.fk_parse_combinators.proofs.Token.{example_token}
+use Rattle.fk_parse_combinators.proofs.Productions.{IsRead, reads_token, reads_telling, reads_making, reads_then, reads_or, reads_in_parentheses, shape_in_parentheses, reads_lower, reads_kinds, reads_wider}
 use Rattle.fk_expr.proofs.Beginnings.{shape_parenthesized, primaries}
 use Rattle.fk_expr.proofs.Followers.{goes_comma}
 use Rattle.fk_expr.proofs.Inner.{Inner, examples_of, reads_opened}
-use Rattle.fk_reading.specs.Kinds.{just}
+use Rattle.fk_parse_combinators.specs.Kinds.{just}
 
 -- an expression in parentheses is read exactly
 pub reads_parenthesized : {levels : ℕ} {room : Type 0} (D : Deeper) (l : ℕ) (inner : Option Readers) → Inner levels D l inner room

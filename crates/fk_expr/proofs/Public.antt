@@ -3,22 +3,22 @@ use Rattle.std.proofs.Common.{◌≡◌, ℕ, ◌+◌, ◌-◌, ◌≤◌, List,
 use Rattle.std.proofs.lemmas.List.{drop-drop, length-append, length-drop}
 use Rattle.fk_lex.specs.declared.token.Token.{Token}
 use Rattle.fk_lex.specs.View.{spelled}
-use Rattle.fk_reading.specs.declared.fault.SyntaxFault.{SyntaxFault}
-use Rattle.fk_reading.specs.declared.fault.SyntaxFault.TheVariants.{Unexpected, EndOfText, Nesting, Memory}
-use Rattle.fk_reading.specs.declared.limits.TheConstants.{LEVELS}
-use Rattle.fk_reading.specs.Languages.{Placed, numbered, tokens_of}
-use Rattle.fk_reading.specs.Reads.{Stop, Answer, Family, Reads}
-use Rattle.fk_reading.specs.Reads as stop
-use Rattle.fk_reading.specs.Faults.{Tells, tokens_from}
-use Rattle.fk_reading.specs.Gives.{Halts, Gives, next_place}
+use Rattle.fk_parse_combinators.specs.declared.fault.SyntaxFault.{SyntaxFault}
+use Rattle.fk_parse_combinators.specs.declared.fault.SyntaxFault.TheVariants.{Unexpected, EndOfText, Nesting, Memory}
+use Rattle.fk_parse_combinators.specs.declared.limits.TheConstants.{LEVELS}
+use Rattle.fk_parse_combinators.specs.Languages.{Placed, numbered, tokens_of}
+use Rattle.fk_parse_combinators.specs.Reads.{Stop, Answer, Family, Reads}
+use Rattle.fk_parse_combinators.specs.Reads as stop
+use Rattle.fk_parse_combinators.specs.Faults.{Tells, tokens_from}
+use Rattle.fk_parse_combinators.specs.Gives.{Halts, Gives, next_place}
 use Rattle.fk_expr.specs.Grammar.{base, Comma, Assignment}
 use Rattle.fk_expr.specs.Reading.{inner, read_base, read_comma, read_assignment}
-use Rattle.fk_reading.proofs.Cursors.{length-numbered}
+use Rattle.fk_parse_combinators.proofs.Cursors.{length-numbered}
 use Rattle.fk_expr.proofs.TypeNames.{reads_base}
-use Rattle.fk_reading.proofs.Longest.{reads}
+use Rattle.fk_parse_combinators.proofs.Longest.{reads}
 use Rattle.fk_expr.proofs.Expressions.{reads_comma, reads_assignment}
 use Rattle.std.specs.Result.{IsErrAnd, IfErr}
-use Rattle.fk_reading.specs.Kinds.{just}
+use Rattle.fk_parse_combinators.specs.Kinds.{just}
 use Rattle.fk_lex.specs.declared.token.TokenKind.TheVariants as kind
 
 tail_of : (at : ℕ) (ts : List Token) (s rest : List Placed) → numbered at (map spelled ts) ≡ s ++ rest

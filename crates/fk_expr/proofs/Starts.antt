@@ -2,7 +2,7 @@
 use Rattle.std.proofs.Common.{◌≡◌, ℕ, Bool, false, refl}
 use Rattle.fk_lex.specs.declared.token.TokenKind.{TokenKind}
 use Rattle.fk_lex.specs.declared.token.TokenKind.TheVariants as kind
-use Rattle.fk_reading.specs.Readers.{tells}
+use Rattle.fk_parse_combinators.specs.Readers.{tells}
 use Rattle.fk_expr.specs.Kinds.{number_told}
 
 -- what is no number tells none

@@ -3,19 +3,19 @@ use Rattle.std.proofs.Common.{ℕ, ◌+◌, ◌≤◌, Option, refl, arith}
 use Rattle.fk_syntax.specs.Tree.{SuffixTree, Index, Call, trees_of}
 use Rattle.fk_lex.specs.declared.token.TokenKind.{TokenKind}
 use Rattle.fk_lex.specs.declared.token.TokenKind.TheVariants as kind
-use Rattle.fk_reading.specs.Languages.{Language, token, ◌then◌, making, spot}
+use Rattle.fk_parse_combinators.specs.Languages.{Language, token, ◌then◌, making, spot}
 use Rattle.fk_expr.specs.Grammar.{Deeper, arguments, suffix, postfix}
-use Rattle.fk_reading.specs.Readers.{Reader, expect, giving, ◌and◌, opened}
+use Rattle.fk_parse_combinators.specs.Readers.{Reader, expect, giving, ◌and◌, opened}
 use Rattle.fk_expr.specs.Reading.{Readers, begins_primary, begins_suffix, begins_expression, read_arguments, read_suffix, read_postfix}
-use Rattle.fk_reading.proofs.Sets.{Kinds, ◌∪◌, none, none_apart}
-use Rattle.fk_reading.proofs.EachKind.{apart_by, within_by}
-use Rattle.fk_reading.proofs.Token.{example_token, shape_token}
-use Rattle.fk_reading.proofs.Shapes.{example_then, example_empty, empty_maybe, empty_making, shape_making, shape_then}
-use Rattle.fk_reading.proofs.Productions.{IsRead, IsLooselyRead, reads_token, reads_making, loosely_making, reads_then, reads_then_loose, reads_loose_then, in_parentheses, shape_in_parentheses, reads_or, reads_maybe, reads_many, reads_lower, reads_kinds, reads_wider}
+use Rattle.fk_parse_combinators.proofs.Sets.{Kinds, ◌∪◌, none, none_apart}
+use Rattle.fk_parse_combinators.proofs.EachKind.{apart_by, within_by}
+use Rattle.fk_parse_combinators.proofs.Token.{example_token, shape_token}
+use Rattle.fk_parse_combinators.proofs.Shapes.{example_then, example_empty, empty_maybe, empty_making, shape_making, shape_then}
+use Rattle.fk_parse_combinators.proofs.Productions.{IsRead, IsLooselyRead, reads_token, reads_making, loosely_making, reads_then, reads_then_loose, reads_loose_then, in_parentheses, shape_in_parentheses, reads_or, reads_maybe, reads_many, reads_lower, reads_kinds, reads_wider}
 use Rattle.fk_expr.proofs.Followers.{goes_assignment, goes_comma}
 use Rattle.fk_expr.proofs.Inner.{Below, Inner, examples_of, reads_opened}
 use Rattle.fk_expr.proofs.Primary.{reads_primary}
-use Rattle.fk_reading.specs.Kinds.{just}
+use Rattle.fk_parse_combinators.specs.Kinds.{just}
 
 -- what goes on with arguments
 abbrev goes_arguments : Kinds

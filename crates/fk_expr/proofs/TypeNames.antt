@@ -1,16 +1,16 @@
 -- The names of types: what they begin with, and that they are read exactly.
 use Rattle.std.proofs.Common.{ℕ, ◌≤◌, refl}
 use Rattle.fk_lex.specs.declared.token.TokenKind.TheVariants as kind
-use Rattle.fk_reading.specs.Languages.{token}
+use Rattle.fk_parse_combinators.specs.Languages.{token}
 use Rattle.fk_expr.specs.Grammar.{base, type_name}
 use Rattle.fk_expr.specs.Reading.{begins_type, read_base, read_type_name}
-use Rattle.fk_reading.proofs.Sets.{Kinds, ◌∪◌, none, none_apart}
-use Rattle.fk_reading.proofs.EachKind.{apart_by, within_by}
-use Rattle.fk_reading.proofs.Exact.{Example, Shape}
-use Rattle.fk_reading.proofs.Token.{example_token, shape_token}
-use Rattle.fk_reading.proofs.Shapes.{example_making, example_then, example_left, example_empty, empty_many, empty_maybe, shape_kinds, shape_making, shape_then, shape_or}
-use Rattle.fk_reading.proofs.Productions.{IsRead, reads_token, reads_making, reads_then, reads_then_loose, reads_or, reads_maybe, reads_many, reads_kinds, reads_wider}
-use Rattle.fk_reading.specs.Kinds.{just}
+use Rattle.fk_parse_combinators.proofs.Sets.{Kinds, ◌∪◌, none, none_apart}
+use Rattle.fk_parse_combinators.proofs.EachKind.{apart_by, within_by}
+use Rattle.fk_parse_combinators.proofs.Exact.{Example, Shape}
+use Rattle.fk_parse_combinators.proofs.Token.{example_token, shape_token}
+use Rattle.fk_parse_combinators.proofs.Shapes.{example_making, example_then, example_left, example_empty, empty_many, empty_maybe, shape_kinds, shape_making, shape_then, shape_or}
+use Rattle.fk_parse_combinators.proofs.Productions.{IsRead, reads_token, reads_making, reads_then, reads_then_loose, reads_or, reads_maybe, reads_many, reads_kinds, reads_wider}
+use Rattle.fk_parse_combinators.specs.Kinds.{just}
 
 abbrev bases : Kinds
 bases = just kind.Int ∪ (just kind.Unsigned ∪ (just kind.Void ∪ just kind.Struct))

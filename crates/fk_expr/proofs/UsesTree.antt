@@ -5,11 +5,11 @@ use Rattle.fk_syntax.specs.declared.nodes.Index.TheVariants.{Node, StructName}
 use Rattle.fk_syntax.specs.declared.sign.Sign.{Sign}
 use Rattle.fk_syntax.specs.Nodes.{base_indices, type_indices, tree_indices, links_indices, trees_indices, suffixes_indices}
 use Rattle.fk_syntax.specs.Tree.{BaseType, TypeTree, Tree, LinkTree, SuffixTree, Index as AtIndex, Call, Dot, Arrow, Up, Down, links_of, trees_of, suffixes_of, suffix}
-use Rattle.fk_reading.specs.Languages.{Placed, Language, token, telling, ◌then◌, making}
+use Rattle.fk_parse_combinators.specs.Languages.{Placed, Language, token, telling, ◌then◌, making}
 use Rattle.fk_expr.specs.Grammar as g
 use Rattle.fk_expr.specs.Grammar.{Deeper, deeper, linked, comma_linked, chained, suffixed, chosen, assigned, listed}
 use Rattle.fk_expr.specs.Kinds.{number_told, prefix_told, assignment_told}
-use Rattle.fk_reading.proofs.Uses.{one, Measure, Held, by_place, by_first, both, each, if_some, uncounted, held_uncounted, held_token, held_telling, ◌beside◌, held_or, held_making, held_many, held_maybe, held_nothing}
+use Rattle.fk_parse_combinators.proofs.Uses.{one, Measure, Held, by_place, by_first, both, each, if_some, uncounted, held_uncounted, held_token, held_telling, ◌beside◌, held_or, held_making, held_many, held_maybe, held_nothing}
 use Rattle.fk_lex.specs.declared.token.TokenKind.TheVariants as kind
 
 -- a way to count the indices in a list: at most as often as they stand there

@@ -1,7 +1,7 @@
 -- Readers of parts of expressions, with as many repetitions as there may be tokens.
 use Rattle.std.specs.Prelude.{◌≡◌, ℕ, ◌<◌, List, Option, false}
-use Rattle.fk_reading.specs.Languages.{Placed}
-use Rattle.fk_reading.specs.Readers.{Reader, giving, ◌and◌, repeated, tells, expect_told, next_is}
+use Rattle.fk_parse_combinators.specs.Languages.{Placed}
+use Rattle.fk_parse_combinators.specs.Readers.{Reader, giving, ◌and◌, repeated, tells, expect_told, next_is}
 use Rattle.fk_expr.specs.Reading.{Readers, inner, read_comma, read_assignment, read_choice, read_prefix, read_joined}
 use Rattle.fk_expr.specs.Grammar.{operator_at, linked}
 use Rattle.fk_syntax.specs.Tree.{LinkTree}

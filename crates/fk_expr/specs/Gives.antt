@@ -1,13 +1,13 @@
 -- What the code says of a token that opens a level.
 use Rattle.std.specs.Prelude.{◌≡◌, ℕ, List, Option, Some, None, Bool, true, false, ◌⊎◌, Result, Ok, Err}
 use Rattle.fk_lex.specs.declared.token.TokenKind.{TokenKind}
-use Rattle.fk_reading.specs.declared.fault.SyntaxFault.{SyntaxFault}
-use Rattle.fk_reading.specs.Languages.{Placed}
-use Rattle.fk_reading.specs.Reads as stop
+use Rattle.fk_parse_combinators.specs.declared.fault.SyntaxFault.{SyntaxFault}
+use Rattle.fk_parse_combinators.specs.Languages.{Placed}
+use Rattle.fk_parse_combinators.specs.Reads as stop
 use Rattle.fk_expr.specs.Reading.{Readers}
-use Rattle.fk_reading.specs.Readers.{unexpected, next_is}
+use Rattle.fk_parse_combinators.specs.Readers.{unexpected, next_is}
 use Rattle.fk_expr.specs.Ahead.{readers}
-use Rattle.fk_reading.specs.Gives.{Halts}
+use Rattle.fk_parse_combinators.specs.Gives.{Halts}
 
 -- a token of these kinds doesn't come next, or it does and opens a level too many
 abbrev pub CannotOpen : (TokenKind → Bool) → Option Readers → SyntaxFault → List Placed → Type 0

@@ -4,9 +4,9 @@ use Rattle.fk_syntax.specs.declared.sign.Sign.{Sign}
 use Rattle.fk_syntax.specs.declared.sign.Sign.TheVariants as sign
 use Rattle.fk_syntax.specs.Tree.{BaseType, Int, Unsigned, Void, Struct, TypeTree, Tree, Number, Puts, Sizeof, Variable, GroupNumber, GroupRank, Prefix, Cast, Chain, Postfix, Assign, Choose, LinkTree, SuffixTree, Index, Call, Dot, Arrow, Up, Down, links_of, trees_of, suffixes_of}
 use Rattle.fk_lex.specs.declared.token.TokenKind.{TokenKind}
-use Rattle.fk_reading.specs.Languages.{Placed, Language, nothing, token, telling, ◌then◌, ◌or◌, making, many, maybe, spot, name}
+use Rattle.fk_parse_combinators.specs.Languages.{Placed, Language, nothing, token, telling, ◌then◌, ◌or◌, making, many, maybe, spot, name}
 use Rattle.fk_expr.specs.Kinds.{number_told, prefix_told, assignment_told, operator_told}
-use Rattle.fk_reading.specs.Reads.{Family}
+use Rattle.fk_parse_combinators.specs.Reads.{Family}
 use Rattle.fk_lex.specs.declared.token.TokenKind.TheVariants as kind
 
 -- ---- types

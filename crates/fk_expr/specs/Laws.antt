@@ -1,7 +1,7 @@
 -- What holds of the definitions alone.
 use Rattle.std.specs.Prelude.{ℕ, ◌≤◌}
-use Rattle.fk_reading.specs.Reads.{HasOneAnswer}
-use Rattle.fk_reading.specs.declared.limits.TheConstants.{LEVELS}
+use Rattle.fk_parse_combinators.specs.Reads.{HasOneAnswer}
+use Rattle.fk_parse_combinators.specs.declared.limits.TheConstants.{LEVELS}
 use Rattle.fk_expr.specs.Grammar.{Comma, Assignment}
 
 -- inside so many open levels tokens have one answer as an expression with commas

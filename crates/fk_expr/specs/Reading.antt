@@ -4,12 +4,12 @@ use Rattle.std.specs.Prelude.{ℕ, zero, suc, List, [], ◌∷◌, Option, Some,
 use Rattle.fk_syntax.specs.declared.sign.Sign.{Sign}
 use Rattle.fk_syntax.specs.Tree.{BaseType, Int, Unsigned, Void, Struct, TypeTree, Tree, Number, Puts, Sizeof, Variable, GroupNumber, GroupRank, Prefix, Cast, LinkTree, SuffixTree, Index, Call, Dot, Arrow, Up, Down, trees_of}
 use Rattle.fk_lex.specs.declared.token.TokenKind.{TokenKind}
-use Rattle.fk_reading.specs.Languages.{Placed, spot, name}
+use Rattle.fk_parse_combinators.specs.Languages.{Placed, spot, name}
 use Rattle.fk_expr.specs.Kinds.{number_told, prefix_told, assignment_told}
 use Rattle.fk_expr.specs.Grammar.{suffixed, operator_at, linked, comma_linked, chained, chosen, assigned, listed}
-use Rattle.fk_reading.specs.Kinds.{just}
+use Rattle.fk_parse_combinators.specs.Kinds.{just}
 use Rattle.fk_lex.specs.declared.token.TokenKind.TheVariants as kind
-use Rattle.fk_reading.specs.Readers.{Reader, giving, ◌and◌, next_is, tells, expect, expect_told, either, by_next, optional, repeated, opened}
+use Rattle.fk_parse_combinators.specs.Readers.{Reader, giving, ◌and◌, next_is, tells, expect, expect_told, either, by_next, optional, repeated, opened}
 
 -- ---- types
 

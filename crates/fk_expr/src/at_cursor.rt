@@ -8,15 +8,15 @@ ghost use Rattle.std.specs.Prelude.{◌≤◌, ◌-◌, Ok, Err, IfOk, IfErr};
 ghost use Rattle.fk_syntax.specs.View.{base_of, tree_of};
 ghost use Rattle.fk_expr.specs.Grammar.{Assignment, Comma, base};
 ghost use Rattle.fk_expr.specs.Reading.{inner, read_base, read_comma, read_assignment};
-ghost use Rattle.fk_reading.specs.Reads.{Reads};
-ghost use Rattle.fk_reading.specs.Faults.{Tells};
-ghost use Rattle.fk_reading.specs.Ahead.{Shortens};
-ghost use Rattle.fk_reading.specs.Gives.{Gives};
+ghost use Rattle.fk_parse_combinators.specs.Reads.{Reads};
+ghost use Rattle.fk_parse_combinators.specs.Faults.{Tells};
+ghost use Rattle.fk_parse_combinators.specs.Ahead.{Shortens};
+ghost use Rattle.fk_parse_combinators.specs.Gives.{Gives};
 
 use crate::{production, types};
-use fk_reading::cursor::Cursor;
-use fk_reading::fault::SyntaxFault;
-use fk_reading::limits::LEVELS;
+use fk_parse_combinators::cursor::Cursor;
+use fk_parse_combinators::fault::SyntaxFault;
+use fk_parse_combinators::limits::LEVELS;
 use fk_syntax::expression::{Base, Expr};
 use std::alloc::Global;
 

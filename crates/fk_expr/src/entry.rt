@@ -3,14 +3,14 @@
 ghost use Rattle.std.specs.Prelude.{◌≤◌, ◌<◌, ◌^◌, Ok, Err, length, IfOk, IfErr};
 ghost use Rattle.fk_syntax.specs.View.{tree_of};
 ghost use Rattle.fk_expr.specs.Grammar.{Comma, Assignment};
-ghost use Rattle.fk_reading.specs.Reads.{Reads};
-ghost use Rattle.fk_reading.specs.Faults.{Tells, tokens_from};
+ghost use Rattle.fk_parse_combinators.specs.Reads.{Reads};
+ghost use Rattle.fk_parse_combinators.specs.Faults.{Tells, tokens_from};
 
 use crate::production;
 use fk_lex::token::Token;
-use fk_reading::cursor::Cursor;
-use fk_reading::fault::SyntaxFault;
-use fk_reading::limits::LEVELS;
+use fk_parse_combinators::cursor::Cursor;
+use fk_parse_combinators::fault::SyntaxFault;
+use fk_parse_combinators::limits::LEVELS;
 use fk_syntax::expression::Expr;
 use std::alloc::Global;
 

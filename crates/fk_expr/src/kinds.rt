@@ -1,7 +1,7 @@
 //! What a kind of token tells, and the kinds that begin a production.
 
 ghost use Rattle.std.specs.Prelude.{◌≡◌};
-ghost use Rattle.fk_reading.specs.Kinds.{just};
+ghost use Rattle.fk_parse_combinators.specs.Kinds.{just};
 ghost use Rattle.fk_expr.specs.Kinds.{number_told, prefix_told, assignment_told, operator_told};
 ghost use Rattle.fk_expr.specs.Grammar.{operator_at};
 ghost use Rattle.fk_expr.specs.Reading.{
@@ -100,7 +100,7 @@ pub fn operator_sign(kind: TokenKind, looseness: u32) -> Option<Sign>
 }
 
 /// Whether a type begins with a token of this kind.
-#[tactic(auto, unfolding(fk_reading::specs::Kinds::just))]
+#[tactic(auto, unfolding(fk_parse_combinators::specs::Kinds::just))]
 pub fn begins_type(kind: TokenKind) -> bool
     ensures { result ≡ begins_type kind }
 {
@@ -111,7 +111,7 @@ pub fn begins_type(kind: TokenKind) -> bool
 }
 
 /// Whether a primary expression does.
-#[tactic(auto, unfolding(fk_reading::specs::Kinds::just))]
+#[tactic(auto, unfolding(fk_parse_combinators::specs::Kinds::just))]
 pub fn begins_primary(kind: TokenKind) -> bool
     ensures { result ≡ begins_primary kind }
 {
@@ -134,7 +134,7 @@ pub fn begins_expression(kind: TokenKind) -> bool
 }
 
 /// Whether a suffix does.
-#[tactic(auto, unfolding(fk_reading::specs::Kinds::just))]
+#[tactic(auto, unfolding(fk_parse_combinators::specs::Kinds::just))]
 pub fn begins_suffix(kind: TokenKind) -> bool
     ensures { result ≡ begins_suffix kind }
 {
@@ -150,7 +150,7 @@ pub fn begins_suffix(kind: TokenKind) -> bool
 }
 
 /// Whether it is the word `sizeof`.
-#[tactic(auto, unfolding(fk_reading::specs::Kinds::just))]
+#[tactic(auto, unfolding(fk_parse_combinators::specs::Kinds::just))]
 fn is_sizeof(kind: TokenKind) -> bool
     ensures { result ≡ just TokenKind.Sizeof kind }
 {

@@ -1,16 +1,16 @@
 //! Tokens that open a level of nesting.
 
 ghost use Rattle.std.specs.Prelude.{◌≡◌, ◌+◌, ◌<◌, length, IfOk};
-ghost use Rattle.fk_reading.specs.Kinds.{just};
-ghost use Rattle.fk_reading.specs.Readers.{tells};
+ghost use Rattle.fk_parse_combinators.specs.Kinds.{just};
+ghost use Rattle.fk_parse_combinators.specs.Readers.{tells};
 ghost use Rattle.fk_expr.specs.Kinds.{prefix_told};
 ghost use Rattle.fk_expr.specs.Reading.{inner, begins_expression};
 ghost use Rattle.fk_expr.specs.Gives.{Nests, Opens};
 
 use crate::told::{expression_is_next, prefix_is_next};
 use fk_lex::token::TokenKind;
-use fk_reading::cursor::Cursor;
-use fk_reading::fault::SyntaxFault;
+use fk_parse_combinators::cursor::Cursor;
+use fk_parse_combinators::fault::SyntaxFault;
 
 /// How many levels of nesting are left inside the next token, which has to be of this kind and
 /// opens a level, where so many are left outside.

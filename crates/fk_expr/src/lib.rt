@@ -16,4 +16,4 @@ pub mod types;
 mod whole;
 
 pub use entry::{assignment, expression};
-pub use fk_reading::fault::SyntaxFault;
+pub use fk_parse_combinators::fault::SyntaxFault;

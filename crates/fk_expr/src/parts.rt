@@ -4,15 +4,15 @@ ghost use Rattle.std.specs.Prelude.{IfOk};
 ghost use Rattle.fk_syntax.specs.Tree.{TypeTree};
 ghost use Rattle.fk_syntax.specs.View.{tree_of, suffix_of, type_of};
 ghost use Rattle.fk_expr.specs.Reading.{inner, read_sizeof, read_enclosed_type, read_puts, read_enclosed_text, read_mark, read_dot, read_arrow};
-ghost use Rattle.fk_reading.specs.Languages.{Placed};
-ghost use Rattle.fk_reading.specs.Ahead.{seen, Shortens};
-ghost use Rattle.fk_reading.specs.Gives.{Gives, Makes};
+ghost use Rattle.fk_parse_combinators.specs.Languages.{Placed};
+ghost use Rattle.fk_parse_combinators.specs.Ahead.{seen, Shortens};
+ghost use Rattle.fk_parse_combinators.specs.Gives.{Gives, Makes};
 
 use crate::level::open;
 use crate::types::type_name;
 use fk_lex::token::TokenKind;
-use fk_reading::cursor::{Cursor, Numbered};
-use fk_reading::fault::SyntaxFault;
+use fk_parse_combinators::cursor::{Cursor, Numbered};
+use fk_parse_combinators::fault::SyntaxFault;
 use fk_syntax::expression::{Expr, Suffix, TypeName};
 
 /// "sizeof" "(" type stars ")"

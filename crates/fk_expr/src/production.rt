@@ -30,8 +30,8 @@ ghost use Rattle.fk_expr.specs.Reading.{
 };
 ghost use Rattle.fk_expr.specs.Ahead.{readers, read_link, read_links};
 ghost use Rattle.fk_expr.specs.Grammar.{chained};
-ghost use Rattle.fk_reading.specs.Ahead.{seen, Shortens};
-ghost use Rattle.fk_reading.specs.Gives.{Gives, Makes};
+ghost use Rattle.fk_parse_combinators.specs.Ahead.{seen, Shortens};
+ghost use Rattle.fk_parse_combinators.specs.Gives.{Gives, Makes};
 
 use crate::level::{open, open_expression, open_prefix};
 use crate::parts::{mark, puts, size_of};
@@ -43,8 +43,8 @@ use crate::told::{
 use crate::types::type_name;
 use crate::whole::{with_branches, with_links, with_suffixes, with_value};
 use fk_lex::token::TokenKind;
-use fk_reading::cursor::{Cursor, Numbered};
-use fk_reading::fault::SyntaxFault;
+use fk_parse_combinators::cursor::{Cursor, Numbered};
+use fk_parse_combinators::fault::SyntaxFault;
 use fk_syntax::expression::{Expr, Link, Suffix};
 use fk_syntax::sign::Sign;
 use std::alloc::Global;

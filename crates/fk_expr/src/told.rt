@@ -11,17 +11,17 @@ ghost use Rattle.fk_expr.specs.Reading.{
   cast_is_next,
 };
 ghost use Rattle.fk_expr.specs.Ahead.{NoOperator};
-ghost use Rattle.fk_reading.specs.Readers.{next_is, tells, next_tells, expect_told};
-ghost use Rattle.fk_reading.specs.Ahead.{seen, Shortens};
-ghost use Rattle.fk_reading.specs.Gives.{Gives};
+ghost use Rattle.fk_parse_combinators.specs.Readers.{next_is, tells, next_tells, expect_told};
+ghost use Rattle.fk_parse_combinators.specs.Ahead.{seen, Shortens};
+ghost use Rattle.fk_parse_combinators.specs.Gives.{Gives};
 
 use crate::kinds::{
     assignment_sign, begins_expression, begins_suffix, begins_type, number, operator,
     operator_sign, prefix_sign,
 };
 use fk_lex::token::TokenKind;
-use fk_reading::cursor::{Cursor, Numbered};
-use fk_reading::fault::SyntaxFault;
+use fk_parse_combinators::cursor::{Cursor, Numbered};
+use fk_parse_combinators::fault::SyntaxFault;
 use fk_syntax::sign::Sign;
 
 /// Reads the next token, which has to be a number: its value, and whether its type is `unsigned`.

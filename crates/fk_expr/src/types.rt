@@ -2,15 +2,15 @@
 
 ghost use Rattle.std.specs.Prelude.{length, IfOk};
 ghost use Rattle.fk_syntax.specs.View.{base_of, type_of};
-ghost use Rattle.fk_reading.specs.Kinds.{just};
-ghost use Rattle.fk_reading.specs.Readers.{expect, repeated};
-ghost use Rattle.fk_reading.specs.Ahead.{Shortens, Leaves};
-ghost use Rattle.fk_reading.specs.Gives.{Gives, Makes};
+ghost use Rattle.fk_parse_combinators.specs.Kinds.{just};
+ghost use Rattle.fk_parse_combinators.specs.Readers.{expect, repeated};
+ghost use Rattle.fk_parse_combinators.specs.Ahead.{Shortens, Leaves};
+ghost use Rattle.fk_parse_combinators.specs.Gives.{Gives, Makes};
 ghost use Rattle.fk_expr.specs.Reading.{read_base, read_type_name};
 
 use fk_lex::token::TokenKind;
-use fk_reading::cursor::Cursor;
-use fk_reading::fault::SyntaxFault;
+use fk_parse_combinators::cursor::Cursor;
+use fk_parse_combinators::fault::SyntaxFault;
 use fk_syntax::expression::{Base, TypeName};
 
 /// Reads a type and its stars.

@@ -2,16 +2,16 @@
 use Rattle.std.proofs.Common.{◌≡◌, ℕ, zero, suc, ◌+◌, ◌*◌, ◌≤◌, List, [], ◌∷◌, ◌++◌, length, Some, true, false, sym, ap, ◌∙◌, arith, refl, ◌⊎◌, inl, inr, ⊎_elim}
 use Rattle.std.proofs.lemmas.List.{length-append}
 use Rattle.fk_num.specs.Word.{word_sum}
-use Rattle.fk_operation.specs.Kinds.{class_of}
-use Rattle.fk_operation.specs.declared.kinds.Class.TheVariants.{Local, Request}
-use Rattle.fk_operation.specs.declared.kinds.FaultKind.{FaultKind}
-use Rattle.fk_operation.specs.declared.operation.Operation.{Operation}
-use Rattle.fk_store.specs.Store.{Store}
-use Rattle.fk_store.specs.Serve.{Served, Faults as Refused, serve}
-use Rattle.fk_run.specs.Processor.{Setting}
-use Rattle.fk_run.specs.Local.{local, is_onward}
-use Rattle.fk_run.specs.Request.{request, with_answer}
-use Rattle.fk_run.specs.Round.{done, taking, do_local, request_phase, do_request, answered}
+use Rattle.fk_meaning_operation.specs.Kinds.{class_of}
+use Rattle.fk_meaning_operation.specs.declared.kinds.Class.TheVariants.{Local, Request}
+use Rattle.fk_meaning_operation.specs.declared.kinds.FaultKind.{FaultKind}
+use Rattle.fk_meaning_operation.specs.declared.operation.Operation.{Operation}
+use Rattle.fk_meaning_store.specs.Store.{Store}
+use Rattle.fk_meaning_store.specs.Serve.{Served, Faults as Refused, serve}
+use Rattle.fk_meaning.specs.Processor.{Setting}
+use Rattle.fk_meaning.specs.Local.{local, is_onward}
+use Rattle.fk_meaning.specs.Request.{request, with_answer}
+use Rattle.fk_meaning.specs.Round.{done, taking, do_local, request_phase, do_request, answered}
 use Rattle.fk_core.specs.declared.op.CoreOp.{CoreOp}
 use Rattle.fk_core.specs.Next.{next, follows}
 use Rattle.fk_image.specs.declared.Image.{Image}
@@ -20,14 +20,14 @@ use Rattle.fk_machine.specs.declared.stand.Stand.TheVariants.{Faulted}
 use Rattle.fk_machine.specs.Hart.{Hart, Shared, Setting as MachineSetting, Goes, Stops}
 use Rattle.fk_machine.specs.Step.{perform}
 use Rattle.fk_machine.specs.Run.{count_in}
-use Rattle.fk_nodes.specs.Source.{Passes, Breaks, Shows}
-use Rattle.fk_nodes.specs.Alone.{Holds, IsAt, RunsPrivately, later, in_cycles}
-use Rattle.fk_nodes.proofs.InPlace.{step_at}
-use Rattle.fk_block_law.specs.Owner.{Commons, Owner, Doing, number_of, owner_of, commons_of, found, as_part, part, core_source}
-use Rattle.fk_block_law.specs.Stands.{Places, StandsFor, StandsAt}
-use Rattle.fk_block_law.specs.Next.{StandsOp, step_at as step_of}
-use Rattle.fk_block_law.specs.Block.{Enters, Does, most_before, most_behind}
-use Rattle.fk_block_law.proofs.Standing.{operations_are_next}
+use Rattle.fk_sim_nodes.specs.Source.{Passes, Breaks, Shows}
+use Rattle.fk_sim_nodes.specs.Alone.{Holds, IsAt, RunsPrivately, later, in_cycles}
+use Rattle.fk_sim_nodes.proofs.InPlace.{step_at}
+use Rattle.fk_sim_block.specs.Owner.{Commons, Owner, Doing, number_of, owner_of, commons_of, found, as_part, part, core_source}
+use Rattle.fk_sim_block.specs.Stands.{Places, StandsFor, StandsAt}
+use Rattle.fk_sim_block.specs.Next.{StandsOp, step_at as step_of}
+use Rattle.fk_sim_block.specs.Block.{Enters, Does, most_before, most_behind}
+use Rattle.fk_sim_block.proofs.Standing.{operations_are_next}
 use Rattle.fk_asm.specs.Block.{MarkedLine}
 use Rattle.fk_gen.specs.Lines.{commits}
 use Rattle.fk_gen.specs.InPlace.{LinesAt, HasBlock}

@@ -11,7 +11,7 @@ use Rattle.fk_asm.specs.Assembly.{jump_to}
 use Rattle.std.specs.Int.{w32, cast_unsigned}
 use Rattle.fk_asm.specs.Jump.{distance}
 use Rattle.fk_asm.proofs.Jumps.{word_sum-distance}
-use Rattle.fk_nodes.specs.Alone.{Holds, IsAt, IsPrivateIn}
+use Rattle.fk_sim_nodes.specs.Alone.{Holds, IsAt, IsPrivateIn}
 use Rattle.fk_gen.specs.InPlace.{resolved}
 use Rattle.fk_gen.proofs.Walk.{private}
 

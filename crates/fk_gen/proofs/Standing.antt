@@ -3,15 +3,15 @@ use Rattle.std.proofs.Common.{◌≡◌, ℕ, zero, suc, ◌+◌, ◌-◌, ◌*�
 use Rattle.std.specs.Prelude.{◌==◌}
 use Rattle.std.proofs.lemmas.Bool.{ne_eqb, eqb-true}
 use Rattle.fk_num.specs.Word.{Memory, put}
-use Rattle.fk_operation.specs.declared.operation.Variable.TheVariants.{Private, OfFile}
-use Rattle.fk_run.specs.Processor.{Call, values, with_values}
-use Rattle.fk_run.specs.Local.{stored}
+use Rattle.fk_meaning_operation.specs.declared.operation.Variable.TheVariants.{Private, OfFile}
+use Rattle.fk_meaning.specs.Processor.{Call, values, with_values}
+use Rattle.fk_meaning.specs.Local.{stored}
 use Rattle.fk_core.specs.declared.op.CoreOp.{CoreOp}
 use Rattle.fk_core.specs.Next.{position}
 use Rattle.fk_machine.specs.Hart.{Hart}
-use Rattle.fk_block_law.specs.Owner.{Owner}
-use Rattle.fk_block_law.specs.Stands.{Places, HasValues, HasRoom, HasFrame, HasWaiting, StandsFor, ahead, frame_end, frame_start}
-use Rattle.fk_block_law.specs.Suits.{Flows, nothing}
+use Rattle.fk_sim_block.specs.Owner.{Owner}
+use Rattle.fk_sim_block.specs.Stands.{Places, HasValues, HasRoom, HasFrame, HasWaiting, StandsFor, ahead, frame_end, frame_start}
+use Rattle.fk_sim_block.specs.Suits.{Flows, nothing}
 use Rattle.fk_gen.proofs.Values.{same_word, other_word, values_kept}
 
 -- ---- where the words of frames lie

@@ -3,9 +3,9 @@ use Rattle.std.proofs.Common.{◌≡◌, ℕ, zero, suc, ◌+◌, ◌-◌, ◌*�
 use Rattle.std.specs.Prelude.{◌==◌}
 use Rattle.std.proofs.lemmas.Bool.{cases_lt, lt-ltb, le-ltb, ne_eqb, eqb-true}
 use Rattle.fk_num.specs.Word.{Memory, put, word, word_sum}
-use Rattle.fk_run.specs.Processor.{last, before}
-use Rattle.fk_run.specs.Local.{joined}
-use Rattle.fk_block_law.specs.Stands.{Places, HasValues, local_address, frame_end, frame_start}
+use Rattle.fk_meaning.specs.Processor.{last, before}
+use Rattle.fk_meaning.specs.Local.{joined}
+use Rattle.fk_sim_block.specs.Stands.{Places, HasValues, local_address, frame_end, frame_start}
 use Rattle.fk_gen.specs.Lines.{at_value, at_private, high_part, low_part}
 
 -- ---- a word that is written

@@ -15,9 +15,9 @@ use Rattle.fk_machine.specs.Run.{count_in}
 use Rattle.fk_machine.proofs.Performs.{writes, moves, lw-local, sw-local}
 use Rattle.fk_machine.proofs.Places.{place_of-local}
 use Rattle.fk_asm.specs.Block.{MarkedLine}
-use Rattle.fk_nodes.specs.Alone.{Holds, IsAt, GoesAlone, IsPrivateIn, RunsPrivately, later, in_cycles}
-use Rattle.fk_nodes.proofs.InPlace.{step_at}
-use Rattle.fk_block_law.specs.Stands.{local_address}
+use Rattle.fk_sim_nodes.specs.Alone.{Holds, IsAt, GoesAlone, IsPrivateIn, RunsPrivately, later, in_cycles}
+use Rattle.fk_sim_nodes.proofs.InPlace.{step_at}
+use Rattle.fk_sim_block.specs.Stands.{local_address}
 use Rattle.fk_gen.specs.Lines.{quiet}
 use Rattle.fk_gen.specs.InPlace.{LinesAt}
 

@@ -7,8 +7,8 @@ use Rattle.fk_isa.specs.declared.instruction.Instruction.{Instruction}
 use Rattle.fk_asm.specs.declared.line.Line.{Line}
 use Rattle.fk_asm.specs.Jump.{distance, with_distance}
 use Rattle.fk_asm.specs.Block.{MarkedLine}
-use Rattle.fk_nodes.specs.Alone.{IsAt}
-use Rattle.fk_block_law.specs.Stands.{Places}
+use Rattle.fk_sim_nodes.specs.Alone.{IsAt}
+use Rattle.fk_sim_block.specs.Stands.{Places}
 use Rattle.fk_gen.specs.Lines.{label_of}
 
 -- the instruction of the line of a word: a jump to a label goes the distance to it

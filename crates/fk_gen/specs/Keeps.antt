@@ -1,19 +1,19 @@
 -- What a block tells beside that it does its operation: how many cycles it takes, and what it leaves of its hart beside what stands
 -- for a processor.
 use Rattle.std.specs.Prelude.{◌≡◌, ℕ, suc, ◌+◌, ◌-◌, ◌<◌, ◌≤◌, List, [], ◌∷◌, length, Bool, true}
-use Rattle.fk_operation.specs.declared.operation.Operation.{Operation}
-use Rattle.fk_operation.specs.declared.operation.Operation.TheVariants.{Push, Get, CopyLast}
-use Rattle.fk_run.specs.Processor.{Setting}
-use Rattle.fk_run.specs.Local.{is_onward}
+use Rattle.fk_meaning_operation.specs.declared.operation.Operation.{Operation}
+use Rattle.fk_meaning_operation.specs.declared.operation.Operation.TheVariants.{Push, Get, CopyLast}
+use Rattle.fk_meaning.specs.Processor.{Setting}
+use Rattle.fk_meaning.specs.Local.{is_onward}
 use Rattle.fk_core.specs.declared.op.CoreOp.{CoreOp}
 use Rattle.fk_image.specs.declared.Image.{Image}
 use Rattle.fk_machine.specs.Hart.{Hart, Setting as MachineSetting}
-use Rattle.fk_nodes.specs.OneHart.{OneDoes}
+use Rattle.fk_sim_nodes.specs.OneHart.{OneDoes}
 use Rattle.fk_asm.specs.Block.{MarkedLine}
-use Rattle.fk_block_law.specs.Owner.{Owner, core_source}
-use Rattle.fk_block_law.specs.Stands.{Places, frame_start, frame_end}
-use Rattle.fk_block_law.specs.Suits.{writes}
-use Rattle.fk_block_law.specs.Block.{Enters, HasDone, member_of, most_before, most_behind}
+use Rattle.fk_sim_block.specs.Owner.{Owner, core_source}
+use Rattle.fk_sim_block.specs.Stands.{Places, frame_start, frame_end}
+use Rattle.fk_sim_block.specs.Suits.{writes}
+use Rattle.fk_sim_block.specs.Block.{Enters, HasDone, member_of, most_before, most_behind}
 use Rattle.fk_gen.specs.Registers.{a0, a1}
 
 -- how many lines of a block follow its first one

@@ -3,24 +3,24 @@ use Rattle.std.proofs.Common.{◌≡◌, ℕ, suc, ◌+◌, ◌-◌, ◌<◌, Li
 use Rattle.std.specs.Prelude.{if◌then◌else◌}
 use Rattle.fk_num.specs.Word.{Memory, word_sum, put}
 use Rattle.fk_num.specs.Op.{applied}
-use Rattle.fk_operation.specs.declared.operation.Multiprefix.{Multiprefix}
-use Rattle.fk_operation.specs.declared.operation.Multiprefix.TheVariants.{MpAdd, MpMax, MpAnd, MpOr}
-use Rattle.fk_operation.specs.declared.operation.Operation.TheVariants.{Read, Write, Combine}
-use Rattle.fk_store.specs.Store.{Store}
-use Rattle.fk_store.specs.Serve.{Served, read, write, shared_index, private_index, operator_of}
-use Rattle.fk_run.specs.Processor.{Setting, values, last, before}
-use Rattle.fk_run.specs.Round.{answered}
+use Rattle.fk_meaning_operation.specs.declared.operation.Multiprefix.{Multiprefix}
+use Rattle.fk_meaning_operation.specs.declared.operation.Multiprefix.TheVariants.{MpAdd, MpMax, MpAnd, MpOr}
+use Rattle.fk_meaning_operation.specs.declared.operation.Operation.TheVariants.{Read, Write, Combine}
+use Rattle.fk_meaning_store.specs.Store.{Store}
+use Rattle.fk_meaning_store.specs.Serve.{Served, read, write, shared_index, private_index, operator_of}
+use Rattle.fk_meaning.specs.Processor.{Setting, values, last, before}
+use Rattle.fk_meaning.specs.Round.{answered}
 use Rattle.fk_core.specs.declared.op.CoreOp.{CoreOp}
 use Rattle.fk_image.specs.declared.Image.{Image}
 use Rattle.fk_machine.specs.Place.{place_of}
 use Rattle.fk_machine.specs.Hart.{Hart, Goes, Setting as MachineSetting}
 use Rattle.fk_machine.proofs.Performs.{writes, moves, sw-shared, sw-local}
-use Rattle.fk_nodes.specs.Source.{Part, Passes}
-use Rattle.fk_block_law.specs.Owner.{Commons, Owner, Doing, number_of, idle, found, as_part}
-use Rattle.fk_block_law.specs.Stands.{Places, HasRoom, StandsFor, frame_end, top_register}
-use Rattle.fk_block_law.specs.Next.{StandsOp, step_at as step_of}
-use Rattle.fk_block_law.specs.Suits.{Fits, Flows, nothing}
-use Rattle.fk_block_law.specs.Block.{Enters}
+use Rattle.fk_sim_nodes.specs.Source.{Part, Passes}
+use Rattle.fk_sim_block.specs.Owner.{Commons, Owner, Doing, number_of, idle, found, as_part}
+use Rattle.fk_sim_block.specs.Stands.{Places, HasRoom, StandsFor, frame_end, top_register}
+use Rattle.fk_sim_block.specs.Next.{StandsOp, step_at as step_of}
+use Rattle.fk_sim_block.specs.Suits.{Fits, Flows, nothing}
+use Rattle.fk_sim_block.specs.Block.{Enters}
 use Rattle.fk_gen.specs.Lines.{at_value}
 use Rattle.fk_gen_access.specs.Blocks.{lines, read_block, write_block, combine_block}
 use Rattle.fk_gen_access.proofs.Addresses.{IsShared, IsPrivate, used, shared_place, private_place}

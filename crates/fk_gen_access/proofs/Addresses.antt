@@ -5,7 +5,7 @@ use Rattle.std.proofs.lemmas.Bool.{and_parts, and_from, or_cases, or_left, or_ri
 use Rattle.fk_machine.specs.declared.place.Place.TheVariants.{SharedWord, LocalWord}
 use Rattle.fk_machine.specs.Place.{place_of}
 use Rattle.fk_machine.proofs.Places.{place_of-shared, place_of-local}
-use Rattle.fk_store.specs.Serve.{is_in, is_shared, is_private, may_use, shared_index, private_index}
+use Rattle.fk_meaning_store.specs.Serve.{is_in, is_shared, is_private, may_use, shared_index, private_index}
 
 -- a word of shared data
 pub record IsShared (a : ℕ) : Type 0 where

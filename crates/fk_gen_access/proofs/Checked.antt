@@ -3,7 +3,7 @@ use Rattle.std.proofs.Common.{◌≡◌, ℕ, ◌+◌, ◌*◌, ◌/◌, ◌%◌
 use Rattle.std.specs.Prelude.{◌==◌, bit_and}
 use Rattle.std.proofs.lemmas.Nat.{and_block, and_mask}
 use Rattle.std.proofs.lemmas.Bool.{eq-eqb, eqb-true, false_from_ne_true}
-use Rattle.fk_store.specs.Serve.{may_use}
+use Rattle.fk_meaning_store.specs.Serve.{may_use}
 use Rattle.fk_gen_access.proofs.Addresses.{IsShared, IsPrivate, used, may_shared, may_private}
 
 abbrev pub shared_bits : ℕ → ℕ

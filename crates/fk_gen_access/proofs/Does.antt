@@ -2,24 +2,24 @@
 use Rattle.std.proofs.Common.{◌≡◌, ℕ, suc, ◌+◌, ◌*◌, ◌≤◌, List, ◌∷◌, length, map, false, Some, ap, subst, sym, ◌∙◌, arith, refl, ◌⊎◌, inl, inr, length-append}
 use Rattle.std.proofs.lemmas.List.{length-map}
 use Rattle.fk_num.specs.Word.{word_sum}
-use Rattle.fk_operation.specs.declared.operation.Operation.{Operation}
-use Rattle.fk_run.specs.Processor.{Setting}
-use Rattle.fk_run.specs.Round.{taking}
+use Rattle.fk_meaning_operation.specs.declared.operation.Operation.{Operation}
+use Rattle.fk_meaning.specs.Processor.{Setting}
+use Rattle.fk_meaning.specs.Round.{taking}
 use Rattle.fk_core.specs.declared.op.CoreOp.{CoreOp}
 use Rattle.fk_image.specs.declared.Image.{Image}
 use Rattle.fk_machine.specs.declared.stand.Stand.TheVariants.{Faulted}
 use Rattle.fk_machine.specs.Hart.{Hart, Shared, Goes, Stops, Setting as MachineSetting}
 use Rattle.fk_machine.specs.Step.{perform}
 use Rattle.fk_machine.specs.Run.{count_in}
-use Rattle.fk_nodes.specs.Alone.{RunsPrivately, in_cycles, later}
-use Rattle.fk_nodes.specs.Source.{Part, Passes, Breaks, Shows}
-use Rattle.fk_nodes.proofs.InPlace.{step_at}
-use Rattle.fk_block_law.specs.Owner.{Commons, Owner, Doing, number_of, idle, as_part, phases, core_source}
-use Rattle.fk_block_law.specs.Stands.{Places, StandsFor}
-use Rattle.fk_block_law.specs.Next.{StandsOp, step_at as step_of}
-use Rattle.fk_block_law.specs.Suits.{nothing}
-use Rattle.fk_block_law.specs.Block.{Enters, most_before, most_behind}
-use Rattle.fk_block_law.proofs.Standing.{operations_are_next}
+use Rattle.fk_sim_nodes.specs.Alone.{RunsPrivately, in_cycles, later}
+use Rattle.fk_sim_nodes.specs.Source.{Part, Passes, Breaks, Shows}
+use Rattle.fk_sim_nodes.proofs.InPlace.{step_at}
+use Rattle.fk_sim_block.specs.Owner.{Commons, Owner, Doing, number_of, idle, as_part, phases, core_source}
+use Rattle.fk_sim_block.specs.Stands.{Places, StandsFor}
+use Rattle.fk_sim_block.specs.Next.{StandsOp, step_at as step_of}
+use Rattle.fk_sim_block.specs.Suits.{nothing}
+use Rattle.fk_sim_block.specs.Block.{Enters, most_before, most_behind}
+use Rattle.fk_sim_block.proofs.Standing.{operations_are_next}
 use Rattle.fk_gen.specs.Lines.{quiet, commits}
 use Rattle.fk_gen.specs.InPlace.{LinesAt, HasBlock}
 use Rattle.fk_gen.specs.Keeps.{Keeps, DoesAnd}

@@ -1,7 +1,7 @@
 -- Where the values of a call stand in its hart's memory.
 use Rattle.std.proofs.Common.{◌≡◌, ℕ, suc, ◌-◌, ◌<◌, ◌≤◌, List, ◌∷◌, length, ap, subst, sym, ◌∙◌, arith}
 use Rattle.fk_num.specs.Word.{Memory, put, word_sum}
-use Rattle.fk_block_law.specs.Stands.{HasValues, frame_end, local_address}
+use Rattle.fk_sim_block.specs.Stands.{HasValues, frame_end, local_address}
 use Rattle.fk_gen.specs.Lines.{at_value}
 use Rattle.fk_gen.proofs.Values.{same_word, values_pushed}
 use Rattle.fk_gen_access.proofs.Walk.{IsLocalAddress, local_index}

@@ -2,13 +2,13 @@
 use Rattle.std.proofs.Common.{◌≡◌, ℕ, zero, suc, ◌+◌, ◌-◌, ◌<◌, ◌≤◌, List, [], ◌∷◌, length, true, ap, subst, ◌∙◌, arith, refl}
 use Rattle.std.specs.Prelude.{◌==◌}
 use Rattle.fk_num.specs.Word.{Memory, put}
-use Rattle.fk_run.specs.Processor.{Call}
+use Rattle.fk_meaning.specs.Processor.{Call}
 use Rattle.fk_core.specs.declared.op.CoreOp.{CoreOp}
 use Rattle.fk_core.specs.Next.{position}
 use Rattle.fk_machine.specs.Hart.{Hart}
-use Rattle.fk_block_law.specs.Owner.{Owner}
-use Rattle.fk_block_law.specs.Stands.{Places, HasValues, HasFrame, HasRoom, HasWaiting, StandsFor, frame_end, frame_start, ahead, frame_register, end_register, number_register, rank_register, size_register, top_register, local_register, shared_register, heap_register, shared_mask_register, device_register, heap_mask_register}
-use Rattle.fk_block_law.specs.Suits.{Flows, nothing}
+use Rattle.fk_sim_block.specs.Owner.{Owner}
+use Rattle.fk_sim_block.specs.Stands.{Places, HasValues, HasFrame, HasRoom, HasWaiting, StandsFor, frame_end, frame_start, ahead, frame_register, end_register, number_register, rank_register, size_register, top_register, local_register, shared_register, heap_register, shared_mask_register, device_register, heap_mask_register}
+use Rattle.fk_sim_block.specs.Suits.{Flows, nothing}
 use Rattle.fk_gen.specs.Registers.{a0, a1}
 use Rattle.fk_gen.specs.Keeps.{Keeps}
 use Rattle.fk_gen.proofs.Values.{other_word}

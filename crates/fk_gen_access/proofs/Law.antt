@@ -1,5 +1,5 @@
 -- The law of accesses.
-use Rattle.fk_operation.specs.declared.operation.Operation.TheVariants.{Take, Check, Read, Write, Combine, PrintNumber, PrintByte}
+use Rattle.fk_meaning_operation.specs.declared.operation.Operation.TheVariants.{Take, Check, Read, Write, Combine, PrintNumber, PrintByte}
 use Rattle.fk_gen_access.specs.Law.{AccessBlocksDo, AccessBlocksKeep}
 use Rattle.fk_gen.proofs.Does.{does_of}
 use Rattle.fk_gen_access.proofs.Prints.{print_number_does, print_byte_does}

@@ -3,18 +3,18 @@ use Rattle.std.proofs.Common.{◌≡◌, ℕ, suc, ◌+◌, ◌-◌, ◌*◌, Li
 use Rattle.fk_num.specs.Word.{word_sum}
 use Rattle.fk_num.specs.Op.{applied}
 use Rattle.fk_num.specs.declared.operator.Op.TheVariants.{Sub, And, Shl, LtU}
-use Rattle.fk_operation.specs.declared.operation.Operation.TheVariants.{Take}
-use Rattle.fk_run.specs.Processor.{Processor, Setting, values, last, before}
+use Rattle.fk_meaning_operation.specs.declared.operation.Operation.TheVariants.{Take}
+use Rattle.fk_meaning.specs.Processor.{Processor, Setting, values, last, before}
 use Rattle.fk_core.specs.declared.op.CoreOp.{CoreOp}
 use Rattle.fk_core.specs.Next.{position}
 use Rattle.fk_image.specs.declared.Image.{Image}
 use Rattle.fk_machine.specs.Hart.{Hart, Setting as MachineSetting}
-use Rattle.fk_nodes.specs.Source.{Part, Passes}
-use Rattle.fk_block_law.specs.Owner.{Commons, Owner, Doing, number_of, idle}
-use Rattle.fk_block_law.specs.Stands.{Places, frame_end}
-use Rattle.fk_block_law.specs.Next.{StandsOp}
-use Rattle.fk_block_law.specs.Suits.{Fits, nothing}
-use Rattle.fk_block_law.specs.Block.{Enters}
+use Rattle.fk_sim_nodes.specs.Source.{Part, Passes}
+use Rattle.fk_sim_block.specs.Owner.{Commons, Owner, Doing, number_of, idle}
+use Rattle.fk_sim_block.specs.Stands.{Places, frame_end}
+use Rattle.fk_sim_block.specs.Next.{StandsOp}
+use Rattle.fk_sim_block.specs.Suits.{Fits, nothing}
+use Rattle.fk_sim_block.specs.Block.{Enters}
 use Rattle.fk_gen.specs.Lines.{at_value}
 use Rattle.fk_gen_access.specs.Blocks.{lines, take_block}
 use Rattle.fk_gen_access.proofs.Takes.{size_word, left_word, take_word, top_word, takes}

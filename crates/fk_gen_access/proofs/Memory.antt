@@ -13,11 +13,11 @@ use Rattle.fk_machine.specs.Hart.{Hart, Shared, Goes, Setting}
 use Rattle.fk_machine.specs.Reach.{cleared}
 use Rattle.fk_machine.specs.Step.{perform}
 use Rattle.fk_machine.proofs.Performs.{writes, lw-shared, lw-local}
-use Rattle.fk_operation.specs.declared.operation.Multiprefix.{Multiprefix}
-use Rattle.fk_operation.specs.declared.operation.Multiprefix.TheVariants.{MpAdd, MpMax, MpAnd, MpOr}
-use Rattle.fk_store.specs.Store.{Store}
-use Rattle.fk_store.specs.Serve.{may_use, shared_index, private_index, read, write, operator_of}
-use Rattle.fk_block_law.specs.Owner.{Commons, found}
+use Rattle.fk_meaning_operation.specs.declared.operation.Multiprefix.{Multiprefix}
+use Rattle.fk_meaning_operation.specs.declared.operation.Multiprefix.TheVariants.{MpAdd, MpMax, MpAnd, MpOr}
+use Rattle.fk_meaning_store.specs.Store.{Store}
+use Rattle.fk_meaning_store.specs.Serve.{may_use, shared_index, private_index, read, write, operator_of}
+use Rattle.fk_sim_block.specs.Owner.{Commons, found}
 use Rattle.fk_gen_access.specs.Blocks.{combining}
 use Rattle.fk_gen_access.proofs.Addresses.{IsShared, IsPrivate, used, shared_is, not_shared, shared_place, private_place, private_few}
 use Rattle.fk_gen.proofs.Values.{other_word}

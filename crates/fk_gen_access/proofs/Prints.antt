@@ -1,9 +1,9 @@
 -- The blocks that print do so.
 use Rattle.std.proofs.Common.{◌≡◌, ℕ, suc, ◌%◌, ◌<◌, List, [], ◌∷◌, ◌++◌, length, true, ap, sym, ◌∙◌, append_assoc, arith, refl, eq-eqb, inl}
 use Rattle.fk_num.specs.Word.{word_sum, signed_line}
-use Rattle.fk_operation.specs.declared.operation.Operation.{Operation}
-use Rattle.fk_operation.specs.declared.operation.Operation.TheVariants.{PrintNumber, PrintByte}
-use Rattle.fk_run.specs.Processor.{Setting, values, last, before}
+use Rattle.fk_meaning_operation.specs.declared.operation.Operation.{Operation}
+use Rattle.fk_meaning_operation.specs.declared.operation.Operation.TheVariants.{PrintNumber, PrintByte}
+use Rattle.fk_meaning.specs.Processor.{Setting, values, last, before}
 use Rattle.fk_core.specs.declared.op.CoreOp.{CoreOp}
 use Rattle.fk_image.specs.declared.Image.{Image}
 use Rattle.fk_isa.specs.declared.instruction.Instruction.TheVariants.{Sw}
@@ -14,12 +14,12 @@ use Rattle.fk_machine.specs.Hart.{Hart, Shared, Goes, Setting as MachineSetting}
 use Rattle.fk_machine.specs.Step.{perform}
 use Rattle.fk_machine.proofs.Performs.{moves, sw-out_int}
 use Rattle.fk_machine.proofs.Places.{place_of-out_int}
-use Rattle.fk_nodes.specs.Source.{Passes}
-use Rattle.fk_block_law.specs.Owner.{Commons, Owner, number_of, idle}
-use Rattle.fk_block_law.specs.Stands.{Places, frame_end}
-use Rattle.fk_block_law.specs.Next.{StandsOp}
-use Rattle.fk_block_law.specs.Suits.{Fits, Flows, nothing}
-use Rattle.fk_block_law.specs.Block.{Enters}
+use Rattle.fk_sim_nodes.specs.Source.{Passes}
+use Rattle.fk_sim_block.specs.Owner.{Commons, Owner, number_of, idle}
+use Rattle.fk_sim_block.specs.Stands.{Places, frame_end}
+use Rattle.fk_sim_block.specs.Next.{StandsOp}
+use Rattle.fk_sim_block.specs.Suits.{Fits, Flows, nothing}
+use Rattle.fk_sim_block.specs.Block.{Enters}
 use Rattle.fk_gen_access.specs.Blocks.{lines, print_block, number_device, byte_device}
 use Rattle.fk_gen.specs.InPlace.{HasBlock}
 use Rattle.fk_gen.specs.Keeps.{Keeps, DoesAnd}

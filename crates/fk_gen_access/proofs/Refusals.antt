@@ -4,11 +4,11 @@ use Rattle.std.specs.Prelude.{◌==◌, bit_and, if◌then◌else◌}
 use Rattle.std.proofs.lemmas.List.{length-append}
 use Rattle.std.proofs.lemmas.List.Elements.{All-head}
 use Rattle.fk_num.specs.Word.{word_sum}
-use Rattle.fk_operation.specs.declared.operation.Operation.TheVariants.{Check}
-use Rattle.fk_operation.specs.declared.kinds.FaultKind.TheVariants.{BadAddress}
-use Rattle.fk_store.specs.Serve.{Served, Faults, serve, may_use}
-use Rattle.fk_run.specs.Processor.{Setting, values, last}
-use Rattle.fk_run.specs.Request.{request}
+use Rattle.fk_meaning_operation.specs.declared.operation.Operation.TheVariants.{Check}
+use Rattle.fk_meaning_operation.specs.declared.kinds.FaultKind.TheVariants.{BadAddress}
+use Rattle.fk_meaning_store.specs.Serve.{Served, Faults, serve, may_use}
+use Rattle.fk_meaning.specs.Processor.{Setting, values, last}
+use Rattle.fk_meaning.specs.Request.{request}
 use Rattle.fk_core.specs.declared.op.CoreOp.{CoreOp}
 use Rattle.fk_image.specs.declared.Image.{Image}
 use Rattle.fk_isa.specs.declared.instruction.Instruction.TheVariants.{Lui, Addi, And, Beq}
@@ -17,13 +17,13 @@ use Rattle.fk_machine.specs.declared.stand.Stand.TheVariants.{Faulted}
 use Rattle.fk_machine.specs.Hart.{Hart, Stops, Setting as MachineSetting}
 use Rattle.fk_machine.proofs.Performs.{sw-fault}
 use Rattle.fk_machine.proofs.Places.{place_of-fault}
-use Rattle.fk_nodes.specs.Alone.{Holds, IsAt, IsPrivateIn, RunsPrivately, in_cycles}
+use Rattle.fk_sim_nodes.specs.Alone.{Holds, IsAt, IsPrivateIn, RunsPrivately, in_cycles}
 use Rattle.fk_asm.specs.Block.{MarkedLine}
-use Rattle.fk_block_law.specs.Owner.{Commons, Owner, number_of, found}
-use Rattle.fk_block_law.specs.Stands.{Places, frame_end, local_address}
-use Rattle.fk_block_law.specs.Next.{StandsOp}
-use Rattle.fk_block_law.specs.Suits.{Fits, nothing}
-use Rattle.fk_block_law.specs.Block.{Enters}
+use Rattle.fk_sim_block.specs.Owner.{Commons, Owner, number_of, found}
+use Rattle.fk_sim_block.specs.Stands.{Places, frame_end, local_address}
+use Rattle.fk_sim_block.specs.Next.{StandsOp}
+use Rattle.fk_sim_block.specs.Suits.{Fits, nothing}
+use Rattle.fk_sim_block.specs.Block.{Enters}
 use Rattle.fk_gen.specs.InPlace.{HasBlock, LinesAt}
 use Rattle.fk_gen.specs.Keeps.{Keeps, DoesAnd}
 use Rattle.fk_gen.specs.Lines.{quiet, commits, at_value, high_part, low_part, load_by}

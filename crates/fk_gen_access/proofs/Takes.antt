@@ -8,10 +8,10 @@ use Rattle.std.proofs.lemmas.Bool.{lt-ltb, le-ltb, eq-eqb, ne_eqb, cases_lt}
 use Rattle.fk_num.specs.Word.{word_sum}
 use Rattle.fk_num.specs.Op.{applied}
 use Rattle.fk_num.specs.declared.operator.Op.TheVariants.{Sub, And, Shl, ShrU, LtU}
-use Rattle.fk_store.specs.Store.{private_words, private_address}
-use Rattle.fk_store.specs.Serve.{words_of}
-use Rattle.fk_run.specs.Processor.{Processor, in_place}
-use Rattle.fk_run.specs.Local.{taken}
+use Rattle.fk_meaning_store.specs.Store.{private_words, private_address}
+use Rattle.fk_meaning_store.specs.Serve.{words_of}
+use Rattle.fk_meaning.specs.Processor.{Processor, in_place}
+use Rattle.fk_meaning.specs.Local.{taken}
 use Rattle.fk_gen_access.proofs.Difference.{difference}
 
 -- the words of a size, how many there are left, all ones where they are enough, and else 0

@@ -4,7 +4,7 @@ use Rattle.fk_num.specs.Word.{word_sum}
 use Rattle.fk_isa.specs.declared.instruction.Instruction.{Instruction}
 use Rattle.fk_isa.specs.declared.instruction.Instruction.TheVariants.{Lw, Sw}
 use Rattle.fk_machine.specs.Hart.{Hart}
-use Rattle.fk_block_law.specs.Stands.{local_address}
+use Rattle.fk_sim_block.specs.Stands.{local_address}
 use Rattle.fk_gen.specs.Lines.{quiet}
 use Rattle.fk_gen.proofs.Walk.{Told, Reached, Plain, LocalAt, Quiets, after, quiet_lines, walk, CanWalk}
 

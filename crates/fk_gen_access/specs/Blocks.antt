@@ -1,13 +1,13 @@
 -- The blocks of accesses: `malloc`, checks of addresses, reads, writes, multiprefixes and prints.
 use Rattle.std.specs.Prelude.{◌≡◌, ℕ, ◌-◌, ◌≤◌, ◌+◌, List, [], ◌∷◌, ◌++◌, map, length, Bool, true, false, Option, Some}
-use Rattle.fk_operation.specs.declared.operation.Multiprefix.{Multiprefix}
-use Rattle.fk_operation.specs.declared.operation.Multiprefix.TheVariants.{MpAdd, MpMax, MpAnd, MpOr}
-use Rattle.fk_operation.specs.declared.operation.Operation.{Operation}
-use Rattle.fk_operation.specs.declared.operation.Operation.TheVariants.{Take, Check, Read, Write, Combine, PrintNumber, PrintByte}
+use Rattle.fk_meaning_operation.specs.declared.operation.Multiprefix.{Multiprefix}
+use Rattle.fk_meaning_operation.specs.declared.operation.Multiprefix.TheVariants.{MpAdd, MpMax, MpAnd, MpOr}
+use Rattle.fk_meaning_operation.specs.declared.operation.Operation.{Operation}
+use Rattle.fk_meaning_operation.specs.declared.operation.Operation.TheVariants.{Take, Check, Read, Write, Combine, PrintNumber, PrintByte}
 use Rattle.fk_isa.specs.declared.instruction.Instruction.{Instruction}
 use Rattle.fk_isa.specs.declared.instruction.Instruction.TheVariants.{Lui, Addi, Slli, Srli, Add, Sub, Sltu, And, Beq, Lw, Sw, AmoAddW, AmoAndW, AmoOrW, AmoMaxW}
 use Rattle.fk_asm.specs.Block.{MarkedLine}
-use Rattle.fk_block_law.specs.Stands.{end_register, top_register, shared_register, heap_register, shared_mask_register, device_register, heap_mask_register}
+use Rattle.fk_sim_block.specs.Stands.{end_register, top_register, shared_register, heap_register, shared_mask_register, device_register, heap_mask_register}
 use Rattle.fk_core.specs.Numbers.{operation_of}
 use Rattle.fk_gen.specs.declared.placed.Placed.{Placed}
 use Rattle.fk_gen.specs.Registers.{zero_register, t0, t1, t2, t3}

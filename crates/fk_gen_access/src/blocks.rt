@@ -13,7 +13,7 @@ use fk_gen::registers::{
 };
 use fk_gen::{BlockLine, Placed, emit_lines, emit_number};
 use fk_isa::Instruction;
-use fk_operation::{Multiprefix, Operation};
+use fk_meaning_operation::{Multiprefix, Operation};
 use std::alloc::AllocError;
 
 /// How far from the first device on the one stands that prints a number.

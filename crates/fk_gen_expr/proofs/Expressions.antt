@@ -6,27 +6,27 @@ use Rattle.std.proofs.lemmas.Bool.{eqb-true, eq-eqb}
 use Rattle.fk_num.specs.Word.{put, word, word_sum}
 use Rattle.fk_num.specs.Op.{applied}
 use Rattle.fk_num.specs.declared.operator.Op.{Op}
-use Rattle.fk_operation.specs.declared.operation.Known.{Known}
-use Rattle.fk_operation.specs.declared.operation.Known.TheVariants.{Value, Rank, GroupNumber, ProcessorNumber, Processors, GroupSize, InputLength, FrameAddress, InputAddress}
-use Rattle.fk_operation.specs.declared.operation.Operation.{Operation}
-use Rattle.fk_operation.specs.declared.operation.Operation.TheVariants.{Push, Get, Set, DropLast, CopyLast, Apply, Join, Index}
-use Rattle.fk_operation.specs.declared.operation.Unary.{Unary}
-use Rattle.fk_operation.specs.declared.operation.Variable.{Variable}
-use Rattle.fk_operation.specs.declared.operation.Variable.TheVariants.{Private, OfFile}
-use Rattle.fk_store.specs.Store.{address_of}
-use Rattle.fk_run.specs.Processor.{Setting, values, last, before, with_values}
-use Rattle.fk_run.specs.Local.{local, applied_to, in_order}
+use Rattle.fk_meaning_operation.specs.declared.operation.Known.{Known}
+use Rattle.fk_meaning_operation.specs.declared.operation.Known.TheVariants.{Value, Rank, GroupNumber, ProcessorNumber, Processors, GroupSize, InputLength, FrameAddress, InputAddress}
+use Rattle.fk_meaning_operation.specs.declared.operation.Operation.{Operation}
+use Rattle.fk_meaning_operation.specs.declared.operation.Operation.TheVariants.{Push, Get, Set, DropLast, CopyLast, Apply, Join, Index}
+use Rattle.fk_meaning_operation.specs.declared.operation.Unary.{Unary}
+use Rattle.fk_meaning_operation.specs.declared.operation.Variable.{Variable}
+use Rattle.fk_meaning_operation.specs.declared.operation.Variable.TheVariants.{Private, OfFile}
+use Rattle.fk_meaning_store.specs.Store.{address_of}
+use Rattle.fk_meaning.specs.Processor.{Setting, values, last, before, with_values}
+use Rattle.fk_meaning.specs.Local.{local, applied_to, in_order}
 use Rattle.fk_core.specs.declared.op.CoreOp.{CoreOp}
 use Rattle.fk_core.specs.Next.{position}
 use Rattle.fk_image.specs.declared.Image.{Image}
 use Rattle.fk_isa.specs.declared.instruction.Instruction.{Instruction}
 use Rattle.fk_isa.specs.declared.instruction.Instruction.TheVariants.{Lui, Addi, Slli, Add, Mul, Lw, Sw}
 use Rattle.fk_machine.specs.Hart.{Hart, Setting as MachineSetting}
-use Rattle.fk_block_law.specs.Owner.{Owner, number_of, owner_of}
-use Rattle.fk_block_law.specs.Stands.{Places, HasRoom, frame_end, frame_start, local_address, StandsFor}
-use Rattle.fk_block_law.specs.Next.{StandsOp}
-use Rattle.fk_block_law.specs.Suits.{Fits, Flows, writes}
-use Rattle.fk_block_law.specs.Block.{Enters}
+use Rattle.fk_sim_block.specs.Owner.{Owner, number_of, owner_of}
+use Rattle.fk_sim_block.specs.Stands.{Places, HasRoom, frame_end, frame_start, local_address, StandsFor}
+use Rattle.fk_sim_block.specs.Next.{StandsOp}
+use Rattle.fk_sim_block.specs.Suits.{Fits, Flows, writes}
+use Rattle.fk_sim_block.specs.Block.{Enters}
 use Rattle.fk_gen.specs.InPlace.{HasBlock}
 use Rattle.fk_gen.specs.Keeps.{Keeps, DoesAnd, past_first, peak}
 use Rattle.fk_gen.specs.Lines.{at_value, at_private, high_part, low_part, load_by, load_number}

@@ -1,19 +1,19 @@
 -- Code by what each of its instructions reaches, and blocks of such code.
 use Rattle.std.proofs.Common.{◌≡◌, ℕ, suc, ◌<◌, ◌≤◌, List, [], ◌∷◌, ◌++◌, map, length, ap, subst, sym, ◌∙◌, arith, refl}
-use Rattle.fk_operation.specs.Kinds.{class_of}
-use Rattle.fk_operation.specs.declared.kinds.Class.TheVariants.{Local}
-use Rattle.fk_operation.specs.declared.operation.Operation.{Operation}
-use Rattle.fk_run.specs.Processor.{Setting}
-use Rattle.fk_run.specs.Local.{is_onward}
+use Rattle.fk_meaning_operation.specs.Kinds.{class_of}
+use Rattle.fk_meaning_operation.specs.declared.kinds.Class.TheVariants.{Local}
+use Rattle.fk_meaning_operation.specs.declared.operation.Operation.{Operation}
+use Rattle.fk_meaning.specs.Processor.{Setting}
+use Rattle.fk_meaning.specs.Local.{is_onward}
 use Rattle.fk_core.specs.declared.op.CoreOp.{CoreOp}
 use Rattle.fk_core.specs.Next.{position, follows}
 use Rattle.fk_image.specs.declared.Image.{Image}
 use Rattle.fk_isa.specs.declared.instruction.Instruction.{Instruction}
 use Rattle.fk_machine.specs.Hart.{Hart, Setting as MachineSetting}
-use Rattle.fk_block_law.specs.Owner.{Owner, number_of, owner_of}
-use Rattle.fk_block_law.specs.Stands.{Places, StandsFor}
-use Rattle.fk_block_law.specs.Next.{StandsOp}
-use Rattle.fk_block_law.specs.Block.{Enters}
+use Rattle.fk_sim_block.specs.Owner.{Owner, number_of, owner_of}
+use Rattle.fk_sim_block.specs.Stands.{Places, StandsFor}
+use Rattle.fk_sim_block.specs.Next.{StandsOp}
+use Rattle.fk_sim_block.specs.Block.{Enters}
 use Rattle.fk_gen.specs.Lines.{quiet, commits}
 use Rattle.fk_gen.specs.InPlace.{HasBlock}
 use Rattle.fk_gen.specs.Keeps.{DoesAnd, past_first}

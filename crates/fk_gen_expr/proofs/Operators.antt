@@ -5,9 +5,9 @@ use Rattle.fk_num.specs.Word.{word_sum}
 use Rattle.fk_num.specs.Op.{applied}
 use Rattle.fk_num.specs.declared.operator.Op.{Op}
 use Rattle.fk_num.specs.declared.operator.Op.TheVariants as op
-use Rattle.fk_operation.specs.declared.operation.Unary.{Unary}
-use Rattle.fk_operation.specs.declared.operation.Unary.TheVariants.{Negate, Complement, Not}
-use Rattle.fk_run.specs.Local.{applied_to}
+use Rattle.fk_meaning_operation.specs.declared.operation.Unary.{Unary}
+use Rattle.fk_meaning_operation.specs.declared.operation.Unary.TheVariants.{Negate, Complement, Not}
+use Rattle.fk_meaning.specs.Local.{applied_to}
 use Rattle.fk_isa.specs.declared.instruction.Instruction.{Instruction}
 use Rattle.fk_isa.specs.declared.instruction.Instruction.TheVariants.{Add, Sub, Sll, Slt, Sltu, Xor, Srl, Sra, Or, And, Mul, Mulh, Mulhsu, Mulhu, Div, Divu, Rem, Remu}
 use Rattle.fk_machine.specs.Hart.{Hart}

@@ -2,7 +2,7 @@
 use Rattle.std.proofs.Common.{◌≡◌, ℕ, ◌+◌, ◌*◌, ◌^◌, ◌<◌, List, [], ◌∷◌, All, ap, sym, ◌∙◌, arith}
 use Rattle.std.proofs.lemmas.List.Elements.{All-head, All-tail}
 use Rattle.fk_num.specs.Word.{word, word_sum}
-use Rattle.fk_run.specs.Processor.{last, before}
+use Rattle.fk_meaning.specs.Processor.{last, before}
 use Rattle.fk_gen.specs.Lines.{high_part, low_part}
 use Rattle.fk_gen.proofs.Values.{number_of_parts}
 

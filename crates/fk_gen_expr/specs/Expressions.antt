@@ -4,18 +4,18 @@
 use Rattle.std.specs.Prelude.{ℕ, ◌+◌, ◌-◌, ◌^◌, ◌<◌, ◌≤◌, ◌==◌, List, [], ◌∷◌, ◌++◌, map, Bool, true, false, IsSomeAnd}
 use Rattle.std.specs.Option.{option_map_or}
 use Rattle.fk_num.specs.declared.operator.Op.{Op}
-use Rattle.fk_operation.specs.declared.operation.Known.{Known}
-use Rattle.fk_operation.specs.declared.operation.Known.TheVariants.{Value, Rank, GroupNumber, ProcessorNumber, Processors, GroupSize, InputLength, FrameAddress, InputAddress}
-use Rattle.fk_operation.specs.declared.operation.Operation.{Operation}
-use Rattle.fk_operation.specs.declared.operation.Operation.TheVariants.{Push, Get, Set, DropLast, CopyLast, Apply, Join, Index}
-use Rattle.fk_operation.specs.declared.operation.Variable.{Variable}
-use Rattle.fk_operation.specs.declared.operation.Variable.TheVariants.{Private, OfFile}
-use Rattle.fk_store.specs.Store.{address_of}
+use Rattle.fk_meaning_operation.specs.declared.operation.Known.{Known}
+use Rattle.fk_meaning_operation.specs.declared.operation.Known.TheVariants.{Value, Rank, GroupNumber, ProcessorNumber, Processors, GroupSize, InputLength, FrameAddress, InputAddress}
+use Rattle.fk_meaning_operation.specs.declared.operation.Operation.{Operation}
+use Rattle.fk_meaning_operation.specs.declared.operation.Operation.TheVariants.{Push, Get, Set, DropLast, CopyLast, Apply, Join, Index}
+use Rattle.fk_meaning_operation.specs.declared.operation.Variable.{Variable}
+use Rattle.fk_meaning_operation.specs.declared.operation.Variable.TheVariants.{Private, OfFile}
+use Rattle.fk_meaning_store.specs.Store.{address_of}
 use Rattle.fk_core.specs.Numbers.{operation_of}
 use Rattle.fk_isa.specs.declared.instruction.Instruction.{Instruction}
 use Rattle.fk_isa.specs.declared.instruction.Instruction.TheVariants.{Lui, Addi, Slli, Add, Mul, Lw, Sw}
 use Rattle.fk_asm.specs.Block.{MarkedLine}
-use Rattle.fk_block_law.specs.Stands.{frame_register, end_register, number_register, rank_register, size_register, local_register, device_register}
+use Rattle.fk_sim_block.specs.Stands.{frame_register, end_register, number_register, rank_register, size_register, local_register, device_register}
 use Rattle.fk_gen.specs.declared.placed.Placed.{Placed}
 use Rattle.fk_gen.specs.Registers.{zero_register, t0, t1, t2}
 use Rattle.fk_gen.specs.Lines.{quiet, commits, at_value, at_private, high_part, low_part, load_number}

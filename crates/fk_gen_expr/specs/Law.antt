@@ -1,12 +1,12 @@
 -- The law of expressions.
 use Rattle.std.specs.Prelude.{ℕ, ◌≤◌, List, length}
-use Rattle.fk_operation.specs.declared.operation.Operation.{Operation}
+use Rattle.fk_meaning_operation.specs.declared.operation.Operation.{Operation}
 use Rattle.fk_core.specs.declared.op.CoreOp.{CoreOp}
 use Rattle.fk_image.specs.declared.Image.{Image}
-use Rattle.fk_block_law.specs.Stands.{Places}
-use Rattle.fk_block_law.specs.Next.{StandsOp}
-use Rattle.fk_block_law.specs.Suits.{Fits}
-use Rattle.fk_block_law.specs.Block.{BlockDoes}
+use Rattle.fk_sim_block.specs.Stands.{Places}
+use Rattle.fk_sim_block.specs.Next.{StandsOp}
+use Rattle.fk_sim_block.specs.Suits.{Fits}
+use Rattle.fk_sim_block.specs.Block.{BlockDoes}
 use Rattle.fk_gen.specs.InPlace.{HasBlock}
 use Rattle.fk_gen.specs.Keeps.{BlockDoesBy, past_first}
 use Rattle.fk_gen_expr.specs.Expressions.{IsExpression, expression_block}

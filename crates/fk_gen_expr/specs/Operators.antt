@@ -2,8 +2,8 @@
 use Rattle.std.specs.Prelude.{List, [], ◌∷◌}
 use Rattle.fk_num.specs.declared.operator.Op.{Op}
 use Rattle.fk_num.specs.declared.operator.Op.TheVariants as op
-use Rattle.fk_operation.specs.declared.operation.Unary.{Unary}
-use Rattle.fk_operation.specs.declared.operation.Unary.TheVariants.{Negate, Complement, Not}
+use Rattle.fk_meaning_operation.specs.declared.operation.Unary.{Unary}
+use Rattle.fk_meaning_operation.specs.declared.operation.Unary.TheVariants.{Negate, Complement, Not}
 use Rattle.fk_isa.specs.declared.instruction.Instruction.{Instruction}
 use Rattle.fk_isa.specs.declared.instruction.Instruction.TheVariants.{Xori, Sltiu, Add, Sub, Sll, Slt, Sltu, Xor, Srl, Sra, Or, And, Mul, Mulh, Mulhsu, Mulhu, Div, Divu, Rem, Remu}
 use Rattle.fk_gen.specs.Registers.{zero_register, t0, t1, t2}

@@ -13,7 +13,7 @@ use fk_gen::registers::{DEVICES, END, FRAME, LOCAL, NUMBER, RANK, SIZE, T0, T1, 
 use fk_gen::{BlockLine, Placed, emit_lines};
 use fk_isa::Instruction;
 use fk_num::Op;
-use fk_operation::{Known, Operation, Unary, Variable};
+use fk_meaning_operation::{Known, Operation, Unary, Variable};
 use std::alloc::AllocError;
 
 /// How many bytes a word has.

@@ -2,16 +2,16 @@
 use Rattle.std.proofs.Common.{◌≡◌, ℕ, zero, suc, ◌+◌, ◌*◌, ◌<◌, ◌≤◌, ◌^◌, List, [], ◌∷◌, ◌++◌, length, All, true, false, ap, ◌∙◌, arith, refl, inl, inr}
 use Rattle.std.specs.Prelude.{◌==◌, slice_index, ◌⊎◌}
 use Rattle.fk_num.specs.Word.{Memory, put, word_sum}
-use Rattle.fk_run.specs.Processor.{Setting}
+use Rattle.fk_meaning.specs.Processor.{Setting}
 use Rattle.fk_core.specs.declared.op.CoreOp.{CoreOp}
 use Rattle.fk_image.specs.declared.Image.{Image}
 use Rattle.fk_isa.specs.declared.instruction.Instruction.TheVariants.{Lui, Addi, Lw}
 use Rattle.fk_machine.specs.Hart.{Hart, Setting as MachineSetting}
 use Rattle.fk_machine.specs.Cycle.{first_hart}
 use Rattle.fk_machine.proofs.Performs.{writes, moves}
-use Rattle.fk_nodes.specs.Alone.{RunsPrivately, later, in_cycles}
-use Rattle.fk_block_law.specs.Stands.{Places, StandsAt, local_address}
-use Rattle.fk_block_law.specs.Block.{IsRunning, Begins, beginner}
+use Rattle.fk_sim_nodes.specs.Alone.{RunsPrivately, later, in_cycles}
+use Rattle.fk_sim_block.specs.Stands.{Places, StandsAt, local_address}
+use Rattle.fk_sim_block.specs.Block.{IsRunning, Begins, beginner}
 use Rattle.fk_gen.specs.Lines.{at_private, high_part, low_part, label_of}
 use Rattle.fk_gen.specs.InPlace.{HasLabels, LinesAt}
 use Rattle.fk_gen.proofs.Walk.{Quiets, Plain, TellsNumber, TellsHarts, told_of, walk, walked, lines_split, runs_join}

@@ -3,12 +3,12 @@ use Rattle.std.proofs.Common.{◌≡◌, ℕ, zero, suc, ◌+◌, ◌-◌, ◌<�
 use Rattle.std.specs.Prelude.{◌⊎◌}
 use Rattle.std.proofs.lemmas.Bool.{cases_lt}
 use Rattle.fk_num.specs.Word.{Memory, put}
-use Rattle.fk_run.specs.Request.{arguments}
+use Rattle.fk_meaning.specs.Request.{arguments}
 use Rattle.fk_image.specs.declared.Image.{Image}
 use Rattle.fk_machine.specs.Hart.{Hart, Setting}
 use Rattle.fk_machine.proofs.Performs.{moves}
-use Rattle.fk_nodes.specs.Alone.{later}
-use Rattle.fk_block_law.specs.Stands.{local_address}
+use Rattle.fk_sim_nodes.specs.Alone.{later}
+use Rattle.fk_sim_block.specs.Stands.{local_address}
 use Rattle.fk_gen.specs.Lines.{at_private, clear_label}
 use Rattle.fk_gen.proofs.Values.{same_word, other_word}
 use Rattle.fk_gen_flow.specs.Calls.{clear_lines, most_privates, HasChain}

@@ -3,12 +3,12 @@ use Rattle.std.proofs.Common.{◌≡◌, ℕ, zero, suc, ◌+◌, ◌-◌, ◌*�
 use Rattle.std.specs.Prelude.{◌==◌, ◌⊎◌}
 use Rattle.std.proofs.lemmas.Bool.{cases_lt}
 use Rattle.fk_num.specs.Word.{Memory, put, word_sum}
-use Rattle.fk_run.specs.Request.{arguments}
+use Rattle.fk_meaning.specs.Request.{arguments}
 use Rattle.fk_image.specs.declared.Image.{Image}
 use Rattle.fk_machine.specs.Hart.{Hart, Setting}
 use Rattle.fk_machine.proofs.Performs.{writes, moves}
-use Rattle.fk_nodes.specs.Alone.{later}
-use Rattle.fk_block_law.specs.Stands.{HasValues, local_address}
+use Rattle.fk_sim_nodes.specs.Alone.{later}
+use Rattle.fk_sim_block.specs.Stands.{HasValues, local_address}
 use Rattle.fk_gen.specs.Lines.{at_value, at_private, copy_label}
 use Rattle.fk_gen.specs.InPlace.{LinesAt}
 use Rattle.fk_gen.proofs.Values.{same_word, other_word}

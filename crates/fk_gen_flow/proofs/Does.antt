@@ -2,10 +2,10 @@
 use Rattle.std.proofs.Common.{◌≡◌, ℕ, suc, ◌-◌, ◌*◌, ◌%◌, ◌<◌, ◌≤◌, List, length, Bool, Some, true, false, not, ap, subst, sym, ◌∙◌, arith, refl, inl, eq-eqb}
 use Rattle.std.specs.Prelude.{◌==◌, if◌then◌else◌}
 use Rattle.fk_num.specs.Word.{word_sum}
-use Rattle.fk_operation.specs.declared.operation.Operation.TheVariants.{Branch, Halt}
-use Rattle.fk_run.specs.Processor.{Setting, values, drop_last, last}
-use Rattle.fk_run.specs.Local.{is_onward}
-use Rattle.fk_run.specs.Round.{done, taking}
+use Rattle.fk_meaning_operation.specs.declared.operation.Operation.TheVariants.{Branch, Halt}
+use Rattle.fk_meaning.specs.Processor.{Setting, values, drop_last, last}
+use Rattle.fk_meaning.specs.Local.{is_onward}
+use Rattle.fk_meaning.specs.Round.{done, taking}
 use Rattle.fk_core.specs.declared.op.CoreOp.{CoreOp}
 use Rattle.fk_image.specs.declared.Image.{Image}
 use Rattle.fk_isa.specs.declared.instruction.Instruction.TheVariants.{Lw}
@@ -15,15 +15,15 @@ use Rattle.fk_machine.specs.Step.{perform}
 use Rattle.fk_machine.specs.Run.{count_in}
 use Rattle.fk_machine.proofs.Performs.{writes, moves, lw-local, sw-halt}
 use Rattle.fk_machine.proofs.Places.{place_of-local, place_of-halt}
-use Rattle.fk_nodes.specs.Alone.{Holds, IsAt, later}
-use Rattle.fk_nodes.specs.Source.{Passes}
-use Rattle.fk_nodes.proofs.InPlace.{step_at}
-use Rattle.fk_block_law.specs.Owner.{Commons, Owner, Doing, owner_of, number_of, part}
-use Rattle.fk_block_law.specs.Stands.{Places, StandsAt, StandsFor, HasFrame, frame_end}
-use Rattle.fk_block_law.specs.Next.{StandsOp, step_at as step_of}
-use Rattle.fk_block_law.specs.Suits.{Fits, Flows, nothing, writes as changes}
-use Rattle.fk_block_law.specs.Block.{HasDone, BlockJumps, BlockHalts, most_behind}
-use Rattle.fk_block_law.proofs.Standing.{operations_are_next}
+use Rattle.fk_sim_nodes.specs.Alone.{Holds, IsAt, later}
+use Rattle.fk_sim_nodes.specs.Source.{Passes}
+use Rattle.fk_sim_nodes.proofs.InPlace.{step_at}
+use Rattle.fk_sim_block.specs.Owner.{Commons, Owner, Doing, owner_of, number_of, part}
+use Rattle.fk_sim_block.specs.Stands.{Places, StandsAt, StandsFor, HasFrame, frame_end}
+use Rattle.fk_sim_block.specs.Next.{StandsOp, step_at as step_of}
+use Rattle.fk_sim_block.specs.Suits.{Fits, Flows, nothing, writes as changes}
+use Rattle.fk_sim_block.specs.Block.{HasDone, BlockJumps, BlockHalts, most_behind}
+use Rattle.fk_sim_block.proofs.Standing.{operations_are_next}
 use Rattle.fk_gen.specs.Lines.{label_of}
 use Rattle.fk_gen.specs.InPlace.{HasBlock, HasLabels}
 use Rattle.fk_gen.specs.Keeps.{Keeps, DoesAnd}

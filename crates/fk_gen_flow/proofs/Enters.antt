@@ -4,12 +4,12 @@ use Rattle.std.specs.Prelude.{◌==◌, ◌⊎◌, slice_get, nat_lt, nat_le, if
 use Rattle.std.proofs.lemmas.List.{length-append}
 use Rattle.std.proofs.lemmas.Bool.{lt-ltb, le-ltb, cases_lt, ne_eqb}
 use Rattle.fk_num.specs.Word.{Memory, put, word_sum}
-use Rattle.fk_operation.specs.declared.operation.Operation.TheVariants.{Enter}
-use Rattle.fk_operation.specs.declared.kinds.FaultKind.TheVariants.{CallDepth}
-use Rattle.fk_store.specs.Serve.{Served, Faults as Refused}
-use Rattle.fk_run.specs.Processor.{Call, Setting, values, before}
-use Rattle.fk_run.specs.Request.{entered}
-use Rattle.fk_run.specs.Round.{answered}
+use Rattle.fk_meaning_operation.specs.declared.operation.Operation.TheVariants.{Enter}
+use Rattle.fk_meaning_operation.specs.declared.kinds.FaultKind.TheVariants.{CallDepth}
+use Rattle.fk_meaning_store.specs.Serve.{Served, Faults as Refused}
+use Rattle.fk_meaning.specs.Processor.{Call, Setting, values, before}
+use Rattle.fk_meaning.specs.Request.{entered}
+use Rattle.fk_meaning.specs.Round.{answered}
 use Rattle.fk_core.specs.declared.op.CoreOp.{CoreOp}
 use Rattle.fk_core.specs.Next.{position, behind_jump, is_jump}
 use Rattle.fk_image.specs.declared.Image.{Image}
@@ -20,15 +20,15 @@ use Rattle.fk_machine.specs.Run.{count_in}
 use Rattle.fk_machine.proofs.Performs.{writes, moves, sw-local, sw-fault}
 use Rattle.fk_machine.proofs.Places.{place_of-local, place_of-fault}
 use Rattle.fk_machine.specs.Place.{place_of}
-use Rattle.fk_nodes.specs.Alone.{later}
-use Rattle.fk_nodes.specs.Source as nodes
-use Rattle.fk_nodes.proofs.InPlace.{step_at}
-use Rattle.fk_block_law.specs.Owner.{Commons, Owner, Doing, number_of, part, as_part, found}
-use Rattle.fk_block_law.specs.Stands.{Places, StandsAt, HasFrame, HasRoom, frame_end, frame_start, local_address}
-use Rattle.fk_block_law.specs.Next.{StandsOp, step_at as step_of}
-use Rattle.fk_block_law.specs.Suits.{Fits, nothing}
-use Rattle.fk_block_law.specs.Block.{Enters, HasDone}
-use Rattle.fk_block_law.proofs.Standing.{operations_are_next}
+use Rattle.fk_sim_nodes.specs.Alone.{later}
+use Rattle.fk_sim_nodes.specs.Source as nodes
+use Rattle.fk_sim_nodes.proofs.InPlace.{step_at}
+use Rattle.fk_sim_block.specs.Owner.{Commons, Owner, Doing, number_of, part, as_part, found}
+use Rattle.fk_sim_block.specs.Stands.{Places, StandsAt, HasFrame, HasRoom, frame_end, frame_start, local_address}
+use Rattle.fk_sim_block.specs.Next.{StandsOp, step_at as step_of}
+use Rattle.fk_sim_block.specs.Suits.{Fits, nothing}
+use Rattle.fk_sim_block.specs.Block.{Enters, HasDone}
+use Rattle.fk_sim_block.proofs.Standing.{operations_are_next}
 use Rattle.fk_gen.specs.Lines.{at_value, high_part, low_part, copy_label, clear_label}
 use Rattle.fk_gen.specs.InPlace.{HasBlock, LinesAt}
 use Rattle.fk_gen.specs.Keeps.{DoesAnd}

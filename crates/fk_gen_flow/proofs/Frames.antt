@@ -3,10 +3,10 @@ use Rattle.std.proofs.Common.{◌≡◌, ℕ, zero, suc, ◌+◌, ◌-◌, ◌*�
 use Rattle.std.specs.Prelude.{◌==◌}
 use Rattle.std.proofs.lemmas.Bool.{ne_eqb}
 use Rattle.fk_num.specs.Word.{Memory}
-use Rattle.fk_run.specs.Processor.{Call, last}
+use Rattle.fk_meaning.specs.Processor.{Call, last}
 use Rattle.fk_core.specs.declared.op.CoreOp.{CoreOp}
-use Rattle.fk_block_law.specs.Stands.{Places, HasValues, HasRoom, HasFrame, HasWaiting, Returns, frame_start, frame_end, ahead}
-use Rattle.fk_block_law.specs.Suits.{Flows}
+use Rattle.fk_sim_block.specs.Stands.{Places, HasValues, HasRoom, HasFrame, HasWaiting, Returns, frame_start, frame_end, ahead}
+use Rattle.fk_sim_block.specs.Suits.{Flows}
 
 pub last_value : (m : Memory) (e d : ℕ) (vs : List ℕ) → HasValues m e vs → length vs ≡ d → 0 < d → m (e - d) ≡ last vs
 last_value m e d [] held is pos = absurd (omega arith)

@@ -2,22 +2,22 @@
 use Rattle.std.proofs.Common.{◌≡◌, ℕ, zero, suc, ◌+◌, ◌-◌, ◌*◌, ◌<◌, ◌≤◌, List, length, Bool, None, true, false, ap, sym, ◌∙◌, arith, refl}
 use Rattle.std.specs.Prelude.{◌==◌, if◌then◌else◌}
 use Rattle.fk_num.specs.Word.{Memory, put, word_sum}
-use Rattle.fk_operation.specs.declared.operation.Operation.TheVariants.{Leave}
-use Rattle.fk_run.specs.Processor.{Processor, Setting, values, last}
-use Rattle.fk_run.specs.Local.{handed, to_caller}
+use Rattle.fk_meaning_operation.specs.declared.operation.Operation.TheVariants.{Leave}
+use Rattle.fk_meaning.specs.Processor.{Processor, Setting, values, last}
+use Rattle.fk_meaning.specs.Local.{handed, to_caller}
 use Rattle.fk_core.specs.declared.op.CoreOp.{CoreOp}
 use Rattle.fk_core.specs.Next.{Position, position, returned}
 use Rattle.fk_image.specs.declared.Image.{Image}
 use Rattle.fk_machine.specs.Hart.{Hart, Setting as MachineSetting}
 use Rattle.fk_machine.proofs.Performs.{writes, moves}
-use Rattle.fk_nodes.specs.Alone.{later}
-use Rattle.fk_nodes.specs.Source.{Passes}
-use Rattle.fk_block_law.specs.Owner.{Commons, Owner, Doing, number_of, part}
-use Rattle.fk_block_law.specs.Stands.{Places, StandsAt, HasRoom, HasValues, frame_end, frame_start, local_address}
-use Rattle.fk_block_law.specs.Next.{StandsOp}
-use Rattle.fk_block_law.specs.Suits.{Fits}
-use Rattle.fk_block_law.specs.Block.{HasDone}
-use Rattle.fk_block_law.proofs.Standing.{operations_are_next}
+use Rattle.fk_sim_nodes.specs.Alone.{later}
+use Rattle.fk_sim_nodes.specs.Source.{Passes}
+use Rattle.fk_sim_block.specs.Owner.{Commons, Owner, Doing, number_of, part}
+use Rattle.fk_sim_block.specs.Stands.{Places, StandsAt, HasRoom, HasValues, frame_end, frame_start, local_address}
+use Rattle.fk_sim_block.specs.Next.{StandsOp}
+use Rattle.fk_sim_block.specs.Suits.{Fits}
+use Rattle.fk_sim_block.specs.Block.{HasDone}
+use Rattle.fk_sim_block.proofs.Standing.{operations_are_next}
 use Rattle.fk_gen.specs.InPlace.{HasBlock, LinesAt}
 use Rattle.fk_gen.proofs.Values.{same_word, other_word, values_kept}
 use Rattle.fk_gen.proofs.Standing.{waiting_kept}

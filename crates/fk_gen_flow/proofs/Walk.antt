@@ -10,8 +10,8 @@ use Rattle.fk_asm.proofs.Jumps.{word_sum-distance}
 use Rattle.fk_machine.specs.Hart.{Hart, Shared, Setting}
 use Rattle.fk_machine.specs.Step.{perform}
 use Rattle.fk_machine.proofs.Performs.{writes, moves}
-use Rattle.fk_nodes.specs.Alone.{Holds, IsAt, GoesAlone, RunsPrivately, later}
-use Rattle.fk_block_law.specs.Stands.{local_address}
+use Rattle.fk_sim_nodes.specs.Alone.{Holds, IsAt, GoesAlone, RunsPrivately, later}
+use Rattle.fk_sim_block.specs.Stands.{local_address}
 use Rattle.fk_gen.specs.Lines.{at_value}
 use Rattle.fk_gen.proofs.Walk.{private, can_run_goes, LocalAt}
 use Rattle.fk_gen.proofs.Jumps.{jumps, jal_goes as jal, jalr_goes as jalr}

@@ -3,7 +3,7 @@ use Rattle.std.specs.Prelude.{ℕ, List, [], ◌∷◌, Bool, true, false}
 use Rattle.fk_isa.specs.declared.instruction.Instruction.{Instruction}
 use Rattle.fk_isa.specs.declared.instruction.Instruction.TheVariants.{Jal, Jalr, Beq, Bne, Lw, Sw, Addi}
 use Rattle.fk_asm.specs.Block.{MarkedLine}
-use Rattle.fk_block_law.specs.Stands.{frame_register, end_register, device_register}
+use Rattle.fk_sim_block.specs.Stands.{frame_register, end_register, device_register}
 use Rattle.fk_gen.specs.Registers.{zero_register, t0, t1, t2}
 use Rattle.fk_gen.specs.Lines.{quiet, commits, goes_to, at_value, label_of}
 

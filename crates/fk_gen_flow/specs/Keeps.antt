@@ -1,17 +1,17 @@
 -- What the blocks of control flow tell beside that they do their operations: how many cycles they take, and what they leave of their
 -- harts.
 use Rattle.std.specs.Prelude.{◌≡◌, ℕ, suc, ◌+◌, ◌-◌, ◌*◌, ◌<◌, nat_le, List, [], ◌∷◌, length, Bool, if◌then◌else◌}
-use Rattle.fk_operation.specs.declared.operation.Operation.{Operation}
-use Rattle.fk_operation.specs.declared.operation.Operation.TheVariants.{Branch, Leave, Enter}
-use Rattle.fk_run.specs.Processor.{Call, Processor, Setting}
-use Rattle.fk_run.specs.Local.{is_onward}
+use Rattle.fk_meaning_operation.specs.declared.operation.Operation.{Operation}
+use Rattle.fk_meaning_operation.specs.declared.operation.Operation.TheVariants.{Branch, Leave, Enter}
+use Rattle.fk_meaning.specs.Processor.{Call, Processor, Setting}
+use Rattle.fk_meaning.specs.Local.{is_onward}
 use Rattle.fk_core.specs.declared.op.CoreOp.{CoreOp}
 use Rattle.fk_image.specs.declared.Image.{Image}
 use Rattle.fk_machine.specs.Hart.{Hart, Setting as MachineSetting}
-use Rattle.fk_block_law.specs.Owner.{Owner}
-use Rattle.fk_block_law.specs.Stands.{Places, frame_end}
-use Rattle.fk_block_law.specs.Suits.{writes}
-use Rattle.fk_block_law.specs.Block.{Enters}
+use Rattle.fk_sim_block.specs.Owner.{Owner}
+use Rattle.fk_sim_block.specs.Stands.{Places, frame_end}
+use Rattle.fk_sim_block.specs.Suits.{writes}
+use Rattle.fk_sim_block.specs.Block.{Enters}
 use Rattle.fk_gen.specs.Registers.{a0, a1}
 use Rattle.fk_gen.specs.Keeps.{Keeps, DoesAnd, peak}
 use Rattle.fk_gen_flow.specs.Calls.{most_privates}

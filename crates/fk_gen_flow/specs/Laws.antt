@@ -1,17 +1,17 @@
 -- What the blocks do where they stand.
 use Rattle.std.specs.Prelude.{◌≡◌, ℕ, suc, ◌^◌, ◌<◌, ◌≤◌, List, Bool, true, Some, slice_get, slice_index}
-use Rattle.fk_operation.specs.declared.operation.Operation.{Operation}
-use Rattle.fk_operation.specs.declared.operation.Operation.TheVariants.{Enter, Halt}
-use Rattle.fk_run.specs.Processor.{Setting}
+use Rattle.fk_meaning_operation.specs.declared.operation.Operation.{Operation}
+use Rattle.fk_meaning_operation.specs.declared.operation.Operation.TheVariants.{Enter, Halt}
+use Rattle.fk_meaning.specs.Processor.{Setting}
 use Rattle.fk_core.specs.declared.op.CoreOp.{CoreOp}
 use Rattle.fk_core.specs.Next.{is_jump}
 use Rattle.fk_image.specs.declared.Image.{Image}
 use Rattle.fk_machine.specs.Hart.{Setting as MachineSetting}
-use Rattle.fk_block_law.specs.Stands.{Places, Frames}
-use Rattle.fk_block_law.specs.Next.{StandsOp}
-use Rattle.fk_block_law.specs.Ready.{is_alone}
-use Rattle.fk_block_law.specs.Suits.{Flows, Fits, nothing}
-use Rattle.fk_block_law.specs.Block.{IsRunning, BlockDoes, BlockJumps, BlockHalts, Begins, beginner}
+use Rattle.fk_sim_block.specs.Stands.{Places, Frames}
+use Rattle.fk_sim_block.specs.Next.{StandsOp}
+use Rattle.fk_sim_block.specs.Ready.{is_alone}
+use Rattle.fk_sim_block.specs.Suits.{Flows, Fits, nothing}
+use Rattle.fk_sim_block.specs.Block.{IsRunning, BlockDoes, BlockJumps, BlockHalts, Begins, beginner}
 use Rattle.fk_gen.specs.InPlace.{HasBlock}
 use Rattle.fk_gen_flow.specs.Flow.{jump_block}
 use Rattle.fk_gen_flow.specs.Calls.{HasShared}

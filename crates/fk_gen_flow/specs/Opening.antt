@@ -3,7 +3,7 @@ use Rattle.std.specs.Prelude.{ℕ, suc, ◌*◌, ◌≤◌, ◌<◌, ◌^◌, Li
 use Rattle.fk_image.specs.declared.Image.{Image}
 use Rattle.fk_isa.specs.declared.instruction.Instruction.TheVariants.{Lui, Addi, Lw, Sw}
 use Rattle.fk_asm.specs.Block.{MarkedLine}
-use Rattle.fk_block_law.specs.Stands.{Places, frame_register, end_register, rank_register, size_register, local_register, shared_register, heap_register, shared_mask_register, device_register, heap_mask_register}
+use Rattle.fk_sim_block.specs.Stands.{Places, frame_register, end_register, rank_register, size_register, local_register, shared_register, heap_register, shared_mask_register, device_register, heap_mask_register}
 use Rattle.fk_gen.specs.Registers.{t0, a0, a1}
 use Rattle.fk_gen.specs.Lines.{quiet, at_private, high_part, low_part}
 use Rattle.fk_gen.specs.InPlace.{HasLabels, LinesAt}

@@ -12,7 +12,7 @@ use fk_gen::numbers::at_value;
 use fk_gen::registers::{DEVICES, END, FRAME, T0, T1, T2, ZERO};
 use fk_gen::{BlockLine, Placed, emit_lines};
 use fk_isa::Instruction;
-use fk_operation::Operation;
+use fk_meaning_operation::Operation;
 use std::alloc::AllocError;
 
 /// The label of the block of the first operation.

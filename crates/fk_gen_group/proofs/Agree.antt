@@ -2,32 +2,32 @@
 use Rattle.std.proofs.Common.{◌≡◌, ◌≢◌, ℕ, suc, ◌+◌, ◌-◌, ◌*◌, ◌<◌, List, [], ◌∷◌, length, map, true, false, None, sym, ap, subst, ◌∙◌, arith, refl}
 use Rattle.std.proofs.lemmas.Bool.{ne_eqb}
 use Rattle.fk_num.specs.Word.{Memory, put, word_sum}
-use Rattle.fk_operation.specs.declared.operation.Operation.TheVariants.{Agree}
-use Rattle.fk_run.specs.Processor.{Setting, values, last, before}
-use Rattle.fk_run.specs.Group.{has_room}
+use Rattle.fk_meaning_operation.specs.declared.operation.Operation.TheVariants.{Agree}
+use Rattle.fk_meaning.specs.Processor.{Setting, values, last, before}
+use Rattle.fk_meaning.specs.Group.{has_room}
 use Rattle.fk_core.specs.declared.op.CoreOp.{CoreOp}
 use Rattle.fk_image.specs.declared.Image.{Image}
 use Rattle.fk_isa.specs.declared.instruction.Instruction.TheVariants.{Lw, Sw}
 use Rattle.fk_machine.specs.Hart.{Hart, Shared, Setting as MachineSetting}
 use Rattle.fk_machine.specs.Step.{perform}
 use Rattle.fk_machine.proofs.Performs.{writes, moves}
-use Rattle.fk_nodes.specs.Node.{Member, Words}
-use Rattle.fk_nodes.specs.Alone.{Holds, GoesAlone, NodeCycle, NodeRun, later, in_cycles}
-use Rattle.fk_nodes.specs.Together.{Commits, Together}
-use Rattle.fk_nodes.specs.OnePlace.{AllStandAt, on_each, onward, onward_with, IsOwnWord, values_for, last_or}
-use Rattle.fk_nodes.proofs.Runs.{cycle_map}
-use Rattle.fk_nodes.proofs.Members.{cycle_commits}
-use Rattle.fk_nodes.proofs.OnePlace.{private_of_all, loads_of_all, stores_of_all}
-use Rattle.fk_block_law.specs.Owner.{Owner, Doing, number_of, core_source}
-use Rattle.fk_block_law.specs.Stands.{Places, frame_end}
-use Rattle.fk_block_law.specs.Suits.{Flows, nothing}
-use Rattle.fk_block_law.specs.Block.{Enters}
+use Rattle.fk_sim_nodes.specs.Node.{Member, Words}
+use Rattle.fk_sim_nodes.specs.Alone.{Holds, GoesAlone, NodeCycle, NodeRun, later, in_cycles}
+use Rattle.fk_sim_nodes.specs.Together.{Commits, Together}
+use Rattle.fk_sim_nodes.specs.OnePlace.{AllStandAt, on_each, onward, onward_with, IsOwnWord, values_for, last_or}
+use Rattle.fk_sim_nodes.proofs.Runs.{cycle_map}
+use Rattle.fk_sim_nodes.proofs.Members.{cycle_commits}
+use Rattle.fk_sim_nodes.proofs.OnePlace.{private_of_all, loads_of_all, stores_of_all}
+use Rattle.fk_sim_block.specs.Owner.{Owner, Doing, number_of, core_source}
+use Rattle.fk_sim_block.specs.Stands.{Places, frame_end}
+use Rattle.fk_sim_block.specs.Suits.{Flows, nothing}
+use Rattle.fk_sim_block.specs.Block.{Enters}
 use Rattle.fk_gen.specs.Lines.{at_value}
 use Rattle.fk_gen.proofs.Values.{values_put, other_word}
 use Rattle.fk_gen.proofs.Standing.{InMemory, in_memory, stands_with, value_written}
 use Rattle.fk_gen.proofs.Walk.{can_run_goes, LocalAt}
-use Rattle.fk_group_law.specs.Node.{Nestings, HasOuter, OwnsHeader, control_address, agreed_word}
-use Rattle.fk_group_law.specs.Lockstep.{IsMember, AreMembers, AllEnter, HaveStepped, highest_value, stepped, is_due}
+use Rattle.fk_sim_block.specs.Node.{Nestings, HasOuter, OwnsHeader, control_address, agreed_word}
+use Rattle.fk_sim_block.specs.Lockstep.{IsMember, AreMembers, AllEnter, HaveStepped, highest_value, stepped, is_due}
 use Rattle.fk_gen_group.specs.Laws.{IsInPlace, GroupsAgree}
 use Rattle.fk_gen_group.proofs.Members.{Both, all_stand, entered, at_block, each_on, each_standing, stand_on, all_alone, all_at_own, own_word, values_of, no_values, told_highest, all_due, apart}
 use Rattle.fk_gen_group.proofs.Last.{value_word, IsValue, is_value, is_last}

@@ -1,15 +1,15 @@
 -- All operations that processors do alone.
 use Rattle.std.proofs.Common.{◌≡◌, ℕ, List, length, true, false, refl}
-use Rattle.fk_operation.specs.declared.operation.Operation.{Operation}
-use Rattle.fk_operation.specs.declared.operation.Operation.TheVariants.{Leave, Enter}
+use Rattle.fk_meaning_operation.specs.declared.operation.Operation.{Operation}
+use Rattle.fk_meaning_operation.specs.declared.operation.Operation.TheVariants.{Leave, Enter}
 use Rattle.fk_core.specs.declared.op.CoreOp.{CoreOp}
 use Rattle.fk_image.specs.declared.Image.{Image}
-use Rattle.fk_block_law.specs.Stands.{Places, frame_end}
-use Rattle.fk_block_law.specs.Next.{StandsOp}
-use Rattle.fk_block_law.specs.Ready.{is_alone}
+use Rattle.fk_sim_block.specs.Stands.{Places, frame_end}
+use Rattle.fk_sim_block.specs.Next.{StandsOp}
+use Rattle.fk_sim_block.specs.Ready.{is_alone}
 use Rattle.fk_gen_flow.specs.Keeps.{KeepsBelow, BlockKeeps, result_word}
-use Rattle.fk_group_law.specs.Node.{Nestings}
-use Rattle.fk_group_law.specs.Law.{Cycles, BlockDoesInNode}
+use Rattle.fk_sim_block.specs.Node.{Nestings}
+use Rattle.fk_sim_block.specs.Law.{Cycles, BlockDoesInNode}
 use Rattle.fk_gen_group.specs.InNode.{LevelsFit, LoneBlocksStayInNode}
 use Rattle.fk_gen_group.proofs.InNode.{does_in_node, in_cycles_of, same_call_in_node}
 use Rattle.fk_gen_group.proofs.Calls.{has_entered, enters_in_node, has_left, leaves_in_node}

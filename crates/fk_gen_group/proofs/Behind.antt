@@ -1,19 +1,19 @@
 -- A hart behind a block that leaves its memory and what it has of its processor stands where that goes on.
 use Rattle.std.proofs.Common.{◌≡◌, ◌≢◌, ℕ, ◌*◌, ◌<◌, List, ◌∷◌, length, false, Option, Some, None, sym, ap, subst, ◌∙◌, arith, refl}
 use Rattle.std.specs.Prelude.{IfSome}
-use Rattle.fk_operation.specs.declared.operation.Operation.{Operation}
-use Rattle.fk_run.specs.Processor.{Setting, values}
+use Rattle.fk_meaning_operation.specs.declared.operation.Operation.{Operation}
+use Rattle.fk_meaning.specs.Processor.{Setting, values}
 use Rattle.fk_core.specs.declared.op.CoreOp.{CoreOp}
 use Rattle.fk_image.specs.declared.Image.{Image}
 use Rattle.fk_machine.specs.Hart.{Hart, Setting as MachineSetting}
-use Rattle.fk_nodes.specs.Node.{Member}
-use Rattle.fk_block_law.specs.Owner.{Owner, number_of}
-use Rattle.fk_block_law.specs.Stands.{Places, HasValues, StandsAt, frame_end}
-use Rattle.fk_block_law.specs.Suits.{Flows, nothing}
-use Rattle.fk_block_law.specs.Block.{Enters, gone_to}
+use Rattle.fk_sim_nodes.specs.Node.{Member}
+use Rattle.fk_sim_block.specs.Owner.{Owner, number_of}
+use Rattle.fk_sim_block.specs.Stands.{Places, HasValues, StandsAt, frame_end}
+use Rattle.fk_sim_block.specs.Suits.{Flows, nothing}
+use Rattle.fk_sim_block.specs.Block.{Enters, gone_to}
 use Rattle.fk_gen.proofs.Standing.{InMemory, SameRegisters, in_memory, stands_with, with_list, nothing_written}
-use Rattle.fk_group_law.specs.Node.{Nestings, HasOuter, HasNestings}
-use Rattle.fk_group_law.specs.Lockstep.{IsMember, LevelsStay}
+use Rattle.fk_sim_block.specs.Node.{Nestings, HasOuter, HasNestings}
+use Rattle.fk_sim_block.specs.Lockstep.{IsMember, LevelsStay}
 use Rattle.fk_gen_group.specs.Laws.{IsInPlace}
 use Rattle.fk_gen_group.proofs.Levels.{below_values, lies_below, outer_on, many_callers}
 

@@ -1,28 +1,28 @@
 -- Calls and their ends keep their harts in their nodes.
 use Rattle.std.proofs.Common.{◌≡◌, ℕ, suc, ◌-◌, List, [], ◌∷◌, length, Bool, false, Option, sym, ap, subst, ◌∙◌, arith, refl}
 use Rattle.std.specs.Prelude.{◌==◌}
-use Rattle.fk_operation.specs.declared.operation.Operation.TheVariants.{Leave, Enter}
-use Rattle.fk_store.specs.Serve.{Answer, Served, Faults as Refused, serve}
-use Rattle.fk_run.specs.Processor.{Call, Processor, Setting, values, last, before}
-use Rattle.fk_run.specs.Local.{to_caller}
-use Rattle.fk_run.specs.Request.{request}
-use Rattle.fk_run.specs.Round.{answered}
+use Rattle.fk_meaning_operation.specs.declared.operation.Operation.TheVariants.{Leave, Enter}
+use Rattle.fk_meaning_store.specs.Serve.{Answer, Served, Faults as Refused, serve}
+use Rattle.fk_meaning.specs.Processor.{Call, Processor, Setting, values, last, before}
+use Rattle.fk_meaning.specs.Local.{to_caller}
+use Rattle.fk_meaning.specs.Request.{request}
+use Rattle.fk_meaning.specs.Round.{answered}
 use Rattle.fk_core.specs.declared.op.CoreOp.{CoreOp}
 use Rattle.fk_core.specs.Next.{Position, position, behind_jump, returned}
 use Rattle.fk_image.specs.declared.Image.{Image}
 use Rattle.fk_machine.specs.Hart.{Hart, Setting as MachineSetting}
-use Rattle.fk_nodes.specs.Node.{Member}
-use Rattle.fk_nodes.specs.Source.{Passes}
-use Rattle.fk_block_law.specs.Owner.{Commons, Owner, Doing, number_of, owner_of, found, as_part, part}
-use Rattle.fk_block_law.specs.Stands.{Places, HasWaiting, frame_end}
-use Rattle.fk_block_law.specs.Next.{StandsOp, step_at}
-use Rattle.fk_block_law.specs.Block.{Enters, HasDone}
+use Rattle.fk_sim_nodes.specs.Node.{Member}
+use Rattle.fk_sim_nodes.specs.Source.{Passes}
+use Rattle.fk_sim_block.specs.Owner.{Commons, Owner, Doing, number_of, owner_of, found, as_part, part}
+use Rattle.fk_sim_block.specs.Stands.{Places, HasWaiting, frame_end}
+use Rattle.fk_sim_block.specs.Next.{StandsOp, step_at}
+use Rattle.fk_sim_block.specs.Block.{Enters, HasDone}
 use Rattle.fk_gen.proofs.Does.{local_part, asks}
 use Rattle.fk_gen.proofs.Values.{length_before}
 use Rattle.fk_gen_flow.specs.Keeps.{KeepsBelow, result_word}
 use Rattle.fk_gen_flow.proofs.Frames.{last_of}
-use Rattle.fk_group_law.specs.Node.{Nestings, StandsInNode, HasOuter, HasNestings, LieBelow}
-use Rattle.fk_group_law.specs.Lockstep.{IsMember}
+use Rattle.fk_sim_block.specs.Node.{Nestings, StandsInNode, HasOuter, HasNestings, LieBelow}
+use Rattle.fk_sim_block.specs.Lockstep.{IsMember}
 use Rattle.fk_gen_group.specs.InNode.{GivesLevels, HasNoLevels}
 use Rattle.fk_gen_group.proofs.Levels.{lies_below, values_behind, outer_of_call, outer_of_caller, many_callers}
 use Rattle.fk_gen_group.proofs.InNode.{SameGroup, stands_in_node, done_of}

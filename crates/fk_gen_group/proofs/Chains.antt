@@ -3,12 +3,12 @@ use Rattle.std.proofs.Common.{◌≡◌, ℕ, zero, suc, List, [], ◌∷◌, Bo
 use Rattle.fk_num.specs.Word.{Memory}
 use Rattle.fk_image.specs.declared.Image.{Image}
 use Rattle.fk_machine.specs.Hart.{Hart, Setting}
-use Rattle.fk_nodes.specs.Node.{Member, Words, AreApart}
-use Rattle.fk_nodes.specs.Source.{Source}
-use Rattle.fk_nodes.specs.Chain.{Chain}
-use Rattle.fk_nodes.specs.Alone.{Holds}
-use Rattle.fk_nodes.proofs.Members.{stays_passing}
-use Rattle.fk_meeting.specs.Phase.{Phase, Outside, Away, Coming, Waiting, Leaving, Moves, AllMove, word_after}
+use Rattle.fk_sim_nodes.specs.Node.{Member, Words, AreApart}
+use Rattle.fk_sim_nodes.specs.Source.{Source}
+use Rattle.fk_sim_nodes.specs.Chain.{Chain}
+use Rattle.fk_sim_nodes.specs.Alone.{Holds}
+use Rattle.fk_sim_nodes.proofs.Members.{stays_passing}
+use Rattle.fk_sim_nodes.specs.Phase.{Phase, Outside, Away, Coming, Waiting, Leaving, Moves, AllMove, word_after}
 use Rattle.fk_gen_group.specs.Meeting.{Meeting, Continues, count_for, lead}
 use Rattle.fk_gen_group.specs.Together.{Comer, phases}
 use Rattle.fk_gen_group.specs.Chains.{TurnsElsewhere, TurnsInside, Turns, AllTurn, Became, HaveTurned, MeetersHaveChains}

@@ -1,31 +1,31 @@
 -- The end of the group of `start`.
 use Rattle.std.proofs.Common.{◌≡◌, ℕ, suc, ◌+◌, ◌*◌, List, [], ◌∷◌, length, map, true, Some, None, sym, ap, subst, ◌∙◌, arith, refl}
 use Rattle.fk_num.specs.Word.{Memory, word_sum}
-use Rattle.fk_operation.specs.declared.operation.Operation.TheVariants.{End}
-use Rattle.fk_run.specs.Processor.{Level, Setting, to_outer}
-use Rattle.fk_run.specs.Group.{has_room}
+use Rattle.fk_meaning_operation.specs.declared.operation.Operation.TheVariants.{End}
+use Rattle.fk_meaning.specs.Processor.{Level, Setting, to_outer}
+use Rattle.fk_meaning.specs.Group.{has_room}
 use Rattle.fk_core.specs.declared.op.CoreOp.{CoreOp}
 use Rattle.fk_core.specs.Next.{position}
 use Rattle.fk_image.specs.declared.Image.{Image}
 use Rattle.fk_isa.specs.declared.instruction.Instruction.TheVariants.{Lui, Lw, Addi}
 use Rattle.fk_machine.specs.Hart.{Hart, Setting as MachineSetting}
 use Rattle.fk_machine.proofs.Performs.{writes, addi}
-use Rattle.fk_nodes.specs.Node.{Member, Words}
-use Rattle.fk_nodes.specs.Alone.{Holds, RunsPrivately, later}
-use Rattle.fk_nodes.specs.Together.{Together}
-use Rattle.fk_nodes.specs.OnePlace.{on_each}
-use Rattle.fk_nodes.proofs.Runs.{cycle_map}
-use Rattle.fk_nodes.proofs.Members.{cycle_commits}
-use Rattle.fk_nodes.proofs.OnePlace.{private_of_all}
-use Rattle.fk_block_law.specs.Owner.{Owner, number_of, core_source}
-use Rattle.fk_block_law.specs.Stands.{Places}
-use Rattle.fk_block_law.specs.Block.{Enters}
+use Rattle.fk_sim_nodes.specs.Node.{Member, Words}
+use Rattle.fk_sim_nodes.specs.Alone.{Holds, RunsPrivately, later}
+use Rattle.fk_sim_nodes.specs.Together.{Together}
+use Rattle.fk_sim_nodes.specs.OnePlace.{on_each}
+use Rattle.fk_sim_nodes.proofs.Runs.{cycle_map}
+use Rattle.fk_sim_nodes.proofs.Members.{cycle_commits}
+use Rattle.fk_sim_nodes.proofs.OnePlace.{private_of_all}
+use Rattle.fk_sim_block.specs.Owner.{Owner, number_of, core_source}
+use Rattle.fk_sim_block.specs.Stands.{Places}
+use Rattle.fk_sim_block.specs.Block.{Enters}
 use Rattle.fk_gen.specs.Lines.{label_of, goes_to}
 use Rattle.fk_isa.specs.declared.instruction.Instruction.TheVariants as isa
 use Rattle.fk_gen.proofs.Walk.{Quiets, Plain, TellsNumber, TellsHarts, quiet_lines, walk, told_of, walked, lines_split, runs_join}
 use Rattle.fk_gen.proofs.Jumps.{jumps, goes_to_pc, jal_private}
-use Rattle.fk_group_law.specs.Node.{Nestings, IsRoot, HasOuter, HasSaved, past_levels, saved_at, root_words}
-use Rattle.fk_group_law.specs.Lockstep.{IsMember, AllComeAlone, AllEnter, LevelsStay, IsInStart, AreInStart, NoneSaved, is_due}
+use Rattle.fk_sim_block.specs.Node.{Nestings, IsRoot, HasOuter, HasSaved, past_levels, saved_at, root_words}
+use Rattle.fk_sim_block.specs.Lockstep.{IsMember, AllComeAlone, AllEnter, LevelsStay, IsInStart, AreInStart, NoneSaved, is_due}
 use Rattle.fk_gen_group.specs.Laws.{IsInPlace, GroupsEnd}
 use Rattle.fk_gen_group.proofs.Members.{Both, all_stand, at_block, each_standing, all_alone, all_due, apart}
 use Rattle.fk_gen_group.proofs.Behind.{goes_behind}

@@ -2,14 +2,14 @@
 use Rattle.std.proofs.Common.{ℕ, ◌+◌, ◌*◌, List, [], ◌∷◌, true, false, Some, None, refl, arith}
 use Rattle.std.specs.Prelude.{◌==◌, if◌then◌else◌}
 use Rattle.fk_num.specs.Word.{Memory}
-use Rattle.fk_run.specs.Processor.{Level, Setting}
-use Rattle.fk_run.specs.Schedule.{first_level, first_processor}
+use Rattle.fk_meaning.specs.Processor.{Level, Setting}
+use Rattle.fk_meaning.specs.Schedule.{first_level, first_processor}
 use Rattle.fk_machine.specs.Hart.{Hart}
-use Rattle.fk_block_law.specs.Owner.{Owner}
-use Rattle.fk_nodes.specs.Node.{Member}
-use Rattle.fk_block_law.specs.Stands.{Frames, Places, StandsAt}
-use Rattle.fk_group_law.specs.Node.{Nestings, HasLevelRoom, root_words}
-use Rattle.fk_group_law.specs.Lockstep.{IsMember}
+use Rattle.fk_sim_block.specs.Owner.{Owner}
+use Rattle.fk_sim_nodes.specs.Node.{Member}
+use Rattle.fk_sim_block.specs.Stands.{Frames, Places, StandsAt}
+use Rattle.fk_sim_block.specs.Node.{Nestings, HasLevelRoom, root_words}
+use Rattle.fk_sim_block.specs.Lockstep.{IsMember}
 use Rattle.fk_gen_group.specs.Start.{gathering_of}
 
 -- no variables, and code of one block a word; at index 9 one level is saved

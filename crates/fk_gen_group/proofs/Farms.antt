@@ -1,25 +1,25 @@
 -- All members begin to run a body.
 use Rattle.std.proofs.Common.{◌≡◌, ℕ, suc, ◌*◌, ◌≤◌, List, [], ◌∷◌, map, true, Some, None, sym, ap, subst, ◌∙◌, arith, refl}
 use Rattle.fk_num.specs.Word.{Memory, word_sum}
-use Rattle.fk_operation.specs.declared.operation.Operation.TheVariants.{Farm}
-use Rattle.fk_run.specs.Processor.{Setting}
-use Rattle.fk_run.specs.Group.{has_room}
+use Rattle.fk_meaning_operation.specs.declared.operation.Operation.TheVariants.{Farm}
+use Rattle.fk_meaning.specs.Processor.{Setting}
+use Rattle.fk_meaning.specs.Group.{has_room}
 use Rattle.fk_core.specs.declared.op.CoreOp.{CoreOp}
 use Rattle.fk_image.specs.declared.Image.{Image}
 use Rattle.fk_isa.specs.declared.instruction.Instruction.TheVariants.{Addi}
 use Rattle.fk_machine.specs.Hart.{Hart, Setting as MachineSetting}
 use Rattle.fk_machine.proofs.Performs.{writes, addi}
-use Rattle.fk_nodes.specs.Node.{Member, Words}
-use Rattle.fk_nodes.specs.Alone.{Holds, NodeCycle, later}
-use Rattle.fk_nodes.specs.OnePlace.{on_each}
-use Rattle.fk_nodes.proofs.Runs.{cycle_map}
-use Rattle.fk_nodes.proofs.Members.{cycle_commits}
-use Rattle.fk_nodes.proofs.OnePlace.{private_of_all}
-use Rattle.fk_block_law.specs.Owner.{Owner, core_source}
-use Rattle.fk_block_law.specs.Stands.{Places}
-use Rattle.fk_block_law.specs.Block.{Enters}
-use Rattle.fk_group_law.specs.Node.{Nestings}
-use Rattle.fk_group_law.specs.Lockstep.{IsMember, AllComeAlone, AllEnter, AreOfSize, HaveParted, highest_value, stepped, is_due}
+use Rattle.fk_sim_nodes.specs.Node.{Member, Words}
+use Rattle.fk_sim_nodes.specs.Alone.{Holds, NodeCycle, later}
+use Rattle.fk_sim_nodes.specs.OnePlace.{on_each}
+use Rattle.fk_sim_nodes.proofs.Runs.{cycle_map}
+use Rattle.fk_sim_nodes.proofs.Members.{cycle_commits}
+use Rattle.fk_sim_nodes.proofs.OnePlace.{private_of_all}
+use Rattle.fk_sim_block.specs.Owner.{Owner, core_source}
+use Rattle.fk_sim_block.specs.Stands.{Places}
+use Rattle.fk_sim_block.specs.Block.{Enters}
+use Rattle.fk_sim_block.specs.Node.{Nestings}
+use Rattle.fk_sim_block.specs.Lockstep.{IsMember, AllComeAlone, AllEnter, AreOfSize, HaveParted, highest_value, stepped, is_due}
 use Rattle.fk_gen_group.specs.Laws.{IsInPlace, GroupsSetFree}
 use Rattle.fk_gen_group.proofs.Members.{Both, all_stand, at_block, each_standing, all_alone, all_due, apart}
 use Rattle.fk_gen_group.proofs.Behind.{goes_behind}

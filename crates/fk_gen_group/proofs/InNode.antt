@@ -1,38 +1,38 @@
 -- Blocks that keep the words of frames keep their harts in their nodes.
 use Rattle.std.proofs.Common.{◌≡◌, ℕ, zero, suc, ◌+◌, ◌-◌, ◌*◌, ◌<◌, ◌≤◌, List, [], ◌∷◌, length, Bool, true, false, Option, sym, ap, subst, ◌∙◌, arith, refl, inl, inr, ⊎_elim}
 use Rattle.std.specs.Prelude.{◌==◌, nat_lt, if◌then◌else◌}
-use Rattle.fk_operation.specs.Kinds.{class_of}
-use Rattle.fk_operation.specs.declared.kinds.Class.{Class}
-use Rattle.fk_operation.specs.declared.kinds.Class.TheVariants.{Local, Request, Tree}
-use Rattle.fk_operation.specs.declared.operation.Operation.{Operation}
-use Rattle.fk_operation.specs.declared.operation.Operation.TheVariants.{Push, Set, Branch, Take, Leave, Enter, Halt, End}
-use Rattle.fk_operation.specs.declared.operation.Variable.TheVariants.{Private, OfFile}
-use Rattle.fk_store.specs.Store.{private_words, private_address}
-use Rattle.fk_store.specs.Serve.{Answer, Served, Faults as Refused, serve, words_of}
-use Rattle.fk_run.specs.Processor.{Processor, Setting, values, last, in_place}
-use Rattle.fk_run.specs.Local.{local, is_onward}
-use Rattle.fk_run.specs.Request.{request, with_answer}
-use Rattle.fk_run.specs.Round.{answered}
+use Rattle.fk_meaning_operation.specs.Kinds.{class_of}
+use Rattle.fk_meaning_operation.specs.declared.kinds.Class.{Class}
+use Rattle.fk_meaning_operation.specs.declared.kinds.Class.TheVariants.{Local, Request, Tree}
+use Rattle.fk_meaning_operation.specs.declared.operation.Operation.{Operation}
+use Rattle.fk_meaning_operation.specs.declared.operation.Operation.TheVariants.{Push, Set, Branch, Take, Leave, Enter, Halt, End}
+use Rattle.fk_meaning_operation.specs.declared.operation.Variable.TheVariants.{Private, OfFile}
+use Rattle.fk_meaning_store.specs.Store.{private_words, private_address}
+use Rattle.fk_meaning_store.specs.Serve.{Answer, Served, Faults as Refused, serve, words_of}
+use Rattle.fk_meaning.specs.Processor.{Processor, Setting, values, last, in_place}
+use Rattle.fk_meaning.specs.Local.{local, is_onward}
+use Rattle.fk_meaning.specs.Request.{request, with_answer}
+use Rattle.fk_meaning.specs.Round.{answered}
 use Rattle.fk_core.specs.declared.op.CoreOp.{CoreOp}
 use Rattle.fk_core.specs.Next.{Position, position, follows}
 use Rattle.fk_image.specs.declared.Image.{Image}
 use Rattle.fk_machine.specs.Hart.{Hart, Setting as MachineSetting}
-use Rattle.fk_nodes.specs.Node.{Member}
-use Rattle.fk_nodes.specs.Source.{Part, Passes, Breaks}
-use Rattle.fk_nodes.specs.OneHart.{OneDoes}
-use Rattle.fk_block_law.specs.Owner.{Commons, Owner, Doing, number_of, owner_of, found, as_part, part, core_source}
-use Rattle.fk_block_law.specs.Stands.{Places, HasFrame, frame_start}
-use Rattle.fk_block_law.specs.Next.{StandsOp, step_at}
-use Rattle.fk_block_law.specs.Ready.{is_alone}
-use Rattle.fk_block_law.specs.Suits.{writes}
-use Rattle.fk_block_law.specs.Block.{Enters, HasDone, member_of}
+use Rattle.fk_sim_nodes.specs.Node.{Member}
+use Rattle.fk_sim_nodes.specs.Source.{Part, Passes, Breaks}
+use Rattle.fk_sim_nodes.specs.OneHart.{OneDoes}
+use Rattle.fk_sim_block.specs.Owner.{Commons, Owner, Doing, number_of, owner_of, found, as_part, part, core_source}
+use Rattle.fk_sim_block.specs.Stands.{Places, HasFrame, frame_start}
+use Rattle.fk_sim_block.specs.Next.{StandsOp, step_at}
+use Rattle.fk_sim_block.specs.Ready.{is_alone}
+use Rattle.fk_sim_block.specs.Suits.{writes}
+use Rattle.fk_sim_block.specs.Block.{Enters, HasDone, member_of}
 use Rattle.fk_gen.specs.Keeps.{Keeps, DoesAnd, BlockDoesBy, peak}
 use Rattle.fk_gen.specs.Lines.{label_of}
 use Rattle.fk_gen.proofs.Jumps.{jumps, jal_private}
 use Rattle.fk_gen.proofs.Does.{local_part, asks}
-use Rattle.fk_group_law.specs.Node.{Nestings, StandsInNode, HasOuter, HasNestings, LieBelow, saved_at, first_word, control_address}
-use Rattle.fk_group_law.specs.Lockstep.{IsMember}
-use Rattle.fk_group_law.specs.Law.{Cycles, BlockDoesInNode, HasDoneInNode, way_by, way_of}
+use Rattle.fk_sim_block.specs.Node.{Nestings, StandsInNode, HasOuter, HasNestings, LieBelow, saved_at, first_word, control_address}
+use Rattle.fk_sim_block.specs.Lockstep.{IsMember}
+use Rattle.fk_sim_block.specs.Law.{Cycles, BlockDoesInNode, HasDoneInNode, way_by, way_of}
 use Rattle.fk_gen_group.specs.InNode.{HasLevels, JumpsStayInNode}
 use Rattle.fk_gen_group.proofs.Levels.{starts_behind, lies_below, outer_by, many_callers}
 use Rattle.fk_gen_group.proofs.Behind.{body_kept}

@@ -1,17 +1,17 @@
 -- Where the last value of a processor stands.
 use Rattle.std.proofs.Common.{◌≡◌, ℕ, ◌-◌, ◌/◌, ◌<◌, List, length, sym, ap, ◌∙◌, arith, refl}
 use Rattle.fk_num.specs.Word.{word_sum}
-use Rattle.fk_operation.specs.declared.operation.Operation.{Operation}
-use Rattle.fk_run.specs.Processor.{Setting, values, last}
+use Rattle.fk_meaning_operation.specs.declared.operation.Operation.{Operation}
+use Rattle.fk_meaning.specs.Processor.{Setting, values, last}
 use Rattle.fk_core.specs.declared.op.CoreOp.{CoreOp}
 use Rattle.fk_image.specs.declared.Image.{Image}
 use Rattle.fk_machine.specs.Hart.{Hart, Setting as MachineSetting}
-use Rattle.fk_block_law.specs.Owner.{Owner}
-use Rattle.fk_block_law.specs.Stands.{Places, local_address, frame_end}
-use Rattle.fk_block_law.specs.Block.{Enters}
+use Rattle.fk_sim_block.specs.Owner.{Owner}
+use Rattle.fk_sim_block.specs.Stands.{Places, local_address, frame_end}
+use Rattle.fk_sim_block.specs.Block.{Enters}
 use Rattle.fk_gen.specs.Lines.{at_value}
 use Rattle.fk_gen.proofs.Values.{value_at, value_place}
-use Rattle.fk_group_law.specs.Node.{Nestings}
+use Rattle.fk_sim_block.specs.Node.{Nestings}
 use Rattle.fk_gen_group.specs.Laws.{IsInPlace}
 
 -- the word of the local memory at an address

@@ -3,10 +3,10 @@ use Rattle.std.proofs.Common.{◌≡◌, ℕ, zero, suc, ◌+◌, ◌-◌, ◌*�
 use Rattle.std.specs.Prelude.{◌==◌}
 use Rattle.std.proofs.lemmas.Bool.{ne_eqb}
 use Rattle.fk_num.specs.Word.{Memory}
-use Rattle.fk_run.specs.Processor.{Level, Call}
-use Rattle.fk_block_law.specs.Stands.{Places, HasWaiting, ahead, frame_start, frame_end}
-use Rattle.fk_group_law.specs.Node.{Nestings, HasLevelRoom, HasSaved, HasOuter, LieBelow, past_levels, saved_at}
-use Rattle.fk_group_law.specs.Lockstep.{LevelsStay}
+use Rattle.fk_meaning.specs.Processor.{Level, Call}
+use Rattle.fk_sim_block.specs.Stands.{Places, HasWaiting, ahead, frame_start, frame_end}
+use Rattle.fk_sim_block.specs.Node.{Nestings, HasLevelRoom, HasSaved, HasOuter, LieBelow, past_levels, saved_at}
+use Rattle.fk_sim_block.specs.Lockstep.{LevelsStay}
 
 pub saved_kept : (m m' : Memory) (at count : ℕ) (levels : List Level) → ((j : ℕ) → at ≤ j → j < at + 4 * count → m' j ≡ m j) → HasSaved m at count levels → HasSaved m' at count levels
 saved_kept m m' at zero levels same held = tt

@@ -3,28 +3,28 @@ use Rattle.std.proofs.Common.{◌≡◌, ◌≢◌, ℕ, suc, ◌+◌, ◌*◌, 
 use Rattle.std.specs.Prelude.{IfSome}
 use Rattle.std.proofs.lemmas.Bool.{ne_eqb}
 use Rattle.fk_num.specs.Word.{word_sum}
-use Rattle.fk_operation.specs.declared.operation.Operation.{Operation}
-use Rattle.fk_operation.specs.declared.operation.Operation.TheVariants.{Resume, Meet}
-use Rattle.fk_run.specs.Processor.{Setting}
+use Rattle.fk_meaning_operation.specs.declared.operation.Operation.{Operation}
+use Rattle.fk_meaning_operation.specs.declared.operation.Operation.TheVariants.{Resume, Meet}
+use Rattle.fk_meaning.specs.Processor.{Setting}
 use Rattle.fk_core.specs.declared.op.CoreOp.{CoreOp}
 use Rattle.fk_image.specs.declared.Image.{Image}
 use Rattle.fk_isa.specs.declared.instruction.Instruction.TheVariants.{Addi}
 use Rattle.fk_machine.specs.Hart.{Hart, Setting as MachineSetting}
 use Rattle.fk_machine.proofs.Performs.{writes, addi}
-use Rattle.fk_nodes.specs.Node.{Member, Words}
-use Rattle.fk_nodes.specs.Alone.{later}
-use Rattle.fk_meeting.specs.Phase.{Coming}
-use Rattle.fk_block_law.specs.Owner.{Owner}
-use Rattle.fk_block_law.specs.Stands.{Places, StandsAt, size_register}
-use Rattle.fk_block_law.specs.Suits.{Flows, nothing}
-use Rattle.fk_block_law.specs.Block.{Enters, gone_to}
+use Rattle.fk_sim_nodes.specs.Node.{Member, Words}
+use Rattle.fk_sim_nodes.specs.Alone.{later}
+use Rattle.fk_sim_nodes.specs.Phase.{Coming}
+use Rattle.fk_sim_block.specs.Owner.{Owner}
+use Rattle.fk_sim_block.specs.Stands.{Places, StandsAt, size_register}
+use Rattle.fk_sim_block.specs.Suits.{Flows, nothing}
+use Rattle.fk_sim_block.specs.Block.{Enters, gone_to}
 use Rattle.fk_gen.specs.InPlace.{HasBlock}
 use Rattle.fk_gen.proofs.Walk.{private}
-use Rattle.fk_group_law.specs.Node.{Nestings, StandsInNode, OwnsHeader, control_address, barrier_word, closing_word, body_register}
+use Rattle.fk_sim_block.specs.Node.{Nestings, StandsInNode, OwnsHeader, control_address, barrier_word, closing_word, body_register}
 use Rattle.fk_gen_group.specs.Meeting.{IsMeeting, HasMeeting, IsReadyToMeet}
-use Rattle.fk_group_law.specs.Lockstep.{IsMember}
+use Rattle.fk_sim_block.specs.Lockstep.{IsMember}
 use Rattle.fk_gen_group.specs.Blocks.{meeting_of, meet_block}
-use Rattle.fk_group_law.specs.Joint.{is_meeting}
+use Rattle.fk_sim_block.specs.Joint.{is_meeting}
 use Rattle.fk_gen_group.specs.Meet.{ComesToMeet, BlockComesToMeet}
 use Rattle.fk_gen_group.specs.Laws.{IsInPlace}
 use Rattle.fk_gen_group.proofs.Steps.{harts_arrive}

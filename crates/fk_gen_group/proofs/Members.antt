@@ -3,30 +3,30 @@ use Rattle.std.proofs.Common.{◌≡◌, ◌≢◌, ℕ, suc, ◌+◌, ◌*◌, 
 use Rattle.std.specs.Prelude.{if◌then◌else◌}
 use Rattle.std.proofs.lemmas.Bool.{ne_eqb}
 use Rattle.fk_num.specs.Word.{word_sum}
-use Rattle.fk_operation.specs.Kinds.{class_of}
-use Rattle.fk_operation.specs.declared.kinds.Class.TheVariants.{Tree}
-use Rattle.fk_operation.specs.declared.operation.Operation.{Operation}
-use Rattle.fk_run.specs.Processor.{Setting, values, last}
-use Rattle.fk_run.specs.Round.{Passes as Going, Breaks as Broken, taking, do_local, request_phase, do_request}
-use Rattle.fk_run.specs.Group.{has_room}
+use Rattle.fk_meaning_operation.specs.Kinds.{class_of}
+use Rattle.fk_meaning_operation.specs.declared.kinds.Class.TheVariants.{Tree}
+use Rattle.fk_meaning_operation.specs.declared.operation.Operation.{Operation}
+use Rattle.fk_meaning.specs.Processor.{Setting, values, last}
+use Rattle.fk_meaning.specs.Round.{Passes as Going, Breaks as Broken, taking, do_local, request_phase, do_request}
+use Rattle.fk_meaning.specs.Group.{has_room}
 use Rattle.fk_core.specs.declared.op.CoreOp.{CoreOp}
 use Rattle.fk_core.specs.Next.{next}
 use Rattle.fk_image.specs.declared.Image.{Image}
 use Rattle.fk_machine.specs.Hart.{Hart, Shared, Setting as MachineSetting}
 use Rattle.fk_machine.specs.Step.{perform}
 use Rattle.fk_machine.proofs.Places.{place_of-control}
-use Rattle.fk_nodes.specs.Node.{Member, Words, add, AreApart}
-use Rattle.fk_nodes.specs.Source.{Passes}
-use Rattle.fk_nodes.specs.Alone.{GoesAlone}
-use Rattle.fk_nodes.specs.Together.{AllTake}
-use Rattle.fk_nodes.specs.OnePlace.{AllStandAt, on_each, AllGoAlone, IsOwnWord, AllAtOwn, values_for, last_or}
-use Rattle.fk_block_law.specs.Owner.{Commons, Owner, number_of, as_part, found, part, core_source}
-use Rattle.fk_block_law.specs.Stands.{Places}
-use Rattle.fk_block_law.specs.Next.{StandsOp, step_at}
-use Rattle.fk_block_law.specs.Block.{Enters}
-use Rattle.fk_block_law.proofs.Standing.{operations_are_next}
-use Rattle.fk_group_law.specs.Node.{Nestings, OwnsHeader, control_address}
-use Rattle.fk_group_law.specs.Lockstep.{IsMember, AllEnter, highest_value, is_due}
+use Rattle.fk_sim_nodes.specs.Node.{Member, Words, add, AreApart}
+use Rattle.fk_sim_nodes.specs.Source.{Passes}
+use Rattle.fk_sim_nodes.specs.Alone.{GoesAlone}
+use Rattle.fk_sim_nodes.specs.Together.{AllTake}
+use Rattle.fk_sim_nodes.specs.OnePlace.{AllStandAt, on_each, AllGoAlone, IsOwnWord, AllAtOwn, values_for, last_or}
+use Rattle.fk_sim_block.specs.Owner.{Commons, Owner, number_of, as_part, found, part, core_source}
+use Rattle.fk_sim_block.specs.Stands.{Places}
+use Rattle.fk_sim_block.specs.Next.{StandsOp, step_at}
+use Rattle.fk_sim_block.specs.Block.{Enters}
+use Rattle.fk_sim_block.proofs.Standing.{operations_are_next}
+use Rattle.fk_sim_block.specs.Node.{Nestings, OwnsHeader, control_address}
+use Rattle.fk_sim_block.specs.Lockstep.{IsMember, AllEnter, highest_value, is_due}
 
 -- something holds of each with its processor
 abbrev pub Both : (Member → Owner → Type 0) → List Member → List Owner → Type 0

@@ -4,11 +4,11 @@ use Rattle.std.specs.Prelude.{◌==◌, ◌||◌, ◌&&◌}
 use Rattle.std.proofs.lemmas.Bool.{ne_eqb}
 use Rattle.fk_image.specs.declared.Image.{Image}
 use Rattle.fk_machine.specs.Hart.{Hart, Setting}
-use Rattle.fk_nodes.specs.Node.{Member}
-use Rattle.fk_nodes.specs.Alone.{Holds, later, in_cycles}
-use Rattle.fk_meeting.specs.Phase.{Phase, Coming, Waiting, Leaving, polled}
-use Rattle.fk_group_law.specs.Node.{Polling}
-use Rattle.fk_group_law.specs.Joint.{Polls, IsArriving, IsLeaving, GoesToLeave, GoesToPoll, KeepsPolling, StandsByPhase}
+use Rattle.fk_sim_nodes.specs.Node.{Member}
+use Rattle.fk_sim_nodes.specs.Alone.{Holds, later, in_cycles}
+use Rattle.fk_sim_nodes.specs.Phase.{Phase, Coming, Waiting, Leaving, polled}
+use Rattle.fk_sim_block.specs.Node.{Polling}
+use Rattle.fk_sim_block.specs.Joint.{Polls, IsArriving, IsLeaving, GoesToLeave, GoesToPoll, KeepsPolling, StandsByPhase}
 use Rattle.fk_gen.proofs.Does.{holds_in_cycles}
 use Rattle.fk_gen_group.specs.Meeting as lines
 use Rattle.fk_gen_group.specs.Meeting.{Meeting, HasMeeting, IsReadyToMeet, Keeps, HasLeft, count_of_leaving, lead}

@@ -4,9 +4,9 @@ use Rattle.std.specs.Prelude.{◌==◌, if◌then◌else◌}
 use Rattle.std.proofs.lemmas.Bool.{ne_eqb}
 use Rattle.std.proofs.lemmas.List.{length-append}
 use Rattle.fk_num.specs.Word.{Memory, word_sum}
-use Rattle.fk_operation.specs.declared.operation.Operation.TheVariants.{Seq}
-use Rattle.fk_run.specs.Processor.{Setting}
-use Rattle.fk_run.specs.Group.{has_room}
+use Rattle.fk_meaning_operation.specs.declared.operation.Operation.TheVariants.{Seq}
+use Rattle.fk_meaning.specs.Processor.{Setting}
+use Rattle.fk_meaning.specs.Group.{has_room}
 use Rattle.fk_core.specs.declared.op.CoreOp.{CoreOp}
 use Rattle.fk_core.specs.Next.{follows}
 use Rattle.fk_image.specs.declared.Image.{Image}
@@ -14,21 +14,21 @@ use Rattle.fk_isa.specs.declared.instruction.Instruction.TheVariants.{Addi}
 use Rattle.fk_machine.specs.Hart.{Hart, Setting as MachineSetting}
 use Rattle.fk_machine.proofs.Performs.{writes, addi}
 use Rattle.fk_machine.proofs.Places.{place_of-control}
-use Rattle.fk_nodes.specs.Node.{Member, Words, add}
-use Rattle.fk_nodes.specs.Alone.{Holds, IsAt, RunsPrivately, NodeCycle, later, in_cycles}
-use Rattle.fk_nodes.specs.Together.{Commits, Together}
-use Rattle.fk_nodes.specs.OnePlace.{AllStandAt, on_each, onward, onward_with, IsOwnWord, values_for, last_or, sum_from, each_finds}
-use Rattle.fk_nodes.proofs.Runs.{cycle_map}
-use Rattle.fk_nodes.proofs.Members.{cycle_commits}
-use Rattle.fk_nodes.proofs.OnePlace.{private_of_all, stores_of_all, adds_of_all}
-use Rattle.fk_block_law.specs.Owner.{Owner, Doing, number_of, core_source}
-use Rattle.fk_block_law.specs.Stands.{Places}
-use Rattle.fk_block_law.specs.Block.{Enters}
+use Rattle.fk_sim_nodes.specs.Node.{Member, Words, add}
+use Rattle.fk_sim_nodes.specs.Alone.{Holds, IsAt, RunsPrivately, NodeCycle, later, in_cycles}
+use Rattle.fk_sim_nodes.specs.Together.{Commits, Together}
+use Rattle.fk_sim_nodes.specs.OnePlace.{AllStandAt, on_each, onward, onward_with, IsOwnWord, values_for, last_or, sum_from, each_finds}
+use Rattle.fk_sim_nodes.proofs.Runs.{cycle_map}
+use Rattle.fk_sim_nodes.proofs.Members.{cycle_commits}
+use Rattle.fk_sim_nodes.proofs.OnePlace.{private_of_all, stores_of_all, adds_of_all}
+use Rattle.fk_sim_block.specs.Owner.{Owner, Doing, number_of, core_source}
+use Rattle.fk_sim_block.specs.Stands.{Places}
+use Rattle.fk_sim_block.specs.Block.{Enters}
 use Rattle.fk_gen.specs.Lines.{label_of}
 use Rattle.fk_gen.proofs.Walk.{private}
 use Rattle.fk_gen.proofs.Jumps.{jumps, goes_to_pc, jal_private, beq_taken, beq_on}
-use Rattle.fk_group_law.specs.Node.{Nestings, OwnsHeader, control_address, agreed_word}
-use Rattle.fk_group_law.specs.Lockstep.{IsMember, AllComeAlone, LevelsStay, HaveParted, NoneIs, IsLowest, one_runs, is_due}
+use Rattle.fk_sim_block.specs.Node.{Nestings, OwnsHeader, control_address, agreed_word}
+use Rattle.fk_sim_block.specs.Lockstep.{IsMember, AllComeAlone, LevelsStay, HaveParted, NoneIs, IsLowest, one_runs, is_due}
 use Rattle.fk_gen_group.specs.Laws.{IsInPlace, GroupsSendOne}
 use Rattle.fk_gen_group.proofs.Members.{Both, all_stand, entered, at_block, each_on, stand_on, all_alone, all_at_own, all_due, apart}
 use Rattle.fk_gen_group.proofs.Behind.{KeepsMost, kept, same_registers, goes_behind}

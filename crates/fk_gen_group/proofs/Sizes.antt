@@ -5,7 +5,7 @@ use Rattle.std.specs.Int.{from_bool}
 use Rattle.std.proofs.lemmas.Bool.{cases_lt, lt-ltb, le-ltb}
 use Rattle.std.proofs.Math.Nat.{min-eq_left, min-eq_right}
 use Rattle.fk_num.specs.Word.{word, word_sum}
-use Rattle.fk_run.specs.Group.{not_negative}
+use Rattle.fk_meaning.specs.Group.{not_negative}
 
 -- 0 for a negative word
 abbrev pub positive : (v : ℕ) → ℕ

@@ -3,9 +3,9 @@ use Rattle.std.proofs.Common.{◌≡◌, ℕ, suc, ◌+◌, ◌*◌, ◌/◌, �
 use Rattle.std.specs.Prelude.{◌==◌, ◌||◌, nat_lt, if◌then◌else◌}
 use Rattle.std.proofs.Math.Nat.{min-le_right}
 use Rattle.fk_num.specs.Word.{Memory, word_sum}
-use Rattle.fk_operation.specs.declared.operation.Operation.TheVariants.{Begin}
-use Rattle.fk_run.specs.Processor.{Level, Setting, values, last, before, drop_last, enter_level}
-use Rattle.fk_run.specs.Group.{not_negative, is_taken, start_level, has_room}
+use Rattle.fk_meaning_operation.specs.declared.operation.Operation.TheVariants.{Begin}
+use Rattle.fk_meaning.specs.Processor.{Level, Setting, values, last, before, drop_last, enter_level}
+use Rattle.fk_meaning.specs.Group.{not_negative, is_taken, start_level, has_room}
 use Rattle.fk_core.specs.declared.op.CoreOp.{CoreOp}
 use Rattle.fk_core.specs.Next.{position, follows}
 use Rattle.fk_image.specs.declared.Image.{Image}
@@ -13,28 +13,28 @@ use Rattle.fk_asm.specs.Block.{MarkedLine}
 use Rattle.fk_isa.specs.declared.instruction.Instruction.TheVariants.{Lui, Jalr, Bltu, Lw, Addi, Sltiu, Slli, Srli, Add, Sltu, Mul}
 use Rattle.fk_machine.specs.Hart.{Hart, Setting as MachineSetting}
 use Rattle.fk_machine.proofs.Performs.{writes, moves, addi}
-use Rattle.fk_nodes.specs.Node.{Member, Words}
-use Rattle.fk_nodes.specs.Alone.{RunsPrivately, NodeCycle, later, in_cycles}
-use Rattle.fk_nodes.specs.Together.{Commits, Together}
-use Rattle.fk_nodes.specs.OnePlace.{AllStandAt, on_each, onward, onward_with, IsOwnWord, values_for, last_or}
-use Rattle.fk_nodes.proofs.Runs.{cycle_map}
-use Rattle.fk_nodes.proofs.Members.{cycle_commits}
-use Rattle.fk_nodes.proofs.OnePlace.{loads_of_all, stores_of_all}
-use Rattle.fk_meeting.specs.Phase.{Coming}
-use Rattle.fk_block_law.specs.Owner.{Owner, number_of, core_source}
-use Rattle.fk_block_law.specs.Stands.{Places, StandsAt, StandsFor}
-use Rattle.fk_block_law.specs.Suits.{Flows, nothing}
-use Rattle.fk_block_law.specs.Block.{IsRunning, Enters}
+use Rattle.fk_sim_nodes.specs.Node.{Member, Words}
+use Rattle.fk_sim_nodes.specs.Alone.{RunsPrivately, NodeCycle, later, in_cycles}
+use Rattle.fk_sim_nodes.specs.Together.{Commits, Together}
+use Rattle.fk_sim_nodes.specs.OnePlace.{AllStandAt, on_each, onward, onward_with, IsOwnWord, values_for, last_or}
+use Rattle.fk_sim_nodes.proofs.Runs.{cycle_map}
+use Rattle.fk_sim_nodes.proofs.Members.{cycle_commits}
+use Rattle.fk_sim_nodes.proofs.OnePlace.{loads_of_all, stores_of_all}
+use Rattle.fk_sim_nodes.specs.Phase.{Coming}
+use Rattle.fk_sim_block.specs.Owner.{Owner, number_of, core_source}
+use Rattle.fk_sim_block.specs.Stands.{Places, StandsAt, StandsFor}
+use Rattle.fk_sim_block.specs.Suits.{Flows, nothing}
+use Rattle.fk_sim_block.specs.Block.{IsRunning, Enters}
 use Rattle.fk_gen.specs.Lines.{quiet, at_value, label_of, high_part, low_part}
 use Rattle.fk_gen.specs.InPlace.{LinesAt}
 use Rattle.fk_gen.proofs.Values.{values_before, number_of_parts}
 use Rattle.fk_gen.proofs.Standing.{SameRegisters, with_list}
 use Rattle.fk_gen.proofs.Walk.{Quiets, Plain, LocalAt, TellsInputs, quiet_lines, walk, told_of, walked, lines_split, runs_join, private, can_run_goes}
 use Rattle.fk_gen.proofs.Jumps.{jumps, goes_to_pc, jal_private, jalr_goes}
-use Rattle.fk_group_law.specs.Node.{Polling, Nestings, IsRoot, HasOuter, HasNestings, HasSaved, OwnsHeader, past_levels, saved_at, first_word, root_words, closing_word, agreed_word, control_address}
-use Rattle.fk_group_law.specs.Lockstep.{IsMember, LevelsStay, NoneSaved, highest_value, is_due}
-use Rattle.fk_group_law.specs.Joint.{Polls}
-use Rattle.fk_group_law.specs.Start.{IsInRoot, MeetsUntil, HasMet, AllHaveMet, ComesToPart, AllComeToParts, HaveStarted, size_of_start, runs_behind_start}
+use Rattle.fk_sim_block.specs.Node.{Polling, Nestings, IsRoot, HasOuter, HasNestings, HasSaved, OwnsHeader, past_levels, saved_at, first_word, root_words, closing_word, agreed_word, control_address}
+use Rattle.fk_sim_block.specs.Lockstep.{IsMember, LevelsStay, NoneSaved, highest_value, is_due}
+use Rattle.fk_sim_block.specs.Joint.{Polls}
+use Rattle.fk_sim_block.specs.Start.{IsInRoot, MeetsUntil, HasMet, AllHaveMet, ComesToPart, AllComeToParts, HaveStarted, size_of_start, runs_behind_start}
 use Rattle.fk_gen_group.specs.Meeting.{IsMeeting, HasMeeting, IsReadyToMeet, HasLeft}
 use Rattle.fk_gen_group.specs.Blocks.{HasStart, start_label, gathering, meet_lines, telling_lines, size_lines, parting_lines, group_words}
 use Rattle.fk_gen_group.specs.Laws.{IsInPlace, GroupsStart}

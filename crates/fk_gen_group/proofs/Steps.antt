@@ -13,10 +13,10 @@ use Rattle.fk_machine.specs.Step.{step}
 use Rattle.fk_machine.specs.Run.{count_in}
 use Rattle.fk_machine.proofs.Places.{place_of-control}
 use Rattle.fk_machine.proofs.Performs.{writes, moves, lui, addi, lw-control, sw-control}
-use Rattle.fk_nodes.specs.Node.{Member, Words, Has}
-use Rattle.fk_nodes.specs.Alone.{Holds, IsAt, RunsPrivately, GoesWithin, Stays, later, in_cycles}
-use Rattle.fk_nodes.proofs.InPlace.{step_at, amoadd-control}
-use Rattle.fk_meeting.specs.Phase.{Outside, Away, Coming, Waiting, Leaving}
+use Rattle.fk_sim_nodes.specs.Node.{Member, Words, Has}
+use Rattle.fk_sim_nodes.specs.Alone.{Holds, IsAt, RunsPrivately, GoesWithin, Stays, later, in_cycles}
+use Rattle.fk_sim_nodes.proofs.InPlace.{step_at, amoadd-control}
+use Rattle.fk_sim_nodes.specs.Phase.{Outside, Away, Coming, Waiting, Leaving}
 use Rattle.fk_gen.specs.InPlace.{LinesAt, resolved, count_of_commit}
 use Rattle.fk_gen.proofs.Walk.{private}
 use Rattle.fk_gen.proofs.Values.{same_word, other_word}

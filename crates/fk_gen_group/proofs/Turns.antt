@@ -5,12 +5,12 @@ use Rattle.fk_num.specs.Word.{Memory}
 use Rattle.fk_image.specs.declared.Image.{Image}
 use Rattle.fk_machine.specs.Hart.{Hart, Shared, Setting, Effect, Goes}
 use Rattle.fk_machine.specs.Step.{step}
-use Rattle.fk_nodes.specs.Node.{Member, Words}
-use Rattle.fk_nodes.specs.Alone.{Holds, Stays, NodeCycle, NodeRun, later, in_cycles}
-use Rattle.fk_nodes.proofs.Runs.{cycle_map, run_map}
-use Rattle.fk_meeting.specs.Phase.{Phase, Outside, Away, Coming, Waiting, Leaving, Moves, AllMove, Each, Leaves, AreTogether, Settled, HasTime, IsNear, IsDue, word_after, Stays as IsStaying}
-use Rattle.fk_meeting.specs.Meeting.{IsKept}
-use Rattle.fk_meeting.proofs.Leaving.{cycles_keep_arrivals}
+use Rattle.fk_sim_nodes.specs.Node.{Member, Words}
+use Rattle.fk_sim_nodes.specs.Alone.{Holds, Stays, NodeCycle, NodeRun, later, in_cycles}
+use Rattle.fk_sim_nodes.proofs.Runs.{cycle_map, run_map}
+use Rattle.fk_sim_nodes.specs.Phase.{Phase, Outside, Away, Coming, Waiting, Leaving, Moves, AllMove, Each, Leaves, AreTogether, Settled, HasTime, IsNear, IsDue, word_after, Stays as IsStaying}
+use Rattle.fk_sim_nodes.specs.Meeting.{IsKept}
+use Rattle.fk_sim_nodes.proofs.Leaving.{cycles_keep_arrivals}
 use Rattle.fk_gen_group.specs.Meeting.{Meeting, StandsInPhase, Continues, HasLeft, count_for, count_of_leaving, lead}
 use Rattle.fk_gen_group.specs.Together.{Comer, phases, IsInside, Stands, TakesTurn, AllTakeTurns, GoesOn, AllGoOn, AllStand, AllHaveLeft, HaveMet, LeaveAfter, TurnsAreMoves, MembersLeaveTogether, HasCome, MembersLeaveInTen}
 use Rattle.fk_gen_group.proofs.Steps.{harts_move}

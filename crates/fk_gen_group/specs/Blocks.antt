@@ -1,17 +1,17 @@
 -- Which steps of groups have a block, and which block.
 use Rattle.std.specs.Prelude.{◌≡◌, ℕ, ◌*◌, ◌^◌, ◌<◌, ◌≤◌, List, [], ◌∷◌, ◌++◌, length, Bool, true, false, Option, Some}
-use Rattle.fk_operation.specs.declared.operation.Operation.{Operation}
-use Rattle.fk_operation.specs.declared.operation.Operation.TheVariants.{Begin, Agree, Farm, Seq, End, Resume, Meet}
+use Rattle.fk_meaning_operation.specs.declared.operation.Operation.{Operation}
+use Rattle.fk_meaning_operation.specs.declared.operation.Operation.TheVariants.{Begin, Agree, Farm, Seq, End, Resume, Meet}
 use Rattle.fk_core.specs.Numbers.{operation_of}
 use Rattle.fk_image.specs.declared.Image.{Image}
 use Rattle.fk_isa.specs.declared.instruction.Instruction.TheVariants.{Lui, Jal, Jalr, Beq, Bltu, Lw, Sw, Addi, Sltiu, Slli, Srli, Add, Sltu, Mul, AmoAddW}
 use Rattle.fk_asm.specs.Block.{MarkedLine}
-use Rattle.fk_block_law.specs.Stands.{end_register, number_register, rank_register, size_register, device_register}
+use Rattle.fk_sim_block.specs.Stands.{end_register, number_register, rank_register, size_register, device_register}
 use Rattle.fk_gen.specs.Registers.{zero_register, ra, t0, t1, t2, t3}
 use Rattle.fk_gen.specs.Lines.{quiet, commits, goes_to, at_value, label_of, high_part, low_part}
 use Rattle.fk_gen.specs.InPlace.{LinesAt}
 use Rattle.fk_gen.specs.declared.placed.Placed.{Placed}
-use Rattle.fk_group_law.specs.Node.{node_register, body_register, barrier_word, closing_word, agreed_word, control_address}
+use Rattle.fk_sim_block.specs.Node.{node_register, body_register, barrier_word, closing_word, agreed_word, control_address}
 use Rattle.fk_gen_group.specs.Meeting.{Meeting, meeting_lines}
 
 -- a meeting that is an operation, with the number of members in a register

@@ -3,11 +3,11 @@ use Rattle.std.specs.Prelude.{◌≡◌, ℕ, List, [], ◌∷◌, Bool, true, �
 use Rattle.fk_num.specs.Word.{Memory}
 use Rattle.fk_image.specs.declared.Image.{Image}
 use Rattle.fk_machine.specs.Hart.{Hart, Shared, Setting}
-use Rattle.fk_nodes.specs.Node.{Member, Words, Has, AreApart}
-use Rattle.fk_nodes.specs.Source.{Source, Passes, Shows}
-use Rattle.fk_nodes.specs.Chain.{Passing, Faulting, Chain}
-use Rattle.fk_nodes.specs.Alone.{Holds}
-use Rattle.fk_meeting.specs.Phase.{Phase, Outside, Away, AllMove}
+use Rattle.fk_sim_nodes.specs.Node.{Member, Words, Has, AreApart}
+use Rattle.fk_sim_nodes.specs.Source.{Source, Passes, Shows}
+use Rattle.fk_sim_nodes.specs.Chain.{Passing, Faulting, Chain}
+use Rattle.fk_sim_nodes.specs.Alone.{Holds}
+use Rattle.fk_sim_nodes.specs.Phase.{Phase, Outside, Away, AllMove}
 use Rattle.fk_gen_group.specs.Meeting.{Meeting, count_for, lead}
 use Rattle.fk_gen_group.specs.Together.{Comer, Stands, GoesOn, phases}
 

@@ -1,23 +1,23 @@
 -- Blocks of operations that processors do by themselves, in a node.
 use Rattle.std.specs.Prelude.{◌≡◌, ℕ, suc, ◌-◌, ◌<◌, ◌≤◌, List, [], ◌∷◌, Bool, true}
-use Rattle.fk_operation.specs.declared.operation.Operation.{Operation}
-use Rattle.fk_operation.specs.declared.operation.Operation.TheVariants.{Leave, Enter}
+use Rattle.fk_meaning_operation.specs.declared.operation.Operation.{Operation}
+use Rattle.fk_meaning_operation.specs.declared.operation.Operation.TheVariants.{Leave, Enter}
 use Rattle.fk_core.specs.declared.op.CoreOp.{CoreOp}
 use Rattle.fk_core.specs.Next.{follows, behind_jump}
 use Rattle.fk_image.specs.declared.Image.{Image}
-use Rattle.fk_block_law.specs.Stands.{Places}
-use Rattle.fk_block_law.specs.Next.{StandsOp}
-use Rattle.fk_block_law.specs.Ready.{is_alone}
-use Rattle.fk_block_law.specs.Suits.{Flows, nothing, writes}
+use Rattle.fk_sim_block.specs.Stands.{Places}
+use Rattle.fk_sim_block.specs.Next.{StandsOp}
+use Rattle.fk_sim_block.specs.Ready.{is_alone}
+use Rattle.fk_sim_block.specs.Suits.{Flows, nothing, writes}
 use Rattle.fk_isa.specs.declared.instruction.Instruction.TheVariants.{Jal}
 use Rattle.fk_gen.specs.Registers.{zero_register}
 use Rattle.fk_gen.specs.Lines.{goes_to, label_of}
 use Rattle.fk_gen.specs.InPlace.{HasBlock}
 use Rattle.fk_gen.specs.Keeps.{peak}
 use Rattle.fk_gen_flow.specs.Keeps.{BlockKeeps}
-use Rattle.fk_group_law.specs.Node.{Nestings, HasLevelRoom}
-use Rattle.fk_group_law.specs.Lockstep.{LevelsStay}
-use Rattle.fk_group_law.specs.Law.{Cycles, BlockDoesInNode, BlockJumpsInNode}
+use Rattle.fk_sim_block.specs.Node.{Nestings, HasLevelRoom}
+use Rattle.fk_sim_block.specs.Lockstep.{LevelsStay}
+use Rattle.fk_sim_block.specs.Law.{Cycles, BlockDoesInNode, BlockJumpsInNode}
 
 -- the levels of the running call have room beside the values of an operation and the private words that it writes, and the call
 -- goes on with them

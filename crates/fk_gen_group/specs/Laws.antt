@@ -1,19 +1,19 @@
 -- What the blocks of groups do where they stand.
 use Rattle.std.specs.Prelude.{◌≡◌, ℕ, ◌≤◌, suc, List, length, Some, None, true, if◌then◌else◌}
-use Rattle.fk_operation.specs.declared.operation.Operation.{Operation}
-use Rattle.fk_operation.specs.declared.operation.Operation.TheVariants.{Begin, Agree, Farm, Seq, End}
+use Rattle.fk_meaning_operation.specs.declared.operation.Operation.{Operation}
+use Rattle.fk_meaning_operation.specs.declared.operation.Operation.TheVariants.{Begin, Agree, Farm, Seq, End}
 use Rattle.fk_core.specs.declared.op.CoreOp.{CoreOp}
 use Rattle.fk_image.specs.declared.Image.{Image}
-use Rattle.fk_block_law.specs.Stands.{Places}
-use Rattle.fk_block_law.specs.Next.{StandsOp}
-use Rattle.fk_block_law.specs.Suits.{Fits}
+use Rattle.fk_sim_block.specs.Stands.{Places}
+use Rattle.fk_sim_block.specs.Next.{StandsOp}
+use Rattle.fk_sim_block.specs.Suits.{Fits}
 use Rattle.fk_gen.specs.InPlace.{HasBlock}
-use Rattle.fk_group_law.specs.Node.{Nestings, HasLevelRoom}
-use Rattle.fk_group_law.specs.Lockstep.{LevelsStay, StepTogether, PartTogether, EndTogether, AreOfSize, IsLowest, one_runs, values_of_step}
+use Rattle.fk_sim_block.specs.Node.{Nestings, HasLevelRoom}
+use Rattle.fk_sim_block.specs.Lockstep.{LevelsStay, StepTogether, PartTogether, EndTogether, AreOfSize, IsLowest, one_runs, values_of_step}
 use Rattle.fk_gen_group.specs.Blocks.{block_of, HasStart}
 use Rattle.fk_gen_group.specs.Start.{gathered_at, who_comes}
-use Rattle.fk_group_law.specs.Joint.{is_meeting, BlockMeets}
-use Rattle.fk_group_law.specs.Start.{BlockStarts}
+use Rattle.fk_sim_block.specs.Joint.{is_meeting, BlockMeets}
+use Rattle.fk_sim_block.specs.Start.{BlockStarts}
 
 -- the block of a step stands at its index, in a list whose values and levels have room
 pub record IsInPlace (core : List CoreOp) (image : Image) (bound : ℕ → ℕ) (places : Places) (nestings : Nestings) (i : ℕ) (op : CoreOp) (operation : Operation) : Type 0 where

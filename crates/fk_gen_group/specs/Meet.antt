@@ -1,21 +1,21 @@
 -- A hart at the block of an operation that several do together by meeting, on its way in lines of a meeting.
 use Rattle.std.specs.Prelude.{◌≡◌, ℕ, suc, ◌+◌, ◌≤◌, List, false, Option}
-use Rattle.fk_operation.specs.declared.operation.Operation.{Operation}
-use Rattle.fk_operation.specs.declared.operation.Operation.TheVariants.{Meet}
-use Rattle.fk_run.specs.Processor.{Setting}
+use Rattle.fk_meaning_operation.specs.declared.operation.Operation.{Operation}
+use Rattle.fk_meaning_operation.specs.declared.operation.Operation.TheVariants.{Meet}
+use Rattle.fk_meaning.specs.Processor.{Setting}
 use Rattle.fk_core.specs.declared.op.CoreOp.{CoreOp}
 use Rattle.fk_image.specs.declared.Image.{Image}
 use Rattle.fk_machine.specs.Hart.{Hart, Setting as MachineSetting}
-use Rattle.fk_nodes.specs.Node.{Member, Words}
-use Rattle.fk_meeting.specs.Phase.{Coming}
-use Rattle.fk_block_law.specs.Owner.{Owner}
-use Rattle.fk_block_law.specs.Stands.{Places, StandsAt, size_register}
-use Rattle.fk_block_law.specs.Block.{Enters, gone_to}
-use Rattle.fk_group_law.specs.Node.{Nestings, StandsInNode, OwnsHeader, body_register}
+use Rattle.fk_sim_nodes.specs.Node.{Member, Words}
+use Rattle.fk_sim_nodes.specs.Phase.{Coming}
+use Rattle.fk_sim_block.specs.Owner.{Owner}
+use Rattle.fk_sim_block.specs.Stands.{Places, StandsAt, size_register}
+use Rattle.fk_sim_block.specs.Block.{Enters, gone_to}
+use Rattle.fk_sim_block.specs.Node.{Nestings, StandsInNode, OwnsHeader, body_register}
 use Rattle.fk_gen_group.specs.Meeting.{Meeting, HasLeft}
 use Rattle.fk_gen_group.specs.Together.{Comer, Stands}
-use Rattle.fk_group_law.specs.Lockstep.{IsMember}
-use Rattle.fk_group_law.specs.Joint.{word_of, AreSoMany}
+use Rattle.fk_sim_block.specs.Lockstep.{IsMember}
+use Rattle.fk_sim_block.specs.Joint.{word_of, AreSoMany}
 use Rattle.fk_gen_group.specs.Blocks.{meeting_of}
 
 -- at a `barrier` those who run the body meet, else all members of the node. Which register has their number

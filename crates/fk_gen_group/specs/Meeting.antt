@@ -6,13 +6,13 @@ use Rattle.fk_isa.specs.declared.instruction.Instruction.{Instruction}
 use Rattle.fk_isa.specs.declared.instruction.Instruction.TheVariants.{Lui, Lw, Sw, Addi, Andi, Beq, Bne, AmoAddW}
 use Rattle.fk_asm.specs.Block.{MarkedLine}
 use Rattle.fk_machine.specs.Hart.{Hart, Setting}
-use Rattle.fk_nodes.specs.Node.{Member, Words}
-use Rattle.fk_nodes.specs.Alone.{Holds, RunsPrivately, Stays, later}
-use Rattle.fk_meeting.specs.Phase.{Phase, Outside, Away, Coming, Waiting, Leaving, Moves, word_after}
+use Rattle.fk_sim_nodes.specs.Node.{Member, Words}
+use Rattle.fk_sim_nodes.specs.Alone.{Holds, RunsPrivately, Stays, later}
+use Rattle.fk_sim_nodes.specs.Phase.{Phase, Outside, Away, Coming, Waiting, Leaving, Moves, word_after}
 use Rattle.fk_gen.specs.Registers.{zero_register, t0, t1}
 use Rattle.fk_gen.specs.Lines.{quiet, commits}
 use Rattle.fk_gen.specs.InPlace.{LinesAt}
-use Rattle.fk_group_law.specs.Node.{control_address, root_words}
+use Rattle.fk_sim_block.specs.Node.{control_address, root_words}
 
 -- where harts meet: a register with the address of the arrival word, one with the number of members, and whether leaving is
 -- the operation

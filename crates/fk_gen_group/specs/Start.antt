@@ -5,10 +5,10 @@ use Rattle.fk_num.specs.Word.{word_sum}
 use Rattle.fk_core.specs.declared.op.CoreOp.{CoreOp}
 use Rattle.fk_isa.specs.Step.{set_register}
 use Rattle.fk_machine.specs.Hart.{Hart}
-use Rattle.fk_block_law.specs.Stands.{end_register}
+use Rattle.fk_sim_block.specs.Stands.{end_register}
 use Rattle.fk_gen.specs.Registers.{ra, t0, t1, t2, t3}
 use Rattle.fk_gen.specs.Lines.{at_value}
-use Rattle.fk_group_law.specs.Node.{Polling, Gathering, node_register, closing_word}
+use Rattle.fk_sim_block.specs.Node.{Polling, Gathering, node_register, closing_word}
 use Rattle.fk_gen_group.specs.Blocks.{start_label}
 
 -- they are behind the meeting in the code that all beginnings share

@@ -4,9 +4,9 @@ use Rattle.fk_num.specs.Word.{Memory}
 use Rattle.fk_image.specs.declared.Image.{Image}
 use Rattle.fk_machine.specs.Hart.{Hart, Shared, Setting, Goes}
 use Rattle.fk_machine.specs.Step.{step}
-use Rattle.fk_nodes.specs.Node.{Member, Words}
-use Rattle.fk_nodes.specs.Alone.{Holds, NodeCycle, NodeRun, in_cycles}
-use Rattle.fk_meeting.specs.Phase.{Phase, Outside, Away, Coming, AllMove, Each, Settled, IsDue}
+use Rattle.fk_sim_nodes.specs.Node.{Member, Words}
+use Rattle.fk_sim_nodes.specs.Alone.{Holds, NodeCycle, NodeRun, in_cycles}
+use Rattle.fk_sim_nodes.specs.Phase.{Phase, Outside, Away, Coming, AllMove, Each, Settled, IsDue}
 use Rattle.fk_gen_group.specs.Meeting.{Meeting, HasMeeting, IsReadyToMeet, StandsInPhase, Continues, HasLeft, count_of_leaving, lead}
 
 -- a hart at an arrival word: its phase there, the word of the code where the lines begin to which it came, and what it was

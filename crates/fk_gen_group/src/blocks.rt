@@ -12,7 +12,7 @@ use fk_gen::registers::{END, NUMBER, RA, RANK, SIZE, T0, T1, T2, T3, ZERO};
 use fk_gen::{BlockLine, Placed, emit_lines};
 use fk_gen_flow::registers::{BODY, NODE};
 use fk_isa::Instruction;
-use fk_operation::Operation;
+use fk_meaning_operation::Operation;
 use std::alloc::AllocError;
 
 /// The label of the block of the first operation.

@@ -18,7 +18,7 @@ pub fn harts_move()
 {}
 
 /// The turns of a cycle are moves of all who meet at an arrival word, whatever the others do who leave that word as it is. So
-/// the laws of `fk_meeting` say when all leave, and that nobody leaves before all have arrived.
+/// the laws of `fk_sim_nodes` say when all leave, and that nobody leaves before all have arrived.
 pub fn turns_are_moves()
     ensures { TurnsAreMoves }
 {}

@@ -1,16 +1,16 @@
 -- A tally of code counts its operations, and one of a text its sites.
 use Rattle.std.proofs.Common.{◌≡◌, ℕ, suc, ◌+◌, ◌-◌, ◌^◌, ◌≤◌, min, List, [], ◌∷◌, ◌++◌, length, refl, ◌∙◌, sym, ap, arith, zero-add, length-append}
 use Rattle.fk_syntax.specs.Program.{FunctionTree}
-use Rattle.fk_forms.specs.Code.{done, perform, choose, while, until, turn, again, quit, break, continue, call, ends, size, sites}
-use Rattle.fk_forms.specs.Expressions.{Coded, Signature}
-use Rattle.fk_forms.specs.Program.{sites_in}
-use Rattle.fk_forms.proofs.Ranks.{counted}
-use Rattle.fk_walk.specs.declared.known.Known.{Known}
-use Rattle.fk_walk.specs.declared.tally.Tally.{Tally}
-use Rattle.fk_walk.specs.Known.{tables_of, functions_of}
-use Rattle.fk_walk.specs.Tally.{tally_after, no_mark}
-use Rattle.fk_walk.specs.Through.{through}
-use Rattle.fk_walk_statements.specs.Texts.{functions_in, code_in, sites_of_text, through_all}
+use Rattle.fk_meaning_forms.specs.Code.{done, perform, choose, while, until, turn, again, quit, break, continue, call, ends, size, sites}
+use Rattle.fk_meaning_forms.specs.Expressions.{Coded, Signature}
+use Rattle.fk_meaning_forms.specs.Program.{sites_in}
+use Rattle.fk_meaning_forms.proofs.Ranks.{counted}
+use Rattle.fk_layout_walk.specs.declared.known.Known.{Known}
+use Rattle.fk_layout_walk.specs.declared.tally.Tally.{Tally}
+use Rattle.fk_layout_walk.specs.Known.{tables_of, functions_of}
+use Rattle.fk_layout_walk.specs.Tally.{tally_after, no_mark}
+use Rattle.fk_layout_walk.specs.Through.{through}
+use Rattle.fk_layout_walk_statements.specs.Texts.{functions_in, code_in, sites_of_text, through_all}
 
 -- so many more, up to the greatest number
 abbrev Adds : (from n to : ℕ) → Type 0

@@ -5,13 +5,13 @@ use Rattle.fk_syntax.specs.declared.program.Mode.TheVariants as m
 use Rattle.fk_syntax.specs.Tree as t
 use Rattle.fk_syntax.specs.Program as p
 use Rattle.fk_syntax.specs.Program.{DeclaredTree, FunctionTree, ItemTree, Statements}
-use Rattle.fk_forms.specs.declared.tables.FrameSize.{FrameSize}
-use Rattle.fk_forms.specs.Tables.{Tables}
-use Rattle.fk_forms.proofs.Short.{sp, nm, ty, dc, kd, function, place}
-use Rattle.fk_slots.specs.Told.{Told}
-use Rattle.fk_slots.specs.Frames.{regions_of}
-use Rattle.fk_slots.specs.Places.{behind_frame, within, outside, behind_private, slot_in, file_slot, behind_words, behind_variable, behind_parameter}
-use Rattle.fk_slots.specs.Slots.{slots_of}
+use Rattle.fk_meaning_forms.specs.declared.tables.FrameSize.{FrameSize}
+use Rattle.fk_meaning_forms.specs.Tables.{Tables}
+use Rattle.fk_meaning_forms.proofs.Short.{sp, nm, ty, dc, kd, function, place}
+use Rattle.fk_layout_slots.specs.Told.{Told}
+use Rattle.fk_layout_slots.specs.Frames.{regions_of}
+use Rattle.fk_layout_slots.specs.Places.{behind_frame, within, outside, behind_private, slot_in, file_slot, behind_words, behind_variable, behind_parameter}
+use Rattle.fk_layout_slots.specs.Slots.{slots_of}
 use Rattle.fk_layout.specs.Frames.{frame_sizes, first_large}
 
 -- all types are a word

@@ -8,14 +8,14 @@ use Rattle.fk_syntax.specs.declared.program.Function.{Function}
 use Rattle.fk_syntax.specs.Program as p
 use Rattle.fk_syntax.specs.Program.{DeclaredTree, FunctionTree, ItemTree, Statements}
 use Rattle.fk_syntax.specs.ProgramView.{function_of}
-use Rattle.fk_forms.specs.Code.{size, sites}
-use Rattle.fk_forms.specs.Tables.{Tables}
-use Rattle.fk_forms.specs.Program.{functions_of, with_body, code_of, sites_in}
-use Rattle.fk_forms.proofs.Ranks.{counted}
-use Rattle.fk_slots.specs.declared.tables.Own.{Own}
-use Rattle.fk_slots.specs.Told.{Told}
-use Rattle.fk_slots.specs.Slots.{own_of}
-use Rattle.fk_globals.specs.Variables.{is_kept, kept, variables_in, variables_of}
+use Rattle.fk_meaning_forms.specs.Code.{size, sites}
+use Rattle.fk_meaning_forms.specs.Tables.{Tables}
+use Rattle.fk_meaning_forms.specs.Program.{functions_of, with_body, code_of, sites_in}
+use Rattle.fk_meaning_forms.proofs.Ranks.{counted}
+use Rattle.fk_layout_slots.specs.declared.tables.Own.{Own}
+use Rattle.fk_layout_slots.specs.Told.{Told}
+use Rattle.fk_layout_slots.specs.Slots.{own_of}
+use Rattle.fk_layout_globals.specs.Variables.{is_kept, kept, variables_in, variables_of}
 use Rattle.fk_layout.specs.declared.sites.LayoutFault.{LayoutFault}
 use Rattle.fk_layout.specs.Frames.{file_privates, functions_behind}
 

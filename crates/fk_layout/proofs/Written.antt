@@ -4,19 +4,19 @@ use Rattle.std.proofs.lemmas.List.{append_assoc, append-nil, length-set, map-app
 use Rattle.std.proofs.lemmas.Bool.{lt-ltb}
 use Rattle.std.proofs.Math.Seq.{take-length}
 use Rattle.fk_syntax.specs.declared.place.Place.{Place}
-use Rattle.fk_operation.specs.declared.operation.Operation.{Operation}
-use Rattle.fk_operation.specs.Kinds.{kind_of}
-use Rattle.fk_forms.specs.Code.{done, perform, choose, while, until, turn, again, quit, break, continue, call, ends, size, sites}
-use Rattle.fk_forms.specs.Expressions.{Coded, Signature}
-use Rattle.fk_forms.specs.Program.{sites_in}
-use Rattle.fk_forms.proofs.Ranks.{counted}
+use Rattle.fk_meaning_operation.specs.declared.operation.Operation.{Operation}
+use Rattle.fk_meaning_operation.specs.Kinds.{kind_of}
+use Rattle.fk_meaning_forms.specs.Code.{done, perform, choose, while, until, turn, again, quit, break, continue, call, ends, size, sites}
+use Rattle.fk_meaning_forms.specs.Expressions.{Coded, Signature}
+use Rattle.fk_meaning_forms.specs.Program.{sites_in}
+use Rattle.fk_meaning_forms.proofs.Ranks.{counted}
 use Rattle.fk_syntax.specs.Program.{FunctionTree}
-use Rattle.fk_walk.specs.declared.known.Known.{Known}
-use Rattle.fk_walk.specs.declared.visitor.Event.TheVariants.{Perform}
-use Rattle.fk_walk.specs.Known.{tables_of, functions_of}
-use Rattle.fk_walk_statements.specs.Texts.{functions_in, code_in, sites_of_text, through_all}
-use Rattle.fk_walk.specs.Through.{through}
-use Rattle.fk_walk.specs.Shown.{shown}
+use Rattle.fk_layout_walk.specs.declared.known.Known.{Known}
+use Rattle.fk_layout_walk.specs.declared.visitor.Event.TheVariants.{Perform}
+use Rattle.fk_layout_walk.specs.Known.{tables_of, functions_of}
+use Rattle.fk_layout_walk_statements.specs.Texts.{functions_in, code_in, sites_of_text, through_all}
+use Rattle.fk_layout_walk.specs.Through.{through}
+use Rattle.fk_layout_walk.specs.Shown.{shown}
 use Rattle.fk_layout.specs.declared.listed.Site.{Site}
 use Rattle.fk_layout.specs.declared.listed.Listing.{Listing}
 use Rattle.fk_layout.specs.Listing.{site, written, with_operation, listing_after, no_mark}

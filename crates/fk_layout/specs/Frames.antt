@@ -5,13 +5,13 @@ use Rattle.fk_syntax.specs.declared.place.Place.{Place}
 use Rattle.fk_syntax.specs.declared.program.Function.{Function}
 use Rattle.fk_syntax.specs.Program.{FunctionTree, ItemTree}
 use Rattle.fk_syntax.specs.ProgramView.{function_of}
-use Rattle.fk_forms.specs.declared.tables.FrameSize.{FrameSize}
-use Rattle.fk_forms.specs.Tables.{Tables}
-use Rattle.fk_forms.specs.Program.{functions_of, is_main, code_of, signature_in}
-use Rattle.fk_slots.specs.Told.{Told}
-use Rattle.fk_slots.specs.Slots.{own_of}
-use Rattle.fk_globals.specs.Variables.{variables_of}
-use Rattle.fk_sizes.specs.Places.{At, places, beginning, most_values, deepest, filling}
+use Rattle.fk_meaning_forms.specs.declared.tables.FrameSize.{FrameSize}
+use Rattle.fk_meaning_forms.specs.Tables.{Tables}
+use Rattle.fk_meaning_forms.specs.Program.{functions_of, is_main, code_of, signature_in}
+use Rattle.fk_layout_slots.specs.Told.{Told}
+use Rattle.fk_layout_slots.specs.Slots.{own_of}
+use Rattle.fk_layout_globals.specs.Variables.{variables_of}
+use Rattle.fk_layout_sizes.specs.Places.{At, places, beginning, most_values, deepest, filling}
 
 -- what is told of the tokens alone
 abbrev pub told_in : Tables → Told

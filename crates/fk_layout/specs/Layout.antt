@@ -2,16 +2,16 @@
 use Rattle.std.specs.Prelude.{◌≡◌, ◌≤◌, List, map, None}
 use Rattle.fk_syntax.specs.declared.facts.Facts.{Facts}
 use Rattle.fk_syntax.specs.Program.{ItemTree, ProgramTree}
-use Rattle.fk_forms.specs.Tables.{Tables}
-use Rattle.fk_forms.specs.Program.{functions_of, sites_in, sites_of}
-use Rattle.fk_slots.specs.declared.tables.Slots.{Slots}
-use Rattle.fk_slots.specs.Told.{Told}
-use Rattle.fk_slots.specs.Frames.{regions_of}
-use Rattle.fk_slots.specs.Slots.{slots_of, owns_of}
-use Rattle.fk_globals.specs.declared.layout.Globals.{Globals}
-use Rattle.fk_globals.specs.Constants.{told}
-use Rattle.fk_globals.specs.Rows as g
-use Rattle.fk_globals.specs.View.{row_of}
+use Rattle.fk_meaning_forms.specs.Tables.{Tables}
+use Rattle.fk_meaning_forms.specs.Program.{functions_of, sites_in, sites_of}
+use Rattle.fk_layout_slots.specs.declared.tables.Slots.{Slots}
+use Rattle.fk_layout_slots.specs.Told.{Told}
+use Rattle.fk_layout_slots.specs.Frames.{regions_of}
+use Rattle.fk_layout_slots.specs.Slots.{slots_of, owns_of}
+use Rattle.fk_layout_globals.specs.declared.layout.Globals.{Globals}
+use Rattle.fk_layout_globals.specs.Constants.{told}
+use Rattle.fk_layout_globals.specs.Rows as g
+use Rattle.fk_layout_globals.specs.View.{row_of}
 use Rattle.fk_layout.specs.Listing.{site}
 use Rattle.fk_layout.specs.Frames.{frame_sizes, first_large}
 use Rattle.fk_layout.specs.Refusal.{count_of_sites}

@@ -2,11 +2,11 @@
 use Rattle.std.specs.Prelude.{ℕ, ◌+◌, length, nat_lt, Option, Some, None, if◌then◌else◌}
 use Rattle.std.specs.Vec.{with_item}
 use Rattle.fk_syntax.specs.declared.place.Place.{Place}
-use Rattle.fk_operation.specs.declared.operation.Operation.{Operation}
-use Rattle.fk_operation.specs.Kinds.{kind_of}
-use Rattle.fk_walk.specs.declared.visitor.Event.{Event}
-use Rattle.fk_walk.specs.declared.visitor.Mark.{Mark}
-use Rattle.fk_walk.specs.Event.{operation_of}
+use Rattle.fk_meaning_operation.specs.declared.operation.Operation.{Operation}
+use Rattle.fk_meaning_operation.specs.Kinds.{kind_of}
+use Rattle.fk_layout_walk.specs.declared.visitor.Event.{Event}
+use Rattle.fk_layout_walk.specs.declared.visitor.Mark.{Mark}
+use Rattle.fk_layout_walk.specs.Event.{operation_of}
 use Rattle.fk_layout.specs.declared.listed.Site.{Site}
 use Rattle.fk_layout.specs.declared.listed.Listing.{Listing}
 

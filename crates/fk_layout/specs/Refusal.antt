@@ -2,10 +2,10 @@
 use Rattle.std.specs.Prelude.{◌≡◌, ℕ, ◌<◌, ◌≤◌, ◌-◌, ◌^◌, min, length, List, Option, Some, None}
 use Rattle.fk_syntax.specs.declared.place.Place.{Place}
 use Rattle.fk_syntax.specs.Program.{ItemTree}
-use Rattle.fk_forms.specs.Tables.{Tables}
-use Rattle.fk_forms.specs.Program.{functions_of, sites_in}
-use Rattle.fk_globals.specs.Constants.{told}
-use Rattle.fk_globals.specs.Rows.{total}
+use Rattle.fk_meaning_forms.specs.Tables.{Tables}
+use Rattle.fk_meaning_forms.specs.Program.{functions_of, sites_in}
+use Rattle.fk_layout_globals.specs.Constants.{told}
+use Rattle.fk_layout_globals.specs.Rows.{total}
 use Rattle.fk_layout.specs.Frames.{first_large}
 use Rattle.fk_layout.specs.declared.sites.LayoutFault.{LayoutFault}
 use Rattle.fk_layout.specs.declared.sites.LayoutFault.TheVariants.{TooManySites, FrameTooLarge, GlobalsTooLarge, Memory}

@@ -3,22 +3,22 @@
 ghost use Rattle.std.specs.Prelude.{◌≡◌, ◌+◌, ◌-◌, ◌^◌, ◌<◌, ◌≤◌, ◌∷◌, ◌++◌, [], false, List, length, map, min, IfOk, IfErr, OnOk, None};
 ghost use Rattle.fk_syntax.specs.Program.{FunctionTree};
 ghost use Rattle.fk_syntax.specs.ProgramView.{declared_of, function_of, item_of};
-ghost use Rattle.fk_forms.specs.Code.{size};
-ghost use Rattle.fk_forms.specs.Program.{functions_of};
-ghost use Rattle.fk_walk.specs.Known.{tables_of, items_in, IsSound};
-ghost use Rattle.fk_walk_statements.specs.Texts.{code_in, sites_of_text};
-ghost use Rattle.fk_slots.specs.Slots.{own_of, owns_of};
-ghost use Rattle.fk_globals.specs.Variables.{kept};
+ghost use Rattle.fk_meaning_forms.specs.Code.{size};
+ghost use Rattle.fk_meaning_forms.specs.Program.{functions_of};
+ghost use Rattle.fk_layout_walk.specs.Known.{tables_of, items_in, IsSound};
+ghost use Rattle.fk_layout_walk_statements.specs.Texts.{code_in, sites_of_text};
+ghost use Rattle.fk_layout_slots.specs.Slots.{own_of, owns_of};
+ghost use Rattle.fk_layout_globals.specs.Variables.{kept};
 ghost use Rattle.fk_layout.specs.Frames as f;
 ghost use Rattle.fk_layout.specs.Frames.{told_in, file_privates, functions_behind};
 ghost use Rattle.fk_layout.specs.Refusal.{TellsLarge};
 
 use crate::sites::LayoutFault;
-use fk_forms::FrameSize;
-use fk_sizes::extent_of;
-use fk_slots::Own;
+use fk_meaning_forms::FrameSize;
+use fk_layout_sizes::extent_of;
+use fk_layout_slots::Own;
 use fk_syntax::{Declared, Function, Item};
-use fk_walk::Known;
+use fk_layout_walk::Known;
 use std::alloc::{AllocError, Global};
 
 /// How many words a private frame may have.

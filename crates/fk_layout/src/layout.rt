@@ -2,8 +2,8 @@
 
 ghost use Rattle.std.specs.Prelude.{◌≡◌, ◌≤◌, IfOk, IfErr, OnOk, None};
 ghost use Rattle.fk_syntax.specs.ProgramView.{program_of};
-ghost use Rattle.fk_walk.specs.Known.{tables_of, items_in};
-ghost use Rattle.fk_slots.specs.Slots.{owns_of};
+ghost use Rattle.fk_layout_walk.specs.Known.{tables_of, items_in};
+ghost use Rattle.fk_layout_slots.specs.Slots.{owns_of};
 ghost use Rattle.fk_layout.specs.Frames.{told_in, first_large};
 ghost use Rattle.fk_layout.specs.Refusal.{IsRefusal, Fits, count_of_sites};
 ghost use Rattle.fk_layout.specs.Layout.{IsLayout, ArePlaces, AreGlobals, AreSizes, tables_by};
@@ -11,12 +11,12 @@ ghost use Rattle.fk_layout.specs.Layout.{IsLayout, ArePlaces, AreGlobals, AreSiz
 use crate::frames::fitting_frames;
 use crate::listed::{Site, all_sites};
 use crate::sites::{LayoutFault, out_of_memory};
-use fk_forms::{FrameSize, Region, Slot};
-use fk_globals::{GlobalRow, Globals, GlobalsFault, lay_globals};
-use fk_lookup::Lookup;
-use fk_slots::{Own, Slots, slots};
+use fk_meaning_forms::{FrameSize, Region, Slot};
+use fk_layout_globals::{GlobalRow, Globals, GlobalsFault, lay_globals};
+use fk_layout_lookup::Lookup;
+use fk_layout_slots::{Own, Slots, slots};
 use fk_syntax::{Facts, Program};
-use fk_walk::Known;
+use fk_layout_walk::Known;
 use std::alloc::Global;
 
 /// Where all that a program has lies.

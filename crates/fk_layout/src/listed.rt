@@ -1,15 +1,15 @@
 //! The operations of a text, one by one.
 
 ghost use Rattle.std.specs.Prelude.{◌≡◌, ◌≤◌, IfOk, IfErr, length, map};
-ghost use Rattle.fk_walk.specs.Known.{tables_of, items_in, IsSound};
-ghost use Rattle.fk_walk_statements.specs.Texts.{sites_of_text};
+ghost use Rattle.fk_layout_walk.specs.Known.{tables_of, items_in, IsSound};
+ghost use Rattle.fk_layout_walk_statements.specs.Texts.{sites_of_text};
 ghost use Rattle.fk_layout.specs.Listing.{site};
 ghost use Rattle.fk_layout.specs.Refusal.{HasTooMany};
 
 use crate::sites::{LayoutFault, fitting_sites};
 use fk_syntax::Place;
-use fk_walk::{Event, Known, Mark, NOWHERE, Visitor};
-use fk_walk_statements::text;
+use fk_layout_walk::{Event, Known, Mark, NOWHERE, Visitor};
+use fk_layout_walk_statements::text;
 use std::alloc::Global;
 
 /// An operation of a text, by which a fault or a commit names it.

@@ -1,12 +1,12 @@
 //! How many operations a text has.
 
 ghost use Rattle.std.specs.Prelude.{◌≡◌, ◌-◌, ◌^◌, ◌<◌, ◌≤◌, IfOk, IfErr, length, min};
-ghost use Rattle.fk_walk.specs.Known.{IsSound};
-ghost use Rattle.fk_walk_statements.specs.Texts.{sites_of_text};
+ghost use Rattle.fk_layout_walk.specs.Known.{IsSound};
+ghost use Rattle.fk_layout_walk_statements.specs.Texts.{sites_of_text};
 
 use fk_syntax::Place;
-use fk_walk::{Known, Tally};
-use fk_walk_statements::text;
+use fk_layout_walk::{Known, Tally};
+use fk_layout_walk_statements::text;
 use std::alloc::AllocError;
 
 /// Why a text has no layout.

@@ -1,12 +1,12 @@
 -- Rounds of any form of what is left to do that goes on as code in step.
 use Rattle.std.proofs.Common.{◌≡◌, ℕ, zero, suc, Bool, true, false, [], Option, Some, None, ◌∙◌, sym, refl, subst}
-use Rattle.fk_operation.specs.declared.operation.Operation.{Operation}
-use Rattle.fk_run.specs.Alike.{Same}
-use Rattle.fk_run.specs.Round.{Step}
-use Rattle.fk_forms.specs.Code.{Code}
-use Rattle.fk_forms.specs.Program.{bodies_of}
-use Rattle.fk_source.specs.Next as source
-use Rattle.fk_source.specs.Next.{Work, going}
+use Rattle.fk_meaning_operation.specs.declared.operation.Operation.{Operation}
+use Rattle.fk_meaning.specs.Alike.{Same}
+use Rattle.fk_meaning.specs.Round.{Step}
+use Rattle.fk_meaning_forms.specs.Code.{Code}
+use Rattle.fk_meaning_forms.specs.Program.{bodies_of}
+use Rattle.fk_meaning.specs.Next as source
+use Rattle.fk_meaning.specs.Next.{Work, going}
 use Rattle.fk_core.specs.Next as core
 use Rattle.fk_core.specs.Next.{Position, position}
 use Rattle.fk_core.proofs.Running.{IsAt, same_next, body_at}

@@ -4,16 +4,16 @@ use Rattle.std.specs.Prelude.{if◌then◌else◌}
 use Rattle.fk_syntax.specs.declared.place.Place.{Place}
 use Rattle.fk_syntax.specs.Tree.{Named, Tree}
 use Rattle.fk_syntax.specs.Program.{DeclaredTree}
-use Rattle.fk_operation.specs.declared.operation.Operation.{Operation}
-use Rattle.fk_operation.specs.declared.operation.Operation.TheVariants as o
-use Rattle.fk_operation.specs.declared.operation.Variable.TheVariants as v
-use Rattle.fk_operation.specs.declared.operation.Known.TheVariants as n
-use Rattle.fk_forms.specs.declared.tables.Region.{Region}
-use Rattle.fk_forms.specs.Code.{perform, choose}
-use Rattle.fk_forms.specs.Tables.{Tables, note, slot, frame_at}
-use Rattle.fk_forms.specs.Expressions.{Coded, nowhere, plain, Standing, Signature, agreed, addressed, assigned, dropped, variable, framed, parameters, value}
-use Rattle.fk_nesting.proofs.Spine.{untrue}
-use Rattle.fk_nesting.proofs.Kept.{entered}
+use Rattle.fk_meaning_operation.specs.declared.operation.Operation.{Operation}
+use Rattle.fk_meaning_operation.specs.declared.operation.Operation.TheVariants as o
+use Rattle.fk_meaning_operation.specs.declared.operation.Variable.TheVariants as v
+use Rattle.fk_meaning_operation.specs.declared.operation.Known.TheVariants as n
+use Rattle.fk_meaning_forms.specs.declared.tables.Region.{Region}
+use Rattle.fk_meaning_forms.specs.Code.{perform, choose}
+use Rattle.fk_meaning_forms.specs.Tables.{Tables, note, slot, frame_at}
+use Rattle.fk_meaning_forms.specs.Expressions.{Coded, nowhere, plain, Standing, Signature, agreed, addressed, assigned, dropped, variable, framed, parameters, value}
+use Rattle.fk_meaning.proofs.Spine.{untrue}
+use Rattle.fk_meaning.proofs.Kept.{entered}
 use Rattle.fk_lockstep.specs.InStep.{InStep}
 use Rattle.fk_lockstep.specs.Noted.{Decides, Means, Noted}
 use Rattle.fk_lockstep.proofs.Weaken.{weaken}

@@ -1,9 +1,9 @@
 -- Where nothing changes the tree a group stays together.
 use Rattle.std.proofs.Common.{◌≡◌, ℕ, true, false, true≢false, ◌∙◌, sym, refl}
-use Rattle.fk_operation.specs.declared.operation.Operation.{Operation}
-use Rattle.fk_operation.specs.declared.operation.Operation.TheVariants as o
-use Rattle.fk_run.specs.Processor.{Processor}
-use Rattle.fk_source.specs.Next.{Work, next}
+use Rattle.fk_meaning_operation.specs.declared.operation.Operation.{Operation}
+use Rattle.fk_meaning_operation.specs.declared.operation.Operation.TheVariants as o
+use Rattle.fk_meaning.specs.Processor.{Processor}
+use Rattle.fk_meaning.specs.Next.{Work, next}
 use Rattle.fk_lockstep.specs.InStep.{leaves_step}
 use Rattle.fk_lockstep.specs.Together.{OneWay, ActTogether}
 use Rattle.fk_lockstep.specs.Untouched.{changes_tree}

@@ -9,26 +9,26 @@ use Rattle.fk_syntax.specs.declared.sign.Sign.TheVariants as g
 use Rattle.fk_syntax.specs.Tree as t
 use Rattle.fk_syntax.specs.Tree.{Named, Tree, Links, Trees, Suffixes}
 use Rattle.fk_syntax.specs.Program.{DeclaredTree}
-use Rattle.fk_operation.specs.declared.operation.Operation.{Operation}
-use Rattle.fk_operation.specs.declared.operation.Operation.TheVariants as o
-use Rattle.fk_operation.specs.declared.operation.Variable.TheVariants as v
-use Rattle.fk_operation.specs.declared.operation.Known.TheVariants as n
-use Rattle.fk_operation.specs.declared.operation.Unary.TheVariants as u
-use Rattle.fk_operation.specs.declared.operation.Multiprefix.{Multiprefix}
-use Rattle.fk_operation.specs.declared.operation.Multiprefix.TheVariants.{MpAdd, MpMax, MpAnd, MpOr}
-use Rattle.fk_operation.specs.declared.operation.Split.{Split}
-use Rattle.fk_operation.specs.declared.operation.Split.TheVariants.{IfElse, AndThen, OrElse}
-use Rattle.fk_forms.specs.declared.tables.Home.{Home}
-use Rattle.fk_forms.specs.declared.tables.Home.TheVariants as h
-use Rattle.fk_forms.specs.declared.tables.Region.{Region}
-use Rattle.fk_forms.specs.declared.signs.Move.{Move}
-use Rattle.fk_forms.specs.declared.signs.Move.TheVariants.{Forth, Back, NoMove}
-use Rattle.fk_forms.specs.Code.{done, perform, choose}
-use Rattle.fk_forms.specs.Tables.{Tables, no_binding, note, kind_at, is_array, is_void, is_unsigned, slot}
-use Rattle.fk_forms.specs.Signs.{operator_of, is_shift, move_of}
-use Rattle.fk_forms.specs.Texts.{text_of}
-use Rattle.fk_forms.specs.Expressions.{Coded, nowhere, plain, Standing, OnList, AtAddress, InWord, ToCall, Stands, token, spot_of, is_name, Signature, put_bytes, moved, agreed, checked, valued, addressed, fetched, assigned, value_of, dropped, predeclared, placed, variable, operate, updated, one, prefixed, truth, logical, chosen, joined, assignment, member, is_deep, indexed, dotted, pointed, step_back, raised, arguments, framed, called, multiprefix, with_one, called_predeclared, calling, stands, linked, suffixed, all_stand, value}
-use Rattle.fk_nesting.proofs.Kept.{is_inner, entered}
+use Rattle.fk_meaning_operation.specs.declared.operation.Operation.{Operation}
+use Rattle.fk_meaning_operation.specs.declared.operation.Operation.TheVariants as o
+use Rattle.fk_meaning_operation.specs.declared.operation.Variable.TheVariants as v
+use Rattle.fk_meaning_operation.specs.declared.operation.Known.TheVariants as n
+use Rattle.fk_meaning_operation.specs.declared.operation.Unary.TheVariants as u
+use Rattle.fk_meaning_operation.specs.declared.operation.Multiprefix.{Multiprefix}
+use Rattle.fk_meaning_operation.specs.declared.operation.Multiprefix.TheVariants.{MpAdd, MpMax, MpAnd, MpOr}
+use Rattle.fk_meaning_operation.specs.declared.operation.Split.{Split}
+use Rattle.fk_meaning_operation.specs.declared.operation.Split.TheVariants.{IfElse, AndThen, OrElse}
+use Rattle.fk_meaning_forms.specs.declared.tables.Home.{Home}
+use Rattle.fk_meaning_forms.specs.declared.tables.Home.TheVariants as h
+use Rattle.fk_meaning_forms.specs.declared.tables.Region.{Region}
+use Rattle.fk_meaning_forms.specs.declared.signs.Move.{Move}
+use Rattle.fk_meaning_forms.specs.declared.signs.Move.TheVariants.{Forth, Back, NoMove}
+use Rattle.fk_meaning_forms.specs.Code.{done, perform, choose}
+use Rattle.fk_meaning_forms.specs.Tables.{Tables, no_binding, note, kind_at, is_array, is_void, is_unsigned, slot}
+use Rattle.fk_meaning_forms.specs.Signs.{operator_of, is_shift, move_of}
+use Rattle.fk_meaning_forms.specs.Texts.{text_of}
+use Rattle.fk_meaning_forms.specs.Expressions.{Coded, nowhere, plain, Standing, OnList, AtAddress, InWord, ToCall, Stands, token, spot_of, is_name, Signature, put_bytes, moved, agreed, checked, valued, addressed, fetched, assigned, value_of, dropped, predeclared, placed, variable, operate, updated, one, prefixed, truth, logical, chosen, joined, assignment, member, is_deep, indexed, dotted, pointed, step_back, raised, arguments, framed, called, multiprefix, with_one, called_predeclared, calling, stands, linked, suffixed, all_stand, value}
+use Rattle.fk_meaning.proofs.Kept.{is_inner, entered}
 use Rattle.fk_lockstep.specs.Told.{is_logical, Told, LinksTold, SuffixesTold, AllTold}
 use Rattle.fk_lockstep.specs.Allots.{one_of, is_value_name, is_other_call, Allots}
 

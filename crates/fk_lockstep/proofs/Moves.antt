@@ -2,17 +2,17 @@
 use Rattle.std.proofs.Common.{◌≡◌, ℕ, ◌-◌, ◌+◌, Bool, true, false, not, true≢false, List, [], ◌∷◌, Option, Some, None, ap, ap₂, ◌∙◌, sym, refl, subst}
 use Rattle.std.specs.Prelude.{◌==◌, nat_lt, if◌then◌else◌}
 use Rattle.fk_space.specs.Space.{Space, child, frame, block}
-use Rattle.fk_operation.specs.declared.operation.Operation.{Operation}
-use Rattle.fk_operation.specs.declared.operation.Operation.TheVariants as o
-use Rattle.fk_operation.specs.declared.operation.Variable.{Variable}
-use Rattle.fk_operation.specs.declared.operation.Variable.TheVariants as v
-use Rattle.fk_operation.specs.declared.operation.Split.{Split}
-use Rattle.fk_store.specs.Store.{private_words, private_address}
-use Rattle.fk_store.specs.Serve.{words_of}
-use Rattle.fk_run.specs.Processor.{Level, Call, Processor, Setting, values, last, drop_last, in_place, enter_level, to_outer, leave_level}
-use Rattle.fk_run.specs.Local.{local, taken, stored, handed, unframed, to_caller, is_onward}
-use Rattle.fk_run.specs.Request.{with_answer}
-use Rattle.fk_run.specs.Group.{parts, part, taken_by, part_number, part_level, divided, start_level, is_taken, framed, allotted, with_block, with_size, stays, does, enters, goes_onward}
+use Rattle.fk_meaning_operation.specs.declared.operation.Operation.{Operation}
+use Rattle.fk_meaning_operation.specs.declared.operation.Operation.TheVariants as o
+use Rattle.fk_meaning_operation.specs.declared.operation.Variable.{Variable}
+use Rattle.fk_meaning_operation.specs.declared.operation.Variable.TheVariants as v
+use Rattle.fk_meaning_operation.specs.declared.operation.Split.{Split}
+use Rattle.fk_meaning_store.specs.Store.{private_words, private_address}
+use Rattle.fk_meaning_store.specs.Serve.{words_of}
+use Rattle.fk_meaning.specs.Processor.{Level, Call, Processor, Setting, values, last, drop_last, in_place, enter_level, to_outer, leave_level}
+use Rattle.fk_meaning.specs.Local.{local, taken, stored, handed, unframed, to_caller, is_onward}
+use Rattle.fk_meaning.specs.Request.{with_answer}
+use Rattle.fk_meaning.specs.Group.{parts, part, taken_by, part_number, part_level, divided, start_level, is_taken, framed, allotted, with_block, with_size, stays, does, enters, goes_onward}
 use Rattle.fk_lockstep.specs.Together.{SameLevel, SameLevels, SameFrames, SamePlace, OneWay}
 use Rattle.fk_lockstep.specs.InStep.{may_stand}
 use Rattle.fk_lockstep.proofs.Weaken.{untrue}

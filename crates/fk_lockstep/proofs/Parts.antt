@@ -1,28 +1,28 @@
 -- How a processor goes through parts and bodies in a round.
 use Rattle.std.proofs.Common.{◌≡◌, ℕ, zero, suc, Bool, true, false, List, [], ◌∷◌, ◌++◌, slice_get, Option, Some, None, ap, ◌∙◌, sym, refl, subst}
 use Rattle.std.specs.Prelude.{◌==◌, ◌-◌, ◌+◌, nat_lt, if◌then◌else◌}
-use Rattle.fk_operation.specs.Kinds.{class_of}
-use Rattle.fk_operation.specs.declared.operation.Operation.{Operation}
-use Rattle.fk_operation.specs.declared.operation.Operation.TheVariants as o
-use Rattle.fk_operation.specs.declared.operation.Variable.{Variable}
-use Rattle.fk_operation.specs.declared.operation.Variable.TheVariants as v
-use Rattle.fk_operation.specs.declared.operation.Split.TheVariants.{IfElse}
-use Rattle.fk_operation.specs.declared.kinds.Class.{Class}
-use Rattle.fk_operation.specs.declared.kinds.Class.TheVariants.{Local, Request, Tree}
-use Rattle.fk_store.specs.Store.{private_words, private_address}
-use Rattle.fk_store.specs.Serve.{words_of}
+use Rattle.fk_meaning_operation.specs.Kinds.{class_of}
+use Rattle.fk_meaning_operation.specs.declared.operation.Operation.{Operation}
+use Rattle.fk_meaning_operation.specs.declared.operation.Operation.TheVariants as o
+use Rattle.fk_meaning_operation.specs.declared.operation.Variable.{Variable}
+use Rattle.fk_meaning_operation.specs.declared.operation.Variable.TheVariants as v
+use Rattle.fk_meaning_operation.specs.declared.operation.Split.TheVariants.{IfElse}
+use Rattle.fk_meaning_operation.specs.declared.kinds.Class.{Class}
+use Rattle.fk_meaning_operation.specs.declared.kinds.Class.TheVariants.{Local, Request, Tree}
+use Rattle.fk_meaning_store.specs.Store.{private_words, private_address}
+use Rattle.fk_meaning_store.specs.Serve.{words_of}
 use Rattle.fk_tree.specs.Tree as t
-use Rattle.fk_run.specs.Processor.{Call, Processor, Setting, values, last, in_place}
-use Rattle.fk_run.specs.Local.{local, taken, stored, unframed, to_caller, is_onward}
-use Rattle.fk_run.specs.Request.{with_answer}
-use Rattle.fk_run.specs.Round.{Step, Runner, Fault, State, Round, Acting, Phases, taking, done, all_requests, all_changes, settled_by, tree_phase, do_local, local_phase, after_locals, begin, begin_all, asking, result}
-use Rattle.fk_run.proofs.Stopped.{phase_fault}
-use Rattle.fk_forms.specs.Code.{Code}
-use Rattle.fk_source.specs.Next.{Work, going, next}
-use Rattle.fk_source.specs.Sites.{rest_of, after_ways}
-use Rattle.fk_nesting.specs.Behind.{outs, GoesOn, GoesOnFrom}
-use Rattle.fk_nesting.specs.Shape.{of_function, Shape}
-use Rattle.fk_nesting.proofs.Steps.{all_go_on}
+use Rattle.fk_meaning.specs.Processor.{Call, Processor, Setting, values, last, in_place}
+use Rattle.fk_meaning.specs.Local.{local, taken, stored, unframed, to_caller, is_onward}
+use Rattle.fk_meaning.specs.Request.{with_answer}
+use Rattle.fk_meaning.specs.Round.{Step, Runner, Fault, State, Round, Acting, Phases, taking, done, all_requests, all_changes, settled_by, tree_phase, do_local, local_phase, after_locals, begin, begin_all, asking, result}
+use Rattle.fk_meaning.proofs.Stopped.{phase_fault}
+use Rattle.fk_meaning_forms.specs.Code.{Code}
+use Rattle.fk_meaning.specs.Next.{Work, going, next}
+use Rattle.fk_meaning.specs.Sites.{rest_of, after_ways}
+use Rattle.fk_meaning.specs.Behind.{outs, GoesOn, GoesOnFrom}
+use Rattle.fk_meaning.specs.Shape.{of_function, Shape}
+use Rattle.fk_meaning.proofs.Steps.{all_go_on}
 use Rattle.fk_lockstep.specs.Parts.{IsReached, stepped_by, GoesThrough, RoundsGoThroughParts}
 use Rattle.fk_lockstep.proofs.Moves.{local_number, answer_number}
 use Rattle.fk_lockstep.proofs.Rounds.{Outcome, OutcomeBy, begin_at, map_at, settled_at, asked_at}

@@ -1,22 +1,22 @@
 -- What a round makes of two members of a group that are together.
 use Rattle.std.proofs.Common.{◌≡◌, ℕ, zero, suc, Bool, true, false, List, [], ◌∷◌, length, map, slice_get, Option, Some, None, ap, ap₂, ◌∙◌, sym, refl, subst, subst₂}
 use Rattle.std.specs.Prelude.{if◌then◌else◌}
-use Rattle.fk_operation.specs.Kinds.{class_of}
-use Rattle.fk_operation.specs.declared.operation.Operation.{Operation}
-use Rattle.fk_operation.specs.declared.operation.Operation.TheVariants as o
-use Rattle.fk_operation.specs.declared.kinds.Class.{Class}
-use Rattle.fk_operation.specs.declared.kinds.Class.TheVariants.{Local, Request, Tree}
-use Rattle.fk_store.specs.Store.{Store}
-use Rattle.fk_store.specs.Serve.{Answer, Served, Faults, serve}
+use Rattle.fk_meaning_operation.specs.Kinds.{class_of}
+use Rattle.fk_meaning_operation.specs.declared.operation.Operation.{Operation}
+use Rattle.fk_meaning_operation.specs.declared.operation.Operation.TheVariants as o
+use Rattle.fk_meaning_operation.specs.declared.kinds.Class.{Class}
+use Rattle.fk_meaning_operation.specs.declared.kinds.Class.TheVariants.{Local, Request, Tree}
+use Rattle.fk_meaning_store.specs.Store.{Store}
+use Rattle.fk_meaning_store.specs.Serve.{Answer, Served, Faults, serve}
 use Rattle.fk_tree.specs.Tree as t
-use Rattle.fk_run.specs.Processor.{Processor, Setting, values, last}
-use Rattle.fk_run.specs.Local.{local, is_onward}
-use Rattle.fk_run.specs.Request.{request, with_answer}
-use Rattle.fk_run.specs.Group.{does, goes_onward, has_room}
-use Rattle.fk_run.specs.Round.{Step, Runner, Fault, State, Round, Acting, Phase, Passes, Breaks, Phases, taking, done, answered, do_request, request_phase, after_phase, all_requests, lowest, agreed, all_changes, settled_by, settled, tree_phase, do_local, local_phase, after_locals, begin, begin_all, asking, result}
-use Rattle.fk_run.proofs.Stopped.{phase_fault}
-use Rattle.fk_forms.specs.Code.{Code}
-use Rattle.fk_source.specs.Next.{Work, next}
+use Rattle.fk_meaning.specs.Processor.{Processor, Setting, values, last}
+use Rattle.fk_meaning.specs.Local.{local, is_onward}
+use Rattle.fk_meaning.specs.Request.{request, with_answer}
+use Rattle.fk_meaning.specs.Group.{does, goes_onward, has_room}
+use Rattle.fk_meaning.specs.Round.{Step, Runner, Fault, State, Round, Acting, Phase, Passes, Breaks, Phases, taking, done, answered, do_request, request_phase, after_phase, all_requests, lowest, agreed, all_changes, settled_by, settled, tree_phase, do_local, local_phase, after_locals, begin, begin_all, asking, result}
+use Rattle.fk_meaning.proofs.Stopped.{phase_fault}
+use Rattle.fk_meaning_forms.specs.Code.{Code}
+use Rattle.fk_meaning.specs.Next.{Work, next}
 use Rattle.fk_lockstep.specs.InStep.{is_agree, may_stand, leaves_step, InStep, WorkInStep}
 use Rattle.fk_lockstep.specs.Together.{SamePlace, OneWay, ActTogether, GroupsGoOn}
 use Rattle.fk_lockstep.proofs.Weaken.{untrue}

@@ -8,15 +8,15 @@ use Rattle.fk_syntax.specs.declared.program.Mode.{Mode}
 use Rattle.fk_syntax.specs.Tree.{Named, TypeTree, Tree}
 use Rattle.fk_syntax.specs.Program as p
 use Rattle.fk_syntax.specs.Program.{DeclaredTree, Statement, Statements, FunctionTree, ProgramTree}
-use Rattle.fk_operation.specs.declared.operation.Operation.TheVariants as o
-use Rattle.fk_operation.specs.declared.operation.Known.TheVariants as n
-use Rattle.fk_operation.specs.declared.operation.Split.TheVariants.{IfAlone, IfElse, Loop, Fork}
-use Rattle.fk_forms.specs.Code as c
-use Rattle.fk_forms.specs.Code.{Code, done, perform, choose, while, until, turn, again, quit, break, continue, call, ends, size, numbered}
-use Rattle.fk_forms.specs.Tables.{Tables, note, frame_at}
-use Rattle.fk_forms.specs.Expressions.{Coded, Standing, nowhere, plain, agreed, token, Signature, addressed, assigned, dropped, variable, value}
-use Rattle.fk_forms.specs.Statements.{Inside, is_nothing, is_scalar, used, used_or, value_or, declared, all_declared, part_frame, leaving, tested, looping, left_by, executed, all_executed, end_of, body_of}
-use Rattle.fk_forms.specs.Program.{functions_of, binding_of, signature_in, is_main, code_of, body_in}
+use Rattle.fk_meaning_operation.specs.declared.operation.Operation.TheVariants as o
+use Rattle.fk_meaning_operation.specs.declared.operation.Known.TheVariants as n
+use Rattle.fk_meaning_operation.specs.declared.operation.Split.TheVariants.{IfAlone, IfElse, Loop, Fork}
+use Rattle.fk_meaning_forms.specs.Code as c
+use Rattle.fk_meaning_forms.specs.Code.{Code, done, perform, choose, while, until, turn, again, quit, break, continue, call, ends, size, numbered}
+use Rattle.fk_meaning_forms.specs.Tables.{Tables, note, frame_at}
+use Rattle.fk_meaning_forms.specs.Expressions.{Coded, Standing, nowhere, plain, agreed, token, Signature, addressed, assigned, dropped, variable, value}
+use Rattle.fk_meaning_forms.specs.Statements.{Inside, is_nothing, is_scalar, used, used_or, value_or, declared, all_declared, part_frame, leaving, tested, looping, left_by, executed, all_executed, end_of, body_of}
+use Rattle.fk_meaning_forms.specs.Program.{functions_of, binding_of, signature_in, is_main, code_of, body_in}
 use Rattle.fk_lockstep.specs.InStep.{is_agree, leaves_step, InStep}
 use Rattle.fk_lockstep.specs.Noted.{Decides, Means, Noted, OptionNoted, VariablesNoted, StatementNoted, StatementsNoted, BodyNoted, FunctionsNoted, FormsAreInStep}
 use Rattle.fk_lockstep.proofs.Weaken.{mapped, weaken}

@@ -1,10 +1,10 @@
 -- What is left of code in step stays in step.
 use Rattle.std.proofs.Common.{◌≡◌, ℕ, Bool, true, false, List, [], ◌∷◌, Option, Some, None, subst}
 use Rattle.std.specs.Prelude.{if◌then◌else◌}
-use Rattle.fk_run.specs.Round.{Step}
-use Rattle.fk_forms.specs.Code.{Code, done, perform, choose, while, until, turn, again, quit, break, continue, call, ends, append}
-use Rattle.fk_source.specs.Left.{broken, continued, settled_turn, opened, settled}
-use Rattle.fk_source.specs.Next.{Work, going, returned, step, step_of, next}
+use Rattle.fk_meaning.specs.Round.{Step}
+use Rattle.fk_meaning_forms.specs.Code.{Code, done, perform, choose, while, until, turn, again, quit, break, continue, call, ends, append}
+use Rattle.fk_meaning.specs.Left.{broken, continued, settled_turn, opened, settled}
+use Rattle.fk_meaning.specs.Next.{Work, going, returned, step, step_of, next}
 use Rattle.fk_lockstep.specs.InStep.{is_agree, leaves_step, InStep, Runs, Loops, CodeInStep, AllInStep, WorkInStep, StepInStep, StaysInStep}
 use Rattle.fk_lockstep.proofs.Weaken.{given, taken, weaken, weaken_run}
 

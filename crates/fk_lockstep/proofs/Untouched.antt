@@ -2,17 +2,17 @@
 use Rattle.std.proofs.Common.{◌≡◌, ◌≢◌, ℕ, suc, ◌+◌, ◌<◌, ◌≤◌, Bool, true, false, true≢false, min, List, [], ◌∷◌, length, filter, Option, Some, None, ap, ◌∙◌, sym, refl, subst, arith, slice_get}
 use Rattle.std.specs.Prelude.{◌==◌, ◌-◌, not, ◌&&◌, if◌then◌else◌}
 use Rattle.std.proofs.lemmas.Bool.{eqb-true}
-use Rattle.fk_operation.specs.declared.operation.Operation.{Operation}
-use Rattle.fk_operation.specs.declared.operation.Operation.TheVariants as o
+use Rattle.fk_meaning_operation.specs.declared.operation.Operation.{Operation}
+use Rattle.fk_meaning_operation.specs.declared.operation.Operation.TheVariants as o
 use Rattle.fk_tree.specs.declared.node.Kind.{Kind}
 use Rattle.fk_tree.specs.declared.node.Kind.TheVariants.{Lockstep, Waiting, Asynchronous}
 use Rattle.fk_tree.specs.Tree as t
 use Rattle.fk_tree.specs.Tree.{Node, Tree, members_of, members, parent, is_member, node_of, with_node, with_kind, is_in, is_from, place_in, split, first_part, left_by, shrink, kind_after}
 use Rattle.fk_tree.proofs.Lists.{kept_member}
 use Rattle.fk_tree.proofs.Shapes.{with_other, kind_members, from_below}
-use Rattle.fk_run.specs.Processor.{Processor, Setting, values}
-use Rattle.fk_run.specs.Group.{not_negative, parts, part, stays, changes}
-use Rattle.fk_run.specs.Round.{Step, Fault, State, Round, Acting, Phases, who, lowest, agreed, change_by, all_changes, tree_phase, all_requests, asking}
+use Rattle.fk_meaning.specs.Processor.{Processor, Setting, values}
+use Rattle.fk_meaning.specs.Group.{not_negative, parts, part, stays, changes}
+use Rattle.fk_meaning.specs.Round.{Step, Fault, State, Round, Acting, Phases, who, lowest, agreed, change_by, all_changes, tree_phase, all_requests, asking}
 use Rattle.fk_lockstep.specs.Untouched.{changes_tree, tree_after, OthersStay, UntouchedNodesStay}
 
 -- a split

@@ -1,8 +1,8 @@
 -- What is in step before an agree is so behind one, and an operation may stand there too.
 use Rattle.std.proofs.Common.{◌≡◌, ℕ, Bool, true, false, true≢false, sym, refl}
-use Rattle.fk_operation.specs.declared.operation.Operation.{Operation}
-use Rattle.fk_operation.specs.declared.operation.Operation.TheVariants as o
-use Rattle.fk_forms.specs.Code.{Code, done, perform, choose, while, until, turn, again, quit, break, continue, call, ends}
+use Rattle.fk_meaning_operation.specs.declared.operation.Operation.{Operation}
+use Rattle.fk_meaning_operation.specs.declared.operation.Operation.TheVariants as o
+use Rattle.fk_meaning_forms.specs.Code.{Code, done, perform, choose, while, until, turn, again, quit, break, continue, call, ends}
 use Rattle.fk_lockstep.specs.InStep.{may_stand, Unless, InStep, Runs}
 
 pub untrue : {A : Type 0} → false ≡ true → A

@@ -1,8 +1,8 @@
 -- Which names that are called mean `shalloc`.
 use Rattle.std.specs.Prelude.{◌≡◌, ◌==◌, Bool, true, false, codes, if◌then◌else◌}
 use Rattle.fk_syntax.specs.Tree.{Named}
-use Rattle.fk_forms.specs.Tables.{Tables, no_binding, note}
-use Rattle.fk_forms.specs.Expressions.{is_name}
+use Rattle.fk_meaning_forms.specs.Tables.{Tables, no_binding, note}
+use Rattle.fk_meaning_forms.specs.Expressions.{is_name}
 
 -- predeclared names that are values, and those of functions but for the one that allots words of a group's space
 abbrev pub one_of : (a b c d : Bool) → Bool

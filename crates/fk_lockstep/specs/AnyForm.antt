@@ -1,14 +1,14 @@
 -- Members of a group, where it is kept in any form what is left to do, as at one place of a list of operations.
 use Rattle.std.specs.Prelude.{◌≡◌, ℕ, zero, suc, Bool, true, false, List, [], Option, Some, slice_get}
 use Rattle.fk_syntax.specs.Program.{ProgramTree}
-use Rattle.fk_run.specs.Alike.{Same}
-use Rattle.fk_run.specs.Processor.{Setting, values, last}
-use Rattle.fk_run.specs.Round.{Step, Runner, State, Round, Acting, result}
-use Rattle.fk_forms.specs.Code.{Code}
-use Rattle.fk_forms.specs.Tables.{Tables}
-use Rattle.fk_forms.specs.Program.{bodies_of}
-use Rattle.fk_source.specs.Next as source
-use Rattle.fk_source.specs.Next.{Work, going}
+use Rattle.fk_meaning.specs.Alike.{Same}
+use Rattle.fk_meaning.specs.Processor.{Setting, values, last}
+use Rattle.fk_meaning.specs.Round.{Step, Runner, State, Round, Acting, result}
+use Rattle.fk_meaning_forms.specs.Code.{Code}
+use Rattle.fk_meaning_forms.specs.Tables.{Tables}
+use Rattle.fk_meaning_forms.specs.Program.{bodies_of}
+use Rattle.fk_meaning.specs.Next as source
+use Rattle.fk_meaning.specs.Next.{Work, going}
 use Rattle.fk_core.specs.declared.op.CoreOp.{CoreOp}
 use Rattle.fk_core.specs.Next as core
 use Rattle.fk_core.specs.Next.{position}

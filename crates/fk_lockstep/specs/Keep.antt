@@ -1,12 +1,12 @@
 -- A group whose members do nothing that changes the tree.
 use Rattle.std.specs.Prelude.{◌≡◌, ◌≢◌, ℕ, ◌<◌, Bool, true, false, Some, None, slice_get}
-use Rattle.fk_operation.specs.declared.operation.Operation.TheVariants as o
+use Rattle.fk_meaning_operation.specs.declared.operation.Operation.TheVariants as o
 use Rattle.fk_tree.specs.Tree as t
 use Rattle.fk_tree.specs.Tree.{is_member}
-use Rattle.fk_run.specs.Processor.{Setting}
-use Rattle.fk_run.specs.Round.{Step, Runner, State, Round, Acting, result}
-use Rattle.fk_forms.specs.Code.{Code}
-use Rattle.fk_source.specs.Next.{Work, next}
+use Rattle.fk_meaning.specs.Processor.{Setting}
+use Rattle.fk_meaning.specs.Round.{Step, Runner, State, Round, Acting, result}
+use Rattle.fk_meaning_forms.specs.Code.{Code}
+use Rattle.fk_meaning.specs.Next.{Work, next}
 use Rattle.fk_lockstep.specs.InStep.{InStep}
 use Rattle.fk_lockstep.specs.Together.{DoesStep, Together}
 use Rattle.fk_lockstep.specs.Untouched.{changes_tree, StepsAt, tree_after}

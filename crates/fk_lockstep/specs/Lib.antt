@@ -7,3 +7,8 @@ pub mod AnyForm
 pub mod Untouched
 pub mod Keep
 pub mod Parts
+pub mod Course
+pub mod Counts
+pub mod OneProgram
+pub mod Frames
+pub mod OneSpace

@@ -5,10 +5,10 @@ use Rattle.std.specs.Prelude.{◌≡◌, ℕ, Bool, true, false, List, [], ◌�
 use Rattle.fk_syntax.specs.Tree.{Named, Tree}
 use Rattle.fk_syntax.specs.Program as p
 use Rattle.fk_syntax.specs.Program.{DeclaredTree, Statement, Statements, FunctionTree, ProgramTree}
-use Rattle.fk_forms.specs.Tables.{Tables, note}
-use Rattle.fk_forms.specs.Expressions.{Coded, Signature}
-use Rattle.fk_forms.specs.Statements.{Inside, executed}
-use Rattle.fk_forms.specs.Program.{functions_of, binding_of, bodies_of}
+use Rattle.fk_meaning_forms.specs.Tables.{Tables, note}
+use Rattle.fk_meaning_forms.specs.Expressions.{Coded, Signature}
+use Rattle.fk_meaning_forms.specs.Statements.{Inside, executed}
+use Rattle.fk_meaning_forms.specs.Program.{functions_of, binding_of, bodies_of}
 use Rattle.fk_lockstep.specs.InStep.{InStep}
 use Rattle.fk_lockstep.specs.Told as told
 

@@ -1,14 +1,14 @@
 -- How a processor of a program goes through parts and bodies in a round.
 use Rattle.std.specs.Prelude.{◌≡◌, ℕ, Bool, List, [], length, Option, Some, None, false, slice_get}
 use Rattle.fk_tree.specs.Tree as t
-use Rattle.fk_run.specs.Processor.{Setting}
-use Rattle.fk_run.specs.Group.{does, goes_onward}
-use Rattle.fk_run.specs.Round.{Step, Runner, State, Round, Acting, lowest, agreed, result}
-use Rattle.fk_forms.specs.Code.{Code}
-use Rattle.fk_source.specs.Next.{Work, going, next}
-use Rattle.fk_source.specs.Sites.{after_ways}
-use Rattle.fk_nesting.specs.Behind.{outs, GoesOnFrom}
-use Rattle.fk_nesting.specs.Shape.{of_function, Shape}
+use Rattle.fk_meaning.specs.Processor.{Setting}
+use Rattle.fk_meaning.specs.Group.{does, goes_onward}
+use Rattle.fk_meaning.specs.Round.{Step, Runner, State, Round, Acting, lowest, agreed, result}
+use Rattle.fk_meaning_forms.specs.Code.{Code}
+use Rattle.fk_meaning.specs.Next.{Work, going, next}
+use Rattle.fk_meaning.specs.Sites.{after_ways}
+use Rattle.fk_meaning.specs.Behind.{outs, GoesOnFrom}
+use Rattle.fk_meaning.specs.Shape.{of_function, Shape}
 use Rattle.fk_lockstep.specs.Together.{stepping, group_of}
 
 -- what a run of a program may come to

@@ -1,13 +1,13 @@
 -- Members of a group that have the same left to do, and what a round makes of them.
 use Rattle.std.specs.Prelude.{◌≡◌, ℕ, Bool, true, false, List, [], ◌∷◌, Option, Some, None, slice_get}
-use Rattle.fk_operation.specs.declared.operation.Operation.{Operation}
-use Rattle.fk_operation.specs.declared.operation.Operation.TheVariants as o
+use Rattle.fk_meaning_operation.specs.declared.operation.Operation.{Operation}
+use Rattle.fk_meaning_operation.specs.declared.operation.Operation.TheVariants as o
 use Rattle.fk_tree.specs.Tree as t
-use Rattle.fk_run.specs.Processor.{Level, Call, Processor, Setting, values, last}
-use Rattle.fk_run.specs.Group.{parts, part, goes_onward}
-use Rattle.fk_run.specs.Round.{Step, Runner, State, Round, Acting, all_requests, lowest, agreed, asking, result}
-use Rattle.fk_forms.specs.Code.{Code}
-use Rattle.fk_source.specs.Next.{Work, next}
+use Rattle.fk_meaning.specs.Processor.{Level, Call, Processor, Setting, values, last}
+use Rattle.fk_meaning.specs.Group.{parts, part, goes_onward}
+use Rattle.fk_meaning.specs.Round.{Step, Runner, State, Round, Acting, all_requests, lowest, agreed, asking, result}
+use Rattle.fk_meaning_forms.specs.Code.{Code}
+use Rattle.fk_meaning.specs.Next.{Work, next}
 use Rattle.fk_lockstep.specs.InStep.{leaves_step, InStep, WorkInStep}
 
 -- levels that differ in `$` alone

@@ -1,11 +1,11 @@
 -- What a round leaves of the tree of groups as it is.
 use Rattle.std.specs.Prelude.{◌≡◌, ◌≢◌, ℕ, ◌<◌, ◌≤◌, Bool, true, false, Option}
-use Rattle.fk_operation.specs.declared.operation.Operation.{Operation}
-use Rattle.fk_operation.specs.declared.operation.Operation.TheVariants as o
+use Rattle.fk_meaning_operation.specs.declared.operation.Operation.{Operation}
+use Rattle.fk_meaning_operation.specs.declared.operation.Operation.TheVariants as o
 use Rattle.fk_tree.specs.Tree as t
 use Rattle.fk_tree.specs.Tree.{is_member}
-use Rattle.fk_run.specs.Processor.{Setting}
-use Rattle.fk_run.specs.Round.{Step, State, Round, Acting, result}
+use Rattle.fk_meaning.specs.Processor.{Setting}
+use Rattle.fk_meaning.specs.Round.{Step, State, Round, Acting, result}
 use Rattle.fk_lockstep.specs.Together.{DoesStep}
 
 -- a step that changes the tree

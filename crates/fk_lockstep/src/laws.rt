@@ -1,4 +1,6 @@
 //! Laws of groups in lockstep.
+//! The law of one remaining program.
+//! The law of one space.
 
 ghost use Rattle.fk_lockstep.specs.InStep.{StaysInStep};
 ghost use Rattle.fk_lockstep.specs.Noted.{FormsAreInStep};
@@ -7,6 +9,8 @@ ghost use Rattle.fk_lockstep.specs.AnyForm.{FormsGoOn, EntriesGoAsCode};
 ghost use Rattle.fk_lockstep.specs.Untouched.{UntouchedNodesStay};
 ghost use Rattle.fk_lockstep.specs.Keep.{GroupsStayTogether};
 ghost use Rattle.fk_lockstep.specs.Parts.{RoundsGoThroughParts};
+ghost use Rattle.fk_lockstep.specs.OneProgram.{GroupsHaveOneProgram};
+ghost use Rattle.fk_lockstep.specs.OneSpace.{GroupsHaveOneSpace};
 
 /// Synchronous code is in step: a branch stands in it only directly behind an agree, and so does
 /// `shalloc`.
@@ -60,4 +64,29 @@ pub fn groups_stay_together()
 /// tree, by which it enters or leaves them as they are nested.
 pub fn rounds_go_through_parts()
     ensures { RoundsGoThroughParts }
+{}
+
+/// After every lawful schedule without a stopped last round all members of a group in lockstep have
+/// the same left to do, and where a branch stands in it, the same last value. They have the same `@`
+/// and the same sizes of their group and of all groups round it, and `groupsize()` is how many
+/// members there are. So have those who wait at one node the same left, and those who are about to
+/// begin the group of a `start`, and each processor is at exactly one node.
+///
+/// This is so in every form `W` in which it is kept what is left to do, of each program by which a
+/// processor goes through its groups, parts and bodies in their order, and in which a `fork` takes
+/// the number of parts on which its group has agreed.
+pub fn groups_have_one_program<W>()
+    ensures { GroupsHaveOneProgram W }
+{}
+
+/// After every lawful schedule without a stopped last round all members of a group in lockstep have
+/// levels that differ in `$` alone: of their group and of each group round it they have the same
+/// `@`, size and space. So have those who wait at one node. All who are at one node, by themselves
+/// too, have the same spaces.
+///
+/// This is so in every form `W` in which it is kept what is left to do, of each program whose groups
+/// have one remaining program, and in which a function takes its group frame in a group that it was
+/// called in, and leaves it there.
+pub fn groups_have_one_space<W>()
+    ensures { GroupsHaveOneSpace W }
 {}

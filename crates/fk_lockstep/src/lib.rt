@@ -1,4 +1,5 @@
-//! What is so of groups in lockstep: their members have the same left to do.
+//! What is so of groups in lockstep, from round to round and over whole runs: their members have
+//! one remaining program, and levels that differ in `$` alone.
 //!
 //! The definitions stand in `specs/`, and what is proved of them in `laws`.
 #![tactic(auto)]

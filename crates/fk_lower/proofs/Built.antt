@@ -2,8 +2,8 @@
 use Rattle.std.proofs.Common.{◌≡◌, ℕ, suc, ◌+◌, List, [], ◌∷◌, ◌++◌, fold, Ok, Err, IfOk, ap, ap₂, ◌∙◌, sym, refl, subst, arith}
 use Rattle.std.specs.Prelude.{Result, IfErr}
 use Rattle.std.proofs.lemmas.List.Sums.{fold-append}
-use Rattle.fk_forms.specs.Code as c
-use Rattle.fk_forms.specs.Code.{Code, append, size, numbered}
+use Rattle.fk_meaning_forms.specs.Code as c
+use Rattle.fk_meaning_forms.specs.Code.{Code, append, size, numbered}
 use Rattle.fk_lower.specs.Building.{Event, Perform, Quit, Ends, Break, Continue, Aside, Joined, Returned, Part, Behind, events_of, OnwardWay, AsideWay, Test, Body, Step, FirstBody, LastTest, Opening, Building, building, after, IsUnbegun, CodeIsBuilt, IsShown}
 use Rattle.fk_lower.specs.declared.block.Block.{Block}
 use Rattle.fk_lower.specs.declared.fault.LowerFault.{LowerFault}

@@ -1,8 +1,8 @@
 -- Code ends the function at its end, where its last piece does.
 use Rattle.std.proofs.Common.{◌≡◌, ℕ, suc, ◌-◌, Bool, true, false, List, [], ◌∷◌, map, length, Some, refl, ap, ◌∙◌, arith}
 use Rattle.std.specs.Prelude.{◌||◌, slice_get}
-use Rattle.fk_forms.specs.Code.{Code, done}
-use Rattle.fk_flat.specs.Shape.{is_done, is_closed}
+use Rattle.fk_meaning_forms.specs.Code.{Code, done}
+use Rattle.fk_core_flat.specs.Shape.{is_done, is_closed}
 use Rattle.fk_lower.specs.declared.block.Piece.{Piece}
 use Rattle.fk_lower.specs.Tree.{PieceTree, Perform, Choose, While, Until, Quit, Break, Continue, Call, Ends, pieces_of, code_of, code_before}
 use Rattle.fk_lower.specs.View.{piece_of}

@@ -1,9 +1,9 @@
 -- What is measured of pieces is what their code is.
 use Rattle.std.proofs.Common.{◌≡◌, ℕ, suc, ◌+◌, Bool, true, false, ap, ap₂, ◌∙◌, refl, arith}
 use Rattle.std.specs.Prelude.{◌==◌, ◌&&◌, ◌||◌}
-use Rattle.fk_forms.specs.Code.{Code}
-use Rattle.fk_flat.specs.Items.{way_of, goes_away}
-use Rattle.fk_flat.specs.Flat.{begins_here, gap, extent}
+use Rattle.fk_meaning_forms.specs.Code.{Code}
+use Rattle.fk_core_flat.specs.Items.{way_of, goes_away}
+use Rattle.fk_core_flat.specs.Flat.{begins_here, gap, extent}
 use Rattle.fk_lower.specs.declared.span.Span.{Span}
 use Rattle.fk_lower.specs.declared.span.Spans.{Spans}
 use Rattle.fk_lower.specs.Spans.{round, start_of, span_of, spans_of, span_in}

@@ -2,7 +2,7 @@
 use Rattle.std.proofs.Common.{◌≡◌, List, [], ◌∷◌, ℕ}
 use Rattle.fk_lower.specs.declared.fault.LowerFault.{LowerFault}
 use Rattle.fk_lower.specs.declared.fault.LowerFault.TheVariants as v
-use Rattle.fk_forms.specs.Code.{Code}
+use Rattle.fk_meaning_forms.specs.Code.{Code}
 use Rattle.fk_lower.specs.Tree.{PieceTree, Perform, Choose, While, Until, Quit, Break, Continue, Call, Ends, Pieces, no_pieces, piece, Part, code_of, code_before}
 use Rattle.fk_lower.specs.Faults.{HaveNumbers, AreNumbered, IsNumbered, AllNumbered, AllHaveNumbers, IsListFault, IsWriteFault}
 

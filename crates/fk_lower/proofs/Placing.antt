@@ -7,8 +7,8 @@ use Rattle.std.specs.List.{count_by}
 use Rattle.std.specs.Prelude.{cond}
 use Rattle.std.proofs.lemmas.List.Sums.{sum_by-append}
 use Rattle.fk_syntax.specs.declared.place.Place.{Place}
-use Rattle.fk_forms.specs.Code as c
-use Rattle.fk_forms.specs.Code.{Code, append, size}
+use Rattle.fk_meaning_forms.specs.Code as c
+use Rattle.fk_meaning_forms.specs.Code.{Code, append, size}
 use Rattle.fk_lower.specs.declared.fault.LowerFault.{LowerFault}
 use Rattle.fk_lower.specs.declared.fault.LowerFault.TheVariants as v
 use Rattle.fk_lower.specs.Building.{Event, Perform, Choose, Aside, Joined, Quit, Call, Returned, Ends, While, Until, Part, Behind, Break, Continue, has_site, events_of, IsUnbegun, IsPlaced, Open, OnwardWay, AsideWay, Test, Body, Step, FirstBody, LastTest, Opening, Building, building, after}

@@ -1,9 +1,9 @@
 -- The lists of code from a piece on have room where that of the whole code has, and code begins within its list.
 use Rattle.std.proofs.Common.{◌≡◌, ℕ, zero, suc, ◌+◌, ◌*◌, ◌^◌, ◌<◌, ◌≤◌, Bool, true, false, List, [], ◌∷◌, length, get_or, ap, ◌∙◌, sym, refl, arith}
 use Rattle.std.specs.Prelude.{◌==◌, ◌&&◌, ◌||◌}
-use Rattle.fk_forms.specs.Code.{Code, done, perform, choose, while, until, turn, again, quit, break, continue, call, ends, size}
-use Rattle.fk_flat.specs.Items.{way_of, goes_away}
-use Rattle.fk_flat.specs.Flat.{begins_here, gap, extent}
+use Rattle.fk_meaning_forms.specs.Code.{Code, done, perform, choose, while, until, turn, again, quit, break, continue, call, ends, size}
+use Rattle.fk_core_flat.specs.Items.{way_of, goes_away}
+use Rattle.fk_core_flat.specs.Flat.{begins_here, gap, extent}
 use Rattle.fk_lower.specs.declared.block.Piece.{Piece}
 use Rattle.fk_lower.specs.declared.span.Start.{Start}
 use Rattle.fk_lower.specs.declared.span.Start.TheVariants as s

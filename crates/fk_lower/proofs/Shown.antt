@@ -1,8 +1,8 @@
 -- A piece that is added comes behind the code there is; a frame that is added is the innermost one.
 use Rattle.std.proofs.Common.{◌≡◌, ℕ, List, [], ◌∷◌, ◌++◌, length, fold, ap, ◌∙◌, refl}
 use Rattle.std.proofs.lemmas.List.Sums.{fold-append}
-use Rattle.fk_forms.specs.Code as c
-use Rattle.fk_forms.specs.Code.{Code, append}
+use Rattle.fk_meaning_forms.specs.Code as c
+use Rattle.fk_meaning_forms.specs.Code.{Code, append}
 use Rattle.fk_lower.specs.declared.block.Piece.{Piece}
 use Rattle.fk_lower.specs.Tree.{PieceTree, Perform, Choose, While, Until, Quit, Break, Continue, Call, Ends, code_before, IsPieceMeasured}
 use Rattle.fk_lower.specs.View.{piece_of}

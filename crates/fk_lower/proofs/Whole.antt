@@ -4,13 +4,13 @@ use Rattle.std.specs.Prelude.{nat_lt}
 use Rattle.std.proofs.lemmas.Bool.{ltb-true, ltb-false}
 use Rattle.std.proofs.lemmas.List.{length-map, map-append, append-nil}
 use Rattle.std.proofs.Math.Seq.{append_snoc}
-use Rattle.fk_operation.specs.declared.operation.Operation.{Operation}
+use Rattle.fk_meaning_operation.specs.declared.operation.Operation.{Operation}
 use Rattle.fk_core.specs.declared.op.CoreOp.{CoreOp}
 use Rattle.fk_core.specs.Numbers.{operation_of}
 use Rattle.fk_core.specs.Next.{is_jump}
-use Rattle.fk_flat.specs.Items.{Item, jump, act, Has, IsItem}
-use Rattle.fk_flat.specs.Flat.{extent, label, flat}
-use Rattle.fk_flat.specs.Laws.{IsFlat}
+use Rattle.fk_core_flat.specs.Items.{Item, jump, act, Has, IsItem}
+use Rattle.fk_core_flat.specs.Flat.{extent, label, flat}
+use Rattle.fk_core_flat.specs.Laws.{IsFlat}
 use Rattle.fk_lower.specs.declared.span.Spans.{Spans}
 use Rattle.fk_lower.specs.Spans.{place}
 use Rattle.fk_lower.specs.Tree.{Part, code_of, IsPartMeasured}
@@ -18,7 +18,7 @@ use Rattle.fk_lower.specs.Written.{item_by, item_of, items_of, entry_of, written
 use Rattle.fk_lower.specs.Lowered.{bodies_in, AreMeasured, total, entries_from, written_from, all_flat, IsListOf}
 use Rattle.fk_lower.proofs.Starts.{starts}
 use Rattle.fk_lower.proofs.Writing.{known, lists}
-use Rattle.fk_flat.proofs.Lengths.{flat_length}
+use Rattle.fk_core_flat.proofs.Lengths.{flat_length}
 
 -- ---- a list shows items from an index on
 

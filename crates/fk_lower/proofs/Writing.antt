@@ -2,10 +2,10 @@
 use Rattle.std.proofs.Common.{◌≡◌, ℕ, suc, ◌+◌, Bool, true, false, List, ◌∷◌, ◌++◌, map, Option, Some, None, ap, ap₂, ◌∙◌, sym, refl, arith}
 use Rattle.std.specs.Prelude.{◌==◌, ◌&&◌, ◌||◌, if◌then◌else◌}
 use Rattle.std.proofs.lemmas.List.{map-append}
-use Rattle.fk_forms.specs.Code.{Code}
+use Rattle.fk_meaning_forms.specs.Code.{Code}
 use Rattle.fk_core.specs.Stands.{Loop, Around}
-use Rattle.fk_flat.specs.Items.{Item, jump, act, way_of, goes_away, aim}
-use Rattle.fk_flat.specs.Flat.{begins_here, skip, gap, extent, behind, label, flat}
+use Rattle.fk_core_flat.specs.Items.{Item, jump, act, way_of, goes_away, aim}
+use Rattle.fk_core_flat.specs.Flat.{begins_here, skip, gap, extent, behind, label, flat}
 use Rattle.fk_lower.specs.declared.block.Act.{Act}
 use Rattle.fk_lower.specs.declared.span.Span.{Span}
 use Rattle.fk_lower.specs.declared.span.Spans.{Spans}

@@ -1,6 +1,6 @@
 -- What a builder has built.
 use Rattle.std.specs.Prelude.{ℕ, List, [], ◌∷◌, map, fold}
-use Rattle.fk_forms.specs.Code.{Code}
+use Rattle.fk_meaning_forms.specs.Code.{Code}
 use Rattle.fk_lower.specs.declared.block.Piece.{Piece}
 use Rattle.fk_lower.specs.declared.block.Block.{Block}
 use Rattle.fk_lower.specs.declared.event.CodeEvent.{CodeEvent}

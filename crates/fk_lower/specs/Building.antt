@@ -1,9 +1,9 @@
 -- Code that is shown step by step, from its beginning.
 use Rattle.std.specs.Prelude.{◌≡◌, ℕ, suc, ◌+◌, Bool, true, false, List, [], ◌∷◌, ◌++◌, fold}
-use Rattle.fk_operation.specs.declared.operation.Operation.{Operation}
+use Rattle.fk_meaning_operation.specs.declared.operation.Operation.{Operation}
 use Rattle.fk_syntax.specs.declared.place.Place.{Place}
-use Rattle.fk_forms.specs.Code as c
-use Rattle.fk_forms.specs.Code.{Code, append, size, numbered}
+use Rattle.fk_meaning_forms.specs.Code as c
+use Rattle.fk_meaning_forms.specs.Code.{Code, append, size, numbered}
 
 -- what is shown of code: its operations, and where the parts of a choice, a loop and a call begin and end
 pub data Event : Type 0 where

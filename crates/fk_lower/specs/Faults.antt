@@ -2,8 +2,8 @@
 use Rattle.std.specs.Prelude.{◌≡◌, ℕ, suc, ◌+◌, ◌*◌, ◌^◌, ◌<◌, ◌≤◌, true, List, [], ◌∷◌}
 use Rattle.std.specs.List.{count_by}
 use Rattle.fk_syntax.specs.declared.place.Place.{Place}
-use Rattle.fk_forms.specs.Code as c
-use Rattle.fk_forms.specs.Code.{Code, size}
+use Rattle.fk_meaning_forms.specs.Code as c
+use Rattle.fk_meaning_forms.specs.Code.{Code, size}
 use Rattle.fk_core.specs.Numbers.{HasNumber}
 use Rattle.fk_lower.specs.declared.fault.LowerFault.{LowerFault}
 use Rattle.fk_lower.specs.declared.fault.LowerFault.TheVariants.{TooLong, OutOfRange, Misplaced, Memory}

@@ -1,9 +1,9 @@
 -- The functions of a program, each at its binding, one behind the other in one list.
 use Rattle.std.specs.Prelude.{◌≡◌, ℕ, ◌+◌, List, [], ◌∷◌, ◌++◌, length, slice_get, Option, Some, None, false}
-use Rattle.fk_forms.specs.Code.{Code, done}
+use Rattle.fk_meaning_forms.specs.Code.{Code, done}
 use Rattle.fk_core.specs.declared.op.CoreOp.{CoreOp}
-use Rattle.fk_flat.specs.Items.{Item, Has}
-use Rattle.fk_flat.specs.Flat.{flat}
+use Rattle.fk_core_flat.specs.Items.{Item, Has}
+use Rattle.fk_core_flat.specs.Flat.{flat}
 use Rattle.fk_lower.specs.Spans.{place}
 use Rattle.fk_lower.specs.Tree.{Part, code_of, IsPartMeasured}
 use Rattle.fk_lower.specs.Written.{written}

@@ -1,7 +1,7 @@
 -- The measures of code by those of the blocks in it, from its end.
 use Rattle.std.specs.Prelude.{ℕ, ◌+◌, ◌==◌, ◌&&◌, ◌||◌, Bool, true, false, List, [], ◌∷◌, ◌++◌}
-use Rattle.fk_flat.specs.Items.{way_of, goes_away}
-use Rattle.fk_flat.specs.Flat.{gap}
+use Rattle.fk_core_flat.specs.Items.{way_of, goes_away}
+use Rattle.fk_core_flat.specs.Flat.{gap}
 use Rattle.fk_lower.specs.declared.span.Start.TheVariants.{At, Next, Behind, Onward}
 use Rattle.fk_lower.specs.declared.span.Span.{Span}
 use Rattle.fk_lower.specs.declared.span.Spans.{Spans}

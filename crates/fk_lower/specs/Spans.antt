@@ -1,8 +1,8 @@
 -- What is known of code before its place is: whether it begins where it is written, how long its list is, and where it begins.
 use Rattle.std.specs.Prelude.{ℕ, ◌+◌, ◌≤◌, Bool, true, false, if◌then◌else◌}
-use Rattle.fk_forms.specs.Code.{Code, done, until, break, continue}
+use Rattle.fk_meaning_forms.specs.Code.{Code, done, until, break, continue}
 use Rattle.fk_core.specs.Stands.{Around}
-use Rattle.fk_flat.specs.Flat.{begins_here, extent, behind, onward}
+use Rattle.fk_core_flat.specs.Flat.{begins_here, extent, behind, onward}
 use Rattle.fk_lower.specs.declared.span.Start.{Start}
 use Rattle.fk_lower.specs.declared.span.Start.TheVariants as s
 use Rattle.fk_lower.specs.declared.span.Span.{Span}

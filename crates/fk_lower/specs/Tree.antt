@@ -1,7 +1,7 @@
 -- Code as it lies in memory: pieces in blocks, and what was measured of each block.
 use Rattle.std.specs.Prelude.{◌≡◌, ℕ, List, [], ◌∷◌}
-use Rattle.fk_forms.specs.Code as c
-use Rattle.fk_forms.specs.Code.{Code}
+use Rattle.fk_meaning_forms.specs.Code as c
+use Rattle.fk_meaning_forms.specs.Code.{Code}
 use Rattle.fk_lower.specs.declared.block.Act.{Act}
 use Rattle.fk_lower.specs.declared.span.Spans.{Spans}
 use Rattle.fk_lower.specs.Spans.{spans_of}

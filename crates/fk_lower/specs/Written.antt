@@ -1,13 +1,13 @@
 -- The flat list of pieces, by the measures of the blocks in them.
 use Rattle.std.specs.Prelude.{ℕ, ◌+◌, ◌||◌, Bool, true, false, List, [], ◌∷◌, ◌++◌, map, slice_get, unwrap_or, Option, Some, None, if◌then◌else◌}
-use Rattle.fk_operation.specs.declared.operation.Operation.{Operation}
+use Rattle.fk_meaning_operation.specs.declared.operation.Operation.{Operation}
 use Rattle.fk_core.specs.declared.op.CoreOp.{CoreOp}
 use Rattle.fk_core.specs.Numbers.{operation_of}
 use Rattle.fk_core.specs.Next.{is_jump}
 use Rattle.fk_core.specs.Stands as core
 use Rattle.fk_core.specs.Stands.{Around}
-use Rattle.fk_flat.specs.Items.{Item, jump, act, way_of, goes_away, aim}
-use Rattle.fk_flat.specs.Flat.{gap, behind}
+use Rattle.fk_core_flat.specs.Items.{Item, jump, act, way_of, goes_away, aim}
+use Rattle.fk_core_flat.specs.Flat.{gap, behind}
 use Rattle.fk_lower.specs.declared.block.Act.{Act}
 use Rattle.fk_lower.specs.declared.span.Span.{Span}
 use Rattle.fk_lower.specs.declared.write.Loop.{Loop}

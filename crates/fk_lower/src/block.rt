@@ -4,7 +4,7 @@ ghost use Rattle.std.specs.Prelude.{◌≡◌};
 ghost use Rattle.fk_lower.specs.View.{part_of};
 
 use crate::span::Spans;
-use fk_operation::Operation;
+use fk_meaning_operation::Operation;
 
 /// An operation of a program.
 #[derive(Clone, Copy)]

@@ -1,8 +1,8 @@
 //! Builds blocks of code that is shown step by step.
 
 ghost use Rattle.std.specs.Prelude.{◌≡◌, true, suc, ◌+◌, ◌*◌, ◌^◌, ◌<◌, ◌≤◌, ◌∷◌, [], map, OnOk, IfOk, IfErr};
-ghost use Rattle.fk_forms.specs.Code as c;
-ghost use Rattle.fk_forms.specs.Code.{size};
+ghost use Rattle.fk_meaning_forms.specs.Code as c;
+ghost use Rattle.fk_meaning_forms.specs.Code.{size};
 ghost use Rattle.fk_lower.specs.Tree.{code_before, IsPieceMeasured};
 ghost use Rattle.fk_lower.specs.View.{piece_of};
 ghost use Rattle.fk_lower.specs.Building.{after, has_site, IsShown};
@@ -13,7 +13,7 @@ ghost use Rattle.fk_lower.specs.BuilderView.{event_of, building_of, open_by, out
 use crate::block::{Act, Block, Piece};
 use crate::event::CodeEvent;
 use crate::fault::LowerFault;
-use fk_operation::Operation;
+use fk_meaning_operation::Operation;
 use std::alloc::Global;
 use std::mem;
 

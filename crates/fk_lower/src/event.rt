@@ -1,6 +1,6 @@
 //! What is shown of code.
 
-use fk_operation::Operation;
+use fk_meaning_operation::Operation;
 
 /// What is shown of code, from its beginning.
 #[derive(Clone, Copy)]

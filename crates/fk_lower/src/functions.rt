@@ -1,7 +1,7 @@
 //! The flat list of all functions of a program.
 
 ghost use Rattle.std.specs.Prelude.{◌≡◌, ◌++◌, ◌+◌, ◌^◌, ◌<◌, ◌≤◌, IfOk, IfErr, OnOk, None, map};
-ghost use Rattle.fk_flat.specs.Laws.{IsFlat};
+ghost use Rattle.fk_core_flat.specs.Laws.{IsFlat};
 ghost use Rattle.fk_lower.specs.View.{part_of};
 ghost use Rattle.fk_lower.specs.Written.{items_of, entry_of};
 ghost use Rattle.fk_lower.specs.Depths.{AreTold};

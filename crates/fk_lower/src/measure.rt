@@ -1,9 +1,9 @@
 //! Measures of code, from its end.
 
 ghost use Rattle.std.specs.Prelude.{◌≡◌, ◌*◌, ◌^◌, ◌<◌, false, IfOk, IfErr, map};
-ghost use Rattle.fk_flat.specs.Items.{way_of, goes_away};
+ghost use Rattle.fk_core_flat.specs.Items.{way_of, goes_away};
 ghost use Rattle.fk_lower.specs.Tree as t;
-ghost use Rattle.fk_forms.specs.Code.{size};
+ghost use Rattle.fk_meaning_forms.specs.Code.{size};
 ghost use Rattle.fk_lower.specs.Spans.{span_in, StartsWithin};
 ghost use Rattle.fk_lower.specs.Tree.{pieces_of, code_of, IsMeasured, IsPartMeasured};
 ghost use Rattle.fk_lower.specs.View.{piece_of, part_of};
@@ -12,7 +12,7 @@ ghost use Rattle.fk_lower.specs.Measures.{nothing, beginning, is_beside, before,
 use crate::block::{Act, Block, Piece};
 use crate::fault::LowerFault;
 use crate::span::{Span, Spans, Start, gap};
-use fk_operation::Operation;
+use fk_meaning_operation::Operation;
 use std::alloc::Global;
 
 /// Whether an operation goes on at its target always, and never at the next index.

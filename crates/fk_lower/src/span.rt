@@ -1,7 +1,7 @@
 //! What is known of code before its place is.
 
 ghost use Rattle.std.specs.Prelude.{◌≡◌, ◌+◌, ◌^◌, ◌<◌, ◌≤◌};
-ghost use Rattle.fk_flat.specs.Flat.{gap};
+ghost use Rattle.fk_core_flat.specs.Flat.{gap};
 ghost use Rattle.fk_lower.specs.Spans.{moved, round, span_in, offset};
 
 /// Where code begins.

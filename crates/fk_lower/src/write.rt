@@ -2,8 +2,8 @@
 
 ghost use Rattle.std.specs.Prelude.{◌≡◌, ◌+◌, ◌^◌, ◌<◌, if◌then◌else◌, ◌∷◌, ◌++◌, [], Some, IfOk, IfErr, OnOk, IsTrue, ◌↔◌};
 ghost use Rattle.fk_core.specs.Numbers.{HasNumber, IsNear, IsKnownNear};
-ghost use Rattle.fk_flat.specs.Items.{jump};
-ghost use Rattle.fk_flat.specs.Flat.{behind, onward};
+ghost use Rattle.fk_core_flat.specs.Items.{jump};
+ghost use Rattle.fk_core_flat.specs.Flat.{behind, onward};
 ghost use Rattle.fk_lower.specs.Spans.{place, offset, span_in, StartsWithin};
 ghost use Rattle.fk_lower.specs.Tree as t;
 ghost use Rattle.fk_lower.specs.Tree.{IsPieceMeasured, IsPartMeasured};
@@ -17,7 +17,7 @@ use crate::fault::LowerFault;
 use crate::measure::{goes_away, is_beside};
 use crate::span::{Span, Start, gap};
 use fk_core::CoreOp;
-use fk_operation::{Known, Operation, Variable};
+use fk_meaning_operation::{Known, Operation, Variable};
 use std::alloc::Global;
 
 /// A loop: the indices behind it, and of its next turn.

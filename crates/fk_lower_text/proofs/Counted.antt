@@ -1,8 +1,8 @@
 -- A count of code counts all that is shown of it.
 use Rattle.std.proofs.Common.{◌≡◌, ℕ, ◌+◌, ◌-◌, ◌^◌, ◌≤◌, min, List, [], ◌∷◌, ◌++◌, length, refl, ap, arith, length-append}
-use Rattle.fk_forms.specs.Code as c
-use Rattle.fk_forms.specs.Expressions.{Coded, Signature}
-use Rattle.fk_walk.specs.Through.{through}
+use Rattle.fk_meaning_forms.specs.Code as c
+use Rattle.fk_meaning_forms.specs.Expressions.{Coded, Signature}
+use Rattle.fk_layout_walk.specs.Through.{through}
 use Rattle.fk_lower.specs.Building as b
 use Rattle.fk_lower.specs.Building.{events_of, IsUnbegun}
 use Rattle.fk_lower_text.specs.declared.count.Count.{Count}

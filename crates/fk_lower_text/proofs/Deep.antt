@@ -3,22 +3,22 @@ use Rattle.std.proofs.Common.{◌≡◌, ℕ, suc, ◌+◌, ◌-◌, ◌*◌, �
 use Rattle.std.proofs.lemmas.List.{append_assoc, append-nil, length-set, take_more_set}
 use Rattle.std.proofs.lemmas.Bool.{lt-ltb}
 use Rattle.std.proofs.Math.Seq.{take-length}
-use Rattle.fk_operation.specs.declared.operation.Operation.{Operation}
+use Rattle.fk_meaning_operation.specs.declared.operation.Operation.{Operation}
 use Rattle.fk_syntax.specs.Program.{FunctionTree}
-use Rattle.fk_forms.specs.Code.{done, perform, choose, while, until, turn, again, quit, break, continue, call, ends, size, sites}
-use Rattle.fk_forms.specs.Expressions.{Coded, Signature}
-use Rattle.fk_forms.specs.Program.{sites_in}
-use Rattle.fk_forms.proofs.Ranks.{counted}
-use Rattle.fk_walk.specs.declared.known.Known.{Known}
-use Rattle.fk_walk.specs.Known.{tables_of, functions_of}
-use Rattle.fk_walk_statements.specs.Texts.{functions_in, code_in}
-use Rattle.fk_walk.specs.declared.visitor.Event.TheVariants as v
-use Rattle.fk_walk.specs.Shown.{shown}
-use Rattle.fk_walk.specs.Through.{through}
-use Rattle.fk_sizes.specs.Operations.{takes, pushes, results}
-use Rattle.fk_sizes.specs.Measure.{plus}
-use Rattle.fk_sizes.specs.Places.{At, behind_operation, behind_call, behind, beginning}
-use Rattle.fk_sizes.proofs.Shown.{pushes_one, results_one, same_takes, same_pushes}
+use Rattle.fk_meaning_forms.specs.Code.{done, perform, choose, while, until, turn, again, quit, break, continue, call, ends, size, sites}
+use Rattle.fk_meaning_forms.specs.Expressions.{Coded, Signature}
+use Rattle.fk_meaning_forms.specs.Program.{sites_in}
+use Rattle.fk_meaning_forms.proofs.Ranks.{counted}
+use Rattle.fk_layout_walk.specs.declared.known.Known.{Known}
+use Rattle.fk_layout_walk.specs.Known.{tables_of, functions_of}
+use Rattle.fk_layout_walk_statements.specs.Texts.{functions_in, code_in}
+use Rattle.fk_layout_walk.specs.declared.visitor.Event.TheVariants as v
+use Rattle.fk_layout_walk.specs.Shown.{shown}
+use Rattle.fk_layout_walk.specs.Through.{through}
+use Rattle.fk_layout_sizes.specs.Operations.{takes, pushes, results}
+use Rattle.fk_layout_sizes.specs.Measure.{plus}
+use Rattle.fk_layout_sizes.specs.Places.{At, behind_operation, behind_call, behind, beginning}
+use Rattle.fk_layout_sizes.proofs.Shown.{pushes_one, results_one, same_takes, same_pushes}
 use Rattle.fk_lower_text.specs.declared.height.Height.{Height}
 use Rattle.fk_lower_text.specs.declared.depths.Depths.{Depths}
 use Rattle.fk_lower_text.specs.Height as h

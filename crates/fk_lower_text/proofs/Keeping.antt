@@ -8,12 +8,12 @@ use Rattle.fk_syntax.specs.declared.place.Place.{Place}
 use Rattle.fk_syntax.specs.declared.program.Item.{Item}
 use Rattle.fk_syntax.specs.Program.{Statements, FunctionTree, ItemTree, StructItem, VariablesItem, FunctionItem}
 use Rattle.fk_syntax.specs.ProgramView.{item_of}
-use Rattle.fk_forms.specs.Code as c
-use Rattle.fk_forms.specs.Code.{Code, size, numbered}
-use Rattle.fk_forms.specs.Program.{with_body, functions_of, binding_of}
-use Rattle.fk_walk.specs.declared.known.Known.{Known}
-use Rattle.fk_walk.specs.Known.{tables_of}
-use Rattle.fk_walk_statements.specs.Texts.{code_in}
+use Rattle.fk_meaning_forms.specs.Code as c
+use Rattle.fk_meaning_forms.specs.Code.{Code, size, numbered}
+use Rattle.fk_meaning_forms.specs.Program.{with_body, functions_of, binding_of}
+use Rattle.fk_layout_walk.specs.declared.known.Known.{Known}
+use Rattle.fk_layout_walk.specs.Known.{tables_of}
+use Rattle.fk_layout_walk_statements.specs.Texts.{code_in}
 use Rattle.fk_lower.specs.Building as b
 use Rattle.fk_lower.specs.Building.{Event, has_site, events_of, IsUnbegun}
 use Rattle.fk_lower.specs.declared.block.Block.{Block}

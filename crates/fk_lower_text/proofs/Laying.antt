@@ -2,16 +2,16 @@
 use Rattle.std.proofs.Common.{◌≡◌, ℕ, zero, suc, ◌+◌, ◌-◌, ◌<◌, ◌≤◌, ◌==◌, if◌then◌else◌, List, [], ◌∷◌, ◌++◌, map, replicate, refl, ◌∙◌, sym, ap, subst, arith, eq-eqb, inl, inr}
 use Rattle.std.proofs.lemmas.Bool.{ne_eqb, cases_order}
 use Rattle.fk_syntax.specs.Program.{FunctionTree, ItemTree, ProgramTree}
-use Rattle.fk_forms.specs.Code as c
-use Rattle.fk_forms.specs.Code.{Code, done, size, numbered}
-use Rattle.fk_forms.specs.Program.{functions_of, binding_of, body_in, bodies_of}
-use Rattle.fk_walk.specs.declared.known.Known.{Known}
-use Rattle.fk_walk.specs.Known.{tables_of}
-use Rattle.fk_walk_statements.specs.Texts.{functions_in, code_in}
-use Rattle.fk_flat.specs.Laws.{AreShaped, IsFlat}
+use Rattle.fk_meaning_forms.specs.Code as c
+use Rattle.fk_meaning_forms.specs.Code.{Code, done, size, numbered}
+use Rattle.fk_meaning_forms.specs.Program.{functions_of, binding_of, body_in, bodies_of}
+use Rattle.fk_layout_walk.specs.declared.known.Known.{Known}
+use Rattle.fk_layout_walk.specs.Known.{tables_of}
+use Rattle.fk_layout_walk_statements.specs.Texts.{functions_in, code_in}
+use Rattle.fk_core_flat.specs.Laws.{AreShaped, IsFlat}
 use Rattle.fk_core.specs.declared.op.CoreOp.{CoreOp}
 use Rattle.fk_core.proofs.KeepsRuns.{flat_lists_keep_runs}
-use Rattle.fk_flat.proofs.FlatCode.{flat_code_stands}
+use Rattle.fk_core_flat.proofs.FlatCode.{flat_code_stands}
 use Rattle.fk_lower.specs.declared.block.Block.{Block}
 use Rattle.fk_lower.specs.View.{part_of}
 use Rattle.fk_lower.specs.Lowered.{bodies_in}

@@ -1,19 +1,19 @@
 -- The operations of a text in its flat list, and how many jumps there are.
 use Rattle.std.proofs.Common.{◌≡◌, ℕ, zero, suc, ◌+◌, ◌-◌, ◌≤◌, Bool, false, List, [], ◌∷◌, ◌++◌, map, length, replicate, None, refl, ◌∙◌, ap, ap₂, subst, arith, length-append}
 use Rattle.fk_syntax.specs.Program.{FunctionTree}
-use Rattle.fk_forms.specs.Code.{Code, done, size, sites, numbered}
-use Rattle.fk_forms.specs.Ranks.{ranked}
-use Rattle.fk_forms.specs.Program.{binding_of, sites_in}
-use Rattle.fk_forms.proofs.Ranks.{counted, sites_are_ranks}
-use Rattle.fk_walk.specs.declared.known.Known.{Known}
-use Rattle.fk_walk.specs.Known.{tables_of}
-use Rattle.fk_walk_statements.specs.Texts.{functions_in, code_in}
+use Rattle.fk_meaning_forms.specs.Code.{Code, done, size, sites, numbered}
+use Rattle.fk_meaning_forms.specs.Ranks.{ranked}
+use Rattle.fk_meaning_forms.specs.Program.{binding_of, sites_in}
+use Rattle.fk_meaning_forms.proofs.Ranks.{counted, sites_are_ranks}
+use Rattle.fk_layout_walk.specs.declared.known.Known.{Known}
+use Rattle.fk_layout_walk.specs.Known.{tables_of}
+use Rattle.fk_layout_walk_statements.specs.Texts.{functions_in, code_in}
 use Rattle.fk_core.specs.declared.op.CoreOp.{CoreOp}
-use Rattle.fk_flat.specs.Items.{Item, acts, jumps, calls}
-use Rattle.fk_flat.specs.Flat.{flat}
-use Rattle.fk_flat.specs.Shape.{is_closed, IsShaped}
-use Rattle.fk_flat.specs.Laws.{AreShaped}
-use Rattle.fk_flat.proofs.Counts.{acts_both, jumps_both, calls_both, acts_are, jumps_are_few}
+use Rattle.fk_core_flat.specs.Items.{Item, acts, jumps, calls}
+use Rattle.fk_core_flat.specs.Flat.{flat}
+use Rattle.fk_core_flat.specs.Shape.{is_closed, IsShaped}
+use Rattle.fk_core_flat.specs.Laws.{AreShaped}
+use Rattle.fk_core_flat.proofs.Counts.{acts_both, jumps_both, calls_both, acts_are, jumps_are_few}
 use Rattle.fk_lower.specs.declared.block.Block.{Block}
 use Rattle.fk_lower.specs.View.{part_of}
 use Rattle.fk_lower.specs.Lowered.{bodies_in, all_flat, IsListOf}

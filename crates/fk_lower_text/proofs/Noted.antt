@@ -3,12 +3,12 @@ use Rattle.std.proofs.Common.{◌≡◌, ℕ, ◌+◌, ◌≤◌, ◌<◌, Bool,
 use Rattle.std.proofs.lemmas.List.{append_assoc, append-nil, length-set, map-append, take_more_set}
 use Rattle.std.proofs.lemmas.Bool.{lt-ltb}
 use Rattle.std.proofs.Math.Seq.{take-length}
-use Rattle.fk_forms.specs.Code as c
-use Rattle.fk_forms.specs.Expressions.{Coded, Signature}
-use Rattle.fk_walk.specs.declared.visitor.Event.{Event}
-use Rattle.fk_walk.specs.declared.visitor.Event.TheVariants as v
-use Rattle.fk_walk.specs.Shown.{shown}
-use Rattle.fk_walk.specs.Through.{through}
+use Rattle.fk_meaning_forms.specs.Code as c
+use Rattle.fk_meaning_forms.specs.Expressions.{Coded, Signature}
+use Rattle.fk_layout_walk.specs.declared.visitor.Event.{Event}
+use Rattle.fk_layout_walk.specs.declared.visitor.Event.TheVariants as v
+use Rattle.fk_layout_walk.specs.Shown.{shown}
+use Rattle.fk_layout_walk.specs.Through.{through}
 use Rattle.fk_lower.specs.Building as b
 use Rattle.fk_lower.specs.Building.{events_of}
 use Rattle.fk_lower.specs.BuilderView.{event_of}

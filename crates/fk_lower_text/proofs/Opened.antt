@@ -1,12 +1,12 @@
 -- In the openings of calls of shaped code operations go straight on.
 use Rattle.std.proofs.Common.{◌≡◌, ℕ, suc, ◌+◌, ◌-◌, Bool, false, List, [], ◌∷◌, refl, subst, arith}
 use Rattle.fk_syntax.specs.Program.{FunctionTree, ProgramTree}
-use Rattle.fk_forms.specs.Code.{Code, done, perform, choose, while, until, turn, again, quit, break, continue, call, ends, size, numbered}
-use Rattle.fk_forms.specs.Program.{binding_of, bodies_of}
-use Rattle.fk_walk.specs.declared.known.Known.{Known}
-use Rattle.fk_walk.specs.Known.{tables_of}
-use Rattle.fk_walk_statements.specs.Texts.{functions_in, code_in}
-use Rattle.fk_flat.specs.Shape.{is_closed, IsOpening, IsShaped}
+use Rattle.fk_meaning_forms.specs.Code.{Code, done, perform, choose, while, until, turn, again, quit, break, continue, call, ends, size, numbered}
+use Rattle.fk_meaning_forms.specs.Program.{binding_of, bodies_of}
+use Rattle.fk_layout_walk.specs.declared.known.Known.{Known}
+use Rattle.fk_layout_walk.specs.Known.{tables_of}
+use Rattle.fk_layout_walk_statements.specs.Texts.{functions_in, code_in}
+use Rattle.fk_core_flat.specs.Shape.{is_closed, IsOpening, IsShaped}
 use Rattle.fk_lower_text.specs.Depths.{IsStraight, HasOpenings, HaveOpenings}
 use Rattle.fk_lower_text.specs.Laid.{laid, GoUp}
 use Rattle.fk_lower_text.specs.Lowered.{IsLowerable}

@@ -1,7 +1,7 @@
 -- A visitor that counts events.
 use Rattle.std.specs.Prelude.{◌+◌, ◌-◌, ◌^◌, min}
-use Rattle.fk_walk.specs.declared.visitor.Event.{Event}
-use Rattle.fk_walk.specs.declared.visitor.Mark.{Mark}
+use Rattle.fk_layout_walk.specs.declared.visitor.Event.{Event}
+use Rattle.fk_layout_walk.specs.declared.visitor.Mark.{Mark}
 use Rattle.fk_lower_text.specs.declared.count.Count.{Count}
 
 -- a number above the greatest one stays at it

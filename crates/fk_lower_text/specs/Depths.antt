@@ -1,12 +1,12 @@
 -- How many values the running call has before each operation of a text, in the order of the text.
 use Rattle.std.specs.Prelude.{ℕ, List, [], ◌∷◌, ◌++◌}
 use Rattle.fk_syntax.specs.Program.{FunctionTree}
-use Rattle.fk_forms.specs.Code.{Code, done, perform, choose, while, until, turn, again, quit, break, continue, call, ends}
-use Rattle.fk_forms.specs.Expressions.{Coded, Signature}
-use Rattle.fk_walk.specs.declared.known.Known.{Known}
-use Rattle.fk_walk.specs.Known.{functions_of}
-use Rattle.fk_walk_statements.specs.Texts.{code_in}
-use Rattle.fk_sizes.specs.Places.{At, behind_operation, behind_call, behind, beginning}
+use Rattle.fk_meaning_forms.specs.Code.{Code, done, perform, choose, while, until, turn, again, quit, break, continue, call, ends}
+use Rattle.fk_meaning_forms.specs.Expressions.{Coded, Signature}
+use Rattle.fk_layout_walk.specs.declared.known.Known.{Known}
+use Rattle.fk_layout_walk.specs.Known.{functions_of}
+use Rattle.fk_layout_walk_statements.specs.Texts.{code_in}
+use Rattle.fk_layout_sizes.specs.Places.{At, behind_operation, behind_call, behind, beginning}
 
 module _ (functions : (binding : ℕ) → Signature) where
   -- of code, from a place on. What stands in the opening of a call is done by the function that is called, which begins without

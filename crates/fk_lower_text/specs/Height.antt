@@ -1,13 +1,13 @@
 -- How many values the running call has at a place in code. Numbers above the greatest one stay at it.
 use Rattle.std.specs.Prelude.{ℕ, ◌-◌, ◌^◌, min, Option, Some, None}
 use Rattle.fk_syntax.specs.declared.place.Place.{Place}
-use Rattle.fk_operation.specs.declared.operation.Operation.{Operation}
-use Rattle.fk_walk.specs.declared.visitor.Event.{Event}
-use Rattle.fk_walk.specs.declared.visitor.Event.TheVariants.{Call, Returned, Aside, Joined}
-use Rattle.fk_walk.specs.declared.visitor.Mark.{Mark}
-use Rattle.fk_walk.specs.Event.{operation_of}
-use Rattle.fk_sizes.specs.Operations.{takes, pushes, results}
-use Rattle.fk_sizes.specs.Measure.{plus}
+use Rattle.fk_meaning_operation.specs.declared.operation.Operation.{Operation}
+use Rattle.fk_layout_walk.specs.declared.visitor.Event.{Event}
+use Rattle.fk_layout_walk.specs.declared.visitor.Event.TheVariants.{Call, Returned, Aside, Joined}
+use Rattle.fk_layout_walk.specs.declared.visitor.Mark.{Mark}
+use Rattle.fk_layout_walk.specs.Event.{operation_of}
+use Rattle.fk_layout_sizes.specs.Operations.{takes, pushes, results}
+use Rattle.fk_layout_sizes.specs.Measure.{plus}
 use Rattle.fk_lower_text.specs.declared.height.Height.{Height}
 
 abbrev pub behind : (values : ℕ) → Operation → ℕ

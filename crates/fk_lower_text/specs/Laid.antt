@@ -1,11 +1,11 @@
 -- The code of functions, each at its binding.
 use Rattle.std.specs.Prelude.{ℕ, suc, ◌+◌, ◌-◌, ◌*◌, ◌^◌, ◌<◌, ◌≤◌, List, [], ◌∷◌, ◌++◌, map, replicate}
 use Rattle.fk_syntax.specs.Program.{FunctionTree}
-use Rattle.fk_forms.specs.Code.{Code, done, size, numbered}
-use Rattle.fk_forms.specs.Program.{binding_of}
-use Rattle.fk_walk.specs.declared.known.Known.{Known}
-use Rattle.fk_walk.specs.Known.{tables_of}
-use Rattle.fk_walk_statements.specs.Texts.{code_in}
+use Rattle.fk_meaning_forms.specs.Code.{Code, done, size, numbered}
+use Rattle.fk_meaning_forms.specs.Program.{binding_of}
+use Rattle.fk_layout_walk.specs.declared.known.Known.{Known}
+use Rattle.fk_layout_walk.specs.Known.{tables_of}
+use Rattle.fk_layout_walk_statements.specs.Texts.{code_in}
 use Rattle.fk_lower.specs.declared.block.Block.{Block}
 use Rattle.fk_lower.specs.BuilderView.{block_code}
 use Rattle.fk_lower_text.specs.Whole.{ArePlain}

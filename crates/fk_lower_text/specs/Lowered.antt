@@ -1,20 +1,20 @@
 -- The flat list of a text.
 use Rattle.std.specs.Prelude.{◌≡◌, ℕ, ◌+◌, ◌≤◌, List, length}
 use Rattle.fk_syntax.specs.Program.{ProgramTree}
-use Rattle.fk_run.specs.Processor.{Setting}
-use Rattle.fk_run.specs.Schedule.{Schedule}
-use Rattle.fk_run.specs.Alike.{RunAlike}
-use Rattle.fk_source.specs.Program as source
-use Rattle.fk_forms.specs.Ranks.{ranked}
-use Rattle.fk_forms.specs.Program.{bodies_of, main_of}
-use Rattle.fk_walk.specs.declared.known.Known.{Known}
-use Rattle.fk_walk.specs.Known.{tables_of, items_in}
-use Rattle.fk_walk_statements.specs.Texts.{functions_in, sites_of_text}
+use Rattle.fk_meaning.specs.Processor.{Setting}
+use Rattle.fk_meaning.specs.Schedule.{Schedule}
+use Rattle.fk_meaning.specs.Alike.{RunAlike}
+use Rattle.fk_meaning.specs.Program as source
+use Rattle.fk_meaning_forms.specs.Ranks.{ranked}
+use Rattle.fk_meaning_forms.specs.Program.{bodies_of, main_of}
+use Rattle.fk_layout_walk.specs.declared.known.Known.{Known}
+use Rattle.fk_layout_walk.specs.Known.{tables_of, items_in}
+use Rattle.fk_layout_walk_statements.specs.Texts.{functions_in, sites_of_text}
 use Rattle.fk_core.specs.declared.op.CoreOp.{CoreOp}
 use Rattle.fk_core.specs.Next.{next, list_opening}
 use Rattle.fk_core.specs.KeepsRuns.{HasCodeOf}
-use Rattle.fk_flat.specs.Items.{Item, acts, jumps, calls}
-use Rattle.fk_flat.specs.Laws.{AreShaped, IsFlat}
+use Rattle.fk_core_flat.specs.Items.{Item, acts, jumps, calls}
+use Rattle.fk_core_flat.specs.Laws.{AreShaped, IsFlat}
 use Rattle.fk_lower.specs.declared.fault.LowerFault.{LowerFault}
 use Rattle.fk_lower.specs.declared.fault.LowerFault.TheVariants.{TooLong, OutOfRange, Misplaced, Memory}
 use Rattle.fk_lower.specs.Lowered.{IsListOf}

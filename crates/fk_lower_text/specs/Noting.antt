@@ -1,9 +1,9 @@
 -- A visitor that writes down what it is shown, as long as there is room.
 use Rattle.std.specs.Prelude.{◌+◌, length, nat_lt, if◌then◌else◌}
 use Rattle.std.specs.Vec.{with_item}
-use Rattle.fk_walk.specs.declared.visitor.Event.{Event}
-use Rattle.fk_walk.specs.declared.visitor.Event.TheVariants as v
-use Rattle.fk_walk.specs.declared.visitor.Mark.{Mark}
+use Rattle.fk_layout_walk.specs.declared.visitor.Event.{Event}
+use Rattle.fk_layout_walk.specs.declared.visitor.Event.TheVariants as v
+use Rattle.fk_layout_walk.specs.declared.visitor.Mark.{Mark}
 use Rattle.fk_lower.specs.declared.event.CodeEvent.{CodeEvent}
 use Rattle.fk_lower.specs.declared.event.CodeEvent.TheVariants as e
 use Rattle.fk_lower_text.specs.declared.noting.Noting.{Noting}

@@ -1,16 +1,16 @@
 -- A visitor that tells the depths of operations, as long as there is room.
 use Rattle.std.specs.Prelude.{◌+◌, length, nat_lt, List, [], ◌∷◌, Option, Some, None, if◌then◌else◌}
 use Rattle.std.specs.Vec.{with_item}
-use Rattle.fk_operation.specs.declared.operation.Operation.{Operation}
+use Rattle.fk_meaning_operation.specs.declared.operation.Operation.{Operation}
 use Rattle.fk_syntax.specs.declared.place.Place.{Place}
 use Rattle.fk_syntax.specs.Program.{FunctionTree}
-use Rattle.fk_walk.specs.declared.known.Known.{Known}
-use Rattle.fk_walk.specs.declared.visitor.Event.{Event}
-use Rattle.fk_walk.specs.declared.visitor.Mark.{Mark}
-use Rattle.fk_walk.specs.Event.{operation_of}
-use Rattle.fk_walk.specs.Known.{functions_of}
-use Rattle.fk_walk.specs.Through.{through}
-use Rattle.fk_walk_statements.specs.Texts.{code_in}
+use Rattle.fk_layout_walk.specs.declared.known.Known.{Known}
+use Rattle.fk_layout_walk.specs.declared.visitor.Event.{Event}
+use Rattle.fk_layout_walk.specs.declared.visitor.Mark.{Mark}
+use Rattle.fk_layout_walk.specs.Event.{operation_of}
+use Rattle.fk_layout_walk.specs.Known.{functions_of}
+use Rattle.fk_layout_walk.specs.Through.{through}
+use Rattle.fk_layout_walk_statements.specs.Texts.{code_in}
 use Rattle.fk_lower_text.specs.declared.depths.Depths.{Depths}
 use Rattle.fk_lower_text.specs.Height.{high, depth, after, mark_of}
 

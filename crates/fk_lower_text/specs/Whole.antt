@@ -1,11 +1,11 @@
 -- Code whose operations a visitor is shown whole.
 use Rattle.std.specs.Prelude.{◌≡◌, List, [], ◌∷◌}
-use Rattle.fk_operation.specs.declared.operation.Operation.{Operation}
+use Rattle.fk_meaning_operation.specs.declared.operation.Operation.{Operation}
 use Rattle.fk_syntax.specs.Program.{FunctionTree}
-use Rattle.fk_forms.specs.Code.{Code, done, perform, choose, while, until, quit, break, continue, call, ends}
-use Rattle.fk_walk.specs.declared.known.Known.{Known}
-use Rattle.fk_walk.specs.Shown.{shown}
-use Rattle.fk_walk_statements.specs.Texts.{code_in}
+use Rattle.fk_meaning_forms.specs.Code.{Code, done, perform, choose, while, until, quit, break, continue, call, ends}
+use Rattle.fk_layout_walk.specs.declared.known.Known.{Known}
+use Rattle.fk_layout_walk.specs.Shown.{shown}
+use Rattle.fk_layout_walk_statements.specs.Texts.{code_in}
 use Rattle.fk_lower.specs.Building.{IsUnbegun}
 use Rattle.fk_lower.specs.Faults.{HaveNumbers}
 

@@ -4,11 +4,11 @@ ghost use Rattle.std.specs.Prelude.{◌≡◌, ◌+◌, ◌-◌, ◌*◌, ◌^�
 ghost use Rattle.std.specs.List.{count_by};
 ghost use Rattle.fk_syntax.specs.Program.{FunctionTree, ItemTree};
 ghost use Rattle.fk_syntax.specs.ProgramView.{function_of, item_of};
-ghost use Rattle.fk_forms.specs.Code as c;
-ghost use Rattle.fk_forms.specs.Code.{size, numbered};
-ghost use Rattle.fk_forms.specs.Program.{functions_of};
-ghost use Rattle.fk_walk.specs.Known.{IsSound};
-ghost use Rattle.fk_walk_statements.specs.Texts.{functions_in, code_in};
+ghost use Rattle.fk_meaning_forms.specs.Code as c;
+ghost use Rattle.fk_meaning_forms.specs.Code.{size, numbered};
+ghost use Rattle.fk_meaning_forms.specs.Program.{functions_of};
+ghost use Rattle.fk_layout_walk.specs.Known.{IsSound};
+ghost use Rattle.fk_layout_walk_statements.specs.Texts.{functions_in, code_in};
 ghost use Rattle.fk_lower.specs.Building.{has_site};
 ghost use Rattle.fk_lower.specs.View.{part_of};
 ghost use Rattle.fk_lower.specs.BuilderView.{event_of, block_code, IsBlockMeasured};
@@ -20,7 +20,7 @@ use crate::main_entry::binding_of;
 use crate::noting::events_of;
 use fk_lower::{Block, CodeEvent, LowerFault, build};
 use fk_syntax::{Function, Item};
-use fk_walk::Known;
+use fk_layout_walk::Known;
 use std::alloc::Global;
 
 /// The blocks of functions, each at its binding. Where there is no function there is an empty one.

@@ -1,6 +1,6 @@
 //! A visitor that counts what it is shown.
 
-use fk_walk::{Event, Mark, Visitor};
+use fk_layout_walk::{Event, Mark, Visitor};
 
 /// How many events it was shown. Above 2^64 - 1 it stays there.
 #[derive(Drop)]

@@ -3,9 +3,9 @@
 ghost use Rattle.std.specs.Prelude.{◌≡◌, ◌*◌, ◌^◌, ◌<◌, ◌∷◌, List, IfOk, IfErr, length, map};
 ghost use Rattle.fk_syntax.specs.Program.{ItemTree};
 ghost use Rattle.fk_syntax.specs.ProgramView.{item_of};
-ghost use Rattle.fk_forms.specs.Program as f;
-ghost use Rattle.fk_walk.specs.Known.{IsSound};
-ghost use Rattle.fk_walk_statements.specs.Texts.{functions_in, sites_of_text};
+ghost use Rattle.fk_meaning_forms.specs.Program as f;
+ghost use Rattle.fk_layout_walk.specs.Known.{IsSound};
+ghost use Rattle.fk_layout_walk_statements.specs.Texts.{functions_in, sites_of_text};
 ghost use Rattle.fk_lower_text.specs.Depths.{HaveOpenings};
 ghost use Rattle.fk_lower_text.specs.Depths as d;
 ghost use Rattle.fk_lower_text.specs.Telling.{told_depth, through_functions};
@@ -14,8 +14,8 @@ use crate::height::Height;
 use fk_layout::count_sites;
 use fk_lower::LowerFault;
 use fk_syntax::Item;
-use fk_walk::{Event, Known, Mark, Visitor};
-use fk_walk_statements::function;
+use fk_layout_walk::{Event, Known, Mark, Visitor};
+use fk_layout_walk_statements::function;
 use std::alloc::Global;
 
 /// A visitor that tells how many values the running call has before each operation that it is

@@ -3,16 +3,16 @@
 ghost use Rattle.std.specs.Prelude.{◌≡◌, ◌∷◌, List, OnOk, IfErr, unwrap_or};
 ghost use Rattle.fk_syntax.specs.Program.{ItemTree};
 ghost use Rattle.fk_syntax.specs.ProgramView.{function_of, item_of};
-ghost use Rattle.fk_forms.specs.Program as f;
-ghost use Rattle.fk_forms.specs.Program.{functions_of, binding_of, main_in};
-ghost use Rattle.fk_walk.specs.Known.{tables_of};
-ghost use Rattle.fk_walk_statements.specs.Texts.{functions_in};
+ghost use Rattle.fk_meaning_forms.specs.Program as f;
+ghost use Rattle.fk_meaning_forms.specs.Program.{functions_of, binding_of, main_in};
+ghost use Rattle.fk_layout_walk.specs.Known.{tables_of};
+ghost use Rattle.fk_layout_walk_statements.specs.Texts.{functions_in};
 ghost use Rattle.fk_lower.specs.Written.{entry_of};
 ghost use Rattle.fk_lower_text.specs.Lowered.{IsTextFault};
 
 use fk_lower::Lowered;
 use fk_syntax::{Function, Item};
-use fk_walk::Known;
+use fk_layout_walk::Known;
 
 /// The binding of a function.
 pub(crate) fn binding_of(known: &Known, whole: &Function) -> u32

@@ -2,8 +2,8 @@
 
 ghost use Rattle.std.specs.Prelude.{◌≡◌, IfErr, IfOk, map};
 ghost use Rattle.fk_syntax.specs.ProgramView.{function_of};
-ghost use Rattle.fk_walk.specs.Known.{IsSound};
-ghost use Rattle.fk_walk_statements.specs.Texts.{code_in};
+ghost use Rattle.fk_layout_walk.specs.Known.{IsSound};
+ghost use Rattle.fk_layout_walk_statements.specs.Texts.{code_in};
 ghost use Rattle.fk_lower.specs.Building as b;
 ghost use Rattle.fk_lower.specs.BuilderView.{event_of};
 ghost use Rattle.fk_lower_text.specs.Noting.{told, noted};
@@ -12,8 +12,8 @@ ghost use Rattle.fk_lower_text.specs.Whole.{IsPlain};
 use crate::count::Count;
 use fk_lower::{CodeEvent, LowerFault};
 use fk_syntax::Function;
-use fk_walk::{Event, Known, Mark, Visitor};
-use fk_walk_statements::function;
+use fk_layout_walk::{Event, Known, Mark, Visitor};
+use fk_layout_walk_statements::function;
 use std::alloc::Global;
 
 /// A visitor that writes down what it is shown, as long as there is room.

@@ -2,8 +2,8 @@
 
 ghost use Rattle.std.specs.Prelude.{◌≡◌, IfOk, IfErr};
 ghost use Rattle.fk_syntax.specs.Program.{ProgramTree};
-ghost use Rattle.fk_walk.specs.Known.{IsSound};
-ghost use Rattle.fk_walk_statements.specs.Texts.{functions_in};
+ghost use Rattle.fk_layout_walk.specs.Known.{IsSound};
+ghost use Rattle.fk_layout_walk_statements.specs.Texts.{functions_in};
 ghost use Rattle.fk_lower.specs.Depths.{AreTold};
 ghost use Rattle.fk_lower.specs.Written.{entry_of};
 ghost use Rattle.fk_lower_text.specs.Depths as d;
@@ -13,7 +13,7 @@ ghost use Rattle.fk_lower_text.specs.Lowered.{IsLowerable, HasProgram, HasItsRun
 use crate::bodies::Bodies;
 use crate::depths::depths_of;
 use fk_lower::{Block, LowerFault, Lowered, lower};
-use fk_walk::Known;
+use fk_layout_walk::Known;
 use std::alloc::Global;
 
 /// The flat list of a text, by what is known of it: each function at its binding, each operation

@@ -1,5 +1,5 @@
 //! Tables of texts, from the rule of input texts by hand.
-use fk_input::{InputFault, read_input};
+use fk_top_input::{InputFault, read_input};
 use std::alloc::{AllocError, Global};
 use std::process::Abort;
 use std::test::Fail;

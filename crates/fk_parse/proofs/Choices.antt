@@ -1,12 +1,12 @@
 -- A language whose stretches are read by one reader or another.
 use Rattle.std.proofs.Common.{◌≡◌, ℕ, ◌≤◌, List, ◌∷◌, ◌++◌, Bool, true, false, IsTrue, length, ◌⊎◌, inl, inr, sym, ap, ◌∙◌, arith, append_assoc, length-append}
-use Rattle.fk_reading.specs.Languages.{Placed, Stretch, tokens_of, Language}
-use Rattle.fk_reading.specs.Reads.{Answer}
-use Rattle.fk_reading.specs.Readers.{Reader, next_is, either, by_next}
-use Rattle.fk_reading.proofs.Sets.{Kinds, ◌∪◌, Within, next-within, within_left, within_right}
-use Rattle.fk_reading.proofs.Exact.{Shape, Sound, Closes, Stands, Local, IsLocal, Exact, settled}
-use Rattle.fk_reading.proofs.Stretches.{local_by}
-use Rattle.fk_reading.proofs.Or.{Includes, sound_more, or_local, welcome}
+use Rattle.fk_parse_combinators.specs.Languages.{Placed, Stretch, tokens_of, Language}
+use Rattle.fk_parse_combinators.specs.Reads.{Answer}
+use Rattle.fk_parse_combinators.specs.Readers.{Reader, next_is, either, by_next}
+use Rattle.fk_parse_combinators.proofs.Sets.{Kinds, ◌∪◌, Within, next-within, within_left, within_right}
+use Rattle.fk_parse_combinators.proofs.Exact.{Shape, Sound, Closes, Stands, Local, IsLocal, Exact, settled}
+use Rattle.fk_parse_combinators.proofs.Stretches.{local_by}
+use Rattle.fk_parse_combinators.proofs.Or.{Includes, sound_more, or_local, welcome}
 
 -- ---- by the next token
 

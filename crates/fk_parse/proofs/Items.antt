@@ -3,35 +3,35 @@ use Rattle.std.proofs.Common.{◌≡◌, ℕ, suc, ◌+◌, ◌-◌, List, [], �
 use Rattle.fk_syntax.specs.Tree.{BaseType, Struct}
 use Rattle.fk_syntax.specs.Program.{DeclaredTree, ItemTree, StructItem, VariablesItem}
 use Rattle.fk_lex.specs.declared.token.TokenKind.TheVariants as kind
-use Rattle.fk_reading.specs.Languages.{Placed, Stretch, tokens_of, Language, token, ◌then◌, ◌or◌, making, many, name}
-use Rattle.fk_reading.specs.Reads.{Answer}
-use Rattle.fk_reading.specs.declared.limits.TheConstants.{LEVELS}
+use Rattle.fk_parse_combinators.specs.Languages.{Placed, Stretch, tokens_of, Language, token, ◌then◌, ◌or◌, making, many, name}
+use Rattle.fk_parse_combinators.specs.Reads.{Answer}
+use Rattle.fk_parse_combinators.specs.declared.limits.TheConstants.{LEVELS}
 use Rattle.fk_expr.specs.Grammar.{base}
-use Rattle.fk_reading.specs.Readers.{Reader, after, giving, ◌and◌, next_is, either, by_next, expect, repeated, tells}
+use Rattle.fk_parse_combinators.specs.Readers.{Reader, after, giving, ◌and◌, next_is, either, by_next, expect, repeated, tells}
 use Rattle.fk_expr.specs.Reading.{read_base, begins_type, inner}
-use Rattle.fk_reading.proofs.SameKind.{other_kind}
-use Rattle.fk_reading.proofs.Sets.{Kinds, none, ◌∪◌, none_apart, Apart, apart-false}
-use Rattle.fk_reading.proofs.EachKind.{apart_by, within_by}
-use Rattle.fk_reading.proofs.Exact.{Local, IsLocal}
-use Rattle.fk_reading.proofs.Stretches.{tokens_regroup}
-use Rattle.fk_reading.proofs.Shapes.{shape_or}
-use Rattle.fk_reading.proofs.Then.{follows_shape, exact_wider}
-use Rattle.fk_reading.proofs.Or.{by_next-yes, by_next-no, local_like}
-use Rattle.fk_reading.proofs.Productions.{IsRead, reads_token, reads_making, reads_then, reads_loose_then, reads_or, reads_many, reads_kinds, reads_wider}
-use Rattle.fk_reading.proofs.Longest.{Faithful}
-use Rattle.fk_declarations.specs.Kinds.{sharing_told}
+use Rattle.fk_parse_combinators.proofs.SameKind.{other_kind}
+use Rattle.fk_parse_combinators.proofs.Sets.{Kinds, none, ◌∪◌, none_apart, Apart, apart-false}
+use Rattle.fk_parse_combinators.proofs.EachKind.{apart_by, within_by}
+use Rattle.fk_parse_combinators.proofs.Exact.{Local, IsLocal}
+use Rattle.fk_parse_combinators.proofs.Stretches.{tokens_regroup}
+use Rattle.fk_parse_combinators.proofs.Shapes.{shape_or}
+use Rattle.fk_parse_combinators.proofs.Then.{follows_shape, exact_wider}
+use Rattle.fk_parse_combinators.proofs.Or.{by_next-yes, by_next-no, local_like}
+use Rattle.fk_parse_combinators.proofs.Productions.{IsRead, reads_token, reads_making, reads_then, reads_loose_then, reads_or, reads_many, reads_kinds, reads_wider}
+use Rattle.fk_parse_combinators.proofs.Longest.{Faithful}
+use Rattle.fk_parse_declarations.specs.Kinds.{sharing_told}
 use Rattle.fk_parse.specs.Kinds.{mode_told}
-use Rattle.fk_declarations.specs.Grammar.{member, joined_lists}
+use Rattle.fk_parse_declarations.specs.Grammar.{member, joined_lists}
 use Rattle.fk_parse.specs.Items.{struct_item, item, Items}
-use Rattle.fk_declarations.specs.Reading.{read_member, read_variables}
+use Rattle.fk_parse_declarations.specs.Reading.{read_member, read_variables}
 use Rattle.fk_parse.specs.Reading.{read_struct, read_moded, read_bare, read_tail, read_item, read_items, begins_item, struct_is_next, made_of, Tail}
-use Rattle.fk_declarations.proofs.Declarations.{starred, reads_member}
-use Rattle.fk_declarations.proofs.Parameters.{next_none}
-use Rattle.fk_reading.proofs.TwoTokens.{exact_test}
+use Rattle.fk_parse_declarations.proofs.Declarations.{starred, reads_member}
+use Rattle.fk_parse_declarations.proofs.Parameters.{next_none}
+use Rattle.fk_parse_combinators.proofs.TwoTokens.{exact_test}
 use Rattle.fk_parse.proofs.Choices.{local_behind}
 use Rattle.fk_parse.proofs.Tails.{has_room, body_within, named, reads_named, tail, reads_tail, bare, moded}
 use Rattle.fk_parse.proofs.Words.{words, words_cases, read_typed, read_words, reads_words}
-use Rattle.fk_reading.specs.Kinds.{just}
+use Rattle.fk_parse_combinators.specs.Kinds.{just}
 
 -- ---- structs
 

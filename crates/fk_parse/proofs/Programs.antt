@@ -5,14 +5,14 @@ use Rattle.fk_syntax.specs.declared.place.Place.{Place}
 use Rattle.fk_syntax.specs.Program.{ItemTree, ProgramTree}
 use Rattle.fk_lex.specs.declared.token.Token.{Token}
 use Rattle.fk_lex.specs.View.{spelled}
-use Rattle.fk_reading.specs.declared.limits.TheConstants.{LEVELS}
-use Rattle.fk_reading.specs.declared.fault.SyntaxFault.{SyntaxFault}
-use Rattle.fk_reading.specs.declared.fault.SyntaxFault.TheVariants as fault
-use Rattle.fk_reading.specs.Languages.{Placed, numbered}
-use Rattle.fk_reading.specs.Reads.{Stop, Answer}
-use Rattle.fk_reading.specs.Readers.{unexpected}
-use Rattle.fk_reading.specs.Faults.{Tells}
-use Rattle.fk_reading.specs.Gives.{Halts}
+use Rattle.fk_parse_combinators.specs.declared.limits.TheConstants.{LEVELS}
+use Rattle.fk_parse_combinators.specs.declared.fault.SyntaxFault.{SyntaxFault}
+use Rattle.fk_parse_combinators.specs.declared.fault.SyntaxFault.TheVariants as fault
+use Rattle.fk_parse_combinators.specs.Languages.{Placed, numbered}
+use Rattle.fk_parse_combinators.specs.Reads.{Stop, Answer}
+use Rattle.fk_parse_combinators.specs.Readers.{unexpected}
+use Rattle.fk_parse_combinators.specs.Faults.{Tells}
+use Rattle.fk_parse_combinators.specs.Gives.{Halts}
 use Rattle.fk_expr.proofs.Public.{halts_tells}
 use Rattle.fk_parse.specs.Parses.{ReadsText, SpellsProgram, end_of, beginning}
 use Rattle.fk_parse.specs.Refusals.{RefusesTokens}

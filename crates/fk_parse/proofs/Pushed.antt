@@ -2,10 +2,10 @@
 use Rattle.std.proofs.Common.{◌≡◌, List, [], ◌∷◌, ◌++◌, Ok, Bool, true, map, sym, ap, ◌∙◌, subst}
 use Rattle.std.proofs.lemmas.List.{map-append}
 use Rattle.fk_lex.specs.declared.token.TokenKind.{TokenKind}
-use Rattle.fk_reading.specs.Languages.{Placed}
-use Rattle.fk_reading.specs.Readers.{Reader, next_is}
-use Rattle.fk_reading.specs.Ahead.{Shortens}
-use Rattle.fk_reading.proofs.Loops.{Loops, loops_start, loops_more}
+use Rattle.fk_parse_combinators.specs.Languages.{Placed}
+use Rattle.fk_parse_combinators.specs.Readers.{Reader, next_is}
+use Rattle.fk_parse_combinators.specs.Ahead.{Shortens}
+use Rattle.fk_parse_combinators.proofs.Loops.{Loops, loops_start, loops_more}
 
 pub pushed_start : {A B : Type 0} (f : B → A) (is : TokenKind → Bool) (P : Reader A) (start : List Placed) (items : List B)
     → items ≡ [] → Loops is P start (map f items) start

@@ -11,8 +11,8 @@ use Rattle.fk_syntax.specs.Tree.{BaseType}
 use Rattle.fk_syntax.specs.Program.{ItemTree, ProgramTree}
 use Rattle.fk_syntax.specs.WellFormed.{AreSound, IsWellFormed, nodes, token}
 use Rattle.fk_lex.specs.Reading.{Spelled}
-use Rattle.fk_reading.specs.Languages.{Stretch, tokens_of, numbered}
-use Rattle.fk_reading.proofs.Uses.{one, times, times-append, places}
+use Rattle.fk_parse_combinators.specs.Languages.{Stretch, tokens_of, numbered}
+use Rattle.fk_parse_combinators.proofs.Uses.{one, times, times-append, places}
 use Rattle.fk_expr.proofs.UsesTree.{Count}
 use Rattle.fk_parse.specs.Parses.{SpellsItems, SpellsProgram}
 use Rattle.fk_parse.proofs.Uses.{held_items}

@@ -4,27 +4,27 @@ use Rattle.fk_syntax.specs.declared.program.Mode.TheVariants as mode
 use Rattle.fk_syntax.specs.Tree.{Tree}
 use Rattle.fk_syntax.specs.Program.{DeclaredTree, Statements, ItemTree, FunctionItem}
 use Rattle.fk_lex.specs.declared.token.TokenKind.TheVariants as kind
-use Rattle.fk_reading.specs.Languages.{Placed, Language, token, telling, ◌then◌, ◌or◌, making, many, name}
+use Rattle.fk_parse_combinators.specs.Languages.{Placed, Language, token, telling, ◌then◌, ◌or◌, making, many, name}
 use Rattle.fk_expr.specs.Grammar.{base}
-use Rattle.fk_reading.specs.Readers.{Reader, ◌and◌, giving, expect, by_next, repeated, tells}
+use Rattle.fk_parse_combinators.specs.Readers.{Reader, ◌and◌, giving, expect, by_next, repeated, tells}
 use Rattle.fk_expr.specs.Reading.{begins_type, inner}
-use Rattle.fk_reading.proofs.Sets.{Kinds, none, ◌∪◌, none_apart}
-use Rattle.fk_reading.proofs.EachKind.{apart_by}
+use Rattle.fk_parse_combinators.proofs.Sets.{Kinds, none, ◌∪◌, none_apart}
+use Rattle.fk_parse_combinators.proofs.EachKind.{apart_by}
 use Rattle.fk_expr.proofs.TypeNames.{reads_base}
-use Rattle.fk_reading.proofs.Or.{Includes}
-use Rattle.fk_reading.proofs.Productions.{IsRead, reads_token, reads_telling, reads_making, reads_then, reads_loose_then, reads_or, reads_many, reads_lower, reads_wider}
+use Rattle.fk_parse_combinators.proofs.Or.{Includes}
+use Rattle.fk_parse_combinators.proofs.Productions.{IsRead, reads_token, reads_telling, reads_making, reads_then, reads_loose_then, reads_or, reads_many, reads_lower, reads_wider}
 use Rattle.fk_parse.specs.Kinds.{mode_told}
-use Rattle.fk_declarations.specs.Grammar.{variable, parameters, Declarator}
-use Rattle.fk_stmt.specs.Statements.{block, statement_within}
+use Rattle.fk_parse_declarations.specs.Grammar.{variable, parameters, Declarator}
+use Rattle.fk_parse_statements.specs.Statements.{block, statement_within}
 use Rattle.fk_parse.specs.Items.{body}
 use Rattle.fk_parse.specs.Reading.{read_function_tail, read_variables_tail, read_tail, read_bare, read_moded, Tail, OfFunction, OfVariables, made_of}
-use Rattle.fk_stmt.specs.Reading.{read_block, statements_with}
-use Rattle.fk_declarations.proofs.Alike.{reads_same}
-use Rattle.fk_stmt.proofs.Closing.{closing_room}
-use Rattle.fk_declarations.proofs.Declarations.{Expressions, expressions, after_variable, after_rest, starred, rest_of, reads_stars, reads_rest, reads_variable}
-use Rattle.fk_declarations.proofs.Parameters.{begins_parameters, reads_parameters}
-use Rattle.fk_stmt.proofs.Statements.{reads_block, nested_deeper, closing_within}
-use Rattle.fk_reading.specs.Kinds.{just}
+use Rattle.fk_parse_statements.specs.Reading.{read_block, statements_with}
+use Rattle.fk_parse_declarations.proofs.Alike.{reads_same}
+use Rattle.fk_parse_statements.proofs.Closing.{closing_room}
+use Rattle.fk_parse_declarations.proofs.Declarations.{Expressions, expressions, after_variable, after_rest, starred, rest_of, reads_stars, reads_rest, reads_variable}
+use Rattle.fk_parse_declarations.proofs.Parameters.{begins_parameters, reads_parameters}
+use Rattle.fk_parse_statements.proofs.Statements.{reads_block, nested_deeper, closing_within}
+use Rattle.fk_parse_combinators.specs.Kinds.{just}
 
 -- the grammar's bound on levels leaves room for those that may be open in a text: a body is the first, and so many may be open in its statements
 abbrev pub has_room : (left : ℕ) → ℕ → Type 0

@@ -3,14 +3,14 @@ use Rattle.std.proofs.Common.{◌≡◌, ℕ, suc, ◌+◌, List, [], ◌∷◌,
 use Rattle.std.proofs.lemmas.List.{append-nil}
 use Rattle.fk_syntax.specs.Program.{ItemTree, ProgramTree}
 use Rattle.fk_lex.specs.Reading.{Spelled}
-use Rattle.fk_reading.specs.declared.fault.SyntaxFault.{SyntaxFault}
-use Rattle.fk_reading.specs.declared.fault.SyntaxFault.TheVariants as fault
-use Rattle.fk_reading.specs.Languages.{Placed, Stretch, tokens_of, numbered}
-use Rattle.fk_reading.specs.Reads.{Stop, Unexpected, EndOfText, Nesting, Answer, IsLongest, Reads}
-use Rattle.fk_reading.specs.Faults.{IsMemory}
-use Rattle.fk_reading.proofs.Longest.{reads, one_value}
-use Rattle.fk_reading.proofs.Stretches.{sum_of_levels, within_sum}
-use Rattle.fk_reading.proofs.Determined.{one_longest, longest_not_deep, one_answer}
+use Rattle.fk_parse_combinators.specs.declared.fault.SyntaxFault.{SyntaxFault}
+use Rattle.fk_parse_combinators.specs.declared.fault.SyntaxFault.TheVariants as fault
+use Rattle.fk_parse_combinators.specs.Languages.{Placed, Stretch, tokens_of, numbered}
+use Rattle.fk_parse_combinators.specs.Reads.{Stop, Unexpected, EndOfText, Nesting, Answer, IsLongest, Reads}
+use Rattle.fk_parse_combinators.specs.Faults.{IsMemory}
+use Rattle.fk_parse_combinators.proofs.Longest.{reads, one_value}
+use Rattle.fk_parse_combinators.proofs.Stretches.{sum_of_levels, within_sum}
+use Rattle.fk_parse_combinators.proofs.Determined.{one_longest, longest_not_deep, one_answer}
 use Rattle.fk_parse.specs.Items.{Items}
 use Rattle.fk_parse.specs.Parses.{SpellsItems, ReadsText, SpellsProgram, end_of, beginning, OneText, OneTree, OneProgram}
 use Rattle.fk_parse.specs.Refusals.{RefusesTokens, HasTree, HasFault, TreeOrFault, OneFault}

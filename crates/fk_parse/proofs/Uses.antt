@@ -3,13 +3,13 @@ use Rattle.std.proofs.Common.{◌≡◌, ℕ, ◌+◌, ◌≤◌, List, [], ◌�
 use Rattle.fk_syntax.specs.declared.nodes.Index.TheVariants.{Node}
 use Rattle.fk_syntax.specs.Nodes.{base_indices, declared_indices, declarations_indices, body_indices, item_indices, items_indices}
 use Rattle.fk_syntax.specs.Program.{DeclaredTree, Statements, ItemTree}
-use Rattle.fk_reading.proofs.Uses.{Measure, Held, each, held_uncounted, held_token, ◌beside◌, held_or, held_making, held_many, held_less}
+use Rattle.fk_parse_combinators.proofs.Uses.{Measure, Held, each, held_uncounted, held_token, ◌beside◌, held_or, held_making, held_many, held_less}
 use Rattle.fk_expr.proofs.UsesTree.{Count, more, more_two, held_base}
 use Rattle.fk_parse.specs.Items as g
-use Rattle.fk_declarations.specs.Grammar.{joined_lists}
+use Rattle.fk_parse_declarations.specs.Grammar.{joined_lists}
 use Rattle.fk_lex.specs.declared.token.TokenKind.TheVariants as kind
-use Rattle.fk_declarations.proofs.Uses.{declarations_count, held_variables, held_member, held_parameters}
-use Rattle.fk_stmt.proofs.Uses.{held_block, held_within}
+use Rattle.fk_parse_declarations.proofs.Uses.{declarations_count, held_variables, held_member, held_parameters}
+use Rattle.fk_parse_statements.proofs.Uses.{held_block, held_within}
 
 -- ---- items
 

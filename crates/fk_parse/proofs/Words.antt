@@ -4,28 +4,28 @@ use Rattle.std.proofs.Common.{◌≡◌, ℕ, suc, List, [], ◌∷◌, ◌++◌
 use Rattle.fk_syntax.specs.declared.program.Mode.{Mode}
 use Rattle.fk_syntax.specs.Tree.{BaseType, Tree}
 use Rattle.fk_syntax.specs.Program.{DeclaredTree, Statements, ItemTree, VariablesItem, FunctionItem}
-use Rattle.fk_reading.specs.Languages.{Placed, Stretch, tokens_of, Language, token, telling, ◌then◌, ◌or◌, making, maybe, name}
+use Rattle.fk_parse_combinators.specs.Languages.{Placed, Stretch, tokens_of, Language, token, telling, ◌then◌, ◌or◌, making, maybe, name}
 use Rattle.fk_expr.specs.Grammar.{base}
-use Rattle.fk_reading.specs.Readers.{Reader, giving, next_is, by_next, tells}
+use Rattle.fk_parse_combinators.specs.Readers.{Reader, giving, next_is, by_next, tells}
 use Rattle.fk_expr.specs.Reading.{begins_type, inner}
-use Rattle.fk_reading.proofs.Sets.{Kinds, none, ◌∪◌}
-use Rattle.fk_reading.proofs.EachKind.{apart_by, within_by}
-use Rattle.fk_reading.proofs.Shapes.{shape_or}
-use Rattle.fk_reading.proofs.Then.{follows_shape}
-use Rattle.fk_reading.proofs.Or.{Includes}
-use Rattle.fk_reading.proofs.Productions.{IsRead, reads_making, reads_or, reads_kinds, reads_wider}
-use Rattle.fk_declarations.specs.Kinds.{sharing_told}
+use Rattle.fk_parse_combinators.proofs.Sets.{Kinds, none, ◌∪◌}
+use Rattle.fk_parse_combinators.proofs.EachKind.{apart_by, within_by}
+use Rattle.fk_parse_combinators.proofs.Shapes.{shape_or}
+use Rattle.fk_parse_combinators.proofs.Then.{follows_shape}
+use Rattle.fk_parse_combinators.proofs.Or.{Includes}
+use Rattle.fk_parse_combinators.proofs.Productions.{IsRead, reads_making, reads_or, reads_kinds, reads_wider}
+use Rattle.fk_parse_declarations.specs.Kinds.{sharing_told}
 use Rattle.fk_parse.specs.Kinds.{mode_told}
-use Rattle.fk_declarations.specs.Grammar.{separated, Declarator, variable, variables, declared, is_shared, parameters}
+use Rattle.fk_parse_declarations.specs.Grammar.{separated, Declarator, variable, variables, declared, is_shared, parameters}
 use Rattle.fk_parse.specs.Items.{body, mode_of, function_item}
-use Rattle.fk_declarations.specs.Reading.{read_variables, begins_parameter}
+use Rattle.fk_parse_declarations.specs.Reading.{read_variables, begins_parameter}
 use Rattle.fk_parse.specs.Reading.{read_moded, read_bare, begins_item, OfFunction, OfVariables}
-use Rattle.fk_declarations.proofs.Alike.{shape_same}
-use Rattle.fk_declarations.proofs.Declarations.{rest_of, reads_variables}
-use Rattle.fk_declarations.proofs.Parameters.{next_none}
+use Rattle.fk_parse_declarations.proofs.Alike.{shape_same}
+use Rattle.fk_parse_declarations.proofs.Declarations.{rest_of, reads_variables}
+use Rattle.fk_parse_declarations.proofs.Parameters.{next_none}
 use Rattle.fk_parse.proofs.Choices.{TellsApart, exact_choice}
 use Rattle.fk_parse.proofs.Tails.{has_room, body_within, outer, others_of, named, bare, reads_bare, moded, reads_moded, tail}
-use Rattle.fk_reading.specs.Kinds.{just}
+use Rattle.fk_parse_combinators.specs.Kinds.{just}
 use Rattle.fk_lex.specs.declared.token.TokenKind.TheVariants as kind
 
 -- ---- variables, by what stands before their commas and by what stands behind the first name

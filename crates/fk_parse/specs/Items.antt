@@ -3,13 +3,13 @@ use Rattle.std.specs.Prelude.{ℕ, List, ◌∷◌, Option, Some, None, length}
 use Rattle.fk_syntax.specs.declared.program.Mode.{Mode}
 use Rattle.fk_syntax.specs.declared.program.Mode.TheVariants as mode
 use Rattle.fk_syntax.specs.Program.{Statements, ItemTree, StructItem, VariablesItem, FunctionItem}
-use Rattle.fk_reading.specs.Languages.{Placed, Language, token, telling, ◌then◌, ◌or◌, making, many, maybe, name}
-use Rattle.fk_reading.specs.Reads.{Family}
+use Rattle.fk_parse_combinators.specs.Languages.{Placed, Language, token, telling, ◌then◌, ◌or◌, making, many, maybe, name}
+use Rattle.fk_parse_combinators.specs.Reads.{Family}
 use Rattle.fk_expr.specs.Grammar.{base}
 use Rattle.fk_parse.specs.Kinds.{mode_told}
 use Rattle.fk_lex.specs.declared.token.TokenKind.TheVariants as kind
-use Rattle.fk_declarations.specs.Grammar.{variables, member, joined_lists, parameters}
-use Rattle.fk_stmt.specs.Statements.{block, statement_within}
+use Rattle.fk_parse_declarations.specs.Grammar.{variables, member, joined_lists, parameters}
+use Rattle.fk_parse_statements.specs.Statements.{block, statement_within}
 
 -- ---- items and programs, in whose own tokens no level is open. A function's body is level 1
 

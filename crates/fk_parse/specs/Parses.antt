@@ -3,8 +3,8 @@ use Rattle.std.specs.Prelude.{◌≡◌, ◌+◌, ◌<◌, List, [], ◌∷◌, 
 use Rattle.fk_syntax.specs.declared.place.Place.{Place}
 use Rattle.fk_syntax.specs.Program.{ItemTree, ProgramTree}
 use Rattle.fk_lex.specs.Reading.{Spelled}
-use Rattle.fk_reading.specs.Languages.{Placed, Stretch, tokens_of, numbered}
-use Rattle.fk_reading.specs.Reads.{Stop, Unexpected, EndOfText, Nesting, Spell, Spells, IsShallow, IsLongest, ReadsNothing, ReadsDeep}
+use Rattle.fk_parse_combinators.specs.Languages.{Placed, Stretch, tokens_of, numbered}
+use Rattle.fk_parse_combinators.specs.Reads.{Stop, Unexpected, EndOfText, Nesting, Spell, Spells, IsShallow, IsLongest, ReadsNothing, ReadsDeep}
 use Rattle.fk_parse.specs.Items.{Items}
 
 -- the longest stretch that begins a text ends before a token, and nests within the bound

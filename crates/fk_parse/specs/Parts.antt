@@ -3,14 +3,14 @@ use Rattle.std.specs.Prelude.{ℕ, ◌-◌, List, Option, Some, None, Result}
 use Rattle.fk_syntax.specs.declared.program.Mode.{Mode}
 use Rattle.fk_syntax.specs.Tree.{Named, BaseType, TypeTree, Tree}
 use Rattle.fk_syntax.specs.Program.{DeclaredTree, Statements, ItemTree, FunctionItem}
-use Rattle.fk_reading.specs.Languages.{Placed}
-use Rattle.fk_reading.specs.Reads.{Stop}
-use Rattle.fk_reading.specs.Readers.{Reader, giving, expect, by_next, repeated}
+use Rattle.fk_parse_combinators.specs.Languages.{Placed}
+use Rattle.fk_parse_combinators.specs.Reads.{Stop}
+use Rattle.fk_parse_combinators.specs.Readers.{Reader, giving, expect, by_next, repeated}
 use Rattle.fk_expr.specs.Reading.{inner}
-use Rattle.fk_declarations.specs.Grammar.{Declarator}
+use Rattle.fk_parse_declarations.specs.Grammar.{Declarator}
 use Rattle.fk_parse.specs.Reading.{begins_item, OfVariables, made_of, read_item, ended}
-use Rattle.fk_stmt.specs.Reading.{statements_with, read_block}
-use Rattle.fk_reading.specs.Kinds.{just}
+use Rattle.fk_parse_statements.specs.Reading.{statements_with, read_block}
+use Rattle.fk_parse_combinators.specs.Kinds.{just}
 use Rattle.fk_lex.specs.declared.token.TokenKind.TheVariants as kind
 
 -- ---- items, where so many levels may be open, of which a function's body opens the first

@@ -1,22 +1,22 @@
 -- How items and programs are read, token by token. What is read so is what the grammar says: that is proved, and the
 -- contracts of the public functions speak of the grammar alone.
-use Rattle.fk_reading.specs.declared.limits.TheConstants.{LEVELS}
+use Rattle.fk_parse_combinators.specs.declared.limits.TheConstants.{LEVELS}
 use Rattle.std.specs.Prelude.{◌-◌, ℕ, List, [], ◌∷◌, map, Option, Some, None, Bool, false, Result, Ok, Err, length, ◌||◌, ◌&&◌}
 use Rattle.fk_syntax.specs.Tree.{Named, BaseType, Tree}
 use Rattle.fk_syntax.specs.Program.{DeclaredTree, Statements, ItemTree, StructItem, VariablesItem, FunctionItem}
 use Rattle.fk_lex.specs.declared.token.TokenKind.{TokenKind}
-use Rattle.fk_reading.specs.Languages.{Placed, name}
-use Rattle.fk_reading.specs.Reads.{Stop, Unexpected, Answer}
-use Rattle.fk_reading.specs.Readers.{Reader, giving, ◌and◌, tells, expect, expect_told, either, by_next, repeated}
+use Rattle.fk_parse_combinators.specs.Languages.{Placed, name}
+use Rattle.fk_parse_combinators.specs.Reads.{Stop, Unexpected, Answer}
+use Rattle.fk_parse_combinators.specs.Readers.{Reader, giving, ◌and◌, tells, expect, expect_told, either, by_next, repeated}
 use Rattle.fk_expr.specs.Reading.{read_base, begins_type, Readers, inner}
-use Rattle.fk_declarations.specs.Kinds.{sharing_told}
+use Rattle.fk_parse_declarations.specs.Kinds.{sharing_told}
 use Rattle.fk_parse.specs.Kinds.{mode_told}
-use Rattle.fk_declarations.specs.Grammar.{Declarator, declared, joined_lists}
+use Rattle.fk_parse_declarations.specs.Grammar.{Declarator, declared, joined_lists}
 use Rattle.fk_parse.specs.Items.{mode_of}
-use Rattle.fk_reading.specs.Kinds.{just}
+use Rattle.fk_parse_combinators.specs.Kinds.{just}
 use Rattle.fk_lex.specs.declared.token.TokenKind.TheVariants as kind
-use Rattle.fk_declarations.specs.Reading.{read_rest, read_variable, read_variables, read_member, begins_parameter, read_parameters}
-use Rattle.fk_stmt.specs.Reading.{read_block, statements_with}
+use Rattle.fk_parse_declarations.specs.Reading.{read_rest, read_variable, read_variables, read_member, begins_parameter, read_parameters}
+use Rattle.fk_parse_statements.specs.Reading.{read_block, statements_with}
 
 -- ---- items: E reads expressions with all levels left, B a function's body
 

@@ -1,9 +1,9 @@
 -- What the faults of a text say.
 use Rattle.std.specs.Prelude.{◌≡◌, List, Err, ◌⊎◌}
 use Rattle.fk_lex.specs.Reading.{Spelled}
-use Rattle.fk_reading.specs.declared.fault.SyntaxFault.{SyntaxFault}
-use Rattle.fk_reading.specs.Languages.{numbered}
-use Rattle.fk_reading.specs.Faults.{Tells, IsMemory}
+use Rattle.fk_parse_combinators.specs.declared.fault.SyntaxFault.{SyntaxFault}
+use Rattle.fk_parse_combinators.specs.Languages.{numbered}
+use Rattle.fk_parse_combinators.specs.Faults.{Tells, IsMemory}
 use Rattle.fk_syntax.specs.Program.{ProgramTree}
 use Rattle.fk_parse.specs.Parses.{ReadsText, SpellsProgram}
 

@@ -7,9 +7,9 @@ ghost use Rattle.std.specs.Option.{option_map};
 ghost use Rattle.fk_syntax.specs.View.{named, base_of, type_of};
 ghost use Rattle.fk_syntax.specs.Program.{statements_of};
 ghost use Rattle.fk_syntax.specs.ProgramView.{statement_of, item_of};
-ghost use Rattle.fk_reading.specs.Readers.{repeated};
-ghost use Rattle.fk_reading.specs.Ahead.{Shortens};
-ghost use Rattle.fk_reading.specs.Gives.{Gives, Makes};
+ghost use Rattle.fk_parse_combinators.specs.Readers.{repeated};
+ghost use Rattle.fk_parse_combinators.specs.Ahead.{Shortens};
+ghost use Rattle.fk_parse_combinators.specs.Gives.{Gives, Makes};
 ghost use Rattle.fk_expr.specs.Reading.{inner};
 ghost use Rattle.fk_parse.specs.Reading.{
   begins_item,
@@ -28,16 +28,16 @@ ghost use Rattle.fk_parse.specs.Parts.{
 };
 
 use crate::told::{expect_mode, item_is_next, mode_is_next};
-use fk_declarations::declaration::{
+use fk_parse_declarations::declaration::{
     Declarator, add_member, add_members, array_length, first_value, parameters, rows, variables,
 };
-use fk_declarations::told::sharing_is_next;
+use fk_parse_declarations::told::sharing_is_next;
 use fk_expr::at_cursor::base;
 use fk_expr::types::stars;
 use fk_lex::token::TokenKind;
-use fk_reading::cursor::Cursor;
-use fk_reading::fault::SyntaxFault;
-use fk_stmt::statement::block;
+use fk_parse_combinators::cursor::Cursor;
+use fk_parse_combinators::fault::SyntaxFault;
+use fk_parse_statements::statement::block;
 use fk_syntax::expression::{Base, TypeName};
 use fk_syntax::place::Name;
 use fk_syntax::program::{Function, Item, Mode, Stmt};
@@ -130,7 +130,7 @@ fn bare<'a>(alloc: Global, cursor: &mut Cursor<'_, 'a>, left: u32) -> Result<Ite
 }
 
 /// Variables, from behind the name of the first.
-#[tactic(auto, using(fk_expr::proofs::Halting::halting), unfolding(crate::specs::Reading::read_variables_tail, fk_declarations::specs::Reading::read_rest))]
+#[tactic(auto, using(fk_expr::proofs::Halting::halting), unfolding(crate::specs::Reading::read_variables_tail, fk_parse_declarations::specs::Reading::read_rest))]
 fn file_variables<'a>(
     alloc: Global,
     cursor: &mut Cursor<'_, 'a>,

@@ -7,5 +7,5 @@ pub mod laws;
 mod parser;
 mod told;
 
-pub use fk_reading::fault::SyntaxFault;
+pub use fk_parse_combinators::fault::SyntaxFault;
 pub use parser::parse;

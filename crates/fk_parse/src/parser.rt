@@ -4,17 +4,17 @@ ghost use Rattle.std.specs.Prelude.{◌≡◌, ◌^◌, ◌<◌, length, map, Ok
 ghost use Rattle.fk_syntax.specs.ProgramView.{item_of, program_of};
 ghost use Rattle.fk_syntax.specs.WellFormed.{IsWellFormed};
 ghost use Rattle.fk_lex.specs.View.{spelled};
-ghost use Rattle.fk_reading.specs.Languages.{numbered};
-ghost use Rattle.fk_reading.specs.Faults.{Tells};
+ghost use Rattle.fk_parse_combinators.specs.Languages.{numbered};
+ghost use Rattle.fk_parse_combinators.specs.Faults.{Tells};
 ghost use Rattle.fk_parse.specs.Parses.{SpellsProgram, beginning, end_of};
 ghost use Rattle.fk_parse.specs.Refusals.{RefusesTokens};
 ghost use Rattle.fk_parse.specs.Parts.{read_text_within};
 
 use crate::item::items;
 use fk_lex::token::Token;
-use fk_reading::cursor::Cursor;
-use fk_reading::fault::SyntaxFault;
-use fk_reading::limits::LEVELS;
+use fk_parse_combinators::cursor::Cursor;
+use fk_parse_combinators::fault::SyntaxFault;
+use fk_parse_combinators::limits::LEVELS;
 use fk_syntax::place::Place;
 use fk_syntax::program::{Item, Program};
 use std::alloc::Global;

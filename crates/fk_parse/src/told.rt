@@ -1,15 +1,15 @@
 //! What comes next: the word of a mode, or a token that begins an item.
 
 ghost use Rattle.std.specs.Prelude.{◌≡◌, ◌<◌, ◌^◌, IfOk, length};
-ghost use Rattle.fk_reading.specs.Readers.{next_is, tells, next_tells, expect_told};
-ghost use Rattle.fk_reading.specs.Ahead.{seen, Shortens};
-ghost use Rattle.fk_reading.specs.Gives.{Gives};
+ghost use Rattle.fk_parse_combinators.specs.Readers.{next_is, tells, next_tells, expect_told};
+ghost use Rattle.fk_parse_combinators.specs.Ahead.{seen, Shortens};
+ghost use Rattle.fk_parse_combinators.specs.Gives.{Gives};
 ghost use Rattle.fk_parse.specs.Kinds.{mode_told};
 ghost use Rattle.fk_parse.specs.Reading.{begins_item};
 
 use crate::kinds::{begins_item, mode};
-use fk_reading::cursor::{Cursor, Numbered};
-use fk_reading::fault::SyntaxFault;
+use fk_parse_combinators::cursor::{Cursor, Numbered};
+use fk_parse_combinators::fault::SyntaxFault;
 use fk_syntax::program::Mode;
 
 /// Reads the next token, which has to be the word of a mode.

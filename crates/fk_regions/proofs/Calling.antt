@@ -1,12 +1,12 @@
 -- What the names that are known say of calls is what the program's names mean.
 use Rattle.std.proofs.Common.{◌≡◌, ℕ, map, Option, Some, None, slice_get, refl, sym, ap, subst, ◌∙◌}
 use Rattle.fk_syntax.specs.Program.{FunctionTree, ProgramTree}
-use Rattle.fk_names.specs.declared.names.Names.{Names}
-use Rattle.fk_names.specs.declared.names.Meaning.{Meaning}
-use Rattle.fk_names.specs.declared.names.Meaning.TheVariants as m
-use Rattle.fk_names.specs.Outline.{DeclarationTree, Variable, Header}
-use Rattle.fk_names.specs.View.{declaration_of}
-use Rattle.fk_names.specs.Names.{meaning_in, AreNames}
+use Rattle.fk_types_names.specs.declared.names.Names.{Names}
+use Rattle.fk_types_names.specs.declared.names.Meaning.{Meaning}
+use Rattle.fk_types_names.specs.declared.names.Meaning.TheVariants as m
+use Rattle.fk_types_names.specs.Outline.{DeclarationTree, Variable, Header}
+use Rattle.fk_types_names.specs.View.{declaration_of}
+use Rattle.fk_types_names.specs.Names.{meaning_in, AreNames}
 use Rattle.fk_regions.specs.declared.callee.Callee.{Callee}
 use Rattle.fk_regions.specs.declared.callee.Callee.TheVariants as c
 use Rattle.fk_regions.specs.Called.{Calls, callee_of, callee_meant, callee_in}

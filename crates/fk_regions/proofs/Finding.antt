@@ -3,12 +3,12 @@ use Rattle.std.proofs.Common.{◌≡◌, inl, inr, ℕ, zero, suc, ◌+◌, ◌<
 use Rattle.std.proofs.lemmas.Option.{slice_get-get_or}
 use Rattle.fk_syntax.specs.declared.place.Place.{Place}
 use Rattle.fk_syntax.specs.Program.{ProgramTree}
-use Rattle.fk_rules.specs.declared.rule.Rule.{Rule}
-use Rattle.fk_rules.specs.declared.fault.Fault.{Fault}
-use Rattle.fk_rules.specs.Least.{IsEarlier, IsLeast, among, among_first}
-use Rattle.fk_rules.proofs.LeastLemmas.{IsLeast-same, IsLeast-one_more}
-use Rattle.fk_names.specs.declared.names.Names.{Names}
-use Rattle.fk_names.specs.Names.{AreNames}
+use Rattle.fk_check_rules.specs.declared.rule.Rule.{Rule}
+use Rattle.fk_check_rules.specs.declared.fault.Fault.{Fault}
+use Rattle.fk_check_rules.specs.Least.{IsEarlier, IsLeast, among, among_first}
+use Rattle.fk_check_rules.proofs.LeastLemmas.{IsLeast-same, IsLeast-one_more}
+use Rattle.fk_types_names.specs.declared.names.Names.{Names}
+use Rattle.fk_types_names.specs.Names.{AreNames}
 use Rattle.fk_regions.specs.declared.around.Holder.{Holder}
 use Rattle.fk_regions.specs.declared.around.Around.{Around}
 use Rattle.fk_regions.specs.declared.token.Token.{Token}

@@ -6,12 +6,12 @@ use Rattle.fk_syntax.specs.declared.facts.Note.{Note}
 use Rattle.fk_syntax.specs.declared.facts.Facts.{Facts}
 use Rattle.fk_syntax.specs.declared.facts.CheckFault.TheVariants as f
 use Rattle.fk_syntax.specs.Program.{ProgramTree}
-use Rattle.fk_rules.specs.declared.rule.Rule.{Rule}
-use Rattle.fk_rules.specs.declared.fault.Fault.{Fault}
-use Rattle.fk_rules.specs.Rules.{number_of}
-use Rattle.fk_rules.specs.Least.{IsLeast, among}
-use Rattle.fk_names.specs.declared.names.Names.{Names}
-use Rattle.fk_names.specs.Names.{AreNames}
+use Rattle.fk_check_rules.specs.declared.rule.Rule.{Rule}
+use Rattle.fk_check_rules.specs.declared.fault.Fault.{Fault}
+use Rattle.fk_check_rules.specs.Rules.{number_of}
+use Rattle.fk_check_rules.specs.Least.{IsLeast, among}
+use Rattle.fk_types_names.specs.declared.names.Names.{Names}
+use Rattle.fk_types_names.specs.Names.{AreNames}
 use Rattle.fk_regions.specs.declared.token.Token.{Token}
 use Rattle.fk_regions.specs.Tokens.{items_tokens, tokens}
 use Rattle.fk_regions.specs.Collected.{within, outside, seen}

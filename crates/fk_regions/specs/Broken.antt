@@ -6,10 +6,10 @@ use Rattle.fk_syntax.specs.declared.facts.Facts.{Facts}
 use Rattle.fk_syntax.specs.declared.facts.CheckFault.{CheckFault}
 use Rattle.fk_syntax.specs.declared.facts.CheckFault.TheVariants as f
 use Rattle.fk_syntax.specs.Program.{ProgramTree}
-use Rattle.fk_rules.specs.declared.rule.Rule.{Rule}
-use Rattle.fk_rules.specs.declared.rule.Rule.TheVariants.{NotStraight}
-use Rattle.fk_rules.specs.Rules.{number_of}
-use Rattle.fk_rules.specs.Least.{IsLeast}
+use Rattle.fk_check_rules.specs.declared.rule.Rule.{Rule}
+use Rattle.fk_check_rules.specs.declared.rule.Rule.TheVariants.{NotStraight}
+use Rattle.fk_check_rules.specs.Rules.{number_of}
+use Rattle.fk_check_rules.specs.Least.{IsLeast}
 use Rattle.fk_regions.specs.declared.around.Holder.{Holder}
 use Rattle.fk_regions.specs.declared.around.Region.TheVariants.{Synchronous}
 use Rattle.fk_regions.specs.declared.callee.Callee.{Callee}

@@ -1,13 +1,13 @@
 -- What the names of a program call.
 use Rattle.std.specs.Prelude.{◌≡◌, ℕ, List, map, Option, Some, None, slice_get}
 use Rattle.fk_syntax.specs.Program.{FunctionTree, ProgramTree}
-use Rattle.fk_names.specs.declared.names.Names.{Names}
-use Rattle.fk_names.specs.declared.names.Meaning.{Meaning}
-use Rattle.fk_names.specs.declared.names.Meaning.TheVariants as m
-use Rattle.fk_names.specs.Outline.{DeclarationTree, Variable, Header, declarations}
-use Rattle.fk_names.specs.View.{declaration_of}
-use Rattle.fk_names.specs.Means.{Means}
-use Rattle.fk_names.specs.Names.{meaning_in}
+use Rattle.fk_types_names.specs.declared.names.Names.{Names}
+use Rattle.fk_types_names.specs.declared.names.Meaning.{Meaning}
+use Rattle.fk_types_names.specs.declared.names.Meaning.TheVariants as m
+use Rattle.fk_types_names.specs.Outline.{DeclarationTree, Variable, Header, declarations}
+use Rattle.fk_types_names.specs.View.{declaration_of}
+use Rattle.fk_types_names.specs.Means.{Means}
+use Rattle.fk_types_names.specs.Names.{meaning_in}
 use Rattle.fk_regions.specs.declared.callee.Callee.{Callee}
 use Rattle.fk_regions.specs.declared.callee.Callee.TheVariants as c
 

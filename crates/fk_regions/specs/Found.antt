@@ -1,8 +1,8 @@
 -- What the code finds of the tokens that it keeps.
 use Rattle.std.specs.Prelude.{ℕ}
 use Rattle.fk_syntax.specs.declared.place.Place.{Place}
-use Rattle.fk_rules.specs.declared.rule.Rule.{Rule}
-use Rattle.fk_names.specs.declared.names.Names.{Names}
+use Rattle.fk_check_rules.specs.declared.rule.Rule.{Rule}
+use Rattle.fk_types_names.specs.declared.names.Names.{Names}
 use Rattle.fk_regions.specs.declared.token.Token.{Token}
 use Rattle.fk_regions.specs.Called.{callee_in}
 use Rattle.fk_regions.specs.Collected.{seen}

@@ -2,8 +2,8 @@
 use Rattle.std.specs.Prelude.{◌≡◌, ◌⊎◌, Bool, true, false, ◌&&◌, Option, Some, None}
 use Rattle.fk_syntax.specs.declared.place.Place.{Place}
 use Rattle.fk_syntax.specs.declared.program.Mode.TheVariants.{Sync, Async, Straight}
-use Rattle.fk_rules.specs.declared.rule.Rule.{Rule}
-use Rattle.fk_rules.specs.declared.rule.Rule.TheVariants as r
+use Rattle.fk_check_rules.specs.declared.rule.Rule.{Rule}
+use Rattle.fk_check_rules.specs.declared.rule.Rule.TheVariants as r
 use Rattle.fk_regions.specs.declared.around.Around.{Around}
 use Rattle.fk_regions.specs.declared.around.Region.{Region}
 use Rattle.fk_regions.specs.declared.around.Region.TheVariants.{Synchronous, Asynchronous, Neither}

@@ -1,14 +1,14 @@
 //! Which rule a token breaks where it stands.
 
 ghost use Rattle.std.specs.Prelude.{◌≡◌, Some};
-ghost use Rattle.fk_rules.specs.Least.{IsLeast};
+ghost use Rattle.fk_check_rules.specs.Least.{IsLeast};
 ghost use Rattle.fk_regions.specs.Collected.{seen};
 ghost use Rattle.fk_regions.specs.Judged.{unless_synchronous, where_synchronous, called_rule, misplaced_rule, is_deciding, straight_rule, Breaks};
 
 use crate::around::{Around, Loops, Region};
 use crate::callee::Callee;
 use crate::token::{Spelling, Token, Word};
-use fk_rules::{Fault, Rule, first_of};
+use fk_check_rules::{Fault, Rule, first_of};
 use fk_syntax::{Mode, Place};
 
 // A rule on what stands in synchronous regions alone.

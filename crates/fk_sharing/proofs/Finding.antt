@@ -3,15 +3,15 @@ use Rattle.std.proofs.Common.{◌≡◌, ℕ, ◌+◌, ◌<◌, length, get_or, 
 use Rattle.std.proofs.lemmas.Option.{slice_get-get_or}
 use Rattle.fk_syntax.specs.declared.place.Place.{Place}
 use Rattle.fk_syntax.specs.Program.{ProgramTree}
-use Rattle.fk_rules.specs.declared.rule.Rule.{Rule}
-use Rattle.fk_rules.specs.declared.fault.Fault.{Fault}
-use Rattle.fk_rules.specs.Least.{IsEarlier, IsLeast, among, among_first}
-use Rattle.fk_rules.proofs.LeastLemmas.{IsLeast-same, IsLeast-one_more}
-use Rattle.fk_names.specs.declared.names.Names.{Names}
-use Rattle.fk_names.specs.Names.{AreNames}
-use Rattle.fk_class.specs.declared.thing.Thing.{Thing}
-use Rattle.fk_class.specs.Things.{thing_in}
-use Rattle.fk_class.proofs.Telling.{names-tell, same-telling}
+use Rattle.fk_check_rules.specs.declared.rule.Rule.{Rule}
+use Rattle.fk_check_rules.specs.declared.fault.Fault.{Fault}
+use Rattle.fk_check_rules.specs.Least.{IsEarlier, IsLeast, among, among_first}
+use Rattle.fk_check_rules.proofs.LeastLemmas.{IsLeast-same, IsLeast-one_more}
+use Rattle.fk_types_names.specs.declared.names.Names.{Names}
+use Rattle.fk_types_names.specs.Names.{AreNames}
+use Rattle.fk_sharing_class.specs.declared.thing.Thing.{Thing}
+use Rattle.fk_sharing_class.specs.Things.{thing_in}
+use Rattle.fk_sharing_class.proofs.Telling.{names-tell, same-telling}
 use Rattle.fk_regions.proofs.Finding.{get-map, map-get}
 use Rattle.fk_sharing.specs.declared.around.Holder.{Holder}
 use Rattle.fk_sharing.specs.declared.around.Around.{Around}

@@ -6,14 +6,14 @@ use Rattle.fk_syntax.specs.declared.facts.Note.{Note}
 use Rattle.fk_syntax.specs.declared.facts.Facts.{Facts}
 use Rattle.fk_syntax.specs.declared.facts.CheckFault.TheVariants as f
 use Rattle.fk_syntax.specs.Program.{ProgramTree}
-use Rattle.fk_rules.specs.declared.rule.Rule.{Rule}
-use Rattle.fk_rules.specs.declared.fault.Fault.{Fault}
-use Rattle.fk_rules.specs.Rules.{number_of}
-use Rattle.fk_rules.specs.Least.{IsLeast, among}
-use Rattle.fk_names.specs.declared.names.Names.{Names}
-use Rattle.fk_names.specs.Names.{AreNames}
-use Rattle.fk_class.specs.Things.{thing_in}
-use Rattle.fk_class.proofs.Telling.{names-tell, same-telling}
+use Rattle.fk_check_rules.specs.declared.rule.Rule.{Rule}
+use Rattle.fk_check_rules.specs.declared.fault.Fault.{Fault}
+use Rattle.fk_check_rules.specs.Rules.{number_of}
+use Rattle.fk_check_rules.specs.Least.{IsLeast, among}
+use Rattle.fk_types_names.specs.declared.names.Names.{Names}
+use Rattle.fk_types_names.specs.Names.{AreNames}
+use Rattle.fk_sharing_class.specs.Things.{thing_in}
+use Rattle.fk_sharing_class.proofs.Telling.{names-tell, same-telling}
 use Rattle.fk_regions.proofs.Finding.{get-map}
 use Rattle.fk_sharing.specs.declared.token.Token.{Token}
 use Rattle.fk_sharing.specs.Tokens.{items_tokens, tokens}

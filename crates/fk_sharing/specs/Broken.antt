@@ -10,13 +10,13 @@ use Rattle.fk_syntax.specs.declared.facts.Facts.{Facts}
 use Rattle.fk_syntax.specs.declared.facts.CheckFault.{CheckFault}
 use Rattle.fk_syntax.specs.declared.facts.CheckFault.TheVariants as c
 use Rattle.fk_syntax.specs.Program.{ProgramTree}
-use Rattle.fk_rules.specs.declared.rule.Rule.{Rule}
-use Rattle.fk_rules.specs.declared.rule.Rule.TheVariants as r
-use Rattle.fk_rules.specs.Rules.{number_of}
-use Rattle.fk_rules.specs.Least.{IsLeast}
-use Rattle.fk_class.specs.declared.thing.Thing.{Thing}
-use Rattle.fk_class.specs.declared.thing.Thing.TheVariants.{PrivateVariable}
-use Rattle.fk_class.specs.Things.{Tells}
+use Rattle.fk_check_rules.specs.declared.rule.Rule.{Rule}
+use Rattle.fk_check_rules.specs.declared.rule.Rule.TheVariants as r
+use Rattle.fk_check_rules.specs.Rules.{number_of}
+use Rattle.fk_check_rules.specs.Least.{IsLeast}
+use Rattle.fk_sharing_class.specs.declared.thing.Thing.{Thing}
+use Rattle.fk_sharing_class.specs.declared.thing.Thing.TheVariants.{PrivateVariable}
+use Rattle.fk_sharing_class.specs.Things.{Tells}
 use Rattle.fk_regions.specs.declared.around.Region.{Region}
 use Rattle.fk_regions.specs.declared.around.Region.TheVariants.{Synchronous}
 use Rattle.fk_sharing.specs.declared.around.Holder.{Holder}

@@ -1,7 +1,7 @@
 -- What the code finds of the tokens that it keeps.
 use Rattle.std.specs.Prelude.{ℕ}
 use Rattle.fk_syntax.specs.declared.place.Place.{Place}
-use Rattle.fk_rules.specs.declared.rule.Rule.{Rule}
+use Rattle.fk_check_rules.specs.declared.rule.Rule.{Rule}
 use Rattle.fk_sharing.specs.declared.token.Token.{Token}
 use Rattle.fk_sharing.specs.Collected.{seen}
 use Rattle.fk_sharing.specs.Judged.{Breaks}

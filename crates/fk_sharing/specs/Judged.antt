@@ -5,10 +5,10 @@ use Rattle.fk_syntax.specs.declared.sign.Sign.{Sign}
 use Rattle.fk_syntax.specs.declared.sign.Sign.TheVariants.{Ampersand}
 use Rattle.fk_syntax.specs.declared.program.Mode.{Mode}
 use Rattle.fk_syntax.specs.declared.program.Mode.TheVariants.{Sync, Async, Straight}
-use Rattle.fk_rules.specs.declared.rule.Rule.{Rule}
-use Rattle.fk_rules.specs.declared.rule.Rule.TheVariants as r
-use Rattle.fk_class.specs.declared.thing.Thing.{Thing}
-use Rattle.fk_class.specs.declared.thing.Thing.TheVariants.{PrivateVariable}
+use Rattle.fk_check_rules.specs.declared.rule.Rule.{Rule}
+use Rattle.fk_check_rules.specs.declared.rule.Rule.TheVariants as r
+use Rattle.fk_sharing_class.specs.declared.thing.Thing.{Thing}
+use Rattle.fk_sharing_class.specs.declared.thing.Thing.TheVariants.{PrivateVariable}
 use Rattle.fk_regions.specs.declared.around.Region.{Region}
 use Rattle.fk_regions.specs.Judged.{where_true, unless_synchronous}
 use Rattle.fk_sharing.specs.declared.around.Around.{Around}

@@ -2,8 +2,8 @@
 use Rattle.std.specs.Prelude.{ℕ, Bool, true, List, [], Option}
 use Rattle.fk_syntax.specs.Program as p
 use Rattle.fk_syntax.specs.Program.{Statement}
-use Rattle.fk_class.specs.declared.thing.Thing.{Thing}
-use Rattle.fk_class.specs.Class.{is_shared}
+use Rattle.fk_sharing_class.specs.declared.thing.Thing.{Thing}
+use Rattle.fk_sharing_class.specs.Class.{is_shared}
 use Rattle.fk_sharing.specs.Tokens.{Standing, optional_tokens, is_condition_shared, condition_tokens, head_tokens, parts_tokens, simple_tokens}
 
 -- those of what decides in it whether what it holds is run

@@ -9,8 +9,8 @@ use Rattle.fk_syntax.specs.Tree as t
 use Rattle.fk_syntax.specs.Tree.{Named, TypeTree, Tree, Links, Trees, Suffixes}
 use Rattle.fk_syntax.specs.Program as p
 use Rattle.fk_syntax.specs.Program.{DeclaredTree, Statement, Statements, FunctionTree, ItemTree, ProgramTree}
-use Rattle.fk_class.specs.declared.thing.Thing.{Thing}
-use Rattle.fk_class.specs.Class.{is_shared, is_call_shared, is_joined_shared}
+use Rattle.fk_sharing_class.specs.declared.thing.Thing.{Thing}
+use Rattle.fk_sharing_class.specs.Class.{is_shared, is_call_shared, is_joined_shared}
 use Rattle.fk_regions.specs.declared.around.Region.TheVariants.{Synchronous, Asynchronous}
 use Rattle.fk_regions.specs.Around.{region_by}
 use Rattle.fk_regions.specs.Tokens.{spot_of}

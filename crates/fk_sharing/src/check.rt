@@ -3,8 +3,8 @@
 ghost use Rattle.std.specs.Prelude.{◌≡◌, ◌≤◌, ◌^◌, MatchResult, OnErr};
 ghost use Rattle.fk_syntax.specs.ProgramView.{program_of};
 ghost use Rattle.fk_syntax.specs.WellFormed.{IsWellFormed};
-ghost use Rattle.fk_rules.specs.Least.{IsLeast, among};
-ghost use Rattle.fk_names.specs.Names.{AreNames};
+ghost use Rattle.fk_check_rules.specs.Least.{IsLeast, among};
+ghost use Rattle.fk_types_names.specs.Names.{AreNames};
 ghost use Rattle.fk_sharing.specs.Broken.{AreShared, IsRefusal};
 ghost use Rattle.fk_sharing.specs.Found.{TokenBreaks};
 
@@ -12,8 +12,8 @@ use crate::collect::Tokens;
 use crate::judge::token_fault;
 use crate::marks::mark;
 use crate::token::Token;
-use fk_names::{Names, resolve};
-use fk_rules::{Fault, first_of};
+use fk_types_names::{Names, resolve};
+use fk_check_rules::{Fault, first_of};
 use fk_syntax::{CheckFault, Facts, Program};
 use std::alloc::Global;
 

@@ -1,16 +1,16 @@
 //! Which rule a token breaks where it stands.
 
 ghost use Rattle.std.specs.Prelude.{◌≡◌, Some};
-ghost use Rattle.fk_rules.specs.Least.{IsLeast};
+ghost use Rattle.fk_check_rules.specs.Least.{IsLeast};
 ghost use Rattle.fk_sharing.specs.Broken.{is_splitting};
 ghost use Rattle.fk_sharing.specs.Collected.{seen};
 ghost use Rattle.fk_sharing.specs.Judged.{private_rule, shared_rule, variable_rule, parameter_rule, broken_rule, is_private_variable, is_address, Breaks};
 
 use crate::around::{Around, splits};
 use crate::token::{Form, Token, Word};
-use fk_class::Thing;
+use fk_sharing_class::Thing;
 use fk_regions::Region;
-use fk_rules::{Fault, Rule};
+use fk_check_rules::{Fault, Rule};
 use fk_syntax::{Mode, Sign};
 
 /// Whether a group splits at a token.

@@ -3,12 +3,12 @@
 ghost use Rattle.std.specs.Prelude.{◌≡◌, map};
 ghost use Rattle.fk_syntax.specs.View.{tree_of, type_of};
 ghost use Rattle.fk_syntax.specs.ProgramView.{declared_of};
-ghost use Rattle.fk_class.specs.Things.{thing_in};
+ghost use Rattle.fk_sharing_class.specs.Things.{thing_in};
 ghost use Rattle.fk_sharing.specs.Tokens.{word_of_sign, is_struct, form_of, named_thing};
 
 use crate::around::Around;
-use fk_class::{Thing, thing_at};
-use fk_names::Names;
+use fk_sharing_class::{Thing, thing_at};
+use fk_types_names::Names;
 use fk_syntax::{Base, Declared, Expr, Mode, Sign, Spot, TypeName};
 
 /// What a variable is made of.

@@ -10,13 +10,13 @@ use Rattle.fk_ports.specs.Known.{MovesFirst}
 use Rattle.fk_image.specs.declared.Image.{Image}
 use Rattle.fk_image.specs.Spelling.{IsImageOf}
 use Rattle.fk_image.proofs.Same.{one_image}
-use Rattle.fk_input.specs.declared.fault.InputFault.{InputFault}
-use Rattle.fk_input.specs.Input.{input_of}
-use Rattle.fk_words.specs.Arguments.{Text}
-use Rattle.fk_words.specs.Command.{Command, Run, Build, Exec, ListCode, Reads}
-use Rattle.fk_words.proofs.OneCommand.{one_command}
-use Rattle.fk_globals.specs.Rows.{Row}
-use Rattle.fk_text.specs.Text.{IsChecked, HasGlobal}
+use Rattle.fk_top_input.specs.declared.fault.InputFault.{InputFault}
+use Rattle.fk_top_input.specs.Input.{input_of}
+use Rattle.fk_top_words.specs.Arguments.{Text}
+use Rattle.fk_top_words.specs.Command.{Command, Run, Build, Exec, ListCode, Reads}
+use Rattle.fk_top_words.proofs.OneCommand.{one_command}
+use Rattle.fk_layout_globals.specs.Rows.{Row}
+use Rattle.fk_compile_text.specs.Text.{IsChecked, HasGlobal}
 use Rattle.fk_compile.specs.Faithful.{IsFaithful, words_by}
 use Rattle.fk_top.specs.declared.status.Status.{Status}
 use Rattle.fk_top.specs.declared.status.Status.TheVariants.{Done, Refused, Usage, ReadFault, WriteFault, Memory, SourceFault, CycleBound, Trap, ImageRefused, InputRefused}

@@ -5,11 +5,11 @@ use Rattle.std.proofs.lemmas.Bool.{ltb-false}
 use Rattle.std.proofs.lemmas.List.{length-map}
 use Rattle.std.proofs.lemmas.List.Elements.{All-nil, All-cons}
 use Rattle.fk_num.specs.Op.{residue}
-use Rattle.fk_input.specs.declared.fault.InputFault.{InputFault}
-use Rattle.fk_input.specs.Input.{words, number_of, value_of, number_fault, faults_from, most_bytes, input_of}
+use Rattle.fk_top_input.specs.declared.fault.InputFault.{InputFault}
+use Rattle.fk_top_input.specs.Input.{words, number_of, value_of, number_fault, faults_from, most_bytes, input_of}
 use Rattle.fk_image.specs.declared.Image.{Image}
 use Rattle.fk_image.specs.Limits.{IsWithinLimits}
-use Rattle.fk_simulation.specs.Follows.{IsInput}
+use Rattle.fk_sim_rounds.specs.Follows.{IsInput}
 use Rattle.fk_top.specs.Outcome.{most_numbers, numbers_for}
 
 residue_below : (z : ℤ) → residue 32 z < 2 ^ 32

@@ -10,9 +10,9 @@ use Rattle.fk_syntax.specs.declared.place.Place.{Place}
 use Rattle.fk_syntax.specs.Program.{DeclaredTree, ItemTree, ProgramTree}
 use Rattle.fk_lex.specs.Reading.{Spelled}
 use Rattle.fk_lex.proofs.Determined as lexed
-use Rattle.fk_reading.specs.declared.fault.SyntaxFault.{SyntaxFault}
-use Rattle.fk_reading.specs.declared.fault.SyntaxFault.TheVariants as syntax_fault
-use Rattle.fk_reading.specs.Faults.{IsMemory}
+use Rattle.fk_parse_combinators.specs.declared.fault.SyntaxFault.{SyntaxFault}
+use Rattle.fk_parse_combinators.specs.declared.fault.SyntaxFault.TheVariants as syntax_fault
+use Rattle.fk_parse_combinators.specs.Faults.{IsMemory}
 use Rattle.fk_parse.specs.Parses.{SpellsProgram}
 use Rattle.fk_parse.proofs.Texts.{one_tree, tree_or_fault}
 use Rattle.fk_check.specs.Rules.{BreaksFirst}
@@ -20,28 +20,28 @@ use Rattle.fk_check.specs.Known.{AreAllFacts}
 use Rattle.fk_check.proofs.Apart.{keeps_or_breaks}
 use Rattle.fk_check.proofs.OneFacts.{one_facts}
 use Rattle.fk_check.specs.Laws.{AreSame}
-use Rattle.fk_text.proofs.Elements.{Contains-head, Contains-tail, Contains-cons_cases, Contains-nil}
-use Rattle.fk_forms.specs.Tables.{Tables}
-use Rattle.fk_slots.specs.Frames.{regions_of}
-use Rattle.fk_slots.specs.Slots.{slots_of}
+use Rattle.fk_compile_text.proofs.Elements.{Contains-head, Contains-tail, Contains-cons_cases, Contains-nil}
+use Rattle.fk_meaning_forms.specs.Tables.{Tables}
+use Rattle.fk_layout_slots.specs.Frames.{regions_of}
+use Rattle.fk_layout_slots.specs.Slots.{slots_of}
 use Rattle.fk_layout.specs.declared.sites.LayoutFault.{LayoutFault}
 use Rattle.fk_layout.specs.declared.sites.LayoutFault.TheVariants as layout
 use Rattle.fk_layout.specs.Layout.{tables_by}
 use Rattle.fk_layout.specs.Refusal.{IsRefusal, Fits}
-use Rattle.fk_globals.specs.Constants.{told}
-use Rattle.fk_globals.specs.Variables.{variables_of}
-use Rattle.fk_globals.specs.Rows.{Row, words_of, row_at, rows_from, rows, words}
+use Rattle.fk_layout_globals.specs.Constants.{told}
+use Rattle.fk_layout_globals.specs.Variables.{variables_of}
+use Rattle.fk_layout_globals.specs.Rows.{Row, words_of, row_at, rows_from, rows, words}
 use Rattle.fk_image.specs.declared.Image.{Image}
 use Rattle.fk_image.specs.Spelling.{IsImageOf, word_bytes, image_words, site_words, commit_words}
 use Rattle.fk_image.proofs.Accepted.{no_refusal}
 use Rattle.fk_image.proofs.Commits.{few_of_image}
 use Rattle.fk_image.proofs.Images.{length-words, length-sites, length-commits}
-use Rattle.fk_text.specs.declared.refusal.Refusal.{Refusal}
-use Rattle.fk_text.specs.declared.refusal.Refusal.TheVariants.{BadByte, OpenComment, OpenString, WideNumber, Unexpected, EndOfText, Nesting, Rule, TooManySites, FrameTooLarge, GlobalsTooLarge, SourceTooLong, NotBuilt, Memory}
-use Rattle.fk_text.specs.Refusal.{IsRefusedText}
-use Rattle.fk_text.specs.Built.{operations_of}
-use Rattle.fk_text.specs.Plain.{is_plain, ArePlain}
-use Rattle.fk_text.specs.Text.{HasTree, HasSyntaxFault, HasBrokenRule, HasGlobal, HasLayout, IsChecked, IsNotBuilt}
+use Rattle.fk_compile_text.specs.declared.refusal.Refusal.{Refusal}
+use Rattle.fk_compile_text.specs.declared.refusal.Refusal.TheVariants.{BadByte, OpenComment, OpenString, WideNumber, Unexpected, EndOfText, Nesting, Rule, TooManySites, FrameTooLarge, GlobalsTooLarge, SourceTooLong, NotBuilt, Memory}
+use Rattle.fk_compile_text.specs.Refusal.{IsRefusedText}
+use Rattle.fk_compile_text.specs.Built.{operations_of}
+use Rattle.fk_compile_text.specs.Plain.{is_plain, ArePlain}
+use Rattle.fk_compile_text.specs.Text.{HasTree, HasSyntaxFault, HasBrokenRule, HasGlobal, HasLayout, IsChecked, IsNotBuilt}
 use Rattle.fk_compile.specs.Faithful.{words_by}
 use Rattle.fk_top.specs.declared.report.Report.{Report}
 use Rattle.fk_top.specs.Refused.{IsRefusedBy, IsNoImageAs, refusal_line}

@@ -8,10 +8,10 @@ use Rattle.fk_image.specs.declared.fault.ImageFault.{ImageFault}
 use Rattle.fk_image.specs.declared.fault.ImageFault.TheVariants as image
 use Rattle.fk_image.specs.Refusals.{IsFault}
 use Rattle.fk_image.specs.Refusals as images
-use Rattle.fk_input.specs.declared.fault.InputFault.{InputFault}
-use Rattle.fk_input.specs.declared.fault.InputFault.TheVariants.{Memory}
-use Rattle.fk_text.specs.declared.refusal.Refusal.{Refusal}
-use Rattle.fk_text.specs.Refusal.{IsRefusedText}
+use Rattle.fk_top_input.specs.declared.fault.InputFault.{InputFault}
+use Rattle.fk_top_input.specs.declared.fault.InputFault.TheVariants.{Memory}
+use Rattle.fk_compile_text.specs.declared.refusal.Refusal.{Refusal}
+use Rattle.fk_compile_text.specs.Refusal.{IsRefusedText}
 use Rattle.fk_top.specs.declared.ending.Ending.{Ending}
 use Rattle.fk_top.specs.declared.report.Report.{Report}
 use Rattle.fk_top.specs.declared.status.Status.TheVariants.{Refused, ImageRefused, InputRefused}

@@ -9,9 +9,9 @@ use Rattle.fk_machine.specs.Run.{machine}
 use Rattle.fk_compile.specs.Faithful.{IsFaithful}
 use Rattle.fk_compile.specs.Laws.{IsUntrapped}
 use Rattle.fk_compile.proofs.Untrapped.{never_traps}
-use Rattle.fk_words.specs.Arguments.{Text}
-use Rattle.fk_words.specs.Command.{Command, Run, Build, Exec, ListCode, Reads, ReadsRun}
-use Rattle.fk_globals.specs.Rows.{Row}
+use Rattle.fk_top_words.specs.Arguments.{Text}
+use Rattle.fk_top_words.specs.Command.{Command, Run, Build, Exec, ListCode, Reads, ReadsRun}
+use Rattle.fk_layout_globals.specs.Rows.{Row}
 use Rattle.fk_top.specs.declared.status.Status.{Status}
 use Rattle.fk_top.specs.declared.status.Status.TheVariants.{Done, Refused, SourceFault, CycleBound, Trap, ImageRefused, InputRefused}
 use Rattle.fk_top.specs.Words.{Runs, IsRun, IsExec}

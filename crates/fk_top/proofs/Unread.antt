@@ -5,7 +5,7 @@ use Rattle.std.specs.declared.alloc.AllocError.{AllocError}
 use Rattle.fk_ports.specs.Files.{FetchFaults}
 use Rattle.fk_ports.specs.declared.faults.StoreFault.{StoreFault}
 use Rattle.fk_ports.specs.declared.faults.StoreFault.TheVariants.{Fault, Memory}
-use Rattle.fk_words.specs.Command.{Command}
+use Rattle.fk_top_words.specs.Command.{Command}
 use Rattle.fk_top.specs.declared.ending.Ending.{Ending}
 use Rattle.fk_top.specs.declared.report.Report.TheVariants as reports
 use Rattle.fk_top.specs.declared.status.Status.TheVariants.{ReadFault}

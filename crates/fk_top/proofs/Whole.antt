@@ -4,8 +4,8 @@ use Rattle.std.specs.Prelude.{IsSomeAnd}
 use Rattle.fk_ports.specs.Files.{Files, AppendsFile, LacksFile}
 use Rattle.fk_top.specs.declared.status.Status.{Status}
 use Rattle.fk_top.specs.declared.status.Status.TheVariants.{Usage, ReadFault, SourceFault, Trap, InputRefused}
-use Rattle.fk_words.specs.Command.{Command, Reads}
-use Rattle.fk_words.proofs.OneCommand.{one_command}
+use Rattle.fk_top_words.specs.Command.{Command, Reads}
+use Rattle.fk_top_words.proofs.OneCommand.{one_command}
 use Rattle.fk_top.specs.Words.{IsRun, IsBuild, IsExec, file_of, most_bytes}
 use Rattle.fk_top.specs.Outcome.{Outcome, Put}
 use Rattle.fk_top.specs.Call.{Call, Request, Stored, HasPut, IsSame, Ends, IsNoCommand, IsUnread, HasRead, HasEnded, HasCause, IsCut, AreCut, FailsToWrite, TellsFaults, IsAbsent, IsOfAbsent, IsOfNoCommand, IsAnswer}

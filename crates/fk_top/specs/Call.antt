@@ -9,11 +9,11 @@ use Rattle.fk_syntax.specs.Program.{ProgramTree}
 use Rattle.fk_image.specs.declared.Image.{Image}
 use Rattle.fk_image.specs.Spelling.{IsImageOf}
 use Rattle.fk_machine.specs.Run.{machine}
-use Rattle.fk_globals.specs.Rows.{Row}
-use Rattle.fk_text.specs.Text.{IsBuilt, IsChecked}
+use Rattle.fk_layout_globals.specs.Rows.{Row}
+use Rattle.fk_compile_text.specs.Text.{IsBuilt, IsChecked}
 use Rattle.fk_compile.specs.Faithful.{words_by}
-use Rattle.fk_input.specs.Input.{input_of}
-use Rattle.fk_words.specs.Command.{Command, Run, Build, Exec, ListCode, Reads}
+use Rattle.fk_top_input.specs.Input.{input_of}
+use Rattle.fk_top_words.specs.Command.{Command, Run, Build, Exec, ListCode, Reads}
 use Rattle.fk_top.specs.declared.report.Report.TheVariants as reports
 use Rattle.fk_top.specs.declared.status.Status.{Status}
 use Rattle.fk_top.specs.declared.status.Status.TheVariants.{Done, Refused, Usage, ReadFault, WriteFault, Memory, SourceFault, Trap, ImageRefused, InputRefused}

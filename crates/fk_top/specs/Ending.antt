@@ -1,7 +1,7 @@
 -- Endings of the code as outcomes.
 use Rattle.std.specs.Prelude.{ℕ, List, ◌++◌, Option, Some, None}
 use Rattle.std.specs.Option.{option_map}
-use Rattle.fk_globals.specs.Rows.{Row}
+use Rattle.fk_layout_globals.specs.Rows.{Row}
 use Rattle.fk_top.specs.declared.ending.Ending.{Ending}
 use Rattle.fk_top.specs.declared.ending.PutFile.{PutFile}
 use Rattle.fk_top.specs.declared.ending.Shown.{Shown}

@@ -4,16 +4,16 @@ use Rattle.std.specs.List.{range_with_len}
 use Rattle.fk_image.specs.declared.Image.{Image}
 use Rattle.fk_image.specs.Spelling.{IsImageOf}
 use Rattle.fk_asm.specs.Listing as lines
-use Rattle.fk_input.specs.declared.fault.InputFault.{InputFault}
-use Rattle.fk_input.specs.Input.{input_of}
-use Rattle.fk_words.specs.Arguments.{Text}
-use Rattle.fk_words.specs.Command.{Command, Run, Build, Exec, ListCode}
+use Rattle.fk_top_input.specs.declared.fault.InputFault.{InputFault}
+use Rattle.fk_top_input.specs.Input.{input_of}
+use Rattle.fk_top_words.specs.Arguments.{Text}
+use Rattle.fk_top_words.specs.Command.{Command, Run, Build, Exec, ListCode}
 use Rattle.fk_machine.specs.declared.stand.Stand.{Stand}
 use Rattle.fk_machine.specs.declared.stand.Stand.TheVariants.{Running, Finished, Faulted, Trapped}
 use Rattle.fk_machine.specs.Cycle.{Machine}
 use Rattle.fk_machine.specs.Run.{machine, output_of}
-use Rattle.fk_globals.specs.Rows.{Row}
-use Rattle.fk_text.specs.Text.{HasGlobal, IsBuilt}
+use Rattle.fk_layout_globals.specs.Rows.{Row}
+use Rattle.fk_compile_text.specs.Text.{HasGlobal, IsBuilt}
 use Rattle.fk_compile.specs.Faithful.{IsFaithful}
 use Rattle.fk_top.specs.declared.kinds.FaultKind.TheVariants as fault
 use Rattle.fk_top.specs.declared.report.Report.{Report}

@@ -3,11 +3,11 @@ use Rattle.std.specs.Prelude.{◌≡◌, ℕ, List, Option, Some, None}
 use Rattle.fk_image.specs.declared.fault.ImageFault.{ImageFault}
 use Rattle.fk_image.specs.declared.fault.ImageFault.TheVariants as fault
 use Rattle.fk_image.specs.Refusals as images
-use Rattle.fk_input.specs.declared.fault.InputFault.{InputFault}
-use Rattle.fk_input.specs.declared.fault.InputFault.TheVariants as input
-use Rattle.fk_text.specs.declared.refusal.Refusal.{Refusal}
-use Rattle.fk_text.specs.declared.refusal.Refusal.TheVariants as refusal
-use Rattle.fk_text.specs.Refusal as sources
+use Rattle.fk_top_input.specs.declared.fault.InputFault.{InputFault}
+use Rattle.fk_top_input.specs.declared.fault.InputFault.TheVariants as input
+use Rattle.fk_compile_text.specs.declared.refusal.Refusal.{Refusal}
+use Rattle.fk_compile_text.specs.declared.refusal.Refusal.TheVariants as refusal
+use Rattle.fk_compile_text.specs.Refusal as sources
 use Rattle.fk_top.specs.declared.report.Report.{Report}
 use Rattle.fk_top.specs.declared.report.Report.TheVariants as reports
 use Rattle.fk_top.specs.Report.{line_of, frame_line}

@@ -1,7 +1,7 @@
 -- What the commands read, and which of them run, put a file or run an image.
 use Rattle.std.specs.Prelude.{ℕ, List}
-use Rattle.fk_words.specs.Arguments.{Text}
-use Rattle.fk_words.specs.Command.{Command, Run, Build, Exec, ListCode, Reads}
+use Rattle.fk_top_words.specs.Arguments.{Text}
+use Rattle.fk_top_words.specs.Command.{Command, Run, Build, Exec, ListCode, Reads}
 
 -- the command runs an image, of a source or of the bytes of one
 abbrev pub Runs : Command → Type 0

@@ -11,7 +11,7 @@ use crate::run::run_ending;
 use crate::status::Status;
 use fk_asm::listing::listing_line;
 use fk_image::read_image;
-use fk_words::RunWords;
+use fk_top_words::RunWords;
 use std::alloc::{AllocError, Global};
 
 /// Reads an image and runs it over an input text.

@@ -1,10 +1,10 @@
 //! What a command reads.
 
 ghost use Rattle.std.specs.Prelude.{◌≡◌};
-ghost use Rattle.fk_words.specs.Command.{command_of};
+ghost use Rattle.fk_top_words.specs.Command.{command_of};
 ghost use Rattle.fk_top.specs.Words.{file_of, most_bytes, most_input};
 
-use fk_words::CommandWords;
+use fk_top_words::CommandWords;
 
 /// A source has at most so many bytes. One more is fetched, to tell a longer one.
 const SOURCE_LIMIT: usize = 1_048_576;

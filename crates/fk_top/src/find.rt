@@ -1,7 +1,7 @@
 //! What a call comes to, before anything is put or given.
 
 ghost use Rattle.std.specs.Prelude.{◌≡◌, ◌⊎◌, map, string_bytes, IfOk, IsErr, IsOkAnd, OnErr};
-ghost use Rattle.fk_words.specs.Command.{command_of};
+ghost use Rattle.fk_top_words.specs.Command.{command_of};
 ghost use Rattle.fk_top.specs.Words.{IsRun};
 ghost use Rattle.fk_top.specs.Outcome.{ComesTo, silent};
 ghost use Rattle.fk_top.specs.Report.{line_of};
@@ -16,7 +16,7 @@ use crate::report::Report;
 use crate::source::{build_source, run_source};
 use crate::status::Status;
 use fk_ports::{Source, Store, StoreFault};
-use fk_words::{CommandWords, WordsFault, read_words};
+use fk_top_words::{CommandWords, WordsFault, read_words};
 use std::alloc::{AllocError, Global};
 
 /// What the words come to over a store and an input. In the store it changes nothing, and it gives nothing

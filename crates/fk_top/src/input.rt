@@ -3,12 +3,12 @@
 ghost use Rattle.std.specs.Prelude.{◌≡◌, [], IfOk, IsErrOf, OnOk};
 ghost use Rattle.fk_ports.specs.Faults.{HasRisen};
 ghost use Rattle.fk_ports.specs.Known.{GivesAtMost, MovesFirst};
-ghost use Rattle.fk_words.specs.Command.{command_of};
+ghost use Rattle.fk_top_words.specs.Command.{command_of};
 ghost use Rattle.fk_top.specs.Words.{Runs, most_input};
 
 use crate::command::most_input;
 use fk_ports::{Source, StoreFault, take_all};
-use fk_words::CommandWords;
+use fk_top_words::CommandWords;
 use std::alloc::Global;
 
 /// The input text of a command that runs: the first bytes that the input has left. Of one that doesn't run it is

@@ -12,8 +12,8 @@ use crate::status::Status;
 use crate::variable::Variable;
 use fk_compile::compile;
 use fk_image::{Image, write_image};
-use fk_text::find_global;
-use fk_words::RunWords;
+use fk_compile_text::find_global;
+use fk_top_words::RunWords;
 use std::alloc::{AllocError, Global};
 
 /// Compiles a source, runs it over an input text, and shows the variable of a name, if one is named.

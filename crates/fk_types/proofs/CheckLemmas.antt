@@ -4,17 +4,17 @@ use Rattle.fk_syntax.specs.declared.facts.CheckFault.TheVariants as c
 use Rattle.fk_syntax.specs.declared.facts.Facts.{Facts}
 use Rattle.fk_syntax.specs.Program.{ProgramTree}
 use Rattle.fk_syntax.specs.WellFormed.{IsWellFormed}
-use Rattle.fk_rules.specs.declared.fault.Fault.{Fault}
-use Rattle.fk_rules.specs.Rules.{number_of}
-use Rattle.fk_rules.specs.Least.{IsLeast}
-use Rattle.fk_signs.specs.declared.values.ExpressionType.{ExpressionType}
-use Rattle.fk_typing.specs.Names.{Env, IsEnv}
-use Rattle.fk_typing_walk.specs.Read.{with_note}
-use Rattle.fk_pieces.specs.Pieces.{pieces}
-use Rattle.fk_type_rules.specs.Noted.{pieces_noted, AreTypes}
-use Rattle.fk_type_rules.specs.Broken.{Broken, IsRefusal}
-use Rattle.fk_type_rules.specs.Facts.{AreFactsIn, AreFacts}
-use Rattle.fk_token_laws.proofs.Tokens.{are_types}
+use Rattle.fk_check_rules.specs.declared.fault.Fault.{Fault}
+use Rattle.fk_check_rules.specs.Rules.{number_of}
+use Rattle.fk_check_rules.specs.Least.{IsLeast}
+use Rattle.fk_types_operators.specs.declared.values.ExpressionType.{ExpressionType}
+use Rattle.fk_types_judgments.specs.Names.{Env, IsEnv}
+use Rattle.fk_types_expressions.specs.Read.{with_note}
+use Rattle.fk_types_obligations.specs.Pieces.{pieces}
+use Rattle.fk_types_rules.specs.Noted.{pieces_noted, AreTypes}
+use Rattle.fk_types_rules.specs.Broken.{Broken, IsRefusal}
+use Rattle.fk_types_rules.specs.Facts.{AreFactsIn, AreFacts}
+use Rattle.fk_types_rules.proofs.Tokens.{are_types}
 
 pub none_or : {X : Type 0} (o : Option X) → (o ≡ None) ⊎ ((x : X) × (o ≡ Some x))
 none_or None = inl refl

@@ -5,13 +5,13 @@ use Rattle.fk_syntax.specs.declared.facts.Note.{Note}
 use Rattle.fk_syntax.specs.declared.facts.Kind.{Kind}
 use Rattle.fk_syntax.specs.declared.facts.Facts.{Facts}
 use Rattle.fk_syntax.specs.Program.{ProgramTree}
-use Rattle.fk_signs.specs.declared.values.ExpressionType.{ExpressionType}
-use Rattle.fk_typing.specs.Names.{Env}
-use Rattle.fk_type_rules.specs.Kinds.{IsKind}
-use Rattle.fk_type_rules.specs.Noted.{HasTypeAt, type_at, AreTypes}
-use Rattle.fk_type_rules.specs.Bound.{IsBound, AreBound, AreUnbound}
-use Rattle.fk_type_rules.specs.Facts.{IsNote, IsMetAt, AreFactsIn}
-use Rattle.fk_kinds.specs.Met.{IsFirstMet, AreMet}
+use Rattle.fk_types_operators.specs.declared.values.ExpressionType.{ExpressionType}
+use Rattle.fk_types_judgments.specs.Names.{Env}
+use Rattle.fk_types_rules.specs.Kinds.{IsKind}
+use Rattle.fk_types_rules.specs.Noted.{HasTypeAt, type_at, AreTypes}
+use Rattle.fk_types_rules.specs.Bound.{IsBound, AreBound, AreUnbound}
+use Rattle.fk_types_rules.specs.Facts.{IsNote, IsMetAt, AreFactsIn}
+use Rattle.fk_types_kinds.specs.Met.{IsFirstMet, AreMet}
 use Rattle.fk_types.specs.Notes.{notes_of}
 use Rattle.fk_types.proofs.NoteLemmas.{length-notes_of, IsNoteOf, note_at, note_there}
 

@@ -7,17 +7,17 @@ use Rattle.fk_syntax.specs.declared.facts.Note.{Note}
 use Rattle.fk_syntax.specs.declared.facts.Kind.{Kind}
 use Rattle.fk_syntax.specs.declared.facts.Facts.{Facts}
 use Rattle.fk_syntax.specs.Program.{ProgramTree}
-use Rattle.fk_structs.specs.Types.{StructTree, type_spelled, member_named}
-use Rattle.fk_structs.specs.Sizes.{HasTypeWords, HasOffset}
-use Rattle.fk_signs.specs.declared.values.ExpressionType.{ExpressionType}
-use Rattle.fk_typing.specs.Names.{Env, IsEnv}
-use Rattle.fk_typing.specs.Typing.{Noted}
-use Rattle.fk_references.specs.References.{ReferenceTree}
-use Rattle.fk_type_rules.specs.Kinds.{IsKind}
-use Rattle.fk_type_rules.specs.Noted.{HasTypeAt}
-use Rattle.fk_type_rules.specs.Bound.{Refers, declared, predeclared, member, size, IsBound, refers, declares}
-use Rattle.fk_type_rules.specs.Facts.{IsNote, AreFactsIn, AreFacts}
-use Rattle.fk_type_rules.proofs.Alike.{alike-noted}
+use Rattle.fk_types_structs.specs.Types.{StructTree, type_spelled, member_named}
+use Rattle.fk_types_structs.specs.Sizes.{HasTypeWords, HasOffset}
+use Rattle.fk_types_operators.specs.declared.values.ExpressionType.{ExpressionType}
+use Rattle.fk_types_judgments.specs.Names.{Env, IsEnv}
+use Rattle.fk_types_judgments.specs.Typing.{Noted}
+use Rattle.fk_types_references.specs.References.{ReferenceTree}
+use Rattle.fk_types_rules.specs.Kinds.{IsKind}
+use Rattle.fk_types_rules.specs.Noted.{HasTypeAt}
+use Rattle.fk_types_rules.specs.Bound.{Refers, declared, predeclared, member, size, IsBound, refers, declares}
+use Rattle.fk_types_rules.specs.Facts.{IsNote, AreFactsIn, AreFacts}
+use Rattle.fk_types_rules.proofs.Alike.{alike-noted}
 use Rattle.fk_types.proofs.OneKind.{one_kind}
 use Rattle.fk_types.proofs.OneNumbering.{IsNumbering, Agree, same_lists, one_list}
 

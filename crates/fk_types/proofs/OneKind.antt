@@ -1,17 +1,17 @@
 -- A type has one kind at most.
 use Rattle.std.proofs.Common.{◌≡◌, inl, inr, ℕ, ◌*◌, true, false, List, Option, Some, None, sym, ap, ◌∙◌}
 use Rattle.fk_syntax.specs.declared.facts.Kind.{Kind}
-use Rattle.fk_structs.specs.declared.types.DataType.{DataType}
-use Rattle.fk_structs.specs.Types.{StructTree, all_types}
-use Rattle.fk_structs.specs.Words.{capped}
-use Rattle.fk_structs.proofs.WordLemmas.{one-type}
-use Rattle.fk_signs.specs.declared.values.Target.{Target}
-use Rattle.fk_signs.specs.declared.values.Value.{Value}
-use Rattle.fk_signs.specs.declared.values.Value.TheVariants.{Int, Unsigned, Pointer}
-use Rattle.fk_signs.specs.declared.values.ExpressionType.{ExpressionType}
-use Rattle.fk_signs.specs.declared.values.ExpressionType.TheVariants.{Stored, Computed, Nothing}
-use Rattle.fk_signs.specs.Values.{target, value_under}
-use Rattle.fk_type_rules.specs.Kinds.{IsWords, IsStep, IsValueKind, IsArrayKind, IsPlainKind, IsStoredKind, IsKind}
+use Rattle.fk_types_structs.specs.declared.types.DataType.{DataType}
+use Rattle.fk_types_structs.specs.Types.{StructTree, all_types}
+use Rattle.fk_types_structs.specs.Words.{capped}
+use Rattle.fk_types_structs.proofs.WordLemmas.{one-type}
+use Rattle.fk_types_operators.specs.declared.values.Target.{Target}
+use Rattle.fk_types_operators.specs.declared.values.Value.{Value}
+use Rattle.fk_types_operators.specs.declared.values.Value.TheVariants.{Int, Unsigned, Pointer}
+use Rattle.fk_types_operators.specs.declared.values.ExpressionType.{ExpressionType}
+use Rattle.fk_types_operators.specs.declared.values.ExpressionType.TheVariants.{Stored, Computed, Nothing}
+use Rattle.fk_types_operators.specs.Values.{target, value_under}
+use Rattle.fk_types_rules.specs.Kinds.{IsWords, IsStep, IsValueKind, IsArrayKind, IsPlainKind, IsStoredKind, IsKind}
 
 module _ (structs : List StructTree) where
   one_words : (type : DataType) (m n : ℕ) → IsWords structs type m → IsWords structs type n → m ≡ n

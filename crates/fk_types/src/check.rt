@@ -3,18 +3,18 @@
 ghost use Rattle.std.specs.Prelude.{◌≡◌, ◌≤◌, ◌^◌, IfOk, MatchResult};
 ghost use Rattle.fk_syntax.specs.ProgramView.{program_of};
 ghost use Rattle.fk_syntax.specs.WellFormed.{IsWellFormed};
-ghost use Rattle.fk_structs.specs.Types.{structs_of};
-ghost use Rattle.fk_structs.specs.Whole.{structs_in, IsSound};
-ghost use Rattle.fk_names.specs.Names.{AreNames};
-ghost use Rattle.fk_type_rules.specs.Broken.{IsRefusal};
-ghost use Rattle.fk_type_rules.specs.Facts.{AreFacts};
+ghost use Rattle.fk_types_structs.specs.Types.{structs_of};
+ghost use Rattle.fk_types_structs.specs.Whole.{structs_in, IsSound};
+ghost use Rattle.fk_types_names.specs.Names.{AreNames};
+ghost use Rattle.fk_types_rules.specs.Broken.{IsRefusal};
+ghost use Rattle.fk_types_rules.specs.Facts.{AreFacts};
 
 use crate::facts::facts;
-use fk_environment::Environment;
-use fk_names::{Names, resolve};
-use fk_structs::Structs;
+use fk_types_environment::Environment;
+use fk_types_names::{Names, resolve};
+use fk_types_structs::Structs;
 use fk_syntax::{CheckFault, Facts, Program};
-use fk_type_check::program_fault;
+use fk_types_checker::program_fault;
 use std::alloc::{AllocError, Global};
 
 // What is known of a program by its structs and names, or the first rule that it breaks.

@@ -3,19 +3,19 @@
 ghost use Rattle.std.specs.Prelude.{◌≡◌, ◌^◌, ◌≤◌, length, IfOk};
 ghost use Rattle.fk_syntax.specs.ProgramView.{program_of};
 ghost use Rattle.fk_syntax.specs.WellFormed.{IsWellFormed};
-ghost use Rattle.fk_structs.specs.Whole.{structs_in, IsSound};
-ghost use Rattle.fk_names.specs.Names.{AreNames};
-ghost use Rattle.fk_typing.specs.Names.{Env};
-ghost use Rattle.fk_type_rules.specs.Noted.{AreTypes};
-ghost use Rattle.fk_type_rules.specs.Facts.{AreFactsIn};
+ghost use Rattle.fk_types_structs.specs.Whole.{structs_in, IsSound};
+ghost use Rattle.fk_types_names.specs.Names.{AreNames};
+ghost use Rattle.fk_types_judgments.specs.Names.{Env};
+ghost use Rattle.fk_types_rules.specs.Noted.{AreTypes};
+ghost use Rattle.fk_types_rules.specs.Facts.{AreFactsIn};
 ghost use Rattle.fk_types.specs.Notes.{note_of, notes_of};
 
-use fk_bindings::bindings;
-use fk_kinds::Kinds;
-use fk_names::Names;
-use fk_pieces::Pieces;
-use fk_signs::ExpressionType;
-use fk_structs::Structs;
+use fk_types_bindings::bindings;
+use fk_types_kinds::Kinds;
+use fk_types_names::Names;
+use fk_types_obligations::Pieces;
+use fk_types_operators::ExpressionType;
+use fk_types_structs::Structs;
 use fk_syntax::{Facts, Note, Program};
 use std::alloc::{AllocError, Global};
 

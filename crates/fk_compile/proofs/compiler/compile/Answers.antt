@@ -4,10 +4,10 @@ use Rattle.std.specs.Prelude.{vec_len}
 use Rattle.fk_image.specs.declared.Image.{Image}
 use Rattle.fk_layout.specs.declared.listed.Site.{Site}
 use Rattle.fk_core.specs.declared.op.CoreOp.{CoreOp}
-use Rattle.fk_text.proofs.Parts.{kept as passed}
-use Rattle.fk_certain.specs.Certain.{HasFrames}
+use Rattle.fk_compile_text.proofs.Parts.{kept as passed}
+use Rattle.fk_lower_laws.specs.Certain.{HasFrames}
 use Rattle.fk_compile.specs.Lists.{IsGrouped}
-use Rattle.fk_generate.specs.Generable.{IsGenerable, most_words}
+use Rattle.fk_gen_list.specs.Generable.{IsGenerable, most_words}
 use Rattle.fk_compile.specs.Faithful.{in_table}
 use Rattle.fk_compile.proofs.Made.{passes_on, gives_the_law, is_generable, few_words, is_compiled}
 use Rattle.fk_compile.proofs.Theorem.{is_faithful}

@@ -1,6 +1,6 @@
 use Rattle.std.proofs.Common.{◌<◌, ◌^◌, List, All, subst}
 use Rattle.fk_core.specs.declared.op.CoreOp.{CoreOp}
-use Rattle.fk_kept.specs.Live.{IsLive, IsLeast, words_in}
+use Rattle.fk_core_liveness.specs.Live.{IsLive, IsLeast, words_in}
 use Rattle.fk_compile.proofs.list.kept_words.Goals as goal
 
 pub returns-in-Ok-clause-held : goal.returns-in-Ok-clause-held

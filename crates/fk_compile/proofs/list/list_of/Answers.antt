@@ -1,16 +1,16 @@
 use Rattle.std.proofs.Common.{◌≤◌, IfOk, subst, sum_by, ◌∙◌}
 use Rattle.fk_syntax.specs.ProgramView.{program_of}
-use Rattle.fk_forms.specs.Tables.{Tables}
-use Rattle.fk_walk.specs.Known.{tables_of}
+use Rattle.fk_meaning_forms.specs.Tables.{Tables}
+use Rattle.fk_layout_walk.specs.Known.{tables_of}
 use Rattle.fk_lower_text.specs.Lowered.{HasSites}
-use Rattle.fk_generate.specs.Generable.{most_words}
-use Rattle.fk_fitting.specs.Correct.{IsCorrect}
+use Rattle.fk_gen_list.specs.Generable.{most_words}
+use Rattle.fk_check_laws.specs.Correct.{IsCorrect}
 use Rattle.fk_layout.specs.Layout.{tables_by}
-use Rattle.fk_certain.specs.LoweringLaws.{IsKnownOf}
+use Rattle.fk_lower_laws.specs.LoweringLaws.{IsKnownOf}
 use Rattle.fk_lower.specs.Depths.{AreTold}
 use Rattle.fk_lower_text.specs.Depths.{depths_of}
-use Rattle.fk_walk_statements.specs.Texts.{functions_in}
-use Rattle.fk_certain.specs.Laws.{count_of_file}
+use Rattle.fk_layout_walk_statements.specs.Texts.{functions_in}
+use Rattle.fk_lower_laws.specs.Laws.{count_of_file}
 use Rattle.fk_compile.specs.Lists.{HasListOf, IsGrouped}
 use Rattle.fk_compile.proofs.Lowerable.{lowerable, few_sites, grouped_list, answered, answered_all}
 use Rattle.fk_compile.proofs.list.list_of.Goals as goal

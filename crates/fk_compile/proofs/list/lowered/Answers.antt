@@ -1,7 +1,7 @@
 use Rattle.std.proofs.Common.{List, sym, ap, ◌∙◌}
 use Rattle.fk_syntax.specs.Program.{ItemTree}
-use Rattle.fk_forms.specs.Program.{functions_of, main_in}
-use Rattle.fk_walk.specs.Known.{tables_of}
+use Rattle.fk_meaning_forms.specs.Program.{functions_of, main_in}
+use Rattle.fk_layout_walk.specs.Known.{tables_of}
 use Rattle.fk_lower.specs.Written.{entry_of}
 use Rattle.fk_compile.proofs.list.lowered.Goals as goal
 

@@ -1,6 +1,6 @@
 use Rattle.fk_syntax.specs.View.{base_of}
 use Rattle.fk_expr.specs.Grammar.{base}
-use Rattle.fk_reading.specs.Reads.{Reads}
+use Rattle.fk_parse_combinators.specs.Reads.{Reads}
 use Rattle.fk_expr.proofs.Public.{given, not_given, base_where}
 use Rattle.fk_expr.proofs.at_cursor.base.Goals as goal
 

@@ -1,8 +1,8 @@
 use Rattle.std.proofs.Common.{◌-◌}
-use Rattle.fk_reading.specs.declared.limits.TheConstants.{LEVELS}
+use Rattle.fk_parse_combinators.specs.declared.limits.TheConstants.{LEVELS}
 use Rattle.fk_syntax.specs.View.{tree_of}
 use Rattle.fk_expr.specs.Grammar.{Comma}
-use Rattle.fk_reading.specs.Reads.{Reads}
+use Rattle.fk_parse_combinators.specs.Reads.{Reads}
 use Rattle.fk_expr.proofs.Public.{given, not_given, comma_where}
 use Rattle.fk_expr.proofs.at_cursor.comma.Goals as goal
 

@@ -1,12 +1,12 @@
 use Rattle.std.proofs.Common.{◌-◌, sym, ap, subst, ◌∙◌, length, List, arith, Ok, Err}
-use Rattle.fk_reading.specs.declared.limits.TheConstants.{LEVELS}
+use Rattle.fk_parse_combinators.specs.declared.limits.TheConstants.{LEVELS}
 use Rattle.fk_syntax.specs.View.{tree_of}
-use Rattle.fk_reading.specs.Languages.{Placed}
+use Rattle.fk_parse_combinators.specs.Languages.{Placed}
 use Rattle.fk_expr.specs.Grammar.{Comma}
-use Rattle.fk_reading.specs.Reads.{Reads}
+use Rattle.fk_parse_combinators.specs.Reads.{Reads}
 use Rattle.fk_expr.specs.Reading.{inner, read_comma}
-use Rattle.fk_reading.specs.Gives.{Halts}
-use Rattle.fk_reading.specs.Faults.{tokens_from}
+use Rattle.fk_parse_combinators.specs.Gives.{Halts}
+use Rattle.fk_parse_combinators.specs.Faults.{tokens_from}
 use Rattle.fk_expr.proofs.Public.{read_to, refuses, tells_fault, short_from}
 use Rattle.fk_expr.proofs.Expressions.{reads_comma}
 use Rattle.fk_expr.proofs.entry.expression.Goals as goal

@@ -1,7 +1,7 @@
 use Rattle.std.proofs.Common.{refl, inl, inr}
 use Rattle.fk_lex.specs.declared.token.TokenKind.TheVariants as kind
-use Rattle.fk_reading.specs.Kinds.{just}
-use Rattle.fk_reading.proofs.SameKind.{just_other}
+use Rattle.fk_parse_combinators.specs.Kinds.{just}
+use Rattle.fk_parse_combinators.proofs.SameKind.{just_other}
 use Rattle.fk_expr.proofs.kinds.begins_type.Goals as goal
 
 pub returns-in-Int : goal.returns-in-Int

@@ -1,5 +1,5 @@
 use Rattle.fk_expr.proofs.Expressions.{faithful_assignment}
-use Rattle.fk_reading.proofs.Determined.{has_one_answer}
+use Rattle.fk_parse_combinators.proofs.Determined.{has_one_answer}
 use Rattle.fk_expr.proofs.laws.one_assignment.Goals as goal
 
 pub returns : goal.returns

@@ -1,6 +1,6 @@
 -- What is read stands between the parentheses.
 use Rattle.std.proofs.Common.{refl}
-use Rattle.fk_reading.specs.Ahead.{seen}
+use Rattle.fk_parse_combinators.specs.Ahead.{seen}
 use Rattle.fk_expr.proofs.parts.enclosed_text.Goals as goal
 
 pub returns-clause-read : goal.returns-clause-read

@@ -1,7 +1,7 @@
 -- What is read stands between the parentheses.
 use Rattle.std.proofs.Common.{refl}
 use Rattle.fk_syntax.specs.View.{type_of}
-use Rattle.fk_reading.specs.Ahead.{seen}
+use Rattle.fk_parse_combinators.specs.Ahead.{seen}
 use Rattle.fk_expr.proofs.parts.enclosed_type.Goals as goal
 
 pub returns-clause-read : goal.returns-clause-read

@@ -4,11 +4,11 @@ use Rattle.fk_syntax.specs.View.{tree_of, link_of, suffix_of}
 use Rattle.fk_expr.specs.Reading.{inner}
 use Rattle.fk_expr.specs.Ahead.{readers}
 use Rattle.fk_lex.specs.declared.token.TokenKind.TheVariants as kind
-use Rattle.fk_reading.specs.Readers.{expect}
-use Rattle.fk_reading.proofs.Behind.{behind_reads, behind_halts, gives_fault}
+use Rattle.fk_parse_combinators.specs.Readers.{expect}
+use Rattle.fk_parse_combinators.proofs.Behind.{behind_reads, behind_halts, gives_fault}
 use Rattle.fk_expr.proofs.Behind.{comma_link_reads, comma_link_halts, link_reads, comma_gives, assignment_gives, choice_gives, postfix_gives, arguments_reads, arguments_halts, more_behind, level_reads, level_halts, joined_start, prefix_halts, joined_passes}
-use Rattle.fk_reading.proofs.Repeats.{going_start, going_more, going_end, going_ended, items_more}
-use Rattle.fk_reading.proofs.Halting.{halts_going}
+use Rattle.fk_parse_combinators.proofs.Repeats.{going_start, going_more, going_end, going_ended, items_more}
+use Rattle.fk_parse_combinators.proofs.Halting.{halts_going}
 use Rattle.fk_expr.proofs.Completing.{whole_shortens, whole_leaves}
 use Rattle.fk_expr.proofs.production.+expression.Goals as goal
 

@@ -3,12 +3,12 @@ use Rattle.fk_syntax.specs.Tree.{Tree}
 use Rattle.fk_syntax.specs.View.{tree_of, link_of, suffix_of}
 use Rattle.fk_expr.specs.Grammar.{operator_at}
 use Rattle.fk_expr.specs.Reading.{inner, begins_suffix, read_suffix, read_comma_link, read_next_argument, read_joined}
-use Rattle.fk_reading.specs.Readers.{tells}
-use Rattle.fk_reading.specs.Ahead.{Shortens}
+use Rattle.fk_parse_combinators.specs.Readers.{tells}
+use Rattle.fk_parse_combinators.specs.Ahead.{Shortens}
 use Rattle.fk_expr.specs.Ahead.{readers, read_link}
-use Rattle.fk_reading.proofs.Repeats.{Going}
+use Rattle.fk_parse_combinators.proofs.Repeats.{Going}
 use Rattle.fk_expr.proofs.production.+expression.Given as goal
-use Rattle.fk_reading.specs.Kinds.{just}
+use Rattle.fk_parse_combinators.specs.Kinds.{just}
 use Rattle.fk_lex.specs.declared.token.TokenKind.TheVariants as kind
 
 abbrev pub decreases-comma : goal.decreases-comma

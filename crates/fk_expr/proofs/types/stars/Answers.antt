@@ -1,5 +1,5 @@
 use Rattle.std.proofs.Common.{refl, arith, length-append}
-use Rattle.fk_reading.proofs.Loops.{loops_start, loops_more, loops_end}
+use Rattle.fk_parse_combinators.proofs.Loops.{loops_start, loops_more, loops_end}
 use Rattle.fk_expr.proofs.types.stars.Goals as goal
 
 pub overflow_add-stars : goal.overflow_add-stars

@@ -1,9 +1,9 @@
 use Rattle.std.proofs.Common.{◌≡◌, length, List}
-use Rattle.fk_reading.specs.Languages.{Placed}
-use Rattle.fk_reading.specs.Readers.{expect}
-use Rattle.fk_reading.proofs.Loops.{Loops}
+use Rattle.fk_parse_combinators.specs.Languages.{Placed}
+use Rattle.fk_parse_combinators.specs.Readers.{expect}
+use Rattle.fk_parse_combinators.proofs.Loops.{Loops}
 use Rattle.fk_expr.proofs.types.stars.Given as goal
-use Rattle.fk_reading.specs.Kinds.{just}
+use Rattle.fk_parse_combinators.specs.Kinds.{just}
 use Rattle.fk_lex.specs.declared.token.TokenKind.TheVariants as kind
 
 abbrev pub invariant-loop-star : goal.invariant-loop-star

@@ -4,9 +4,9 @@ use Rattle.std.proofs.lemmas.List.{append_assoc}
 use Rattle.fk_syntax.specs.declared.place.Place.{Place}
 use Rattle.fk_syntax.specs.Program.{FunctionTree}
 use Rattle.fk_syntax.specs.ProgramView.{function_of}
-use Rattle.fk_forms.specs.declared.tables.FrameSize.{FrameSize}
-use Rattle.fk_forms.specs.Program.{functions_of, sites_in}
-use Rattle.fk_walk.specs.Known.{tables_of, items_in}
+use Rattle.fk_meaning_forms.specs.declared.tables.FrameSize.{FrameSize}
+use Rattle.fk_meaning_forms.specs.Program.{functions_of, sites_in}
+use Rattle.fk_layout_walk.specs.Known.{tables_of, items_in}
 use Rattle.fk_layout.specs.Frames.{told_in, functions_behind, first_large_in, first_large, frame_of}
 use Rattle.fk_layout.specs.Refusal.{TellsLarge}
 use Rattle.fk_layout.proofs.Sizing.{rest_at, own_at, fewer, passed_on}

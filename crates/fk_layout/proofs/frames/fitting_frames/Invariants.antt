@@ -1,7 +1,7 @@
 -- The frames so far, and those of the rest, are all; none of those so far is too large; and there are not too many operations left.
 use Rattle.std.proofs.Common.{◌≡◌, ◌≤◌, ◌++◌, map, drop, length}
-use Rattle.fk_forms.specs.Program.{sites_in, functions_of}
-use Rattle.fk_walk.specs.Known.{tables_of, items_in}
+use Rattle.fk_meaning_forms.specs.Program.{sites_in, functions_of}
+use Rattle.fk_layout_walk.specs.Known.{tables_of, items_in}
 use Rattle.fk_layout.specs.Frames.{frame_of, first_large_in, functions_behind}
 use Rattle.fk_layout.proofs.frames.fitting_frames.Given as goal
 

@@ -1,7 +1,7 @@
 -- The count so far and that of the rest are that of all.
 use Rattle.std.proofs.Common.{◌≡◌, ◌≤◌, ◌+◌, ◌-◌, ◌^◌, min, false, map, drop, length}
 use Rattle.fk_syntax.specs.ProgramView.{declared_of}
-use Rattle.fk_globals.specs.Variables.{kept}
+use Rattle.fk_layout_globals.specs.Variables.{kept}
 use Rattle.fk_layout.proofs.frames.with_variables.Given as goal
 
 abbrev pub invariant-loop-variable : goal.invariant-loop-variable

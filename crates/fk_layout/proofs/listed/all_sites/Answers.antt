@@ -1,6 +1,6 @@
 use Rattle.std.proofs.Common.{List, length, ap, ◌∙◌, arith}
 use Rattle.std.proofs.lemmas.List.{length-map}
-use Rattle.fk_walk_statements.specs.Texts.{sites_of_text}
+use Rattle.fk_layout_walk_statements.specs.Texts.{sites_of_text}
 use Rattle.fk_layout.specs.declared.listed.Listing.{Listing}
 use Rattle.fk_layout.specs.declared.listed.Site.{Site}
 use Rattle.fk_layout.specs.Listing.{site}

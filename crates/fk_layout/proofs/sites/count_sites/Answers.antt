@@ -1,5 +1,5 @@
 use Rattle.std.proofs.Common.{◌∙◌, ap}
-use Rattle.fk_walk.specs.declared.tally.Tally.{Tally}
+use Rattle.fk_layout_walk.specs.declared.tally.Tally.{Tally}
 use Rattle.fk_layout.proofs.Counted.{text_counted}
 use Rattle.fk_layout.proofs.sites.count_sites.Goals as goal
 

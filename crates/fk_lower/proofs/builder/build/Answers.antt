@@ -1,10 +1,10 @@
 use Rattle.std.proofs.Common.{rules, arith, ◌+◌, ◌≤◌, [], List, map, length, fold, drop, get_or, sym, ap, subst, ◌∙◌}
 use Rattle.std.proofs.lemmas.Result.{err_from_is_err_and}
-use Rattle.fk_operation.specs.declared.operation.Operation.TheVariants as o
+use Rattle.fk_meaning_operation.specs.declared.operation.Operation.TheVariants as o
 use Rattle.fk_lower.specs.declared.event.CodeEvent.{CodeEvent}
 use Rattle.fk_lower.specs.declared.event.CodeEvent.TheVariants as e
 use Rattle.std.specs.List.{count_by}
-use Rattle.fk_forms.specs.Code.{done}
+use Rattle.fk_meaning_forms.specs.Code.{done}
 use Rattle.std.proofs.lemmas.List.{at_drop_all}
 use Rattle.fk_lower.specs.Building.{Event, Building, building, after, has_site}
 use Rattle.fk_lower.specs.Faults.{IsFew}

@@ -3,7 +3,7 @@
 use Rattle.std.proofs.Common.{◌≡◌, ◌+◌, [], map, drop, fold}
 use Rattle.std.specs.List.{count_by}
 use Rattle.fk_syntax.specs.declared.place.Place.{Place}
-use Rattle.fk_forms.specs.Code.{Code, done}
+use Rattle.fk_meaning_forms.specs.Code.{Code, done}
 use Rattle.fk_lower.specs.Building.{building, after, has_site, events_of, IsUnbegun}
 use Rattle.fk_lower.specs.BuilderView.{event_of, building_of, IsBuilderMeasured}
 use Rattle.fk_lower.specs.Faults.{IsFew}

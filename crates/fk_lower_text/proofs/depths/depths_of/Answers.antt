@@ -3,8 +3,8 @@ use Rattle.std.proofs.Common.{◌≡◌, List, map, None, refl, sym, ◌∙◌, 
 use Rattle.std.proofs.lemmas.List.{at_drop_all}
 use Rattle.fk_syntax.specs.declared.program.Item.{Item}
 use Rattle.fk_syntax.specs.ProgramView.{item_of}
-use Rattle.fk_forms.specs.Program.{functions_of}
-use Rattle.fk_walk_statements.specs.Texts.{functions_in}
+use Rattle.fk_meaning_forms.specs.Program.{functions_of}
+use Rattle.fk_layout_walk_statements.specs.Texts.{functions_in}
 use Rattle.fk_lower_text.specs.declared.depths.Depths.{Depths}
 use Rattle.fk_lower_text.specs.Height.{high}
 use Rattle.fk_lower_text.specs.Telling.{through_functions}

@@ -1,8 +1,8 @@
 -- All that is shown of the code is counted, and then written down.
 use Rattle.std.proofs.Common.{refl, arith}
 use Rattle.fk_syntax.specs.ProgramView.{function_of}
-use Rattle.fk_walk.specs.Known.{functions_of}
-use Rattle.fk_walk_statements.specs.Texts.{code_in}
+use Rattle.fk_layout_walk.specs.Known.{functions_of}
+use Rattle.fk_layout_walk_statements.specs.Texts.{code_in}
 use Rattle.fk_lower_text.proofs.Counted.{exactly}
 use Rattle.fk_lower_text.proofs.Noted.{all_noted}
 use Rattle.fk_lower_text.proofs.noting.events_of.Goals as goal

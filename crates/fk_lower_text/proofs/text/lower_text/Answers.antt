@@ -1,7 +1,7 @@
 -- What lowering finds of a text follows from its blocks.
 use Rattle.std.proofs.Common.{◌≡◌, map, ap, sym, ◌∙◌, subst, List, arith}
 use Rattle.std.proofs.lemmas.Result.{err_from_is_err_and}
-use Rattle.fk_walk_statements.specs.Texts.{functions_in}
+use Rattle.fk_layout_walk_statements.specs.Texts.{functions_in}
 use Rattle.fk_lower.specs.Written.{entry_of}
 use Rattle.fk_lower.specs.declared.block.Block.{Block}
 use Rattle.fk_lower.specs.View.{part_of}

@@ -3,7 +3,7 @@ use Rattle.std.specs.Option.{option_map}
 use Rattle.fk_syntax.specs.View.{tree_of}
 use Rattle.fk_syntax.specs.Program.{VariablesItem}
 use Rattle.fk_parse.specs.Reading.{read_variables_tail}
-use Rattle.fk_declarations.specs.Reading.{read_rest}
+use Rattle.fk_parse_declarations.specs.Reading.{read_rest}
 use Rattle.fk_parse.proofs.item.file_variables.Goals as goal
 
 pub returns-clause-read : goal.returns-clause-read

@@ -1,6 +1,6 @@
 use Rattle.std.proofs.Common.{refl, sym, ◌∙◌, rules}
-use Rattle.fk_reading.proofs.Loops.{loops_end}
-use Rattle.fk_reading.proofs.Halting.{halts_going}
+use Rattle.fk_parse_combinators.proofs.Loops.{loops_end}
+use Rattle.fk_parse_combinators.proofs.Halting.{halts_going}
 use Rattle.fk_parse.proofs.Pushed.{pushed_start, pushed_more}
 use Rattle.fk_parse.proofs.item.items.Goals as goal
 

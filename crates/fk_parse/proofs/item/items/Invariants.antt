@@ -1,6 +1,6 @@
 use Rattle.std.proofs.Common.{map, length}
 use Rattle.fk_syntax.specs.ProgramView.{item_of}
-use Rattle.fk_reading.proofs.Loops.{Loops}
+use Rattle.fk_parse_combinators.proofs.Loops.{Loops}
 use Rattle.fk_parse.specs.Reading.{begins_item}
 use Rattle.fk_parse.specs.Parts.{read_item_within}
 use Rattle.fk_parse.proofs.item.items.Given as goal

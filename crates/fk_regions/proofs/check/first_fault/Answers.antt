@@ -1,4 +1,4 @@
-use Rattle.fk_rules.proofs.LeastLemmas.{IsLeast-whole}
+use Rattle.fk_check_rules.proofs.LeastLemmas.{IsLeast-whole}
 use Rattle.fk_regions.specs.Found.{TokenBreaks}
 use Rattle.fk_regions.proofs.Finding.{one-more}
 use Rattle.fk_regions.proofs.check.first_fault.Goals as goal

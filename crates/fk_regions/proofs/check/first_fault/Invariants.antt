@@ -1,5 +1,5 @@
 -- The first rule that the tokens so far break.
-use Rattle.fk_rules.specs.Least.{IsLeast, among_first}
+use Rattle.fk_check_rules.specs.Least.{IsLeast, among_first}
 use Rattle.fk_regions.specs.Found.{TokenBreaks}
 use Rattle.fk_regions.proofs.check.first_fault.Given as goal
 

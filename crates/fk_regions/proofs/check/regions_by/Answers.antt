@@ -3,7 +3,7 @@ use Rattle.std.proofs.Common.{◌≡◌, Some, None, map, fold, length, refl, su
 use Rattle.std.specs.Vec.{with_items}
 use Rattle.std.proofs.lemmas.List.{with_items_is}
 use Rattle.fk_syntax.specs.ProgramView.{item_of, program_of}
-use Rattle.fk_rules.specs.Least.{IsLeast, among}
+use Rattle.fk_check_rules.specs.Least.{IsLeast, among}
 use Rattle.fk_regions.specs.Tokens.{items_tokens}
 use Rattle.fk_regions.specs.Collected.{within, outside, seen}
 use Rattle.fk_regions.specs.Marked.{cleared, after}

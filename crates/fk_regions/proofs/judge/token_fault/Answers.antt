@@ -1,9 +1,9 @@
 -- The earlier of the first faults by the two kinds of rules.
 use Rattle.std.proofs.Common.{◌≡◌, Some, Option, subst}
-use Rattle.fk_rules.specs.declared.rule.Rule.{Rule}
+use Rattle.fk_check_rules.specs.declared.rule.Rule.{Rule}
 use Rattle.fk_syntax.specs.declared.place.Place.{Place}
-use Rattle.fk_rules.specs.Least.{IsLeast}
-use Rattle.fk_rules.proofs.LeastLemmas.{IsLeast-either}
+use Rattle.fk_check_rules.specs.Least.{IsLeast}
+use Rattle.fk_check_rules.proofs.LeastLemmas.{IsLeast-either}
 use Rattle.fk_regions.specs.Judged.{misplaced_rule, straight_rule}
 use Rattle.fk_regions.proofs.judge.token_fault.Goals as goal
 

@@ -1,4 +1,4 @@
-use Rattle.fk_rules.proofs.LeastLemmas.{IsLeast-whole}
+use Rattle.fk_check_rules.proofs.LeastLemmas.{IsLeast-whole}
 use Rattle.fk_sharing.specs.Found.{TokenBreaks}
 use Rattle.fk_sharing.proofs.Finding.{one-more}
 use Rattle.fk_sharing.proofs.check.first_fault.Goals as goal

@@ -3,8 +3,8 @@ use Rattle.std.proofs.Common.{◌≡◌, Some, None, map, fold, length, refl, su
 use Rattle.std.specs.Vec.{with_items}
 use Rattle.std.proofs.lemmas.List.{with_items_is}
 use Rattle.fk_syntax.specs.ProgramView.{item_of, program_of}
-use Rattle.fk_rules.specs.Least.{IsLeast, among}
-use Rattle.fk_class.specs.Things.{thing_in}
+use Rattle.fk_check_rules.specs.Least.{IsLeast, among}
+use Rattle.fk_sharing_class.specs.Things.{thing_in}
 use Rattle.fk_sharing.specs.Tokens.{items_tokens}
 use Rattle.fk_sharing.specs.Collected.{within, outside, seen}
 use Rattle.fk_sharing.specs.Marked.{cleared, after}

@@ -1,5 +1,5 @@
 use Rattle.std.proofs.Common.{Err, map, string_bytes, Global, refl, ap, inl, inr}
-use Rattle.fk_words.specs.Command.{command_of}
+use Rattle.fk_top_words.specs.Command.{command_of}
 use Rattle.fk_top.specs.Call.{given_of, request_of}
 use Rattle.fk_top.proofs.Unread.{file_unread, unread_ends}
 use Rattle.fk_top.proofs.find.find_ending.Goals as goal

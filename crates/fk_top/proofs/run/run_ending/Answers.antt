@@ -1,5 +1,5 @@
 use Rattle.std.proofs.Common.{ℕ, ◌∙◌, ap, sym, length, arith}
-use Rattle.fk_input.specs.Input.{input_of}
+use Rattle.fk_top_input.specs.Input.{input_of}
 use Rattle.fk_top.specs.Outcome.{most_numbers}
 use Rattle.fk_top.proofs.Inputs.{is_input}
 use Rattle.fk_top.proofs.run.run_ending.Goals as goal

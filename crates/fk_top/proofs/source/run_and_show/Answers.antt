@@ -2,11 +2,11 @@ use Rattle.std.proofs.Common.{◌≡◌, ℕ, List, Option, Some, None, Result, 
 use Rattle.std.specs.Prelude.{IfOk, option_map}
 use Rattle.std.specs.declared.alloc.AllocError.{AllocError}
 use Rattle.fk_image.specs.declared.Image.{Image}
-use Rattle.fk_words.specs.Arguments.{Text}
-use Rattle.fk_globals.specs.declared.rows.GlobalRow.{GlobalRow}
-use Rattle.fk_globals.specs.Rows.{Row}
-use Rattle.fk_globals.specs.View.{row_of}
-use Rattle.fk_text.specs.Text.{HasGlobal}
+use Rattle.fk_top_words.specs.Arguments.{Text}
+use Rattle.fk_layout_globals.specs.declared.rows.GlobalRow.{GlobalRow}
+use Rattle.fk_layout_globals.specs.Rows.{Row}
+use Rattle.fk_layout_globals.specs.View.{row_of}
+use Rattle.fk_compile_text.specs.Text.{HasGlobal}
 use Rattle.fk_top.specs.declared.ending.Ending.{Ending}
 use Rattle.fk_top.specs.Ending.{outcome_of}
 use Rattle.fk_top.specs.Outcome.{EndsOn, RefusesSource, LacksGlobal, RunsSource, IsShown, IsBuiltFrom}

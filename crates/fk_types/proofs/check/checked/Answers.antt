@@ -2,13 +2,13 @@ use Rattle.std.proofs.Common.{◌≡◌, Option, None, length, replicate, inl, i
 use Rattle.std.specs.Vec.{with_items}
 use Rattle.std.proofs.lemmas.List.{with_items_is, length-replicate}
 use Rattle.fk_syntax.specs.ProgramView.{program_of}
-use Rattle.fk_rules.specs.declared.fault.Fault.{Fault}
-use Rattle.fk_rules.specs.Least.{IsLeast}
-use Rattle.fk_typing.specs.Names.{Env}
-use Rattle.fk_parts.specs.Scope.{env_in}
-use Rattle.fk_environment.specs.Environment.{env_of}
-use Rattle.fk_type_rules.specs.Broken.{Broken}
-use Rattle.fk_type_rules.specs.Noted.{AreTypes}
+use Rattle.fk_check_rules.specs.declared.fault.Fault.{Fault}
+use Rattle.fk_check_rules.specs.Least.{IsLeast}
+use Rattle.fk_types_judgments.specs.Names.{Env}
+use Rattle.fk_types_forms.specs.Scope.{env_in}
+use Rattle.fk_types_environment.specs.Environment.{env_of}
+use Rattle.fk_types_rules.specs.Broken.{Broken}
+use Rattle.fk_types_rules.specs.Noted.{AreTypes}
 use Rattle.fk_types.proofs.CheckLemmas.{none_or, typed, refused, accepted}
 use Rattle.fk_types.proofs.check.checked.Goals as goal
 use Rattle.fk_types.proofs.check.checked.Goals.{After-program_fault}

@@ -1,9 +1,9 @@
 use Rattle.std.proofs.Common.{length, map, sym, ap, ap₂, subst, refl, ◌∙◌}
 use Rattle.fk_syntax.specs.declared.facts.Facts.{Facts}
 use Rattle.fk_syntax.specs.ProgramView.{program_of, item_of}
-use Rattle.fk_pieces.specs.Pieces.{items_pieces}
-use Rattle.fk_kinds.specs.Met.{AreMet}
-use Rattle.fk_token_laws.proofs.Tokens.{tokens_apart}
+use Rattle.fk_types_obligations.specs.Pieces.{items_pieces}
+use Rattle.fk_types_kinds.specs.Met.{AreMet}
+use Rattle.fk_types_rules.proofs.Tokens.{tokens_apart}
 use Rattle.fk_types.specs.Notes.{notes_of}
 use Rattle.fk_types.proofs.FactLemmas.{AreFactsIn-by}
 use Rattle.fk_types.proofs.facts.facts.Goals as goal

@@ -1,5 +1,5 @@
 use Rattle.std.proofs.Common.{◌≡◌, All, List, Some, OnOk, OnErr, ap, sym, subst, ◌∙◌}
-use Rattle.fk_operation.specs.declared.operation.Operation.TheVariants.{Branch, Enter}
+use Rattle.fk_meaning_operation.specs.declared.operation.Operation.TheVariants.{Branch, Enter}
 use Rattle.fk_asm.specs.Block.{MarkedLine, GoesToMade, HasBegun, with_block}
 use Rattle.fk_gen_flow.specs.Blocks.{HasOperands}
 use Rattle.fk_gen_flow.proofs.Rows.{chosen}

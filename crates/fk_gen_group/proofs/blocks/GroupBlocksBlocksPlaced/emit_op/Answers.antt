@@ -1,6 +1,6 @@
 -- Each meeting is the block of its operation.
 use Rattle.std.proofs.Common.{Some, OnErr, ap, sym, subst, ◌∙◌}
-use Rattle.fk_operation.specs.declared.operation.Operation.TheVariants.{Meet}
+use Rattle.fk_meaning_operation.specs.declared.operation.Operation.TheVariants.{Meet}
 use Rattle.fk_asm.specs.Block.{HasBegun}
 use Rattle.fk_gen_group.specs.Blocks.{block_of}
 use Rattle.fk_gen_group.proofs.blocks.GroupBlocksBlocksPlaced.emit_op.Goals as goal

@@ -1,7 +1,7 @@
 use Rattle.std.proofs.Common.{◌+◌, length, ap, ◌∙◌, arith}
 use Rattle.fk_syntax.specs.ProgramView.{function_of}
-use Rattle.fk_forms.specs.Code.{size}
-use Rattle.fk_walk_statements.specs.Texts.{code_in}
+use Rattle.fk_meaning_forms.specs.Code.{size}
+use Rattle.fk_layout_walk_statements.specs.Texts.{code_in}
 use Rattle.fk_lower_text.specs.Laid.{codes_of}
 use Rattle.fk_lower_text.proofs.Keeping.{rest_laid, one_laid}
 use Rattle.fk_lower_text.proofs.bodies.Bodies.add.Goals as goal

@@ -1,7 +1,7 @@
 use Rattle.std.proofs.Common.{◌+◌, ◌++◌, List, length, map, drop, ap, sym, subst, ◌∙◌}
 use Rattle.fk_syntax.specs.Program.{ItemTree}
 use Rattle.fk_syntax.specs.ProgramView.{item_of}
-use Rattle.fk_forms.specs.Program.{functions_of}
+use Rattle.fk_meaning_forms.specs.Program.{functions_of}
 use Rattle.fk_lower_text.specs.Laid.{codes_of, laid, CanBeLaid}
 use Rattle.fk_lower_text.proofs.Keeping.{one_left, item_laid}
 use Rattle.fk_lower_text.proofs.bodies.Bodies.of.Goals as goal

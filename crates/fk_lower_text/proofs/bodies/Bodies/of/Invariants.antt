@@ -1,8 +1,8 @@
 -- The blocks so far, and those of the items that are left, are those of the text.
 use Rattle.std.proofs.Common.{◌≡◌, ◌++◌, length, map, drop}
 use Rattle.fk_syntax.specs.ProgramView.{item_of}
-use Rattle.fk_forms.specs.Program.{functions_of}
-use Rattle.fk_walk_statements.specs.Texts.{functions_in}
+use Rattle.fk_meaning_forms.specs.Program.{functions_of}
+use Rattle.fk_layout_walk_statements.specs.Texts.{functions_in}
 use Rattle.fk_lower.specs.View.{part_of}
 use Rattle.fk_lower.specs.Lowered.{AreMeasured}
 use Rattle.fk_lower_text.specs.Laid.{codes_of, laid, CanBeLaid}

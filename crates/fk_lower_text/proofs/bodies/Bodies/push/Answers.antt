@@ -2,8 +2,8 @@ use Rattle.std.proofs.Common.{◌≡◌, ◌+◌, ◌++◌, [], ◌∷◌, ◌�
 use Rattle.std.specs.List.{count_by}
 use Rattle.std.proofs.lemmas.Result.{err_from_is_err_and}
 use Rattle.fk_syntax.specs.ProgramView.{function_of}
-use Rattle.fk_forms.specs.Code.{Code}
-use Rattle.fk_walk_statements.specs.Texts.{code_in}
+use Rattle.fk_meaning_forms.specs.Code.{Code}
+use Rattle.fk_layout_walk_statements.specs.Texts.{code_in}
 use Rattle.fk_lower.specs.Building.{Event, has_site, events_of}
 use Rattle.fk_lower.specs.BuilderView.{event_of}
 use Rattle.fk_lower_text.specs.Laid.{codes_of}

@@ -1,6 +1,6 @@
 -- Empty blocks behind those that there were.
 use Rattle.std.proofs.Common.{◌≡◌, ◌-◌, ◌≤◌, ◌++◌, length, map, replicate}
-use Rattle.fk_forms.specs.Code.{done}
+use Rattle.fk_meaning_forms.specs.Code.{done}
 use Rattle.fk_lower.specs.View.{part_of}
 use Rattle.fk_lower.specs.Lowered.{AreMeasured}
 use Rattle.fk_lower_text.specs.Laid.{codes_of}

@@ -4,8 +4,8 @@ use Rattle.std.proofs.Common.{◌≡◌, ◌+◌, ◌*◌, ◌++◌, map, drop}
 use Rattle.std.specs.Prelude.{max}
 use Rattle.fk_syntax.specs.Tree.{links_of, trees_of, suffixes_of}
 use Rattle.fk_syntax.specs.View.{tree_of, link_of, suffix_of}
-use Rattle.fk_class.specs.Things.{thing_in}
-use Rattle.fk_class.specs.Class.{is_chain_shared, is_postfix_shared}
+use Rattle.fk_sharing_class.specs.Things.{thing_in}
+use Rattle.fk_sharing_class.specs.Class.{is_chain_shared, is_postfix_shared}
 use Rattle.fk_sharing.specs.Tokens.{links_tokens, trees_tokens, suffixes_tokens}
 use Rattle.fk_sharing.specs.TokensView.{seen_in}
 use Rattle.fk_sharing.proofs.collect.Tokens.+expression.Given as goal

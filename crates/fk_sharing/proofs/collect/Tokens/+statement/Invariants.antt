@@ -2,7 +2,7 @@
 use Rattle.std.proofs.Common.{◌≡◌, ◌++◌, map, drop}
 use Rattle.fk_syntax.specs.Program.{statements_of}
 use Rattle.fk_syntax.specs.ProgramView.{statement_of}
-use Rattle.fk_class.specs.Things.{thing_in}
+use Rattle.fk_sharing_class.specs.Things.{thing_in}
 use Rattle.fk_sharing.specs.Tokens.{statements_tokens}
 use Rattle.fk_sharing.specs.Collected.{within}
 use Rattle.fk_sharing.specs.TokensView.{seen_in}

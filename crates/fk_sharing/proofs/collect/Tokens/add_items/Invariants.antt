@@ -1,7 +1,7 @@
 -- The tokens so far, and those of what is left, are those before and those of all.
 use Rattle.std.proofs.Common.{◌≡◌, ◌++◌, map, drop}
 use Rattle.fk_syntax.specs.ProgramView.{item_of}
-use Rattle.fk_class.specs.Things.{thing_in}
+use Rattle.fk_sharing_class.specs.Things.{thing_in}
 use Rattle.fk_sharing.specs.Tokens.{items_tokens}
 use Rattle.fk_sharing.specs.Collected.{within, outside}
 use Rattle.fk_sharing.specs.TokensView.{seen_in}

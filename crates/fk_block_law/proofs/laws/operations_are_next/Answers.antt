@@ -1,5 +1,0 @@
-use Rattle.fk_block_law.proofs.Standing.{operations_are_next}
-use Rattle.fk_block_law.proofs.laws.operations_are_next.Goals as goal
-
-pub returns : goal.returns
-returns c = operations_are_next

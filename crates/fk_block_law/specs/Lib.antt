@@ -1,7 +1,0 @@
-pub mod Owner
-pub mod Stands
-pub mod Next
-pub mod Ready
-pub mod Suits
-pub mod Block
-pub mod Lists

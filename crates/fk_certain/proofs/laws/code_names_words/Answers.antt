@@ -1,5 +1,0 @@
-use Rattle.fk_certain.proofs.Functions.{code_names_words}
-use Rattle.fk_certain.proofs.laws.code_names_words.Goals as goal
-
-pub returns : goal.returns
-returns c = code_names_words

@@ -1,5 +1,0 @@
-use Rattle.fk_certain.proofs.Lists.{correct_lists_have_frames}
-use Rattle.fk_certain.proofs.laws.correct_lists_have_frames.Goals as goal
-
-pub returns : goal.returns
-returns c = correct_lists_have_frames

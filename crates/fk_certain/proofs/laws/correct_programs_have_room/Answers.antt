@@ -1,5 +1,0 @@
-use Rattle.fk_certain.proofs.Room.{correct_programs_have_room}
-use Rattle.fk_certain.proofs.laws.correct_programs_have_room.Goals as goal
-
-pub returns : goal.returns
-returns c = correct_programs_have_room

@@ -1,5 +1,0 @@
-use Rattle.fk_certain.proofs.Suiting.{live_words_suit}
-use Rattle.fk_certain.proofs.laws.live_words_suit.Goals as goal
-
-pub returns : goal.returns
-returns c = live_words_suit

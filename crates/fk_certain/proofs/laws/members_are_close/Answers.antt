@@ -1,5 +1,0 @@
-use Rattle.fk_certain.proofs.Near.{all_near}
-use Rattle.fk_certain.proofs.laws.members_are_close.Goals as goal
-
-pub returns : goal.returns
-returns c = all_near

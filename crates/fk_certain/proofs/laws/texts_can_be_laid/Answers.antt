@@ -1,5 +1,0 @@
-use Rattle.fk_certain.proofs.Laid.{texts_can_be_laid}
-use Rattle.fk_certain.proofs.laws.texts_can_be_laid.Goals as goal
-
-pub returns : goal.returns
-returns c = texts_can_be_laid

@@ -1,5 +1,0 @@
-use Rattle.fk_certain.proofs.Values.{values_have_room}
-use Rattle.fk_certain.proofs.laws.values_have_room.Goals as goal
-
-pub returns : goal.returns
-returns c = values_have_room

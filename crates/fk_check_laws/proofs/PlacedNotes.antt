@@ -1,0 +1,112 @@
+-- What the notes of a valid program say of its tokens, and what is known of the tokens themselves.
+use Rattle.std.proofs.Common.{◌≡◌, inl, inr, ℕ, ◌<◌, ◌≤◌, true, List, [], ◌∷◌, length, Option, Some, slice_get, refl, sym, ap, subst, ◌∙◌, arith}
+use Rattle.std.proofs.lemmas.Bool.{cases_lt, false≢true}
+use Rattle.fk_syntax.specs.declared.facts.Facts.{Facts}
+use Rattle.fk_syntax.specs.declared.facts.Note.{Note}
+use Rattle.fk_syntax.specs.Program.{ProgramTree}
+use Rattle.fk_syntax.specs.Nodes.{items_indices}
+use Rattle.fk_check_rules.specs.declared.rule.Rule.{Rule}
+use Rattle.fk_sharing_class.specs.declared.thing.Thing.{Thing}
+use Rattle.fk_sharing_class.specs.Things.{Tells}
+use Rattle.fk_regions.specs.declared.around.Region.TheVariants.{Synchronous}
+use Rattle.fk_regions.specs.Around.{region}
+use Rattle.fk_regions.specs.Tokens as r
+use Rattle.fk_regions.specs.Broken.{IsSynchronous}
+use Rattle.fk_sharing.specs.declared.around.Holder as h
+use Rattle.fk_sharing.specs.Tokens as s
+use Rattle.fk_sharing.specs.Broken as sb
+use Rattle.fk_sharing.specs.Broken.{is_splitting, SplitsAt}
+use Rattle.fk_sharing.proofs.Lockstep.{splits-synchronous}
+use Rattle.fk_meaning_forms.specs.Tables.{Tables, no_note, note}
+use Rattle.fk_layout.specs.Layout.{tables_by}
+use Rattle.fk_types_rules.proofs.Counting.{times, node_times, contained, node-once, node-below}
+use Rattle.fk_check_laws.specs.Correct.{IsCorrect}
+use Rattle.fk_check_laws.proofs.Each.{Each, each, same_at}
+use Rattle.fk_check_laws.proofs.Notes.{nth_past, among, note_at, Theirs, Unmisplaced, unmisplaced}
+use Rattle.fk_check_laws.specs.Valid.{IsValid}
+use Rattle.fk_check_laws.proofs.RegionTokens as regions
+use Rattle.fk_check_laws.proofs.SharingTokens as sharing
+
+module _ (program : ProgramTree) (facts : Facts) (valid : IsValid program facts) where
+  abbrev pub tables : Tables
+  tables = tables_by program facts
+
+  abbrev pub correct : IsCorrect program facts
+  correct = record { well_formed = valid.well_formed; small = valid.small; known = valid.known }
+
+  sync_from : (at : ℕ) → at < program.tokens → IsSynchronous program at → (note tables at).sync ≡ true
+  sync_from at low h = let n = note_at program facts correct at low in ap (λ (m : Note). m.sync) n.is ∙ n.sync_is.1 h
+
+  pub splits_from : (at : ℕ) → (note tables at).splits ≡ true → SplitsAt program at
+  splits_from at is = elim (cases_lt at program.tokens) [
+    | inl low ↦ let n = note_at program facts correct at low in n.splits_is.0 (sym (ap (λ (m : Note). m.splits) n.is) ∙ is)
+    | inr past ↦ absurd (false≢true (sym (ap (λ (m : Note). m.splits) (nth_past no_note facts.notes.items at (omega (arith, past, many)))) ∙ is))
+  ]
+    where
+      many : length facts.notes.items ≡ program.tokens
+      many = valid.known.sharing.length ∙ valid.known.regions.length ∙ valid.known.types.known.tokens
+
+  sync_to : (at : ℕ) → (note tables at).sync ≡ true → IsSynchronous program at
+  sync_to at is = elim (cases_lt at program.tokens) [
+    | inl low ↦ let n = note_at program facts correct at low in n.sync_is.0 (sym (ap (λ (m : Note). m.sync) n.is) ∙ is)
+    | inr past ↦ absurd (false≢true (sym (ap (λ (m : Note). m.sync) (nth_past no_note facts.notes.items at (omega (arith, past, many)))) ∙ is))
+  ]
+    where
+      many : length facts.notes.items ≡ program.tokens
+      many = valid.known.sharing.length ∙ valid.known.regions.length ∙ valid.known.types.known.tokens
+
+  -- ---- the tokens by which regions are told
+
+  region_nodes : (at : ℕ) → times regions.place at (r.tokens program) ≤ node_times at (items_indices program.items)
+  region_nodes at = (regions.of_items ◌∷◌ [] program.items).count at
+
+  region_same : (i j : ℕ) (x y : Theirs program facts correct) → slice_get (r.tokens program) i ≡ Some x → slice_get (r.tokens program) j ≡ Some y → x.spot.at ≡ y.spot.at → x ≡ y
+  region_same i j x y is other same =
+      same_at regions.place (r.tokens program) (λ at. omega (arith, region_nodes at, node-once at (items_indices program.items) valid.well_formed.distinct)) i j x y is other same
+
+  region_low : (i : ℕ) (x : Theirs program facts correct) → slice_get (r.tokens program) i ≡ Some x → x.spot.at < program.tokens
+  region_low i x is = node-below program.tokens x.spot.at (items_indices program.items) valid.well_formed.below
+      (omega (arith, region_nodes x.spot.at, contained regions.place (r.tokens program) x (among (r.tokens program) i x is)))
+
+  -- it breaks no rule, and is noted where it stands
+  pub record IsRight (x : Theirs program facts correct) : Type 0 where
+    pub unbroken : Unmisplaced program facts correct x
+    pub sync : region x.around ≡ Synchronous → (note tables x.spot.at).sync ≡ true
+    pub alone : (note tables x.spot.at).splits ≡ true → region x.around ≡ Synchronous
+    pub agrees : (note tables x.spot.at).sync ≡ true → region x.around ≡ Synchronous
+
+  right : (i : ℕ) (x : Theirs program facts correct) → slice_get (r.tokens program) i ≡ Some x → IsRight x
+  right i x is = record {
+    unbroken = unmisplaced program facts correct i x is;
+    sync = λ e. sync_from x.spot.at (region_low i x is) (i, x, is, refl, e);
+    alone = λ e.
+        let h = splits-synchronous program x.spot.at (splits_from x.spot.at e) in
+        subst (λ (y : Theirs program facts correct). region y.around ≡ Synchronous) (region_same h.0 i h.1 x h.2 is h.3) h.4;
+    agrees = λ e.
+        let h = sync_to x.spot.at e in
+        subst (λ (y : Theirs program facts correct). region y.around ≡ Synchronous) (region_same h.0 i h.1 x h.2 is h.3) h.4;
+  }
+
+  pub all_right : Each IsRight (r.tokens program)
+  all_right = each IsRight (r.tokens program) right
+
+  -- ---- those by which sharing is told
+
+  abbrev pub Ours : Type 0
+  Ours = s.Standing (List h.Holder)
+
+  module _ (thing : ℕ → Option Thing) where
+    sharing_same : (i j : ℕ) (x y : Ours) → slice_get (s.tokens thing program) i ≡ Some x → slice_get (s.tokens thing program) j ≡ Some y → x.spot.at ≡ y.spot.at → x ≡ y
+    sharing_same i j x y is other same = same_at (sharing.place thing) (s.tokens thing program)
+        (λ at. omega (arith, (sharing.of_items thing ◌∷◌ [] program.items).count at, node-once at (items_indices program.items) valid.well_formed.distinct)) i j x y is other same
+
+    -- it breaks no rule, and is the only one at its token
+    pub record IsOurs (x : Ours) : Type 0 where
+      pub unbroken : Tells program thing → (rule : Rule) → sb.BreaksRule x.around x.word rule → ⊥
+      pub same : (i : ℕ) (y : Ours) → slice_get (s.tokens thing program) i ≡ Some y → y.spot.at ≡ x.spot.at → y ≡ x
+
+    pub all_ours : Each IsOurs (s.tokens thing program)
+    all_ours = each IsOurs (s.tokens thing program) (λ i x is. record {
+      unbroken = λ tells rule broken. valid.known.sharing.kept x.spot.place rule (thing, tells, i, x, is, refl, broken);
+      same = λ j y other e. sharing_same j i y x other is e;
+    })

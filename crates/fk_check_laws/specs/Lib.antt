@@ -1,0 +1,4 @@
+pub mod Correct
+pub mod Conditions
+pub mod Laws
+pub mod Valid

@@ -1,0 +1,105 @@
+-- What a text is: its tokens, its tree, what is known of it, and whether it is built.
+use Rattle.std.specs.Prelude.{◌≡◌, ◌≢◌, ℕ, false, List, Option, Some, None, All, Contains}
+use Rattle.fk_syntax.specs.declared.facts.Facts.{Facts}
+use Rattle.fk_syntax.specs.declared.place.Place.{Place}
+use Rattle.fk_syntax.specs.Program.{ItemTree, FunctionItem, ProgramTree}
+use Rattle.fk_lex.specs.Reading.{Spelled, Tokens}
+use Rattle.fk_parse_combinators.specs.declared.fault.SyntaxFault.{SyntaxFault}
+use Rattle.fk_parse.specs.Parses as parses
+use Rattle.fk_parse.specs.Refusals as refusals
+use Rattle.fk_check.specs.Rules.{Keeps, BreaksFirst}
+use Rattle.fk_check.specs.Known.{AreAllFacts}
+use Rattle.fk_layout_globals.specs.Constants.{told}
+use Rattle.fk_layout_globals.specs.Rows.{Row, rows}
+use Rattle.fk_layout.specs.declared.sites.LayoutFault.{LayoutFault}
+use Rattle.fk_layout.specs.declared.sites.LayoutFault.TheVariants as layout
+use Rattle.fk_layout.specs.Layout.{tables_by}
+use Rattle.fk_layout.specs.Refusal.{IsRefusal, Fits}
+use Rattle.fk_meaning_operation.specs.declared.operation.Operation.{Operation}
+use Rattle.fk_compile_text.specs.Built.{operations_of}
+use Rattle.fk_compile_text.specs.Plain.{is_plain, ArePlain}
+
+-- a text has tokens, and the tree is theirs
+pub record HasTree (source : List ℕ) (tree : ProgramTree) : Type 0 where
+  pub tokens : List Spelled
+  pub spelled : Tokens source tokens
+  pub derived : parses.SpellsProgram tokens tree
+
+-- a text has tokens, and for this fault they have no tree
+pub record HasSyntaxFault (source : List ℕ) (fault : SyntaxFault) : Type 0 where
+  pub tokens : List Spelled
+  pub spelled : Tokens source tokens
+  pub refused : refusals.RefusesTokens tokens fault
+
+-- a text has a tree, and of the forty rules it breaks the one of this number first, at this place
+pub record HasBrokenRule (source : List ℕ) (place : Place) (number : ℕ) : Type 0 where
+  pub tree : ProgramTree
+  pub parsed : HasTree source tree
+  pub broken : BreaksFirst tree place number
+
+-- a text has a tree, which keeps all rules, and this is known of it
+pub record IsChecked (source : List ℕ) (tree : ProgramTree) (facts : Facts) : Type 0 where
+  pub parsed : HasTree source tree
+  pub kept : Keeps tree
+  pub known : AreAllFacts tree facts
+
+-- a text has a tree, and it keeps all rules
+pub record KeepsRules (source : List ℕ) : Type 0 where
+  pub tree : ProgramTree
+  pub parsed : HasTree source tree
+  pub kept : Keeps tree
+
+-- a text keeps all rules, and nothing is too much of it for a layout
+pub record HasLayout (source : List ℕ) : Type 0 where
+  pub tree : ProgramTree
+  pub facts : Facts
+  pub checked : IsChecked source tree facts
+  pub fits : Fits (tables_by tree facts) tree.items
+
+-- or this is too much of it, as the layout tells it
+pub record HasTooMuch (source : List ℕ) (fault : LayoutFault) : Type 0 where
+  pub tree : ProgramTree
+  pub facts : Facts
+  pub checked : IsChecked source tree facts
+  pub refused : IsRefusal (tables_by tree facts) tree.items fault
+
+-- an item is a function of this name, which stands at this place
+abbrev pub IsFunctionAt : Place → List ℕ → ItemTree → Type 0
+IsFunctionAt place name (FunctionItem function) = (function.name.place ≡ place) × (function.name.bytes ≡ name)
+IsFunctionAt place name item = ⊥
+
+abbrev pub HasFunctionAt : List ItemTree → Place → List ℕ → Type 0
+HasFunctionAt items place name = (item : ItemTree) × Contains items item × IsFunctionAt place name item
+
+-- or a private frame of so many words is too large: the first such frame is that of a function of this name
+pub record HasLargeFrame (source name : List ℕ) (words : ℕ) : Type 0 where
+  pub tree : ProgramTree
+  pub facts : Facts
+  pub checked : IsChecked source tree facts
+  pub place : Place
+  pub refused : IsRefusal (tables_by tree facts) tree.items (layout.FrameTooLarge place words)
+  pub named : HasFunctionAt tree.items place name
+
+-- a text has a layout, and all its operations are built
+pub record IsBuilt (source : List ℕ) : Type 0 where
+  pub laid : HasLayout source
+  pub built : ArePlain (tables_by laid.tree laid.facts) laid.tree
+
+-- or one of them isn't
+pub record IsNotBuilt (source : List ℕ) : Type 0 where
+  pub laid : HasLayout source
+  pub operation : Operation
+  pub among : Contains (operations_of (tables_by laid.tree laid.facts) laid.tree) operation
+  pub unbuilt : is_plain operation ≡ false
+
+-- the one of these rows that has a name, and none where none has it
+abbrev pub IsRowOf : List Row → List ℕ → Option Row → Type 0
+IsRowOf all name (Some row) = Contains all row × (row.name ≡ name)
+IsRowOf all name None = All (λ (row : Row). row.name ≢ name) all
+
+-- a text has a layout and is built, and this is the row of a name among those of its layout,
+-- if there is one
+pub record HasGlobal (source name : List ℕ) (row : Option Row) : Type 0 where
+  pub laid : HasLayout source
+  pub built : ArePlain (tables_by laid.tree laid.facts) laid.tree
+  pub is : IsRowOf (rows (told laid.facts.notes.items laid.facts.kinds.items) laid.tree.items) name row

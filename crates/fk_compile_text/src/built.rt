@@ -1,0 +1,121 @@
+//! A text that is built, with all that is known of it.
+
+ghost use Rattle.std.specs.Prelude.{◌≡◌, ◌≤◌, ◌^◌, ℕ, List, IfErr, IfOk, OnOk, false, length, true, vec_len};
+ghost use Rattle.fk_syntax.specs.ProgramView.{program_of};
+ghost use Rattle.fk_syntax.specs.WellFormed.{IsWellFormed};
+ghost use Rattle.fk_layout_walk.specs.Known.{items_in, tables_of};
+ghost use Rattle.fk_layout.specs.Layout.{IsLayout, tables_by};
+ghost use Rattle.fk_layout.specs.Refusal.{Fits};
+ghost use Rattle.fk_compile_text.specs.Plain.{ArePlain};
+ghost use Rattle.fk_compile_text.specs.Refusal.{IsRefusedText};
+ghost use Rattle.fk_compile_text.specs.Text.{IsChecked, KeepsRules};
+
+use crate::building::are_built;
+use crate::laid::layout_of;
+use crate::refusal::Refusal;
+use crate::text::{Checked, checked_text};
+use fk_layout::Layout;
+use fk_layout_lookup::Lookup;
+use fk_syntax::{Facts, Program};
+use fk_layout_walk::Known;
+use std::alloc::Global;
+
+/// A text that keeps all rules, what is known of it, and where all that it has lies.
+#[derive(Drop)]
+pub struct Built<'a> {
+    pub tree: Program<'a>,
+    pub facts: Facts,
+    pub layout: Layout<'a>,
+}
+
+/// What is known of a text of which nothing is looked up yet.
+pub fn known_of<'p, 'a>(
+    tree: &'p Program<'a>,
+    facts: &'p Facts,
+    layout: &'p Layout<'a>,
+) -> Known<'p, 'a>
+    requires { IsLayout (program_of tree.now) facts.now layout.now }
+    ensures tables { tables_of result ≡ tables_by (program_of tree.now) facts.now }
+    ensures items { items_in result ≡ (program_of tree.now).items }
+{
+    Known {
+        notes: &facts.notes,
+        kinds: &facts.kinds,
+        slots: &layout.slots,
+        regions: &layout.regions,
+        items: &tree.items,
+        callees: &[],
+        framed: &[],
+    }
+}
+
+// What a text that has a layout is told, by whether it is built.
+fn told_by(is_built: bool) -> Result<(), Refusal>
+    ensures built { OnOk result (is_built ≡ true) }
+    ensures not_built { IfErr result (λ refusal. (is_built ≡ false) × (refusal ≡ Refusal.NotBuilt)) }
+{
+    if is_built {
+        Ok(())
+    } else {
+        Err(Refusal::NotBuilt)
+    }
+}
+
+// That a text that has a layout is built.
+fn test_built<'p, 'a>(
+    alloc: Global,
+    text: &'p Checked<'a>,
+    layout: &'p Layout<'a>,
+) -> Result<(), Refusal>
+    requires { IsLayout (program_of text.now.tree) text.now.facts layout.now }
+    ensures built { OnOk result (ArePlain (tables_by (program_of text.now.tree) text.now.facts)
+        (program_of text.now.tree)) }
+    ensures refused { IfErr result (λ refusal. (source : List ℕ) → length source ≤ 1048576
+        → IsChecked source (program_of text.now.tree) text.now.facts
+        → Fits (tables_by (program_of text.now.tree) text.now.facts) (program_of text.now.tree).items
+        → IsRefusedText source refusal) }
+{
+    let known = known_of(&text.tree, &text.facts, layout);
+    let lookup = Lookup::of(alloc, &known).map_err(Refusal::Memory)?;
+    told_by(are_built(&lookup.complete(known)))
+}
+
+/// The tree of a text that keeps all rules and whose operations are all built, its facts and its
+/// layout. It takes time and memory linear in the text and the words of its shared variables.
+///
+/// # Errors
+/// `SourceTooLong` for a text of more than 1,048,576 bytes; `BadByte`, `OpenComment`, `OpenString` or
+/// `WideNumber` for one that has no tokens, by the fault at the least place; `Unexpected`, `EndOfText`
+/// or `Nesting` for one whose tokens have no tree by the grammar of Fork95, by the first token that fits
+/// nowhere, by the end, or by the first token that opens level 129; `Rule` for one that breaks a rule of
+/// the language, by the first rule. One that keeps all rules is refused by the first of these:
+/// `TooManySites`, with their number, where it has more than 16,000 operations; `FrameTooLarge`, with
+/// the name of the first such function and its words, where a private frame has more than 64 words;
+/// `GlobalsTooLarge`, with their number, where its shared variables of file scope have more than
+/// 524,288 words; `NotBuilt` where it has a layout, and an operation that isn't built. `Memory` where
+/// memory is refused, which no clause can say.
+pub fn built_text<'a>(alloc: Global, source: &'a [u8]) -> Result<Built<'a>, Refusal>
+    ensures checked { IfOk result (λ text. IsChecked source.now (program_of text.tree) text.facts) }
+    ensures laid { IfOk result (λ text. IsLayout (program_of text.tree) text.facts text.layout) }
+    ensures fits { IfOk result (λ text. Fits (tables_by (program_of text.tree) text.facts)
+        (program_of text.tree).items) }
+    ensures built { IfOk result (λ text. ArePlain (tables_by (program_of text.tree) text.facts)
+        (program_of text.tree)) }
+    ensures well_formed { IfOk result (λ text. IsWellFormed (program_of text.tree)) }
+    // A token takes a byte at least.
+    ensures small { IfOk result (λ text. text.tree.tokens ≤ 2 ^ 20) }
+    // An item takes two tokens at least.
+    ensures few { IfOk result (λ text. vec_len text.tree.items ≤ 524288) }
+    ensures kept { OnOk result (KeepsRules source.now) }
+    ensures short { OnOk result (length source.now ≤ 1048576) }
+    ensures refused { IfErr result (IsRefusedText source.now) }
+{
+    let text = checked_text(alloc, source)?;
+    let layout = layout_of(alloc, &text)?;
+    test_built(alloc, &text, &layout)?;
+    Ok(Built {
+        tree: text.tree,
+        facts: text.facts,
+        layout,
+    })
+}

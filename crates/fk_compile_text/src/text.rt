@@ -1,0 +1,109 @@
+//! The tree of a text, and what is known of one that keeps the rules.
+
+ghost use Rattle.std.specs.Prelude.{◌≡◌, ◌↔◌, ◌≤◌, ◌<◌, ◌^◌, ℕ, List, IfOk, IfErr, OnOk, length, vec_len};
+ghost use Rattle.fk_lex.specs.View.{IsFault};
+ghost use Rattle.fk_syntax.specs.declared.place.Place.{Place};
+ghost use Rattle.fk_syntax.specs.ProgramView.{program_of};
+ghost use Rattle.fk_syntax.specs.WellFormed.{IsWellFormed};
+ghost use Rattle.fk_compile_text.specs.Refusal.{IsRefusedText};
+ghost use Rattle.fk_compile_text.specs.Text.{HasBrokenRule, HasTree, HasSyntaxFault, IsChecked};
+
+use crate::refusal::Refusal;
+use fk_check::checked;
+use fk_lex::lex::lex;
+use fk_lex::token::LexFault;
+use fk_parse::{SyntaxFault, parse};
+use fk_syntax::{CheckFault, Facts, Program as Tree};
+use std::alloc::{AllocError, Global};
+
+/// How many bytes a text may have.
+const MOST_BYTES: usize = 1_048_576;
+
+// That a text isn't too long.
+fn test_length(source: &[u8]) -> Result<(), Refusal>
+    ensures short { OnOk result (length source.now ≤ 1048576) }
+    ensures long { IfErr result (λ refusal. (1048576 < length source.now) × (refusal ≡ Refusal.SourceTooLong (length source.now))) }
+{
+    if source.len() > MOST_BYTES {
+        Err(Refusal::SourceTooLong(source.len() as u64))
+    } else {
+        Ok(())
+    }
+}
+
+/// The tree of a text, or why it has none.
+pub(crate) fn tree_of<'a>(alloc: Global, source: &'a [u8]) -> Result<Tree<'a>, Refusal>
+    ensures tree { IfOk result (λ tree. HasTree source.now (program_of tree)) }
+    ensures well_formed { IfOk result (λ tree. IsWellFormed (program_of tree)) }
+    // A token takes a byte at least, and an item two tokens.
+    ensures small { IfOk result (λ tree. tree.tokens ≤ 2 ^ 20) }
+    ensures few { IfOk result (λ tree. vec_len tree.items ≤ 524288) }
+    ensures short { OnOk result (length source.now ≤ 1048576) }
+    ensures refused { IfErr result (IsRefusedText source.now) }
+{
+    test_length(source)?;
+    let tokens = lex(alloc, source).map_err(lexical)?;
+    let tree = parse(alloc, tokens.as_slice()).map_err(syntactic)?;
+    Ok(tree)
+}
+
+/// The tree of a text that keeps all rules, and what is known of it.
+#[derive(Drop)]
+pub(crate) struct Checked<'a> {
+    pub(crate) tree: Tree<'a>,
+    pub(crate) facts: Facts,
+}
+
+/// The tree of a text that keeps all rules, with its facts; or why it has none or breaks one.
+pub(crate) fn checked_text<'a>(alloc: Global, source: &'a [u8]) -> Result<Checked<'a>, Refusal>
+    ensures checked { IfOk result (λ text. IsChecked source.now (program_of text.tree) text.facts) }
+    ensures well_formed { IfOk result (λ text. IsWellFormed (program_of text.tree)) }
+    ensures small { IfOk result (λ text. text.tree.tokens ≤ 2 ^ 20) }
+    // An item takes two tokens at least.
+    ensures few { IfOk result (λ text. vec_len text.tree.items ≤ 524288) }
+    ensures short { OnOk result (length source.now ≤ 1048576) }
+    ensures refused { IfErr result (IsRefusedText source.now) }
+{
+    let tree = tree_of(alloc, source)?;
+    let facts = checked(alloc, &tree).map_err(broken)?;
+    Ok(Checked { tree, facts })
+}
+
+// The refusal of a text by its lexical fault.
+fn lexical(fault: LexFault) -> Refusal
+    ensures memory { (e : AllocError) → (result ≡ Refusal.Memory e) ↔ (fault ≡ LexFault.Memory e) }
+    ensures refused { (source : List ℕ) → length source ≤ 1048576 → IsFault source fault → IsRefusedText source result }
+{
+    match fault {
+        LexFault::BadByte(place) => Refusal::BadByte(place),
+        LexFault::OpenComment(place) => Refusal::OpenComment(place),
+        LexFault::OpenString(place) => Refusal::OpenString(place),
+        LexFault::WideNumber(place) => Refusal::WideNumber(place),
+        LexFault::Memory(error) => Refusal::Memory(error),
+    }
+}
+
+// The refusal of a text by the fault of its tokens.
+fn syntactic(fault: SyntaxFault) -> Refusal
+    ensures memory { (e : AllocError) → (result ≡ Refusal.Memory e) ↔ (fault ≡ SyntaxFault.Memory e) }
+    ensures refused { (source : List ℕ) → length source ≤ 1048576 → HasSyntaxFault source fault → IsRefusedText source result }
+{
+    match fault {
+        SyntaxFault::Unexpected(place) => Refusal::Unexpected(place),
+        SyntaxFault::EndOfText => Refusal::EndOfText,
+        SyntaxFault::Nesting(place) => Refusal::Nesting(place),
+        SyntaxFault::Memory(error) => Refusal::Memory(error),
+    }
+}
+
+// The refusal of a text by the rule that it breaks.
+fn broken(fault: CheckFault) -> Refusal
+    ensures memory { (e : AllocError) → (result ≡ Refusal.Memory e) ↔ (fault ≡ CheckFault.Memory) }
+    ensures refused { (source : List ℕ) → length source ≤ 1048576
+        → ((place : Place) (number : ℕ) → fault ≡ CheckFault.Rule place number → HasBrokenRule source place number) → IsRefusedText source result }
+{
+    match fault {
+        CheckFault::Rule(place, number) => Refusal::Rule(place, number),
+        CheckFault::Memory => Refusal::Memory(AllocError),
+    }
+}

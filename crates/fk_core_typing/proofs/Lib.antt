@@ -1,0 +1,22 @@
+mod DepthValues
+mod DepthSteps
+pub mod DepthRuns
+pub mod Asked
+mod AddressValues
+mod AddressSteps
+mod AddressRuns
+pub mod Enough
+pub mod Granting
+pub mod Examples
+pub mod Done
+pub mod System
+mod Marks
+pub mod Rising
+pub mod Standing
+pub mod Sound
+pub mod Listed
+pub mod Valued
+pub mod LeadingWithin
+pub mod Knowing
+pub mod Depths
+mod ListExample

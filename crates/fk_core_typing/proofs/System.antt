@@ -1,0 +1,64 @@
+-- What is known along code, whatever it is: states, and how operations and calls change them.
+use Rattle.std.proofs.Common.{◌≡◌, ℕ, ◌+◌, ◌-◌, Bool, true, false, Option, None, Some}
+use Rattle.fk_meaning_operation.specs.declared.operation.Operation.{Operation}
+use Rattle.fk_layout_sizes.specs.Operations.{takes}
+use Rattle.fk_meaning_forms.specs.Code.{Code, done, perform, choose, while, until, quit, break, continue, call, ends}
+use Rattle.fk_core_liveness.specs.declared.places.Place.{Place}
+use Rattle.fk_core_typing.specs.Heights.{raised, results_of}
+
+pub record System : Type 1 where
+  pub State : Type 0
+  -- what is asked in a state is so in another
+  pub Grants : State → State → Type 0
+  -- an operation may be done, or ends its function
+  pub May : Operation → State → Type 0
+  pub Ends : Operation → State → Type 0
+  pub behind : Operation → (onward : Bool) → State → State
+  -- a call of a function, with a result or none: where the function begins, and behind the call
+  pub Calls : Operation → (f : ℕ) → (gives : Bool) → (opening : Code ℕ) → Type 0
+  pub begin : Operation → (f : ℕ) → (gives : Bool) → State
+  pub behind_call : Operation → (gives : Bool) → State → State
+  -- where the code of a function begins
+  pub first : (f : ℕ) → State
+  -- how many values there are
+  pub height : State → ℕ
+
+module _ (y : System) where
+  abbrev pub GrantsLoop : Option y.State → y.State → Type 0
+  GrantsLoop None s = ⊥
+  GrantsLoop (Some round) s = y.Grants s round
+
+  -- code that is as such states ask it: `Typed` is so, with what is known of values
+  abbrev pub Judged : Option y.State → y.State → Code ℕ → y.State → Type 0
+  Judged l s done e = y.Grants s e
+  Judged l s (perform n op rest) e = y.May op s × Judged l (y.behind op true s) rest e
+  Judged l s (choose n op x z rest) e =
+      y.May op s × (together : y.State)
+      × Judged l (y.behind op true s) x together × Judged l (y.behind op false s) z together × Judged l together rest e
+  Judged l s (while test body step rest) e =
+      (round : y.State) × y.Grants s round
+      × Judged (Some round) round test round × Judged (Some round) round body round × Judged (Some round) round step round
+      × Judged l round rest e
+  Judged l s (until body test rest) e =
+      (round : y.State) × y.Grants s round
+      × Judged (Some round) round body round × Judged (Some round) round test round × Judged l round rest e
+  Judged l s (quit n op rest) e = y.May op s × GrantsLoop l (y.behind op false s) × Judged l (y.behind op true s) rest e
+  Judged l s (break rest) e = GrantsLoop l s × Judged l s rest e
+  Judged l s (continue rest) e = GrantsLoop l s × Judged l s rest e
+  Judged l s (call n op f opening rest) e =
+      y.May op s × (gives : Bool) × y.Calls op f gives opening
+      × Judged None (y.begin op f gives) opening (y.begin op f gives) × Judged l (y.behind_call op gives s) rest e
+  Judged l s (ends n op rest) e = y.May op s × y.Ends op s × Judged l (y.behind op true s) rest e
+  Judged l s code e = ⊥
+
+  -- what is so of states
+  pub record IsLawful (place_of : ℕ → Place) : Type 0 where
+    pub itself : (s : y.State) → y.Grants s s
+    pub both : (s t u : y.State) → y.Grants s t → y.Grants t u → y.Grants s u
+    pub enters : (op : Operation) (f : ℕ) (gives : Bool) (opening : Code ℕ) → y.Calls op f gives opening → y.Grants (y.begin op f gives) (y.first f)
+    pub rises : (op : Operation) (onward : Bool) (s : y.State) → y.height (y.behind op onward s) ≡ raised (y.height s) op onward
+    pub level : (s t : y.State) → y.Grants s t → y.height s ≡ y.height t
+    pub called : (op : Operation) (f : ℕ) (gives : Bool) (opening : Code ℕ) (s : y.State) → y.Calls op f gives opening
+        → y.height s - takes op + results_of (place_of f) ≡ y.height (y.behind_call op gives s)
+    pub nought : (op : Operation) (f : ℕ) (gives : Bool) → y.height (y.begin op f gives) ≡ 0
+    pub none : (f : ℕ) → y.height (y.first f) ≡ 0

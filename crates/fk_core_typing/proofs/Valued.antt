@@ -1,0 +1,84 @@
+-- What is known of values, as such a system.
+use Rattle.std.proofs.Common.{◌≡◌, ℕ, true, false, List, length, Option, None, Some, inl, inr, refl, sym, ◌∙◌, subst}
+use Rattle.std.specs.Prelude.{◌⊎◌}
+use Rattle.fk_meaning_operation.specs.declared.operation.Operation.{Operation}
+use Rattle.fk_meaning_operation.specs.declared.operation.Operation.TheVariants as o
+use Rattle.fk_layout_sizes.specs.Operations.{takes}
+use Rattle.fk_meaning_forms.specs.Code.{Code, done, perform, choose, while, until, turn, again, quit, break, continue, call, ends}
+use Rattle.fk_core_liveness.specs.declared.places.Place.{Place}
+use Rattle.fk_core_liveness.specs.declared.places.Place.TheVariants.{Main, Called}
+use Rattle.fk_core.specs.declared.op.CoreOp.{CoreOp}
+use Rattle.fk_core_flat.specs.Items as w
+use Rattle.fk_core_flat.specs.Items.{Way, way_of}
+use Rattle.fk_core_typing.specs.Values.{State, bare, behind, behind_call, May, Grants}
+use Rattle.fk_core_typing.specs.Typed as t
+use Rattle.fk_core_typing.specs.Typed.{EndsIn, Typed}
+use Rattle.fk_core_typing.specs.Laws.{IsTypedList}
+use Rattle.fk_core_typing.proofs.Granting.{as_long, grants_itself, grants_both}
+use Rattle.fk_core_typing.proofs.System.{System, GrantsLoop, Judged, IsLawful}
+use Rattle.fk_core_typing.proofs.Rising.{rises, called_rises}
+use Rattle.fk_core_typing.proofs.Listed.{state}
+
+-- what has one way goes on alike
+pub same_ways : (op : Operation) (s : State) (way : Way) → way_of op ≡ way → (way ≡ w.straight) ⊎ (way ≡ w.onto) → behind op false s ≡ behind op true s
+same_ways (o.Divide by) s way e (inl f) = let g : w.either ≡ w.straight = e ∙ f in absurd (cc)
+same_ways (o.Divide by) s way e (inr f) = let g : w.either ≡ w.onto = e ∙ f in absurd (cc)
+same_ways op s way e f = refl
+
+module _ (place_of : ℕ → Place) where
+  abbrev pub values : System
+  values = record {
+    State = State;
+    Grants = Grants;
+    May = May;
+    Ends = λ op s. EndsIn op s.place;
+    behind = behind;
+    Calls = λ op f gives opening. place_of f ≡ Called gives;
+    begin = λ op f gives. bare (Called gives);
+    behind_call = λ op gives s. behind_call (takes op) gives s;
+    first = λ f. bare (place_of f);
+    height = λ s. length s.values;
+  }
+
+  pub values_lawful : IsLawful values place_of
+  values_lawful = record {
+    itself = grants_itself;
+    both = grants_both;
+    enters = λ op f gives opening e. subst (λ p. Grants (bare (Called gives)) (bare p)) (sym e) (grants_itself (bare (Called gives)));
+    rises = rises;
+    level = λ s t g. as_long s.values t.values g.values;
+    called = λ op f gives opening s e. called_rises place_of op f gives s e;
+    nought = λ op f gives. refl;
+    none = λ f. refl;
+  }
+
+  looped : (l : Option State) (s : State) → t.GrantsLoop l s → GrantsLoop values l s
+  looped None s g = absurd g
+  looped (Some round) s g = g
+
+  pub judged : (code : Code ℕ) (l : Option State) (s e : State) → Typed place_of l s code e → Judged values l s code e
+  judged done l s e h = h
+  judged (perform n op rest) l s e h = (h.0, judged rest l (behind op true s) e h.1)
+  judged (choose n op x y rest) l s e h =
+      (h.0, h.1, judged x l (behind op true s) h.1 h.2, judged y l (behind op false s) h.1 h.3, judged rest l h.1 e h.4)
+  judged (while test body step rest) l s e h =
+      let b = h.0 in
+      (b, h.1, judged test (Some b) b b h.2, judged body (Some b) b b h.3, judged step (Some b) b b h.4, judged rest l b e h.5)
+  judged (until body test rest) l s e h =
+      let b = h.0 in (b, h.1, judged body (Some b) b b h.2, judged test (Some b) b b h.3, judged rest l b e h.4)
+  judged (turn test body step rest) l s e h = absurd h
+  judged (again test body step rest) l s e h = absurd h
+  judged (quit n op rest) l s e h = (h.0, looped l (behind op false s) h.1, judged rest l (behind op true s) e h.2)
+  judged (break rest) l s e h = (looped l s h.0, judged rest l s e h.1)
+  judged (continue rest) l s e h = (looped l s h.0, judged rest l s e h.1)
+  judged (call n op f opening rest) l s e h =
+      (h.0, h.1, h.2, judged opening None (bare (Called h.1)) (bare (Called h.1)) h.3, judged rest l (behind_call (takes op) h.1 s) e h.4)
+  judged (ends n op rest) l s e h = (h.0, h.1, judged rest l (behind op true s) e h.2)
+
+-- those of a flat list
+module _ (bodies : ℕ → Code ℕ) (core : List CoreOp) (entry : ℕ → ℕ) (place_of : ℕ → Place) (typed : IsTypedList bodies core entry place_of) where
+  pub all_judged : (f : ℕ) → (end : State) × Judged (values place_of) None (bare (place_of f)) (bodies f) end
+  all_judged f = ((typed.typed f).0, judged place_of (bodies f) None (bare (place_of f)) (typed.typed f).0 (typed.typed f).1)
+
+  abbrev pub at : ℕ → State
+  at = state bodies core entry place_of typed (values place_of) (values_lawful place_of) all_judged (bare Main)

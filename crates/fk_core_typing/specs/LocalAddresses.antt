@@ -1,0 +1,84 @@
+-- Knowledge of addresses, told by each operation and those that follow it.
+use Rattle.std.specs.Prelude.{◌≡◌, ℕ, suc, Bool, true, false, List, [], length, Option, slice_get, Some}
+use Rattle.fk_meaning_operation.specs.declared.operation.Operation.{Operation}
+use Rattle.fk_meaning_operation.specs.declared.operation.Operation.TheVariants.{Enter, Leave, Halt, Read, Write, Combine}
+use Rattle.fk_core.specs.declared.op.CoreOp.{CoreOp}
+use Rattle.fk_core.specs.Numbers.{operation_of}
+use Rattle.fk_core.specs.Next.{is_jump, behind_jump, follows}
+use Rattle.fk_sim_block.specs.Lists.{AlwaysMay}
+use Rattle.fk_core_liveness.specs.declared.places.Place.{Place}
+use Rattle.fk_core_liveness.specs.declared.places.Place.TheVariants.{Main, Called}
+use Rattle.fk_core_typing.specs.declared.change.Change.{Change}
+use Rattle.fk_core_typing.specs.declared.constants.Constants.{Constants}
+use Rattle.fk_core_typing.specs.AddressValues.{after, change, called, unchanged, no_constants, constants_behind}
+
+-- a constant that is known is so elsewhere
+abbrev pub IsSameIn : (here elsewhere : Option ℕ) → Type 0
+IsSameIn here elsewhere = (n : ℕ) → here ≡ Some n → elsewhere ≡ Some n
+
+pub record AreSameIn (here elsewhere : Constants) : Type 0 where
+  pub last : IsSameIn here.last elsewhere.last
+  pub second : IsSameIn here.second elsewhere.second
+
+-- the function in which each index lies, which values of its call are addresses that may be used, or by a multiprefix too, and
+-- which constants the last ones are
+module _ (core : List CoreOp) (within : (index : ℕ) → Place) (known : (shared_alone : Bool) (index value : ℕ) → Bool)
+    (constants : (index : ℕ) → Constants) where
+  -- from an index the call goes on at another: what is known there is so behind the change
+  pub record Leads (changes : (shared_alone : Bool) → Change) (behind : Constants) (i j : ℕ) : Type 0 where
+    pub inside : within j ≡ within i
+    pub is_known : (shared_alone : Bool) (value : ℕ) → known shared_alone j value ≡ true
+        → after (changes shared_alone) (known shared_alone i) value ≡ true
+    pub same : AreSameIn (constants j) behind
+
+  pub record KnowsNothing (i : ℕ) : Type 0 where
+    pub addresses : (shared_alone : Bool) (value : ℕ) → known shared_alone i value ≡ false
+    pub same : AreSameIn (constants i) no_constants
+
+  -- a call, which begins at the next index and goes on behind the jump to its function
+  pub record Calls (arguments i : ℕ) : Type 0 where
+    pub gives : Bool
+    pub inside : within (suc i) ≡ Called gives
+    pub begins : KnowsNothing (suc i)
+    pub back : Leads (λ shared_alone. called arguments gives) no_constants i (behind_jump core (suc i))
+
+  abbrev pub GoesOn : Operation → (i target : ℕ) → Type 0
+  GoesOn (Enter arguments) i target = Calls arguments i
+  GoesOn (Leave gives framed) i target = within i ≡ Called gives
+  GoesOn Halt i target = within i ≡ Main
+  GoesOn operation i target =
+      (onward : Bool)
+      → Leads (λ shared_alone. change shared_alone operation onward (known shared_alone i 0) (constants i))
+      (constants_behind operation (constants i)) i (follows core operation i target [] onward).at
+
+  -- the values that an operation uses as addresses
+  abbrev pub Asks : Operation → (i : ℕ) → Type 0
+  Asks Read i = known false i 0 ≡ true
+  Asks Write i = known false i 1 ≡ true
+  Asks (Combine operator) i = known true i 1 ≡ true
+  Asks operation i = Unit {0}
+
+  pub record Fits (i target : ℕ) (operation : Operation) : Type 0 where
+    pub asks : Asks operation i
+    pub goes_on : GoesOn operation i target
+
+  -- an index in `main` with nothing known
+  pub record IsBare (i : ℕ) : Type 0 where
+    pub inside : within i ≡ Main
+    pub nothing : KnowsNothing i
+
+-- knowledge of a list, which has none where `main` begins and at its end
+pub record HasKnowledge (core : List CoreOp) (main : ℕ) : Type 0 where
+  pub within : (index : ℕ) → Place
+  pub known : (shared_alone : Bool) (index value : ℕ) → Bool
+  pub constants : (index : ℕ) → Constants
+  pub begins : IsBare core within known constants main
+  pub ends : IsBare core within known constants (length core)
+  pub jumps : (i : ℕ) (op : CoreOp) → slice_get core i ≡ Some op → is_jump op ≡ true
+      → Leads core within known constants (λ shared_alone. unchanged) (constants i) i op.target
+  pub fits : (i : ℕ) (op : CoreOp) (operation : Operation) → slice_get core i ≡ Some op
+      → operation_of op.kind op.number ≡ Some operation → Fits core within known constants i op.target operation
+
+-- it is enough for each address that is used
+abbrev pub KnowledgeIsEnough : Type 0
+KnowledgeIsEnough = (core : List CoreOp) (main : ℕ) → HasKnowledge core main → AlwaysMay core main

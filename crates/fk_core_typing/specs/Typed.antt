@@ -1,0 +1,56 @@
+-- Well typed code, told from its beginning on.
+--
+-- A loop begins, goes on and ends with the values that it began with, whatever it does in between. Both ways of a choice come
+-- together with the same values. A call takes its arguments, and gives a result or none. The code behind a `break`, a
+-- `continue` or an end of the function is never reached. It is typed as if what stands before it fell into it.
+use Rattle.std.specs.Prelude.{◌≡◌, ℕ, Bool, true, false, Option, Some, None}
+use Rattle.fk_meaning_operation.specs.declared.operation.Operation.{Operation}
+use Rattle.fk_meaning_operation.specs.declared.operation.Operation.TheVariants.{Leave, Halt}
+use Rattle.fk_layout_sizes.specs.Operations.{takes}
+use Rattle.fk_meaning_forms.specs.Code.{Code, done, perform, choose, while, until, quit, break, continue, call, ends}
+use Rattle.fk_core_liveness.specs.declared.places.Place.{Place}
+use Rattle.fk_core_liveness.specs.declared.places.Place.TheVariants.{Main, Called}
+use Rattle.fk_core_typing.specs.Values.{State, bare, behind, behind_call, May, Grants}
+
+-- the loop round a place: the state in which it begins, goes on and ends; or there is none
+abbrev pub GrantsLoop : (loop : Option State) → State → Type 0
+GrantsLoop None s = ⊥
+GrantsLoop (Some turn) s = Grants s turn
+
+-- `main` halts, and a function that is called leaves with its result or without
+abbrev pub EndsIn : Operation → Place → Type 0
+EndsIn (Leave gives framed) place = place ≡ Called gives
+EndsIn Halt place = place ≡ Main
+EndsIn operation place = ⊥
+
+-- whether the function of a binding is `main`, and whether it gives a value
+module _ (place_of : (binding : ℕ) → Place) where
+  -- code that begins in a state, and behind which another one is asked
+  abbrev pub Typed : (loop : Option State) → State → Code ℕ → (asked : State) → Type 0
+  Typed l s done e = Grants s e
+  Typed l s (perform n op rest) e = May op s × Typed l (behind op true s) rest e
+  Typed l s (choose n op x y rest) e =
+      May op s × (together : State)
+      × Typed l (behind op true s) x together × Typed l (behind op false s) y together × Typed l together rest e
+  Typed l s (while test body step rest) e =
+      (turn : State) × Grants s turn
+      × Typed (Some turn) turn test turn × Typed (Some turn) turn body turn × Typed (Some turn) turn step turn
+      × Typed l turn rest e
+  Typed l s (until body test rest) e =
+      (turn : State) × Grants s turn
+      × Typed (Some turn) turn body turn × Typed (Some turn) turn test turn × Typed l turn rest e
+  Typed l s (quit n op rest) e = May op s × GrantsLoop l (behind op false s) × Typed l (behind op true s) rest e
+  Typed l s (break rest) e = GrantsLoop l s × Typed l s rest e
+  Typed l s (continue rest) e = GrantsLoop l s × Typed l s rest e
+  Typed l s (call n op f opening rest) e =
+      May op s × (gives : Bool) × (place_of f ≡ Called gives)
+      × Typed None (bare (Called gives)) opening (bare (Called gives)) × Typed l (behind_call (takes op) gives s) rest e
+  Typed l s (ends n op rest) e = May op s × EndsIn op s.place × Typed l (behind op true s) rest e
+  Typed l s code e = ⊥
+
+  -- the code of a function begins with no values
+  abbrev pub IsTyped : (binding : ℕ) → Code ℕ → Type 0
+  IsTyped binding code = (end : State) × Typed None (bare (place_of binding)) code end
+
+  abbrev pub AreTyped : (bodies : (binding : ℕ) → Code ℕ) → Type 0
+  AreTyped bodies = (binding : ℕ) → IsTyped binding (bodies binding)

@@ -1,0 +1,101 @@
+-- What is known of the values of a call at a place in code, and what an operation makes of it.
+use Rattle.std.specs.Prelude.{◌≡◌, ℕ, ◌≤◌, Bool, true, false, not, List, [], ◌∷◌, ◌++◌, length, drop, replicate, Option, Some, None, if◌then◌else◌}
+use Rattle.fk_num.specs.Word.{word}
+use Rattle.fk_meaning_operation.specs.declared.operation.Operation.{Operation}
+use Rattle.fk_meaning_operation.specs.declared.operation.Operation.TheVariants.{Push, CopyLast, Join, Check, Read, Write, Combine, Agree}
+use Rattle.fk_meaning_store.specs.Serve.{may_use}
+use Rattle.fk_layout_sizes.specs.Operations.{takes}
+use Rattle.fk_core_typing.specs.LocalDepths.{results, needs, leaves}
+use Rattle.fk_sim_block.specs.Suits.{looks_at}
+use Rattle.fk_core_liveness.specs.declared.places.Place.{Place}
+use Rattle.fk_core_typing.specs.declared.constants.Constants.{Constants}
+use Rattle.fk_core_typing.specs.AddressValues.{no_constants, joined_constant, constants_behind}
+use Rattle.fk_core_typing.specs.LocalAddresses.{AreSameIn}
+
+-- of a value nothing is known; or that it is an address that reads and writes may use; or one that a multiprefix may use too
+pub data Value : Type 0 where
+  Unknown : Value
+  Usable : Value
+  Shared : Value
+
+-- whether it is known to be an address that may be used, with `shared_alone` by a multiprefix
+abbrev pub is_known : (shared_alone : Bool) → Value → Bool
+is_known shared_alone Unknown = false
+is_known shared_alone Usable = not shared_alone
+is_known shared_alone Shared = true
+
+-- what is known of a number, of a constant that may be known, and of a value that a check has passed
+abbrev pub of_number : ℕ → Value
+of_number n = if may_use true n then Shared else if may_use false n then Usable else Unknown
+
+abbrev pub of_constant : Option ℕ → Value
+of_constant None = Unknown
+of_constant (Some n) = of_number n
+
+abbrev pub checked : (shared_alone : Bool) → Value → Value
+checked true v = Shared
+checked false Shared = Shared
+checked false v = Usable
+
+-- a place in code: in `main`, or in a function that is called; the values of the running call, the last one first; and the
+-- constants that the two last ones are, where they are known
+pub record State : Type 0 where
+  pub place : Place
+  pub values : List Value
+  pub constants : Constants
+
+-- where a function begins: there are no values
+abbrev pub bare : Place → State
+bare place = record { place = place; values = []; constants = no_constants }
+
+-- so many values are taken, and so many pushed of which nothing is known
+abbrev pub changed : (takes leaves : ℕ) → List Value → List Value
+changed takes leaves vs = replicate leaves Unknown ++ drop takes vs
+
+-- the values behind an operation, on the way on which it goes on. What a group agrees on may be another member's value
+abbrev pub values_behind : Operation → (onward : Bool) → Constants → List Value → List Value
+values_behind (Push n) onward known vs = of_number (word n) ∷ vs
+values_behind CopyLast onward known (v ∷ vs) = v ∷ v ∷ vs
+values_behind (Check shared_alone) onward known (v ∷ vs) = checked shared_alone v ∷ vs
+values_behind Agree onward known (v ∷ vs) = Unknown ∷ vs
+values_behind (Join sign turned) onward known (b ∷ a ∷ vs) = of_constant (joined_constant sign turned known.second known.last) ∷ vs
+values_behind operation onward known vs = changed (takes operation) (leaves operation onward) vs
+
+abbrev pub behind : Operation → (onward : Bool) → State → State
+behind operation onward s = record {
+  place = s.place;
+  values = values_behind operation onward s.constants s.values;
+  constants = constants_behind operation s.constants;
+}
+
+-- and those behind a call, which has a result or none in place of its arguments
+abbrev pub behind_call : (arguments : ℕ) → (gives : Bool) → State → State
+behind_call arguments gives s = record { place = s.place; values = changed arguments (results gives) s.values; constants = no_constants }
+
+-- what an operation uses as an address is known to be one
+abbrev pub Asks : Operation → List Value → Type 0
+Asks Read (a ∷ vs) = is_known false a ≡ true
+Asks Write (v ∷ a ∷ vs) = is_known false a ≡ true
+Asks (Combine by) (v ∷ a ∷ vs) = is_known true a ≡ true
+Asks operation vs = Unit {0}
+
+-- it finds the values that it takes, and those that it looks at
+pub record May (operation : Operation) (s : State) : Type 0 where
+  pub values : needs operation ≤ length s.values
+  pub looks : looks_at operation ≤ length s.values
+  pub asks : Asks operation s.values
+
+-- at least as much is known of one value as of another, and so of lists of values
+abbrev pub IsAsGood : Value → Value → Type 0
+IsAsGood v w = (shared_alone : Bool) → is_known shared_alone w ≡ true → is_known shared_alone v ≡ true
+
+abbrev pub AreAsGood : List Value → List Value → Type 0
+AreAsGood [] [] = Unit {0}
+AreAsGood (v ∷ vs) (w ∷ ws) = IsAsGood v w × AreAsGood vs ws
+AreAsGood vs ws = ⊥
+
+-- what is asked in a state is so in another, which may know more
+pub record Grants (s asked : State) : Type 0 where
+  pub place : s.place ≡ asked.place
+  pub values : AreAsGood s.values asked.values
+  pub constants : AreSameIn asked.constants s.constants

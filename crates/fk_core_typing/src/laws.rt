@@ -1,0 +1,37 @@
+//! Laws of depths.
+//! Laws of what is known.
+//! Laws of the flat lists of well typed code.
+
+ghost use Rattle.fk_core_typing.specs.LocalDepths.{LocalDepthsAreDepths};
+ghost use Rattle.fk_core_typing.specs.LocalAddresses.{KnowledgeIsEnough};
+ghost use Rattle.fk_core_typing.specs.Laws.{TypedListsLeadWithin, TypedListsKnow, TypedListsHaveDepths};
+
+/// Where each operation of a list and those that follow it have depths that go with what it takes
+/// and pushes, a processor that is about to do an operation has as many values as its depth says,
+/// in every run.
+pub fn local_depths_are_depths()
+    ensures { LocalDepthsAreDepths }
+{}
+
+/// In every run of a list that has knowledge of addresses, a processor that is about to do an
+/// operation may do it.
+pub fn knowledge_is_enough()
+    ensures { KnowledgeIsEnough }
+{}
+
+/// A flat list of well typed functions goes on within itself: its jumps lead to operations, and no
+/// operation but an end goes on outside it.
+pub fn typed_lists_lead_within()
+    ensures { TypedListsLeadWithin }
+{}
+
+/// A flat list of well typed functions has knowledge of each address that it uses, with nothing known where `main` begins.
+pub fn typed_lists_know()
+    ensures { TypedListsKnow }
+{}
+
+/// Where the depths of a flat list of well typed functions are those that are counted along their
+/// code, they go with the operations, and `main` begins without values.
+pub fn typed_lists_have_depths()
+    ensures { TypedListsHaveDepths }
+{}

@@ -1,0 +1,14 @@
+//! What is known of the values of a call at each index of a flat list: how many there are, and
+//! which are addresses that may be used; and that lists of well typed code have such knowledge.
+//!
+//! The definitions stand in `specs/`, and what is proved of them in `laws`.
+#![tactic(auto)]
+
+mod change;
+mod constants;
+pub mod laws;
+mod places;
+
+pub use change::Change;
+pub use constants::Constants;
+pub use places::Within;

@@ -1,5 +1,0 @@
-use Rattle.fk_course.proofs.Programs.{programs_have_one_program}
-use Rattle.fk_course.proofs.laws.programs_have_one_program.Goals as goal
-
-pub returns : goal.returns
-returns c = programs_have_one_program

@@ -1,4 +1,0 @@
-mod Values
-mod Steps
-pub mod Runs
-pub mod Asked

@@ -1,5 +1,0 @@
-use Rattle.fk_fitting.proofs.Programs.{correct_programs_fit}
-use Rattle.fk_fitting.proofs.laws.correct_programs_fit.Goals as goal
-
-pub returns : goal.returns
-returns c = correct_programs_fit

@@ -1,4 +1,0 @@
-pub mod Items
-pub mod Flat
-pub mod Shape
-pub mod Laws

@@ -1,6 +1,0 @@
-mod Picked
-mod Ordered
-mod Listed
-mod Behind
-mod Statements
-mod Programs

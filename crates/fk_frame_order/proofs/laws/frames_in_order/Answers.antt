@@ -1,5 +1,0 @@
-use Rattle.fk_frame_order.proofs.Ordered as ordered
-use Rattle.fk_frame_order.proofs.laws.frames_in_order.Goals as goal
-
-pub returns : goal.returns
-returns c = ordered.frames_in_order

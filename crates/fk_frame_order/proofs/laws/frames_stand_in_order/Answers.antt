@@ -1,5 +1,0 @@
-use Rattle.fk_frame_order.proofs.Programs as programs
-use Rattle.fk_frame_order.proofs.laws.frames_stand_in_order.Goals as goal
-
-pub returns : goal.returns
-returns c = programs.frames_stand_in_order

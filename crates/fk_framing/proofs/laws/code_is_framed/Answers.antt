@@ -1,5 +1,0 @@
-use Rattle.fk_framing.proofs.Whole.{code_is_framed}
-use Rattle.fk_framing.proofs.laws.code_is_framed.Goals as goal
-
-pub returns : goal.returns
-returns c = code_is_framed

@@ -1,0 +1,100 @@
+-- The law of blocks, of an image in which a code stands.
+use Rattle.std.proofs.Common.{◌≡◌, ℕ, ◌^◌, ◌<◌, ◌≤◌, List, [], length, All, Option, Bool, true, false, Some, ap, subst, ◌∙◌, arith, refl}
+use Rattle.std.specs.Prelude.{◌||◌, slice_get}
+use Rattle.std.specs.Option.{option_map_or}
+use Rattle.fk_meaning_operation.specs.declared.operation.Operation.{Operation}
+use Rattle.fk_meaning_operation.specs.declared.operation.Operation.TheVariants.{Halt}
+use Rattle.fk_core.specs.declared.op.CoreOp.{CoreOp}
+use Rattle.fk_core.specs.Next.{is_jump}
+use Rattle.fk_core.specs.Numbers.{operation_of}
+use Rattle.fk_image.specs.declared.Image.{Image}
+use Rattle.fk_asm.specs.Block.{MarkedLine}
+use Rattle.fk_sim_block.specs.Stands.{Places}
+use Rattle.fk_sim_block.specs.Next.{StandsOp}
+use Rattle.fk_sim_block.specs.Ready.{is_alone}
+use Rattle.fk_sim_block.specs.Suits.{Suits}
+use Rattle.fk_sim_block.specs.Block.{BlockDoes, BlockLaw}
+use Rattle.fk_core_liveness.specs.declared.set.Set.{Set}
+use Rattle.fk_gen.specs.declared.placed.Placed.{Placed}
+use Rattle.fk_gen.specs.InPlace.{HasBlock}
+use Rattle.fk_gen_expr.specs.Expressions as expressions
+use Rattle.fk_gen_expr.proofs.Expressions.{expressions_do}
+use Rattle.fk_gen_access.specs.Blocks as accesses
+use Rattle.fk_gen_access.proofs.Law.{access_blocks_do}
+use Rattle.fk_gen_flow.specs.Blocks.{is_flow, is_some_flow}
+use Rattle.fk_gen_flow.specs.Calls.{HasShared}
+use Rattle.fk_gen_flow.specs.Opening.{HasOpening}
+use Rattle.fk_gen_flow.specs.Laws.{JumpsStand}
+use Rattle.fk_gen_group.specs.Blocks.{is_group_step}
+use Rattle.fk_gen_flow.proofs.Law.{block_of_jump, jumps_go, flow_blocks_do, halts_end, harts_begin}
+use Rattle.fk_gen_list.specs.Kinds.{kind_of, kind_by, block_in, block_of}
+use Rattle.fk_gen_list.specs.Generable.{AreKept}
+use Rattle.fk_gen_list.specs.Layout.{placed}
+use Rattle.fk_gen_list.proofs.AllPlaced.{clears_enough}
+use Rattle.fk_gen_list.proofs.Suited.{alone_is_no_step, kind_here, has_expression}
+
+-- the constants of operations, their sites and the globals are in range
+pub record AreInRange (core : List CoreOp) (globals : ℕ) : Type 0 where
+  pub sites : (i : ℕ) (op : CoreOp) → slice_get core i ≡ Some op → op.site < 2 ^ 32
+  pub numbers : (i : ℕ) (op : CoreOp) → slice_get core i ≡ Some op → op.number < 2 ^ 32
+  pub globals_few : globals ≤ 2 ^ 20
+
+module _ (core : List CoreOp) (image : Image) (places : Places) (bound : ℕ → ℕ) (kept : List Set) where
+  abbrev here : (i : ℕ) → CoreOp → Placed
+  here i op = placed (length image.globals.items) kept i op
+
+  -- the block of each index is in its place, and so is the code that all calls share
+  pub record AreInPlace : Type 0 where
+    pub blocks : (i : ℕ) (op : CoreOp) → slice_get core i ≡ Some op → HasBlock image bound places i (block_of (here i op))
+    pub shared : HasShared image bound
+
+  abbrev block_or : Option Operation → CoreOp → List MarkedLine
+  block_or o op = option_map_or (expressions.expression_block (length image.globals.items) op.depth) o []
+
+  jump_kind : (op : CoreOp) → is_jump op ≡ true → kind_of op ≡ kind_by true (accesses.is_access (operation_of op.kind op.number)) (is_group_step (operation_of op.kind op.number))
+  jump_kind op jump =
+      ap (λ b. kind_by (b || is_some_flow (operation_of op.kind op.number)) (accesses.is_access (operation_of op.kind op.number)) (is_group_step (operation_of op.kind op.number))) jump
+
+  jumps_stand : AreInPlace → JumpsStand core image bound places
+  jumps_stand in_place i op at jump =
+      subst (HasBlock image bound places i) (block_of_jump (here i op).clears op jump)
+      (subst (λ k. HasBlock image bound places i (block_in k (here i op))) (jump_kind op jump) (in_place.blocks i op at))
+
+  -- the block of an operation that is no step of a group, by its kind
+  block_here : AreInPlace → (i : ℕ) (op : CoreOp) (operation : Operation) → StandsOp core i op operation → is_group_step (Some operation) ≡ false
+      → HasBlock image bound places i (block_in (kind_by (is_flow operation) (accesses.is_access (Some operation)) false) (here i op))
+  block_here in_place i op operation stands no_step =
+      subst (λ k. HasBlock image bound places i (block_in k (here i op)))
+      (kind_here core i op operation stands ∙ ap (kind_by (is_flow operation) (accesses.is_access (Some operation))) no_step)
+      (in_place.blocks i op stands.stands)
+
+  does_by : (main : ℕ) → Suits core places.frames main → AreKept places.frames kept → AreInRange core (length image.globals.items) → AreInPlace
+      → (i : ℕ) (op : CoreOp) (operation : Operation)
+      → StandsOp core i op operation → is_alone operation ≡ true → (flow access : Bool) → is_flow operation ≡ flow → accesses.is_access (Some operation) ≡ access
+      → HasBlock image bound places i (block_in (kind_by flow access false) (here i op))
+      → BlockDoes core image places i op operation
+  does_by main suits are ranges in_place i op operation stands alone true access f a has =
+      flow_blocks_do core image places bound i op operation (here i op).clears stands alone f (ranges.sites i op stands.stands) has in_place.shared (jumps_stand in_place) suits.few
+      (suits.fits i op operation stands) (clears_enough places.frames kept i (operation_of op.kind op.number) operation are stands.is_read)
+  does_by main suits are ranges in_place i op operation stands alone false true f a has =
+      access_blocks_do core image bound places i op operation stands a (ranges.sites i op stands.stands)
+      (subst (λ o. HasBlock image bound places i (accesses.block_of o op.depth op.site)) stands.is_read has) (suits.fits i op operation stands)
+  does_by main suits are ranges in_place i op operation stands alone false false f a has =
+      let fits = suits.fits i op operation stands in
+      expressions_do core image places bound i op operation stands
+      (has_expression core places.frames i (length image.globals.items) op operation stands.is_read fits suits.few (ranges.numbers i op stands.stands) ranges.globals_few alone f a)
+      (subst (λ o. HasBlock image bound places i (block_or o op)) stands.is_read has) suits.few fits
+
+  -- the law of blocks
+  pub law_of_blocks : (firsts : List ℕ) (main : ℕ) → Suits core places.frames main → AreKept places.frames kept → AreInRange core (length image.globals.items) → AreInPlace
+      → HasOpening image bound places firsts main → length firsts ≡ places.frames.of_file → All (λ v. v < 2 ^ 32) firsts
+      → BlockLaw core image places firsts main
+  law_of_blocks firsts main suits are ranges in_place opening count words = record {
+    alone = λ i op operation stands alone.
+        does_by main suits are ranges in_place i op operation stands alone (is_flow operation) (accesses.is_access (Some operation)) refl refl
+        (block_here in_place i op operation stands (alone_is_no_step operation alone));
+    halts = λ i op stands. halts_end core image places bound i op (here i op).clears stands (block_here in_place i op Halt stands refl);
+    jumps = λ i op at jump. jumps_go core image places bound i op jump (jumps_stand in_place i op at jump) (suits.jumps i op at jump);
+    begins = λ setting t number running lt.
+        harts_begin core image places bound firsts main opening (record { few = suits.few; within = omega arith; words = words }) suits.begins setting t number running;
+  }

@@ -1,0 +1,121 @@
+-- How many cycles the blocks of a list take at most.
+use Rattle.std.proofs.Common.{◌≡◌, ℕ, ◌+◌, ◌^◌, ◌<◌, ◌≤◌, List, [], ◌∷◌, length, Bool, true, false, Option, Some, None, sym, subst, arith, refl}
+use Rattle.std.specs.Prelude.{◌==◌, slice_get}
+use Rattle.std.specs.Option.{option_map_or}
+use Rattle.std.proofs.lemmas.Bool.{eqb-true}
+use Rattle.fk_meaning_operation.specs.declared.operation.Known.{Known}
+use Rattle.fk_meaning_operation.specs.declared.operation.Known.TheVariants.{FrameAddress}
+use Rattle.fk_meaning_operation.specs.declared.operation.Operation.{Operation}
+use Rattle.fk_meaning_operation.specs.declared.operation.Operation.TheVariants.{Push, Get, Set, DropLast, CopyLast, Apply, Join, Index, Branch, Leave, Check, Enter, Begin}
+use Rattle.fk_core.specs.declared.op.CoreOp.{CoreOp}
+use Rattle.fk_core.specs.Next.{is_jump}
+use Rattle.fk_core.specs.Numbers.{operation_of}
+use Rattle.fk_sim_block.specs.Stands.{Frames}
+use Rattle.fk_sim_block.specs.Next.{StandsOp}
+use Rattle.fk_sim_block.specs.Ready.{is_alone}
+use Rattle.fk_sim_block.specs.Suits.{Fits, Suits}
+use Rattle.fk_sim_block.specs.Block.{most_before, most_behind}
+use Rattle.fk_core_liveness.specs.declared.set.Set as sets
+use Rattle.fk_gen.specs.declared.placed.Placed.{Placed}
+use Rattle.fk_gen.specs.Lines.{high_part, load_by}
+use Rattle.fk_gen.specs.Keeps.{past_first}
+use Rattle.fk_asm.specs.Block.{MarkedLine}
+use Rattle.fk_gen_expr.specs.Expressions.{IsExpression, expression_block}
+use Rattle.fk_gen_expr.proofs.Shape.{IsShortCode, block_short}
+use Rattle.fk_gen_access.specs.Blocks.{is_access}
+use Rattle.fk_gen_flow.specs.Blocks.{is_flow}
+use Rattle.fk_gen_flow.proofs.Enters.{few_take}
+use Rattle.fk_gen_list.specs.Layout.{placed}
+use Rattle.fk_gen_list.proofs.Suited.{has_expression}
+use Rattle.fk_gen_list.specs.Cycles.{before_of, behind_of, before_at, behind_at}
+
+-- ---- before a commit
+
+short_number : (short : Bool) (n steps : ℕ) → steps ≤ 5 → length (load_by short n) + steps ≤ most_before
+short_number true n steps le = omega arith
+short_number false n steps le = omega arith
+
+few_before_of : (op : CoreOp) (operation : Operation) → before_of op operation ≤ most_before
+few_before_of op (Check true) = short_number (high_part op.site == 0) op.site 3 (omega arith)
+few_before_of op (Check false) = short_number (high_part op.site == 0) op.site 5 (omega arith)
+few_before_of op (Leave gives true) = omega arith
+few_before_of op (Leave gives false) = omega arith
+few_before_of op operation = omega arith
+
+few_before_by : (op : CoreOp) (o : Option Operation) → option_map_or (before_of op) o 0 ≤ most_before
+few_before_by op None = omega arith
+few_before_by op (Some operation) = few_before_of op operation
+
+pub few_before_at : (o : Option CoreOp) → before_at o ≤ most_before
+few_before_at None = omega arith
+few_before_at (Some op) = few_before_by op (operation_of op.kind op.number)
+
+-- ---- behind it
+
+past_short : (ls : List MarkedLine) → IsShortCode (length ls) → past_first ls ≤ most_behind
+past_short [] short = omega arith
+past_short (l ∷ ls) short = let few = short.few in omega arith
+
+few_expression : (globals depth : ℕ) (operation : Operation) → IsExpression globals depth operation → past_first (expression_block globals depth operation) ≤ most_behind
+few_expression globals depth operation is = past_short (expression_block globals depth operation) (block_short globals depth operation is)
+
+module _ (core : List CoreOp) (frames : Frames) (i : ℕ) (here : Placed) (few : frames.of_file ≤ 56) (number : here.op.number < 2 ^ 32) (some : here.globals ≤ 2 ^ 20) where
+  of_expression : (operation : Operation) → operation_of here.op.kind here.op.number ≡ Some operation → Fits core frames i here.op operation → is_alone operation ≡ true
+      → is_flow operation ≡ false → is_access (Some operation) ≡ false → past_first (expression_block here.globals here.op.depth operation) ≤ most_behind
+  of_expression operation read fits alone f a =
+      few_expression here.globals here.op.depth operation
+      (has_expression core frames i here.globals here.op operation read fits few number some alone f a)
+
+  of_known : (known : Known) → operation_of here.op.kind here.op.number ≡ Some (Get known) → Fits core frames i here.op (Get known)
+      → past_first (expression_block here.globals here.op.depth (Get known)) ≤ most_behind
+  of_known (FrameAddress nesting word) read fits = omega arith
+  of_known known read fits = of_expression (Get known) read fits refl refl refl
+
+  few_behind_of : (operation : Operation) (onward : Bool) → operation_of here.op.kind here.op.number ≡ Some operation → Fits core frames i here.op operation
+      → behind_of here operation onward ≤ most_behind
+  few_behind_of (Push n) onward read fits = of_expression (Push n) read fits refl refl refl
+  few_behind_of (Get known) onward read fits = of_known known read fits
+  few_behind_of (Set variable) onward read fits = of_expression (Set variable) read fits refl refl refl
+  few_behind_of DropLast onward read fits = of_expression DropLast read fits refl refl refl
+  few_behind_of CopyLast onward read fits = of_expression CopyLast read fits refl refl refl
+  few_behind_of (Apply sign) onward read fits = of_expression (Apply sign) read fits refl refl refl
+  few_behind_of (Join sign turned) onward read fits = of_expression (Join sign turned) read fits refl refl refl
+  few_behind_of (Index size) onward read fits = of_expression (Index size) read fits refl refl refl
+  few_behind_of (Branch turned) true read fits = omega arith
+  few_behind_of (Branch turned) false read fits = omega arith
+  few_behind_of (Leave true true) onward read fits = omega arith
+  few_behind_of (Leave true false) onward read fits = omega arith
+  few_behind_of (Leave false true) onward read fits = omega arith
+  few_behind_of (Leave false false) onward read fits = omega arith
+  few_behind_of (Enter n) onward read fits = few_take here.clears n fits.goes_on.few
+  few_behind_of Begin true read fits = omega arith
+  few_behind_of Begin false read fits = omega arith
+  few_behind_of operation onward read fits = omega arith
+
+-- a jump is no operation
+no_operation : (op : CoreOp) (operation : Operation) → is_jump op ≡ true → operation_of op.kind op.number ≡ Some operation → ⊥
+no_operation op operation jump read = nothing (subst (λ k. operation_of k op.number ≡ Some operation) (eqb-true op.kind 0 jump) read)
+  where
+    nothing : operation_of 0 op.number ≡ Some operation → ⊥
+    nothing e = cc
+
+pub stands_op : (core : List CoreOp) (i : ℕ) (op : CoreOp) (operation : Operation) → slice_get core i ≡ Some op → operation_of op.kind op.number ≡ Some operation → StandsOp core i op operation
+stands_op core i op operation at read = record { stands = at; no_jump = by (is_jump op) refl; is_read = read }
+  where
+    by : (b : Bool) → is_jump op ≡ b → b ≡ false
+    by true e = absurd (no_operation op operation e read)
+    by false e = refl
+
+module _ (core : List CoreOp) (frames : Frames) (main : ℕ) (suits : Suits core frames main) (globals : ℕ) (some : globals ≤ 2 ^ 20) (kept : List sets.Set)
+    (words : (i : ℕ) (op : CoreOp) → slice_get core i ≡ Some op → op.number < 2 ^ 32) where
+  by_operation : (i : ℕ) (op : CoreOp) (here : Placed) (onward : Bool) (o : Option Operation) → here.op ≡ op → here.globals ≡ globals → slice_get core i ≡ Some op → operation_of op.kind op.number ≡ o
+      → option_map_or (λ operation. behind_of here operation onward) o 0 ≤ most_behind
+  by_operation i op here onward None same many at read = omega arith
+  by_operation i op here onward (Some operation) same many at read =
+      few_behind_of core frames i here suits.few (subst (λ x. x.number < 2 ^ 32) (sym same) (words i op at)) (subst (λ n. n ≤ 2 ^ 20) (sym many) some) operation onward
+      (subst (λ (x : CoreOp). operation_of x.kind x.number ≡ Some operation) (sym same) read)
+      (subst (λ x. Fits core frames i x operation) (sym same) (suits.fits i op operation (stands_op core i op operation at read)))
+
+  pub few_behind_at : (i : ℕ) (onward : Bool) (o : Option CoreOp) → slice_get core i ≡ o → behind_at globals kept i o onward ≤ most_behind
+  few_behind_at i onward None at = omega arith
+  few_behind_at i onward (Some op) at = by_operation i op (placed globals kept i op) onward (operation_of op.kind op.number) refl refl at refl

@@ -1,0 +1,138 @@
+-- Steps of groups of a list, and the whole law.
+use Rattle.std.proofs.Common.{◌≡◌, ℕ, ◌<◌, List, length, Bool, true, Some, None, sym, ap, subst, arith, refl}
+use Rattle.std.specs.Prelude.{slice_get, if◌then◌else◌}
+use Rattle.std.specs.Option.{option_map_or}
+use Rattle.fk_meaning_operation.specs.declared.operation.Operation.{Operation}
+use Rattle.fk_meaning_operation.specs.declared.operation.Operation.TheVariants.{Begin, Agree, Farm, Seq, End, Resume, Meet}
+use Rattle.fk_core.specs.declared.op.CoreOp.{CoreOp}
+use Rattle.fk_image.specs.declared.Image.{Image}
+use Rattle.fk_sim_block.specs.Stands.{Places}
+use Rattle.fk_sim_block.specs.Next.{StandsOp}
+use Rattle.fk_sim_block.specs.Suits.{Suits}
+use Rattle.fk_core_liveness.specs.declared.set.Set.{Set}
+use Rattle.fk_sim_block.specs.Node.{Nestings}
+use Rattle.fk_sim_block.specs.Lockstep.{StepTogether, PartTogether, EndTogether}
+use Rattle.fk_sim_block.specs.Joint.{most_to_meet, is_meeting, BlockMeets}
+use Rattle.fk_sim_block.specs.Start.{most_united, most_to_start, BlockStarts}
+use Rattle.fk_sim_block.specs.Law.{IsAskedOf, sets_apart, runs_behind}
+use Rattle.fk_gen_group.specs.Blocks.{is_group_step}
+use Rattle.fk_gen_group.specs.Start.{gathered_at, who_comes, gathering_of}
+use Rattle.fk_gen_group.specs.Laws.{IsInPlace}
+use Rattle.fk_gen_group.proofs.Agree.{groups_agree}
+use Rattle.fk_gen_group.proofs.Farms.{groups_set_free}
+use Rattle.fk_gen_group.proofs.Seqs.{groups_send_one}
+use Rattle.fk_gen_group.proofs.Ends.{groups_end}
+use Rattle.fk_gen_group.proofs.Phases.{blocks_meet}
+use Rattle.fk_gen_group.proofs.Starts.{groups_start}
+use Rattle.fk_gen_list.specs.Cycles.{before_at, behind_at}
+use Rattle.fk_gen_list.specs.Laws.{HasGroupCode, StepsHaveValues, HaveStepLevels, ListsHaveTheLaw}
+use Rattle.fk_gen_list.proofs.Law.{lists_do_alone}
+use Rattle.fk_gen_list.proofs.At.{before_is, behind_is}
+
+meeting_is_step : (operation : Operation) → is_meeting operation ≡ true → is_group_step (Some operation) ≡ true
+meeting_is_step (Meet closing) e = refl
+meeting_is_step Resume e = refl
+meeting_is_step operation e = absurd (cc)
+
+module _ (core : List CoreOp) (image : Image) (bound : ℕ → ℕ) (places : Places) (nestings : Nestings) (kept : List Set) (main : ℕ) (suits : Suits core places.frames main)
+    (code : HasGroupCode core image bound places) (looks : StepsHaveValues core) (levels : HaveStepLevels core places nestings) where
+  in_place : (i : ℕ) (op : CoreOp) (operation : Operation) → StandsOp core i op operation → is_group_step (Some operation) ≡ true → IsInPlace core image bound places nestings i op operation
+  in_place i op operation stands step = record {
+    stands = stands;
+    block = code.blocks i op operation stands step;
+    fits = suits.fits i op operation stands;
+    few = suits.few;
+    values = looks i op operation stands step;
+    levels = levels.room i op operation stands step;
+    stay = levels.stay i op operation stands step;
+  }
+
+  abbrev globals : ℕ
+  globals = length image.globals.items
+
+  abbrev before : (i : ℕ) → ℕ
+  before i = before_at (slice_get core i)
+
+  abbrev behind : (i : ℕ) → Bool → ℕ
+  behind i onward = behind_at globals kept i (slice_get core i) onward
+
+  agrees : (i : ℕ) (op : CoreOp) (lowest size : ℕ) → StandsOp core i op Agree
+      → StepTogether core image places nestings i op Agree (λ ps. Unit {0}) (before i) (behind i true) None (λ p. None) lowest size
+  agrees i op lowest size stands =
+      subst (λ c. StepTogether core image places nestings i op Agree (λ ps. Unit {0}) c (behind i true) None (λ p. None) lowest size) (sym (before_is core globals kept i op Agree stands))
+      (subst (λ (f : Bool → ℕ). StepTogether core image places nestings i op Agree (λ ps. Unit {0}) 2 (f true) None (λ p. None) lowest size) (sym (behind_is core globals kept i op Agree stands))
+      (groups_agree core image bound places nestings i op lowest size (in_place i op Agree stands refl)))
+
+  -- by what the law of its block tells
+  parts_in : (i : ℕ) (op : CoreOp) (operation : Operation) (c d lowest size : ℕ) → StandsOp core i op operation → c ≡ before i → d ≡ behind i true
+      → PartTogether core image places nestings i op operation (IsAskedOf operation lowest size) c d None (runs_behind operation lowest size) lowest size
+      → PartTogether core image places nestings i op operation (IsAskedOf operation lowest size) (before i) (behind i true) None (runs_behind operation lowest size) lowest size
+  parts_in i op operation c d lowest size stands e f part =
+      subst (λ x. PartTogether core image places nestings i op operation (IsAskedOf operation lowest size) x (behind i true) None (runs_behind operation lowest size) lowest size) e
+      (subst (λ x. PartTogether core image places nestings i op operation (IsAskedOf operation lowest size) c x None (runs_behind operation lowest size) lowest size) f part)
+
+  at_once : (i : ℕ) (op : CoreOp) (lowest size : ℕ) → StandsOp core i op Farm
+      → PartTogether core image places nestings i op Farm (IsAskedOf Farm lowest size) 0 0 None (runs_behind Farm lowest size) lowest size
+  at_once i op lowest size stands setting t mine first ms ps own owns enter asked =
+      groups_set_free core image bound places nestings i op lowest size asked.0 (in_place i op Farm stands refl) setting t mine first ms ps own owns enter asked.1
+
+  parts : (i : ℕ) (op : CoreOp) (operation : Operation) (lowest size : ℕ) → StandsOp core i op operation → sets_apart operation ≡ true
+      → PartTogether core image places nestings i op operation (IsAskedOf operation lowest size) (before i) (behind i true) None (runs_behind operation lowest size) lowest size
+  parts i op Farm lowest size stands e =
+      parts_in i op Farm 0 0 lowest size stands (sym (before_is core globals kept i op Farm stands))
+      (sym (ap (λ (f : Bool → ℕ). f true) (behind_is core globals kept i op Farm stands))) (at_once i op lowest size stands)
+  parts i op Seq lowest size stands e =
+      parts_in i op Seq 3 2 lowest size stands (sym (before_is core globals kept i op Seq stands))
+      (sym (ap (λ (f : Bool → ℕ). f true) (behind_is core globals kept i op Seq stands)))
+      (groups_send_one core image bound places nestings i op lowest size (in_place i op Seq stands refl) (levels.leads i op Seq stands refl))
+  parts i op operation lowest size stands e = absurd (cc)
+
+  ends : (i : ℕ) (op : CoreOp) (lowest size : ℕ) → StandsOp core i op End → EndTogether core image places nestings i op (behind i true) lowest size
+  ends i op lowest size stands =
+      subst (λ (f : Bool → ℕ). EndTogether core image places nestings i op (f true) lowest size) (sym (behind_is core globals kept i op End stands))
+      (groups_end core image bound places nestings i op lowest size (in_place i op End stands refl) (levels.leads i op End stands refl))
+
+  meets : (i : ℕ) (op : CoreOp) (operation : Operation) → StandsOp core i op operation → is_meeting operation ≡ true → BlockMeets core image places nestings i op operation most_to_meet
+  meets i op operation stands meeting setting t mine runs first n m p owns en member many =
+      let met = blocks_meet core image bound places nestings i op operation meeting (in_place i op operation stands (meeting_is_step operation meeting)) setting t mine runs first n m p owns en member many in
+      (met.0, omega (arith, met.1), met.2)
+
+  few_to_begin : (i : ℕ) (op : CoreOp) → StandsOp core i op Begin → before i < most_united
+  few_to_begin i op stands = let e : before i ≡ 1 = before_is core globals kept i op Begin stands in omega (arith, e)
+
+  starts : nestings.start ≡ gathering_of core bound → (i : ℕ) (op : CoreOp) → StandsOp core i op Begin
+      → BlockStarts core image places nestings i op (nestings.start.there i) (nestings.start.coming i) most_to_start (before i) (behind i)
+  starts gathers i op stands =
+      let there = gathered_at bound in
+      let coming = who_comes bound op.depth in
+      let block = groups_start core image bound places nestings i op code.start (in_place i op Begin stands refl) (levels.leads i op Begin stands refl) in
+      let begun : BlockStarts core image places nestings i op there coming most_to_start 1 (λ onward. if onward then 16 else 11) = record {
+        meets = λ setting t mine m p owns en member root.
+            let met = block.meets setting t mine m p owns en member root in
+            (met.0, omega (arith, met.1), met.2);
+        starts = block.starts;
+      } in
+      let here : BlockStarts core image places nestings i op there coming most_to_start (before i) (behind i)
+      = subst (λ c. BlockStarts core image places nestings i op there coming most_to_start c (behind i)) (sym (before_is core globals kept i op Begin stands))
+      (subst (λ f. BlockStarts core image places nestings i op there coming most_to_start 1 f) (sym (behind_is core globals kept i op Begin stands)) begun) in
+      let depth : option_map_or (λ o. o.depth) (slice_get core i) 0 ≡ op.depth = ap (λ o. option_map_or (λ x. x.depth) o 0) stands.stands in
+      subst (λ g. BlockStarts core image places nestings i op (g.there i) (g.coming i) most_to_start (before i) (behind i)) (sym gathers)
+      (subst (λ d. BlockStarts core image places nestings i op there (who_comes bound d) most_to_start (before i) (behind i)) (sym depth) here)
+
+pub lists_have_the_law : ListsHaveTheLaw
+lists_have_the_law core kept image bound places nestings firsts main suits are ranges lone levels code looks steps gathers begins =
+    let alone = lists_do_alone core kept image bound places nestings main suits are ranges lone levels in
+    record {
+      few_before = alone.few_before;
+      few_behind = alone.few_behind;
+      alone = alone.alone;
+      jumps = alone.jumps;
+      halts = alone.halts;
+      begins = begins;
+      agrees = agrees core image bound places nestings kept main suits code looks steps;
+      parts = parts core image bound places nestings kept main suits code looks steps;
+      ends = ends core image bound places nestings kept main suits code looks steps;
+      meets = meets core image bound places nestings kept main suits code looks steps;
+      few_to_begin = few_to_begin core image bound places nestings kept main suits code looks steps;
+      starts = starts core image bound places nestings kept main suits code looks steps gathers;
+    }

@@ -1,0 +1,397 @@
+-- A whole code: its labels are words of it, and each part stands at its place.
+use Rattle.std.proofs.Common.{◌≡◌, ℕ, zero, suc, ◌+◌, ◌-◌, ◌<◌, ◌≤◌, List, [], ◌∷◌, ◌++◌, length, take, Option, Some, None, IsSomeAnd, IfSome, All, ◌⊎◌, inl, inr, sym, ap, subst, ◌∙◌, arith, refl, length-append}
+use Rattle.std.specs.Prelude.{flat_map, slice_get, slice_index_or, slice_set, replicate}
+use Rattle.std.proofs.lemmas.Bool.{cases_lt}
+use Rattle.std.proofs.lemmas.List.{take_all, length-replicate, length-set, get_or-replicate, get_or_past, get_or-set_same, get_or-set_other}
+use Rattle.std.proofs.lemmas.List.Elements.{All-weaker}
+use Rattle.fk_gen.specs.declared.placed.Placed.{Placed}
+use Rattle.fk_image.specs.declared.Image.{Image}
+use Rattle.fk_asm.specs.Assembly.{Assembly, empty}
+use Rattle.fk_asm.specs.Block.{MarkedLine, with_block}
+use Rattle.fk_asm.proofs.Straight.{with_block-append}
+use Rattle.fk_sim_block.specs.Stands.{Places, Frames}
+use Rattle.fk_gen.specs.Lines.{copy_label, clear_label, label_of}
+use Rattle.fk_gen.specs.InPlace.{LinesAt, HasLabels, HasBlock}
+use Rattle.fk_gen_flow.specs.Calls.{chain_lines, copy_lines, clear_lines, back_lines, most_privates, HasChain, HasShared}
+use Rattle.fk_gen_group.specs.Blocks.{start_label, start_lines}
+use Rattle.fk_gen_list.specs.Layout.{place, copy_offset, clear_offset, copying_lines, clearing_lines, calls_front, front, all_lines, AddsBlocks, AddsCopying, AddsClearing, AddsStart, IsSpare, IsLaid}
+use Rattle.fk_gen_list.proofs.Blocks.{length-with_block}
+use Rattle.fk_gen_list.proofs.Chain.{IsChain, copying_chain, clearing_chain, length-chain, offset_within, part_within, back_within}
+use Rattle.fk_gen_list.proofs.InImage.{Within, within_self, within_front, within_back, IsAssembled, bound_in, word_or, lines_at}
+use Rattle.fk_gen_list.proofs.Near.{IsFar, GoesFar}
+
+-- The labels of so many operations. That of the code that beginnings of `start` share is behind those that copy arguments
+abbrev pub IsLabel : (operations label : ℕ) → Type 0
+IsLabel n label =
+    (label ≤ start_label)
+    ⊎ (((clear_label 0 ≤ label) × (label ≤ clear_label most_privates)) ⊎ ((label_of 0 ≤ label) × (label < label_of n)))
+
+-- a line goes to none, or far, to one of them
+abbrev pub GoesTo : (operations : ℕ) → MarkedLine → Type 0
+GoesTo n m = IfSome m.line.label (λ label. IsLabel n label × IsFar m.line.instruction)
+
+-- ---- blocks in their list
+
+pub within_blocks : (block : Placed → List MarkedLine) (all : List MarkedLine) (ops : List Placed) (k i : ℕ) (op : Placed)
+    → Within all k (flat_map block ops) → slice_get ops i ≡ Some op → Within all (place block k ops i) (block op)
+within_blocks block all [] k i op w e = absurd (cc)
+within_blocks block all (o ∷ ops) k zero op w e =
+    let one : o ≡ op = cc in
+    let here : k ≡ k + 0 = omega arith in
+    subst (λ j. Within all j (block op)) here
+    (subst (λ x. Within all k (block x)) one (within_front all (block o) (flat_map block ops) k w))
+within_blocks block all (o ∷ ops) k (suc i) op w e =
+    let rest = within_blocks block all ops (k + length (block o)) i op (within_back all (block o) (flat_map block ops) k w) e in
+    let sum = length-append (block o) (flat_map block (take i ops)) in
+    let there : place block (k + length (block o)) ops i ≡ place block k (o ∷ ops) (suc i) = omega arith in
+    subst (λ j. Within all j (block op)) there rest
+
+pub place-suc : (block : Placed → List MarkedLine) (ops : List Placed) (k i : ℕ) (op : Placed) → slice_get ops i ≡ Some op
+    → place block k ops (suc i) ≡ place block k ops i + length (block op)
+place-suc block [] k i op e = absurd (cc)
+place-suc block (o ∷ ops) k zero op e =
+    let one : length (block o) ≡ length (block op) = ap (λ x. length (block x)) (cc) in
+    let sum = length-append (block o) [] in
+    omega arith
+place-suc block (o ∷ ops) k (suc i) op e =
+    let rest = place-suc block ops k i op e in
+    let sum = length-append (block o) (flat_map block (take (suc i) ops)) in
+    let sum' = length-append (block o) (flat_map block (take i ops)) in
+    omega arith
+
+pub place_within : (block : Placed → List MarkedLine) (ops : List Placed) (k i : ℕ) → place block k ops i ≤ k + length (flat_map block ops)
+place_within block [] k zero = omega arith
+place_within block [] k (suc i) = omega arith
+place_within block (o ∷ ops) k zero = omega arith
+place_within block (o ∷ ops) k (suc i) =
+    let rest = place_within block ops k i in
+    let sum = length-append (block o) (flat_map block (take i ops)) in
+    let sum' = length-append (block o) (flat_map block ops) in
+    omega arith
+
+place_end : (block : Placed → List MarkedLine) (ops : List Placed) (k i : ℕ) → length ops ≤ i → place block k ops i ≡ k + length (flat_map block ops)
+place_end block ops k i le = ap (λ l. k + length (flat_map block l)) (take_all i ops le)
+
+pub length-copying : length copying_lines ≡ 113
+length-copying = let e = length-chain copy_label copy_offset copy_lines 2 copying_chain in omega (arith, e)
+
+pub length-clearing : length clearing_lines ≡ 57
+length-clearing = let e = length-chain clear_label clear_offset clear_lines 1 clearing_chain in omega (arith, e)
+
+pub length-start : (globals : ℕ) → length (start_lines globals) ≡ 30
+length-start globals = refl
+
+-- a chain stands in an image where it stands among its lines
+stands_chain : (label offset : ℕ → ℕ) (part : ℕ → List MarkedLine) (width : ℕ) → IsChain label offset part width
+    → (image : Image) (bounds : List (Option ℕ)) (all : List MarkedLine) → IsAssembled image bounds all → (end first : ℕ)
+    → Within all first (chain_lines part most_privates) → ((n : ℕ) → n ≤ most_privates → bound_in bounds end (label n) ≡ first + offset n)
+    → HasChain image (bound_in bounds end) label part width
+stands_chain label offset part width chain image bounds all code end first w at =
+    let begins = chain.begins in
+    let zero' : first ≡ first + offset most_privates = omega (arith, begins) in
+    let there = subst (λ k. Within all k (chain_lines part most_privates)) zero' w in
+    record {
+      parts = λ k lt.
+          subst (λ j. LinesAt image (bound_in bounds end) j (part k)) (sym (at (suc k) lt))
+          (lines_at image bounds all code end (first + offset (suc k)) (part k)
+          (part_within label offset part width chain all first most_privates k (omega arith) there lt));
+      next = λ k lt.
+          let e = at (suc k) lt in
+          let e' = at k (omega arith) in
+          let step = chain.steps k lt in
+          omega (arith, e, e', step);
+      back =
+          subst (λ j. LinesAt image (bound_in bounds end) j back_lines) (sym (at 0 (omega arith)))
+          (lines_at image bounds all code end (first + offset 0) back_lines
+          (back_within label offset part width chain all first most_privates (omega arith) there));
+    }
+
+-- the label of the code that beginnings of `start` share is bound
+module _ (globals : ℕ) (cleared started : Assembly) (s : AddsStart globals cleared started) where
+  start_bound : started.bound ≡ slice_set cleared.bound start_label (Some (length cleared.lines))
+  start_bound = ap (λ (a : Assembly). a.bound) s
+
+  pub start_count : length started.bound ≡ length cleared.bound
+  start_count = ap length start_bound ∙ length-set cleared.bound start_label (Some (length cleared.lines))
+
+  pub start_other : (label : ℕ) → (label ≡ start_label → ⊥) → slice_index_or started.bound label None ≡ slice_index_or cleared.bound label None
+  start_other label ne =
+      ap (λ l. slice_index_or l label None) start_bound ∙ get_or-set_other cleared.bound start_label label (Some (length cleared.lines)) None ne
+
+  pub start_at : start_label < length cleared.bound → slice_index_or started.bound start_label None ≡ Some (length cleared.lines)
+  start_at in' = ap (λ l. slice_index_or l start_label None) start_bound ∙ get_or-set_same cleared.bound start_label (Some (length cleared.lines)) None in'
+
+module _ (block : Placed → List MarkedLine) (opening : List MarkedLine) (globals : ℕ) (ops : List Placed) where
+  abbrev copied_front : List MarkedLine
+  copied_front = opening ++ copying_lines
+
+  length-copied : length copied_front ≡ length opening + 113
+  length-copied =
+      let sum = length-append opening copying_lines in
+      let copying = length-copying in
+      omega (arith, sum, copying)
+
+  length-calls : length (calls_front opening) ≡ length opening + 170
+  length-calls =
+      let sum = length-append copied_front clearing_lines in
+      let first = length-copied in
+      let clearing = length-clearing in
+      omega (arith, sum, first, clearing)
+
+  pub length-front : length (front opening globals) ≡ length opening + 200
+  length-front =
+      let sum = length-append (calls_front opening) (start_lines globals) in
+      let first = length-calls in
+      let start = length-start globals in
+      omega (arith, sum, first, start)
+
+  length-all : length (all_lines block opening globals ops) ≡ length (front opening globals) + length (flat_map block ops)
+  length-all = length-append (front opening globals) (flat_map block ops)
+
+  -- ---- it is laid part by part
+
+  -- what is added behind the code that calls share, with the labels of the end
+  abbrev behind_calls : (bound : List (Option ℕ)) → Assembly → Assembly
+  behind_calls bound a = record (with_block (with_block a (start_lines globals)) (flat_map block ops)) { bound = bound }
+
+  laid_made : (bound : List (Option ℕ)) (opened copied cleared started laid : Assembly)
+      → opened ≡ with_block (record empty { bound = bound }) opening → AddsCopying opened copied → AddsClearing copied cleared → AddsStart globals cleared started
+      → AddsBlocks block ops started laid → laid ≡ record (with_block empty (all_lines block opening globals ops)) { bound = laid.bound }
+  laid_made bound opened copied cleared started laid o c d s b =
+      b.made
+      ∙ ap (λ (a : Assembly). record (with_block a (flat_map block ops)) { bound = laid.bound }) s
+      ∙ ap (λ (a : Assembly). behind_calls laid.bound a) d.made
+      ∙ ap (λ (a : Assembly). behind_calls laid.bound (with_block a clearing_lines)) c.made
+      ∙ ap (λ (a : Assembly). behind_calls laid.bound (with_block (with_block a copying_lines) clearing_lines)) o
+      ∙ ap (λ (a : Assembly). behind_calls laid.bound (with_block a clearing_lines)) (with_block-append empty opening copying_lines)
+      ∙ ap (λ (a : Assembly). behind_calls laid.bound a) (with_block-append empty copied_front clearing_lines)
+      ∙ ap (λ (a : Assembly). record (with_block a (flat_map block ops)) { bound = laid.bound }) (with_block-append empty (calls_front opening) (start_lines globals))
+      ∙ ap (λ (a : Assembly). record a { bound = laid.bound }) (with_block-append empty (front opening globals) (flat_map block ops))
+
+  pub laid_all : (opened copied cleared started laid : Assembly)
+      → opened ≡ with_block (record empty { bound = replicate (label_of (length ops)) None }) opening
+      → AddsCopying opened copied → AddsClearing copied cleared → AddsStart globals cleared started → AddsBlocks block ops started laid
+      → IsLaid block opening globals ops laid
+  laid_all opened copied cleared started laid o c d s b =
+      let bound : opened.bound ≡ replicate (label_of (length ops)) None = ap (λ (a : Assembly). a.bound) o in
+      let count : length cleared.bound ≡ label_of (length ops) = d.count ∙ c.count ∙ ap length bound ∙ length-replicate (label_of (length ops)) None in
+      let first : length opened.lines ≡ length opening =
+      ap (λ (a : Assembly). length a.lines) o ∙ length-with_block (record empty { bound = replicate (label_of (length ops)) None }) opening ∙ omega arith in
+      let second : length copied.lines ≡ length copied_front =
+      ap (λ (a : Assembly). length a.lines) c.made ∙ length-with_block opened copying_lines
+      ∙ ap (λ n. n + length copying_lines) first ∙ sym (length-append opening copying_lines) in
+      let third : length cleared.lines ≡ length (calls_front opening) =
+      ap (λ (a : Assembly). length a.lines) d.made ∙ length-with_block copied clearing_lines
+      ∙ ap (λ n. n + length clearing_lines) second ∙ sym (length-append copied_front clearing_lines) in
+      let fourth : length started.lines ≡ length (front opening globals) =
+      ap (λ (a : Assembly). length a.lines) s
+      ∙ length-with_block (record cleared { bound = slice_set cleared.bound start_label (Some (length cleared.lines)) }) (start_lines globals)
+      ∙ ap (λ n. n + length (start_lines globals)) third ∙ sym (length-append (calls_front opening) (start_lines globals)) in
+      record {
+        made = laid_made (replicate (label_of (length ops)) None) opened copied cleared started laid o c d s b;
+        count = b.count ∙ start_count globals cleared started s ∙ count;
+        copies = λ n few.
+            b.others (copy_label n) (omega arith) ∙ start_other globals cleared started s (copy_label n) (λ e. omega arith)
+            ∙ d.others (copy_label n) (λ m le e. absurd (omega arith)) ∙ c.entries n few ∙ ap (λ k. Some (k + copy_offset n)) first;
+        clears = λ n few.
+            b.others (clear_label n) (omega arith) ∙ start_other globals cleared started s (clear_label n) (λ e. omega arith)
+            ∙ d.entries n few ∙ ap (λ k. Some (k + clear_offset n)) second;
+        starts = b.others start_label (omega arith) ∙ start_at globals cleared started s (omega (arith, count)) ∙ ap Some third;
+        spare = λ label is.
+            let low = is.low in
+            let in' : label < label_of (length ops) = omega arith in
+            b.others label is.low ∙ start_other globals cleared started s label is.no_start ∙ d.others label is.no_clear ∙ c.others label is.no_copy
+            ∙ ap (λ l. slice_index_or l label None) bound ∙ get_or-replicate (label_of (length ops)) label None None in';
+        labels = λ i lt. b.labels i lt ∙ ap (λ k. Some (place block k ops i)) fourth;
+      }
+
+  -- ---- labels
+
+  module _ (a : Assembly) (is : IsLaid block opening globals ops a) where
+    abbrev end : ℕ
+    end = length (all_lines block opening globals ops)
+
+    copy_end : (n : ℕ) → n ≤ most_privates → length opening + copy_offset n ≤ end
+    copy_end n few =
+        let whole = length-all in
+        let begin = length-front in
+        omega (arith, whole, begin)
+
+    clear_end : (n : ℕ) → n ≤ most_privates → length copied_front + clear_offset n ≤ end
+    clear_end n few =
+        let whole = length-all in
+        let begin = length-front in
+        let first = length-copied in
+        omega (arith, whole, begin, first)
+
+    start_end : length (calls_front opening) ≤ end
+    start_end =
+        let whole = length-all in
+        let begin = length-front in
+        let first = length-calls in
+        omega (arith, whole, begin, first)
+
+    label_within : (label : ℕ) → IsLabel (length ops) label → IsSomeAnd (slice_index_or a.bound label None) (λ word. word ≤ end)
+    label_within label (inl low) = elim (cases_lt label start_label) [
+      | inl less ↦
+          let copy : label ≤ most_privates = omega arith in
+          subst (λ o. IsSomeAnd o (λ word. word ≤ end)) (sym (is.copies label copy)) (copy_end label copy)
+      | inr more ↦
+          let same : start_label ≡ label = omega arith in
+          subst (λ o. IsSomeAnd o (λ word. word ≤ end)) (sym (ap (λ l. slice_index_or a.bound l None) (sym same) ∙ is.starts)) start_end
+    ]
+    label_within label (inr (inl clear)) =
+        let n = label - clear_label 0 in
+        let low = clear.0 in
+        let high = clear.1 in
+        let same : clear_label n ≡ label = omega arith in
+        let few : n ≤ most_privates = omega arith in
+        subst (λ o. IsSomeAnd o (λ word. word ≤ end))
+        (sym (ap (λ l. slice_index_or a.bound l None) (sym same) ∙ is.clears n few)) (clear_end n few)
+    label_within label (inr (inr of_block)) =
+        let i = label - label_of 0 in
+        let low = of_block.0 in
+        let high = of_block.1 in
+        let same : label_of i ≡ label = omega arith in
+        let whole = length-all in
+        let in' = place_within block ops (length (front opening globals)) i in
+        let here : place block (length (front opening globals)) ops i ≤ end = omega arith in
+        subst (λ o. IsSomeAnd o (λ word. word ≤ end))
+        (sym (ap (λ l. slice_index_or a.bound l None) (sym same) ∙ is.labels i (omega arith))) here
+
+    goes_far : (m : MarkedLine) → GoesTo (length ops) m → GoesFar a.bound end m
+    goes_far m goes = far m.line.label goes
+      where
+        far : (label : Option ℕ) → IfSome label (λ l. IsLabel (length ops) l × IsFar m.line.instruction)
+            → IfSome label (λ l. IsSomeAnd (slice_index_or a.bound l None) (λ word. word ≤ end) × IsFar m.line.instruction)
+        far None goes = tt
+        far (Some l) goes = (label_within l goes.0, goes.1)
+
+    pub all_go_far : All (GoesTo (length ops)) (all_lines block opening globals ops) → All (GoesFar a.bound end) (all_lines block opening globals ops)
+    all_go_far go = All-weaker (GoesTo (length ops)) (GoesFar a.bound end) goes_far (all_lines block opening globals ops) go
+
+    -- ---- the words of labels
+
+    abbrev bound : (label : ℕ) → ℕ
+    bound = bound_in a.bound end
+
+    bound_block : (i : ℕ) → bound (label_of i) ≡ place block (length (front opening globals)) ops i
+    bound_block i = elim (cases_lt i (length ops)) [
+      | inl lt ↦ ap (word_or end) (is.labels i lt)
+      | inr ge ↦
+          let count = is.count in
+          let past : length a.bound ≤ label_of i = omega arith in
+          ap (word_or end) (get_or_past a.bound (label_of i) None past)
+          ∙ length-all ∙ sym (place_end block ops (length (front opening globals)) i ge)
+    ]
+
+    bound_copy : (n : ℕ) → n ≤ most_privates → bound (copy_label n) ≡ length opening + copy_offset n
+    bound_copy n few = ap (word_or end) (is.copies n few)
+
+    bound_clear : (n : ℕ) → n ≤ most_privates → bound (clear_label n) ≡ length copied_front + clear_offset n
+    bound_clear n few = ap (word_or end) (is.clears n few)
+
+    pub bound_start : bound start_label ≡ length (calls_front opening)
+    bound_start = ap (word_or end) is.starts
+
+    bound_spare : (label : ℕ) → IsSpare label → bound label ≤ end
+    bound_spare label spare = let e : bound label ≡ end = ap (word_or end) (is.spare label spare) in omega (arith, e)
+
+    -- one that is no label of a block
+    bound_low : (label : ℕ) → label < label_of 0 → bound label ≤ end
+    bound_low label low = elim (cases_lt most_privates label) [
+      | inr copy ↦
+          let e = bound_copy label (omega arith) in
+          let le = copy_end label (omega arith) in
+          omega (arith, e, le)
+      | inl more ↦ elim (cases_lt label (clear_label 0)) [
+        | inl less ↦ elim (cases_lt start_label label) [
+          | inl past ↦ bound_spare label (record { low = low; no_copy = λ n le e. omega arith; no_start = λ e. omega arith; no_clear = λ n le e. omega arith })
+          | inr here ↦
+              let same : label ≡ start_label = omega arith in
+              let e : bound label ≡ length (calls_front opening) = ap bound same ∙ bound_start in
+              let le = start_end in
+              omega (arith, e, le)
+        ]
+        | inr from ↦ elim (cases_lt (clear_label most_privates) label) [
+          | inl past ↦ bound_spare label (record { low = low; no_copy = λ n le e. omega arith; no_start = λ e. omega arith; no_clear = λ n le e. omega arith })
+          | inr clear ↦
+              let n = label - clear_label 0 in
+              let same : label ≡ clear_label n = omega arith in
+              let few : n ≤ most_privates = omega arith in
+              let e : bound label ≡ length copied_front + clear_offset n = ap bound same ∙ bound_clear n few in
+              let le = clear_end n few in
+              omega (arith, e, le)
+        ]
+      ]
+    ]
+
+    bound_within : (label : ℕ) → bound label ≤ end
+    bound_within label = elim (cases_lt label (label_of 0)) [
+      | inl low ↦ bound_low label low
+      | inr high ↦
+          let i = label - label_of 0 in
+          let same : label ≡ label_of i = omega arith in
+          let e : bound label ≡ place block (length (front opening globals)) ops i = ap bound same ∙ bound_block i in
+          let in' = place_within block ops (length (front opening globals)) i in
+          let whole = length-all in
+          omega arith
+    ]
+
+    abbrev pub places : Frames → Places
+    places frames = record { block = place block (length (front opening globals)) ops; frames = frames }
+
+    -- ---- all stands in an image
+
+    module _ (image : Image) (code : IsAssembled image a.bound (all_lines block opening globals ops)) where
+      abbrev all : List MarkedLine
+      all = all_lines block opening globals ops
+
+      pub has_labels : (frames : Frames) → HasLabels bound (places frames)
+      has_labels frames = record {
+        blocks = bound_block;
+        within = λ label. let in' = bound_within label in let few = code.few in omega arith;
+      }
+
+      behind : (xs ys : List MarkedLine) → Within all 0 (xs ++ ys) → Within all (length xs) ys
+      behind xs ys w =
+          let zero' : 0 + length xs ≡ length xs = omega arith in
+          subst (λ k. Within all k ys) zero' (within_back all xs ys 0 w)
+
+      in_front : Within all 0 (front opening globals)
+      in_front = within_front all (front opening globals) (flat_map block ops) 0 (within_self all)
+
+      in_calls : Within all 0 (calls_front opening)
+      in_calls = within_front all (calls_front opening) (start_lines globals) 0 in_front
+
+      in_copied : Within all 0 copied_front
+      in_copied = within_front all copied_front clearing_lines 0 in_calls
+
+      in_blocks : Within all (length (front opening globals)) (flat_map block ops)
+      in_blocks = behind (front opening globals) (flat_map block ops) (within_self all)
+
+      pub has_opening : LinesAt image bound 0 opening
+      has_opening = lines_at image a.bound all code end 0 opening (within_front all opening copying_lines 0 in_copied)
+
+      pub has_shared : HasShared image bound
+      has_shared = record {
+        copying =
+            stands_chain copy_label copy_offset copy_lines 2 copying_chain image a.bound all code end (length opening)
+            (behind opening copying_lines in_copied) bound_copy;
+        clearing =
+            stands_chain clear_label clear_offset clear_lines 1 clearing_chain image a.bound all code end (length copied_front)
+            (behind copied_front clearing_lines in_calls) bound_clear;
+      }
+
+      pub has_start : LinesAt image bound (bound start_label) (start_lines globals)
+      has_start =
+          subst (λ k. LinesAt image bound k (start_lines globals)) (sym bound_start)
+          (lines_at image a.bound all code end (length (calls_front opening)) (start_lines globals) (behind (calls_front opening) (start_lines globals) in_front))
+
+      pub has_block : (frames : Frames) (i : ℕ) (op : Placed) → slice_get ops i ≡ Some op → HasBlock image bound (places frames) i (block op)
+      has_block frames i op e = record {
+        labels = has_labels frames;
+        lines = lines_at image a.bound all code end (place block (length (front opening globals)) ops i) (block op)
+            (within_blocks block all ops (length (front opening globals)) i op in_blocks e);
+        next = place-suc block ops (length (front opening globals)) i op e;
+      }

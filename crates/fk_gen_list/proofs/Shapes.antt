@@ -1,0 +1,388 @@
+-- The labels that blocks go to, and how many words they have.
+use Rattle.std.proofs.Common.{◌≡◌, ℕ, zero, suc, ◌+◌, ◌-◌, ◌*◌, ◌<◌, ◌≤◌, List, [], ◌∷◌, ◌++◌, map, length, Bool, true, false, Option, Some, None, All, inl, inr, IfSome, ap, sym, subst, refl, arith, length-append}
+use Rattle.std.specs.Prelude.{◌==◌, nat_le, slice_get, flat_map, sum_by, ◌||◌, if◌then◌else◌}
+use Rattle.std.specs.Option.{option_map_or}
+use Rattle.std.proofs.lemmas.Bool.{leb-true}
+use Rattle.std.proofs.lemmas.List.{length-map}
+use Rattle.std.proofs.lemmas.List.Elements.{All-nil, All-cons, All-append, All-from_recursion, All-weaker}
+use Rattle.std.proofs.lemmas.List.Sums.{sum_by-cons}
+use Rattle.fk_num.specs.declared.operator.Op.{Op}
+use Rattle.fk_num.specs.declared.operator.Op.TheVariants as op
+use Rattle.fk_meaning_operation.specs.declared.operation.Known.{Known}
+use Rattle.fk_meaning_operation.specs.declared.operation.Known.TheVariants as known
+use Rattle.fk_meaning_operation.specs.declared.operation.Operation.{Operation}
+use Rattle.fk_meaning_operation.specs.declared.operation.Operation.TheVariants as o
+use Rattle.fk_core.specs.declared.op.CoreOp.{CoreOp}
+use Rattle.fk_core.specs.Next.{is_jump}
+use Rattle.fk_core.specs.Numbers.{operation_of}
+use Rattle.fk_meaning_store.specs.Store.{address_of}
+use Rattle.fk_isa.specs.declared.instruction.Instruction.{Instruction}
+use Rattle.fk_isa.specs.declared.instruction.Instruction.TheVariants.{Add}
+use Rattle.fk_asm.specs.Block.{MarkedLine}
+use Rattle.fk_gen.specs.declared.placed.Placed.{Placed}
+use Rattle.fk_gen.specs.Lines.{quiet, commits, high_part, load_by, load_number}
+use Rattle.fk_gen.specs.Registers.{t0, t1}
+use Rattle.fk_core_liveness.specs.declared.set.Set.{Set}
+use Rattle.fk_gen_access.specs.Blocks as accesses
+use Rattle.fk_gen_expr.specs.Expressions as expressions
+use Rattle.fk_gen_flow.specs.Blocks as flow
+use Rattle.fk_sim_block.specs.Next.{StandsOp}
+use Rattle.fk_gen_flow.specs.Calls as calls
+use Rattle.fk_gen_flow.specs.Calls.{most_privates}
+use Rattle.fk_gen_flow.specs.Flow as f
+use Rattle.fk_gen_group.specs.Blocks as group
+use Rattle.fk_gen_flow.specs.Opening.{register_lines, first_line, first_lines, opening_lines}
+use Rattle.fk_gen_list.specs.Generable.{IsGenerable, most_words, words_by}
+use Rattle.fk_gen_list.specs.declared.kind.Kind.{Kind}
+use Rattle.fk_gen_list.specs.declared.kind.Kind.TheVariants.{Flow, Access, Group, Expression}
+use Rattle.fk_gen_list.specs.Kinds.{kind_of, kind_by, block_in, block_of}
+use Rattle.fk_gen_list.specs.Layout.{placed, placed_from}
+use Rattle.fk_gen_list.proofs.Chain.{IsUnlabeled}
+use Rattle.fk_gen_list.proofs.Laid.{GoesTo, IsLabel}
+use Rattle.fk_gen_list.proofs.Near.{IsFar}
+use Rattle.fk_gen_list.proofs.Suited.{jump_none}
+
+-- ---- lines without labels
+
+pub go_nowhere : (n : ℕ) (ms : List MarkedLine) → All IsUnlabeled ms → All (GoesTo n) ms
+go_nowhere n ms u = All-weaker IsUnlabeled (GoesTo n) (λ m e. nowhere (λ label. IsLabel n label × IsFar m.line.instruction) m.line.label e) ms u
+  where
+    nowhere : (P : ℕ → Type 0) (label : Option ℕ) → label ≡ None → IfSome label P
+    nowhere P None e = tt
+    nowhere P (Some l) e = absurd (cc)
+
+quiet_all : (is : List Instruction) → All IsUnlabeled (map quiet is)
+quiet_all [] = All-nil IsUnlabeled
+quiet_all (i ∷ is) = All-cons IsUnlabeled (quiet i) (map quiet is) refl (quiet_all is)
+
+first_all : (is : List Instruction) → All IsUnlabeled (expressions.first_commits is)
+first_all [] = All-nil IsUnlabeled
+first_all (i ∷ is) = All-cons IsUnlabeled (commits i) (map quiet is) refl (quiet_all is)
+
+straight_all : (b : accesses.Straight) → All IsUnlabeled (accesses.lines b)
+straight_all b =
+    All-append IsUnlabeled (map quiet b.before) (commits b.commit ∷ map quiet b.behind) (quiet_all b.before)
+    (All-cons IsUnlabeled (commits b.commit) (map quiet b.behind) refl (quiet_all b.behind))
+
+test_all : (alone : Bool) (d : ℕ) → All IsUnlabeled (accesses.test_lines alone d)
+test_all true d = All-from_recursion IsUnlabeled (accesses.shared_test d) (refl, (refl, (refl, (refl, (refl, tt)))))
+test_all false d = All-from_recursion IsUnlabeled (accesses.any_test d) (refl, (refl, (refl, (refl, (refl, (refl, (refl, (refl, tt))))))))
+
+access_all : (operation : Option Operation) (d site : ℕ) → All IsUnlabeled (accesses.block_of operation d site)
+access_all (Some o.Take) d site = straight_all (accesses.take_block d)
+access_all (Some (o.Check alone)) d site =
+    All-append IsUnlabeled (map quiet (load_number site)) (accesses.test_lines alone d) (quiet_all (load_number site)) (test_all alone d)
+access_all (Some o.Read) d site = straight_all (accesses.read_block d)
+access_all (Some o.Write) d site = straight_all (accesses.write_block d)
+access_all (Some (o.Combine by)) d site = straight_all (accesses.combine_block by d)
+access_all (Some o.PrintNumber) d site = straight_all (accesses.print_block accesses.number_device d)
+access_all (Some o.PrintByte) d site = straight_all (accesses.print_block accesses.byte_device d)
+access_all operation d site = All-nil IsUnlabeled
+
+expression_all : (globals d : ℕ) (operation : Option Operation)
+    → All IsUnlabeled (option_map_or (expressions.expression_block globals d) operation [])
+expression_all globals d None = All-nil IsUnlabeled
+expression_all globals d (Some operation) = first_all (expressions.expression_code globals d operation)
+
+-- ---- lines with labels
+
+-- what an operation goes to is there
+abbrev Leads : (n : ℕ) → CoreOp → Option Operation → Type 0
+Leads n op (Some (o.Branch onward)) = op.target < n
+Leads n op (Some (o.Enter arguments)) = arguments ≤ most_privates
+Leads n op (Some o.Begin) = op.target < n
+Leads n op (Some o.Seq) = op.target < n
+Leads n op (Some o.End) = op.target < n
+Leads n op operation = Unit {0}
+
+jump_goes : (n target : ℕ) → target < n → GoesTo n (f.jump_line target)
+jump_goes n target lt = (inr (inr (omega arith, omega arith)), (0, refl))
+
+jump_all : (n target : ℕ) → target < n → All (GoesTo n) (f.jump_block target)
+jump_all n target lt = All-from_recursion (GoesTo n) (f.jump_block target) (jump_goes n target lt, tt)
+
+arguments_all : (n : ℕ) (own : Bool) (arguments : ℕ) → arguments ≤ most_privates → All (GoesTo n) (calls.copies_by own arguments)
+arguments_all n true zero le = All-nil (GoesTo n)
+arguments_all n true (suc k) le =
+    All-append (GoesTo n) (calls.copy_lines k) (calls.own_copies k) (All-from_recursion (GoesTo n) (calls.copy_lines k) (tt, (tt, tt)))
+    (arguments_all n true k (omega arith))
+arguments_all n false arguments le = All-from_recursion (GoesTo n) (calls.copies_by false arguments) ((inl (omega arith), (6, refl)), tt)
+
+clears_all : (n : ℕ) (clears : Bool) (arguments : ℕ) → All (GoesTo n) (calls.clears_by clears arguments)
+clears_all n true arguments = All-from_recursion (GoesTo n) (calls.clears_by true arguments) ((inr (inl (omega arith, omega arith)), (6, refl)), tt)
+clears_all n false arguments = All-nil (GoesTo n)
+
+flow_all : (n : ℕ) (clears : Bool) (op : CoreOp) (operation : Option Operation) → Leads n op operation → All (GoesTo n) (flow.block_by clears op operation)
+flow_all n clears op (Some (o.Branch onward)) leads =
+    All-from_recursion (GoesTo n) (f.branch_block onward op.depth op.target) (tt, (tt, (jump_goes n op.target leads, tt)))
+flow_all n clears op (Some (o.Leave true framed)) leads =
+    All-from_recursion (GoesTo n) (f.leave_block true op.depth) (tt, (tt, (tt, (tt, (tt, (tt, (tt, tt)))))))
+flow_all n clears op (Some (o.Leave false framed)) leads =
+    All-from_recursion (GoesTo n) (f.leave_block false op.depth) (tt, (tt, (tt, (tt, tt))))
+flow_all n clears op (Some (o.Enter arguments)) leads =
+    All-append (GoesTo n) (calls.depth_lines arguments op.depth op.site) (calls.word_lines clears arguments ++ calls.frame_lines)
+    (All-from_recursion (GoesTo n) (calls.depth_lines arguments op.depth op.site) (tt, (tt, (tt, (tt, (tt, (tt, (tt, tt))))))))
+    (All-append (GoesTo n) (calls.word_lines clears arguments) calls.frame_lines
+    (All-append (GoesTo n) (calls.argument_lines arguments) (calls.clears_by clears arguments) (arguments_all n (nat_le arguments 1) arguments leads) (clears_all n clears arguments))
+    (All-from_recursion (GoesTo n) calls.frame_lines (tt, (tt, (tt, (tt, tt))))))
+flow_all n clears op (Some o.Halt) leads = All-from_recursion (GoesTo n) f.halt_block (tt, tt)
+flow_all n clears op operation leads = All-nil (GoesTo n)
+
+flow_block_all : (n : ℕ) (clears : Bool) (op : CoreOp) → (is_jump op ≡ true → op.target < n)
+    → (is_jump op ≡ false → Leads n op (operation_of op.kind op.number)) → All (GoesTo n) (flow.flow_block clears op)
+flow_block_all n clears op jumps leads = by (is_jump op) jumps leads
+  where
+    by : (jump : Bool) → (jump ≡ true → op.target < n) → (jump ≡ false → Leads n op (operation_of op.kind op.number))
+        → All (GoesTo n) (if jump then f.jump_block op.target else flow.block_by clears op (operation_of op.kind op.number))
+    by true jumps leads = jump_all n op.target (jumps refl)
+    by false jumps leads = flow_all n clears op (operation_of op.kind op.number) (leads refl)
+
+meet_all : (n word size : ℕ) → All (GoesTo n) (group.meet_block word size)
+meet_all n word size =
+    go_nowhere n (group.meet_block word size)
+    (All-from_recursion IsUnlabeled (group.meet_block word size) (refl, (refl, (refl, (refl, (refl, (refl, (refl, (refl, (refl, (refl, (refl, tt))))))))))))
+
+group_all : (n : ℕ) (op : CoreOp) (operation : Option Operation) → Leads n op operation → All (GoesTo n) (group.block_of operation op.depth op.target)
+group_all n op (Some o.Begin) leads =
+    All-from_recursion (GoesTo n) (group.begin_block op.depth op.target) (tt, ((inl (omega arith), (1, refl)), (jump_goes n op.target leads, tt)))
+group_all n op (Some o.Agree) leads = All-from_recursion (GoesTo n) (group.agree_block op.depth) (tt, (tt, (tt, (tt, tt))))
+group_all n op (Some o.Farm) leads = All-from_recursion (GoesTo n) group.farm_block (tt, tt)
+group_all n op (Some o.Seq) leads =
+    All-from_recursion (GoesTo n) (group.seq_block op.target) (tt, (tt, (tt, (tt, (tt, (jump_goes n op.target leads, (tt, tt)))))))
+group_all n op (Some o.End) leads =
+    All-from_recursion (GoesTo n) (group.end_block op.target) (tt, (tt, (tt, (tt, (tt, (tt, (jump_goes n op.target leads, tt)))))))
+group_all n op (Some o.Resume) leads = meet_all n 1 20
+group_all n op (Some (o.Meet false)) leads = meet_all n 0 11
+group_all n op (Some (o.Meet true)) leads = meet_all n 1 20
+group_all n op operation leads = All-nil (GoesTo n)
+
+-- a jump is no operation, and so none that leads anywhere
+leads_all : (n : ℕ) (op : CoreOp) (jump : Bool) → is_jump op ≡ jump → (is_jump op ≡ false → Leads n op (operation_of op.kind op.number))
+    → Leads n op (operation_of op.kind op.number)
+leads_all n op true j leads = subst (Leads n op) (sym (jump_none op j)) tt
+leads_all n op false j leads = leads j
+
+block_all : (n : ℕ) (p : Placed) → (is_jump p.op ≡ true → p.op.target < n)
+    → (is_jump p.op ≡ false → Leads n p.op (operation_of p.op.kind p.op.number)) → All (GoesTo n) (block_of p)
+block_all n p jumps leads = by (kind_of p.op)
+  where
+    by : (kind : Kind) → All (GoesTo n) (block_in kind p)
+    by Flow = flow_block_all n p.clears p.op jumps leads
+    by Access = go_nowhere n _ (access_all (operation_of p.op.kind p.op.number) p.op.depth p.op.site)
+    by Group = group_all n p.op (operation_of p.op.kind p.op.number) (leads_all n p.op (is_jump p.op) refl leads)
+    by Expression = go_nowhere n _ (expression_all p.globals p.op.depth (operation_of p.op.kind p.op.number))
+
+-- ---- in a list
+
+leads_by : (core : List CoreOp) (kept : List Set) (main : ℕ) (firsts : List ℕ) (i : ℕ) (op : CoreOp) (operation : Option Operation)
+    → IsGenerable core kept main firsts → slice_get core i ≡ Some op → is_jump op ≡ false → operation_of op.kind op.number ≡ operation
+    → Leads (length core) op operation
+leads_by core kept main firsts i op (Some (o.Branch onward)) is e quiet' read =
+    is.blocks.targets i op (o.Branch onward) (record { stands = e; no_jump = quiet'; is_read = read }) refl
+leads_by core kept main firsts i op (Some (o.Enter arguments)) is e quiet' read =
+    let stands : StandsOp core i op (o.Enter arguments) = record { stands = e; no_jump = quiet'; is_read = read } in
+    (is.suits.fits i op (o.Enter arguments) stands).goes_on.few
+leads_by core kept main firsts i op (Some o.Begin) is e quiet' read = is.blocks.targets i op o.Begin (record { stands = e; no_jump = quiet'; is_read = read }) refl
+leads_by core kept main firsts i op (Some o.Seq) is e quiet' read = is.blocks.targets i op o.Seq (record { stands = e; no_jump = quiet'; is_read = read }) refl
+leads_by core kept main firsts i op (Some o.End) is e quiet' read = is.blocks.targets i op o.End (record { stands = e; no_jump = quiet'; is_read = read }) refl
+leads_by core kept main firsts i op operation is e quiet' read = tt
+
+jumps_to : (core : List CoreOp) (kept : List Set) (main : ℕ) (firsts : List ℕ) (i : ℕ) (op : CoreOp) → IsGenerable core kept main firsts
+    → slice_get core i ≡ Some op → is_jump op ≡ true → op.target < length core
+jumps_to core kept main firsts i op is e jump = is.blocks.jumps i op e jump
+
+pub op_goes : (core : List CoreOp) (kept : List Set) (main : ℕ) (firsts : List ℕ) (globals i : ℕ) (op : CoreOp) → IsGenerable core kept main firsts
+    → slice_get core i ≡ Some op → All (GoesTo (length core)) (block_of (placed globals kept i op))
+op_goes core kept main firsts globals i op is e =
+    block_all (length core) (placed globals kept i op) (jumps_to core kept main firsts i op is e)
+    (λ quiet'. leads_by core kept main firsts i op (operation_of op.kind op.number) is e quiet' refl)
+
+-- ---- how many words
+
+number_few : (short : Bool) (n : ℕ) → length (load_by short n) ≤ 2
+number_few true n = omega arith
+number_few false n = omega arith
+
+test_few : (alone : Bool) (d : ℕ) → length (accesses.test_lines alone d) ≤ 8
+test_few true d = omega arith
+test_few false d = omega arith
+
+access_length : (operation : Option Operation) (d site : ℕ) → length (accesses.block_of operation d site) ≤ 15
+access_length (Some o.Take) d site = omega arith
+access_length (Some (o.Check alone)) d site =
+    let all = length-append (map quiet (load_number site)) (accesses.test_lines alone d) in
+    let same = length-map (load_number site) quiet in
+    let number = number_few (high_part site == 0) site in
+    let test = test_few alone d in
+    omega arith
+access_length (Some o.Read) d site = omega arith
+access_length (Some o.Write) d site = omega arith
+access_length (Some (o.Combine by)) d site = omega arith
+access_length (Some o.PrintNumber) d site = omega arith
+access_length (Some o.PrintByte) d site = omega arith
+access_length operation d site = omega arith
+
+access_words : (operation : Option Operation) (d site : ℕ) → length (accesses.block_of operation d site) ≤ words_by operation
+access_words (Some (o.Enter arguments)) d site = omega arith
+access_words operation d site = access_length operation d site
+
+first_length : (is : List Instruction) → length (expressions.first_commits is) ≡ length is
+first_length [] = refl
+first_length (i ∷ is) = ap suc (length-map is quiet)
+
+join_length : (d : ℕ) (sign : Op) (first second : ℕ) → length (expressions.join_code d sign first second) ≤ 15
+join_length d op.LeS first second = omega arith
+join_length d op.LeU first second = omega arith
+join_length d op.Eq first second = omega arith
+join_length d op.Ne first second = omega arith
+join_length d op.MinS first second = omega arith
+join_length d op.MaxS first second = omega arith
+join_length d op.MinU first second = omega arith
+join_length d op.MaxU first second = omega arith
+join_length d sign first second = omega arith
+
+push_length : (d n : ℕ) → length (expressions.push_number d n) ≤ 15
+push_length d n =
+    let all = length-append (load_number n) (expressions.store_value t0 (d + 1) ∷ []) in
+    let number = number_few (high_part n == 0) n in
+    omega arith
+
+index_length : (d size : ℕ) (is_word : Bool) (a b c s : Instruction) → length (a ∷ b ∷ (expressions.times_size is_word size ++ c ∷ s ∷ [])) ≤ 15
+index_length d size true a b c s = omega arith
+index_length d size false a b c s = omega arith
+
+get_length : (globals d : ℕ) (which : Known) → length (expressions.get_code globals d which) ≤ 15
+get_length globals d (known.Value variable) = omega arith
+get_length globals d known.Rank = omega arith
+get_length globals d known.GroupNumber = omega arith
+get_length globals d known.GroupSize = omega arith
+get_length globals d known.ProcessorNumber = omega arith
+get_length globals d known.Processors = omega arith
+get_length globals d known.InputLength = omega arith
+get_length globals d known.InputAddress = push_length d (address_of globals)
+get_length globals d (known.FrameAddress nesting word) = omega arith
+
+code_length : (globals d : ℕ) (operation : Operation) → length (expressions.expression_code globals d operation) ≤ words_by (Some operation)
+code_length globals d (o.Push n) = push_length d n
+code_length globals d (o.Get which) = get_length globals d which
+code_length globals d (o.Set variable) = omega arith
+code_length globals d o.DropLast = omega arith
+code_length globals d o.CopyLast = omega arith
+code_length globals d (o.Apply sign) = omega arith
+code_length globals d (o.Join sign false) = join_length d sign t0 t1
+code_length globals d (o.Join sign true) = join_length d sign t1 t0
+code_length globals d (o.Index size) =
+    index_length d size (size == 4) (expressions.load_value t0 (d - 1)) (expressions.load_value t1 d) (Add t0 t0 t1) (expressions.store_value t0 (d - 1))
+code_length globals d operation = omega arith
+
+expression_words : (globals d : ℕ) (operation : Option Operation)
+    → length (option_map_or (expressions.expression_block globals d) operation []) ≤ words_by operation
+expression_words globals d None = omega arith
+expression_words globals d (Some operation) =
+    let same = first_length (expressions.expression_code globals d operation) in
+    let few = code_length globals d operation in
+    omega arith
+
+own_length : (n : ℕ) → length (calls.own_copies n) ≡ 2 * n
+own_length zero = refl
+own_length (suc n) = let e = own_length n in omega arith
+
+arguments_few : (own : Bool) (arguments : ℕ) → nat_le arguments 1 ≡ own → length (calls.copies_by own arguments) ≤ 2
+arguments_few true arguments e = let few = leb-true arguments 1 e in let all = own_length arguments in omega arith
+arguments_few false arguments e = omega arith
+
+clears_few : (clears : Bool) (arguments : ℕ) → length (calls.clears_by clears arguments) ≤ 1
+clears_few true arguments = omega arith
+clears_few false arguments = omega arith
+
+flow_words : (clears : Bool) (op : CoreOp) (operation : Option Operation) → length (flow.block_by clears op operation) ≤ words_by operation
+flow_words clears op (Some (o.Branch onward)) = omega arith
+flow_words clears op (Some (o.Leave true framed)) = omega arith
+flow_words clears op (Some (o.Leave false framed)) = omega arith
+flow_words clears op (Some (o.Enter arguments)) =
+    let all = length-append (calls.word_lines clears arguments) calls.frame_lines in
+    let both = length-append (calls.argument_lines arguments) (calls.clears_by clears arguments) in
+    let few = arguments_few (nat_le arguments 1) arguments refl in
+    let one = clears_few clears arguments in
+    omega arith
+flow_words clears op (Some o.Halt) = omega arith
+flow_words clears op operation = omega arith
+
+group_words : (operation : Option Operation) (d target : ℕ) → length (group.block_of operation d target) ≤ words_by operation
+group_words (Some o.Begin) d target = omega arith
+group_words (Some o.Agree) d target = omega arith
+group_words (Some o.Farm) d target = omega arith
+group_words (Some o.Seq) d target = omega arith
+group_words (Some o.End) d target = omega arith
+group_words (Some o.Resume) d target = omega arith
+group_words (Some (o.Meet false)) d target = omega arith
+group_words (Some (o.Meet true)) d target = omega arith
+group_words operation d target = omega arith
+
+words_of : (jump : Bool) (p : Placed) (operation : Option Operation) → is_jump p.op ≡ jump → operation_of p.op.kind p.op.number ≡ operation
+    → length (block_in (kind_by (jump || flow.is_some_flow operation) (accesses.is_access operation) (group.is_group_step operation)) p)
+    ≤ (if jump then 1 else words_by operation)
+words_of true p operation j read = rw j (omega arith)
+words_of false p operation j read = by (kind_by (flow.is_some_flow operation) (accesses.is_access operation) (group.is_group_step operation))
+  where
+    by : (kind : Kind) → length (block_in kind p) ≤ words_by operation
+    by Flow = rw (j, read) (flow_words p.clears p.op operation)
+    by Access = rw read (access_words operation p.op.depth p.op.site)
+    by Group = rw read (group_words operation p.op.depth p.op.target)
+    by Expression = rw read (expression_words p.globals p.op.depth operation)
+
+block_words : (p : Placed) → length (block_of p) ≤ most_words p.op
+block_words p = words_of (is_jump p.op) p (operation_of p.op.kind p.op.number) refl refl
+
+pub all_words : (globals : ℕ) (kept : List Set) (k : ℕ) (core : List CoreOp) → length (flat_map block_of (placed_from globals kept k core)) ≤ sum_by most_words core
+all_words globals kept k [] = omega arith
+all_words globals kept k (op ∷ core) =
+    let rest = all_words globals kept (suc k) core in
+    let sum = length-append (block_of (placed globals kept k op)) (flat_map block_of (placed_from globals kept (suc k) core)) in
+    let most = sum_by-cons most_words op core in
+    let one = block_words (placed globals kept k op) in
+    omega (arith, rest, sum, most, one)
+
+-- ---- the opening
+
+firsts_all : (i : ℕ) (firsts : List ℕ) → All IsUnlabeled (first_lines i firsts)
+firsts_all i [] = All-nil IsUnlabeled
+firsts_all i (v ∷ firsts) =
+    All-append IsUnlabeled (first_line i v) (first_lines (suc i) firsts)
+    (All-from_recursion IsUnlabeled (first_line i v) (refl, (refl, (refl, tt)))) (firsts_all (suc i) firsts)
+
+registers_all : (of_file : ℕ) → All IsUnlabeled (register_lines of_file)
+registers_all of_file =
+    All-from_recursion IsUnlabeled (register_lines of_file)
+    (refl, (refl, (refl, (refl, (refl, (refl, (refl, (refl, (refl, (refl, (refl, (refl, (refl, (refl, tt))))))))))))))
+
+pub opening_goes : (n of_file : ℕ) (firsts : List ℕ) (main : ℕ) → main < n → All (GoesTo n) (opening_lines of_file firsts main)
+opening_goes n of_file firsts main lt =
+    All-append (GoesTo n) (register_lines of_file ++ first_lines 0 firsts) (f.jump_block main)
+    (go_nowhere n (register_lines of_file ++ first_lines 0 firsts)
+    (All-append IsUnlabeled (register_lines of_file) (first_lines 0 firsts) (registers_all of_file) (firsts_all 0 firsts)))
+    (jump_all n main lt)
+
+firsts_length : (i : ℕ) (firsts : List ℕ) → length (first_lines i firsts) ≡ 3 * length firsts
+firsts_length i [] = refl
+firsts_length i (v ∷ firsts) = let rest = firsts_length (suc i) firsts in omega arith
+
+pub opening_length : (of_file : ℕ) (firsts : List ℕ) (main : ℕ) → length (opening_lines of_file firsts main) ≡ 3 * length firsts + 15
+opening_length of_file firsts main =
+    let sum = length-append (register_lines of_file ++ first_lines 0 firsts) (f.jump_block main) in
+    let sum' = length-append (register_lines of_file) (first_lines 0 firsts) in
+    let firsts' = firsts_length 0 firsts in
+    omega arith
+
+-- ---- the code that beginnings of `start` share
+
+pub start_goes : (n globals : ℕ) → All (GoesTo n) (group.start_lines globals)
+start_goes n globals =
+    go_nowhere n (group.start_lines globals)
+    (All-append IsUnlabeled group.meet_lines (group.telling_lines ++ (group.size_lines ++ group.parting_lines globals))
+    (All-from_recursion IsUnlabeled group.meet_lines (refl, (refl, (refl, (refl, (refl, (refl, (refl, (refl, (refl, (refl, (refl, tt))))))))))))
+    (All-append IsUnlabeled group.telling_lines (group.size_lines ++ group.parting_lines globals)
+    (All-from_recursion IsUnlabeled group.telling_lines (refl, (refl, tt)))
+    (All-append IsUnlabeled group.size_lines (group.parting_lines globals)
+    (All-from_recursion IsUnlabeled group.size_lines (refl, (refl, (refl, (refl, (refl, (refl, (refl, (refl, tt)))))))))
+    (All-from_recursion IsUnlabeled (group.parting_lines globals) (refl, (refl, (refl, (refl, (refl, (refl, (refl, (refl, (refl, tt)))))))))))))

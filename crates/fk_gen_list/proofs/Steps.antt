@@ -1,0 +1,137 @@
+-- The steps that lay the code of a list.
+use Rattle.std.proofs.Common.{◌≡◌, ℕ, ◌+◌, ◌*◌, ◌^◌, ◌<◌, ◌≤◌, List, length, None, Result, Ok, Err, IfOk, All, ap, sym, ◌∙◌, arith}
+use Rattle.std.specs.Prelude.{flat_map, slice_index_or, slice_set, Some, replicate, sum_by}
+use Rattle.std.proofs.lemmas.List.Elements.{All-weaker}
+use Rattle.fk_core.specs.declared.op.CoreOp.{CoreOp}
+use Rattle.fk_asm.specs.Assembly.{Assembly, empty, AreFollowed}
+use Rattle.fk_asm.specs.Block.{MarkedLine, GoesToMade, with_block}
+use Rattle.fk_core_liveness.specs.declared.set.Set.{Set}
+use Rattle.fk_gen.specs.Lines.{clear_label, label_of}
+use Rattle.fk_gen_flow.specs.Calls.{most_privates}
+use Rattle.fk_gen.specs.declared.placed.Placed.{Placed}
+use Rattle.fk_gen_group.specs.Blocks.{start_label, start_lines}
+use Rattle.fk_gen_list.specs.Generable.{IsGenerable, most_words}
+use Rattle.fk_gen_list.specs.Kinds.{block_of}
+use Rattle.fk_gen_list.specs.Layout.{copying_lines, clearing_lines, AddsBlocks, AddsCopying, AddsClearing, AddsStart, IsLaid}
+use Rattle.fk_gen_list.proofs.Blocks.{length-with_block}
+use Rattle.fk_gen_list.proofs.Laid.{GoesTo, length-copying, length-clearing, length-start, start_count, start_other, laid_all}
+use Rattle.fk_gen_list.proofs.Laying.{few_ops, goes_to_made, labelled, opened_words, opened_labels, opened_free, opened_followed}
+use Rattle.fk_gen_list.proofs.Shapes.{all_words, opening_length}
+use Rattle.fk_gen_list.proofs.Whole.{ops, opening, length-ops, blocks_go, few_firsts}
+
+-- what is so of an answer for two reasons
+pub if_ok_two : {T E : Type 0} (r : Result T E) (P Q R : T → Type 0) → ((v : T) → P v → Q v → R v) → IfOk r P → IfOk r Q → IfOk r R
+if_ok_two (Ok v) P Q R f p q = f v p q
+if_ok_two (Err e) P Q R f p q = tt
+
+pub short_list : (core : List CoreOp) → sum_by most_words core ≤ 256000 → length core ≤ 256000
+short_list core small = let few = few_ops core in omega arith
+
+module _ (core : List CoreOp) (kept : List Set) (main : ℕ) (firsts : List ℕ) (globals : ℕ) (is : IsGenerable core kept main firsts)
+    (small : sum_by most_words core ≤ 256000) (begun opened : Assembly)
+    (e1 : begun ≡ record empty { bound = replicate (label_of (length core)) None })
+    (e2 : opened ≡ with_block begun (opening core kept main firsts globals is)) where
+  abbrev first : List MarkedLine
+  first = opening core kept main firsts globals is
+
+  made : opened ≡ with_block (labelled (length core) first) first
+  made = e2 ∙ ap (λ (a : Assembly). with_block a first) e1
+
+  words : length opened.lines ≡ 3 * length firsts + 15
+  words = opened_words (length core) first opened made ∙ opening_length (length firsts) firsts main
+
+  pub room_for_copying : length opened.lines < 2 ^ 20
+  room_for_copying = let w = words in let few = few_firsts core kept main firsts globals is in omega arith
+
+  pub followed : AreFollowed opened
+  followed = opened_followed (length core) first opened made
+
+  pub labels_opened : length opened.bound ≡ label_of (length core)
+  labels_opened = opened_labels (length core) first opened made
+
+  pub free_opened : (label : ℕ) → label < label_of (length core) → slice_index_or opened.bound label None ≡ None
+  free_opened = opened_free (length core) first opened made
+
+  module _ (copied : Assembly) (copies : AddsCopying opened copied) where
+    pub words_copied : length copied.lines ≡ 3 * length firsts + 128
+    words_copied =
+        let w = words in
+        let grown : length copied.lines ≡ length opened.lines + length copying_lines =
+        ap (λ (a : Assembly). length a.lines) copies.made ∙ length-with_block opened copying_lines in
+        let copying = length-copying in
+        omega (arith, w, grown, copying)
+
+    pub room_for_clearing : length copied.lines < 2 ^ 20
+    room_for_clearing = let w = words_copied in let few = few_firsts core kept main firsts globals is in omega (arith, w, few)
+
+    pub labels_copied : length copied.bound ≡ label_of (length core)
+    labels_copied = copies.count ∙ labels_opened
+
+    pub free_copied : (n : ℕ) → n ≤ most_privates → slice_index_or copied.bound (clear_label n) None ≡ None
+    free_copied n le =
+        copies.others (clear_label n) (λ m few e. absurd (omega arith))
+        ∙ free_opened (clear_label n) (omega arith)
+
+    module _ (cleared : Assembly) (clears : AddsClearing copied cleared) where
+      words_cleared : length cleared.lines ≡ 3 * length firsts + 185
+      words_cleared =
+          let w = words_copied in
+          let grown : length cleared.lines ≡ length copied.lines + length clearing_lines =
+          ap (λ (a : Assembly). length a.lines) clears.made ∙ length-with_block copied clearing_lines in
+          let clearing = length-clearing in
+          omega (arith, w, grown, clearing)
+
+      pub room_for_starting : length cleared.lines < 2 ^ 20
+      room_for_starting = let w = words_cleared in let few = few_firsts core kept main firsts globals is in omega (arith, w, few)
+
+      pub labels_cleared : length cleared.bound ≡ label_of (length core)
+      labels_cleared = clears.count ∙ labels_copied
+
+      pub free_cleared : slice_index_or cleared.bound start_label None ≡ None
+      free_cleared =
+          clears.others start_label (λ m few e. absurd (omega arith))
+          ∙ copies.others start_label (λ m few e. absurd (omega arith))
+          ∙ free_opened start_label (omega arith)
+
+      module _ (started : Assembly) (starts : AddsStart globals cleared started) where
+        abbrev list : List Placed
+        list = ops core kept main firsts globals is
+
+        labels_started : length started.bound ≡ label_of (length core)
+        labels_started = start_count globals cleared started starts ∙ labels_cleared
+
+        pub blocks_made : All (λ op. All (GoesToMade started.bound) (block_of op)) (ops core kept main firsts globals is)
+        blocks_made =
+            let count : length started.bound ≡ label_of (length list) = labels_started ∙ ap label_of (sym (length-ops core kept main firsts globals is)) in
+            All-weaker (λ op. All (GoesTo (length list)) (block_of op))
+            (λ op. All (GoesToMade started.bound) (block_of op))
+            (λ op go. goes_to_made (length list) started.bound (block_of op) count go)
+            list (blocks_go core kept main firsts globals is)
+
+        pub room_for_blocks : length started.lines + length (flat_map block_of (ops core kept main firsts globals is)) < 2 ^ 30
+        room_for_blocks =
+            let w = words_cleared in
+            let few = few_firsts core kept main firsts globals is in
+            let grown : length started.lines ≡ length cleared.lines + length (start_lines globals) =
+            ap (λ (a : Assembly). length a.lines) starts
+            ∙ length-with_block (record cleared { bound = slice_set cleared.bound start_label (Some (length cleared.lines)) }) (start_lines globals) in
+            let start = length-start globals in
+            let blocks = all_words globals kept 0 core in
+            omega (arith, w, few, grown, start, blocks, small)
+
+        pub labels_free : (i : ℕ) → i < length core → slice_index_or started.bound (label_of i) None ≡ None
+        labels_free i lt =
+            start_other globals cleared started starts (label_of i) (λ e. omega arith)
+            ∙ clears.others (label_of i) (λ m few e. absurd (omega arith))
+            ∙ copies.others (label_of i) (λ m few e. absurd (omega arith))
+            ∙ free_opened (label_of i) (omega arith)
+
+        pub enough_labels : label_of (length core) ≤ length started.bound
+        enough_labels = let e = labels_started in omega (arith, e)
+
+        pub all_laid : (laid : Assembly) → AddsBlocks block_of (ops core kept main firsts globals is) started laid
+            → IsLaid block_of first globals (ops core kept main firsts globals is) laid
+        all_laid laid blocks =
+            let again : opened ≡ with_block (labelled (length list) first) first =
+            made ∙ ap (λ (n : ℕ). with_block (labelled n first) first) (sym (length-ops core kept main firsts globals is)) in
+            laid_all block_of first globals list opened copied cleared started laid again copies clears starts blocks

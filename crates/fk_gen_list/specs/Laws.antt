@@ -1,0 +1,123 @@
+-- What the code of a list does for processors by themselves.
+use Rattle.std.specs.Prelude.{◌≡◌, ℕ, suc, ◌<◌, ◌≤◌, ◌^◌, List, length, Bool, true, false, Some, slice_get, slice_index}
+use Rattle.fk_meaning_operation.specs.declared.operation.Operation.{Operation}
+use Rattle.fk_meaning_operation.specs.declared.operation.Operation.TheVariants.{Begin, Seq, End, Halt}
+use Rattle.fk_meaning.specs.Processor.{Setting}
+use Rattle.fk_core.specs.declared.op.CoreOp.{CoreOp}
+use Rattle.fk_core.specs.Next.{is_jump}
+use Rattle.fk_image.specs.declared.Image.{Image}
+use Rattle.fk_machine.specs.Hart.{Setting as MachineSetting}
+use Rattle.fk_sim_block.specs.Stands.{Places}
+use Rattle.fk_sim_block.specs.Next.{StandsOp}
+use Rattle.fk_sim_block.specs.Ready.{is_alone}
+use Rattle.fk_sim_block.specs.Suits.{Suits}
+use Rattle.fk_sim_block.specs.Block.{IsRunning, BlockHalts, beginner, most_before, most_behind}
+use Rattle.fk_core_liveness.specs.declared.set.Set.{Set}
+use Rattle.fk_gen.specs.InPlace.{HasBlock}
+use Rattle.fk_gen_flow.specs.Calls.{HasShared}
+use Rattle.fk_gen_flow.specs.Laws.{JumpsStand}
+use Rattle.fk_gen_list.specs.Kinds.{block_in}
+use Rattle.fk_gen_list.specs.Layout.{placed}
+use Rattle.fk_gen_list.specs.Generable.{AreKept}
+use Rattle.fk_sim_block.specs.Node.{Gathering, Nestings, HasLevelRoom}
+use Rattle.fk_sim_block.specs.Lockstep.{LevelsStay, values_of_step}
+use Rattle.fk_sim_block.specs.Law.{Cycles, GroupLaw, BlockDoesInNode, BlockJumpsInNode, BeginsInNode}
+use Rattle.fk_gen_group.specs.Blocks.{HasStart, block_of as block_of_step, is_group_step}
+use Rattle.fk_gen_group.specs.Start.{gathering_of}
+use Rattle.fk_gen_group.specs.InNode.{LevelsFit}
+use Rattle.fk_gen_list.specs.Cycles.{lone_kind, cycles_of}
+
+-- what a processor does alone, and a halt
+abbrev pub is_lone : Operation → Bool
+is_lone Halt = true
+is_lone operation = is_alone operation
+
+-- the blocks of these stand at their indices, those of calls as they have to clear where such words are kept; and so do jumps, and the
+-- code that calls share
+pub record HasLoneCode (core : List CoreOp) (kept : List Set) (image : Image) (bound : ℕ → ℕ) (places : Places) : Type 0 where
+  pub blocks : (i : ℕ) (op : CoreOp) (operation : Operation) → StandsOp core i op operation → is_lone operation ≡ true
+      → HasBlock image bound places i (block_in (lone_kind operation) (placed (length image.globals.items) kept i op))
+  pub jumps : JumpsStand core image bound places
+  pub shared : HasShared image bound
+
+-- the numbers of a list are words, and there are no more globals than shared words
+pub record AreInRange (core : List CoreOp) (image : Image) : Type 0 where
+  pub words : (i : ℕ) (op : CoreOp) → slice_get core i ≡ Some op → (op.site < 2 ^ 32) × (op.number < 2 ^ 32)
+  pub globals : length image.globals.items ≤ 2 ^ 20
+
+-- the levels round a processor fit all that it does alone, and stay at jumps
+pub record HaveLevels (core : List CoreOp) (places : Places) (nestings : Nestings) : Type 0 where
+  pub operations : (i : ℕ) (op : CoreOp) (operation : Operation) → StandsOp core i op operation → is_alone operation ≡ true
+      → LevelsFit core places nestings i op operation
+  pub jumps : (i : ℕ) (op : CoreOp) → slice_get core i ≡ Some op → is_jump op ≡ true → LevelsStay nestings i op.target
+
+-- the parts of the law of blocks of groups in which a processor acts alone
+pub record DoesAlone (core : List CoreOp) (image : Image) (places : Places) (nestings : Nestings) (cycles : Cycles) : Type 0 where
+  pub few_before : (i : ℕ) → cycles.before i ≤ most_before
+  pub few_behind : (i : ℕ) (onward : Bool) → cycles.behind i onward ≤ most_behind
+  pub alone : (i : ℕ) (op : CoreOp) (operation : Operation) → StandsOp core i op operation → is_alone operation ≡ true
+      → BlockDoesInNode core image places nestings cycles i op operation
+  pub jumps : (i : ℕ) (op : CoreOp) → slice_get core i ≡ Some op → is_jump op ≡ true → BlockJumpsInNode core image places nestings i op
+  pub halts : (i : ℕ) (op : CoreOp) → StandsOp core i op Halt → BlockHalts core image places i op
+
+-- a list does so where its code stands in an image, and it suits frames in which calls keep no other words
+abbrev pub ListsDoAlone : Type 0
+ListsDoAlone =
+    (core : List CoreOp) (kept : List Set) (image : Image) (bound : ℕ → ℕ) (places : Places) (nestings : Nestings) (main : ℕ)
+    → Suits core places.frames main → AreKept places.frames kept → AreInRange core image → HasLoneCode core kept image bound places
+    → HaveLevels core places nestings → DoesAlone core image places nestings (cycles_of core (length image.globals.items) kept)
+
+-- ---- with steps of groups
+
+-- steps behind which some go on at the target
+abbrev pub leads_away : Operation → Bool
+leads_away Begin = true
+leads_away Seq = true
+leads_away End = true
+leads_away operation = false
+
+-- the block of each step stands at its index, and so does the code that beginnings of `start` share
+pub record HasGroupCode (core : List CoreOp) (image : Image) (bound : ℕ → ℕ) (places : Places) : Type 0 where
+  pub blocks : (i : ℕ) (op : CoreOp) (operation : Operation) → StandsOp core i op operation → is_group_step (Some operation) ≡ true
+      → HasBlock image bound places i (block_of_step (Some operation) op.depth op.target)
+  pub start : HasStart image bound
+
+-- a step finds the value that it looks at
+abbrev pub StepsHaveValues : List CoreOp → Type 0
+StepsHaveValues core =
+    (i : ℕ) (op : CoreOp) (operation : Operation) → StandsOp core i op operation → is_group_step (Some operation) ≡ true → values_of_step operation ≤ op.depth
+
+-- the levels round a processor have room where it comes to one, and stay where it goes on
+pub record HaveStepLevels (core : List CoreOp) (places : Places) (nestings : Nestings) : Type 0 where
+  pub room : (i : ℕ) (op : CoreOp) (operation : Operation) → StandsOp core i op operation → is_group_step (Some operation) ≡ true
+      → HasLevelRoom places.frames nestings i op.depth
+  pub stay : (i : ℕ) (op : CoreOp) (operation : Operation) → StandsOp core i op operation → is_group_step (Some operation) ≡ true
+      → LevelsStay nestings i (suc i)
+  pub leads : (i : ℕ) (op : CoreOp) (operation : Operation) → StandsOp core i op operation → leads_away operation ≡ true → LevelsStay nestings i op.target
+
+-- each hart comes from the opening to the block where `main` begins, in the root
+abbrev pub HartsBeginInNode : (core : List CoreOp) → Image → Places → Nestings → (firsts : List ℕ) → (main : ℕ) → Type 0
+HartsBeginInNode core image places nestings firsts main =
+    (setting : Setting) (t : MachineSetting) (number : ℕ) → IsRunning image setting t → number < setting.processors
+    → BeginsInNode core image places nestings setting t (beginner setting (slice_index firsts) main number)
+
+-- with these, and with an opening that leads there, the whole law holds
+abbrev pub ListsHaveTheLaw : Type 0
+ListsHaveTheLaw =
+    (core : List CoreOp) (kept : List Set) (image : Image) (bound : ℕ → ℕ) (places : Places) (nestings : Nestings) (firsts : List ℕ) (main : ℕ)
+    → Suits core places.frames main → AreKept places.frames kept → AreInRange core image → HasLoneCode core kept image bound places
+    → HaveLevels core places nestings → HasGroupCode core image bound places → StepsHaveValues core → HaveStepLevels core places nestings
+    → nestings.start ≡ gathering_of core bound → HartsBeginInNode core image places nestings firsts main
+    → GroupLaw core image places nestings (cycles_of core (length image.globals.items) kept) firsts main
+
+-- ---- without levels
+
+-- no level stands in a frame
+abbrev pub none_saved : (start : Gathering) → Nestings
+none_saved start = record { levels = λ index. 0; behind = λ index. 0; start = start }
+
+-- these fit each list that suits frames
+abbrev pub LevelsNeedNoRoom : Type 0
+LevelsNeedNoRoom =
+    (core : List CoreOp) (places : Places) (start : Gathering) (main : ℕ) → Suits core places.frames main
+    → HaveLevels core places (none_saved start) × HaveStepLevels core places (none_saved start)

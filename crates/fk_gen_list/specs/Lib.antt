@@ -1,0 +1,7 @@
+pub mod Layout
+pub mod Kinds
+pub mod Generable
+pub mod Cycles
+pub mod Laws
+pub mod Opening
+pub mod Whole

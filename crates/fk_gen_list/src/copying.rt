@@ -1,0 +1,54 @@
+//! The code that calls share.
+
+ghost use Rattle.std.specs.Prelude.{◌≡◌, ◌+◌, ◌^◌, ◌<◌, ◌≤◌, ℕ, None, OnOk, length, slice_index_or};
+ghost use Rattle.fk_asm.specs.Assembly.{AreFollowed};
+ghost use Rattle.fk_gen.specs.Lines.{copy_label, clear_label, label_of};
+ghost use Rattle.fk_gen_flow.specs.Calls.{most_privates};
+ghost use Rattle.fk_gen_list.specs.Layout.{AddsCopying, AddsClearing};
+
+use fk_asm::Assembler;
+use fk_gen_flow::{emit_back, emit_clear, emit_copy};
+use std::alloc::AllocError;
+
+/// How many private words a frame has, and so how many arguments a call has, at most.
+const MOST_PRIVATES: u32 = 56;
+/// The label where no word is cleared.
+const CLEAR_LABEL: u32 = 64;
+
+/// Adds the code that copies arguments. A call of more than one argument enters it at the label of as many: from there on each
+/// is copied into the new frame, the last one first, and then it goes back to the call.
+pub(crate) fn emit_copying(into: &mut Assembler) -> Result<(), AllocError>
+    requires room { length into.old.lines < 2 ^ 20 }
+    requires followed { AreFollowed into.old }
+    requires made { label_of 0 ≤ length into.old.bound }
+    requires free { (n : ℕ) → n ≤ most_privates → slice_index_or into.old.bound (copy_label n) None ≡ None }
+    ensures added { OnOk result (AddsCopying into.old into.new) }
+    ensures followed { OnOk result (AreFollowed into.new) }
+{
+    for copied in 0..MOST_PRIVATES {
+        let argument = MOST_PRIVATES - 1 - copied;
+        into.bind(argument + 1)?;
+        emit_copy(into, argument)?;
+    }
+    into.bind(0)?;
+    emit_back(into)
+}
+
+/// Adds the code that clears private words. A call enters it before the first word behind its arguments: from there on each
+/// word of the new frame becomes 0, and then it goes back to the call.
+pub(crate) fn emit_clearing(into: &mut Assembler) -> Result<(), AllocError>
+    requires room { length into.old.lines < 2 ^ 20 }
+    requires followed { AreFollowed into.old }
+    requires made { label_of 0 ≤ length into.old.bound }
+    requires free { (n : ℕ) → n ≤ most_privates → slice_index_or into.old.bound (clear_label n) None ≡ None }
+    ensures added { OnOk result (AddsClearing into.old into.new) }
+    ensures followed { OnOk result (AreFollowed into.new) }
+{
+    for word in 0..MOST_PRIVATES {
+        let behind = MOST_PRIVATES - 1 - word;
+        into.bind(CLEAR_LABEL + (behind + 1))?;
+        emit_clear(into, behind)?;
+    }
+    into.bind(CLEAR_LABEL)?;
+    emit_back(into)
+}

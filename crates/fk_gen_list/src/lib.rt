@@ -1,0 +1,18 @@
+//! The code of a flat list: the opening, the code that all calls share and that which all
+//! beginnings of `start` share, and the block of each operation; and that it has the law of blocks
+//! of groups.
+//!
+//! The definitions stand in `specs/`, and what is proved of them in `laws`.
+#![tactic(auto)]
+
+mod all_blocks;
+mod assemble;
+mod code;
+mod copying;
+mod kind;
+pub mod laws;
+mod list;
+mod placing;
+mod starting;
+
+pub use list::generate;

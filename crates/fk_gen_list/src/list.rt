@@ -1,0 +1,34 @@
+//! Code with the law of blocks of groups.
+
+ghost use Rattle.std.specs.Prelude.{◌≤◌, ◌^◌, IfOk, sum_by, vec_len};
+ghost use Rattle.fk_asm.specs.Commits.{IsCommitTable};
+ghost use Rattle.fk_gen_list.specs.Generable.{IsGenerable, DoesTheList, most_words};
+ghost use Rattle.fk_gen_list.specs.Whole.{GivesGroupLaw};
+
+use crate::code::assemble_list;
+use fk_asm::Code;
+use fk_core::CoreOp;
+use fk_core_liveness::Set;
+use std::alloc::{AllocError, Global};
+
+/// The code of a list of operations that processors do in one group or in none, each image with it
+/// has the law of blocks of groups.
+pub fn generate(
+    alloc: Global,
+    ops: &[CoreOp],
+    kept: &[Set],
+    main: u32,
+    firsts: &[u32],
+    globals: u32,
+) -> Result<Code, AllocError>
+    requires list { IsGenerable ops.now kept.now main firsts.now }
+    requires small { sum_by most_words ops.now ≤ 256000 }
+    requires globals { globals ≤ 2 ^ 19 }
+    ensures group_law { IfOk result (GivesGroupLaw ops.now kept.now main firsts.now globals) }
+    ensures law { IfOk result (DoesTheList ops.now kept.now main firsts.now globals) }
+    ensures table { IfOk result (λ code. IsCommitTable (vec_len code.words) code.commits.items) }
+    ensures some { IfOk result (λ code. 1 ≤ vec_len code.words) }
+    ensures few { IfOk result (λ code. vec_len code.words ≤ 262144) }
+{
+    assemble_list(alloc, ops, kept, main, firsts, globals)
+}

@@ -1,0 +1,36 @@
+//! What the block of an index is made for.
+
+ghost use Rattle.std.specs.Prelude.{◌≡◌, ◌<◌, ◌^◌, suc, slice_get};
+ghost use Rattle.fk_core.specs.Numbers.{operation_of};
+ghost use Rattle.fk_gen_list.specs.Layout as layout;
+
+use fk_core::CoreOp;
+use fk_gen::Placed;
+use fk_core_liveness::Set;
+use fk_meaning_operation::Operation;
+
+// Whether a call has private words that are kept as it begins and are no arguments.
+fn clears(op: CoreOp, kept: &[Set], index: usize) -> bool
+    requires small { index < 2 ^ 32 }
+    ensures { result ≡ layout.clears_by (operation_of op.kind op.number) (slice_get kept.now (suc index)) }
+{
+    let Some(Operation::Enter(arguments)) = op.operation() else {
+        return false;
+    };
+    match kept.get(index + 1) {
+        Some(set) => arguments < 64 && set.mask >> arguments != 0,
+        None => false,
+    }
+}
+
+/// The operation at an index of a list in which calls keep these words, in an image with so many words of globals.
+pub(crate) fn placed(op: CoreOp, kept: &[Set], index: usize, globals: u32) -> Placed
+    requires small { index < 2 ^ 32 }
+    ensures { result ≡ layout.placed globals kept.now index op }
+{
+    Placed {
+        op,
+        globals,
+        clears: clears(op, kept, index),
+    }
+}

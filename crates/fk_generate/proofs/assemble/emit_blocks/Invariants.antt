@@ -1,6 +1,0 @@
-use Rattle.fk_generate.specs.Layout.{all_placed}
-use Rattle.fk_generate.proofs.Blocks.{IsSoFar}
-use Rattle.fk_generate.proofs.assemble.emit_blocks.Given as goal
-
-abbrev pub invariant-loop-i : goal.invariant-loop-i
-invariant-loop-i g l = IsSoFar g.B.Blocks.block (all_placed l.globals l.kept l.ops) l.i l.fn.into l.into

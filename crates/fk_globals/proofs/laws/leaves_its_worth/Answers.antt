@@ -1,5 +1,0 @@
-use Rattle.fk_globals.proofs.Leaving as leaving
-use Rattle.fk_globals.proofs.laws.leaves_its_worth.Goals as goal
-
-pub returns : goal.returns
-returns c = leaving.leaves_its_worth

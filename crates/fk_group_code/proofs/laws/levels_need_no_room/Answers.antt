@@ -1,5 +1,0 @@
-use Rattle.fk_group_code.proofs.Levels.{levels_need_no_room}
-use Rattle.fk_group_code.proofs.laws.levels_need_no_room.Goals as goal
-
-pub returns : goal.returns
-returns c = levels_need_no_room

@@ -1,5 +1,0 @@
-use Rattle.fk_group_code.proofs.Law.{lists_do_alone}
-use Rattle.fk_group_code.proofs.laws.lists_do_alone.Goals as goal
-
-pub returns : goal.returns
-returns c = lists_do_alone

@@ -1,4 +1,0 @@
-pub mod Cycles
-pub mod Laws
-pub mod Opening
-pub mod Whole

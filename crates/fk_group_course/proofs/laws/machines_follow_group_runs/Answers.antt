@@ -1,5 +1,0 @@
-use Rattle.fk_group_course.proofs.Runs.{machines_follow_group_runs}
-use Rattle.fk_group_course.proofs.laws.machines_follow_group_runs.Goals as goal
-
-pub returns : goal.returns
-returns c = machines_follow_group_runs

@@ -1,5 +1,0 @@
-use Rattle.fk_group_course.proofs.Pace.{paces_are_kept}
-use Rattle.fk_group_course.proofs.laws.paces_are_kept.Goals as goal
-
-pub returns : goal.returns
-returns c = paces_are_kept

@@ -1,5 +1,0 @@
-use Rattle.fk_group_course.proofs.Pace.{paces_go_on}
-use Rattle.fk_group_course.proofs.laws.paces_go_on.Goals as goal
-
-pub returns : goal.returns
-returns c = paces_go_on

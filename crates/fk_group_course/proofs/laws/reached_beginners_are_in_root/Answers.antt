@@ -1,5 +1,0 @@
-use Rattle.fk_group_course.proofs.Begins.{reached_beginners_are_in_root}
-use Rattle.fk_group_course.proofs.laws.reached_beginners_are_in_root.Goals as goal
-
-pub returns : goal.returns
-returns c = reached_beginners_are_in_root

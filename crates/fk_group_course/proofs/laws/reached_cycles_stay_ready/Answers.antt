@@ -1,5 +1,0 @@
-use Rattle.fk_group_course.proofs.Ready.{reached_cycles_stay_ready}
-use Rattle.fk_group_course.proofs.laws.reached_cycles_stay_ready.Goals as goal
-
-pub returns : goal.returns
-returns c = reached_cycles_stay_ready

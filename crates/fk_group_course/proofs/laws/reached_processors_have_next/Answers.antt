@@ -1,5 +1,0 @@
-use Rattle.fk_group_course.proofs.Nexts.{reached_processors_have_next}
-use Rattle.fk_group_course.proofs.laws.reached_processors_have_next.Goals as goal
-
-pub returns : goal.returns
-returns c = reached_processors_have_next

@@ -1,5 +1,0 @@
-use Rattle.fk_group_course.proofs.Behind.{reached_rounds_go_on}
-use Rattle.fk_group_course.proofs.laws.reached_rounds_go_on.Goals as goal
-
-pub returns : goal.returns
-returns c = reached_rounds_go_on

@@ -1,5 +1,0 @@
-use Rattle.fk_group_course.proofs.Ready.{reached_starts_find_headers}
-use Rattle.fk_group_course.proofs.laws.reached_starts_find_headers.Goals as goal
-
-pub returns : goal.returns
-returns c = reached_starts_find_headers

@@ -1,5 +1,0 @@
-use Rattle.fk_group_course.proofs.Begins.{reached_waiters_resume}
-use Rattle.fk_group_course.proofs.laws.reached_waiters_resume.Goals as goal
-
-pub returns : goal.returns
-returns c = reached_waiters_resume

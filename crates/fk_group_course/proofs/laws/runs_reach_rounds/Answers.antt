@@ -1,5 +1,0 @@
-use Rattle.fk_group_course.proofs.ReachedRuns.{runs_reach_rounds}
-use Rattle.fk_group_course.proofs.laws.runs_reach_rounds.Goals as goal
-
-pub returns : goal.returns
-returns c = runs_reach_rounds c.runs_reach.ensures

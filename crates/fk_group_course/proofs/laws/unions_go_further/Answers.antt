@@ -1,5 +1,0 @@
-use Rattle.fk_group_course.proofs.Runs.{unions_go_further}
-use Rattle.fk_group_course.proofs.laws.unions_go_further.Goals as goal
-
-pub returns : goal.returns
-returns c = unions_go_further

@@ -1,5 +1,0 @@
-use Rattle.fk_group_course.proofs.ReachedStages.{united_had_next}
-use Rattle.fk_group_course.proofs.laws.united_had_next.Goals as goal
-
-pub returns : goal.returns
-returns c = united_had_next

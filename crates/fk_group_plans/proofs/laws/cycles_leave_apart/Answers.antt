@@ -1,5 +1,0 @@
-use Rattle.fk_group_plans.proofs.Joining.{cycles_leave_apart}
-use Rattle.fk_group_plans.proofs.laws.cycles_leave_apart.Goals as goal
-
-pub returns : goal.returns
-returns c = cycles_leave_apart

@@ -1,5 +1,0 @@
-use Rattle.fk_group_plans.proofs.Standing.{groups_start_together}
-use Rattle.fk_group_plans.proofs.laws.groups_start_together.Goals as goal
-
-pub returns : goal.returns
-returns c = groups_start_together

@@ -1,5 +1,0 @@
-use Rattle.fk_group_plans.proofs.Standing.{starters_set_out}
-use Rattle.fk_group_plans.proofs.laws.starters_set_out.Goals as goal
-
-pub returns : goal.returns
-returns c = starters_set_out

@@ -1,5 +1,0 @@
-use Rattle.fk_group_plans.proofs.Nodes.{words_tell_meeters}
-use Rattle.fk_group_plans.proofs.laws.words_tell_meeters.Goals as goal
-
-pub returns : goal.returns
-returns c = words_tell_meeters

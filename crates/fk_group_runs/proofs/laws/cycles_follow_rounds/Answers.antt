@@ -1,5 +1,0 @@
-use Rattle.fk_group_runs.proofs.Follow.{cycles_follow_rounds}
-use Rattle.fk_group_runs.proofs.laws.cycles_follow_rounds.Goals as goal
-
-pub returns : goal.returns
-returns c = cycles_follow_rounds

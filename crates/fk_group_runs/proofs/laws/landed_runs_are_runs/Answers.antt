@@ -1,5 +1,0 @@
-use Rattle.fk_group_runs.proofs.Landed.{landed_runs_are_runs}
-use Rattle.fk_group_runs.proofs.laws.landed_runs_are_runs.Goals as goal
-
-pub returns : goal.returns
-returns c = landed_runs_are_runs

@@ -1,4 +1,0 @@
-mod Values
-mod Steps
-mod Runs
-pub mod Enough

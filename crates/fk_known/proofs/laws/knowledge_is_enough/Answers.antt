@@ -1,5 +1,0 @@
-use Rattle.fk_known.proofs.Enough.{knowledge_is_enough}
-use Rattle.fk_known.proofs.laws.knowledge_is_enough.Goals as goal
-
-pub returns : goal.returns
-returns c = knowledge_is_enough

@@ -1,0 +1,62 @@
+//! What the tokens of a text tell.
+
+ghost use Rattle.std.specs.Prelude.{◌≡◌};
+ghost use Rattle.fk_meaning_forms.specs.Tables as t;
+ghost use Rattle.fk_layout_globals.specs.View.{tables_of};
+
+use fk_syntax::{Kind, Note};
+
+/// The facts of a program.
+#[derive(Clone, Copy)]
+pub struct Types<'n, 'k> {
+    /// A note for each token.
+    pub notes: &'n [Note],
+    /// The types.
+    pub kinds: &'k [Kind],
+}
+
+const NO_NOTE: Note = Note {
+    kind: 0,
+    binding: 0,
+    sync: false,
+    shared: false,
+    splits: false,
+};
+
+const NO_KIND: Kind = Kind {
+    words: 0,
+    unsigned: false,
+    array: false,
+    step: 0,
+};
+
+impl<'n, 'k> Types<'n, 'k> {
+    /// The note of a token.
+    pub(crate) fn note(&self, at: u32) -> Note
+        ensures { result ≡ t.note (tables_of self.now) at }
+    {
+        match self.notes.get(at as usize) {
+            Some(note) => *note,
+            None => NO_NOTE,
+        }
+    }
+
+    /// The type that a token tells.
+    pub(crate) fn kind_at(&self, at: u32) -> Kind
+        ensures { result ≡ t.kind_at (tables_of self.now) at }
+    {
+        match self.kinds.get(self.note(at).kind as usize) {
+            Some(kind) => *kind,
+            None => NO_KIND,
+        }
+    }
+
+    /// Whether the numbers of a token's type have no sign. An array is the pointer to its first
+    /// element.
+    pub(crate) fn is_unsigned(&self, at: u32) -> bool
+        ensures { result ≡ t.is_unsigned (tables_of self.now) at }
+    {
+        let kind = self.kind_at(at);
+        kind.unsigned || kind.array
+    }
+}

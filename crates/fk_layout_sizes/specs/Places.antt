@@ -1,0 +1,93 @@
+-- How much room the frame of a function has for values and nested parts: what its code asks for.
+use Rattle.std.specs.Prelude.{ℕ, ◌+◌, ◌-◌, max, List, [], ◌∷◌, ◌++◌, if◌then◌else◌}
+use Rattle.fk_meaning_operation.specs.declared.operation.Operation.{Operation}
+use Rattle.fk_syntax.specs.Program.{DeclaredTree, FunctionTree}
+use Rattle.fk_layout_walk.specs.declared.known.Known.{Known}
+use Rattle.fk_layout_walk.specs.Known.{functions_of}
+use Rattle.fk_layout_walk_statements.specs.Texts.{code_in}
+use Rattle.fk_meaning_forms.specs.Code.{done, perform, choose, while, until, turn, again, quit, break, continue, call, ends}
+use Rattle.fk_meaning_forms.specs.Expressions.{Coded, Signature}
+use Rattle.fk_layout_sizes.specs.Operations.{takes, pushes, nests, results}
+
+-- a place in code: how many values the running call has there, and in how many parts of it the place lies
+pub record At : Type 0 where
+  pub values : ℕ
+  pub nesting : ℕ
+
+abbrev pub behind_operation : At → Operation → At
+behind_operation p op = record { values = p.values - takes op + pushes op; nesting = p.nesting + nests op }
+
+module _ (functions : (binding : ℕ) → Signature) where
+  -- behind a call there is its result, if the function gives one
+  abbrev pub behind_call : At → Operation → (binding : ℕ) → At
+  behind_call p op f = record (behind_operation p op) { values = (behind_operation p op).values + results (functions f).void }
+
+  -- the place behind code. Both ways of a choice end with as many values, and lie in what its operation begins, which ends
+  -- behind them. What stands in the opening of a call is done by the function that is called
+  abbrev pub behind : At → Coded → At
+  behind p done = p
+  behind p (perform t op rest) = behind (behind_operation p op) rest
+  behind p (choose t op a b rest) = behind (record { values = (behind (behind_operation p op) a).values; nesting = p.nesting }) rest
+  behind p (while test body step rest) = behind (behind (behind (behind p test) body) step) rest
+  behind p (until body test rest) = behind (behind (behind p body) test) rest
+  behind p (turn test body step rest) = behind (behind (behind (behind p test) body) step) rest
+  behind p (again test body step rest) = behind (behind (behind (behind p test) body) step) rest
+  behind p (quit t op rest) = behind (behind_operation p op) rest
+  behind p (break rest) = behind p rest
+  behind p (continue rest) = behind p rest
+  behind p (call t op f opening rest) = behind (behind_call p op f) rest
+  behind p (ends t op rest) = behind (behind_operation p op) rest
+
+  -- all places of code, its beginning and its end among them
+  abbrev pub places : At → Coded → List At
+  places p done = p ∷ []
+  places p (perform t op rest) = p ∷ places (behind_operation p op) rest
+  places p (choose t op a b rest) =
+      let first = behind_operation p op in
+      p ∷ (places first a ++ places first b ++ places (record { values = (behind first a).values; nesting = p.nesting }) rest)
+  places p (while test body step rest) =
+      let b = behind p test in
+      let s = behind b body in
+      places p test ++ places b body ++ places s step ++ places (behind s step) rest
+  places p (until body test rest) = let t = behind p body in places p body ++ places t test ++ places (behind t test) rest
+  places p (turn test body step rest) =
+      let b = behind p test in
+      let s = behind b body in
+      places p test ++ places b body ++ places s step ++ places (behind s step) rest
+  places p (again test body step rest) =
+      let b = behind p test in
+      let s = behind b body in
+      places p test ++ places b body ++ places s step ++ places (behind s step) rest
+  places p (quit t op rest) = p ∷ places (behind_operation p op) rest
+  places p (break rest) = places p rest
+  places p (continue rest) = places p rest
+  places p (call t op f opening rest) = p ∷ behind_operation p op ∷ places (behind_call p op f) rest
+  places p (ends t op rest) = p ∷ places (behind_operation p op) rest
+
+-- the greatest number of values at a place, and the deepest nesting
+abbrev pub most_values : List At → ℕ
+most_values [] = 0
+most_values (p ∷ ps) = max p.values (most_values ps)
+
+abbrev pub deepest : List At → ℕ
+deepest [] = 0
+deepest (p ∷ ps) = max p.nesting (deepest ps)
+
+-- the beginning of a function's body: no values, and no part of it
+abbrev pub beginning : At
+beginning = record { values = 0; nesting = 0 }
+
+-- a call writes its `sh` parameters into the frame of the function with two values more
+abbrev pub filling : List DeclaredTree → ℕ
+filling [] = 0
+filling (x ∷ xs) = if x.shared then 2 else filling xs
+
+-- the places of a function, and the most values that its call has
+abbrev pub places_in : Known → FunctionTree → List At
+places_in known f = places (functions_of known) beginning (code_in known f)
+
+abbrev pub values_in : Known → FunctionTree → ℕ
+values_in known f = max (filling f.parameters) (most_values (places_in known f))
+
+abbrev pub nesting_in : Known → FunctionTree → ℕ
+nesting_in known f = deepest (places_in known f)

@@ -1,0 +1,86 @@
+//! A visitor that measures code.
+
+ghost use Rattle.std.specs.Prelude.{◌≡◌};
+ghost use Rattle.fk_layout_sizes.specs.Measure as m;
+
+use crate::operations::{nests, pushes, takes};
+use fk_meaning_operation::Operation;
+use fk_layout_walk::{Event, Mark, Visitor};
+
+/// How many values the running call has and how deep its parts nest, and how many and how deep at
+/// most so far.
+#[derive(Drop)]
+pub struct Measure {
+    pub mark: Mark,
+}
+
+// What there is now counts among what there was.
+fn raised(mark: Mark) -> Mark
+    ensures { result ≡ m.raised mark }
+{
+    Mark {
+        values: mark.values,
+        most: mark.most.max(mark.values),
+        nesting: mark.nesting,
+        deepest: mark.deepest.max(mark.nesting),
+    }
+}
+
+// What is known behind an operation.
+fn performed(mark: Mark, operation: Operation) -> Mark
+    ensures { result ≡ m.performed mark operation }
+{
+    let kept = mark.values.saturating_sub(takes(operation) as u64);
+    raised(Mark {
+        values: kept.saturating_add(pushes(operation) as u64),
+        most: mark.most,
+        nesting: mark.nesting.saturating_add(nests(operation) as u64),
+        deepest: mark.deepest,
+    })
+}
+
+// What is known behind a call, of what was when it began.
+fn returned(entered: Mark, void: bool) -> Mark
+    ensures { result ≡ m.returned entered void }
+{
+    let results = if void { 0 } else { 1 };
+    raised(Mark {
+        values: entered.values.saturating_add(results),
+        most: entered.most,
+        nesting: entered.nesting,
+        deepest: entered.deepest,
+    })
+}
+
+impl Visitor for Measure {
+    ghost use Rattle.fk_layout_sizes.specs.Measure.{measure_after, mark_of};
+
+    ghost after = { measure_after };
+
+    ghost counts = { mark_of };
+
+    fn meet(&mut self, event: Event) {
+        let now = self.mark;
+        self.mark = match event {
+            Event::Aside(before) => Mark {
+                values: before.values,
+                nesting: before.nesting,
+                ..now
+            },
+            Event::Joined(before, first) => Mark {
+                values: first.values,
+                nesting: before.nesting,
+                ..now
+            },
+            Event::Returned(entered, void) => returned(entered, void),
+            _ => match event.operation() {
+                Some((operation, _)) => performed(now, operation),
+                None => now,
+            },
+        };
+    }
+
+    fn mark(&self) -> Mark {
+        self.mark
+    }
+}

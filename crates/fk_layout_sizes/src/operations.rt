@@ -1,0 +1,72 @@
+//! What operations do with values and parts.
+
+ghost use Rattle.std.specs.Prelude.{◌≡◌};
+ghost use Rattle.fk_layout_sizes.specs.Operations as o;
+
+use fk_meaning_operation::{Operation, Split};
+
+// How many values a group takes to split.
+fn split_takes(split: Split) -> u32
+    ensures { result ≡ o.split_takes split }
+{
+    match split {
+        Split::Loop => 0,
+        Split::Fork => 3,
+        Split::IfAlone | Split::IfElse | Split::AndThen | Split::OrElse => 1,
+    }
+}
+
+/// How many values an operation takes from the end of the list.
+pub fn takes(operation: Operation) -> u32
+    ensures { result ≡ o.takes operation }
+{
+    match operation {
+        Operation::Join(_, _) | Operation::Index(_) | Operation::Write | Operation::Combine(_) => 2,
+        Operation::DropLast
+        | Operation::Apply(_)
+        | Operation::Branch(_)
+        | Operation::Take
+        | Operation::Read
+        | Operation::PrintNumber
+        | Operation::PrintByte
+        | Operation::Heap
+        | Operation::Begin
+        | Operation::Block
+        | Operation::Shrink => 1,
+        Operation::Leave { gives, framed: _ } => gives as u32,
+        Operation::Enter(arguments) => arguments,
+        Operation::Divide(split) => split_takes(split),
+        _ => 0,
+    }
+}
+
+/// How many values it then puts at the end of the list.
+pub fn pushes(operation: Operation) -> u32
+    ensures { result ≡ o.pushes operation }
+{
+    match operation {
+        Operation::Push(_)
+        | Operation::Get(_)
+        | Operation::CopyLast
+        | Operation::Apply(_)
+        | Operation::Join(_, _)
+        | Operation::Index(_)
+        | Operation::Take
+        | Operation::Read
+        | Operation::Write
+        | Operation::Combine(_)
+        | Operation::Heap
+        | Operation::Block => 1,
+        _ => 0,
+    }
+}
+
+/// In how many parts more what it leads to lies.
+pub fn nests(operation: Operation) -> u32
+    ensures { result ≡ o.nests operation }
+{
+    match operation {
+        Operation::Begin | Operation::Divide(_) | Operation::Farm | Operation::Seq => 1,
+        _ => 0,
+    }
+}

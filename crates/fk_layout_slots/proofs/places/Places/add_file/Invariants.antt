@@ -1,0 +1,13 @@
+-- The places so far, and those of what is left, are those before and those of all; and what is taken behind what is left is what
+-- is taken behind all.
+use Rattle.std.proofs.Common.{◌≡◌, ◌++◌, map, drop}
+use Rattle.fk_syntax.specs.ProgramView.{declared_of}
+use Rattle.fk_layout_slots.specs.KnownView.{told_by}
+use Rattle.fk_layout_slots.specs.Places.{file_slots, behind_variables}
+use Rattle.fk_layout_slots.proofs.places.Places.add_file.Given as goal
+
+abbrev pub invariant-loop-variable : goal.invariant-loop-variable
+invariant-loop-variable l = record {
+  slots : l.kept.list.items ++ file_slots (told_by l.known) l.behind (map declared_of (drop l.variable-index l.variables)) ≡ l.fn.kept.list.items ++ file_slots (told_by l.known) l.fn.taken (map declared_of l.variables);
+  taken : behind_variables (told_by l.known) l.behind (map declared_of (drop l.variable-index l.variables)) ≡ behind_variables (told_by l.known) l.fn.taken (map declared_of l.variables);
+}

@@ -1,0 +1,53 @@
+//! What is asked of the facts of a program.
+
+ghost use Rattle.std.specs.Prelude.{◌≡◌};
+ghost use Rattle.fk_layout_slots.specs.Told.{note_at, words_at, splits_at};
+ghost use Rattle.fk_layout_slots.specs.KnownView.{told_by};
+
+use fk_syntax::{Kind, Note};
+
+/// What is known of a program.
+#[derive(Clone, Copy)]
+pub(crate) struct Known<'p> {
+    /// A note for each token.
+    pub(crate) notes: &'p [Note],
+    /// The types.
+    pub(crate) kinds: &'p [Kind],
+}
+
+const NO_NOTE: Note = Note {
+    kind: 0,
+    binding: 0,
+    sync: false,
+    shared: false,
+    splits: false,
+};
+
+impl<'p> Known<'p> {
+    // The note of a token.
+    fn note(&self, at: u32) -> Note
+        ensures { result ≡ note_at (told_by self.now) at }
+    {
+        match self.notes.get(at as usize) {
+            Some(note) => *note,
+            None => NO_NOTE,
+        }
+    }
+
+    /// The words of what is declared by the name at a token.
+    pub(crate) fn words(&self, at: u32) -> u32
+        ensures { result ≡ words_at (told_by self.now) at }
+    {
+        match self.kinds.get(self.note(at).kind as usize) {
+            Some(kind) => kind.words,
+            None => 0,
+        }
+    }
+
+    /// Whether a group splits at the statement of a token.
+    pub(crate) fn splits(&self, at: u32) -> bool
+        ensures { result ≡ splits_at (told_by self.now) at }
+    {
+        self.note(at).splits
+    }
+}

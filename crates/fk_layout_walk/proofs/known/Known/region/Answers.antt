@@ -1,0 +1,10 @@
+use Rattle.std.proofs.Common.{sym, ◌∙◌, arith}
+use Rattle.fk_meaning_forms.specs.Tables.{no_region}
+use Rattle.fk_layout_walk.proofs.Lookups.{nth-get_or}
+use Rattle.fk_layout_walk.proofs.known.Known.region.Goals as goal
+
+pub returns-in-Some : goal.returns-in-Some
+returns-in-Some c = c.in-Some.ensures.lookup.3.1 no_region ∙ sym (nth-get_or no_region c.args.self.now.regions.now c.args.number)
+
+pub returns-in-None : goal.returns-in-None
+returns-in-None c = c.in-None.ensures.lookup.4 (omega arith) no_region ∙ sym (nth-get_or no_region c.args.self.now.regions.now c.args.number)

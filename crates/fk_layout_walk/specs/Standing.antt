@@ -1,0 +1,28 @@
+-- How an expression stands when its operations are done, as the forms have it.
+use Rattle.std.specs.Prelude.{Bool, Option, Some, None, if◌then◌else◌}
+use Rattle.fk_syntax.specs.View.{named}
+use Rattle.fk_meaning_forms.specs.Code.{done}
+use Rattle.fk_meaning_forms.specs.Expressions as e
+use Rattle.fk_meaning_forms.specs.Expressions.{Coded, plain}
+use Rattle.fk_meaning_operation.specs.declared.operation.Operation.TheVariants.{End}
+use Rattle.fk_layout_walk.specs.declared.standing.Standing.{Standing}
+use Rattle.fk_layout_walk.specs.declared.standing.Standing.TheVariants as s
+
+abbrev pub standing_of : Standing → e.Standing
+standing_of s.OnList = e.OnList
+standing_of (s.AtAddress deep spot) = e.AtAddress deep spot
+standing_of (s.InWord variable) = e.InWord variable
+standing_of (s.ToCall name) = e.ToCall (named name)
+
+-- what follows an expression. Nothing does behind a call of what is no function
+abbrev pub behind : Option Standing → (e.Standing → Coded) → Coded
+behind None k = done
+behind (Some standing) k = k (standing_of standing)
+
+abbrev pub behind_value : Option Unit → Coded → Coded
+behind_value None rest = done
+behind_value (Some x) rest = rest
+
+-- what follows in one of two ways: the end of a part of a split, or nothing
+abbrev pub ending : (ends : Bool) → Coded
+ending ends = if ends then plain End done else done

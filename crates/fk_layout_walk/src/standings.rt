@@ -1,0 +1,301 @@
+//! How what an expression came to is used.
+
+ghost use Rattle.std.specs.Prelude.{◌≡◌, ◌+◌, ◌*◌, ◌||◌, ℕ, Some, if◌then◌else◌};
+ghost use Rattle.fk_syntax.specs.View.{named};
+ghost use Rattle.fk_meaning_forms.specs.Expressions as e;
+ghost use Rattle.fk_meaning_forms.specs.Signs.{operator_of as operator_by, is_shift as is_a_shift};
+ghost use Rattle.fk_meaning_forms.specs.Tables as t;
+ghost use Rattle.fk_layout_walk.specs.Known.{tables_of, functions_of};
+ghost use Rattle.fk_layout_walk.specs.Shown.{as_word};
+ghost use Rattle.fk_layout_walk.specs.Standing.{standing_of, ending};
+ghost use Rattle.fk_meaning_forms.specs.Tables.{Tables};
+ghost use Rattle.fk_layout_walk.specs.Through.{through, Leads, Passes};
+
+use crate::known::{Known, PREDECLARED};
+use crate::standing::Standing;
+use crate::visitor::{Event, NOWHERE, Visitor, plain};
+use fk_meaning_forms::{Home, Move, is_shift, move_of, operator_of};
+use fk_num::Op;
+use fk_meaning_operation::{Known as Value, Operation, Unary, Variable};
+use fk_syntax::{Name, Sign, Spot};
+
+// The check of an address that lies behind a dereference or an index.
+pub(crate) fn check<V: Visitor>(known: &Known, visitor: &mut V, deep: bool, spot: Spot)
+    ensures { Passes V.after V.counts (functions_of known.now) visitor.old visitor.new
+        (e.checked (tables_of known.now) (functions_of known.now) deep spot) }
+{
+    if deep {
+        visitor.meet(Event::Perform(Operation::Check(false), spot.place));
+    }
+}
+
+// An expression as a value.
+pub(crate) fn give_value<V: Visitor>(known: &Known, visitor: &mut V, standing: Standing)
+    ensures { Passes V.after V.counts (functions_of known.now) visitor.old visitor.new
+        (e.valued (tables_of known.now) (functions_of known.now) (standing_of standing.entry)) }
+{
+    match standing {
+        Standing::AtAddress(deep, spot) => {
+            if !known.is_array(spot.at) {
+                check(known, visitor, deep, spot);
+                plain(visitor, Operation::Read);
+            }
+        }
+        Standing::InWord(variable) => plain(visitor, Operation::Get(Value::Value(variable))),
+        Standing::OnList | Standing::ToCall(_) => {}
+    }
+}
+
+/// Makes an expression an address.
+pub fn give_address<V: Visitor>(known: &Known, visitor: &mut V, standing: Standing)
+    ensures { Passes V.after V.counts (functions_of known.now) visitor.old visitor.new
+        (e.addressed (tables_of known.now) (functions_of known.now) (standing_of standing.entry)) }
+{
+    if let Standing::AtAddress(deep, spot) = standing {
+        check(known, visitor, deep, spot);
+    }
+}
+
+// A value of which a compound assignment makes another one.
+pub(crate) fn fetch<V: Visitor>(known: &Known, visitor: &mut V, standing: Standing)
+    ensures { Passes V.after V.counts (functions_of known.now) visitor.old visitor.new
+        (e.fetched (tables_of known.now) (functions_of known.now) (standing_of standing.entry)) }
+{
+    match standing {
+        Standing::AtAddress(deep, spot) => {
+            check(known, visitor, deep, spot);
+            plain(visitor, Operation::CopyLast);
+            plain(visitor, Operation::Read);
+        }
+        Standing::InWord(variable) => plain(visitor, Operation::Get(Value::Value(variable))),
+        Standing::OnList | Standing::ToCall(_) => {}
+    }
+}
+
+/// Stores the new value of what was assigned to.
+pub fn put<V: Visitor>(known: &Known, visitor: &mut V, standing: Standing)
+    ensures { Passes V.after V.counts (functions_of known.now) visitor.old visitor.new
+        (e.assigned (tables_of known.now) (functions_of known.now) (standing_of standing.entry)) }
+{
+    match standing {
+        Standing::AtAddress(_, _) => plain(visitor, Operation::Write),
+        Standing::InWord(variable) => plain(visitor, Operation::Set(variable)),
+        Standing::OnList | Standing::ToCall(_) => {}
+    }
+}
+
+/// Drops a value that nobody uses, where the token tells that there is one.
+pub fn discard<V: Visitor>(known: &Known, visitor: &mut V, at: u32)
+    ensures { Passes V.after V.counts (functions_of known.now) visitor.old visitor.new
+        (e.dropped (tables_of known.now) (functions_of known.now) at) }
+{
+    if !known.is_void(at) {
+        plain(visitor, Operation::DropLast);
+    }
+}
+
+// The operation of a sign on the values of two tokens, by their types.
+fn operator(known: &Known, sign: Sign, left: u32, right: u32) -> Operation
+    ensures { result ≡ operator_by sign (if is_a_shift sign
+        then t.is_unsigned (tables_of known.now) left
+        else t.is_unsigned (tables_of known.now) left || t.is_unsigned (tables_of known.now) right) }
+{
+    if is_shift(sign) {
+        operator_of(sign, known.is_unsigned(left))
+    } else {
+        let unsigned = known.is_unsigned(left) || known.is_unsigned(right);
+        operator_of(sign, unsigned)
+    }
+}
+
+// The same of a pointer with steps, which an index moves.
+fn advance<V: Visitor>(visitor: &mut V, by: Move, step: u32, otherwise: Operation)
+    ensures { (functions : (binding : ℕ) → e.Signature)
+        → Passes V.after V.counts functions visitor.old visitor.new (e.moved by step otherwise) }
+{
+    match by {
+        Move::Forth => plain(visitor, Operation::Index(step)),
+        Move::Back => {
+            plain(visitor, Operation::Apply(Unary::Negate));
+            plain(visitor, Operation::Index(step));
+        }
+        Move::NoMove => plain(visitor, otherwise),
+    }
+}
+
+/// The operator of a sign between the values of two tokens.
+pub(crate) fn operate<V: Visitor>(known: &Known, visitor: &mut V, sign: Sign, left: u32, right: u32)
+    ensures { Passes V.after V.counts (functions_of known.now) visitor.old visitor.new
+        (e.operate (tables_of known.now) (functions_of known.now) sign left right) }
+{
+    let operation = operator(known, sign, left, right);
+    let step = known.kind_at(left).step;
+    if step == 0 {
+        plain(visitor, operation);
+    } else {
+        advance(visitor, move_of(sign), step, operation);
+    }
+}
+
+// The address of a word of shared data. Above 2^32 - 1 it is that number.
+fn global_address(index: u32) -> u32
+    ensures { result ≡ as_word (0x10000000 + 4 * index) }
+{
+    index.saturating_mul(4).saturating_add(0x1000_0000)
+}
+
+/// Shows the operations of a variable or another name, and tells how it stands.
+pub fn name<'t, V: Visitor>(known: &Known, visitor: &mut V, name: Name<'t>) -> Option<Standing<'t>>
+    ensures { Leads V.after V.counts (functions_of known.now) visitor.old visitor.new result
+        (e.variable (tables_of known.now) (functions_of known.now) (named name.entry)) }
+{
+    let binding = known.note(name.at).binding;
+    if binding == PREDECLARED {
+        return Some(predeclared(known, visitor, name));
+    }
+    let spot = spot_of(name);
+    let slot = known.slot(binding);
+    Some(match slot.home {
+        Home::Global => {
+            let address = Operation::Push(global_address(slot.index));
+            visitor.meet(Event::Perform(address, NOWHERE));
+            Standing::AtAddress(false, spot)
+        }
+        Home::FilePrivate => Standing::InWord(Variable::OfFile(slot.index)),
+        Home::Private => Standing::InWord(Variable::Private(slot.index)),
+        Home::Group(number) => {
+            let level = known.region(number).level;
+            plain(
+                visitor,
+                Operation::Get(Value::FrameAddress(level, slot.index)),
+            );
+            Standing::AtAddress(false, spot)
+        }
+        Home::NoWord => Standing::ToCall(name),
+    })
+}
+
+// A name that is declared before each text.
+pub(crate) fn predeclared<'t, V: Visitor>(
+    known: &Known,
+    visitor: &mut V,
+    name: Name<'t>,
+) -> Standing<'t>
+    ensures { Leads V.after V.counts (functions_of known.now) visitor.old visitor.new (Some result)
+        (e.predeclared (tables_of known.now) (functions_of known.now) (named name.entry)) }
+{
+    if name.bytes == b"__PROC_NR__".as_slice() {
+        plain(visitor, Operation::Get(Value::ProcessorNumber));
+        Standing::OnList
+    } else if name.bytes == b"__STARTED_PROCS__".as_slice() {
+        plain(visitor, Operation::Get(Value::Processors));
+        Standing::OnList
+    } else if name.bytes == b"__inputs".as_slice() {
+        plain(visitor, Operation::Get(Value::InputLength));
+        Standing::OnList
+    } else if name.bytes == b"__input".as_slice() {
+        plain(visitor, Operation::Get(Value::InputAddress));
+        Standing::AtAddress(false, spot_of(name))
+    } else {
+        Standing::ToCall(name)
+    }
+}
+
+// Where a name stands.
+pub(crate) fn spot_of(name: Name) -> Spot
+    ensures { result ≡ e.spot_of (named name.entry) }
+{
+    Spot {
+        at: name.at,
+        place: name.place,
+    }
+}
+
+// `++` or `--`, as the sum or difference with 1.
+pub(crate) fn raise<V: Visitor>(
+    known: &Known,
+    visitor: &mut V,
+    sign: Sign,
+    standing: Standing,
+    at: u32,
+    right: u32,
+)
+    ensures { Passes V.after V.counts (functions_of known.now) visitor.old visitor.new
+        (λ rest. e.updated (tables_of known.now) (functions_of known.now) sign
+        (λ j. j (standing_of standing.entry)) at right
+        (e.one (tables_of known.now) (functions_of known.now)) (λ j. rest)) }
+{
+    fetch(known, visitor, standing);
+    plain(visitor, Operation::Push(1));
+    operate(known, visitor, sign, at, right);
+    put(known, visitor, standing);
+}
+
+// By how much `++` behind a value is undone: by 1, or for a pointer by the bytes of its step.
+fn step_back(known: &Known, at: u32) -> u32
+    ensures { result ≡ e.step_back (tables_of known.now) (functions_of known.now) at }
+{
+    match known.kind_at(at).step {
+        0 => 1,
+        step => step,
+    }
+}
+
+// `++` or `--` behind a value: as in front, and then undone by the sign that leads back.
+pub(crate) fn raise_and_undo<V: Visitor>(
+    known: &Known,
+    visitor: &mut V,
+    sign: Sign,
+    back: Sign,
+    standing: Standing,
+    at: u32,
+)
+    ensures { Passes V.after V.counts (functions_of known.now) visitor.old visitor.new
+        (λ rest. e.raised (tables_of known.now) (functions_of known.now) sign back
+        (λ j. j (standing_of standing.entry)) at (λ j. rest)) }
+{
+    raise(known, visitor, sign, standing, at, 0);
+    plain(visitor, Operation::Push(step_back(known, at)));
+    plain(visitor, operator_of(back, false));
+}
+
+/// The place of a member, behind that of its struct.
+pub(crate) fn enter_member<V: Visitor>(known: &Known, visitor: &mut V, member: u32)
+    ensures { Passes V.after V.counts (functions_of known.now) visitor.old visitor.new
+        (e.member (tables_of known.now) (functions_of known.now) member) }
+{
+    let before = Operation::Push(known.bytes_before(member));
+    visitor.meet(Event::Perform(before, NOWHERE));
+    plain(visitor, Operation::Join(Op::Add, false));
+}
+
+/// The agreement of a group in a synchronous region.
+pub fn agree<V: Visitor>(visitor: &mut V, sync: bool)
+    ensures { (functions : (binding : ℕ) → e.Signature)
+        → Passes V.after V.counts functions visitor.old visitor.new (e.agreed sync) }
+{
+    if sync {
+        plain(visitor, Operation::Agree);
+    }
+}
+
+/// The end of a part of a split.
+pub fn end<V: Visitor>(visitor: &mut V, ends: bool)
+    ensures { (functions : (binding : ℕ) → e.Signature)
+        → visitor.new ≡ through V.after V.counts functions visitor.old (ending ends) }
+{
+    if ends {
+        plain(visitor, Operation::End);
+    }
+}
+
+/// Whether an expression stands at an address behind a dereference or an index.
+pub(crate) fn is_deep(standing: Standing) -> bool
+    ensures { (tables : Tables) (functions : (binding : ℕ) → e.Signature)
+        → result ≡ e.is_deep tables functions (standing_of standing.entry) }
+{
+    match standing {
+        Standing::AtAddress(deep, _) => deep,
+        Standing::OnList | Standing::InWord(_) | Standing::ToCall(_) => false,
+    }
+}

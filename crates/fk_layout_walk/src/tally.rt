@@ -1,0 +1,32 @@
+//! A visitor that counts operations.
+
+use crate::visitor::{Event, Mark, Visitor};
+
+/// How many operations it was shown. Above 2^64 - 1 it stays there.
+#[derive(Drop)]
+pub struct Tally {
+    pub count: u64,
+}
+
+impl Visitor for Tally {
+    ghost use Rattle.fk_layout_walk.specs.Tally.{tally_after, no_mark};
+
+    ghost after = { tally_after };
+
+    ghost counts = { no_mark };
+
+    fn meet(&mut self, event: Event) {
+        if event.operation().is_some() {
+            self.count = self.count.saturating_add(1);
+        }
+    }
+
+    fn mark(&self) -> Mark {
+        Mark {
+            values: 0,
+            most: 0,
+            nesting: 0,
+            deepest: 0,
+        }
+    }
+}

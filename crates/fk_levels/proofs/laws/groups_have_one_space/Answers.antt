@@ -1,5 +1,0 @@
-use Rattle.fk_levels.proofs.Whole as whole
-use Rattle.fk_levels.proofs.laws.groups_have_one_space.Goals as goal
-
-pub returns : goal.returns
-returns g c = whole.groups_have_one_space g.row.W.Denot

@@ -1,0 +1,88 @@
+-- How a processor goes through groups and bodies, as what it has left alone tells it.
+use Rattle.std.specs.Prelude.{◌≡◌, ℕ, zero, suc, Bool, true, false, List, [], ◌∷◌, Option, Some, None}
+use Rattle.fk_meaning_operation.specs.declared.operation.Operation.{Operation}
+use Rattle.fk_meaning_operation.specs.declared.operation.Operation.TheVariants as o
+use Rattle.fk_meaning_operation.specs.declared.operation.Split.{Split}
+use Rattle.fk_meaning_operation.specs.declared.operation.Split.TheVariants.{IfElse}
+use Rattle.fk_meaning.specs.Round.{Step}
+
+-- where a processor stands: in a group in lockstep, directly behind an agree or not; where it waits for parts, within a
+-- `start` or for it; by itself, in a body or outside of each `start`
+pub data Stand : Type 0 where
+  InGroup : (agreed : Bool) → Stand
+  Waits : (within : Bool) → Stand
+  ByItself : (within : Bool) → Stand
+
+-- who waited goes on in its group, or by itself
+abbrev pub after_waiting : (within : Bool) → Stand
+after_waiting true = InGroup false
+after_waiting false = ByItself false
+
+-- `outs` lists what is left where those who are further out are met: behind each part and at the end of each body that a
+-- processor is in, and at each `start` ahead of it
+module _ {W : Type 0} (next : W → Option (Step W)) (outs : W → List W) where
+  module _ (Follows : Stand → W → Type 0) where
+    -- it goes on where it is
+    abbrev pub Stays : Stand → (here : W) → (rest : Bool → W) → Type 0
+    Stays stand here rest = (onward : Bool) → (outs (rest onward) ≡ outs here) × Follows stand (rest onward)
+
+    -- behind parts there is where the others wait
+    abbrev pub Parts : Split → (here : W) → (rest : Bool → W) → (outs_of_part : List W) → Type 0
+    Parts by here rest [] = ⊥
+    Parts IfElse here rest (parent ∷ behind) =
+        (behind ≡ outs here) × (outs parent ≡ outs here) × Follows (Waits true) parent
+        × Follows (InGroup false) (rest true) × Follows (InGroup false) (rest false) × (outs (rest false) ≡ parent ∷ behind)
+    Parts by here rest (parent ∷ behind) =
+        (behind ≡ outs here) × (outs parent ≡ outs here) × Follows (Waits true) parent
+        × Follows (InGroup false) (rest true) × (rest false ≡ parent)
+
+    -- what an operation may be where a processor stands, and how it goes on
+    abbrev pub Does : Stand → Operation → (here : W) → (rest : Bool → W) → Type 0
+    Does (InGroup agreed) (o.Branch onward) here rest = (agreed ≡ true) × Stays (InGroup false) here rest
+    Does (InGroup agreed) o.Block here rest = (agreed ≡ true) × Stays (InGroup false) here rest
+    Does (InGroup agreed) o.Agree here rest = Stays (InGroup true) here rest
+    Does (InGroup agreed) (o.Divide by) here rest = Parts by here rest (outs (rest true))
+    Does (InGroup agreed) o.Shrink here rest =
+        (outs (rest true) ≡ outs here) × Follows (InGroup false) (rest true) × (outs here ≡ rest false ∷ outs (rest false))
+    Does (InGroup agreed) o.End here rest = outs here ≡ rest true ∷ outs (rest true)
+    Does (InGroup agreed) o.Farm here rest =
+        (outs (rest true) ≡ rest false ∷ outs here) × (outs (rest false) ≡ rest false ∷ outs here)
+        × Follows (ByItself true) (rest true) × Follows (ByItself true) (rest false)
+    Does (InGroup agreed) o.Seq here rest =
+        (outs (rest true) ≡ rest false ∷ outs here) × (outs (rest false) ≡ rest false ∷ outs here)
+        × Follows (ByItself true) (rest true) × Follows (ByItself true) (rest false)
+    Does (InGroup agreed) o.Begin here rest = ⊥
+    Does (InGroup agreed) o.Resume here rest = ⊥
+    Does (InGroup agreed) (o.Meet true) here rest = ⊥
+    Does (InGroup agreed) o.Halt here rest = ⊥
+    Does (InGroup agreed) operation here rest = Stays (InGroup false) here rest
+    Does (Waits within) o.Resume here rest = (outs (rest true) ≡ outs here) × Follows (after_waiting within) (rest true)
+    Does (Waits within) operation here rest = ⊥
+    Does (ByItself within) (o.Divide by) here rest = ⊥
+    Does (ByItself within) o.Shrink here rest = ⊥
+    Does (ByItself within) o.End here rest = ⊥
+    Does (ByItself within) o.Farm here rest = ⊥
+    Does (ByItself within) o.Seq here rest = ⊥
+    Does (ByItself within) o.Resume here rest = ⊥
+    Does (ByItself true) o.Begin here rest = ⊥
+    Does (ByItself false) o.Begin here rest =
+        (outs here ≡ here ∷ outs (rest false)) × Follows (Waits false) (rest false)
+        × (outs (rest true) ≡ rest false ∷ outs (rest false)) × Follows (InGroup false) (rest true)
+    Does (ByItself true) (o.Meet true) here rest =
+        (outs here ≡ here ∷ outs (rest true)) × Follows (InGroup false) (rest true)
+    Does (ByItself false) (o.Meet true) here rest = ⊥
+    Does (ByItself true) o.Halt here rest = ⊥
+    Does (ByItself false) o.Halt here rest = (onward : Bool) → next (rest onward) ≡ None
+    Does (ByItself within) operation here rest = Stays (ByItself within) here rest
+
+    abbrev pub DoesNext : Stand → (here : W) → Option (Step W) → Type 0
+    DoesNext stand here None = Unit {0}
+    DoesNext stand here (Some step) = Does stand step.operation here step.rest
+
+  -- so many operations on, whichever ways they go
+  abbrev pub FollowsFor : (operations : ℕ) → Stand → W → Type 0
+  FollowsFor zero stand here = Unit {0}
+  FollowsFor (suc n) stand here = DoesNext (FollowsFor n) stand here (next here)
+
+  abbrev pub Follows : Stand → W → Type 0
+  Follows stand here = (operations : ℕ) → FollowsFor operations stand here

@@ -1,0 +1,206 @@
+-- What each processor has done in a round, before the steps of the tree.
+use Rattle.std.proofs.Common.{◌≡◌, ◌⊎◌, inl, inr, ℕ, zero, suc, ◌+◌, ◌<◌, ◌≤◌, ◌&&◌, Bool, true, List, [], ◌∷◌, length, map, slice_get, Option, Some, None, refl, sym, ap, ◌∙◌, subst, subst₂, arith}
+use Rattle.std.specs.Prelude.{slice_index, is_none}
+use Rattle.std.proofs.lemmas.Bool.{and_parts, false≢true}
+use Rattle.fk_meaning_operation.specs.Kinds.{class_of}
+use Rattle.fk_meaning_operation.specs.declared.kinds.Class.{Class}
+use Rattle.fk_meaning_operation.specs.declared.kinds.Class.TheVariants as class
+use Rattle.fk_meaning_operation.specs.declared.kinds.Joint.{Joint}
+use Rattle.fk_meaning_store.specs.Store.{Store}
+use Rattle.fk_tree.specs.Tree.{Tree}
+use Rattle.fk_meaning.specs.Processor.{Setting}
+use Rattle.fk_meaning.specs.Local.{is_onward}
+use Rattle.fk_meaning.specs.Round.{Step, Runner, Fault, State, Round, Acting, Phase, Passes, Breaks, Phases, taking, joint_due, joint_at, fits, all_fit, after_phase, all_requests, request_phase, do_local, local_phase, begin, begin_all, asking, may_act, all_may_act, tree_phase, result, is_allowed, is_possible}
+use Rattle.fk_meaning.proofs.Stopped.{phase_fault}
+use Rattle.fk_lockstep.proofs.Rounds.{OutcomeBy, Outcome, begin_at, map_at, asked_at}
+use Rattle.fk_lockstep.proofs.Round.{index_at, some_at}
+use Rattle.fk_lockstep_one_group.specs.Where.{Where, goes}
+use Rattle.fk_lockstep_one_group.specs.Rounds.{IsSingle, stepping}
+use Rattle.fk_lockstep_one_group.proofs.Moves.{SameLevels, local_same, answer_same}
+
+-- lists
+requests_length : {W : Type 0} (number : ℕ) (actings : List (Acting W)) (s : Store) → length (all_requests number actings s).acting ≡ length actings
+requests_length number [] s = refl
+requests_length {W = W} number (a ∷ actings) s = by (λ s'. requests_length (suc number) actings s') (request_phase s a a.due)
+  where
+    by : ((s' : Store) → length (all_requests (suc number) actings s').acting ≡ length actings) → (phase : Phase W)
+        → length (after_phase number s a actings (all_requests (suc number) actings) phase).acting ≡ length (a ∷ actings)
+    by others (Passes s' b) = ap (λ (n : ℕ). suc n) (others s')
+    by others (Breaks site) = refl
+
+map_length : {A B : Type 0} (f : A → B) (xs : List A) → length (map f xs) ≡ length xs
+map_length f [] = refl
+map_length f (x ∷ xs) = ap (λ (n : ℕ). suc n) (map_length f xs)
+
+joint_is : {W : Type 0} (actings : List (Acting W)) (h : ℕ) (b : Acting W) → slice_get actings h ≡ Some b → joint_at actings h ≡ joint_due b.due
+joint_is [] h b e = absurd (cc)
+joint_is (a ∷ actings) zero b e = let same : a ≡ b = cc in ap (λ (x : Acting _). joint_due x.due) same
+joint_is (a ∷ actings) (suc h) b e = joint_is actings h b e
+
+fit_at : (round : Round) (does_at : ℕ → Joint) (tree : Tree) (counts : List ℕ) (h j c : ℕ) → all_fit round does_at tree h counts ≡ true → slice_get counts j ≡ Some c
+    → fits round does_at tree (h + j) c ≡ true
+fit_at round does_at tree [] h j c e at = absurd (cc)
+fit_at round does_at tree (d ∷ counts) h zero c e at =
+    let same : d ≡ c = cc in
+    let zero_more : h ≡ h + 0 = omega arith in
+    subst₂ (λ (i d' : ℕ). fits round does_at tree i d' ≡ true) zero_more same (and_parts (fits round does_at tree h d) (all_fit round does_at tree (suc h) counts) e).0
+fit_at round does_at tree (d ∷ counts) h (suc j) c e at =
+    let next_one : suc h + j ≡ h + suc j = omega arith in
+    subst (λ (i : ℕ). fits round does_at tree i c ≡ true) next_one
+    (fit_at round does_at tree counts (suc h) j c (and_parts (fits round does_at tree h d) (all_fit round does_at tree (suc h) counts) e).1 at)
+
+module _ {W : Type 0} (next : W → Option (Step W)) (set : Setting) where
+  counts_there : (round : Round) (rs : List (Runner W)) → all_may_act next set round rs ≡ true → length round ≡ length rs
+  counts_there [] [] e = refl
+  counts_there (c ∷ round) (r ∷ rs) e = ap (λ (n : ℕ). suc n) (counts_there round rs (and_parts (may_act next set c r) (all_may_act next set round rs) e).1)
+  counts_there [] (r ∷ rs) e = absurd (false≢true e)
+  counts_there (c ∷ round) [] e = absurd (false≢true e)
+
+  begin_length : (round : Round) (rs : List (Runner W)) → length round ≡ length rs → length (begin_all next set round rs) ≡ length rs
+  begin_length [] [] e = refl
+  begin_length (c ∷ round) (r ∷ rs) e = ap (λ (n : ℕ). suc n) (begin_length round rs (omega (arith, e)))
+  begin_length [] (r ∷ rs) e = e
+  begin_length (c ∷ round) [] e = refl
+
+  -- a local operation or a request is done; or a step of the tree is due
+  pub record Moved (r : Runner W) (b : Acting W) : Type 0 where
+    pub step : Step W
+    pub onward : Bool
+    pub next_is : next r.left ≡ Some step
+    pub plain : class_of step.operation ≡ class.Tree → ⊥
+    pub due : b.due ≡ None
+    pub left : b.runner.left ≡ step.rest onward
+    pub levels : (place : Where) (way : Bool) (to : Where) → goes place step.operation way ≡ Some to → SameLevels r.has b.runner.has
+
+  pub record IsDue (r : Runner W) (b : Acting W) : Type 0 where
+    pub step : Step W
+    pub next_is : next r.left ≡ Some step
+    pub tree : class_of step.operation ≡ class.Tree
+    pub is : b ≡ taking r (Some step)
+
+  abbrev pub Comes : (count : ℕ) → Runner W → Acting W → Type 0
+  Comes count r b = ((b ≡ taking r None) × ((count ≡ 0) ⊎ (next r.left ≡ None))) ⊎ ((count ≡ 1) × (Moved r b ⊎ IsDue r b))
+
+  abbrev asked : ℕ → Runner W → Acting W
+  asked count r = let a = begin next set count r in local_phase next set a a.due
+
+  one_comes : (r : Runner W) (b : Acting W) (due : Option (Step W)) → next r.left ≡ due
+      → Outcome (local_phase next set (taking r due) due) (local_phase next set (taking r due) due).due b → Comes 1 r b
+  one_comes r b None e out = inl (out, inr e)
+  one_comes r b (Some step) e out = by (class_of step.operation) refl out
+    where
+      by : (c : Class) → class_of step.operation ≡ c → Outcome (do_local next set (taking r (Some step)) c step) (do_local next set (taking r (Some step)) c step).due b → Comes 1 r b
+      by class.Local f o' =
+          inr (
+            refl,
+            inl (record {
+              step = step;
+              onward = is_onward step.operation r.has;
+              next_is = e;
+              plain = λ t. let clash : class.Local ≡ class.Tree = sym f ∙ t in cc;
+              due = ap (λ (x : Acting W). x.due) o';
+              left = ap (λ (x : Acting W). x.runner.left) o';
+              levels = λ place way to is.
+                  subst (SameLevels r.has) (sym (ap (λ (x : Acting W). x.runner.has) o')) (local_same set place step.operation way to r.has is);
+            }),
+          )
+      by class.Request f o' =
+          let x = subst (λ (c : Class). OutcomeBy c (taking r (Some step)) step b) f o' in
+          inr (
+            refl,
+            inl (record {
+              step = step;
+              onward = true;
+              next_is = e;
+              plain = λ t. let clash : class.Request ≡ class.Tree = sym f ∙ t in cc;
+              due = ap (λ (a : Acting W). a.due) x.1;
+              left = ap (λ (a : Acting W). a.runner.left) x.1;
+              levels = λ place way to is. subst (SameLevels r.has) (sym (ap (λ (a : Acting W). a.runner.has) x.1)) (answer_same step.operation x.0 r.has);
+            }),
+          )
+      by class.Tree f o' =
+          let x = subst (λ (c : Class). OutcomeBy c (taking r (Some step)) step b) f o' in
+          inr (refl, inr (record { step = step; next_is = e; tree = f; is = x }))
+
+  comes : (count : ℕ) (r : Runner W) (b : Acting W) → count ≤ 1 → Outcome (asked count r) (asked count r).due b → Comes count r b
+  comes zero r b le out = inl (out, inl refl)
+  comes (suc zero) r b le out = one_comes r b (next r.left) refl out
+  comes (suc (suc c)) r b le out = absurd (omega (arith, le))
+
+  module _ (round : Round) (s : State W) (single : IsSingle round) (possible : is_possible next set round s ≡ true) where
+    both : (is_none s.fault && is_allowed next set round s ≡ true) × (is_none (result next set round s).fault ≡ true)
+    both = and_parts (is_none s.fault && is_allowed next set round s) (is_none (result next set round s).fault) possible
+
+    allowed : is_allowed next set round s ≡ true
+    allowed = (and_parts (is_none s.fault) (is_allowed next set round s) both.0).1
+
+    none_of : (f : Option Fault) → is_none f ≡ true → f ≡ None
+    none_of None e = refl
+    none_of (Some f) e = absurd (false≢true e)
+
+    abbrev pub phases : Phases W
+    phases = all_requests 0 (asking next set round s.runners) s.store
+
+    no_fault : phases.fault ≡ None
+    no_fault = sym (phase_fault s.tree phases.store phases.acting phases.fault) ∙ none_of (result next set round s).fault both.1
+
+    pub result_is : result next set round s ≡ tree_phase s.tree phases.store (stepping next set round s) None
+    result_is = ap (λ (fault : Option Fault). tree_phase s.tree phases.store phases.acting fault) no_fault
+
+    abbrev pub does_at : ℕ → Joint
+    does_at = joint_at (begin_all next set round s.runners)
+
+    parts : (all_may_act next set round s.runners ≡ true) × (all_fit round does_at s.tree 0 round ≡ true)
+    parts = and_parts (all_may_act next set round s.runners) (all_fit round does_at s.tree 0 round) allowed
+
+    counts_length : length round ≡ length s.runners
+    counts_length = counts_there round s.runners parts.0
+
+    pub stepping_length : length (stepping next set round s) ≡ length s.runners
+    stepping_length =
+        requests_length 0 (asking next set round s.runners) s.store
+        ∙ map_length (λ (a : Acting W). local_phase next set a a.due) (begin_all next set round s.runners)
+        ∙ begin_length round s.runners counts_length
+
+    pub record Acts (h : ℕ) : Type 0 where
+      pub runner : Runner W
+      pub is : slice_get s.runners h ≡ Some runner
+      pub count : ℕ
+      pub counted : slice_get round h ≡ Some count
+      pub acting : Acting W
+      pub at : slice_get (stepping next set round s) h ≡ Some acting
+      pub comes : Comes count runner acting
+
+    pub acts : (h : ℕ) → h < length s.runners → Acts h
+    acts h lt =
+        let lt' : h < length round = omega (arith, lt, counts_length) in
+        let r = some_at s.runners h lt in
+        let c = some_at round h lt' in
+        let there = map_at (λ (a : Acting W). local_phase next set a a.due) (begin_all next set round s.runners) h (begin next set c.0 r.0)
+        (begin_at next set round s.runners h c.0 r.0 c.1 r.1) in
+        let passing = asked_at 0 (asking next set round s.runners) s.store h (asked c.0 r.0) no_fault there in
+        let le = single h in
+        let same = index_at round h c.0 c.1 in
+        record {
+          runner = r.0;
+          is = r.1;
+          count = c.0;
+          counted = c.1;
+          acting = passing.acting;
+          at = passing.at;
+          comes = comes c.0 r.0 passing.acting (omega (arith, le, same)) passing.comes;
+        }
+
+    pub counts_as : (h : ℕ) (a : Acts h) → slice_index round h ≡ a.count
+    counts_as h a = index_at round h a.count a.counted
+
+    -- what those in the round are about to do together
+    pub due_at : (h : ℕ) (a : Acts h) → a.count ≡ 1 → does_at h ≡ joint_due (next a.runner.left)
+    due_at h a one =
+        joint_is (begin_all next set round s.runners) h (begin next set a.count a.runner) (begin_at next set round s.runners h a.count a.runner a.counted a.is)
+        ∙ ap (λ (c : ℕ). joint_due (begin next set c a.runner).due) one
+
+    pub fits_at : (h : ℕ) (a : Acts h) → a.count ≡ 1 → fits round does_at s.tree h 1 ≡ true
+    fits_at h a one =
+        let none : 0 + h ≡ h = omega arith in
+        subst₂ (λ (j c : ℕ). fits round does_at s.tree j c ≡ true) none one (fit_at round does_at s.tree round 0 h a.count parts.1 a.counted)

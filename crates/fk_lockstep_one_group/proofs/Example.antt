@@ -1,0 +1,148 @@
+-- A program with one group, whose code leads:
+-- void f(void) { 1; } void main(void) { while (1) { f(); break; } barrier; start { f(); if (1) 1; seq barrier; farm ; } }
+use Rattle.std.proofs.Common.{◌≡◌, inl, inr, ℕ, zero, suc, Bool, true, false, true≢false, [], Some, None, sym, refl}
+use Rattle.fk_meaning_operation.specs.declared.operation.Operation.TheVariants as o
+use Rattle.fk_meaning_operation.specs.declared.operation.Known.TheVariants.{Processors}
+use Rattle.fk_meaning_forms.specs.Code.{Code, done, perform, choose, while, quit, break, call, ends}
+use Rattle.fk_meaning.specs.Next.{going, next}
+use Rattle.fk_core_flat.specs.Shape.{is_closed}
+use Rattle.fk_core_flat.specs.Laws.{AreShaped}
+use Rattle.fk_lockstep_one_group.specs.Where.{Where, InRoot, Waits, InGroup, InBody, BehindBody, goes, Goes}
+use Rattle.fk_lockstep_one_group.specs.Leads.{Leads}
+use Rattle.fk_lockstep_one_group.specs.Led.{AreLed}
+use Rattle.fk_lockstep_one_group.proofs.Run.{code_goes}
+
+abbrev behind_farm : Code ℕ
+behind_farm = perform 16 (o.Meet true) (perform 17 o.End done)
+
+abbrev from_farm : Code ℕ
+from_farm = choose 15 o.Farm done done behind_farm
+
+abbrev from_seq : Code ℕ
+from_seq = choose 13 o.Seq (perform 18 (o.Meet false) done) done (perform 14 (o.Meet true) from_farm)
+
+abbrev in_start : Code ℕ
+in_start =
+    call 7 (o.Enter 0) 1 done (perform 8 (o.Push 1) (perform 9 o.Agree
+    (choose 10 (o.Branch true) (perform 11 (o.Push 1) (perform 12 o.DropLast done)) done from_seq)))
+
+abbrev behind_start : Code ℕ
+behind_start = perform 19 o.Resume (ends 20 o.Halt done)
+
+abbrev behind_loop : Code ℕ
+behind_loop = perform 4 (o.Meet false) (perform 5 (o.Get Processors) (choose 6 o.Begin in_start done behind_start))
+
+abbrev bodies : ℕ → Code ℕ
+bodies zero =
+    while (perform 0 (o.Push 1) (quit 1 (o.Branch true) done)) (call 2 (o.Enter 0) 1 done (break done)) done behind_loop
+bodies (suc zero) = perform 21 (o.Push 1) (perform 22 o.DropLast (ends 23 (o.Leave false false) done))
+bodies (suc (suc f)) = done
+
+abbrev may_call : (in_group : Bool) → (function : ℕ) → Bool
+may_call in_group (suc zero) = true
+may_call in_group f = false
+
+resumes : Leads may_call InRoot None Waits behind_start InRoot
+resumes = (InRoot, (λ w. refl), ((λ w. refl), refl, refl))
+
+closes : (place : Where) → goes place (o.Meet true) true ≡ Some InGroup → goes place (o.Meet true) false ≡ Some InGroup
+    → Leads may_call InRoot None place behind_farm Waits
+closes place a b = (InGroup, by, (Waits, (λ w. refl), refl))
+  where
+    by : (onward : Bool) → goes place (o.Meet true) onward ≡ Some InGroup
+    by true = a
+    by false = b
+
+farms : Leads may_call InRoot None InGroup from_farm Waits
+farms = (InBody, BehindBody, InBody, BehindBody, refl, refl, refl, refl, closes InBody refl refl, closes BehindBody refl refl)
+
+seqs : Leads may_call InRoot None InGroup from_seq Waits
+seqs = (
+  InBody,
+  BehindBody,
+  InBody,
+  BehindBody,
+  refl,
+  refl,
+  (InBody, (λ w. refl), refl),
+  refl,
+  (InGroup, (λ w. refl), farms),
+  (InGroup, (λ w. refl), farms),
+)
+
+group : Leads may_call InRoot None InGroup in_start Waits
+group = (
+  (λ w. refl),
+  refl,
+  refl,
+  (
+    InGroup,
+    (λ w. refl),
+    (
+      InGroup,
+      (λ w. refl),
+      (InGroup, InGroup, InGroup, InGroup, refl, refl, (InGroup, (λ w. refl), (InGroup, (λ w. refl), refl)), refl, seqs, seqs),
+    ),
+  ),
+)
+
+behind : Leads may_call InRoot None InRoot behind_loop InRoot
+behind = (InRoot, (λ w. refl), (InRoot, (λ w. refl), (InGroup, Waits, Waits, Waits, refl, refl, group, refl, resumes, resumes)))
+
+shaped : AreShaped bodies
+shaped zero = (
+  (
+    refl,
+    refl,
+    (inl refl, (refl, refl, tt)),
+    (refl, refl, tt, (refl, tt)),
+    tt,
+    (
+      inl refl,
+      (
+        inl refl,
+        (
+          refl,
+          (refl, refl, tt, (inl refl, (inl refl, (refl, (inl refl, (inl refl, tt)), tt, (refl, (inl refl, tt), tt, (inl refl, (refl, tt, tt, (inl refl, (inr (refl, refl), tt))))))))),
+          tt,
+          (inl refl, (refl, tt)),
+        ),
+      ),
+    ),
+  ),
+  inr refl,
+)
+shaped (suc zero) = ((inl refl, (inl refl, (refl, tt))), inr refl)
+shaped (suc (suc f)) = (tt, inl refl)
+
+in_group : (f : ℕ) → is_closed (bodies f) ≡ true → may_call true f ≡ true → Leads may_call InGroup None InGroup (bodies f) InGroup
+in_group zero c e = absurd (true≢false (sym e))
+in_group (suc zero) c e = (InGroup, (λ w. refl), (InGroup, (λ w. refl), ((λ w. refl), refl, refl)))
+in_group (suc (suc f)) c e = absurd (true≢false (sym e))
+
+in_root : (f : ℕ) → is_closed (bodies f) ≡ true → may_call false f ≡ true → Leads may_call InRoot None InRoot (bodies f) InRoot
+in_root zero c e = absurd (true≢false (sym e))
+in_root (suc zero) c e = (InRoot, (λ w. refl), (InRoot, (λ w. refl), ((λ w. refl), refl, refl)))
+in_root (suc (suc f)) c e = absurd (true≢false (sym e))
+
+in_body : (f : ℕ) → is_closed (bodies f) ≡ true → may_call false f ≡ true → Leads may_call InBody None InBody (bodies f) InBody
+in_body zero c e = absurd (true≢false (sym e))
+in_body (suc zero) c e = (InBody, (λ w. refl), (InBody, (λ w. refl), ((λ w. refl), refl, refl)))
+in_body (suc (suc f)) c e = absurd (true≢false (sym e))
+
+are_led : AreLed may_call bodies 0
+are_led = record {
+  shaped = shaped;
+  in_group = in_group;
+  in_root = in_root;
+  in_body = in_body;
+  main_of = (
+    (InRoot, (λ w. refl), (refl, (λ w. refl), refl)),
+    ((λ w. refl), refl, refl, (refl, refl)),
+    refl,
+    behind,
+  );
+}
+
+goes_on : Goes (next bodies) InRoot (going (bodies 0) [])
+goes_on = code_goes may_call bodies 0 are_led

@@ -1,0 +1,229 @@
+-- Operations, by where a processor stands: where they may, and what they leave of its levels.
+use Rattle.std.proofs.Common.{◌≡◌, ◌≢◌, ◌⊎◌, inl, inr, ℕ, suc, ◌==◌, ◌-◌, Bool, true, false, List, [], ◌∷◌, Option, Some, None, refl, sym, ap, ◌∙◌, subst, if◌then◌else◌}
+use Rattle.std.specs.Prelude.{nat_lt}
+use Rattle.fk_meaning_operation.specs.Kinds.{class_of, joint_of}
+use Rattle.fk_meaning_operation.specs.declared.kinds.Class.{Class}
+use Rattle.fk_meaning_operation.specs.declared.kinds.Class.TheVariants as class
+use Rattle.fk_meaning_operation.specs.declared.kinds.Joint.{Joint}
+use Rattle.fk_meaning_operation.specs.declared.kinds.Joint.TheVariants as joint
+use Rattle.fk_meaning_operation.specs.declared.operation.Operation.{Operation}
+use Rattle.fk_meaning_operation.specs.declared.operation.Operation.TheVariants as o
+use Rattle.fk_meaning_operation.specs.declared.operation.Variable.{Variable}
+use Rattle.fk_meaning_operation.specs.declared.operation.Variable.TheVariants.{Private, OfFile}
+use Rattle.fk_meaning_store.specs.Store.{private_words}
+use Rattle.fk_meaning_store.specs.Serve.{words_of}
+use Rattle.fk_meaning.specs.Processor.{Call, Processor, Setting, values, last}
+use Rattle.fk_meaning.specs.Schedule.{first_level}
+use Rattle.fk_meaning.specs.Local.{stored, taken, to_caller, local}
+use Rattle.fk_meaning.specs.Request.{with_answer}
+use Rattle.fk_meaning.specs.Group.{does}
+use Rattle.fk_meaning.specs.Round.{Step, same_joint}
+use Rattle.fk_lockstep.specs.Untouched.{changes_tree}
+use Rattle.fk_lockstep.proofs.Round.{first_is}
+use Rattle.fk_lockstep_one_group.specs.Where.{Where, InRoot, Waits, InGroup, InBody, BehindBody, stays, goes, GoesNext, GoesFor, Goes}
+use Rattle.fk_lockstep_one_group.specs.Placed.{HasLevels}
+
+-- ---- where they may stand
+
+stays_is : (c : Class) (place to : Where) → stays c place ≡ Some to → to ≡ place
+stays_is class.Local place to e = sym (first_is place to e)
+stays_is class.Request place to e = sym (first_is place to e)
+stays_is class.Tree place to e = absurd (cc)
+
+-- who doesn't change the tree stays where it is
+pub keeps_place : (place : Where) (op : Operation) (onward : Bool) (to : Where) → changes_tree op ≡ false → goes place op onward ≡ Some to → to ≡ place
+keeps_place place (o.Leave gives true) onward to keep e = absurd (cc)
+keeps_place InRoot o.Begin onward to keep e = absurd (cc)
+keeps_place InRoot (o.Meet false) onward to keep e = sym (first_is InRoot to e)
+keeps_place InRoot o.Halt onward to keep e = sym (first_is InRoot to e)
+keeps_place InRoot op onward to keep e = stays_is (class_of op) InRoot to e
+keeps_place Waits o.Resume onward to keep e = absurd (cc)
+keeps_place Waits op onward to keep e = absurd (cc)
+keeps_place InGroup o.Agree onward to keep e = sym (first_is InGroup to e)
+keeps_place InGroup o.Farm onward to keep e = absurd (cc)
+keeps_place InGroup o.Seq onward to keep e = absurd (cc)
+keeps_place InGroup o.End onward to keep e = absurd (cc)
+keeps_place InGroup op onward to keep e = stays_is (class_of op) InGroup to e
+keeps_place InBody (o.Meet true) onward to keep e = absurd (cc)
+keeps_place InBody (o.Meet false) onward to keep e = sym (first_is InBody to e)
+keeps_place InBody op onward to keep e = stays_is (class_of op) InBody to e
+keeps_place BehindBody (o.Meet true) onward to keep e = absurd (cc)
+keeps_place BehindBody op onward to keep e = absurd (cc)
+
+pub keeps_tree : (op : Operation) → (class_of op ≡ class.Tree → ⊥) → changes_tree op ≡ false
+keeps_tree o.Begin off = absurd (off refl)
+keeps_tree (o.Divide by) off = absurd (off refl)
+keeps_tree o.Shrink off = absurd (off refl)
+keeps_tree o.End off = absurd (off refl)
+keeps_tree o.Farm off = absurd (off refl)
+keeps_tree o.Seq off = absurd (off refl)
+keeps_tree (o.Meet true) off = absurd (off refl)
+keeps_tree (o.Meet false) off = refl
+keeps_tree o.Resume off = absurd (off refl)
+keeps_tree op off = refl
+
+-- which steps change the tree, by where they stand
+pub root_begins : (op : Operation) (onward : Bool) (to : Where) → changes_tree op ≡ true → goes InRoot op onward ≡ Some to → op ≡ o.Begin
+root_begins o.Begin onward to changes e = refl
+root_begins (o.Divide by) onward to changes e = absurd (cc)
+root_begins o.Shrink onward to changes e = absurd (cc)
+root_begins o.End onward to changes e = absurd (cc)
+root_begins o.Farm onward to changes e = absurd (cc)
+root_begins o.Seq onward to changes e = absurd (cc)
+root_begins (o.Meet true) onward to changes e = absurd (cc)
+root_begins (o.Meet false) onward to changes e = absurd (cc)
+root_begins o.Resume onward to changes e = absurd (cc)
+root_begins op onward to changes e = absurd (cc)
+
+pub waiters_resume : (op : Operation) (onward : Bool) (to : Where) → goes Waits op onward ≡ Some to → op ≡ o.Resume
+waiters_resume (o.Leave gives true) onward to e = absurd (cc)
+waiters_resume o.Resume onward to e = refl
+waiters_resume op onward to e = absurd (cc)
+
+pub group_steps : (op : Operation) (onward : Bool) (to : Where) → changes_tree op ≡ true → goes InGroup op onward ≡ Some to → (op ≡ o.Farm) ⊎ ((op ≡ o.Seq) ⊎ (op ≡ o.End))
+group_steps o.Begin onward to changes e = absurd (cc)
+group_steps (o.Divide by) onward to changes e = absurd (cc)
+group_steps o.Shrink onward to changes e = absurd (cc)
+group_steps o.End onward to changes e = inr (inr refl)
+group_steps o.Farm onward to changes e = inl refl
+group_steps o.Seq onward to changes e = inr (inl refl)
+group_steps (o.Meet true) onward to changes e = absurd (cc)
+group_steps (o.Meet false) onward to changes e = absurd (cc)
+group_steps o.Resume onward to changes e = absurd (cc)
+group_steps op onward to changes e = absurd (cc)
+
+pub bodies_meet : (op : Operation) (onward : Bool) (to : Where) → changes_tree op ≡ true → goes InBody op onward ≡ Some to → op ≡ o.Meet true
+bodies_meet o.Begin onward to changes e = absurd (cc)
+bodies_meet (o.Divide by) onward to changes e = absurd (cc)
+bodies_meet o.Shrink onward to changes e = absurd (cc)
+bodies_meet o.End onward to changes e = absurd (cc)
+bodies_meet o.Farm onward to changes e = absurd (cc)
+bodies_meet o.Seq onward to changes e = absurd (cc)
+bodies_meet (o.Meet true) onward to changes e = refl
+bodies_meet (o.Meet false) onward to changes e = absurd (cc)
+bodies_meet o.Resume onward to changes e = absurd (cc)
+bodies_meet op onward to changes e = absurd (cc)
+
+pub others_meet : (op : Operation) (onward : Bool) (to : Where) → goes BehindBody op onward ≡ Some to → op ≡ o.Meet true
+others_meet (o.Leave gives true) onward to e = absurd (cc)
+others_meet (o.Meet true) onward to e = refl
+others_meet op onward to e = absurd (cc)
+
+-- a joint operation that changes the tree is known by what those who do it do together
+pub joint_tells : (op op' : Operation) → changes_tree op ≡ true → joint_of op ≢ joint.Alone → same_joint (joint_of op) (joint_of op') ≡ true → op' ≡ op
+joint_tells o.Begin o.Begin e alone same = refl
+joint_tells o.Begin (o.Meet true) e alone same = absurd (cc)
+joint_tells o.Begin (o.Meet false) e alone same = absurd (cc)
+joint_tells o.Begin op' e alone same = absurd (cc)
+joint_tells o.Resume o.Resume e alone same = refl
+joint_tells o.Resume (o.Meet true) e alone same = absurd (cc)
+joint_tells o.Resume (o.Meet false) e alone same = absurd (cc)
+joint_tells o.Resume op' e alone same = absurd (cc)
+joint_tells (o.Meet true) (o.Meet true) e alone same = refl
+joint_tells (o.Meet true) (o.Meet false) e alone same = absurd (cc)
+joint_tells (o.Meet true) op' e alone same = absurd (cc)
+joint_tells (o.Meet false) op' e alone same = absurd (cc)
+joint_tells op op' e alone same = absurd (alone refl)
+
+pub not_alone : (j : Joint) → j ≢ joint.Alone → same_joint j joint.Alone ≡ true → ⊥
+not_alone joint.Alone ne e = ne refl
+not_alone joint.Starting ne e = absurd (cc)
+not_alone joint.AtBarrier ne e = absurd (cc)
+not_alone joint.Closing ne e = absurd (cc)
+not_alone joint.Resuming ne e = absurd (cc)
+
+pub joint_is_step : (op : Operation) → joint_of op ≢ joint.Alone → class_of op ≡ class.Tree
+joint_is_step o.Begin alone = refl
+joint_is_step o.Resume alone = refl
+joint_is_step (o.Meet true) alone = refl
+joint_is_step (o.Meet false) alone = refl
+joint_is_step op alone = absurd (alone refl)
+
+-- ---- levels
+
+abbrev pub SameLevels : Processor → Processor → Type 0
+SameLevels p q = (q.number ≡ p.number) × (q.level ≡ p.level) × (q.outer ≡ p.outer)
+
+pub same_levels : (p : Processor) → SameLevels p p
+same_levels p = (refl, refl, refl)
+
+either_same : (b : Bool) (p x y : Processor) → SameLevels p x → SameLevels p y → SameLevels p (if b then x else y)
+either_same true p x y one other = one
+either_same false p x y one other = other
+
+stored_same : (v : ℕ) (variable : Variable) (p : Processor) → SameLevels p (stored v variable p)
+stored_same v (Private i) p = (refl, refl, refl)
+stored_same v (OfFile i) p = (refl, refl, refl)
+
+taken_same : (words : ℕ) (p : Processor) → SameLevels p (taken words p)
+taken_same words p =
+    either_same (words == 0) p _ _ (refl, refl, refl) (either_same (nat_lt (private_words - p.top) words) p _ _ (refl, refl, refl) (refl, refl, refl))
+
+caller_same : (gives : Bool) (v : ℕ) (p : Processor) (calls : List Call) → SameLevels p (to_caller gives v p calls)
+caller_same gives v p [] = (refl, refl, refl)
+caller_same gives v p (c ∷ calls) = (refl, refl, refl)
+
+pub local_same : (set : Setting) (place : Where) (op : Operation) (onward : Bool) (to : Where) (p : Processor) → goes place op onward ≡ Some to → SameLevels p (local set op p)
+local_same set place (o.Leave gives true) onward to p e = absurd (cc)
+local_same set place (o.Leave gives false) onward to p e = caller_same gives (last (values p)) p p.callers
+local_same set place (o.Set v) onward to p e = stored_same (last (values p)) v p
+local_same set place o.Take onward to p e = taken_same (words_of (last (values p))) p
+local_same set place op onward to p e = (refl, refl, refl)
+
+pub answer_same : (op : Operation) (v : ℕ) (p : Processor) → SameLevels p (with_answer op v p)
+answer_same o.Read v p = (refl, refl, refl)
+answer_same op v p = (refl, refl, refl)
+
+frames_nowhere : (place : Where) (nesting words : ℕ) (onward : Bool) (to : Where) → goes place (o.Frame nesting words) onward ≡ Some to → ⊥
+frames_nowhere InRoot nesting words onward to e = absurd (cc)
+frames_nowhere Waits nesting words onward to e = absurd (cc)
+frames_nowhere InGroup nesting words onward to e = absurd (cc)
+frames_nowhere InBody nesting words onward to e = absurd (cc)
+frames_nowhere BehindBody nesting words onward to e = absurd (cc)
+
+blocks_nowhere : (place : Where) (onward : Bool) (to : Where) → goes place o.Block onward ≡ Some to → ⊥
+blocks_nowhere InRoot onward to e = absurd (cc)
+blocks_nowhere Waits onward to e = absurd (cc)
+blocks_nowhere InGroup onward to e = absurd (cc)
+blocks_nowhere InBody onward to e = absurd (cc)
+blocks_nowhere BehindBody onward to e = absurd (cc)
+
+pub does_same : (place : Where) (op : Operation) (onward : Bool) (to : Where) (highest size : ℕ) (p : Processor) → changes_tree op ≡ false → goes place op onward ≡ Some to
+    → SameLevels p (does op highest size p)
+does_same place (o.Frame nesting words) onward to highest size p keep e = absurd (frames_nowhere place nesting words onward to e)
+does_same place o.Block onward to highest size p keep e = absurd (blocks_nowhere place onward to e)
+does_same place o.Begin onward to highest size p keep e = absurd (cc)
+does_same place (o.Divide by) onward to highest size p keep e = absurd (cc)
+does_same place o.Shrink onward to highest size p keep e = absurd (cc)
+does_same place o.End onward to highest size p keep e = absurd (cc)
+does_same place op onward to highest size p keep e = (refl, refl, refl)
+
+pub levels_stay : (set : Setting) (place : Where) (p q : Processor) → SameLevels p q → HasLevels set place p → HasLevels set place q
+levels_stay set InRoot p q same has = (same.2 ∙ has.0, same.1 ∙ has.1 ∙ ap (λ n. first_level set n) (sym same.0))
+levels_stay set Waits p q same has = (same.2 ∙ has.0, same.1 ∙ has.1 ∙ ap (λ n. first_level set n) (sym same.0))
+levels_stay set place p q same has = (same.2 ∙ has.0 ∙ ap (λ n. first_level set n ∷ []) (sym same.0), ap (λ l. l.space) same.1 ∙ has.1)
+
+-- ---- on one of its ways
+
+module _ {W : Type 0} (next : W → Option (Step W)) where
+  pub goes_on : (place : Where) (here : W) (step : Step W) → Goes next place here → next here ≡ Some step
+      → (onward : Bool) → (to : Where) × (goes place step.operation onward ≡ Some to) × Goes next to (step.rest onward)
+  goes_on place here step g e onward =
+      let at : (n : ℕ) → GoesNext next (GoesFor next n) place (Some step) = λ n. subst (GoesNext next (GoesFor next n) place) e (g (suc n)) in
+      let first = at 0 onward in (
+        first.0,
+        first.1,
+        λ n.
+            let x = at n onward in
+            subst (λ (q : Where). GoesFor next n q (step.rest onward)) (first_is x.0 first.0 (sym x.1 ∙ first.1)) x.2,
+      )
+
+  -- and is where another fact tells
+  pub goes_to : (place : Where) (here : W) (step : Step W) → Goes next place here → next here ≡ Some step → (onward : Bool) (to : Where) → goes place step.operation onward ≡ Some to → Goes next to (step.rest onward)
+  goes_to place here step g e onward to is =
+      let x = goes_on place here step g e onward in
+      subst (λ (q : Where). Goes next q (step.rest onward)) (first_is x.0 to (sym x.1 ∙ is)) x.2
+
+  -- nothing is left in the root alone
+  pub ends_in_root : (place : Where) (here : W) → Goes next place here → next here ≡ None → place ≡ InRoot
+  ends_in_root place here g e = subst (GoesNext next (GoesFor next 0) place) e (g 1)

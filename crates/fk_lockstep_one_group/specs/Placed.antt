@@ -1,0 +1,70 @@
+-- Where the tree has the processors of a program with one group at a time.
+use Rattle.std.specs.Prelude.{◌≡◌, ◌≢◌, ℕ, zero, suc, ◌≤◌, Bool, true, false, List, [], ◌∷◌, length, Option, Some, None, slice_get, ◌⊎◌}
+use Rattle.fk_num.specs.Word.{Memory}
+use Rattle.fk_tree.specs.declared.node.Kind.{Kind}
+use Rattle.fk_tree.specs.declared.node.Kind.TheVariants.{Lockstep, Waiting, Asynchronous}
+use Rattle.fk_meaning_operation.specs.declared.operation.Operation.TheVariants.{Resume}
+use Rattle.fk_tree.specs.Tree as t
+use Rattle.fk_tree.specs.Tree.{Tree, is_member}
+use Rattle.fk_meaning.specs.Processor.{Processor, Setting, setting_of, group_space}
+use Rattle.fk_meaning.specs.Round.{Step, Runner, State, body_of}
+use Rattle.fk_meaning.specs.Schedule.{first_level, opening}
+use Rattle.fk_lockstep_one_group.specs.Where.{Where, InRoot, Waits, InGroup, InBody, BehindBody, Goes}
+
+-- where the members of a node stand who are at it. The root is node 0; some may run its body
+abbrev pub where_in : (g : ℕ) → Option Kind → (runs : Bool) → Option Where
+where_in zero (Some (Asynchronous alone)) runs = Some InRoot
+where_in zero (Some (Waiting first parts)) runs = Some Waits
+where_in (suc g) (Some Lockstep) runs = Some InGroup
+where_in (suc g) (Some (Asynchronous alone)) true = Some InBody
+where_in (suc g) (Some (Asynchronous alone)) false = Some BehindBody
+where_in g kind runs = None
+
+abbrev pub where_at : Tree → (h : ℕ) → Option Where
+where_at tree h = let g = tree.places h in where_in g (t.kind tree g) (is_member h (body_of (t.kind tree g) (t.members tree g)))
+
+-- the root alone
+pub record HasNoGroup (tree : Tree) : Type 0 where
+  pub root : t.kind tree 0 ≡ Some (Asynchronous false)
+  pub none : (n : ℕ) → n ≢ 0 → tree.nodes n ≡ None
+
+-- the root waits for one group, with this number, which is in lockstep or has a body, or has ended
+pub record HasGroup (tree : Tree) (group : ℕ) : Type 0 where
+  pub root : t.kind tree 0 ≡ Some (Waiting group 1)
+  pub others : (n : ℕ) → n ≢ 0 → n ≢ group → tree.nodes n ≡ None
+  pub whole : (first parts : ℕ) → t.kind tree group ≢ Some (Waiting first parts)
+
+abbrev pub IsOfOneGroup : Tree → Type 0
+IsOfOneGroup tree = HasNoGroup tree ⊎ ((group : ℕ) × HasGroup tree group)
+
+-- the level in the root is that of the beginning, and the group of `start` has all of the group space
+abbrev pub HasLevels : Setting → Where → Processor → Type 0
+HasLevels set InRoot p = (p.outer ≡ []) × (p.level ≡ first_level set p.number)
+HasLevels set Waits p = (p.outer ≡ []) × (p.level ≡ first_level set p.number)
+HasLevels set place p = (p.outer ≡ first_level set p.number ∷ []) × (p.level.space ≡ group_space set)
+
+module _ {W : Type 0} (next : W → Option (Step W)) where
+  -- a processor stands somewhere as the tree tells, as what it has left tells, and as its levels tell
+  pub record IsPlaced (set : Setting) (tree : Tree) (h : ℕ) (r : Runner W) : Type 0 where
+    pub number_is : r.has.number ≡ h
+    pub place : Where
+    pub there : where_at tree h ≡ Some place
+    pub goes : Goes next place r.left
+    pub levels : HasLevels set place r.has
+
+  -- so do all
+  pub record HasOneGroup (set : Setting) (s : State W) : Type 0 where
+    pub many : length s.runners ≡ set.processors
+    pub tree : IsOfOneGroup s.tree
+    pub placed : (h : ℕ) (r : Runner W) → slice_get s.runners h ≡ Some r → IsPlaced set s.tree h r
+
+abbrev pub OpeningsHaveNoGroup : (W : Type 0) → Type 0
+OpeningsHaveNoGroup W =
+    (next : W → Option (Step W)) (program : W) (processors : ℕ) (globals input : List ℕ) (firsts : Memory) → 1 ≤ processors → Goes next InRoot program
+    → HasOneGroup next (setting_of processors globals input) (opening processors globals input firsts program)
+
+-- who waits for the group of a `start` is about to go on behind it
+abbrev pub WaitersResume : (W : Type 0) → Type 0
+WaitersResume W =
+    (next : W → Option (Step W)) (set : Setting) (s : State W) (h first parts : ℕ) (r : Runner W) (step : Step W) → HasOneGroup next set s
+    → t.kind s.tree (s.tree.places h) ≡ Some (Waiting first parts) → slice_get s.runners h ≡ Some r → next r.left ≡ Some step → step.operation ≡ Resume

@@ -1,0 +1,9 @@
+pub mod Placed
+pub mod Ahead
+pub mod Pending
+pub mod Valued
+pub mod Forks
+pub mod Returns
+pub mod InPlace
+pub mod Framed
+pub mod Inner

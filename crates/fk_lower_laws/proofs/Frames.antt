@@ -1,0 +1,100 @@
+-- Where frames have room, the private words and the values of functions have.
+use Rattle.std.proofs.Common.{◌≡◌, ℕ, ◌+◌, ◌*◌, ◌≤◌, Bool, true, false, List, [], ◌∷◌, Option, refl, sym, ap, arith}
+use Rattle.std.specs.Prelude.{◌==◌, not, if◌then◌else◌}
+use Rattle.fk_syntax.specs.Program.{FunctionTree, ItemTree}
+use Rattle.fk_layout_sizes.specs.Places.{beginning, places}
+use Rattle.fk_meaning_forms.specs.Code.{size, numbered}
+use Rattle.fk_meaning_forms.specs.Tables.{Tables}
+use Rattle.fk_meaning_forms.specs.Statements.{is_nothing}
+use Rattle.fk_meaning_forms.specs.Program.{functions_of, binding_of, signature_of, signature_in, is_main, code_of, body_in}
+use Rattle.fk_layout.specs.Frames.{file_privates, values_of, nesting_of}
+use Rattle.fk_core_flat.specs.Shape.{IsShaped}
+use Rattle.fk_core_liveness.specs.declared.places.Place.{Place}
+use Rattle.fk_core_liveness.specs.declared.places.Place.TheVariants.{Main, Called}
+use Rattle.fk_compile_text.specs.Built.{operations, operations_in}
+use Rattle.fk_core_typing.specs.Values.{State}
+use Rattle.fk_core_typing.specs.Typed.{Typed}
+use Rattle.fk_lower_laws.specs.Rooms.{ahead_in}
+use Rattle.fk_lower_laws.specs.Ways.{place_gives}
+use Rattle.fk_lower_laws.specs.Asked.{place_by, place_in}
+use Rattle.fk_compile_text.specs.Plain.{is_plain}
+use Rattle.fk_lower_laws.proofs.Along.{EachOf, front, back, along}
+use Rattle.fk_lower_laws.specs.Named.{words_in}
+use Rattle.fk_lower_laws.specs.Room.{HasFew, own_words, HaveRoom}
+use Rattle.fk_lower_laws.proofs.Low.{low, counted, lows}
+
+-- what is told of a function that is called agrees with its header
+pub agree_in : (tables : Tables) (fs : List FunctionTree) (b : ℕ) (gives : Bool) → place_in tables fs b ≡ Called gives → gives ≡ not (signature_in tables fs b).void
+agree_in tables [] b gives is = sym (ap place_gives is)
+agree_in tables (f ∷ fs) b gives is = by (binding_of tables f == b) (agree_in tables fs b gives) is
+  where
+    own : (main : Bool) → (if main then Main else Called (not (is_nothing f.result))) ≡ Called gives → gives ≡ not (is_nothing f.result)
+    own true e = absurd (cc)
+    own false e = sym (ap place_gives e)
+
+    by : (here : Bool) → (place_in tables fs b ≡ Called gives → gives ≡ not (signature_in tables fs b).void)
+        → (if here then place_by f else place_in tables fs b) ≡ Called gives
+        → gives ≡ not (if here then signature_of f else signature_in tables fs b).void
+    by true more e = own (is_main f) e
+    by false more e = more e
+
+module _ (tables : Tables) (items : List ItemTree) where
+  abbrev everyone : List FunctionTree
+  everyone = functions_of items
+
+  -- where no frame has too many words, the private words of each function and its values have room
+  pub rooms : (most : ℕ) → 8 ≤ most → (fs : List FunctionTree) (b : ℕ) → HaveRoom tables items most fs
+      → ahead_in (file_privates items) (place_in tables fs b) + 8 + words_in tables (own_words tables items) fs b
+      + words_in tables (values_of tables items) fs b ≤ most
+  rooms most enough [] b h = omega (arith, enough)
+  rooms most enough (f ∷ fs) b h = by (binding_of tables f == b) (rooms most enough fs b h.1)
+    where
+      own : (main : Bool) (firsts words values nested : ℕ) (gives : Bool) → 8 + (words + (if main then firsts else 0)) + values + 4 * nested ≤ most
+          → ahead_in firsts (if main then Main else Called gives) + 8 + words + values ≤ most
+      own true firsts words values nested gives few = omega (arith, few)
+      own false firsts words values nested gives few = omega (arith, few)
+
+      by : (is : Bool)
+          → ahead_in (file_privates items) (place_in tables fs b) + 8 + words_in tables (own_words tables items) fs b + words_in tables (values_of tables items) fs b ≤ most
+          → ahead_in (file_privates items) (if is then place_by f else place_in tables fs b) + 8
+          + (if is then own_words tables items f else words_in tables (own_words tables items) fs b)
+          + (if is then values_of tables items f else words_in tables (values_of tables items) fs b) ≤ most
+      by true more =
+          own (is_main f) (file_privates items) (own_words tables items f) (values_of tables items f) (nesting_of tables items f) (not (is_nothing f.result)) h.0
+      by false more = more
+
+  module _ (has_body : ℕ → Bool) where
+    abbrev places' : (binding : ℕ) → Place
+    places' b = place_in tables everyone b
+
+    function_few : (f : FunctionTree) (first : ℕ) (l : Option State) (s e : State) → IsShaped has_body false (numbered first (code_of tables everyone f))
+        → Typed places' l s (numbered first (code_of tables everyone f)) e → EachOf is_plain (operations (code_of tables everyone f))
+        → HasFew places' (values_of tables items f) 0 (numbered first (code_of tables everyone f))
+    function_few f first l s e shaped typed all =
+        let code = code_of tables everyone f in
+        let functions = signature_in tables everyone in
+        let most = values_of tables items f in
+        lows functions places' most code beginning first refl
+        (counted functions places' (agree_in tables everyone) has_body code first false l s e shaped typed (along is_plain code all))
+        (low most (places functions beginning code) (omega arith))
+
+    pub bodies_few : (fs : List FunctionTree) (first b : ℕ) (l : Option State) (s e : State) → EachOf is_plain (operations_in tables everyone fs)
+        → IsShaped has_body false (body_in tables everyone first fs b) → Typed places' l s (body_in tables everyone first fs b) e
+        → HasFew places' (words_in tables (values_of tables items) fs b) 0 (body_in tables everyone first fs b)
+    bodies_few [] first b l s e all shaped typed = omega arith
+    bodies_few (f ∷ fs) first b l s e all shaped typed =
+        by (binding_of tables f == b)
+        (bodies_few fs (first + size (code_of tables everyone f)) b l s e (back is_plain (operations (code_of tables everyone f)) (operations_in tables everyone fs) all))
+        shaped typed
+      where
+        by : (is : Bool)
+            → (IsShaped has_body false (body_in tables everyone (first + size (code_of tables everyone f)) fs b)
+            → Typed places' l s (body_in tables everyone (first + size (code_of tables everyone f)) fs b) e
+            → HasFew places' (words_in tables (values_of tables items) fs b) 0 (body_in tables everyone (first + size (code_of tables everyone f)) fs b))
+            → IsShaped has_body false (if is then numbered first (code_of tables everyone f) else body_in tables everyone (first + size (code_of tables everyone f)) fs b)
+            → Typed places' l s (if is then numbered first (code_of tables everyone f) else body_in tables everyone (first + size (code_of tables everyone f)) fs b) e
+            → HasFew places' (if is then values_of tables items f else words_in tables (values_of tables items) fs b) 0
+            (if is then numbered first (code_of tables everyone f) else body_in tables everyone (first + size (code_of tables everyone f)) fs b)
+        by true more shaped' typed' =
+            function_few f first l s e shaped' typed' (front is_plain (operations (code_of tables everyone f)) (operations_in tables everyone fs) all)
+        by false more shaped' typed' = more shaped' typed'

@@ -1,0 +1,383 @@
+-- The operations of expressions have only numbers that have room in a word.
+use Rattle.std.proofs.Common.{◌≡◌, ℕ, zero, suc, ◌+◌, ◌*◌, ◌^◌, ◌<◌, Bool, true, false, List, [], ◌∷◌, All, Option, Some, None, length, codes, refl, ap, ◌∙◌, arith}
+use Rattle.std.specs.Prelude.{◌==◌, ◌&&◌, if◌then◌else◌}
+use Rattle.std.proofs.lemmas.List.Elements.{All-nil, All-cons, All-head, All-tail}
+use Rattle.fk_syntax.specs.declared.facts.Kind.{Kind}
+use Rattle.fk_syntax.specs.declared.facts.Note.{Note}
+use Rattle.fk_syntax.specs.declared.place.Place.{Place}
+use Rattle.fk_syntax.specs.declared.place.Spot.{Spot}
+use Rattle.fk_syntax.specs.declared.sign.Sign.{Sign}
+use Rattle.fk_syntax.specs.declared.sign.Sign.TheVariants as g
+use Rattle.fk_syntax.specs.Tree as t
+use Rattle.fk_syntax.specs.Tree.{Named, Tree, Links, Trees, Suffixes}
+use Rattle.fk_syntax.specs.Program.{DeclaredTree}
+use Rattle.fk_meaning_operation.specs.declared.operation.Operation.{Operation}
+use Rattle.fk_meaning_operation.specs.declared.operation.Operation.TheVariants as o
+use Rattle.fk_meaning_operation.specs.declared.operation.Variable.{Variable}
+use Rattle.fk_meaning_operation.specs.declared.operation.Variable.TheVariants as v
+use Rattle.fk_meaning_operation.specs.declared.operation.Known.TheVariants as n
+use Rattle.fk_meaning_operation.specs.declared.operation.Multiprefix.{Multiprefix}
+use Rattle.fk_meaning_operation.specs.declared.operation.Multiprefix.TheVariants.{MpAdd, MpMax, MpAnd, MpOr}
+use Rattle.fk_meaning_operation.specs.declared.operation.Split.{Split}
+use Rattle.fk_meaning_operation.specs.declared.operation.Split.TheVariants.{AndThen, OrElse}
+use Rattle.fk_meaning_forms.specs.declared.tables.Home.{Home}
+use Rattle.fk_meaning_forms.specs.declared.tables.Home.TheVariants as h
+use Rattle.fk_meaning_forms.specs.declared.tables.Region.{Region}
+use Rattle.fk_meaning_forms.specs.declared.tables.Slot.{Slot}
+use Rattle.fk_meaning_forms.specs.declared.signs.Move.{Move}
+use Rattle.fk_meaning_forms.specs.declared.signs.Move.TheVariants.{Forth, Back, NoMove}
+use Rattle.fk_meaning_forms.specs.Tables.{Tables, no_binding, nth, note, no_note, no_kind, no_slot, no_region, frame_in, frame_at, kind_at, is_array, is_void, slot, region}
+use Rattle.fk_meaning_forms.specs.Signs.{operator_of, move_of}
+use Rattle.fk_meaning_forms.specs.Texts.{escaped, up_to_quote, text_of}
+use Rattle.fk_meaning_forms.specs.Expressions as x
+use Rattle.fk_meaning_forms.specs.Expressions.{Coded, Standing, OnList, AtAddress, InWord, ToCall, Stands, Signature, token, is_name, put_bytes, moved}
+use Rattle.fk_layout_walk.specs.Shown.{as_word, shown_variable}
+use Rattle.fk_lower_text.specs.Whole as w
+use Rattle.fk_lower_text.specs.Whole.{IsWhole}
+use Rattle.fk_parse_laws.specs.Words.{IsWord, TreeHasWords, LinksHaveWords, TreesHaveWords, SuffixesHaveWords}
+use Rattle.fk_lower_laws.specs.WordRoom.{HasRoom, MembersAreNear, AreNearInLinks, AreNearInTrees, AreNearInSuffixes}
+
+pub either : {X : Type 0} (P : X → Type 0) (b : Bool) (c d : X) → P c → P d → P (if b then c else d)
+either P true c d h k = h
+either P false c d h k = k
+
+pub either_whole : (b : Bool) (c d : Coded) → IsWhole c → IsWhole d → IsWhole (if b then c else d)
+either_whole true c d h k = h
+either_whole false c d h k = k
+
+nth_all : {X : Type 0} (P : X → Type 0) (other : X) → P other → (xs : List X) → All P xs → (n : ℕ) → P (nth other xs n)
+nth_all P other p [] h n = p
+nth_all P other p (x ∷ xs) h zero = All-head P x xs h
+nth_all P other p (x ∷ xs) h (suc n) = nth_all P other p xs (All-tail P x xs h) n
+
+-- ---- operations
+
+fits : (n : ℕ) → n < 2 ^ 32 → as_word n ≡ n
+fits n h = omega arith
+
+abbrev pub InRoom : Variable → Type 0
+InRoom (v.Private n) = n < 2 ^ 32
+InRoom (v.OfFile n) = n < 2 ^ 32
+
+-- a word in which an expression stands has room
+abbrev pub Good : Standing → Type 0
+Good (InWord variable) = InRoom variable
+Good other = Unit {0}
+
+abbrev pub Keeps : Stands → Type 0
+Keeps e = (k : Standing → Coded) → ((s : Standing) → Good s → IsWhole (k s)) → IsWhole (e k)
+
+variable_fits : (variable : Variable) → InRoom variable → shown_variable variable ≡ variable
+variable_fits (v.Private n) h = ap v.Private (fits n h)
+variable_fits (v.OfFile n) h = ap v.OfFile (fits n h)
+
+push_room : (n : ℕ) → n < 2 ^ 32 → w.HasRoom (o.Push n)
+push_room n h = ap o.Push (fits n h)
+
+index_room : (n : ℕ) → n < 2 ^ 32 → w.HasRoom (o.Index n)
+index_room n h = ap o.Index (fits n h)
+
+get_room : (variable : Variable) → InRoom variable → w.HasRoom (o.Get (n.Value variable))
+get_room variable h = ap (λ y. o.Get (n.Value y)) (variable_fits variable h)
+
+frame_room : (level index : ℕ) → level < 2 ^ 32 → index < 2 ^ 32 → w.HasRoom (o.Get (n.FrameAddress level index))
+frame_room level index h k = ap (λ y. o.Get (n.FrameAddress y (as_word index))) (fits level h) ∙ ap (λ y. o.Get (n.FrameAddress level y)) (fits index k)
+
+operator_room : (sign : Sign) (unsigned : Bool) → w.HasRoom (operator_of sign unsigned)
+operator_room g.Plus unsigned = refl
+operator_room sign unsigned = refl
+
+-- ---- texts
+
+escaped_word : (byte : ℕ) → IsWord byte → IsWord (escaped byte)
+escaped_word b h = either IsWord (b == 110) _ _ (omega arith) (either IsWord (b == 116) _ _ (omega arith) (either IsWord (b == 48) _ _ (omega arith) h))
+
+up_to_quote_words : (bytes : List ℕ) → All IsWord bytes → All IsWord (up_to_quote bytes)
+up_to_quote_words [] h = h
+up_to_quote_words (b ∷ []) h = All-nil IsWord
+up_to_quote_words (b ∷ x ∷ bytes) h =
+    let others = All-tail IsWord b (x ∷ bytes) h in
+    either (All IsWord) (b == 92) _ _
+    (All-cons IsWord (escaped x) (up_to_quote bytes) (escaped_word x (All-head IsWord x bytes others)) (up_to_quote_words bytes (All-tail IsWord x bytes others)))
+    (All-cons IsWord b (up_to_quote (x ∷ bytes)) (All-head IsWord b (x ∷ bytes) h) (up_to_quote_words (x ∷ bytes) others))
+
+text_words : (text : List ℕ) → All IsWord text → All IsWord (text_of text)
+text_words [] h = h
+text_words (quote ∷ bytes) h = up_to_quote_words bytes (All-tail IsWord quote bytes h)
+
+put_whole : (bytes : List ℕ) (rest : Coded) → All IsWord bytes → IsWhole rest → IsWhole (put_bytes bytes rest)
+put_whole [] rest h r = r
+put_whole (b ∷ bytes) rest h r = (push_room b (All-head IsWord b bytes h), (refl, put_whole bytes rest (All-tail IsWord b bytes h) r))
+
+-- ---- the helpers
+
+moved_whole : (m : Move) (step : ℕ) (op : Operation) (rest : Coded) → step < 2 ^ 32 → w.HasRoom op → IsWhole rest → IsWhole (moved m step op rest)
+moved_whole Forth step op rest h i r = (index_room step h, r)
+moved_whole Back step op rest h i r = (refl, (index_room step h, r))
+moved_whole NoMove step op rest h i r = (i, r)
+
+pub agreed_whole : (sync : Bool) (rest : Coded) → IsWhole rest → IsWhole (x.agreed sync rest)
+agreed_whole sync rest r = either_whole sync _ _ (refl, r) r
+
+module _ (tables : Tables) (functions : (binding : ℕ) → Signature) (room : HasRoom tables) (few : (binding : ℕ) → length (functions binding).parameters < 2 ^ 32) where
+  -- ---- what the tables tell
+
+  binding_fits : (at : ℕ) → (note tables at).binding < 2 ^ 32
+  binding_fits at = nth_all (λ (y : Note). y.binding < 2 ^ 32) no_note (omega arith) tables.notes room.notes at
+
+  words_fit : (at : ℕ) → (kind_at tables at).words < 2 ^ 29
+  words_fit at = nth_all (λ (y : Kind). y.words < 2 ^ 29) no_kind (omega arith) tables.kinds room.words (note tables at).kind
+
+  step_fits : (at : ℕ) → (kind_at tables at).step < 2 ^ 32
+  step_fits at = nth_all (λ (y : Kind). y.step < 2 ^ 32) no_kind (omega arith) tables.kinds room.steps (note tables at).kind
+
+  slot_fits : (binding : ℕ) → (slot tables binding).index < 2 ^ 29
+  slot_fits binding = nth_all (λ (y : Slot). y.index < 2 ^ 29) no_slot (omega arith) tables.slots room.slots binding
+
+  level_fits : (number : ℕ) → (region tables number).level < 2 ^ 32
+  level_fits number = nth_all (λ (y : Region). y.level < 2 ^ 32) no_region (omega arith) tables.regions room.levels number
+
+  abbrev FrameFits : Option Region → Type 0
+  FrameFits None = Unit {0}
+  FrameFits (Some r) = (r.level < 2 ^ 32) × (r.words < 2 ^ 32)
+
+  frame_in_fits : (rs : List Region) → All (λ (y : Region). y.level < 2 ^ 32) rs → All (λ (y : Region). y.words < 2 ^ 32) rs → (at part : ℕ) → FrameFits (frame_in tables rs at part)
+  frame_in_fits [] h k at part = tt
+  frame_in_fits (r ∷ rs) h k at part = either FrameFits ((r.at == at) && (r.part == part)) _ _
+      (All-head (λ (y : Region). y.level < 2 ^ 32) r rs h, All-head (λ (y : Region). y.words < 2 ^ 32) r rs k)
+      (frame_in_fits rs (All-tail (λ (y : Region). y.level < 2 ^ 32) r rs h) (All-tail (λ (y : Region). y.words < 2 ^ 32) r rs k) at part)
+
+  given_frame_whole : (frame : Option Region) (place : Place) (rest : Coded) → FrameFits frame → IsWhole rest → IsWhole (x.framed tables functions frame place rest)
+  given_frame_whole None place rest h r = r
+  given_frame_whole (Some y) place rest h r =
+      (ap (λ a. o.Frame a (as_word y.words)) (fits y.level h.0) ∙ ap (λ a. o.Frame y.level a) (fits y.words h.1), r)
+
+  pub framed_whole : (at part : ℕ) (place : Place) (rest : Coded) → IsWhole rest → IsWhole (x.framed tables functions (frame_at tables at part) place rest)
+  framed_whole at part place rest r = given_frame_whole (frame_at tables at part) place rest (frame_in_fits tables.regions room.levels room.frames at part) r
+
+  -- ---- how an expression stands
+
+  checked_whole : (deep : Bool) (spot : Spot) (rest : Coded) → IsWhole rest → IsWhole (x.checked tables functions deep spot rest)
+  checked_whole deep spot rest r = either_whole deep _ _ (refl, r) r
+
+  pub valued_whole : (standing : Standing) → Good standing → (rest : Coded) → IsWhole rest → IsWhole (x.valued tables functions standing rest)
+  valued_whole OnList i rest r = r
+  valued_whole (AtAddress deep spot) i rest r = either_whole (is_array tables spot.at) _ _ r (checked_whole deep spot (x.plain o.Read rest) (refl, r))
+  valued_whole (InWord variable) i rest r = (get_room variable i, r)
+  valued_whole (ToCall name) i rest r = r
+
+  pub addressed_whole : (standing : Standing) (rest : Coded) → IsWhole rest → IsWhole (x.addressed tables functions standing rest)
+  addressed_whole OnList rest r = r
+  addressed_whole (AtAddress deep spot) rest r = checked_whole deep spot rest r
+  addressed_whole (InWord variable) rest r = r
+  addressed_whole (ToCall name) rest r = r
+
+  fetched_whole : (standing : Standing) → Good standing → (rest : Coded) → IsWhole rest → IsWhole (x.fetched tables functions standing rest)
+  fetched_whole OnList i rest r = r
+  fetched_whole (AtAddress deep spot) i rest r = checked_whole deep spot (x.plain o.CopyLast (x.plain o.Read rest)) (refl, (refl, r))
+  fetched_whole (InWord variable) i rest r = (get_room variable i, r)
+  fetched_whole (ToCall name) i rest r = r
+
+  pub assigned_whole : (standing : Standing) → Good standing → (rest : Coded) → IsWhole rest → IsWhole (x.assigned tables functions standing rest)
+  assigned_whole OnList i rest r = r
+  assigned_whole (AtAddress deep spot) i rest r = (refl, r)
+  assigned_whole (InWord variable) i rest r = (ap o.Set (variable_fits variable i), r)
+  assigned_whole (ToCall name) i rest r = r
+
+  value_of_whole : (e : Stands) → Keeps e → (rest : Coded) → IsWhole rest → IsWhole (x.value_of tables functions e rest)
+  value_of_whole e h rest r = h (λ standing. x.valued tables functions standing rest) (λ standing i. valued_whole standing i rest r)
+
+  pub dropped_whole : (at : ℕ) (rest : Coded) → IsWhole rest → IsWhole (x.dropped tables functions at rest)
+  dropped_whole at rest r = either_whole (is_void tables at) _ _ r (refl, r)
+
+  -- ---- names
+
+  pub variable_keeps : (name : Named) → (k : Standing → Coded) → ((s : Standing) → Good s → IsWhole (k s)) → IsWhole (x.variable tables functions name k)
+  variable_keeps name k f = either_whole ((note tables name.at).binding == no_binding) _ _
+      (either_whole (is_name name (codes "__PROC_NR__")) _ _ (refl, f OnList tt) (either_whole (is_name name (codes "__STARTED_PROCS__")) _ _ (refl, f OnList tt)
+      (either_whole (is_name name (codes "__inputs")) _ _ (refl, f OnList tt) (either_whole (is_name name (codes "__input")) _ _ (refl, f (AtAddress false (x.spot_of name)) tt) (f (ToCall name) tt)))))
+      (at_home (slot tables (note tables name.at).binding).home (slot tables (note tables name.at).binding).index (slot_fits (note tables name.at).binding))
+    where
+      at_home : (home : Home) (index : ℕ) → index < 2 ^ 29 → IsWhole (x.placed tables functions home index name k)
+      at_home h.Global index i = (push_room (0x10000000 + 4 * index) (omega arith), f (AtAddress false (x.spot_of name)) tt)
+      at_home h.FilePrivate index i = f (InWord (v.OfFile index)) (omega arith)
+      at_home h.Private index i = f (InWord (v.Private index)) (omega arith)
+      at_home (h.Group r) index i = (frame_room (region tables r).level index (level_fits r) (omega arith), f (AtAddress false (x.spot_of name)) tt)
+      at_home h.NoWord index i = f (ToCall name) tt
+
+  -- ---- signs
+
+  operate_whole : (sign : Sign) (left right : ℕ) (rest : Coded) → IsWhole rest → IsWhole (x.operate tables functions sign left right rest)
+  operate_whole sign left right rest r =
+      either_whole ((kind_at tables left).step == 0) _ _ (operator_room sign _, r)
+      (moved_whole (move_of sign) (kind_at tables left).step _ rest (step_fits left) (operator_room sign _) r)
+
+  updated_whole : (sign : Sign) (target : Stands) (left right : ℕ) (e : Coded → Coded) (k : Standing → Coded) → Keeps target → ((rest : Coded) → IsWhole rest → IsWhole (e rest))
+      → IsWhole (k OnList) → IsWhole (x.updated tables functions sign target left right e k)
+  updated_whole sign target left right e k h go r =
+      h _ (λ standing i. fetched_whole standing i _ (go _ (operate_whole sign left right _ (assigned_whole standing i (k OnList) r))))
+
+  one_whole : (rest : Coded) → IsWhole rest → IsWhole (x.one tables functions rest)
+  one_whole rest r = (refl, r)
+
+  prefixed_keeps : (spot : Spot) (sign : Sign) (e : Stands) (at : ℕ) → Keeps e → Keeps (x.prefixed tables functions spot sign e at)
+  prefixed_keeps spot g.Minus e at h k f = value_of_whole e h _ (refl, f OnList tt)
+  prefixed_keeps spot g.Tilde e at h k f = value_of_whole e h _ (refl, f OnList tt)
+  prefixed_keeps spot g.Exclamation e at h k f = value_of_whole e h _ (refl, f OnList tt)
+  prefixed_keeps spot g.Star e at h k f = value_of_whole e h _ (f (AtAddress true spot) tt)
+  prefixed_keeps spot g.Ampersand e at h k f = h _ (λ standing i. addressed_whole standing (k OnList) (f OnList tt))
+  prefixed_keeps spot g.Increment e at h k f = updated_whole g.Plus e at spot.at (x.one tables functions) k h one_whole (f OnList tt)
+  prefixed_keeps spot g.Decrement e at h k f = updated_whole g.Minus e at spot.at (x.one tables functions) k h one_whole (f OnList tt)
+  prefixed_keeps spot sign e at h k f = value_of_whole e h _ (f OnList tt)
+
+  truth_whole : (e : Stands) → Keeps e → (rest : Coded) → IsWhole rest → IsWhole (x.truth tables functions e rest)
+  truth_whole e h rest r = value_of_whole e h _ (refl, (refl, r))
+
+  logical_whole : (spot : Spot) (split : Split) (onward : Bool) (other : ℕ) (a b : Stands) (k : Standing → Coded) → other < 2 ^ 32 → Keeps a → Keeps b → IsWhole (k OnList)
+      → IsWhole (x.logical tables functions spot split onward other a b k)
+  logical_whole spot split onward other a b k o' h j r =
+      value_of_whole a h _ (either_whole (note tables spot.at).splits _ _
+      (refl, truth_whole b j _ (refl, tt), tt, (refl, r))
+      (agreed_whole (note tables spot.at).sync _ (refl, truth_whole b j _ tt, (push_room other o', tt), r)))
+
+  chosen_whole : (spot : Spot) (condition a b : Stands) (k : Standing → Coded) → Keeps condition → Keeps a → Keeps b → IsWhole (k OnList)
+      → IsWhole (x.chosen tables functions spot condition a b k)
+  chosen_whole spot condition a b k h i j r =
+      value_of_whole condition h _ (either_whole (note tables spot.at).splits _ _
+      (refl, value_of_whole a i _ (refl, tt), value_of_whole b j _ (refl, tt), (refl, r))
+      (agreed_whole (note tables spot.at).sync _ (refl, value_of_whole a i _ tt, value_of_whole b j _ tt, r)))
+
+  joined_keeps : (spot : Spot) (sign : Sign) (a : Stands) (left : ℕ) (b : Stands) (right : ℕ) → Keeps a → Keeps b → Keeps (x.joined tables functions spot sign a left b right)
+  joined_keeps spot g.Comma a left b right h j k f = value_of_whole a h _ (dropped_whole left _ (value_of_whole b j (k OnList) (f OnList tt)))
+  joined_keeps spot g.AndAnd a left b right h j k f = logical_whole spot AndThen true 0 a b k (omega arith) h j (f OnList tt)
+  joined_keeps spot g.OrOr a left b right h j k f = logical_whole spot OrElse false 1 a b k (omega arith) h j (f OnList tt)
+  joined_keeps spot sign a left b right h j k f = value_of_whole a h _ (value_of_whole b j _ (operate_whole sign left right (k OnList) (f OnList tt)))
+
+  assignment_whole : (sign : Sign) (target : Stands) (left : ℕ) (value : Stands) (right : ℕ) (k : Standing → Coded) → Keeps target → Keeps value → IsWhole (k OnList)
+      → IsWhole (x.assignment tables functions sign target left value right k)
+  assignment_whole g.Assign target left value right k h j r =
+      h _ (λ standing i. addressed_whole standing _ (value_of_whole value j _ (assigned_whole standing i (k OnList) r)))
+  assignment_whole sign target left value right k h j r = updated_whole sign target left right (x.value_of tables functions value) k h (λ rest s. value_of_whole value j rest s) r
+
+  -- ---- suffixes
+
+  member_whole : (at : ℕ) → (note tables at).binding < 2 ^ 29 → (rest : Coded) → IsWhole rest → IsWhole (x.member tables functions at rest)
+  member_whole at h rest r = (push_room (4 * (note tables at).binding) (omega arith), (refl, r))
+
+  indexed_keeps : (spot : Spot) (e by : Stands) → Keeps e → Keeps by → Keeps (x.indexed tables functions spot e by)
+  indexed_keeps spot e by h j k f =
+      let i = words_fit spot.at in
+      value_of_whole e h _ (value_of_whole by j _ (index_room (4 * (kind_at tables spot.at).words) (omega arith), f (AtAddress true spot) tt))
+
+  dotted_keeps : (spot : Spot) (at : ℕ) (e : Stands) → (note tables at).binding < 2 ^ 29 → Keeps e → Keeps (x.dotted tables functions spot at e)
+  dotted_keeps spot at e i h k f = h _ (λ standing j. member_whole at i (k (AtAddress (x.is_deep tables functions standing) spot)) (f (AtAddress (x.is_deep tables functions standing) spot) tt))
+
+  pointed_keeps : (spot : Spot) (at : ℕ) (e : Stands) → (note tables at).binding < 2 ^ 29 → Keeps e → Keeps (x.pointed tables functions spot at e)
+  pointed_keeps spot at e i h k f = value_of_whole e h _ (member_whole at i (k (AtAddress true spot)) (f (AtAddress true spot) tt))
+
+  raised_keeps : (sign back : Sign) (e : Stands) (at : ℕ) → Keeps e → Keeps (x.raised tables functions sign back e at)
+  raised_keeps sign back e at h k f =
+      updated_whole sign e at 0 (x.one tables functions) (λ standing. x.plain (o.Push (x.step_back tables functions at)) (x.plain (operator_of back false) (k OnList))) h one_whole
+      (push_room (x.step_back tables functions at) (either IsWord ((kind_at tables at).step == 0) _ _ (omega arith) (step_fits at)), (operator_room back false, f OnList tt))
+
+  -- ---- calls
+
+  abbrev AllKeep : List Stands → Type 0
+  AllKeep [] = Unit {0}
+  AllKeep (e ∷ es) = Keeps e × AllKeep es
+
+  arguments_whole : (ys : List DeclaredTree) (es : List Stands) (rest : Coded) → AllKeep es → IsWhole rest → IsWhole (x.arguments tables functions ys es rest)
+  arguments_whole [] es rest h r = r
+  arguments_whole (y ∷ ys) [] rest h r = r
+  arguments_whole (y ∷ ys) (e ∷ es) rest h r = value_of_whole e h.0 _ (agreed_whole y.shared _ (arguments_whole ys es rest h.1 r))
+
+  parameters_whole : (i : ℕ) (ys : List DeclaredTree) → i + length ys < 2 ^ 32 → IsWhole (x.parameters tables functions i ys)
+  parameters_whole i [] h = tt
+  parameters_whole i (y ∷ ys) h =
+      let b = (note tables y.name.at).binding in
+      let s = slot_fits b in
+      let others = parameters_whole (suc i) ys (omega arith) in
+      either_whole y.shared _ _
+      (frame_room 0 (slot tables b).index (omega arith) (omega arith), (get_room (v.Private i) (omega arith), (refl, (refl, others))))
+      others
+
+  called_whole : (name : Named) (es : List Stands) (k : Standing → Coded) → AllKeep es → IsWhole (k OnList) → IsWhole (x.called tables functions name es k)
+  called_whole name es k h r =
+      let function = functions (note tables name.at).binding in
+      let short = few (note tables name.at).binding in
+      arguments_whole function.parameters es _ h (
+        ap o.Enter (fits (length function.parameters) short),
+        framed_whole function.at 0 name.place _ (parameters_whole 0 function.parameters (omega arith)),
+        r,
+      )
+
+  multiprefix_whole : (name : Named) (by : Multiprefix) (es : List Stands) (k : Standing → Coded) → AllKeep es → IsWhole (k OnList) → IsWhole (x.multiprefix tables functions name by es k)
+  multiprefix_whole name by [] k h r = tt
+  multiprefix_whole name by (a ∷ []) k h r = tt
+  multiprefix_whole name by (a ∷ b ∷ es) k h r = value_of_whole a h.0 _ (refl, value_of_whole b h.1.0 _ (refl, r))
+
+  with_one_whole : (after : Coded → Coded) (es : List Stands) (k : Standing → Coded) → AllKeep es → IsWhole (after (k OnList)) → IsWhole (x.with_one tables functions after es k)
+  with_one_whole after [] k h r = tt
+  with_one_whole after (e ∷ es) k h r = value_of_whole e h.0 _ r
+
+  predeclared_whole : (name : Named) (es : List Stands) (k : Standing → Coded) → AllKeep es → IsWhole (k OnList) → IsWhole (x.called_predeclared tables functions name es k)
+  predeclared_whole name es k h r =
+      either_whole (is_name name (codes "mpadd")) _ _ (multiprefix_whole name MpAdd es k h r)
+      (either_whole (is_name name (codes "mpmax")) _ _ (multiprefix_whole name MpMax es k h r)
+      (either_whole (is_name name (codes "mpand")) _ _ (multiprefix_whole name MpAnd es k h r)
+      (either_whole (is_name name (codes "mpor")) _ _ (multiprefix_whole name MpOr es k h r)
+      (either_whole (is_name name (codes "groupsize")) _ _ (refl, r)
+      (either_whole (is_name name (codes "putint")) _ _ (with_one_whole (x.plain o.PrintNumber) es k h (refl, r))
+      (either_whole (is_name name (codes "putchar")) _ _ (with_one_whole (x.plain o.PrintByte) es k h (refl, r))
+      (either_whole (is_name name (codes "malloc")) _ _ (with_one_whole (x.plain o.Take) es k h (refl, r))
+      (either_whole (is_name name (codes "shmalloc")) _ _ (with_one_whole (x.plain o.Heap) es k h (refl, r))
+      (with_one_whole (λ rest. x.plain o.Agree (x.plain o.Block rest)) es k h (refl, (refl, r)))))))))))
+
+  calling_whole : (es : List Stands) (k : Standing → Coded) (standing : Standing) → AllKeep es → IsWhole (k OnList) → IsWhole (x.calling tables functions es k standing)
+  calling_whole es k (ToCall name) h r = either_whole ((note tables name.at).binding == no_binding) _ _ (predeclared_whole name es k h r) (called_whole name es k h r)
+  calling_whole es k standing h r = tt
+
+  -- ---- trees
+
+  abbrev stands : Tree → Stands
+  stands e = x.stands tables functions e
+
+  mutual
+    pub keeps : (e : Tree) → TreeHasWords e → MembersAreNear tables e → Keeps (stands e)
+    keeps (t.Number spot value unsigned) i j k f = (push_room value i, f OnList tt)
+    keeps (t.Puts spot text) i j k f = put_whole (text_of text) (k OnList) (text_words text i) (f OnList tt)
+    keeps (t.Sizeof spot type) i j k f = (push_room (note tables spot.at).binding (binding_fits spot.at), f OnList tt)
+    keeps (t.Variable name) i j k f = variable_keeps name k f
+    keeps (t.GroupNumber spot) i j k f = (refl, f OnList tt)
+    keeps (t.GroupRank spot) i j k f = (refl, f OnList tt)
+    keeps (t.Prefix spot sign operand) i j k f = prefixed_keeps spot sign (stands operand) (token operand) (keeps operand i j) k f
+    keeps (t.Cast spot type operand) i j k f = value_of_whole (stands operand) (keeps operand i j) (k OnList) (f OnList tt)
+    keeps (t.Chain first links) i j k f = links_keep (stands first) (token first) (keeps first i.0 j.0) links i.1 j.1 k f
+    keeps (t.Postfix whole suffixes) i j k f = suffixes_keep (stands whole) (token whole) (keeps whole i.0 j.0) suffixes i.1 j.1 k f
+    keeps (t.Assign spot sign target value) i j k f =
+        assignment_whole sign (stands target) (token target) (stands value) (token value) k (keeps target i.0 j.0) (keeps value i.1 j.1) (f OnList tt)
+    keeps (t.Choose spot condition first second) i j k f =
+        chosen_whole spot (stands condition) (stands first) (stands second) k (keeps condition i.0 j.0) (keeps first i.1 j.1) (keeps second i.2 j.2) (f OnList tt)
+
+    links_keep : (e : Stands) (at : ℕ) → Keeps e → (links : Links) → LinksHaveWords links → AreNearInLinks tables links → Keeps (x.linked tables functions e at links)
+    links_keep e at p t.no_links i j k f = p k f
+    links_keep e at p (t.link spot sign right others) i j k f =
+        links_keep _ spot.at (joined_keeps spot sign e at (stands right) (token right) p (keeps right i.0 j.0)) others i.1 j.1 k f
+
+    suffixes_keep : (e : Stands) (at : ℕ) → Keeps e → (suffixes : Suffixes) → SuffixesHaveWords suffixes → AreNearInSuffixes tables suffixes → Keeps (x.suffixed tables functions e at suffixes)
+    suffixes_keep e at p t.no_suffixes i j k f = p k f
+    suffixes_keep e at p (t.index spot by others) i j k f = suffixes_keep _ spot.at (indexed_keeps spot e (stands by) p (keeps by i.0 j.0)) others i.1 j.1 k f
+    suffixes_keep e at p (t.call spot arguments others) i j k f =
+        suffixes_keep (λ q. e (x.calling tables functions (x.all_stand tables functions arguments) q)) spot.at
+        (λ q s. p _ (λ standing good. calling_whole (x.all_stand tables functions arguments) q standing (all_keep arguments i.0 j.0) (s OnList tt))) others i.1 j.1 k f
+    suffixes_keep e at p (t.dot spot name others) i j k f = suffixes_keep _ spot.at (dotted_keeps spot name.at e j.0 p) others i j.1 k f
+    suffixes_keep e at p (t.arrow spot name others) i j k f = suffixes_keep _ spot.at (pointed_keeps spot name.at e j.0 p) others i j.1 k f
+    suffixes_keep e at p (t.up spot others) i j k f = suffixes_keep _ spot.at (raised_keeps g.Plus g.Minus e at p) others i j k f
+    suffixes_keep e at p (t.down spot others) i j k f = suffixes_keep _ spot.at (raised_keeps g.Minus g.Plus e at p) others i j k f
+
+    all_keep : (arguments : Trees) → TreesHaveWords arguments → AreNearInTrees tables arguments → AllKeep (x.all_stand tables functions arguments)
+    all_keep t.no_trees i j = tt
+    all_keep (t.tree first others) i j = (keeps first i.0 j.0, all_keep others i.1 j.1)
+
+  pub value_whole : (e : Tree) → TreeHasWords e → MembersAreNear tables e → (rest : Coded) → IsWhole rest → IsWhole (x.value tables functions e rest)
+  value_whole e i j rest r = value_of_whole (stands e) (keeps e i j) rest r

@@ -1,0 +1,126 @@
+-- What is asked of the list of a program follows from the text.
+use Rattle.std.proofs.Common.{◌≡◌, ℕ, Bool, true, false, List, [], ◌∷◌, refl, sym, subst}
+use Rattle.std.specs.Prelude.{◌==◌, ◌||◌, if◌then◌else◌}
+use Rattle.std.proofs.lemmas.List.{length-map}
+use Rattle.fk_syntax.specs.Program.{FunctionTree}
+use Rattle.fk_meaning_forms.specs.Tables.{Tables}
+use Rattle.fk_meaning_forms.specs.Program.{functions_of, binding_of, bodies_of, main_of}
+use Rattle.fk_layout_globals.specs.Constants.{told}
+use Rattle.fk_layout_globals.specs.Rows.{first_of}
+use Rattle.fk_layout_globals.specs.Variables.{variables_of}
+use Rattle.fk_layout.specs.Frames.{file_privates}
+use Rattle.fk_layout.specs.Layout.{tables_by}
+use Rattle.fk_core_liveness.specs.declared.places.Place.TheVariants.{Main}
+use Rattle.fk_core_flat.specs.Laws.{IsFlat}
+use Rattle.fk_core_liveness.specs.Live.{words_in}
+use Rattle.fk_core_typing.proofs.Enough.{knowledge_is_enough}
+use Rattle.fk_core_flat.specs.Fitting.{is_defined}
+use Rattle.fk_core_flat.proofs.Programs.{forms_are_shaped, functions_are_closed}
+use Rattle.fk_check_laws.proofs.Programs.{correct_programs_fit}
+use Rattle.fk_core_typing.proofs.Knowing.{typed_lists_know}
+use Rattle.fk_lower_laws.specs.Asked.{place_by, place_in, place_of}
+use Rattle.fk_lower_laws.proofs.Programs.{correct_programs_are_asked, mains_have_their_place}
+use Rattle.fk_lower_laws.proofs.Free.{typed_list, lists_are_plain, lists_go_on_within}
+use Rattle.fk_lower_laws.proofs.Suiting.{live_words_suit}
+use Rattle.fk_lower_laws.proofs.Room.{correct_programs_have_room}
+use Rattle.fk_core.specs.declared.op.CoreOp.{CoreOp}
+use Rattle.fk_layout_walk.specs.declared.known.Known.{Known}
+use Rattle.fk_layout_walk_statements.specs.Texts.{functions_in}
+use Rattle.fk_syntax.specs.declared.facts.Facts.{Facts}
+use Rattle.fk_syntax.specs.Program.{ProgramTree}
+use Rattle.fk_core_typing.proofs.DepthRuns.{local_depths_are_depths}
+use Rattle.fk_lower.specs.Depths.{AreTold}
+use Rattle.fk_lower_text.specs.Depths.{depths_of}
+use Rattle.fk_layout.specs.Refusal.{Fits}
+use Rattle.fk_parse_laws.specs.Trim.{ProgramIsTrim}
+use Rattle.fk_compile_text.specs.Plain.{ArePlain}
+use Rattle.fk_core_flat.specs.Fitting.{ProgramFits}
+use Rattle.fk_check_laws.specs.Correct.{IsCorrect}
+use Rattle.fk_core_typing.specs.Typed.{AreTyped}
+use Rattle.fk_core_typing.specs.Laws.{IsTypedList, HasHeightsOf}
+use Rattle.fk_core_typing.proofs.Depths.{typed_lists_have_depths}
+use Rattle.fk_lower_laws.proofs.TypedPrograms.{forms_are_typed}
+use Rattle.fk_lower_laws.specs.Proper.{ProgramIsProper}
+use Rattle.fk_lower_laws.specs.LoweringLaws.{IsKnownOf}
+use Rattle.fk_lower_laws.proofs.TallLists.{lists_have_heights}
+use Rattle.fk_lower_laws.specs.Laws.{CorrectListsAreSteady, CorrectListsHaveFrames, LoweredListsCanHaveGroups}
+
+-- what has the place of `main` is defined
+is_there : (tables : Tables) (fs : List FunctionTree) (b : ℕ) → place_in tables fs b ≡ Main → is_defined tables fs b ≡ true
+is_there tables [] b is = absurd (cc)
+is_there tables (f ∷ fs) b is = by (binding_of tables f == b) (is_there tables fs b) is
+  where
+    by : (here : Bool) → (place_in tables fs b ≡ Main → is_defined tables fs b ≡ true) → (if here then place_by f else place_in tables fs b) ≡ Main
+        → (here || is_defined tables fs b) ≡ true
+    by true others is = refl
+    by false others is = others is
+
+typed_of : (program : ProgramTree) (facts : Facts) → IsCorrect program facts → ProgramIsTrim program → ProgramIsProper program
+    → let tables = tables_by program facts in
+    Fits tables program.items → ArePlain tables program
+    → (core : List CoreOp) (entry : (binding : ℕ) → ℕ) → IsFlat (bodies_of tables program) core entry → IsTypedList (bodies_of tables program) core entry (place_of tables program)
+typed_of program facts valid trim proper fits plain core entry flat =
+    let tables = tables_by program facts in
+    typed_list tables program core entry (correct_programs_are_asked program facts valid trim proper fits) plain (forms_are_shaped tables program (correct_programs_fit program facts valid trim)) flat
+
+pub correct_lists_are_steady : CorrectListsAreSteady
+correct_lists_are_steady program facts valid trim proper fits plain core entry flat =
+    let tables = tables_by program facts in
+    let main = main_of tables program in
+    let asked = correct_programs_are_asked program facts valid trim proper fits in
+    let fitting = correct_programs_fit program facts valid trim in
+    let shaped = forms_are_shaped tables program fitting in
+    let place = (mains_have_their_place program facts valid).0 in
+    let closed = functions_are_closed tables program fitting main (is_there tables (functions_of program.items) main place) in
+    let typed = typed_of program facts valid trim proper fits plain core entry flat in
+    record {
+      within = lists_go_on_within tables program core entry asked plain shaped flat closed;
+      plain = lists_are_plain tables program core entry plain flat;
+      may = knowledge_is_enough core (entry main) (typed_lists_know (bodies_of tables program) core entry (place_of tables program) typed main place);
+    }
+
+pub correct_lists_have_frames : CorrectListsHaveFrames
+correct_lists_have_frames program facts valid trim proper fits plain core entry kept lowered =
+    let tables = tables_by program facts in
+    let main = main_of tables program in
+    let place = (mains_have_their_place program facts valid).0 in
+    let typed = typed_of program facts valid trim proper fits plain core entry lowered.flat in
+    let count = length-map (variables_of false program.items) (first_of (told facts.notes.items facts.kinds.items)) in
+    let suits = live_words_suit (bodies_of tables program) core entry (place_of tables program) (file_privates program.items) typed lowered.tall
+    (correct_programs_have_room program facts valid trim proper fits plain) (words_in kept) lowered.live lowered.least main place in
+    record {
+      frames = record { keeps = words_in kept; is_main = suits.0; of_file = file_privates program.items };
+      of_file = sym count;
+      suits = suits.1;
+      keeps = λ index word held. held;
+    }
+
+module _ (program : ProgramTree) (facts : Facts) (known : Known) (of : IsKnownOf program facts known) (valid : IsCorrect program facts) (trim : ProgramIsTrim program)
+    (proper : ProgramIsProper program) (fits : Fits (tables_by program facts) program.items) (plain : ArePlain (tables_by program facts) program) where
+  -- the depths that are told of the text are those of its code
+  tall : (core : List CoreOp) → AreTold (depths_of known (functions_in known)) core
+      → HasHeightsOf (bodies_of (tables_by program facts) program) core (place_of (tables_by program facts) program)
+  tall core told =
+      let tables = tables_by program facts in
+      let fitting = correct_programs_fit program facts valid trim in
+      let typed = forms_are_typed tables program (correct_programs_are_asked program facts valid trim proper fits) plain in
+      subst
+      (λ (t : Tables).
+      ProgramFits t program → ArePlain t program → AreTyped (place_of t program) (bodies_of t program) → HasHeightsOf (bodies_of t program) core (place_of t program))
+      of.tables (λ f b t. lists_have_heights known program core (sym of.items) f b t told) fitting plain typed
+
+pub lowered_lists_can_have_groups : LoweredListsCanHaveGroups
+lowered_lists_can_have_groups program facts known of valid trim proper fits plain core entry flat told =
+    let tables = tables_by program facts in
+    let main = main_of tables program in
+    let place = (mains_have_their_place program facts valid).0 in
+    let typed = typed_of program facts valid trim proper fits plain core entry flat in
+    let high = tall program facts known of valid trim proper fits plain core told in
+    let deep = typed_lists_have_depths (bodies_of tables program) core entry (place_of tables program) typed high main place in
+    record {
+      depths = local_depths_are_depths core (entry main) deep;
+      enough = λ i op operation stands is_read. (deep.fits i op operation stands is_read).0;
+      steady = correct_lists_are_steady program facts valid trim proper fits plain core entry flat;
+      held = λ kept live least.
+          correct_lists_have_frames program facts valid trim proper fits plain core entry kept (record { flat = flat; tall = high; live = live; least = least });
+    }

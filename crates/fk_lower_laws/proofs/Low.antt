@@ -1,0 +1,194 @@
+-- Code has few values at each of its places, where the layout counts as few.
+use Rattle.std.proofs.Common.{◌≡◌, ℕ, suc, ◌+◌, ◌-◌, ◌≤◌, Bool, true, false, true≢false, List, [], ◌∷◌, Option, Some, refl, sym, ap, ◌∙◌, arith}
+use Rattle.std.specs.Prelude.{not}
+use Rattle.fk_meaning_operation.specs.declared.operation.Operation.{Operation}
+use Rattle.fk_meaning_operation.specs.declared.operation.Operation.TheVariants as o
+use Rattle.fk_layout_sizes.specs.Operations.{takes, pushes}
+use Rattle.fk_layout_sizes.specs.Operations as z
+use Rattle.fk_layout_sizes.specs.Places.{At, behind_operation, behind_call, behind, places, most_values}
+use Rattle.fk_core_typing.specs.LocalDepths.{results, leaves}
+use Rattle.fk_meaning_forms.specs.Code.{done, perform, choose, while, until, turn, again, quit, break, continue, call, ends, size, numbered}
+use Rattle.fk_meaning_forms.specs.Expressions.{Coded, Signature}
+use Rattle.fk_core_liveness.specs.declared.places.Place.{Place}
+use Rattle.fk_core_liveness.specs.declared.places.Place.TheVariants.{Called}
+use Rattle.fk_core_flat.specs.Items.{into, way_of}
+use Rattle.fk_core_flat.specs.Shape.{IsShaped}
+use Rattle.fk_compile_text.specs.Plain.{is_plain}
+use Rattle.fk_core_typing.specs.Values.{State}
+use Rattle.fk_core_typing.specs.Values as w
+use Rattle.fk_core_typing.specs.Typed.{Typed}
+use Rattle.fk_core_typing.specs.Heights.{raised, results_of, height}
+use Rattle.fk_lower_laws.proofs.Along.{AllOf}
+use Rattle.fk_check_laws.proofs.Each.{Each}
+use Rattle.fk_lower_laws.specs.Room.{HasFew}
+use Rattle.fk_lower_laws.proofs.Parts.{three_of, four_of}
+
+-- an operation that is plain leaves as many values on both ways
+leaves_so : (op : Operation) (onward : Bool) → is_plain op ≡ true → leaves op onward ≡ pushes op
+leaves_so (o.Divide by) onward e = absurd (true≢false (sym e))
+leaves_so op onward e = refl
+
+-- so many values are at each of these places
+abbrev pub AreLow : (most : ℕ) → List At → Type 0
+AreLow most ps = Each (λ (p : At). p.values ≤ most) ps
+
+pub low : (most : ℕ) (ps : List At) → most_values ps ≤ most → AreLow most ps
+low most [] h = tt
+low most (p ∷ ps) h = (omega (arith, h), low most ps (omega (arith, h)))
+
+-- an operation that calls pushes nothing by itself
+pushes_none : (op : Operation) → way_of op ≡ into → pushes op ≡ 0
+pushes_none (o.Push number) e = absurd (cc)
+pushes_none (o.Get known) e = absurd (cc)
+pushes_none o.CopyLast e = absurd (cc)
+pushes_none (o.Apply sign) e = absurd (cc)
+pushes_none (o.Join sign turned) e = absurd (cc)
+pushes_none (o.Index bytes) e = absurd (cc)
+pushes_none o.Take e = absurd (cc)
+pushes_none o.Read e = absurd (cc)
+pushes_none o.Write e = absurd (cc)
+pushes_none (o.Combine by) e = absurd (cc)
+pushes_none o.Heap e = absurd (cc)
+pushes_none o.Block e = absurd (cc)
+pushes_none op e = refl
+
+module _ (functions : (binding : ℕ) → Signature) (place_of : (binding : ℕ) → Place) where
+  -- code of operations that are plain, whose calls give what is told of the functions
+  abbrev pub Counted : Coded → Type 0
+  Counted done = Unit {0}
+  Counted (perform t op rest) = (is_plain op ≡ true) × Counted rest
+  Counted (choose t op a b rest) = (is_plain op ≡ true) × Counted a × Counted b × Counted rest
+  Counted (while test body step rest) = Counted test × Counted body × Counted step × Counted rest
+  Counted (until body test rest) = Counted body × Counted test × Counted rest
+  Counted (quit t op rest) = (is_plain op ≡ true) × Counted rest
+  Counted (break rest) = Counted rest
+  Counted (continue rest) = Counted rest
+  Counted (call t op f opening rest) = (pushes op ≡ 0) × (results_of (place_of f) ≡ z.results (functions f).void) × Counted rest
+  Counted (ends t op rest) = (is_plain op ≡ true) × Counted rest
+  Counted code = ⊥
+
+  called : ((f : ℕ) (gives : Bool) → place_of f ≡ Called gives → gives ≡ not (functions f).void)
+      → (f : ℕ) (gives : Bool) → place_of f ≡ Called gives → results_of (place_of f) ≡ z.results (functions f).void
+  called agree f gives is = ap results_of is ∙ ap results (agree f gives is) ∙ same (functions f).void
+    where
+      same : (void : Bool) → results (not void) ≡ z.results void
+      same true = refl
+      same false = refl
+
+  pub counted : ((f : ℕ) (gives : Bool) → place_of f ≡ Called gives → gives ≡ not (functions f).void) → (has_body : ℕ → Bool)
+      → (code : Coded) (n : ℕ) (i : Bool) (l : Option State) (s e : State)
+      → IsShaped has_body i (numbered n code) → Typed place_of l s (numbered n code) e → AllOf is_plain code → Counted code
+  counted agree has done n i l s e sh ty b = tt
+  counted agree has (perform t op rest) n i l s e sh ty b = (b.0, counted agree has rest (suc n) i l (w.behind op true s) e sh.1 ty.1 b.1)
+  counted agree has (choose t op x y rest) n i l s e sh ty b = (
+    b.0,
+    counted agree has x (suc n) i l (w.behind op true s) ty.1 sh.1 ty.2 b.1,
+    counted agree has y (suc n + size x) i l (w.behind op false s) ty.1 sh.2 ty.3 b.2,
+    counted agree has rest (suc n + size x + size y) i l ty.1 e sh.3 ty.4 b.3,
+  )
+  counted agree has (while test body step rest) n i l s e sh ty b = (
+    counted agree has test n true (Some ty.0) ty.0 ty.0 sh.2 ty.2 b.0,
+    counted agree has body (n + size test) true (Some ty.0) ty.0 ty.0 sh.3 ty.3 b.1,
+    counted agree has step (n + size test + size body) true (Some ty.0) ty.0 ty.0 sh.4 ty.4 b.2,
+    counted agree has rest (n + size test + size body + size step) i l ty.0 e sh.5 ty.5 b.3,
+  )
+  counted agree has (until body test rest) n i l s e sh ty b = (
+    counted agree has body n true (Some ty.0) ty.0 ty.0 sh.1 ty.2 b.0,
+    counted agree has test (n + size body) true (Some ty.0) ty.0 ty.0 sh.2 ty.3 b.1,
+    counted agree has rest (n + size body + size test) i l ty.0 e sh.3 ty.4 b.2,
+  )
+  counted agree has (turn test body step rest) n i l s e sh ty b = absurd sh
+  counted agree has (again test body step rest) n i l s e sh ty b = absurd sh
+  counted agree has (quit t op rest) n i l s e sh ty b = (b.0, counted agree has rest (suc n) i l (w.behind op true s) e sh.2 ty.2 b.1)
+  counted agree has (break rest) n i l s e sh ty b = counted agree has rest n i l s e sh.1 ty.1 b
+  counted agree has (continue rest) n i l s e sh ty b = counted agree has rest n i l s e sh.1 ty.1 b
+  counted agree has (call t op f opening rest) n i l s e sh ty b = (
+    pushes_none op sh.0,
+    called agree f ty.1 ty.2,
+    counted agree has rest (suc n + size opening) i l (w.behind_call (takes op) ty.1 s) e sh.3 ty.4 b.2,
+  )
+  counted agree has (ends t op rest) n i l s e sh ty b = (b.0, counted agree has rest (suc n) i l (w.behind op true s) e sh.1 ty.2 b.1)
+
+  -- where so many values stand as are told of a place, so many stand behind an operation, a call and code as are told
+  pub raised_so : (op : Operation) (onward : Bool) → is_plain op ≡ true → (p : At) {h : ℕ} → h ≡ p.values → raised h op onward ≡ (behind_operation p op).values
+  raised_so op onward e p same = ap (λ k. raised k op onward) same ∙ ap (λ k. p.values - takes op + k) (leaves_so op onward e)
+
+  pub called_so : (op : Operation) (f : ℕ) → pushes op ≡ 0 → results_of (place_of f) ≡ z.results (functions f).void → (p : At) {h : ℕ} → h ≡ p.values
+      → h - takes op + results_of (place_of f) ≡ (behind_call functions p op f).values
+  called_so op f none gives p same = omega (arith, none, gives, same)
+
+  pub heights : (code : Coded) (p : At) (n : ℕ) {h : ℕ} → h ≡ p.values → Counted code → height place_of h (numbered n code) ≡ (behind functions p code).values
+  heights done p n same c = same
+  heights (perform t op rest) p n same c = heights rest (behind_operation p op) (suc n) (raised_so op true c.0 p same) c.1
+  heights (choose t op x y rest) p n same c =
+      let q : At = record { values = (behind functions (behind_operation p op) x).values; nesting = p.nesting } in
+      heights rest q (suc n + size x + size y) (heights x (behind_operation p op) (suc n) (raised_so op true c.0 p same) c.1) c.3
+  heights (while test body step rest) p n same c =
+      let q = behind functions p test in
+      let u = behind functions q body in
+      let first = heights test p n same c.0 in
+      let second = heights body q (n + size test) first c.1 in
+      heights rest (behind functions u step) (n + size test + size body + size step) (heights step u (n + size test + size body) second c.2) c.3
+  heights (until body test rest) p n same c =
+      let q = behind functions p body in
+      heights rest (behind functions q test) (n + size body + size test) (heights test q (n + size body) (heights body p n same c.0) c.1) c.2
+  heights (turn test body step rest) p n same c = absurd c
+  heights (again test body step rest) p n same c = absurd c
+  heights (quit t op rest) p n same c = heights rest (behind_operation p op) (suc n) (raised_so op true c.0 p same) c.1
+  heights (break rest) p n same c = heights rest p n same c
+  heights (continue rest) p n same c = heights rest p n same c
+  heights (call t op f opening rest) p n same c = heights rest (behind_call functions p op f) (suc n + size opening) (called_so op f c.0 c.1 p same) c.2
+  heights (ends t op rest) p n same c = heights rest (behind_operation p op) (suc n) (raised_so op true c.0 p same) c.1
+
+  module _ (most : ℕ) where
+    abbrev IsLow : At → Type 0
+    IsLow p = p.values ≤ most
+
+    here : (p : At) {h : ℕ} → h ≡ p.values → IsLow p → h ≤ most
+    here p same few = omega (arith, same, few)
+
+    pub lows : (code : Coded) (p : At) (n : ℕ) {h : ℕ} → h ≡ p.values → Counted code → AreLow most (places functions p code) → HasFew place_of most h (numbered n code)
+    lows done p n same c l = here p same l.0
+    lows (perform t op rest) p n same c l = (here p same l.0, lows rest (behind_operation p op) (suc n) (raised_so op true c.0 p same) c.1 l.1)
+    lows (choose t op x y rest) p n same c l =
+        let f = behind_operation p op in
+        let q : At = record { values = (behind functions f x).values; nesting = p.nesting } in
+        let ls = three_of IsLow (places functions f x) (places functions f y) (places functions q rest) l.1 in
+        let onward = raised_so op true c.0 p same in (
+          here p same l.0,
+          lows x f (suc n) onward c.1 ls.0,
+          lows y f (suc n + size x) (raised_so op false c.0 p same) c.2 ls.1,
+          lows rest q (suc n + size x + size y) (heights x f (suc n) onward c.1) c.3 ls.2,
+        )
+    lows (while test body step rest) p n same c l =
+        let b = n + size test in
+        let q = behind functions p test in
+        let u = behind functions q body in
+        let v = behind functions u step in
+        let ls = four_of IsLow (places functions p test) (places functions q body) (places functions u step) (places functions v rest) l in
+        let first = heights test p n same c.0 in
+        let second = heights body q b first c.1 in
+        let third = heights step u (b + size body) second c.2 in (
+          lows test p n same c.0 ls.0,
+          lows body q b first c.1 ls.1,
+          lows step u (b + size body) second c.2 ls.2,
+          lows rest v (b + size body + size step) third c.3 ls.3,
+        )
+    lows (until body test rest) p n same c l =
+        let t = n + size body in
+        let q = behind functions p body in
+        let v = behind functions q test in
+        let ls = three_of IsLow (places functions p body) (places functions q test) (places functions v rest) l in
+        let first = heights body p n same c.0 in (
+          lows body p n same c.0 ls.0,
+          lows test q t first c.1 ls.1,
+          lows rest v (t + size test) (heights test q t first c.1) c.2 ls.2,
+        )
+    lows (turn test body step rest) p n same c l = absurd c
+    lows (again test body step rest) p n same c l = absurd c
+    lows (quit t op rest) p n same c l = (here p same l.0, lows rest (behind_operation p op) (suc n) (raised_so op true c.0 p same) c.1 l.1)
+    lows (break rest) p n same c l = lows rest p n same c l
+    lows (continue rest) p n same c l = lows rest p n same c l
+    lows (call t op f opening rest) p n same c l =
+        (here p same l.0, lows rest (behind_call functions p op f) (suc n + size opening) (called_so op f c.0 c.1 p same) c.2 l.1.1)
+    lows (ends t op rest) p n same c l = (here p same l.0, lows rest (behind_operation p op) (suc n) (raised_so op true c.0 p same) c.1 l.1)

@@ -1,0 +1,200 @@
+-- What is asked of a program so that its code is well typed: where a value is needed, there is one, what is assigned to has a
+-- place, calls have their arguments and a function, and constant addresses are those of shared data. Nothing is asked of group variables, of which no text with plain operations has one.
+use Rattle.std.specs.Prelude.{◌≡◌, ℕ, ◌==◌, Bool, true, false, not, List, [], ◌∷◌, Option, Some, None, if◌then◌else◌}
+use Rattle.fk_meaning_store.specs.Serve.{may_use}
+use Rattle.fk_syntax.specs.declared.sign.Sign.{Sign}
+use Rattle.fk_syntax.specs.declared.sign.Sign.TheVariants as g
+use Rattle.fk_syntax.specs.Tree as t
+use Rattle.fk_syntax.specs.Tree.{Named, Tree, Links, Trees, Suffixes}
+use Rattle.fk_syntax.specs.Program as p
+use Rattle.fk_syntax.specs.Program.{DeclaredTree, Statement, Statements, FunctionTree, ProgramTree}
+use Rattle.fk_meaning_forms.specs.Tables.{Tables, no_binding, note, is_array, is_void}
+use Rattle.fk_meaning_forms.specs.Expressions.{Signature, token}
+use Rattle.fk_meaning_forms.specs.Statements.{is_nothing, is_scalar}
+use Rattle.fk_meaning_forms.specs.Program.{functions_of, binding_of, signature_in, is_main}
+use Rattle.fk_meaning.specs.Calls.{TakesEnough}
+use Rattle.fk_core_liveness.specs.declared.places.Place.{Place}
+use Rattle.fk_core_liveness.specs.declared.places.Place.TheVariants.{Main, Called}
+use Rattle.fk_lower_laws.specs.Ways.{Way, Unchecked, Constant, Array, Grouped, Word, Function, Valued, gives, named_way, called_way, dotted_way, joined_way, way}
+
+-- it has a place to which is assigned; and an address
+abbrev pub IsTarget : Way → Type 0
+IsTarget Unchecked = Unit {0}
+IsTarget (Constant address) = Unit {0}
+IsTarget Word = Unit {0}
+IsTarget Grouped = Unit {0}
+IsTarget w = ⊥
+
+abbrev pub HasAddress : Way → Type 0
+HasAddress Unchecked = Unit {0}
+HasAddress (Constant address) = Unit {0}
+HasAddress Array = Unit {0}
+HasAddress Grouped = Unit {0}
+HasAddress w = ⊥
+
+-- a sign in front needs a value, a place or an address
+abbrev pub PrefixAsks : Sign → Way → Type 0
+PrefixAsks g.Ampersand w = HasAddress w
+PrefixAsks g.Increment w = IsTarget w
+PrefixAsks g.Decrement w = IsTarget w
+PrefixAsks sign w = gives w ≡ true
+
+-- so many arguments as parameters
+abbrev pub AreEnough : List DeclaredTree → Trees → Type 0
+AreEnough [] es = Unit {0}
+AreEnough (x ∷ xs) t.no_trees = ⊥
+AreEnough (x ∷ xs) (t.tree e es) = AreEnough xs es
+
+abbrev pub IsCalled : Place → Type 0
+IsCalled Main = ⊥
+IsCalled (Called gives) = Unit {0}
+
+module _ (tables : Tables) (functions : (binding : ℕ) → Signature) (place_of : (binding : ℕ) → Place) where
+  -- a constant address is one of shared data
+  abbrev pub NameAsks : (at : ℕ) → Way → Type 0
+  NameAsks at (Constant address) = may_use true address ≡ true
+  NameAsks at Array = is_array tables at ≡ true
+  NameAsks at w = Unit {0}
+
+  abbrev pub DotAsks : (at : ℕ) → Way → Type 0
+  DotAsks at Unchecked = Unit {0}
+  DotAsks at Grouped = Unit {0}
+  DotAsks at (Constant address) = NameAsks at (dotted_way tables place_of at (Constant address))
+  DotAsks at w = ⊥
+
+  -- a sign between two needs the values of both. A comma drops the left one, where by its type there is one
+  abbrev pub JoinAsks : Sign → (left : Way) → (at : ℕ) → (right : Way) → Type 0
+  JoinAsks g.Comma l at r = gives l ≡ not (is_void tables at)
+  JoinAsks sign l at r = (gives l ≡ true) × (gives r ≡ true)
+
+  -- a function that is called, with as many arguments as parameters
+  pub record TakesAll (binding : ℕ) (arguments : Trees) : Type 0 where
+    pub called : IsCalled (place_of binding)
+    pub enough : AreEnough (functions binding).parameters arguments
+
+  abbrev pub NameTakes : (predeclared : Bool) → Named → Trees → Type 0
+  NameTakes true name arguments = TakesEnough name arguments
+  NameTakes false name arguments = TakesAll (note tables name.at).binding arguments
+
+  abbrev pub CallAsks : Way → Trees → Type 0
+  CallAsks (Function name) arguments = NameTakes ((note tables name.at).binding == no_binding) name arguments
+  CallAsks w arguments = ⊥
+
+  abbrev mutual
+    pub Asked : Tree → Type 0
+    Asked (t.Variable name) = NameAsks name.at (named_way tables place_of name)
+    Asked (t.Prefix spot sign operand) = Asked operand × PrefixAsks sign (way tables place_of operand)
+    Asked (t.Cast spot type operand) = Asked operand × (gives (way tables place_of operand) ≡ true)
+    Asked (t.Chain first links) = Asked first × LinksAsked (way tables place_of first) (token first) links
+    Asked (t.Postfix whole suffixes) = Asked whole × SuffixesAsked (way tables place_of whole) suffixes
+    Asked (t.Assign spot sign target value) =
+        Asked target × IsTarget (way tables place_of target) × Asked value × (gives (way tables place_of value) ≡ true)
+    Asked (t.Choose spot condition first second) =
+        Asked condition × (gives (way tables place_of condition) ≡ true) × Asked first × Asked second
+        × (gives (way tables place_of second) ≡ gives (way tables place_of first))
+    Asked e = Unit {0}
+
+    pub LinksAsked : Way → (at : ℕ) → Links → Type 0
+    LinksAsked w at t.no_links = Unit {0}
+    LinksAsked w at (t.link spot sign right others) =
+        Asked right × JoinAsks sign w at (way tables place_of right)
+        × LinksAsked (joined_way sign (way tables place_of right)) spot.at others
+
+    pub SuffixesAsked : Way → Suffixes → Type 0
+    SuffixesAsked w t.no_suffixes = Unit {0}
+    SuffixesAsked w (t.index spot by others) =
+        (gives w ≡ true) × Asked by × (gives (way tables place_of by) ≡ true) × SuffixesAsked Unchecked others
+    SuffixesAsked w (t.call spot arguments others) =
+        CallAsks w arguments × AllAsked arguments × SuffixesAsked (called_way tables place_of w) others
+    SuffixesAsked w (t.dot spot name others) =
+        DotAsks name.at w × SuffixesAsked (dotted_way tables place_of name.at w) others
+    SuffixesAsked w (t.arrow spot name others) = (gives w ≡ true) × SuffixesAsked Unchecked others
+    SuffixesAsked w (t.up spot others) = IsTarget w × SuffixesAsked Valued others
+    SuffixesAsked w (t.down spot others) = IsTarget w × SuffixesAsked Valued others
+
+    -- arguments have values
+    pub AllAsked : Trees → Type 0
+    AllAsked t.no_trees = Unit {0}
+    AllAsked (t.tree first others) = Asked first × (gives (way tables place_of first) ≡ true) × AllAsked others
+
+  -- an expression with a value; and one of which a value is dropped, where by its type there is one
+  abbrev pub ValueAsked : Tree → Type 0
+  ValueAsked e = Asked e × (gives (way tables place_of e) ≡ true)
+
+  abbrev pub OptionValueAsked : Option Tree → Type 0
+  OptionValueAsked None = Unit {0}
+  OptionValueAsked (Some e) = ValueAsked e
+
+  abbrev pub UsedAsked : Tree → Type 0
+  UsedAsked e = Asked e × (gives (way tables place_of e) ≡ not (is_void tables (token e)))
+
+  abbrev pub OptionUsedAsked : Option Tree → Type 0
+  OptionUsedAsked None = Unit {0}
+  OptionUsedAsked (Some e) = UsedAsked e
+
+  -- a scalar that is declared is one to which is assigned
+  abbrev pub ScalarAsked : (scalar : Bool) → DeclaredTree → Type 0
+  ScalarAsked false x = Unit {0}
+  ScalarAsked true x = Asked (t.Variable x.name) × IsTarget (named_way tables place_of x.name) × OptionValueAsked x.first
+
+  abbrev pub VariablesAsked : List DeclaredTree → Type 0
+  VariablesAsked [] = Unit {0}
+  VariablesAsked (x ∷ xs) = ScalarAsked (is_scalar x) x × VariablesAsked xs
+
+  -- `main` ends with a value or without, and any other function as it gives one or not
+  abbrev pub ReturnAsked : Place → Option Tree → Type 0
+  ReturnAsked Main e = OptionValueAsked e
+  ReturnAsked (Called gives) None = gives ≡ false
+  ReturnAsked (Called gives) (Some e) = (gives ≡ true) × ValueAsked e
+
+  module _ (place : Place) where
+    abbrev mutual
+      pub StatementAsked : (in_loop : Bool) → Statement → Type 0
+      StatementAsked l p.Empty = Unit {0}
+      StatementAsked l (p.Expression e) = UsedAsked e
+      StatementAsked l (p.Block statements) = StatementsAsked l statements
+      StatementAsked l (p.Declare variables) = VariablesAsked variables
+      StatementAsked l (p.If spot condition first) = ValueAsked condition × StatementAsked l first
+      StatementAsked l (p.IfElse spot condition first second) = ValueAsked condition × StatementAsked l first × StatementAsked l second
+      StatementAsked l (p.While spot condition body) = ValueAsked condition × StatementAsked true body
+      StatementAsked l (p.DoWhile spot body condition) = ValueAsked condition × StatementAsked true body
+      StatementAsked l (p.For spot before condition after body) =
+          OptionUsedAsked before × OptionValueAsked condition × OptionUsedAsked after × StatementAsked true body
+      StatementAsked l (p.Start spot count body) = OptionValueAsked count × StatementAsked l body
+      StatementAsked l (p.Farm spot body) = StatementAsked l body
+      StatementAsked l (p.Seq spot body) = StatementAsked l body
+      StatementAsked l (p.Fork spot parts part rank body) =
+          ValueAsked parts × ValueAsked part × OptionValueAsked rank × StatementAsked l body
+      StatementAsked l (p.Barrier spot) = Unit {0}
+      StatementAsked l (p.Break spot) = l ≡ true
+      StatementAsked l (p.Continue spot) = l ≡ true
+      StatementAsked l (p.Return spot e) = ReturnAsked place e
+
+      pub StatementsAsked : (in_loop : Bool) → Statements → Type 0
+      StatementsAsked l p.no_statements = Unit {0}
+      StatementsAsked l (p.statement first others) = StatementAsked l first × StatementsAsked l others
+
+  abbrev pub BodyAsked : Place → Option Statements → Type 0
+  BodyAsked place None = Unit {0}
+  BodyAsked place (Some statements) = StatementsAsked place false statements
+
+-- `main`, or a function that is called and gives a value or not
+abbrev pub place_by : FunctionTree → Place
+place_by f = if is_main f then Main else Called (not (is_nothing f.result))
+
+-- the place that a binding means
+abbrev pub place_in : Tables → List FunctionTree → (binding : ℕ) → Place
+place_in tables [] b = Called false
+place_in tables (f ∷ fs) b = if binding_of tables f == b then place_by f else place_in tables fs b
+
+abbrev pub place_of : Tables → ProgramTree → (binding : ℕ) → Place
+place_of tables program b = place_in tables (functions_of program.items) b
+
+abbrev pub FunctionsAsked : Tables → (functions : (binding : ℕ) → Signature) → (place_of : (binding : ℕ) → Place) → List FunctionTree → Type 0
+FunctionsAsked tables functions places [] = Unit {0}
+FunctionsAsked tables functions places (f ∷ fs) =
+    BodyAsked tables functions places (place_by f) f.body × FunctionsAsked tables functions places fs
+
+abbrev pub ProgramAsked : Tables → ProgramTree → Type 0
+ProgramAsked tables program =
+    let fs = functions_of program.items in FunctionsAsked tables (signature_in tables fs) (place_of tables program) fs

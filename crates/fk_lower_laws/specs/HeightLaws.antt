@@ -1,0 +1,24 @@
+-- The depths that are told of a text are those of its code.
+use Rattle.std.specs.Prelude.{◌≡◌, List}
+use Rattle.fk_syntax.specs.Program.{ProgramTree}
+use Rattle.fk_meaning_forms.specs.Program.{bodies_of}
+use Rattle.fk_layout_walk.specs.declared.known.Known.{Known}
+use Rattle.fk_layout_walk.specs.Known.{tables_of, items_in}
+use Rattle.fk_layout_walk_statements.specs.Texts.{functions_in}
+use Rattle.fk_core.specs.declared.op.CoreOp.{CoreOp}
+use Rattle.fk_core_flat.specs.Fitting.{ProgramFits}
+use Rattle.fk_lower.specs.Depths.{AreTold}
+use Rattle.fk_lower_text.specs.Depths.{depths_of}
+use Rattle.fk_compile_text.specs.Plain.{ArePlain}
+use Rattle.fk_core_typing.specs.Typed.{AreTyped}
+use Rattle.fk_core_typing.specs.Laws.{HasHeightsOf}
+use Rattle.fk_lower_laws.specs.Asked.{place_of}
+
+-- so where the code is well typed, and all its operations are plain
+abbrev pub ListsHaveHeights : Type 0
+ListsHaveHeights =
+    (known : Known) (program : ProgramTree) (core : List CoreOp) → program.items ≡ items_in known
+    → ProgramFits (tables_of known) program → ArePlain (tables_of known) program
+    → AreTyped (place_of (tables_of known) program) (bodies_of (tables_of known) program)
+    → AreTold (depths_of known (functions_in known)) core
+    → HasHeightsOf (bodies_of (tables_of known) program) core (place_of (tables_of known) program)

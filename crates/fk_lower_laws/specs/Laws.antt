@@ -1,0 +1,69 @@
+-- The lists of programs that keep all rules and have a layout.
+use Rattle.std.specs.Prelude.{ℕ, ◌≤◌, List, length}
+use Rattle.fk_syntax.specs.declared.facts.Facts.{Facts}
+use Rattle.fk_syntax.specs.Program.{ProgramTree}
+use Rattle.fk_meaning_forms.specs.Tables.{Tables}
+use Rattle.fk_meaning_forms.specs.Program.{bodies_of, main_of}
+use Rattle.fk_layout_globals.specs.Constants.{told}
+use Rattle.fk_layout_globals.specs.Rows.{firsts}
+use Rattle.fk_layout_walk.specs.declared.known.Known.{Known}
+use Rattle.fk_layout_walk_statements.specs.Texts.{functions_in}
+use Rattle.fk_core.specs.declared.op.CoreOp.{CoreOp}
+use Rattle.fk_core.specs.WellFormed.{HasDepths}
+use Rattle.fk_core_flat.specs.Laws.{IsFlat}
+use Rattle.fk_layout.specs.Layout.{tables_by}
+use Rattle.fk_layout.specs.Refusal.{Fits}
+use Rattle.fk_lower.specs.Depths.{AreTold}
+use Rattle.fk_lower_text.specs.Depths.{depths_of}
+use Rattle.fk_core_liveness.specs.declared.set.Set.{Set}
+use Rattle.fk_core_liveness.specs.Live.{IsLive, IsLeast, words_in}
+use Rattle.fk_compile_text.specs.Plain.{ArePlain}
+use Rattle.fk_parse_laws.specs.Trim.{ProgramIsTrim}
+use Rattle.fk_check_laws.specs.Correct.{IsCorrect}
+use Rattle.fk_core_typing.specs.Laws.{HasHeightsOf}
+use Rattle.fk_lower_laws.specs.Asked.{place_of}
+use Rattle.fk_lower_laws.specs.Proper.{ProgramIsProper}
+use Rattle.fk_lower_laws.specs.LoweringLaws.{IsKnownOf}
+use Rattle.fk_lower_laws.specs.Certain.{IsSteady, HasEnough, HasFrames}
+
+-- the code of each function stands at its entry in a list, with its depths, and these words are those that are live in it
+pub record IsLowered (tables : Tables) (program : ProgramTree) (core : List CoreOp) (entry : (binding : ℕ) → ℕ) (kept : List Set) : Type 0 where
+  pub flat : IsFlat (bodies_of tables program) core entry
+  pub tall : HasHeightsOf (bodies_of tables program) core (place_of tables program)
+  pub live : IsLive core (words_in kept)
+  pub least : IsLeast core (words_in kept)
+
+abbrev pub CorrectListsAreSteady : Type 0
+CorrectListsAreSteady =
+    (program : ProgramTree) (facts : Facts) → IsCorrect program facts → ProgramIsTrim program → ProgramIsProper program
+    → let tables = tables_by program facts in
+    Fits tables program.items → ArePlain tables program
+    → (core : List CoreOp) (entry : (binding : ℕ) → ℕ) → IsFlat (bodies_of tables program) core entry → IsSteady core (entry (main_of tables program))
+
+-- how many private variables of file scope a text has
+abbrev pub count_of_file : ProgramTree → Facts → ℕ
+count_of_file program facts = length (firsts (told facts.notes.items facts.kinds.items) program.items)
+
+abbrev pub CorrectListsHaveFrames : Type 0
+CorrectListsHaveFrames =
+    (program : ProgramTree) (facts : Facts) → IsCorrect program facts → ProgramIsTrim program → ProgramIsProper program
+    → let tables = tables_by program facts in
+    Fits tables program.items → ArePlain tables program
+    → (core : List CoreOp) (entry : (binding : ℕ) → ℕ) (kept : List Set) → IsLowered tables program core entry kept
+    → HasFrames core kept (entry (main_of tables program)) (count_of_file program facts)
+
+-- what code is made of: the depths of a list are those of all runs, each operation finds its values, and the list is steady and has
+-- frames that keep the words that are live in it
+pub record CanHaveGroups (core : List CoreOp) (main firsts : ℕ) : Type 0 where
+  pub depths : HasDepths core main
+  pub enough : HasEnough core
+  pub steady : IsSteady core main
+  pub held : (kept : List Set) → IsLive core (words_in kept) → IsLeast core (words_in kept) → HasFrames core kept main firsts
+
+abbrev pub LoweredListsCanHaveGroups : Type 0
+LoweredListsCanHaveGroups =
+    (program : ProgramTree) (facts : Facts) (known : Known) → IsKnownOf program facts known → IsCorrect program facts → ProgramIsTrim program → ProgramIsProper program
+    → let tables = tables_by program facts in
+    Fits tables program.items → ArePlain tables program
+    → (core : List CoreOp) (entry : (binding : ℕ) → ℕ) → IsFlat (bodies_of tables program) core entry → AreTold (depths_of known (functions_in known)) core
+    → CanHaveGroups core (entry (main_of tables program)) (count_of_file program facts)

@@ -1,0 +1,60 @@
+-- What is asked of a program so that its code names private words that are there.
+use Rattle.std.specs.Prelude.{◌≡◌, ℕ, ◌<◌, ◌≤◌, ◌==◌, false, List, [], ◌∷◌, ◌++◌, length, if◌then◌else◌}
+use Rattle.fk_syntax.specs.Tree.{Named}
+use Rattle.fk_syntax.specs.Program.{FunctionTree, ProgramTree}
+use Rattle.fk_types_names.specs.Outline.{MarkTree, Variable, Declares, Uses, variables_marks, body_marks}
+use Rattle.fk_meaning_forms.specs.declared.tables.Home.{Home}
+use Rattle.fk_meaning_forms.specs.declared.tables.Home.TheVariants as h
+use Rattle.fk_meaning_forms.specs.Tables.{Tables, no_binding, note, slot}
+use Rattle.fk_meaning_forms.specs.Program.{functions_of, binding_of, bodies_of}
+use Rattle.fk_core_flat.specs.Fitting.{ProgramFits}
+use Rattle.fk_compile_text.specs.Plain.{ArePlain}
+use Rattle.fk_lower_laws.specs.Rooms.{HasWords}
+
+-- there are so many private variables of file scope, and so many private words of a function
+module _ (tables : Tables) (firsts words : ℕ) where
+  -- a private variable has its word
+  abbrev pub HasWord : Home → (index : ℕ) → Type 0
+  HasWord h.Private i = i < words
+  HasWord h.FilePrivate i = i < firsts
+  HasWord home i = Unit {0}
+
+  -- a name means a declaration of the text, and the private word of that one is there
+  abbrev pub IsBound : Named → Type 0
+  IsBound name = ((note tables name.at).binding == no_binding) ≡ false
+
+  abbrev pub HasItsWord : Named → Type 0
+  HasItsWord name =
+      let b = (note tables name.at).binding in HasWord (slot tables b).home (slot tables b).index
+
+  -- so it is with what is declared, and with each name that is used and means a declaration
+  abbrev pub IsNamed : MarkTree → Type 0
+  IsNamed (Uses name) = IsBound name → HasItsWord name
+  IsNamed (Declares (Variable x)) = IsBound x.name × HasItsWord x.name
+  IsNamed mark = Unit {0}
+
+  abbrev pub AreNamed : List MarkTree → Type 0
+  AreNamed [] = Unit {0}
+  AreNamed (mark ∷ marks) = IsNamed mark × AreNamed marks
+
+  -- a call has room for 56 parameters
+  pub record FunctionNames (f : FunctionTree) : Type 0 where
+    pub room : length f.parameters ≤ 56
+    pub names : AreNamed (variables_marks f.parameters ++ body_marks f.body)
+
+module _ (tables : Tables) (words : FunctionTree → ℕ) (firsts : ℕ) where
+  abbrev pub FunctionsName : List FunctionTree → Type 0
+  FunctionsName [] = Unit {0}
+  FunctionsName (f ∷ fs) = FunctionNames tables firsts (words f) f × FunctionsName fs
+
+-- so many private words has the function of a binding
+abbrev pub words_in : Tables → (words : FunctionTree → ℕ) → List FunctionTree → (binding : ℕ) → ℕ
+words_in tables words [] b = 0
+words_in tables words (f ∷ fs) b = if binding_of tables f == b then words f else words_in tables words fs b
+
+-- such programs of which all operations are plain come to code that names words that are there
+abbrev pub CodeNamesWords : Type 0
+CodeNamesWords =
+    (tables : Tables) (program : ProgramTree) (words : FunctionTree → ℕ) (firsts : ℕ)
+    → ProgramFits tables program → ArePlain tables program → FunctionsName tables words firsts (functions_of program.items)
+    → (binding : ℕ) → HasWords firsts (words_in tables words (functions_of program.items) binding) (bodies_of tables program binding)

@@ -1,0 +1,20 @@
+-- Flat lists suit frames that hold their live words.
+use Rattle.std.specs.Prelude.{◌≡◌, ℕ, Bool, List}
+use Rattle.fk_meaning_forms.specs.Code.{Code}
+use Rattle.fk_core.specs.declared.op.CoreOp.{CoreOp}
+use Rattle.fk_sim_block.specs.Suits.{Suits}
+use Rattle.fk_core_liveness.specs.declared.places.Place.{Place}
+use Rattle.fk_core_liveness.specs.declared.places.Place.TheVariants.{Main}
+use Rattle.fk_core_liveness.specs.Live.{IsLive, IsLeast}
+use Rattle.fk_core_typing.specs.Laws.{IsTypedList, HasHeightsOf}
+use Rattle.fk_lower_laws.specs.Rooms.{HaveRoom}
+
+-- a flat list of well typed functions, with depths as its code has them and room in frames: the fewest words that are live in it
+-- are those that its frames hold
+abbrev pub LiveWordsSuit : Type 0
+LiveWordsSuit =
+    (bodies : (binding : ℕ) → Code ℕ) (core : List CoreOp) (entry : ℕ → ℕ) (place_of : (binding : ℕ) → Place) (firsts : ℕ)
+    → IsTypedList bodies core entry place_of → HasHeightsOf bodies core place_of → HaveRoom bodies place_of firsts
+    → (keeps : (index word : ℕ) → Bool) → IsLive core keeps → IsLeast core keeps
+    → (main : ℕ) → place_of main ≡ Main
+    → (is_main : (index : ℕ) → Bool) × Suits core (record { keeps = keeps; is_main = is_main; of_file = firsts }) (entry main)

@@ -1,0 +1,148 @@
+-- The steps of the tree of groups: what each member does by itself, which way it goes, and what becomes of the tree.
+use Rattle.std.specs.Prelude.{ℕ, zero, suc, ◌==◌, ◌^◌, nat_lt, min, Bool, true, false, not, List, ◌∷◌, length, Option, Some, None, is_some, if◌then◌else◌}
+use Rattle.fk_num.specs.Word.{put}
+use Rattle.fk_space.specs.Space.{Space, share, child, frame, block}
+use Rattle.fk_tree.specs.Tree as t
+use Rattle.fk_meaning_operation.specs.declared.operation.Split.{Split}
+use Rattle.fk_meaning_operation.specs.declared.operation.Split.TheVariants.{IfAlone, IfElse, AndThen, OrElse, Loop, Fork}
+use Rattle.fk_meaning_operation.specs.declared.operation.Operation.{Operation}
+use Rattle.fk_meaning_operation.specs.declared.operation.Operation.TheVariants.{Begin, Agree, Frame, Block, Divide, Shrink, End, Resume, Farm, Seq, Meet}
+use Rattle.fk_meaning_store.specs.Store.{address_of}
+use Rattle.fk_meaning_store.specs.Serve.{words_of}
+use Rattle.fk_meaning.specs.Processor.{Level, Processor, values, with_values, with_space, last, before, drop_last, in_place, enter_level, leave_level}
+
+-- a word read as a signed number, and 0 for one below 0
+abbrev pub not_negative : ℕ → ℕ
+not_negative v = if nat_lt v (2 ^ 31) then v else 0
+
+-- how many parts a split makes: for a `fork` as many as the value before the two last ones says
+abbrev pub parts : Split → (values : List ℕ) → ℕ
+parts IfElse vs = 2
+parts Fork vs = not_negative (last (before 2 vs))
+parts by vs = 1
+
+-- the part that a member enters, where it doesn't wait
+abbrev pub if_below : (i k : ℕ) → Option ℕ
+if_below i k = if nat_lt i k then Some i else None
+
+abbrev pub part : Split → (values : List ℕ) → Option ℕ
+part IfAlone vs = if last vs == 0 then None else Some 0
+part IfElse vs = if last vs == 0 then Some 1 else Some 0
+part AndThen vs = if last vs == 0 then None else Some 0
+part OrElse vs = if last vs == 0 then Some 0 else None
+part Loop vs = Some 0
+part Fork vs = if_below (last (before 1 vs)) (parts Fork vs)
+
+-- how many values a split takes, and what those have who wait: `&&` is 0 for them, and `||` is 1
+abbrev pub taken_by : Split → ℕ
+taken_by Loop = 0
+taken_by Fork = 3
+taken_by by = 1
+
+abbrev pub waits_with : Split → List ℕ → List ℕ
+waits_with AndThen vs = 0 ∷ vs
+waits_with OrElse vs = 1 ∷ vs
+waits_with by vs = vs
+
+-- inside a part of a `fork` `@` is its number and `$` is the last value. Else both are as they were
+abbrev pub part_number : Split → (old i : ℕ) → ℕ
+part_number Fork old i = i
+part_number by old i = old
+
+abbrev pub part_rank : Split → (old v : ℕ) → ℕ
+part_rank Fork old v = v
+part_rank by old v = old
+
+abbrev pub part_level : Split → Processor → (size i : ℕ) → Level
+part_level by p size i = record {
+  number = part_number by p.level.number i;
+  rank = part_rank by p.level.rank (last (values p));
+  size = size;
+  space = child p.level.space (parts by (values p)) i;
+}
+
+abbrev pub divided : Split → (size : ℕ) → Processor → Option ℕ → Processor
+divided by size p None = with_values p (waits_with by (before (taken_by by) (values p)))
+divided by size p (Some i) = enter_level (part_level by p size i) (drop_last (taken_by by) p)
+
+-- the group of `start` has the number 0 and the whole group space. It takes as many processors as the value says, from
+-- the lowest on
+abbrev pub start_level : Processor → (size : ℕ) → Level
+start_level p size = record { number = 0; rank = p.number; size = size; space = p.level.space }
+
+abbrev pub is_taken : (value : ℕ) → Processor → Bool
+is_taken v p = nat_lt p.number (not_negative v)
+
+-- a frame, whose first word the call keeps
+abbrev pub framed : (nesting : ℕ) → Processor → Option Space → Processor
+framed nesting p None = p
+framed nesting p (Some s) =
+    with_space (record p { call = record (p.call) { frames = put p.call.frames nesting p.level.space.frames } }) s
+
+-- `shalloc`: a block of the group's space, or 0
+abbrev pub allotted : Processor → Option (ℕ × Space) → Processor
+allotted p None = in_place 0 p
+allotted p (Some b) = in_place (address_of b.0) (with_space p b.1)
+
+abbrev pub with_block : (words : ℕ) → Processor → Processor
+with_block words p = if words == 0 then in_place 0 p else allotted p (block p.level.space words)
+
+abbrev pub with_size : ℕ → Processor → Processor
+with_size size p = record p { level = record (p.level) { size = size } }
+
+abbrev pub stays : Processor → Bool
+stays p = not (last (values p) == 0)
+
+-- what a member does by itself, where the last value of the highest member and the size of the group that the member is in
+-- after the step are known
+abbrev pub does : Operation → (highest size : ℕ) → Processor → Processor
+does Begin highest size p =
+    if is_taken highest p then enter_level (start_level p size) (drop_last 1 p) else drop_last 1 p
+does Agree highest size p = in_place highest p
+does (Frame nesting words) highest size p = framed nesting p (frame p.level.space words)
+does Block highest size p = with_block (words_of (last (values p))) p
+does (Divide by) highest size p = divided by size p (part by (values p))
+does Shrink highest size p = if stays p then with_size size (drop_last 1 p) else leave_level (drop_last 1 p)
+does End highest size p = leave_level p
+does operation highest size p = p
+
+-- which way it goes: into the only or the first of two parts, and on in the loop; or the other way. In a `seq` the lowest
+-- member goes into the body
+abbrev pub is_first : Option ℕ → Bool
+is_first None = false
+is_first (Some i) = i == 0
+
+abbrev pub enters : Split → Option ℕ → Bool
+enters IfElse part = is_first part
+enters by part = is_some part
+
+abbrev pub goes_onward : Operation → (highest lowest : ℕ) → Processor → Bool
+goes_onward Begin highest lowest p = is_taken highest p
+goes_onward (Divide by) highest lowest p = enters by (part by (values p))
+goes_onward Shrink highest lowest p = stays p
+goes_onward Seq highest lowest p = p.number == lowest
+goes_onward operation highest lowest p = true
+
+-- what becomes of the tree by a step at node n, where the processor of each number, the last value of the highest member
+-- and the lowest member are known
+abbrev pub changes : Operation → (n : ℕ) → (ℕ → Processor) → (highest lowest : ℕ) → t.Tree → t.Tree
+changes Begin n who highest lowest tree = t.begin (min (not_negative highest) (length (t.members tree n))) tree
+changes (Divide by) n who highest lowest tree =
+    t.split n (parts by (values (who lowest))) (λ h. part by (values (who h))) tree
+changes Shrink n who highest lowest tree = t.shrink n (λ h. stays (who h)) tree
+changes End n who highest lowest tree = t.finish n tree
+changes Farm n who highest lowest tree = t.farm n tree
+changes Seq n who highest lowest tree = t.single n tree
+changes (Meet true) n who highest lowest tree = t.meet n tree
+changes Resume n who highest lowest tree = t.resume n tree
+changes operation n who highest lowest tree = tree
+
+-- whether a step finds the words that it needs in its group's space
+abbrev pub has_parts : Space → (k : ℕ) → Bool
+has_parts s zero = true
+has_parts s (suc k) = is_some (share s (suc k))
+
+abbrev pub has_room : Operation → Processor → Bool
+has_room (Frame nesting words) p = is_some (frame p.level.space words)
+has_room (Divide by) p = has_parts p.level.space (parts by (values p))
+has_room operation p = true

@@ -1,0 +1,332 @@
+-- The operations of expressions.
+use Rattle.std.specs.Prelude.{ℕ, suc, ◌+◌, ◌*◌, ◌==◌, ◌||◌, Bool, true, false, List, [], ◌∷◌, length, codes, bytes_eq, Option, Some, None, if◌then◌else◌}
+use Rattle.fk_num.specs.declared.operator.Op.TheVariants as f
+use Rattle.fk_syntax.specs.declared.place.Place.{Place}
+use Rattle.fk_syntax.specs.declared.place.Spot.{Spot}
+use Rattle.fk_syntax.specs.declared.sign.Sign.{Sign}
+use Rattle.fk_syntax.specs.declared.sign.Sign.TheVariants as g
+use Rattle.fk_syntax.specs.Tree as t
+use Rattle.fk_syntax.specs.Tree.{Named, Tree, Links, Trees, Suffixes}
+use Rattle.fk_syntax.specs.Program.{DeclaredTree}
+use Rattle.fk_meaning_operation.specs.declared.operation.Operation.{Operation}
+use Rattle.fk_meaning_operation.specs.declared.operation.Operation.TheVariants as o
+use Rattle.fk_meaning_operation.specs.declared.operation.Variable.{Variable}
+use Rattle.fk_meaning_operation.specs.declared.operation.Variable.TheVariants as v
+use Rattle.fk_meaning_operation.specs.declared.operation.Known.TheVariants as n
+use Rattle.fk_meaning_operation.specs.declared.operation.Unary.TheVariants as u
+use Rattle.fk_meaning_operation.specs.declared.operation.Multiprefix.{Multiprefix}
+use Rattle.fk_meaning_operation.specs.declared.operation.Multiprefix.TheVariants.{MpAdd, MpMax, MpAnd, MpOr}
+use Rattle.fk_meaning_operation.specs.declared.operation.Split.{Split}
+use Rattle.fk_meaning_operation.specs.declared.operation.Split.TheVariants.{IfElse, AndThen, OrElse}
+use Rattle.fk_meaning_forms.specs.declared.tables.Home.{Home}
+use Rattle.fk_meaning_forms.specs.declared.tables.Home.TheVariants as h
+use Rattle.fk_meaning_forms.specs.declared.tables.Region.{Region}
+use Rattle.fk_meaning_forms.specs.declared.signs.Move.{Move}
+use Rattle.fk_meaning_forms.specs.declared.signs.Move.TheVariants.{Forth, Back, NoMove}
+use Rattle.fk_meaning_forms.specs.Code.{Code, done, perform, choose, call}
+use Rattle.fk_meaning_forms.specs.Tables.{Tables, no_binding, note, kind_at, is_array, is_void, is_unsigned, slot, region, frame_at}
+use Rattle.fk_meaning_forms.specs.Signs.{operator_of, is_shift, move_of}
+use Rattle.fk_meaning_forms.specs.Texts.{text_of}
+
+-- each operation stands with its place. Most can't fault, and have none
+abbrev pub Coded : Type 0
+Coded = Code Place
+
+abbrev pub nowhere : Place
+nowhere = record { line = 0; column = 0 }
+
+abbrev pub plain : Operation → (rest : Coded) → Coded
+plain op rest = perform nowhere op rest
+
+-- how an expression stands when its operations are done: as a value; at an address that is not checked yet, behind a
+-- dereference or an index or not; in a private word; or as a function's name
+pub data Standing : Type 0 where
+  OnList : Standing
+  AtAddress : (deep : Bool) (spot : Spot) → Standing
+  InWord : (variable : Variable) → Standing
+  ToCall : (name : Named) → Standing
+
+-- the operations of an expression, where what follows is known for each way in which it may stand
+abbrev pub Stands : Type 0
+Stands = (Standing → Coded) → Coded
+
+-- the token by which an expression is known: its sign, its name or its number; the last one of a chain or of suffixes
+abbrev pub last_link : (at : ℕ) → Links → ℕ
+last_link at t.no_links = at
+last_link at (t.link spot sign right others) = last_link spot.at others
+
+abbrev pub last_suffix : (at : ℕ) → Suffixes → ℕ
+last_suffix at t.no_suffixes = at
+last_suffix at (t.index spot by others) = last_suffix spot.at others
+last_suffix at (t.call spot arguments others) = last_suffix spot.at others
+last_suffix at (t.dot spot member others) = last_suffix spot.at others
+last_suffix at (t.arrow spot member others) = last_suffix spot.at others
+last_suffix at (t.up spot others) = last_suffix spot.at others
+last_suffix at (t.down spot others) = last_suffix spot.at others
+
+abbrev pub token : Tree → ℕ
+token (t.Number spot value unsigned) = spot.at
+token (t.Puts spot text) = spot.at
+token (t.Sizeof spot type) = spot.at
+token (t.Variable name) = name.at
+token (t.GroupNumber spot) = spot.at
+token (t.GroupRank spot) = spot.at
+token (t.Prefix spot sign operand) = spot.at
+token (t.Cast spot type operand) = spot.at
+token (t.Chain first links) = last_link (token first) links
+token (t.Postfix whole suffixes) = last_suffix (token whole) suffixes
+token (t.Assign spot sign target value) = spot.at
+token (t.Choose spot condition first second) = spot.at
+
+abbrev pub spot_of : Named → Spot
+spot_of name = record { at = name.at; place = name.place }
+
+abbrev pub is_name : Named → (bytes : List ℕ) → Bool
+is_name name bytes = bytes_eq name.bytes bytes
+
+-- a function, as its calls see it: the token of its name, its parameters, and whether it has no result
+pub record Signature : Type 0 where
+  pub at : ℕ
+  pub parameters : List DeclaredTree
+  pub void : Bool
+
+-- `puts`: each byte is pushed and printed
+abbrev pub put_bytes : (bytes : List ℕ) → Coded → Coded
+put_bytes [] rest = rest
+put_bytes (b ∷ bytes) rest = plain (o.Push b) (plain o.PrintByte (put_bytes bytes rest))
+
+-- one binary operator, or what moves a pointer by steps
+abbrev pub moved : Move → (step : ℕ) → Operation → Coded → Coded
+moved Forth step op rest = plain (o.Index step) rest
+moved Back step op rest = plain (o.Apply u.Negate) (plain (o.Index step) rest)
+moved NoMove step op rest = plain op rest
+
+abbrev pub agreed : (sync : Bool) → Coded → Coded
+agreed sync rest = if sync then plain o.Agree rest else rest
+
+module _ (tables : Tables) (functions : (binding : ℕ) → Signature) where
+  -- an address is checked where it lies behind a dereference or an index
+  abbrev pub checked : (deep : Bool) → Spot → Coded → Coded
+  checked deep spot rest = if deep then perform spot.place (o.Check false) rest else rest
+
+  -- an expression as a value. An array is its address without a check
+  abbrev pub valued : Standing → Coded → Coded
+  valued (AtAddress deep spot) rest = if is_array tables spot.at then rest else checked deep spot (plain o.Read rest)
+  valued (InWord variable) rest = plain (o.Get (n.Value variable)) rest
+  valued standing rest = rest
+
+  -- as an address
+  abbrev pub addressed : Standing → Coded → Coded
+  addressed (AtAddress deep spot) rest = checked deep spot rest
+  addressed standing rest = rest
+
+  -- as the target of a compound assignment: first its value, at last the new one
+  abbrev pub fetched : Standing → Coded → Coded
+  fetched (AtAddress deep spot) rest = checked deep spot (plain o.CopyLast (plain o.Read rest))
+  fetched (InWord variable) rest = plain (o.Get (n.Value variable)) rest
+  fetched standing rest = rest
+
+  abbrev pub assigned : Standing → Coded → Coded
+  assigned (AtAddress deep spot) rest = plain o.Write rest
+  assigned (InWord variable) rest = plain (o.Set variable) rest
+  assigned standing rest = rest
+
+  abbrev pub value_of : Stands → Coded → Coded
+  value_of e rest = e (λ standing. valued standing rest)
+
+  -- a value that nobody uses is dropped, where there is one
+  abbrev pub dropped : (at : ℕ) → Coded → Coded
+  dropped at rest = if is_void tables at then rest else plain o.DropLast rest
+
+  -- names
+  abbrev pub predeclared : Named → Stands
+  predeclared name k =
+      if is_name name (codes "__PROC_NR__") then plain (o.Get n.ProcessorNumber) (k OnList)
+      else if is_name name (codes "__STARTED_PROCS__") then plain (o.Get n.Processors) (k OnList)
+      else if is_name name (codes "__inputs") then plain (o.Get n.InputLength) (k OnList)
+      else if is_name name (codes "__input") then plain (o.Get n.InputAddress) (k (AtAddress false (spot_of name)))
+      else k (ToCall name)
+
+  abbrev pub placed : Home → (index : ℕ) → Named → Stands
+  placed h.Global i name k = plain (o.Push (0x10000000 + 4 * i)) (k (AtAddress false (spot_of name)))
+  placed h.FilePrivate i name k = k (InWord (v.OfFile i))
+  placed h.Private i name k = k (InWord (v.Private i))
+  placed (h.Group r) i name k = plain (o.Get (n.FrameAddress (region tables r).level i)) (k (AtAddress false (spot_of name)))
+  placed h.NoWord i name k = k (ToCall name)
+
+  abbrev pub variable : Named → Stands
+  variable name k =
+      let b = (note tables name.at).binding in
+      if b == no_binding then predeclared name k else placed (slot tables b).home (slot tables b).index name k
+
+  -- `a op b`: an operator on two values, the types of which the tokens tell
+  abbrev pub operate : Sign → (left right : ℕ) → Coded → Coded
+  operate sign left right rest =
+      let unsigned = if is_shift sign then is_unsigned tables left else is_unsigned tables left || is_unsigned tables right in
+      let step = (kind_at tables left).step in
+      if step == 0 then plain (operator_of sign unsigned) rest else moved (move_of sign) step (operator_of sign unsigned) rest
+
+  -- `v op= e`: the value, [e], the operator, the new value
+  abbrev pub updated : Sign → Stands → (left right : ℕ) → (e : Coded → Coded) → Stands
+  updated sign target left right e k =
+      target (λ standing. fetched standing (e (operate sign left right (assigned standing (k OnList)))))
+
+  abbrev pub one : Coded → Coded
+  one rest = plain (o.Push 1) rest
+
+  -- signs in front
+  abbrev pub prefixed : Spot → Sign → Stands → (at : ℕ) → Stands
+  prefixed spot g.Minus e at k = value_of e (plain (o.Apply u.Negate) (k OnList))
+  prefixed spot g.Tilde e at k = value_of e (plain (o.Apply u.Complement) (k OnList))
+  prefixed spot g.Exclamation e at k = value_of e (plain (o.Apply u.Not) (k OnList))
+  prefixed spot g.Star e at k = value_of e (k (AtAddress true spot))
+  prefixed spot g.Ampersand e at k = e (λ standing. addressed standing (k OnList))
+  prefixed spot g.Increment e at k = updated g.Plus e at spot.at one k
+  prefixed spot g.Decrement e at k = updated g.Minus e at spot.at one k
+  prefixed spot sign e at k = value_of e (k OnList)
+
+  -- `&&` and `||` go on with their right side, whose value becomes 0 or 1, or with another value; `?:` goes one of two ways.
+  -- In a synchronous region the group agrees before it branches, or splits
+  abbrev pub truth : Stands → Coded → Coded
+  truth e rest = value_of e (plain (o.Push 0) (plain (o.Join f.Ne false) rest))
+
+  abbrev pub logical : Spot → Split → (onward : Bool) → (other : ℕ) → Stands → Stands → Stands
+  logical spot split onward other a b k =
+      let here = note tables spot.at in
+      value_of a (if here.splits
+      then choose spot.place (o.Divide split) (truth b (plain o.End done)) done (plain o.Resume (k OnList))
+      else agreed here.sync (choose nowhere (o.Branch onward) (truth b done) (plain (o.Push other) done) (k OnList)))
+
+  abbrev pub chosen : Spot → Stands → Stands → Stands → Stands
+  chosen spot condition a b k =
+      let here = note tables spot.at in
+      value_of condition (if here.splits
+      then choose spot.place (o.Divide IfElse) (value_of a (plain o.End done)) (value_of b (plain o.End done)) (plain o.Resume (k OnList))
+      else agreed here.sync (choose nowhere (o.Branch true) (value_of a done) (value_of b done) (k OnList)))
+
+  -- signs between two expressions
+  abbrev pub joined : Spot → Sign → Stands → (left : ℕ) → Stands → (right : ℕ) → Stands
+  joined spot g.Comma a left b right k = value_of a (dropped left (value_of b (k OnList)))
+  joined spot g.AndAnd a left b right k = logical spot AndThen true 0 a b k
+  joined spot g.OrOr a left b right k = logical spot OrElse false 1 a b k
+  joined spot sign a left b right k = value_of a (value_of b (operate sign left right (k OnList)))
+
+  abbrev pub assignment : Sign → Stands → (left : ℕ) → Stands → (right : ℕ) → Stands
+  assignment g.Assign target left value right k =
+      target (λ standing. addressed standing (value_of value (assigned standing (k OnList))))
+  assignment sign target left value right k = updated sign target left right (value_of value) k
+
+  -- suffixes. A member lies so many words behind the beginning of its struct, as the note of its name says
+  abbrev pub member : (at : ℕ) → Coded → Coded
+  member at rest = plain (o.Push (4 * (note tables at).binding)) (plain (o.Join f.Add false) rest)
+
+  abbrev pub is_deep : Standing → Bool
+  is_deep (AtAddress deep spot) = deep
+  is_deep standing = false
+
+  abbrev pub indexed : Spot → Stands → Stands → Stands
+  indexed spot e by k = value_of e (value_of by (plain (o.Index (4 * (kind_at tables spot.at).words)) (k (AtAddress true spot))))
+
+  abbrev pub dotted : Spot → (at : ℕ) → Stands → Stands
+  dotted spot at e k = e (λ standing. member at (k (AtAddress (is_deep standing) spot)))
+
+  abbrev pub pointed : Spot → (at : ℕ) → Stands → Stands
+  pointed spot at e k = value_of e (member at (k (AtAddress true spot)))
+
+  -- `v++` and `v--`: as in front, then undone, for a pointer in bytes
+  abbrev pub step_back : (at : ℕ) → ℕ
+  step_back at = if (kind_at tables at).step == 0 then 1 else (kind_at tables at).step
+
+  abbrev pub raised : Sign → (back : Sign) → Stands → (at : ℕ) → Stands
+  raised sign back e at k =
+      updated sign e at 0 one (λ standing. plain (o.Push (step_back at)) (plain (operator_of back false) (k OnList)))
+
+  -- a call: the arguments, agreed for `sh` parameters; enter; the frame, and the `sh` parameters put into it
+  abbrev pub arguments : List DeclaredTree → List Stands → Coded → Coded
+  arguments (x ∷ xs) (e ∷ es) rest = value_of e (agreed x.shared (arguments xs es rest))
+  arguments xs es rest = rest
+
+  abbrev pub framed : Option Region → Place → Coded → Coded
+  framed None place rest = rest
+  framed (Some r) place rest = perform place (o.Frame r.level r.words) rest
+
+  abbrev pub parameters : (number : ℕ) → List DeclaredTree → Coded
+  parameters i [] = done
+  parameters i (x ∷ xs) =
+      if x.shared
+      then plain (o.Get (n.FrameAddress 0 (slot tables (note tables x.name.at).binding).index))
+      (plain (o.Get (n.Value (v.Private i))) (plain o.Write (plain o.DropLast (parameters (suc i) xs))))
+      else parameters (suc i) xs
+
+  abbrev pub called : Named → List Stands → Stands
+  called name es k =
+      let b = (note tables name.at).binding in
+      let function = functions b in
+      arguments function.parameters es
+      (call name.place (o.Enter (length function.parameters)) b
+      (framed (frame_at tables function.at 0) name.place (parameters 0 function.parameters)) (k OnList))
+
+  -- calls of predeclared names
+  abbrev pub multiprefix : Named → Multiprefix → List Stands → Stands
+  multiprefix name by (a ∷ b ∷ es) k = value_of a (perform name.place (o.Check true) (value_of b (plain (o.Combine by) (k OnList))))
+  multiprefix name by es k = done
+
+  abbrev pub with_one : (Coded → Coded) → List Stands → Stands
+  with_one after (e ∷ es) k = value_of e (after (k OnList))
+  with_one after es k = done
+
+  abbrev pub called_predeclared : Named → List Stands → Stands
+  called_predeclared name es k =
+      if is_name name (codes "mpadd") then multiprefix name MpAdd es k
+      else if is_name name (codes "mpmax") then multiprefix name MpMax es k
+      else if is_name name (codes "mpand") then multiprefix name MpAnd es k
+      else if is_name name (codes "mpor") then multiprefix name MpOr es k
+      else if is_name name (codes "groupsize") then plain (o.Get n.GroupSize) (k OnList)
+      else if is_name name (codes "putint") then with_one (plain o.PrintNumber) es k
+      else if is_name name (codes "putchar") then with_one (plain o.PrintByte) es k
+      else if is_name name (codes "malloc") then with_one (plain o.Take) es k
+      else if is_name name (codes "shmalloc") then with_one (plain o.Heap) es k
+      else with_one (λ rest. plain o.Agree (plain o.Block rest)) es k
+
+  abbrev pub calling : List Stands → (Standing → Coded) → Standing → Coded
+  calling es k (ToCall name) =
+      if (note tables name.at).binding == no_binding then called_predeclared name es k else called name es k
+  calling es k standing = done
+
+  -- expressions
+  abbrev mutual
+    pub stands : Tree → Stands
+    stands (t.Number spot value unsigned) k = plain (o.Push value) (k OnList)
+    stands (t.Puts spot text) k = put_bytes (text_of text) (k OnList)
+    stands (t.Sizeof spot type) k = plain (o.Push (note tables spot.at).binding) (k OnList)
+    stands (t.Variable name) k = variable name k
+    stands (t.GroupNumber spot) k = plain (o.Get n.GroupNumber) (k OnList)
+    stands (t.GroupRank spot) k = plain (o.Get n.Rank) (k OnList)
+    stands (t.Prefix spot sign operand) k = prefixed spot sign (stands operand) (token operand) k
+    stands (t.Cast spot type operand) k = value_of (stands operand) (k OnList)
+    stands (t.Chain first links) k = linked (stands first) (token first) links k
+    stands (t.Postfix whole suffixes) k = suffixed (stands whole) (token whole) suffixes k
+    stands (t.Assign spot sign target value) k =
+        assignment sign (stands target) (token target) (stands value) (token value) k
+    stands (t.Choose spot condition first second) k = chosen spot (stands condition) (stands first) (stands second) k
+
+    pub linked : Stands → (at : ℕ) → Links → Stands
+    linked e at t.no_links k = e k
+    linked e at (t.link spot sign right others) k =
+        linked (joined spot sign e at (stands right) (token right)) spot.at others k
+
+    pub suffixed : Stands → (at : ℕ) → Suffixes → Stands
+    suffixed e at t.no_suffixes k = e k
+    suffixed e at (t.index spot by others) k = suffixed (indexed spot e (stands by)) spot.at others k
+    suffixed e at (t.call spot arguments others) k = suffixed (λ j. e (calling (all_stand arguments) j)) spot.at others k
+    suffixed e at (t.dot spot name others) k = suffixed (dotted spot name.at e) spot.at others k
+    suffixed e at (t.arrow spot name others) k = suffixed (pointed spot name.at e) spot.at others k
+    suffixed e at (t.up spot others) k = suffixed (raised g.Plus g.Minus e at) spot.at others k
+    suffixed e at (t.down spot others) k = suffixed (raised g.Minus g.Plus e at) spot.at others k
+
+    pub all_stand : Trees → List Stands
+    all_stand t.no_trees = []
+    all_stand (t.tree first others) = stands first ∷ all_stand others
+
+  abbrev pub value : Tree → Coded → Coded
+  value e rest = value_of (stands e) rest

@@ -1,0 +1,32 @@
+//! What a run doesn't change.
+
+ghost use Rattle.std.specs.Prelude.{◌+◌, ◌^◌, ◌≤◌};
+
+use fk_space::Space;
+
+/// How many words of shared data there are.
+const SHARED_WORDS: u32 = 1 << 20;
+
+/// What a run doesn't change: how many processors, words of globals and input numbers there are.
+#[derive(Clone, Copy)]
+pub(crate) struct Setting {
+    pub(crate) processors: u32,
+    pub(crate) globals: u32,
+    pub(crate) inputs: u32,
+    ghost fits: { globals + inputs ≤ 2 ^ 19 },
+}
+
+impl Setting {
+    ghost use Rattle.std.specs.Prelude.{◌≡◌};
+    ghost use Rattle.fk_meaning.specs.Processor.{group_space};
+    ghost use Rattle.fk_meaning_state.specs.View.{setting_of};
+
+    /// The group space: one half, rounded down, of the words of shared data behind the globals and
+    /// the input numbers.
+    pub(crate) fn group_space(self) -> Space
+        ensures { result ≡ group_space (setting_of self) }
+    {
+        let taken = self.globals + self.inputs;
+        Space::whole(taken, (SHARED_WORDS - taken) / 2)
+    }
+}

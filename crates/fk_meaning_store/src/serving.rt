@@ -1,0 +1,100 @@
+//! How a request is served.
+
+ghost use Rattle.std.specs.Prelude.{◌≡◌, ◌<◌, IsTrue, OnErr, if◌then◌else◌};
+ghost use Rattle.fk_meaning_store.specs.Serve.{serve as served_by, can_serve, combined, words_of as words_in, operator_of as operator_by, Served};
+ghost use Rattle.fk_meaning_store.specs.View.{store_of, processors_of, room_of, answer_of, KeepsRoom};
+ghost use Rattle.fk_meaning_operation.specs.Kinds.{multiprefix_of};
+
+use crate::addresses::may_use;
+use crate::request::Request;
+use crate::store::Store32;
+use fk_num::{Op, apply};
+use fk_meaning_operation::{FaultKind, Multiprefix};
+
+/// The depth from which no call begins.
+const DEEPEST: u32 = 256;
+
+/// The bytes of a word.
+const WORD_BYTES: u32 = 4;
+
+/// Serves one request of a processor, or answers its fault, which changes nothing. It takes no
+/// memory. A read answers the word, a write its value, a multiprefix the former word, a request
+/// for a block its address or 0, and all others 0.
+pub fn serve(store: &mut Store32, request: Request, processor: u32) -> Result<u32, FaultKind>
+    requires processor { processor < processors_of store.old }
+    requires request { IsTrue (can_serve (room_of store.old) request) }
+    ensures served { answer_of result (store_of store.new)
+        ≡ served_by request (store_of store.old) processor }
+    ensures fault { OnErr result (store_of store.new ≡ store_of store.old) }
+    ensures room { KeepsRoom store.old store.new }
+{
+    match request {
+        Request::Read(address) => Ok(store.read(address, processor)),
+        Request::Write(address, value) => {
+            store.write(address, processor, value);
+            Ok(value)
+        }
+        Request::Multi(kind, address, value) => {
+            Ok(combine(store, kind, address, value, processor))
+        }
+        Request::Print(word) => {
+            store.print_number(word);
+            Ok(0)
+        }
+        Request::Byte(word) => {
+            store.print_byte(word);
+            Ok(0)
+        }
+        Request::Heap(bytes) => Ok(store.hire(words_of(bytes))),
+        Request::Check(address, shared_alone) => check(
+            may_use(shared_alone, address),
+            FaultKind::BadAddress,
+        ),
+        Request::Depth(depth) => check(depth < DEEPEST, FaultKind::CallDepth),
+    }
+}
+
+// A test that holds, or a fault.
+fn check(holds: bool, kind: FaultKind) -> Result<u32, FaultKind>
+    ensures { result ≡ (if holds then Ok 0 else Err kind) }
+{
+    if holds { Ok(0) } else { Err(kind) }
+}
+
+// A size in bytes, read as a signed number, in words.
+fn words_of(bytes: u32) -> u32
+    ensures { result ≡ words_in bytes }
+{
+    if bytes < 1 << 31 {
+        bytes.div_ceil(WORD_BYTES)
+    } else {
+        0
+    }
+}
+
+fn operator_of(by: Multiprefix) -> Op
+    ensures { result ≡ operator_by by }
+{
+    match by {
+        Multiprefix::MpAdd => Op::Add,
+        Multiprefix::MpMax => Op::MaxS,
+        Multiprefix::MpAnd => Op::And,
+        Multiprefix::MpOr => Op::Or,
+    }
+}
+
+// The former word.
+fn combine(store: &mut Store32, kind: u8, address: u32, value: u32, processor: u32) -> u32
+    requires processor { processor < processors_of store.old }
+    requires request { IsTrue (can_serve (room_of store.old) (Request.Multi kind address value)) }
+    ensures word { Served (store_of store.new) result
+        ≡ combined (multiprefix_of kind) (store_of store.old) processor address value }
+    ensures room { KeepsRoom store.old store.new }
+{
+    let Some(by) = Multiprefix::of_kind(kind) else {
+        return 0;
+    };
+    let former = store.read(address, processor);
+    store.write(address, processor, apply(operator_of(by), former, value));
+    former
+}

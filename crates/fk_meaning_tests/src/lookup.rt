@@ -1,0 +1,19 @@
+use fk_layout_lookup::Lookup;
+use fk_layout_walk::Known;
+use std::test::Fail;
+
+// Where memory is ample, the lookup of a text is made.
+#[test]
+fn a_text_of_nothing_is_looked_up(rt: HostRuntime) -> Result<(), Fail> {
+    let known = Known {
+        notes: &[],
+        kinds: &[],
+        slots: &[],
+        regions: &[],
+        items: &[],
+        callees: &[],
+        framed: &[],
+    };
+    let _lookup = Lookup::of(rt.alloc(), &known)?;
+    Ok(())
+}

@@ -1,0 +1,25 @@
+use fk_num::Op;
+use fk_meaning_operation::{FaultKind, Multiprefix, Operation, Split};
+
+// Operations with their kinds, and how they may fault.
+static OPERATIONS: [(Operation, u8, Option<FaultKind>); 7] = [
+    (Operation::Push(7), 1, None),
+    (Operation::Join(Op::Add, false), 7, None),
+    (Operation::Check(true), 12, Some(FaultKind::BadAddress)),
+    (Operation::Combine(Multiprefix::MpMax), 16, None),
+    (Operation::Block, 26, None),
+    (
+        Operation::Divide(Split::Loop),
+        27,
+        Some(FaultKind::GroupSpace),
+    ),
+    (Operation::Halt, 34, None),
+];
+
+#[test]
+fn operations_have_kinds_and_faults(rt: HostRuntime) {
+    for (operation, kind, fault) in &OPERATIONS {
+        assert!(rt; operation.kind() == *kind, "{operation:?}");
+        assert!(rt; operation.fault() == *fault, "{operation:?}");
+    }
+}

@@ -1,5 +1,0 @@
-use Rattle.fk_meeting.proofs.Leaving.{cycles_keep_arrivals}
-use Rattle.fk_meeting.proofs.laws.cycles_keep_arrivals.Goals as goal
-
-pub returns : goal.returns
-returns c = cycles_keep_arrivals

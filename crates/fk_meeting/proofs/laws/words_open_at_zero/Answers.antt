@@ -1,5 +1,0 @@
-use Rattle.fk_meeting.proofs.Between.{words_open_at_zero}
-use Rattle.fk_meeting.proofs.laws.words_open_at_zero.Goals as goal
-
-pub returns : goal.returns
-returns c = words_open_at_zero

@@ -1,8 +1,0 @@
-//! Laws of what names mean.
-
-ghost use Rattle.fk_names.specs.Laws.{MeansOnce};
-
-/// A token of a well-formed program has at most one meaning.
-pub fn one_meaning()
-    ensures { MeansOnce }
-{}

@@ -1,4 +1,0 @@
-pub mod Behind
-pub mod Shape
-pub mod Calls
-pub mod Shaped

@@ -1,5 +1,0 @@
-use Rattle.fk_nodes.proofs.Runs.{node_runs_join}
-use Rattle.fk_nodes.proofs.laws.node_runs_join.Goals as goal
-
-pub returns : goal.returns
-returns c = node_runs_join

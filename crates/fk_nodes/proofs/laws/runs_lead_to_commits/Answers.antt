@@ -1,5 +1,0 @@
-use Rattle.fk_nodes.proofs.Members as members
-use Rattle.fk_nodes.proofs.laws.runs_lead_to_commits.Goals as goal
-
-pub returns : goal.returns
-returns g c = members.runs_lead_to_commits g.row.S.Denot g.row.P.Denot g.row.D.Denot

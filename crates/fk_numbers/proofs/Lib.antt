@@ -1,4 +1,0 @@
-pub mod Holding
-pub mod Lexed
-pub mod Expressions
-pub mod Programs

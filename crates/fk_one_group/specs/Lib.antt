@@ -1,5 +1,0 @@
-pub mod Where
-pub mod Placed
-pub mod Steps
-pub mod Rounds
-pub mod Runs

@@ -1,4 +1,0 @@
-pub mod Held
-pub mod Beside
-pub mod Carried
-pub mod Lists

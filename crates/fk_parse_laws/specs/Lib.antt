@@ -1,0 +1,4 @@
+pub mod Words
+pub mod Trim
+pub mod Order
+pub mod Program

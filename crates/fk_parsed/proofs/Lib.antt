@@ -1,2 +1,0 @@
-mod Expressions
-mod Programs

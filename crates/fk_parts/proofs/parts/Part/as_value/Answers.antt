@@ -1,6 +1,0 @@
-use Rattle.fk_rules.proofs.LeastLemmas.{IsLeast-either}
-use Rattle.fk_parts.proofs.PartLemmas.{least-same}
-use Rattle.fk_parts.proofs.parts.Part.as_value.Goals as goal
-
-pub returns : goal.returns
-returns c = λ env term is. IsLeast-either _ _ _ _ _ is.fault (least-same _ _ _ _ _ _ c.fault_if-own.ensures is.first (cc)) c.first_of.ensures

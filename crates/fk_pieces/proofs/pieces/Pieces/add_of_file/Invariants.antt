@@ -1,9 +1,0 @@
--- The pieces so far, and those of what is left, are those before and those of all.
-use Rattle.std.proofs.Common.{◌≡◌, ◌++◌, map, drop}
-use Rattle.fk_syntax.specs.ProgramView.{declared_of}
-use Rattle.fk_pieces.specs.Pieces.{file_pieces}
-use Rattle.fk_pieces.specs.PiecesView.{pieces_in}
-use Rattle.fk_pieces.proofs.pieces.Pieces.add_of_file.Given as goal
-
-abbrev pub invariant-loop-variable : goal.invariant-loop-variable
-invariant-loop-variable l = pieces_in l.kept ++ file_pieces (map declared_of (drop l.variable-index l.variables)) ≡ pieces_in l.fn.kept ++ file_pieces (map declared_of l.variables)

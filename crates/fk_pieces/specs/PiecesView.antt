@@ -1,8 +1,0 @@
--- The pieces that are kept.
-use Rattle.std.specs.Prelude.{List, map}
-use Rattle.fk_pieces.specs.declared.pieces.Pieces.{Pieces}
-use Rattle.fk_pieces.specs.Pieces.{PieceTree}
-use Rattle.fk_pieces.specs.View.{piece_of}
-
-abbrev pub pieces_in : Pieces → List PieceTree
-pieces_in kept = map piece_of kept.list.items

@@ -1,5 +1,0 @@
-use Rattle.fk_plans.proofs.Pace.{who_meets_acts}
-use Rattle.fk_plans.proofs.laws.who_meets_acts.Goals as goal
-
-pub returns : goal.returns
-returns c = who_meets_acts

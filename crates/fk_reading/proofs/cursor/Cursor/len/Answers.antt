@@ -1,6 +1,0 @@
-use Rattle.std.proofs.Common.{sym}
-use Rattle.fk_reading.proofs.Cursors.{length-numbered}
-use Rattle.fk_reading.proofs.cursor.Cursor.len.Goals as goal
-
-pub returns : goal.returns
-returns c = rw (← c.self.view_is) (sym (length-numbered _ _))

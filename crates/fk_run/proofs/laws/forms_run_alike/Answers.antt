@@ -1,5 +1,0 @@
-use Rattle.fk_run.proofs.Span as span
-use Rattle.fk_run.proofs.laws.forms_run_alike.Goals as goal
-
-pub returns : goal.returns
-returns g c = span.forms_run_alike g.row.V.Denot g.row.W.Denot

@@ -1,5 +1,0 @@
-use Rattle.fk_run.proofs.GroupSteps as steps
-use Rattle.fk_run.proofs.laws.group_step.Goals as goal
-
-pub returns : goal.returns
-returns g c = steps.group_step g.row.W.Denot

@@ -1,5 +1,0 @@
-use Rattle.fk_run.proofs.Turns as turns
-use Rattle.fk_run.proofs.laws.requests_go_in_turn.Goals as goal
-
-pub returns : goal.returns
-returns g c = turns.requests_go_in_turn g.row.W.Denot

@@ -1,5 +1,0 @@
-mod Ok
-mod Forms
-pub mod Programs
-mod Examples
-pub mod FlatPrograms

@@ -1,5 +1,0 @@
-use Rattle.fk_shapes.proofs.FlatPrograms.{flat_programs_keep_runs}
-use Rattle.fk_shapes.proofs.laws.flat_programs_keep_runs.Goals as goal
-
-pub returns : goal.returns
-returns c = flat_programs_keep_runs

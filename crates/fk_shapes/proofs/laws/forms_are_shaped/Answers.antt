@@ -1,5 +1,0 @@
-use Rattle.fk_shapes.proofs.Programs.{forms_are_shaped}
-use Rattle.fk_shapes.proofs.laws.forms_are_shaped.Goals as goal
-
-pub returns : goal.returns
-returns c = forms_are_shaped

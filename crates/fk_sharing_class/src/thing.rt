@@ -1,0 +1,85 @@
+//! What names are, and which of them are shared.
+
+ghost use Rattle.std.specs.Prelude.{◌≡◌, map, slice_get};
+ghost use Rattle.fk_types_names.specs.View.{declaration_of};
+ghost use Rattle.fk_sharing_class.specs.Things.{thing_of, thing_in};
+ghost use Rattle.fk_sharing_class.specs.Class.{is_common, is_of_group, is_name_shared, is_named_call_shared};
+
+use fk_types_names::{Declaration, Meaning, Names};
+
+/// What a name in an expression is.
+#[derive(Clone, Copy)]
+pub enum Thing {
+    /// A variable or parameter with `sh`.
+    SharedVariable,
+    /// One without.
+    PrivateVariable,
+    /// A function of the text.
+    Function,
+    /// What is declared before each text.
+    Predeclared,
+}
+
+// What the declaration of a number declares.
+fn declared_thing(declarations: &[Declaration], number: u32) -> Option<Thing>
+    ensures { result ≡ thing_of (slice_get (map declaration_of declarations.now) number) }
+{
+    let at = number as usize;
+    if at >= declarations.len() {
+        return None;
+    }
+    match &declarations[at] {
+        Declaration::Variable(variable) if variable.shared => Some(Thing::SharedVariable),
+        Declaration::Variable(_) => Some(Thing::PrivateVariable),
+        Declaration::Function(_) => Some(Thing::Function),
+    }
+}
+
+/// What the token of an index is, where it is a name in an expression and means something.
+pub fn thing_at(names: &Names, token: u32) -> Option<Thing>
+    ensures { result ≡ thing_in names.now token }
+{
+    match names.meanings.get(token as usize).copied().flatten()? {
+        Meaning::Declared(number) => declared_thing(names.declared(), number),
+        Meaning::Predeclared => Some(Thing::Predeclared),
+        Meaning::Undeclared => None,
+    }
+}
+
+// Of the names that are declared before each text: whether one is a value, the same for all
+// processors.
+fn is_common(name: &[u8]) -> bool
+    ensures { result ≡ is_common name.now }
+{
+    name == b"__STARTED_PROCS__".as_slice()
+        || name == b"__inputs".as_slice()
+        || name == b"__input".as_slice()
+}
+
+// And whether its calls give a group one value.
+fn is_of_group(name: &[u8]) -> bool
+    ensures { result ≡ is_of_group name.now }
+{
+    name == b"groupsize".as_slice() || name == b"shalloc".as_slice()
+}
+
+/// Whether a name is shared, by what it is.
+pub fn is_name_shared(thing: Option<Thing>, name: &[u8]) -> bool
+    ensures { result ≡ is_name_shared thing name.now }
+{
+    match thing {
+        Some(Thing::SharedVariable) => true,
+        Some(Thing::Predeclared) => is_common(name),
+        Some(Thing::PrivateVariable | Thing::Function) | None => false,
+    }
+}
+
+/// Whether a call of a name is shared, by what it is.
+pub fn is_named_call_shared(thing: Option<Thing>, name: &[u8]) -> bool
+    ensures { result ≡ is_named_call_shared thing name.now }
+{
+    match thing {
+        Some(Thing::Predeclared) => is_of_group(name),
+        Some(Thing::SharedVariable | Thing::PrivateVariable | Thing::Function) | None => false,
+    }
+}

@@ -1,0 +1,8 @@
+-- the operation at an index
+pub mod Standing
+-- the law of blocks, made once
+pub mod Example
+-- members of a group in lockstep
+pub mod Together
+-- the law, made once
+pub mod GroupExample

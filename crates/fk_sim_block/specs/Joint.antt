@@ -1,0 +1,127 @@
+-- Operations that several do together by meeting at an arrival word, and how a member does so.
+use Rattle.std.specs.Prelude.{◌≡◌, ◌≢◌, ℕ, zero, suc, ◌+◌, ◌*◌, ◌%◌, ◌≤◌, List, Bool, true, false, Option, Some, ◌⊎◌}
+use Rattle.fk_num.specs.Word.{Memory, word_sum}
+use Rattle.fk_meaning_operation.specs.declared.operation.Operation.{Operation}
+use Rattle.fk_meaning_operation.specs.declared.operation.Operation.TheVariants.{Resume, Meet}
+use Rattle.fk_meaning.specs.Processor.{Setting}
+use Rattle.fk_core.specs.declared.op.CoreOp.{CoreOp}
+use Rattle.fk_image.specs.declared.Image.{Image}
+use Rattle.fk_machine.specs.Hart.{Hart, Setting as MachineSetting}
+use Rattle.fk_sim_nodes.specs.Node.{Member, Words}
+use Rattle.fk_sim_nodes.specs.Alone.{Holds, RunsPrivately, Stays, later, in_cycles}
+use Rattle.fk_sim_nodes.specs.Phase.{Phase, Outside, Away, Coming, Waiting, Leaving}
+use Rattle.fk_sim_block.specs.Owner.{Owner}
+use Rattle.fk_sim_block.specs.Stands.{Places, StandsAt}
+use Rattle.fk_sim_block.specs.Block.{Enters, gone_to}
+use Rattle.fk_sim_block.specs.Node.{Polling, Nestings, StandsInNode, OwnsHeader, barrier_word, closing_word}
+use Rattle.fk_sim_block.specs.Lockstep.{IsMember}
+
+-- a barrier, the end of a body, and where members wait for parts to end
+abbrev pub is_meeting : Operation → Bool
+is_meeting (Meet closing) = true
+is_meeting Resume = true
+is_meeting operation = false
+
+-- those who run a body meet at one word of the node, and all its members at another
+abbrev pub word_of : Operation → ℕ
+word_of (Meet false) = barrier_word
+word_of operation = closing_word
+
+-- how many they are
+abbrev pub AreSoMany : Operation → (runs : Option ℕ) → Owner → ℕ → Type 0
+AreSoMany (Meet false) runs p n = runs ≡ Some n
+AreSoMany operation runs p n = p.runner.has.level.size ≡ n
+
+-- how many steps lie between the poll that finds all and the commit
+abbrev pub lead : ℕ
+lead = 1
+
+-- how many steps a member takes at most to its arrival. Behind that it polls, finds all there and leaves in three cycles at most, so
+-- that it commits as soon as a block that does not meet (most_before)
+abbrev pub most_to_meet : ℕ
+most_to_meet = 67
+
+-- ---- one member
+
+-- it polls with all else that it had at first
+pub record Polls (polling : Polling) (first h : Hart) : Type 0 where
+  pub live : h.ended ≡ false
+  pub at : h.pc ≡ 4 * polling.at
+  pub local : h.local ≡ first.local
+  pub others : (register : ℕ) → polling.changes register ≡ false → h.registers register ≡ first.registers register
+
+module _ (image : Image) (word number : ℕ) where
+  -- its turn, an instruction of count c, leaves a value in the arrival word, and no other word changes. Then something holds
+  pub record TurnsTo (mine : Words) (t : MachineSetting) (c : ℕ) (h : Hart) (own : Memory) (value : ℕ) (Then : Hart → Type 0) : Type 0 where
+    pub hart : Hart
+    pub words : Memory
+    pub stays : Stays image mine t c (record { number = number; hart = h }) own hart words
+    pub arrivals : words word ≡ value
+    pub others : (i : ℕ) → i ≢ word → words i ≡ own i
+    pub follows : Then hart
+
+  -- so it is in every node that owns the word, by the value that its turn finds there
+  abbrev pub Turns : MachineSetting → (c : ℕ) → Hart → (leaves : ℕ → ℕ) → (Then : (found : ℕ) → Hart → Type 0) → Type 0
+  Turns t c h leaves Then =
+      (mine : Words) (own : Memory) → mine word ≡ true → TurnsTo mine t c h own (leaves (own word)) (λ h'. Then (own word) h')
+
+  -- n members meet. One that has left is as is told
+  module _ (polling : Polling) (first : Hart) (n : ℕ) (Left : Hart → Type 0) where
+    -- it adds 1, stores 0, or leaves the word
+    abbrev pub IsArriving : MachineSetting → Hart → Type 0
+    IsArriving t h = Turns t 0 h (λ v. word_sum v 1) (λ v h'. Polls polling first h')
+
+    -- leaving is an instruction of a count: the commit, or none
+    abbrev pub IsLeaving : (count : ℕ) → MachineSetting → Hart → Type 0
+    IsLeaving count t h = Turns t count h (λ v. 0) (λ v h'. Left h')
+
+    abbrev pub GoesToLeave : (count : ℕ) → MachineSetting → Hart → Type 0
+    GoesToLeave count t h = Turns t 0 h (λ v. v) (λ v h'. IsLeaving count (later t) h')
+
+    abbrev pub GoesToPoll : MachineSetting → Hart → Type 0
+    GoesToPoll t h = Turns t 0 h (λ v. v) (λ v h'. Polls polling first h')
+
+    -- it polls in odd cycles, and is back in the next odd one, or has found all of them there
+    abbrev pub KeepsPolling : (count : ℕ) → Type 0
+    KeepsPolling count =
+        (t : MachineSetting) (h : Hart) → Holds image t → t.finished % 2 ≡ 1 → Polls polling first h
+        → Turns t 0 h (λ v. v) (λ v h'. (v ≡ n → GoesToLeave count (later t) h') × (v ≢ n → GoesToPoll (later t) h'))
+
+    -- where it stands at the beginning of a cycle, by its phase
+    abbrev pub StandsByPhase : (count : ℕ) → MachineSetting → Phase → Hart → Type 0
+    StandsByPhase count t Outside h = ⊥
+    StandsByPhase count t Away h = ⊥
+    StandsByPhase count t (Coming d) h =
+        ((t.finished + d) % 2 ≡ 0) × ((arriving : Hart) × RunsPrivately image t number d h arriving × IsArriving (in_cycles d t) arriving)
+    StandsByPhase count t Waiting h = ((t.finished % 2 ≡ 1) × Polls polling first h) ⊎ ((t.finished % 2 ≡ 0) × GoesToPoll t h)
+    StandsByPhase count t (Leaving zero) h = (t.finished % 2 ≡ 1) × IsLeaving count t h
+    StandsByPhase count t (Leaving (suc zero)) h = (t.finished % 2 ≡ 0) × GoesToLeave count t h
+    StandsByPhase count t (Leaving (suc (suc d))) h = ⊥
+
+    -- where leaving is the commit
+    abbrev pub StandsInPhase : MachineSetting → Phase → Hart → Type 0
+    StandsInPhase t f h = StandsByPhase 1 t f h
+
+-- ---- the block of such an operation
+
+module _ (image : Image) (places : Places) (nestings : Nestings) (setting : Setting) (runs : Option ℕ) (i : ℕ) where
+  -- a member that has left stands for its processor at the next index
+  abbrev pub StandsBehind : Owner → Hart → Type 0
+  StandsBehind p h = StandsAt places (gone_to (suc i) p) h × StandsInNode places nestings setting runs (gone_to (suc i) p) h
+
+  -- a member of so many who meet at a word, in a phase
+  pub record MeetsAt (word n : ℕ) (t : MachineSetting) (f : Phase) (m : Member) (p : Owner) : Type 0 where
+    pub polling : Polling
+    pub first : Hart
+    pub code : Holds image t
+    pub polls : KeepsPolling image word m.number polling first n (StandsBehind p) 1
+    pub stands : StandsInPhase image word m.number polling first n (StandsBehind p) t f m.hart
+
+module _ (core : List CoreOp) (image : Image) (places : Places) (nestings : Nestings) (i : ℕ) (op : CoreOp) (operation : Operation) where
+  -- from the beginning of the block it arrives after so many private steps, in an even cycle
+  abbrev pub BlockMeets : (most : ℕ) → Type 0
+  BlockMeets most =
+      (setting : Setting) (t : MachineSetting) (mine : Words) (runs : Option ℕ) (first n : ℕ) (m : Member) (p : Owner)
+      → OwnsHeader mine first → Enters core image places setting t i op operation p m.hart → IsMember places nestings setting runs first m p
+      → AreSoMany operation runs p n
+      → (d : ℕ) × (d ≤ most) × MeetsAt image places nestings setting runs i (first + word_of operation) n t (Coming d) m p

@@ -1,0 +1,13 @@
+pub mod Owner
+pub mod Stands
+pub mod Next
+pub mod Ready
+pub mod Suits
+pub mod Block
+pub mod Lists
+pub mod Node
+pub mod Lockstep
+pub mod Joint
+pub mod Start
+pub mod Law
+pub mod Laws

@@ -1,0 +1,51 @@
+-- Lists whose runs a law of blocks carries, beside that they are well formed.
+use Rattle.std.specs.Prelude.{◌≡◌, ℕ, ◌<◌, List, [], length, Bool, true, false, All, slice_get, Some, None, ◌⊎◌}
+use Rattle.fk_meaning_operation.specs.declared.operation.Operation.{Operation}
+use Rattle.fk_meaning_operation.specs.declared.operation.Operation.TheVariants.{Leave, Halt}
+use Rattle.fk_meaning.specs.Processor.{setting_of}
+use Rattle.fk_meaning.specs.Round.{Runner}
+use Rattle.fk_meaning.specs.Schedule.{Schedule, run, IsLawful}
+use Rattle.fk_core.specs.declared.op.CoreOp.{CoreOp}
+use Rattle.fk_core.specs.Numbers.{operation_of}
+use Rattle.fk_core.specs.Next.{Position, is_jump, landing, follows, next, list_opening}
+use Rattle.fk_core.specs.WellFormed.{IsOperation}
+use Rattle.fk_sim_block.specs.Ready.{is_alone, MayDo}
+
+-- an index and those to which calls return are in the list
+pub record StaysInList (core : List CoreOp) (w : Position) : Type 0 where
+  pub at : w.at < length core
+  pub callers : All (λ i. i < length core) w.callers
+
+-- the end of a call, and that of `main`
+abbrev pub is_end : Operation → Bool
+is_end (Leave gives framed) = true
+is_end Halt = true
+is_end operation = false
+
+-- a list of operations that processors without groups do
+pub record IsFree (core : List CoreOp) : Type 0 where
+  -- a jump leads to an operation
+  pub jumps : (i : ℕ) (op : CoreOp) → slice_get core i ≡ Some op → is_jump op ≡ true
+      → IsOperation core op.target
+  -- all others are operations without a group, or a halt
+  pub alone : (i : ℕ) (op : CoreOp) (operation : Operation) → slice_get core i ≡ Some op
+      → operation_of op.kind op.number ≡ Some operation → (is_alone operation ≡ true) ⊎ (operation ≡ Halt)
+  -- no operation but an end goes on outside the list
+  pub within : (i : ℕ) (op : CoreOp) (operation : Operation) → slice_get core i ≡ Some op
+      → operation_of op.kind op.number ≡ Some operation → is_end operation ≡ false
+      → (onward : Bool) → StaysInList core (follows core operation i op.target [] onward)
+
+-- in every run, whenever a processor is about to do an operation, it may
+abbrev pub AlwaysMay : List CoreOp → (main : ℕ) → Type 0
+AlwaysMay core main =
+    (words firsts input : List ℕ) (p : ℕ) (schedule : Schedule)
+    → let setting = setting_of p words input in
+    let first = list_opening main words firsts input p in
+    let state = run (next core) setting schedule first in
+    IsLawful (next core) setting schedule first
+    → state.fault ≡ None
+    → (h : ℕ) (r : Runner Position) (op : CoreOp) (operation : Operation)
+    → slice_get state.runners h ≡ Some r
+    → slice_get core (landing core r.left.at) ≡ Some op
+    → operation_of op.kind op.number ≡ Some operation
+    → MayDo operation r

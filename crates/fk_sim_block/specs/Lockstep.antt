@@ -1,0 +1,159 @@
+-- Steps of the tree that all members of a group do in lockstep.
+use Rattle.std.specs.Prelude.{◌≡◌, ℕ, ◌+◌, ◌==◌, List, [], ◌∷◌, map, true, false, Option, Some, None, if◌then◌else◌}
+use Rattle.fk_num.specs.Word.{Memory}
+use Rattle.fk_meaning_operation.specs.declared.operation.Operation.{Operation}
+use Rattle.fk_meaning_operation.specs.declared.operation.Operation.TheVariants.{Agree, Begin, End}
+use Rattle.fk_meaning.specs.Processor.{Level, Setting, values, last}
+use Rattle.fk_meaning.specs.Round.{taking}
+use Rattle.fk_meaning.specs.Group.{does, goes_onward}
+use Rattle.fk_core.specs.declared.op.CoreOp.{CoreOp}
+use Rattle.fk_core.specs.Next.{follows}
+use Rattle.fk_image.specs.declared.Image.{Image}
+use Rattle.fk_machine.specs.Hart.{Hart, Setting as MachineSetting}
+use Rattle.fk_sim_nodes.specs.Node.{Member, Words}
+use Rattle.fk_sim_nodes.specs.Alone.{NodeRun, RunsPrivately, later, in_cycles}
+use Rattle.fk_sim_nodes.specs.Together.{Together}
+use Rattle.fk_sim_nodes.specs.OnePlace.{last_or}
+use Rattle.fk_sim_block.specs.Owner.{Owner, Doing, number_of, core_source}
+use Rattle.fk_sim_block.specs.Stands.{Places, StandsAt}
+use Rattle.fk_sim_block.specs.Next.{step_at}
+use Rattle.fk_sim_block.specs.Block.{Enters}
+use Rattle.fk_sim_block.specs.Node.{Nestings, StandsInNode, OwnsHeader, first_word, root_words, agreed_word}
+
+-- how many values a step of a group looks at
+abbrev pub values_of_step : Operation → ℕ
+values_of_step Agree = 1
+values_of_step Begin = 1
+values_of_step operation = 0
+
+-- the last value of the highest of some processors in ascending number
+abbrev pub highest_value : List Owner → ℕ
+highest_value ps = last_or 0 (map (λ p. last (values p.runner.has)) ps)
+
+-- a call goes on at another index with the same levels in its frame
+pub record LevelsStay (nestings : Nestings) (i j : ℕ) : Type 0 where
+  pub levels : nestings.levels j ≡ nestings.levels i
+  pub behind : nestings.behind j ≡ nestings.behind i
+
+-- all are of a group of this size
+abbrev pub AreOfSize : (size : ℕ) → List Owner → Type 0
+AreOfSize size [] = Unit {0}
+AreOfSize size (p ∷ ps) = (p.runner.has.level.size ≡ size) × AreOfSize size ps
+
+-- the first of them, and no other, is the one with this number
+abbrev pub NoneIs : (number : ℕ) → List Owner → Type 0
+NoneIs n [] = Unit {0}
+NoneIs n (p ∷ ps) = ((number_of p == n) ≡ false) × NoneIs n ps
+
+abbrev pub IsLowest : (number : ℕ) → List Owner → Type 0
+IsLowest n [] = Unit {0}
+IsLowest n (p ∷ ps) = ((number_of p == n) ≡ true) × NoneIs n ps
+
+-- it alone runs the body
+abbrev pub one_runs : (lowest : ℕ) → Owner → Option ℕ
+one_runs lowest p = if number_of p == lowest then Some 1 else None
+
+module _ (core : List CoreOp) (i : ℕ) (op : CoreOp) (operation : Operation) where
+  -- a processor that takes part with the step, which is done once all have
+  abbrev pub is_due : Owner → Doing
+  is_due p = record { acting = taking p.runner (Some (step_at core i op operation p.runner.left.callers)); heap = p.heap }
+
+  -- what the step makes of it, where the last value of the highest member, the lowest member and the size of its group
+  -- behind the step are known
+  abbrev pub stepped : (highest lowest size : ℕ) → Owner → Owner
+  stepped highest lowest size p = record {
+    runner = record {
+      left = follows core operation i op.target p.runner.left.callers (goes_onward operation highest lowest p.runner.has);
+      has = does operation highest size p.runner.has;
+    };
+    heap = p.heap;
+  }
+
+module _ (places : Places) (nestings : Nestings) (setting : Setting) where
+  -- a member stands for its processor in the node whose first control word this is
+  pub record IsMember (runs : Option ℕ) (begin : ℕ) (m : Member) (p : Owner) : Type 0 where
+    pub number : m.number ≡ number_of p
+    pub at : StandsAt places p m.hart
+    pub node : StandsInNode places nestings setting runs p m.hart
+    pub words : first_word p.runner.has.level p.runner.has.outer ≡ begin
+
+  -- so does each, which may run a body of its own
+  abbrev pub AreMembers : (runs : Owner → Option ℕ) → (begin : ℕ) → List Member → List Owner → Type 0
+  AreMembers runs begin [] [] = Unit {0}
+  AreMembers runs begin (m ∷ ms) (p ∷ ps) = IsMember (runs p) begin m p × AreMembers runs begin ms ps
+  AreMembers runs begin ms ps = ⊥
+
+  -- so many private instructions lead a member, by itself, to where it stands for its processor
+  pub record ComesAlone (image : Image) (t : MachineSetting) (behind : ℕ) (runs : Option ℕ) (begin : ℕ) (m : Member) (p : Owner) : Type 0 where
+    pub hart : Hart
+    pub private : RunsPrivately image t m.number behind m.hart hart
+    pub member : IsMember runs begin (record m { hart = hart }) p
+
+  abbrev pub AllComeAlone : Image → MachineSetting → (behind : ℕ) → (runs : Owner → Option ℕ) → (begin : ℕ) → List Member → List Owner → Type 0
+  AllComeAlone image t behind runs begin [] [] = Unit {0}
+  AllComeAlone image t behind runs begin (m ∷ ms) (p ∷ ps) = ComesAlone image t behind (runs p) begin m p × AllComeAlone image t behind runs begin ms ps
+  AllComeAlone image t behind runs begin ms ps = ⊥
+
+module _ (core : List CoreOp) (image : Image) (places : Places) (nestings : Nestings) (i : ℕ) (op : CoreOp) (operation : Operation) where
+  -- all members come to the step in one cycle
+  abbrev pub AllEnter : Setting → MachineSetting → (runs : Option ℕ) → (first : ℕ) → List Member → List Owner → Type 0
+  AllEnter setting t runs first [] [] = Unit {0}
+  AllEnter setting t runs first (m ∷ ms) (p ∷ ps) =
+      Enters core image places setting t i op operation p m.hart × IsMember places nestings setting runs first m p
+      × AllEnter setting t runs first ms ps
+  AllEnter setting t runs first ms ps = ⊥
+
+  -- all members stand where their processors go on, and no control word has changed but that of what is agreed
+  pub record HaveStepped (setting : Setting) (runs : Owner → Option ℕ) (first lowest size : ℕ) (ps : List Owner) (before : Memory) (ms : List Member) (own : Memory) : Type 0 where
+    pub members : AreMembers places nestings setting runs first ms (map (stepped core i op operation (highest_value ps) lowest size) ps)
+    pub others : (j : ℕ) → (j ≡ first + agreed_word → ⊥) → own j ≡ before j
+
+  -- where something is so of the members, after so many cycles all commit in one, and after so many more they have done the
+  -- step
+  abbrev pub StepTogether : (List Owner → Type 0) → (before behind : ℕ) → (runs : Option ℕ) → (runs' : Owner → Option ℕ) → (lowest size : ℕ) → Type 0
+  StepTogether Asked before behind runs runs' lowest size =
+      (setting : Setting) (t : MachineSetting) (mine : Words) (first : ℕ) (ms : List Member) (ps : List Owner) (own : Memory)
+      → OwnsHeader mine first → AllEnter setting t runs first ms ps → Asked ps
+      → Together (core_source core setting) image mine t 1 before ms ps own
+      (λ ms' ds own'. (ds ≡ map (is_due core i op operation) ps)
+      × NodeRun image mine (later (in_cycles before t)) behind ms' own' (λ ms'' own''. HaveStepped setting runs' first lowest size ps own ms'' own''))
+
+  -- behind their common commit each comes by itself to where its processor goes on, and no control word has changed but that of
+  -- what is agreed
+  pub record HaveParted (setting : Setting) (t : MachineSetting) (behind : ℕ) (runs : Owner → Option ℕ) (first lowest size : ℕ) (ps : List Owner) (before : Memory) (ms : List Member) (own : Memory) : Type 0 where
+    pub come : AllComeAlone places nestings setting image t behind runs first ms (map (stepped core i op operation (highest_value ps) lowest size) ps)
+    pub others : (j : ℕ) → (j ≡ first + agreed_word → ⊥) → own j ≡ before j
+
+  -- the same of a step behind which they are in lockstep no more
+  abbrev pub PartTogether : (List Owner → Type 0) → (before behind : ℕ) → (runs : Option ℕ) → (runs' : Owner → Option ℕ) → (lowest size : ℕ) → Type 0
+  PartTogether Asked before behind runs runs' lowest size =
+      (setting : Setting) (t : MachineSetting) (mine : Words) (first : ℕ) (ms : List Member) (ps : List Owner) (own : Memory)
+      → OwnsHeader mine first → AllEnter setting t runs first ms ps → Asked ps
+      → Together (core_source core setting) image mine t 1 before ms ps own
+      (λ ms' ds own'. (ds ≡ map (is_due core i op operation) ps) × HaveParted setting (later (in_cycles before t)) behind runs' first lowest size ps own ms' own')
+
+-- no level stands in the frames of these calls
+abbrev pub NoneSaved : Nestings → List ℕ → Type 0
+NoneSaved nestings [] = Unit {0}
+NoneSaved nestings (i ∷ indices) = (nestings.levels i ≡ 0) × NoneSaved nestings indices
+
+-- a processor is in the group of `start`: the root alone is round it
+pub record IsInStart (nestings : Nestings) (p : Owner) : Type 0 where
+  pub root : Level
+  pub outer : p.runner.has.outer ≡ root ∷ []
+  pub none : NoneSaved nestings (p.runner.left.at ∷ p.runner.left.callers)
+
+abbrev pub AreInStart : Nestings → List Owner → Type 0
+AreInStart nestings [] = Unit {0}
+AreInStart nestings (p ∷ ps) = IsInStart nestings p × AreInStart nestings ps
+
+module _ (core : List CoreOp) (image : Image) (places : Places) (nestings : Nestings) (i : ℕ) (op : CoreOp) where
+  -- all members commit in this cycle, and so many later each stands by itself in the root. All words are as they were
+  abbrev pub EndTogether : (behind : ℕ) → (lowest size : ℕ) → Type 0
+  EndTogether behind lowest size =
+      (setting : Setting) (t : MachineSetting) (mine : Words) (first : ℕ) (ms : List Member) (ps : List Owner) (own : Memory)
+      → AllEnter core image places nestings i op End setting t None first ms ps → AreInStart nestings ps
+      → Together (core_source core setting) image mine t 1 0 ms ps own
+      (λ ms' ds own'. (ds ≡ map (is_due core i op End) ps)
+      × (AllComeAlone places nestings setting image (later t) behind (λ p. Some setting.processors) root_words ms' (map (stepped core i op End (highest_value ps) lowest size) ps)
+      × (own' ≡ own)))

@@ -1,0 +1,92 @@
+-- Lists that suit frames: words that are read were kept or written, and values have room beside the words that are kept.
+use Rattle.std.specs.Prelude.{◌≡◌, ℕ, suc, ◌+◌, ◌-◌, ◌==◌, ◌<◌, ◌≤◌, List, [], slice_get, Bool, true, false, Some}
+use Rattle.fk_meaning_operation.specs.declared.operation.Known.{Known}
+use Rattle.fk_meaning_operation.specs.declared.operation.Known.TheVariants.{Value}
+use Rattle.fk_meaning_operation.specs.declared.operation.Operation.{Operation}
+use Rattle.fk_meaning_operation.specs.declared.operation.Operation.TheVariants.{Push, Get, Set, DropLast, CopyLast, Apply, Join, Index, Branch, Take, Leave, Check, Read, Write, Combine, PrintNumber, PrintByte, Enter, Halt}
+use Rattle.fk_meaning_operation.specs.declared.operation.Variable.TheVariants.{Private, OfFile}
+use Rattle.fk_core.specs.declared.op.CoreOp.{CoreOp}
+use Rattle.fk_core.specs.Next.{is_jump, follows}
+use Rattle.fk_sim_block.specs.Next.{StandsOp}
+use Rattle.fk_sim_block.specs.Stands.{Frames, HasRoom, ahead}
+
+-- how many values an operation looks at
+abbrev pub looks_at : Operation → ℕ
+looks_at (Set variable) = 1
+looks_at DropLast = 1
+looks_at CopyLast = 1
+looks_at (Apply sign) = 1
+looks_at (Join sign turned) = 2
+looks_at (Index size) = 2
+looks_at (Branch onward) = 1
+looks_at Take = 1
+looks_at (Leave true framed) = 1
+looks_at (Check shared_alone) = 1
+looks_at Read = 1
+looks_at Write = 2
+looks_at (Combine by) = 2
+looks_at PrintNumber = 1
+looks_at PrintByte = 1
+looks_at (Enter arguments) = arguments
+looks_at operation = 0
+
+-- which private words of the call an operation writes
+abbrev pub writes : Operation → (word : ℕ) → Bool
+writes (Set (Private i)) word = word == i
+writes operation word = false
+
+abbrev pub nothing : (word : ℕ) → Bool
+nothing word = false
+
+module _ (core : List CoreOp) (frames : Frames) where
+  -- from an index the call goes on at another: what is kept there was kept before, or is written meanwhile
+  pub record Flows (written : (word : ℕ) → Bool) (i j : ℕ) : Type 0 where
+    pub main : frames.is_main j ≡ frames.is_main i
+    pub kept : (word : ℕ) → frames.keeps j word ≡ true → written word ≡ false → frames.keeps i word ≡ true
+
+  -- a call, which begins at the next index, with a jump. A frame has room for the private words that are kept there: its
+  -- arguments, and others, which begin as 0. Behind the jump there is room for a result in place of the arguments
+  pub record Calls (arguments i depth : ℕ) : Type 0 where
+    pub entry : CoreOp
+    pub stands : slice_get core (suc i) ≡ Some entry
+    pub leads : is_jump entry ≡ true
+    pub few : arguments ≤ 56
+    pub inside : frames.is_main (suc i) ≡ false
+    pub kept : (word : ℕ) → frames.keeps (suc i) word ≡ true → word < 56
+    pub back : Flows nothing i (suc (suc i))
+    pub room : HasRoom frames (suc (suc i)) (suc (depth - arguments))
+
+  -- where the call goes on behind an operation
+  abbrev pub GoesOn : Operation → (i target depth : ℕ) → Type 0
+  GoesOn (Enter arguments) i target depth = Calls arguments i depth
+  GoesOn (Leave gives framed) i target depth = frames.is_main i ≡ false
+  GoesOn Halt i target depth = frames.is_main i ≡ true
+  GoesOn operation i target depth = (onward : Bool) → Flows (writes operation) i (follows core operation i target [] onward).at
+
+  -- a word that is read is there, and one that is written lies below the values. There is room for a value that is pushed
+  abbrev pub IsThere : Known → (i : ℕ) → Type 0
+  IsThere (Value (Private word)) i = frames.keeps i word ≡ true
+  IsThere (Value (OfFile word)) i = word < frames.of_file
+  IsThere known i = Unit {0}
+
+  abbrev pub HasPlace : Operation → (i depth : ℕ) → Type 0
+  HasPlace (Push n) i depth = HasRoom frames i (suc depth)
+  HasPlace CopyLast i depth = HasRoom frames i (suc depth)
+  HasPlace (Get known) i depth = IsThere known i × HasRoom frames i (suc depth)
+  HasPlace (Set (Private word)) i depth = ahead frames (frames.is_main i) + 7 + word + depth < 64
+  HasPlace (Set (OfFile word)) i depth = word < frames.of_file
+  HasPlace operation i depth = Unit {0}
+
+  pub record Fits (i : ℕ) (op : CoreOp) (operation : Operation) : Type 0 where
+    pub values : looks_at operation ≤ op.depth
+    pub few : op.depth ≤ 56
+    pub room : HasRoom frames i op.depth
+    pub place : HasPlace operation i op.depth
+    pub goes_on : GoesOn operation i op.target op.depth
+
+  -- so it is with every jump and every operation of the list, from its beginning on
+  pub record Suits (main : ℕ) : Type 0 where
+    pub begins : frames.is_main main ≡ true
+    pub few : frames.of_file ≤ 56
+    pub jumps : (i : ℕ) (op : CoreOp) → slice_get core i ≡ Some op → is_jump op ≡ true → Flows nothing i op.target
+    pub fits : (i : ℕ) (op : CoreOp) (operation : Operation) → StandsOp core i op operation → Fits i op operation

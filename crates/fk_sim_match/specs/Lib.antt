@@ -1,0 +1,12 @@
+pub mod Stage
+pub mod Plan
+pub mod Cycle
+pub mod Pace
+pub mod Change
+pub mod Words
+pub mod Nodes
+pub mod Behind
+pub mod Uniting
+pub mod Laws
+pub mod Rounds
+pub mod Standing

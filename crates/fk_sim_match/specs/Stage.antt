@@ -1,0 +1,91 @@
+-- How a hart stands before a cycle, and what that says of its count in the round.
+use Rattle.std.specs.Prelude.{◌==◌, Bool, true, false, cond, ◌≡◌, ℕ, zero, suc, List, [], ◌∷◌, Option, Some, None, map}
+use Rattle.fk_sim_nodes.specs.Phase.{Phase, Outside, Away, Leaving}
+
+-- how those who meet leave: it is the commit of each; or they unite, and go on together to a commit behind it
+pub data Ending : Type 0 where
+  Commits : Ending
+  Unites : Ending
+
+-- a hart has ended; it commits in so many cycles, by itself or with its group; or it is in a phase of a joint block, at an
+-- arrival word
+pub data Stage : Type 0 where
+  Ended : Stage
+  Acts : (distance : ℕ) → Stage
+  Meets : (ending : Ending) (word : ℕ) (phase : Phase) → Stage
+
+-- in how many cycles it commits; none where it has ended, waits for others, or is to unite with them
+abbrev pub commits_in : Ending → (distance : ℕ) → Option ℕ
+commits_in Commits d = Some d
+commits_in Unites d = None
+
+abbrev pub distance_by : Ending → Phase → Option ℕ
+distance_by e (Leaving d) = commits_in e d
+distance_by e f = None
+
+abbrev pub distance : Stage → Option ℕ
+distance Ended = None
+distance (Acts d) = Some d
+distance (Meets e w f) = distance_by e f
+
+-- who commits now is in the round
+abbrev pub count_for : Option ℕ → ℕ
+count_for None = 0
+count_for (Some zero) = 1
+count_for (Some (suc d)) = 0
+
+abbrev pub count_of_stage : Stage → ℕ
+count_of_stage s = count_for (distance s)
+
+abbrev pub counts_for : List Stage → List ℕ
+counts_for stages = map count_of_stage stages
+
+-- a distance falls by one in a cycle. Who commits, waits or has ended may come to any
+abbrev pub Nears : Option ℕ → Option ℕ → Type 0
+Nears (Some (suc d)) d' = d' ≡ Some d
+Nears d d' = Unit {0}
+
+-- elements of two lists are related, each with the one in its place
+abbrev pub Pairwise : {A B : Type 0} → (A → B → Type 0) → List A → List B → Type 0
+Pairwise R [] [] = Unit {0}
+Pairwise R (x ∷ xs) (y ∷ ys) = R x y × Pairwise R xs ys
+Pairwise R xs ys = ⊥
+
+abbrev pub AllNear : List Stage → List Stage → Type 0
+AllNear stages stages' = Pairwise (λ s s'. Nears (distance s) (distance s')) stages stages'
+
+-- who does not commit stays at its operation
+abbrev pub SameKind : Stage → Stage → Type 0
+SameKind Ended Ended = Unit {0}
+SameKind (Acts d) (Acts d') = Unit {0}
+SameKind (Meets e w f) (Meets e' v f') = (e' ≡ e) × (v ≡ w)
+SameKind s s' = ⊥
+
+-- it is over with this cycle: the hart commits, or has met all those with whom it unites
+abbrev pub IsOver : Stage → Type 0
+IsOver (Meets Unites w f) = f ≡ Leaving 0
+IsOver s = distance s ≡ Some 0
+
+abbrev pub is_over : Stage → Bool
+is_over (Acts zero) = true
+is_over (Meets e w (Leaving zero)) = true
+is_over s = false
+
+-- what a cycle leaves of a stage, none where it is over
+abbrev pub Remains : Stage → Option Stage → Type 0
+Remains s None = IsOver s
+Remains s (Some s') = (count_of_stage s ≡ 0) × Nears (distance s) (distance s') × SameKind s s' × (is_over s ≡ false)
+
+-- stages that all keep
+abbrev pub kept : List Stage → List (Option Stage)
+kept stages = map (λ s. Some s) stages
+
+-- one who is in no phase at an arrival word is away, if it is a member of those who meet there
+abbrev pub absent : (member : Bool) → Phase
+absent true = Away
+absent false = Outside
+
+-- the phase of a hart at an arrival word
+abbrev pub phase_of : (word : ℕ) → (member : Bool) → Option Stage → Phase
+phase_of w member (Some (Meets e v f)) = cond (v == w) f (absent member)
+phase_of w member a = absent member

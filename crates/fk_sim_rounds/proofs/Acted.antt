@@ -1,0 +1,111 @@
+-- A group in lockstep that has done a step of the tree, behind which each of its members goes on by itself.
+use Rattle.std.proofs.Common.{◌≡◌, ℕ, suc, ◌≤◌, List, [], ◌∷◌, length, Option, Bool, true, false, ap, subst, ◌∙◌, refl, ◌⊎◌, inl, inr, ⊎_elim, eq-eqb}
+use Rattle.std.specs.Prelude.{◌==◌, map}
+use Rattle.std.proofs.lemmas.Bool.{false≢true}
+use Rattle.fk_num.specs.Word.{Memory}
+use Rattle.fk_tree.specs.Tree.{Tree}
+use Rattle.fk_meaning_operation.specs.declared.operation.Operation.{Operation}
+use Rattle.fk_meaning_operation.specs.declared.operation.Operation.TheVariants.{Begin, Agree, End}
+use Rattle.fk_meaning.specs.Processor.{Setting}
+use Rattle.fk_core.specs.declared.op.CoreOp.{CoreOp}
+use Rattle.fk_image.specs.declared.Image.{Image}
+use Rattle.fk_machine.specs.Hart.{Hart, Setting as MachineSetting}
+use Rattle.fk_sim_nodes.specs.Node.{Member, numbered, add, of_node, AreAsMany}
+use Rattle.fk_sim_match.specs.Stage.{Stage}
+use Rattle.fk_sim_match.specs.Plan.{Plan, Blocks}
+use Rattle.fk_sim_match.specs.Cycle.{AllHaveCommitted, GroupIsLeft}
+use Rattle.fk_lockstep.specs.Untouched.{changes_tree}
+use Rattle.fk_sim_block.specs.Owner.{Owner, Doing, idle, core_source}
+use Rattle.fk_sim_block.specs.Stands.{Places}
+use Rattle.fk_sim_block.specs.Block.{most_behind}
+use Rattle.fk_sim_block.specs.Node.{Nestings}
+use Rattle.fk_sim_block.specs.Lockstep.{is_due}
+use Rattle.fk_sim_match.specs.Behind.{HaveParted, HaveEnded, HaveBegun, AllHaveGone, IsGroupBehind, blocks_of}
+use Rattle.fk_sim_rounds.specs.After.{DoesStep, ArePlaces}
+use Rattle.fk_sim_rounds.proofs.Lists.{run_end}
+use Rattle.fk_sim_rounds.proofs.Harts.{AllAre}
+use Rattle.fk_sim_rounds.proofs.Changed.{Here}
+use Rattle.fk_sim_rounds.proofs.Close.{AllDo}
+
+-- ---- what two lists say, element by element
+
+abbrev pub Both : (Member → Doing → Type 0) → List Member → List Doing → Type 0
+Both Own [] [] = Unit {0}
+Both Own (m ∷ ms) (d ∷ ds) = Own m d × Both Own ms ds
+Both Own ms ds = ⊥
+
+both_parts : (Own : Member → Doing → Type 0) (b : Bool) (m : Member) (ms : List Member) (d : Doing) (ds : List Doing) → Both Own (add b m ms) (add b d ds)
+    → (b ≡ true → Own m d) × Both Own ms ds
+both_parts Own true m ms d ds all = (λ e. all.0, all.1)
+both_parts Own false m ms d ds all = (λ e. absurd (false≢true e), all)
+
+-- what is so of those of a node is so of each hart that stands there
+pub spread : (old : Tree) (Own : Member → Doing → Type 0) (g number : ℕ) (ns : List ℕ) (hs : List Hart) (ds : List Doing) → ArePlaces old number ns → AreAsMany ns hs ds
+    → Both Own (of_node g ns (numbered number hs)) (of_node g ns ds) → AllAre (Here old g Own) number hs ds
+spread old Own g number [] [] [] places many all = tt
+spread old Own g number (n ∷ ns) (h ∷ hs) (d ∷ ds) places many all =
+    let m : Member = record { number = number; hart = h } in
+    let parts = both_parts Own (n == g) m (of_node g ns (numbered (suc number) hs)) d (of_node g ns ds) all in
+    (λ e. parts.0 (eq-eqb n g (places.0 ∙ e)), spread old Own g (suc number) ns hs ds places.1 many parts.1)
+spread old Own g number ns hs ds places many all = absurd (assumption many)
+
+-- ---- what the step has left
+
+-- none of them does nothing, or something else
+not_idle : (operation : Operation) (ps : List Owner) (ds : List Doing) → AllDo operation ds → ds ≡ map idle ps → length ds ≡ 0
+not_idle operation ps [] do' e = refl
+not_idle operation [] (d ∷ ds) do' e = absurd (cc)
+not_idle operation (p ∷ ps) (d ∷ ds) do' e =
+    let same : d ≡ idle p = cc in absurd (subst (λ x. DoesStep operation x.acting.due) same do'.0)
+
+first_does : (core : List CoreOp) (i : ℕ) (op : CoreOp) (operation done : Operation) (ps : List Owner) → AllDo operation (map (is_due core i op done) ps) → (length (map (is_due core i op done) ps) ≡ 0 → ⊥)
+    → done ≡ operation
+first_does core i op operation done [] do' some = absurd (some refl)
+first_does core i op operation done (p ∷ ps) do' some = do'.0
+
+module _ (core : List CoreOp) (image : Image) (places : Places) (nestings : Nestings) (setting : Setting) (plan : Plan) (first : ℕ → ℕ) (t : MachineSetting) (g : ℕ)
+    (afters : List (Option Stage)) (ms : List Member) (ps : List Owner) (ds : List Doing) (own : Memory) (operation : Operation)
+    (all_step : AllDo operation ds) (some : length ds ≡ 0 → ⊥) (changes : changes_tree operation ≡ true) where
+  abbrev blocks : Blocks Owner Doing
+  blocks = blocks_of core image places nestings setting plan first
+
+  -- each goes on in the node, the group has ended, or one has begun
+  pub record Acted : Type 0 where
+    pub committed : AllHaveCommitted afters
+    pub cycles_behind : ℕ
+    pub few : cycles_behind ≤ most_behind
+    pub how : ((x : HaveParted core image places nestings setting (first g) t cycles_behind ds ms own) × (x.operation ≡ operation))
+        ⊎ ((HaveEnded core image places nestings setting (first g) t cycles_behind ds ms own × (End ≡ operation))
+        ⊎ (HaveBegun core image places nestings setting t ds ms own × (Begin ≡ operation)))
+
+  does_it : (i : ℕ) (op : CoreOp) (done : Operation) (xs : List Owner) → ds ≡ map (is_due core i op done) xs → done ≡ operation
+  does_it i op done xs e = first_does core i op operation done xs (subst (AllDo operation) e all_step) (λ none. some (ap (λ l. length l) e ∙ none))
+
+  -- they have not gone on alone, and have not agreed
+  none_gone : (ms' : List Member) (xs : List Doing) → AllDo operation xs → (length xs ≡ 0 → ⊥) → AllHaveGone core image places nestings setting ms' xs → ⊥
+  none_gone [] [] do' some' gone = some' refl
+  none_gone (m ∷ ms') (d ∷ xs) do' some' gone = subst (DoesStep operation) gone.0.done.done.done do'.0
+  none_gone ms' xs do' some' gone = absurd (assumption gone)
+
+  no_agree : Agree ≡ operation → ⊥
+  no_agree e = let same = ap changes_tree e ∙ changes in absurd (cc)
+
+  pub acted : GroupIsLeft (core_source core setting) image plan blocks t g afters ms ps ds own → Acted
+  acted (inr x) = absurd (some (not_idle operation ps ds all_step x.2))
+  acted (inl x) =
+      ⊎_elim
+      (λ led.
+      let end = run_end image (plan.words g) t x.1.0 ms own (λ ms' own'. IsGroupBehind core image places nestings setting (first g) ds ms' own') led in
+      absurd (⊎_elim (λ gone. none_gone end.0 ds all_step some gone) (λ agreed. no_agree (does_it agreed.i agreed.op Agree agreed.ps agreed.due)) end.2.1))
+      (λ other.
+      record {
+        committed = x.0;
+        cycles_behind = x.1.0;
+        few = x.1.1;
+        how = ⊎_elim (λ apart. inl (apart, does_it apart.i apart.op apart.operation apart.ps apart.due))
+            (λ another.
+            inr
+            (⊎_elim (λ ended. inl (ended, does_it ended.i ended.op End ended.ps ended.due)) (λ begun. inr (begun, does_it begun.i begun.op Begin begun.ps begun.due)) another))
+            other;
+      })
+      x.1.2

@@ -1,0 +1,488 @@
+-- After the round in which a group comes to a body, where each goes on by itself, all are bound again.
+use Rattle.std.proofs.Common.{◌≡◌, ◌≢◌, ℕ, zero, suc, ◌+◌, ◌-◌, ◌≤◌, ◌<◌, List, [], ◌∷◌, length, Option, Some, None, Bool, true, false, sym, ap, subst, ◌∙◌, refl, arith, inr, ⊎_elim, eq-eqb}
+use Rattle.std.specs.Prelude.{◌==◌, ◌||◌, map, is_some, slice_get, if◌then◌else◌}
+use Rattle.std.proofs.lemmas.Bool.{ne_eqb, eqb-true, false≢true, and_parts, or_cases, or_left}
+use Rattle.std.proofs.lemmas.List.{length-map}
+use Rattle.fk_num.specs.Word.{Memory}
+use Rattle.fk_space.specs.Space.{Space}
+use Rattle.fk_tree.specs.declared.node.Kind.TheVariants.{Lockstep, Asynchronous}
+use Rattle.fk_tree.specs.Tree as trees
+use Rattle.fk_tree.specs.Tree.{Tree, Node, turned, with_kind, is_member, is_from}
+use Rattle.fk_tree.specs.Sound.{is_below_all, is_ascending, IsSound}
+use Rattle.fk_tree.proofs.Lists.{below_all-member}
+use Rattle.fk_tree.proofs.Shapes.{with_other, kind_members, kind_same, some-given, from_parts}
+use Rattle.fk_meaning_operation.specs.declared.operation.Operation.{Operation}
+use Rattle.fk_meaning_operation.specs.declared.operation.Operation.TheVariants.{Begin, Farm, Seq, End}
+use Rattle.fk_meaning.specs.Processor.{Setting}
+use Rattle.fk_meaning.specs.Round.{Step, lowest, body_of}
+use Rattle.fk_core.specs.declared.op.CoreOp.{CoreOp}
+use Rattle.fk_core.specs.Next.{Position}
+use Rattle.fk_image.specs.declared.Image.{Image}
+use Rattle.fk_machine.specs.Hart.{Hart, Setting as MachineSetting}
+use Rattle.fk_sim_nodes.specs.Node.{Member, numbered, add, of_node, Has}
+use Rattle.fk_sim_nodes.specs.Alone.{later, RunsPrivately}
+use Rattle.fk_sim_match.specs.Stage.{Stage}
+use Rattle.fk_sim_match.specs.Plan.{Plan, Blocks, IsOpen}
+use Rattle.fk_sim_match.specs.Cycle.{AllHaveCommitted, NodeIsLeft, GroupIsLeft, IsLeft}
+use Rattle.fk_sim_match.specs.Change.{MeetingOpens}
+use Rattle.fk_lockstep.specs.Untouched.{changes_tree}
+use Rattle.fk_sim_block.specs.Owner.{Owner, Doing, number_of, core_source}
+use Rattle.fk_sim_block.specs.Stands as law
+use Rattle.fk_sim_block.specs.Stands.{Places}
+use Rattle.fk_sim_block.specs.Block.{most_behind, IsRunning}
+use Rattle.fk_sim_block.specs.Node.{Nestings, StandsInNode}
+use Rattle.fk_sim_block.specs.Lockstep.{is_due, stepped, highest_value, ComesAlone, AllComeAlone, AreOfSize, IsLowest, one_runs}
+use Rattle.fk_sim_block.specs.Law.{Cycles, GroupLaw, runs_behind, IsAskedOf}
+use Rattle.fk_sim_match.specs.Nodes.{first_of, is_arrival, is_lockstep, meeters_at, plan_of}
+use Rattle.fk_sim_match.specs.Behind.{runs_of, HaveParted, blocks_of}
+use Rattle.fk_sim_match.proofs.Nodes.{tells}
+use Rattle.fk_sim_match.proofs.Rounds.{not_none, leaf_place}
+use Rattle.fk_sim_rounds.specs.Next.{JumpsLead, all_landed}
+use Rattle.fk_sim_rounds.specs.After.{actings, tree_after, owner_after, owners_after, halts, is_halt, DoesStep, StepsAt, AllGoOn, GroupsGoOn, BindsAgain}
+use Rattle.fk_sim_rounds.specs.Rounds.{IsBefore, IsTree, AllStandIn, RoundsSetFree, RoundsSendOne}
+use Rattle.fk_sim_rounds.proofs.Agreed.{member_place, place_member}
+use Rattle.fk_sim_rounds.proofs.Keep.{AllOn, AllAtHome}
+use Rattle.fk_sim_rounds.proofs.Harts.{AllAre, LockLeft, HartsGo, steps_apart}
+use Rattle.fk_sim_rounds.proofs.Groups.{Stands, somebody, there_are, at_home, many_length}
+use Rattle.fk_sim_rounds.proofs.Changed.{Here, Steps, running, At, near, AnyGoes, all, bound_at}
+use Rattle.fk_sim_rounds.proofs.Moved.{TreeMoves, one_node, only}
+use Rattle.fk_sim_rounds.proofs.Resume.{kind_there, lowest_there, is_busy, step_is_brought}
+use Rattle.fk_sim_rounds.proofs.Close.{AllDo, all_do}
+use Rattle.fk_sim_rounds.proofs.Acted.{Both, spread, acted}
+use Rattle.fk_sim_rounds.proofs.Counts.{count_is, phases_count, all_new, all_fine}
+
+-- ---- the lowest of a node
+
+lowest_below : (i : ℕ) (ms : List ℕ) → is_ascending ms ≡ true → is_member i ms ≡ true → lowest ms ≤ i
+lowest_below i [] up is = absurd (false≢true is)
+lowest_below i (m ∷ ms) up is =
+    let parts = and_parts (is_below_all m ms) (is_ascending ms) up in
+    ⊎_elim (λ e. let same = eqb-true i m e in omega (arith, same)) (λ rest. let lt = below_all-member m ms i parts.0 rest in omega (arith, lt)) (or_cases (i == m) (is_member i ms) is)
+
+abbrev first_number : (other : ℕ) → List Member → ℕ
+first_number other [] = other
+first_number other (m ∷ ms) = m.number
+
+-- stands first among those who stand there
+first_stands : (g number k : ℕ) (ns : List ℕ) (hs : List Hart) (other : ℕ) → length ns ≡ length hs → slice_get ns k ≡ Some g → ((i : ℕ) → i < k → slice_get ns i ≡ Some g → ⊥)
+    → first_number other (of_node g ns (numbered number hs)) ≡ number + k
+first_stands g number zero (n ∷ ns) (h ∷ hs) other many at away =
+    let same : n ≡ g = cc in
+    ap (λ b. first_number other (add b (record { number = number; hart = h }) (of_node g ns (numbered (suc number) hs)))) (eq-eqb n g same) ∙ omega arith
+first_stands g number (suc k) (n ∷ ns) (h ∷ hs) other many at away =
+    ap (λ b. first_number other (add b (record { number = number; hart = h }) (of_node g ns (numbered (suc number) hs)))) (ne_eqb n g (λ e. away 0 (omega arith) (ap (λ x. Some x) e)))
+    ∙ first_stands g (suc number) k ns hs other (omega (arith, many)) at (λ i lt there. away (suc i) (omega (arith, lt)) there) ∙ omega arith
+first_stands g number k [] hs other many at away = absurd (cc)
+first_stands g number k (n ∷ ns) [] other many at away = absurd (omega (arith, many))
+
+-- ---- who runs a body
+
+-- the body of a step runs by all members, or by the lowest alone
+abbrev pub runs_alone : Operation → Option Bool
+runs_alone Farm = Some false
+runs_alone Seq = Some true
+runs_alone operation = None
+
+body_one : (ms : List ℕ) → (ms ≡ [] → ⊥) → trees.runs (Asynchronous true) ms ≡ lowest ms ∷ []
+body_one [] some = absurd (some refl)
+body_one (m ∷ ms) some = refl
+
+body_up : (alone : Bool) (ms : List ℕ) → is_ascending ms ≡ true → is_ascending (trees.runs (Asynchronous alone) ms) ≡ true
+body_up true [] up = refl
+body_up true (m ∷ ms) up = refl
+body_up false ms up = up
+
+body_among : (alone : Bool) (h : ℕ) (ms : List ℕ) → is_member h (trees.runs (Asynchronous alone) ms) ≡ true → is_member h ms ≡ true
+body_among true h [] is = is
+body_among true h (m ∷ ms) is = ⊎_elim (λ e. or_left (h == m) (is_member h ms) e) (λ no. absurd (false≢true no)) (or_cases (h == m) false is)
+body_among false h ms is = is
+
+or_none : (b : Bool) → (b || false) ≡ b
+or_none true = refl
+or_none false = refl
+
+module _ (core : List CoreOp) (image : Image) (places : Places) (nestings : Nestings) (cycles : Cycles) (firsts : List ℕ) (main : ℕ) (setting : Setting) (old : Tree) (spaces : ℕ → Space) (nodes : List ℕ)
+    (t : MachineSetting) (stages : List Stage) (hs : List Hart) (ps : List Owner) (ds : List Doing) (own own' : ℕ → Memory) (control : Memory)
+    (the_law : GroupLaw core image places nestings cycles firsts main) (leads : JumpsLead core) (before : IsBefore core image setting old spaces nodes t stages hs ps)
+    (left : IsLeft (core_source core setting) image (plan_of old spaces nodes) (blocks_of core image places nestings setting (plan_of old spaces nodes) (first_of spaces)) t stages hs ps ds own own')
+    (has : (g : ℕ) → Has ((plan_of old spaces nodes).words g) control (own' g)) (g : ℕ) (alone : Bool) (operation : Operation) (is : runs_alone operation ≡ Some alone)
+    (kind : trees.kind old g ≡ Some Lockstep) (steps : StepsAt old g 0 operation ds) (behind : IsTree setting (with_kind g (Asynchronous alone) old) spaces)
+    (on : AllGoOn core nestings setting (with_kind g (Asynchronous alone) old) spaces 0 left.afters ds (owners_after old (with_kind g (Asynchronous alone) old) ds))
+    (next : GroupsGoOn core nestings (with_kind g (Asynchronous alone) old) nodes left.afters (owners_after old (with_kind g (Asynchronous alone) old) ds)) where
+  abbrev new : Tree
+  new = with_kind g (Asynchronous alone) old
+
+  abbrev plan : Plan
+  plan = plan_of old spaces nodes
+
+  abbrev blocks : Blocks Owner Doing
+  blocks = blocks_of core image places nestings setting (plan_of old spaces nodes) (first_of spaces)
+
+  abbrev plan' : Plan
+  plan' = plan_of (with_kind g (Asynchronous alone) old) spaces nodes
+
+  abbrev blocks' : Blocks Owner Doing
+  blocks' = blocks_of core image places nestings setting (plan_of (with_kind g (Asynchronous alone) old) spaces nodes) (first_of spaces)
+
+  abbrev settle : Doing → Owner
+  settle d = owner_after (actings ds) old (with_kind g (Asynchronous alone) old) d
+
+  others : (k : ℕ) → k ≢ g → (with_kind g (Asynchronous alone) old).nodes k ≡ old.nodes k
+  others k ne = with_other g (turned (Asynchronous alone) (old.nodes g)) old.nodes k ne
+
+  there : is_some (old.nodes g) ≡ true
+  there = kind_there (old.nodes g) Lockstep kind
+
+  kind' : trees.kind new g ≡ Some (Asynchronous alone)
+  kind' = kind_same g (Asynchronous alone) old (not_none (old.nodes g) there)
+
+  there' : is_some ((with_kind g (Asynchronous alone) old).nodes g) ≡ true
+  there' = kind_there ((with_kind g (Asynchronous alone) old).nodes g) (Asynchronous alone) kind'
+
+  same_members : trees.members new g ≡ trees.members old g
+  same_members = kind_members g (Asynchronous alone) old g
+
+  given : g < old.given
+  given = some-given setting.processors old before.sound g (not_none (old.nodes g) there)
+
+  given' : g < new.given
+  given' = some-given setting.processors new behind.sound g (not_none (new.nodes g) there')
+
+  lock : plan.in_lockstep g ≡ true
+  lock = ap is_lockstep kind
+
+  free : plan'.in_lockstep g ≡ false
+  free = ap is_lockstep kind'
+
+  move : TreeMoves old (with_kind g (Asynchronous alone) old) setting.processors g nodes nodes (λ k. k == g)
+  move = one_node old (with_kind g (Asynchronous alone) old) setting.processors g nodes others (λ h. refl) before.stand
+
+  abbrev run : IsRunning image setting (later t)
+  run =
+      running core image places nestings cycles firsts main setting old (with_kind g (Asynchronous alone) old) spaces nodes nodes t stages hs ps ds own own' control the_law leads before left has behind.sound
+      behind.spaced g operation steps (λ k. k == g) move on next
+
+  -- ---- its members
+
+  abbrev the_members : List Member
+  the_members = of_node g nodes (numbered 0 hs)
+
+  abbrev doings : List Doing
+  doings = of_node g nodes ds
+
+  abbrev Home : List Member → List Doing → Type 0
+  Home ms xs =
+      AllAtHome core image places nestings cycles firsts main setting old (with_kind g (Asynchronous alone) old) spaces nodes nodes the_law leads behind.spaced behind.sound (later t) run (actings ds) g ms xs
+
+  home : Home the_members doings
+  home =
+      let many = before.many in
+      at_home core image places nestings cycles firsts main setting old (with_kind g (Asynchronous alone) old) spaces nodes nodes the_law leads behind.spaced behind.sound (later t) run ds g 0 nodes hs left.afters
+      ds before.stand (λ h lt at. at) (omega (arith, many)) left.as_many left.done_as_many on
+
+  stands : Stands nodes g
+  stands = somebody setting.processors old before.sound nodes before.stand before.many g kind
+
+  some_doings : length doings ≡ 0 → ⊥
+  some_doings = there_are nodes g ds stands (many_length nodes hs ds left.done_as_many).1
+
+  all_step : AllDo operation doings
+  all_step = all_do old g 0 operation nodes ds before.stand steps
+
+  -- what its commit has left
+  record Parted : Type 0 where
+    committed : AllHaveCommitted (of_node g nodes left.afters)
+    cycles_behind : ℕ
+    few : cycles_behind ≤ most_behind
+    parted : HaveParted core image places nestings setting (first_of spaces g) (later t) cycles_behind doings the_members (own' g)
+    same : parted.operation ≡ operation
+
+  no_end : End ≡ operation → ⊥
+  no_end e = let f : None ≡ Some alone = ap runs_alone e ∙ is in absurd (cc)
+
+  no_begin : Begin ≡ operation → ⊥
+  no_begin e = let f : None ≡ Some alone = ap runs_alone e ∙ is in absurd (cc)
+
+  changes_by : (operation : Operation) → runs_alone operation ≡ Some alone → changes_tree operation ≡ true
+  changes_by Farm is' = refl
+  changes_by Seq is' = refl
+  changes_by operation is' = absurd (cc)
+
+  as_group : GroupIsLeft (core_source core setting) image plan blocks (later t) g (of_node g nodes left.afters) the_members (of_node g nodes ps) doings (own' g)
+  as_group =
+      subst (λ b. NodeIsLeft (core_source core setting) image plan blocks b (later t) g (of_node g nodes left.afters) the_members (of_node g nodes ps) doings (own' g)) lock (left.nodes g)
+
+  all_parted : Parted
+  all_parted =
+      let x = acted core image places nestings setting plan (first_of spaces) (later t) g (of_node g nodes left.afters) the_members (of_node g nodes ps) doings (own' g) operation all_step some_doings
+      (changes_by operation is) as_group in
+      ⊎_elim (λ apart. record { committed = x.committed; cycles_behind = x.cycles_behind; few = x.few; parted = apart.0; same = apart.1 }) (λ other. absurd (⊎_elim (λ ended. no_end ended.1) (λ begun. no_begin begun.1) other)) x.how
+
+  -- ---- each by itself
+
+  pub record GoesApart (m : Member) (d : Doing) : Type 0 where
+    pub cycles_behind : ℕ
+    pub few : cycles_behind ≤ most_behind
+    pub hart : Hart
+    pub private : RunsPrivately image (later t) m.number cycles_behind m.hart hart
+    pub at : law.StandsAt places (settle d) hart
+    pub node : StandsInNode places nestings setting (runs_of plan' (first_of spaces g) m.number) (settle d) hart
+
+  goes_apart : (b : ℕ) (runs : Option ℕ) (m : Member) (d : Doing) (p : Owner) → b ≤ most_behind → ComesAlone places nestings setting image (later t) b runs (first_of spaces g) m p
+      → settle d ≡ p → runs ≡ runs_of plan' (first_of spaces g) m.number → GoesApart m d
+  goes_apart b runs m d p few come settles same_runs = record {
+    cycles_behind = b;
+    few = few;
+    hart = come.hart;
+    private = come.private;
+    at = subst (λ q. law.StandsAt places q come.hart) (sym settles) come.member.at;
+    node = subst (λ r. StandsInNode places nestings setting r (settle d) come.hart) same_runs
+        (subst (λ q. StandsInNode places nestings setting runs q come.hart) (sym settles) come.member.node);
+  }
+
+  body_is : meeters_at new g 0 ≡ trees.runs (Asynchronous alone) (trees.members new g)
+  body_is = ap (λ k. body_of k (trees.members new g)) kind'
+
+  runs_by : (number : ℕ) (body : List ℕ) → trees.runs (Asynchronous alone) (trees.members new g) ≡ body
+      → runs_of plan' (first_of spaces g) number ≡ (if is_member number body then Some (length body) else None)
+  runs_by number body e =
+      let tell = tells new spaces behind.spaced nodes g 0 there' given' (omega arith) in
+      let w = first_of spaces g + 0 in
+      ap (λ b. if b then Some (plan'.size w) else None) (tell.member number ∙ ap (λ l. is_member number l) (body_is ∙ e))
+      ∙ ap (λ n. if is_member number body then Some n else None) (tell.size ∙ ap (λ l. length l) (body_is ∙ e))
+
+  is_there : (number : ℕ) → number < setting.processors → old.places number ≡ g → is_member number (trees.members new g) ≡ true
+  is_there number lt at =
+      ap (λ l. is_member number l) same_members ∙ subst (λ k. is_member number (trees.members old k) ≡ true) at (before.sound.placed number lt).member
+
+  -- a `farm`
+  all_free : (i : ℕ) (op : CoreOp) (value least size b : ℕ) (ms : List Member) (xs : List Owner) → alone ≡ false → b ≤ most_behind → Home ms (map (is_due core i op Farm) xs) → AreOfSize size xs
+      → AllComeAlone places nestings setting image (later t) b (λ p. Some size) (first_of spaces g) ms (map (stepped core i op Farm value least size) xs)
+      → Both GoesApart ms (map (is_due core i op Farm) xs)
+  all_free i op value least size b [] [] every few home sized come = tt
+  all_free i op value least size b (m ∷ ms) (p ∷ xs) every few home sized come =
+      let here = home.0 in
+      let member = is_there m.number here.2 here.0 in
+      let size_is : size ≡ length (trees.members new g) = sym sized.0 ∙ here.3.size ∙ ap (λ k. length (trees.members new k)) here.1 in
+      let body = runs_by m.number (trees.members new g) (ap (λ a. trees.runs (Asynchronous a) (trees.members new g)) every) in (
+        goes_apart b (Some size) m (is_due core i op Farm p) (stepped core i op Farm value least size p) few come.0 refl
+            (ap (λ n. Some n) size_is ∙ sym (body ∙ ap (λ x. if x then Some (length (trees.members new g)) else None) member)),
+        all_free i op value least size b ms xs every few home.1 sized.1 come.1,
+      )
+  all_free i op value least size b ms xs every few home sized come = absurd (assumption come)
+
+  -- a `seq`
+  abbrev low : ℕ
+  low = lowest (trees.members old g)
+
+  abbrev low_at : ℕ → ℕ
+  low_at k = lowest (trees.members old k)
+
+  some_members : trees.members old g ≡ [] → ⊥
+  some_members empty = not_none (old.nodes g) there (before.sound.living g empty)
+
+  first_low : (other : ℕ) → first_number other the_members ≡ low
+  first_low other =
+      let at = member_place setting.processors old before.sound nodes before.stand before.many g low kind (lowest_there (trees.members old g) some_members) in
+      let zero_is : 0 + low ≡ low = omega arith in
+      first_stands g 0 low nodes hs other (many_length nodes hs ds left.done_as_many).0 at
+      (λ i lt here.
+      let le = lowest_below i (trees.members old g) (before.sound.ascending g) (place_member setting.processors old before.sound nodes before.stand before.many g i here) in
+      omega (arith, le, lt))
+      ∙ zero_is
+
+  lowest_is : (i : ℕ) (op : CoreOp) (least : ℕ) (ms : List Member) (xs : List Owner) → (length xs ≡ 0 → ⊥) → first_number 0 ms ≡ low → Home ms (map (is_due core i op Seq) xs)
+      → IsLowest least xs → least ≡ low
+  lowest_is i op least (m ∷ ms) (p ∷ xs) some first home one = sym (eqb-true (number_of p) least one.0) ∙ home.0.3.number_is ∙ first
+  lowest_is i op least ms [] some first home one = absurd (some refl)
+  lowest_is i op least [] (p ∷ xs) some first home one = absurd (assumption home)
+
+  all_sent : (i : ℕ) (op : CoreOp) (value least size b : ℕ) (ms : List Member) (xs : List Owner) → alone ≡ true → b ≤ most_behind → Home ms (map (is_due core i op Seq) xs) → least ≡ low
+      → AllComeAlone places nestings setting image (later t) b (one_runs least) (first_of spaces g) ms (map (stepped core i op Seq value least size) xs)
+      → Both GoesApart ms (map (is_due core i op Seq) xs)
+  all_sent i op value least size b [] [] one few home e come = tt
+  all_sent i op value least size b (m ∷ ms) (p ∷ xs) one few home e come =
+      let here = home.0 in
+      let number : number_of p ≡ m.number = here.3.number_is in
+      let by = runs_by m.number (low ∷ [])
+      (ap (λ a. trees.runs (Asynchronous a) (trees.members new g)) one ∙ ap (λ l. trees.runs (Asynchronous true) l) same_members ∙ body_one (trees.members old g) some_members) in
+      let settles : settle (is_due core i op Seq p) ≡ stepped core i op Seq value least size p
+      = ap (λ l. stepped core i op Seq value l size p)
+      (ap (λ h. low_at (old.places h)) number ∙ ap low_at here.0 ∙ sym e) in
+      let same : one_runs least (stepped core i op Seq value least size p) ≡ runs_of plan' (first_of spaces g) m.number
+      = ap (λ k. if k == least then Some 1 else None) number ∙ ap (λ l. if m.number == l then Some 1 else None) e
+      ∙ sym (by ∙ ap (λ x. if x then Some 1 else None) (or_none (m.number == low))) in (
+        goes_apart b (one_runs least (stepped core i op Seq value least size p)) m (is_due core i op Seq p) (stepped core i op Seq value least size p) few come.0 settles same,
+        all_sent i op value least size b ms xs one few home.1 e come.1,
+      )
+  all_sent i op value least size b ms xs one few home e come = absurd (assumption come)
+
+  all_apart : (done : Operation) → runs_alone done ≡ Some alone → (x : Parted) → x.parted.operation ≡ done → Both GoesApart the_members doings
+  all_apart Farm e x same =
+      let y = x.parted in
+      let due : doings ≡ map (is_due core y.i y.op Farm) y.ps = y.due ∙ ap (λ o. map (is_due core y.i y.op o) y.ps) same in
+      let asked : AreOfSize y.size y.ps = (subst (λ o. IsAskedOf o y.lowest y.size y.ps) same y.asked).1 in
+      let come = subst
+      (λ o.
+      AllComeAlone places nestings setting image (later t) x.cycles_behind (runs_behind o y.lowest y.size) (first_of spaces g) the_members (map (stepped core y.i y.op o (highest_value y.ps) y.lowest y.size) y.ps))
+      same y.come in
+      subst (Both GoesApart the_members) (sym due)
+      (all_free y.i y.op (highest_value y.ps) y.lowest y.size x.cycles_behind the_members y.ps (cc) x.few (subst (Home the_members) due home) asked come)
+  all_apart Seq e x same =
+      let y = x.parted in
+      let due : doings ≡ map (is_due core y.i y.op Seq) y.ps = y.due ∙ ap (λ o. map (is_due core y.i y.op o) y.ps) same in
+      let asked : IsLowest y.lowest y.ps = (subst (λ o. IsAskedOf o y.lowest y.size y.ps) same y.asked).1 in
+      let come = subst
+      (λ o.
+      AllComeAlone places nestings setting image (later t) x.cycles_behind (runs_behind o y.lowest y.size) (first_of spaces g) the_members (map (stepped core y.i y.op o (highest_value y.ps) y.lowest y.size) y.ps))
+      same y.come in
+      let home' = subst (Home the_members) due home in
+      let some : length y.ps ≡ 0 → ⊥ = λ none. some_doings (ap (λ l. length l) due ∙ length-map y.ps (is_due core y.i y.op Seq) ∙ none) in
+      subst (Both GoesApart the_members) (sym due)
+      (all_sent y.i y.op (highest_value y.ps) y.lowest y.size x.cycles_behind the_members y.ps (cc) x.few home'
+      (lowest_is y.i y.op y.lowest the_members y.ps some (first_low 0) home' asked) come)
+  all_apart done e x same = absurd (cc)
+
+  -- ---- its words
+
+  -- nobody has arrived at one
+  word_is_zero : (offset : ℕ) → offset < 8 → is_arrival offset ≡ true → control (first_of spaces g + offset) ≡ 0
+  word_is_zero offset lt arrival =
+      has g (first_of spaces g + offset) (tells old spaces before.spaced nodes g offset there given lt).own ∙ nobody offset arrival
+    where
+      nobody : (offset : ℕ) → is_arrival offset ≡ true → own' g (first_of spaces g + offset) ≡ 0
+      nobody zero arrival = all_parted.parted.rest.barrier
+      nobody (suc zero) arrival = all_parted.parted.rest.closing
+      nobody (suc (suc o)) arrival = absurd (false≢true arrival)
+
+  -- those who meet there are so many, and go up
+  meeters_up : (offset : ℕ) → is_ascending (meeters_at new g offset) ≡ true
+  meeters_up zero = ap is_ascending body_is ∙ body_up alone (trees.members new g) (behind.sound.ascending g)
+  meeters_up (suc zero) = behind.sound.ascending g
+  meeters_up (suc (suc o)) = refl
+
+  meeters_among : (offset h : ℕ) → is_member h (meeters_at new g offset) ≡ true → is_member h (trees.members new g) ≡ true
+  meeters_among zero h is = body_among alone h (trees.members new g) (subst (λ l. is_member h l ≡ true) body_is is)
+  meeters_among (suc zero) h is = is
+  meeters_among (suc (suc o)) h is = absurd (false≢true is)
+
+  -- ---- all of it
+
+  own_here : AllAre (Here old g GoesApart) 0 hs ds
+  own_here = spread old GoesApart g 0 nodes hs ds before.stand left.done_as_many (all_apart operation is all_parted all_parted.same)
+
+  at_group : (k : ℕ) → (k == g) ≡ true → plan'.in_lockstep k ≡ true
+      → At core image places nestings cycles firsts main setting old (with_kind g (Asynchronous alone) old) spaces nodes nodes t stages hs ps ds own own' control the_law leads before left has behind.sound
+      behind.spaced g operation steps (λ k. k == g) move on next k
+  at_group k is' locked = absurd (false≢true (sym (ap (λ j. plan'.in_lockstep j) (eqb-true k g is') ∙ free) ∙ locked))
+
+  on_by : (operation : Operation) (due : Option (Step Position)) → runs_alone operation ≡ Some alone → DoesStep operation due → halts due ≡ false
+  on_by operation None is' does = absurd does
+  on_by operation (Some step) is' does = ap is_halt does ∙ no_halt operation is'
+    where
+      no_halt : (operation : Operation) → runs_alone operation ≡ Some alone → is_halt operation ≡ false
+      no_halt Farm is' = refl
+      no_halt Seq is' = refl
+      no_halt operation is' = absurd (cc)
+
+  on_all : (xs : List Doing) → AllDo operation xs → AllOn xs
+  on_all [] do' = tt
+  on_all (d ∷ xs) do' = (on_by operation d.acting.due is do'.0, on_all xs do'.1)
+
+  lock_group : (k : ℕ) → (k == g) ≡ true → plan.in_lockstep k ≡ true → LockLeft (of_node k nodes left.afters) (of_node k nodes ps) (of_node k nodes ds)
+  lock_group =
+      only g (λ k. plan.in_lockstep k ≡ true → LockLeft (of_node k nodes left.afters) (of_node k nodes ps) (of_node k nodes ds))
+      (λ locked. inr (all_parted.committed, on_all doings all_step))
+
+  each_member : AnyGoes core image places nestings cycles firsts main setting old (with_kind g (Asynchronous alone) old) spaces nodes nodes t stages hs ps ds own own' control the_law leads before left has
+      behind.sound behind.spaced g operation steps (λ k. k == g) move on next at_group lock_group (Steps old g operation GoesApart)
+  each_member m p d known lt land home' s0 a locks alone' due remains on' =
+      let apart = known.2 in
+      steps_apart core image places nestings cycles firsts main setting old (with_kind g (Asynchronous alone) old) spaces nodes nodes the_law leads behind.spaced behind.sound (later t) run (actings ds)
+      (λ k. (near core image places nestings cycles firsts main setting old (with_kind g (Asynchronous alone) old) spaces nodes nodes t stages hs ps ds own own' control the_law leads before left has
+      behind.sound behind.spaced g operation steps (λ k. k == g) move on next at_group lock_group k).distance)
+      (λ k. (near core image places nestings cycles firsts main setting old (with_kind g (Asynchronous alone) old) spaces nodes nodes t stages hs ps ds own own' control the_law leads before left has
+      behind.sound behind.spaced g operation steps (λ k. k == g) move on next at_group lock_group k).soon)
+      m p d lt home' (is_busy operation d p known.1) a (ap (λ k. plan'.in_lockstep k) known.0 ∙ free) (locks (ap (λ k. plan.in_lockstep k) known.0 ∙ lock)) apart.cycles_behind apart.hart apart.few apart.private
+      apart.at (subst (λ k. StandsInNode places nestings setting (runs_of plan' (first_of spaces k) m.number) (settle d) apart.hart) (sym known.0) apart.node) on'
+
+  abbrev everybody : HartsGo core image places nestings cycles firsts main setting old (with_kind g (Asynchronous alone) old) spaces nodes nodes the_law leads behind.spaced behind.sound (later t) run (actings ds)
+      (λ k. (near core image places nestings cycles firsts main setting old (with_kind g (Asynchronous alone) old) spaces nodes nodes t stages hs ps ds own own' control the_law leads before left has
+      behind.sound behind.spaced g operation steps (λ k. k == g) move on next at_group lock_group k).distance)
+      (λ k. (near core image places nestings cycles firsts main setting old (with_kind g (Asynchronous alone) old) spaces nodes nodes t stages hs ps ds own own' control the_law leads before left has
+      behind.sound behind.spaced g operation steps (λ k. k == g) move on next at_group lock_group k).soon)
+      0 nodes nodes left.afters hs ps ds
+  everybody =
+      all core image places nestings cycles firsts main setting old (with_kind g (Asynchronous alone) old) spaces nodes nodes t stages hs ps ds own own' control the_law leads before left has behind.sound
+      behind.spaced g operation steps (λ k. k == g) move on next at_group lock_group GoesApart own_here each_member
+
+  abbrev Opens : ℕ → Type 0
+  Opens w = MeetingOpens (core_source core setting) image plan blocks plan' blocks' g w left.afters everybody.stages control
+
+  opens_at : (offset : ℕ) → offset < 8 → is_arrival offset ≡ true → Opens (first_of spaces g + offset)
+  opens_at offset lt arrival =
+      let w = first_of spaces g + offset in
+      let tell = tells new spaces behind.spaced nodes g offset there' given' lt in
+      let many = before.many in
+      record {
+        empty = word_is_zero offset lt arrival;
+        size =
+            phases_count plan' g w 0 nodes everybody.stages (meeters_at new g offset) tell.member
+            (all_fine (core_source core setting) image plan blocks plan' blocks' (later t) g 0 hs nodes nodes left.afters everybody.stages ps (all_landed core (owners_after old new ds)) free
+            all_parted.committed everybody.changes)
+            ∙ count_is 0 nodes (meeters_at new g offset) (meeters_up offset)
+            (λ h member. let below = behind.sound.within g h (meeters_among offset h member) in (omega arith, omega (arith, below, many)))
+            ∙ sym tell.size;
+        new = all_new g nodes hs left.afters left.as_many all_parted.committed;
+      }
+
+  opens : (w : ℕ) → IsOpen plan' g w → Opens w
+  opens w is_open =
+      let range = from_parts (first_of spaces g) 8 w (and_parts (is_some (new.nodes g)) (is_from (first_of spaces g) 8 w) is_open.0).1 in
+      let from = range.0 in
+      let below = range.1 in
+      let offset = w - first_of spaces g in
+      let lt : offset < 8 = omega (arith, from, below) in
+      let e : first_of spaces g + offset ≡ w = omega (arith, from) in
+      let tell = tells new spaces behind.spaced nodes g offset there' given' lt in
+      subst Opens e (opens_at offset lt (sym tell.arrival ∙ ap (λ k. plan'.arrivals k) e ∙ is_open.1))
+
+  pub apart : BindsAgain core image places nestings setting old spaces nodes (with_kind g (Asynchronous alone) old) spaces nodes t hs left.afters ps
+      (all_landed core (owners_after old (with_kind g (Asynchronous alone) old) ds)) control
+  apart =
+      bound_at core image places nestings cycles firsts main setting old (with_kind g (Asynchronous alone) old) spaces nodes nodes t stages hs ps ds own own' control the_law leads before left has behind.sound
+      behind.spaced g operation steps (λ k. k == g) move on next at_group lock_group GoesApart own_here each_member (λ k is'. eqb-true k g is') (λ w free' is_open. inr (opens w is_open))
+
+-- all members of a group stand in its node
+all_stand : (p : ℕ) (tree : Tree) → IsSound p tree → (g : ℕ) → trees.kind tree g ≡ Some Lockstep → AllStandIn tree g
+all_stand p tree sound g kind h member = leaf_place p tree sound g h kind member
+
+pub rounds_set_free : RoundsSetFree
+rounds_set_free core image places nestings cycles firsts main setting tree spaces nodes t stages hs ps ds own own' control g the_law leads before left has kind steps behind on next =
+    let many = before.many in
+    let lengths = many_length nodes hs ds left.done_as_many in
+    let long = lengths.1 in
+    let same : tree_after tree ds ≡ trees.farm g tree
+    = step_is_brought setting.processors tree before.sound g Lockstep Farm ds kind (all_stand setting.processors tree before.sound g kind) (omega (arith, many, long)) steps in
+    subst
+    (λ x.
+    IsTree setting x spaces → AllGoOn core nestings setting x spaces 0 left.afters ds (owners_after tree x ds) → GroupsGoOn core nestings x nodes left.afters (owners_after tree x ds)
+    → BindsAgain core image places nestings setting tree spaces nodes x spaces nodes t hs left.afters ps (all_landed core (owners_after tree x ds)) control) (sym same)
+    (λ behind' on' next'.
+    apart core image places nestings cycles firsts main setting tree spaces nodes t stages hs ps ds own own' control the_law leads before left has g false Farm refl kind steps behind' on' next')
+    behind on next
+
+pub rounds_send_one : RoundsSendOne
+rounds_send_one core image places nestings cycles firsts main setting tree spaces nodes t stages hs ps ds own own' control g the_law leads before left has kind steps behind on next =
+    let many = before.many in
+    let lengths = many_length nodes hs ds left.done_as_many in
+    let long = lengths.1 in
+    let same : tree_after tree ds ≡ trees.single g tree
+    = step_is_brought setting.processors tree before.sound g Lockstep Seq ds kind (all_stand setting.processors tree before.sound g kind) (omega (arith, many, long)) steps in
+    subst
+    (λ x.
+    IsTree setting x spaces → AllGoOn core nestings setting x spaces 0 left.afters ds (owners_after tree x ds) → GroupsGoOn core nestings x nodes left.afters (owners_after tree x ds)
+    → BindsAgain core image places nestings setting tree spaces nodes x spaces nodes t hs left.afters ps (all_landed core (owners_after tree x ds)) control) (sym same)
+    (λ behind' on' next'.
+    apart core image places nestings cycles firsts main setting tree spaces nodes t stages hs ps ds own own' control the_law leads before left has g true Seq refl kind steps behind' on' next')
+    behind on next

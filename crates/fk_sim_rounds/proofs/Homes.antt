@@ -1,0 +1,372 @@
+-- What processors have of their groups stays that of their nodes.
+use Rattle.std.proofs.Common.{◌≡◌, ◌≢◌, ℕ, zero, suc, ◌+◌, ◌-◌, ◌<◌, List, [], ◌∷◌, length, Option, Some, None, Bool, true, false, sym, ap, subst, ◌∙◌, refl, arith, ⊎_elim}
+use Rattle.std.specs.Prelude.{◌==◌, ◌&&◌, map, nat_lt, if◌then◌else◌}
+use Rattle.std.proofs.lemmas.Bool.{cases_Bool, cases_eq, false≢true}
+use Rattle.fk_space.specs.Space.{Space, free}
+use Rattle.fk_tree.specs.declared.node.Kind.TheVariants.{Lockstep}
+use Rattle.fk_tree.specs.Tree as trees
+use Rattle.fk_tree.specs.Tree.{Tree, kind_of, members_of, parent_of, is_member}
+use Rattle.fk_tree.specs.Sound.{awaits, IsSound}
+use Rattle.fk_tree.proofs.Shapes.{kind_members, kind_parent, awaits-some, has_some, with_other}
+use Rattle.fk_meaning_operation.specs.Kinds.{class_of}
+use Rattle.fk_meaning_operation.specs.declared.kinds.Class.{Class}
+use Rattle.fk_meaning_operation.specs.declared.kinds.Class.TheVariants.{Local, Request, Tree as TreeStep}
+use Rattle.fk_meaning_operation.specs.declared.operation.Operation.{Operation}
+use Rattle.fk_meaning_operation.specs.declared.operation.Operation.TheVariants as o
+use Rattle.fk_meaning_operation.specs.declared.operation.Variable.{Variable}
+use Rattle.fk_meaning_operation.specs.declared.operation.Variable.TheVariants.{Private, OfFile}
+use Rattle.fk_meaning_store.specs.Store.{Store, private_words}
+use Rattle.fk_meaning_store.specs.Serve as store
+use Rattle.fk_meaning.specs.Processor.{Level, Call, Processor, Setting, values, last, to_outer}
+use Rattle.fk_meaning.specs.Local.{stored, taken, unframed, to_caller, local}
+use Rattle.fk_meaning.specs.Request.{request, with_answer}
+use Rattle.fk_meaning.specs.Group.{does, changes, has_room, framed, allotted}
+use Rattle.fk_meaning.specs.Round.{Step, Runner, Acting, Phase, Passes, Breaks, taking, lowest, who, agreed, change_by, all_changes, settled_by, do_local, local_phase, do_request, answered, request_phase, begin}
+use Rattle.fk_core.specs.declared.op.CoreOp.{CoreOp}
+use Rattle.fk_core.specs.Next.{Position, next}
+use Rattle.fk_sim_nodes.specs.Source as nodes
+use Rattle.fk_sim_match.specs.Stage.{Stage, counts_for}
+use Rattle.fk_sim_block.specs.Owner.{Commons, Owner, Doing, number_of, found, as_part, part, core_source}
+use Rattle.fk_sim_rounds.proofs.Rounds.{IsUnit, AreUnits}
+use Rattle.fk_sim_block.specs.Node.{Nestings, first_word}
+use Rattle.fk_sim_match.specs.Nodes.{first_of}
+use Rattle.fk_sim_match.proofs.Rounds.{not_none, leaf_place}
+use Rattle.fk_sim_rounds.specs.After.{actings, tree_after, owner_after, owners_after, DoesStep, StepsAt, AllGoOn}
+use Rattle.fk_sim_rounds.specs.Rounds.{EndsGroup}
+use Rattle.fk_sim_rounds.proofs.Resume.{kind_there, step_is_brought}
+use Rattle.fk_sim_rounds.proofs.Sum.{stays_put, Stays, AllStay, keeps_stay, all_keep_stay, steps_stay, all_places}
+use Rattle.fk_sim_rounds.specs.Homes.{IsLevelOf, AllHome, AllNext, HomesGoOn, HomesStay}
+use Rattle.fk_sim_rounds.proofs.Results.{counts_are_units}
+
+-- ---- operations that leave the levels
+
+abbrev SameLevels : Processor → Processor → Type 0
+SameLevels p q = (q.number ≡ p.number) × (q.level.size ≡ p.level.size) × (q.level.space.low ≡ p.level.space.low) × (q.outer ≡ p.outer)
+
+same_levels : (p : Processor) → SameLevels p p
+same_levels p = (refl, refl, refl, refl)
+
+levels_join : (p q r : Processor) → SameLevels p q → SameLevels q r → SameLevels p r
+levels_join p q r a b = (b.0 ∙ a.0, b.1 ∙ a.1, b.2 ∙ a.2, b.3 ∙ a.3)
+
+either_levels : (b : Bool) (p x y : Processor) → SameLevels p x → SameLevels p y → SameLevels p (if b then x else y)
+either_levels true p x y one other = one
+either_levels false p x y one other = other
+
+stored_levels : (v : ℕ) (variable : Variable) (p : Processor) → SameLevels p (stored v variable p)
+stored_levels v (Private i) p = (refl, refl, refl, refl)
+stored_levels v (OfFile i) p = (refl, refl, refl, refl)
+
+taken_levels : (words : ℕ) (p : Processor) → SameLevels p (taken words p)
+taken_levels words p =
+    either_levels (words == 0) p _ _ (refl, refl, refl, refl)
+    (either_levels (nat_lt (private_words - p.top) words) p _ _ (refl, refl, refl, refl) (refl, refl, refl, refl))
+
+caller_levels : (gives : Bool) (v : ℕ) (p : Processor) (calls : List Call) → SameLevels p (to_caller gives v p calls)
+caller_levels gives v p [] = (refl, refl, refl, refl)
+caller_levels gives v p (c ∷ calls) = (refl, refl, refl, refl)
+
+leave_levels : (gives framed : Bool) (p : Processor) → SameLevels p (to_caller gives (last (values p)) (unframed framed p) p.callers)
+leave_levels gives true p = caller_levels gives (last (values p)) (unframed true p) p.callers
+leave_levels gives false p = caller_levels gives (last (values p)) p p.callers
+
+local_levels : (set : Setting) (operation : Operation) (p : Processor) → SameLevels p (local set operation p)
+local_levels set (o.Set v) p = stored_levels (last (values p)) v p
+local_levels set o.Take p = taken_levels (store.words_of (last (values p))) p
+local_levels set (o.Leave gives framed) p = leave_levels gives framed p
+local_levels set operation p = (refl, refl, refl, refl)
+
+answer_levels : (operation : Operation) (v : ℕ) (p : Processor) → SameLevels p (with_answer operation v p)
+answer_levels o.Read v p = (refl, refl, refl, refl)
+answer_levels operation v p = (refl, refl, refl, refl)
+
+frame_levels : (nesting words : ℕ) (p : Processor) (b : Bool)
+    → SameLevels p (framed nesting p (if b then None else Some (record (p.level.space) { frames = p.level.space.frames + words })))
+frame_levels nesting words p true = (refl, refl, refl, refl)
+frame_levels nesting words p false = (refl, refl, refl, refl)
+
+block_levels : (words : ℕ) (p : Processor) (b : Bool)
+    → SameLevels p (allotted p (if b then None else Some (p.level.space.blocks - words, record (p.level.space) { blocks = p.level.space.blocks - words })))
+block_levels words p true = (refl, refl, refl, refl)
+block_levels words p false = (refl, refl, refl, refl)
+
+does_levels : (operation : Operation) (highest size : ℕ) (p : Processor) → stays_put operation ≡ true → SameLevels p (does operation highest size p)
+does_levels o.Begin highest size p put = absurd (cc)
+does_levels (o.Divide by) highest size p put = absurd (cc)
+does_levels o.Shrink highest size p put = absurd (cc)
+does_levels o.End highest size p put = absurd (cc)
+does_levels (o.Frame nesting words) highest size p put = frame_levels nesting words p (nat_lt (free p.level.space) words)
+does_levels o.Block highest size p put =
+    let words = store.words_of (last (values p)) in
+    either_levels (words == 0) p _ _ (refl, refl, refl, refl) (block_levels words p (nat_lt (free p.level.space) words))
+does_levels operation highest size p put = (refl, refl, refl, refl)
+
+-- ---- a part
+
+abbrev did_in : Doing → nodes.Part Commons Doing → Doing
+did_in other (nodes.Passes s d) = d
+did_in other (nodes.Breaks site) = other
+
+abbrev has_in : Processor → Phase Position → Processor
+has_in other (Passes s a) = a.runner.has
+has_in other (Breaks site) = other
+
+module _ (core : List CoreOp) (setting : Setting) where
+  phase_levels : (s s' : Store) (a b : Acting Position) (due : Option (Step Position)) → request_phase s a due ≡ Passes s' b → SameLevels a.runner.has b.runner.has
+  phase_levels s s' a b None e = subst (SameLevels a.runner.has) (ap (has_in a.runner.has) e) (same_levels a.runner.has)
+  phase_levels s s' a b (Some step) e = by (class_of step.operation) e
+    where
+      served : (answer : store.Answer) → answered step a.runner.has answer ≡ Passes s' b → SameLevels a.runner.has b.runner.has
+      served (store.Served s1 v) e = subst (SameLevels a.runner.has) (ap (has_in a.runner.has) e) (answer_levels step.operation v a.runner.has)
+      served (store.Faults kind) e = absurd (cc)
+
+      roomy : (room : Bool) → (if room then Passes s a else Breaks step.site) ≡ Passes s' b → SameLevels a.runner.has b.runner.has
+      roomy true e = subst (SameLevels a.runner.has) (ap (has_in a.runner.has) e) (same_levels a.runner.has)
+      roomy false e = absurd (cc)
+
+      by : (c : Class) → do_request s a c step ≡ Passes s' b → SameLevels a.runner.has b.runner.has
+      by Local e = subst (SameLevels a.runner.has) (ap (has_in a.runner.has) e) (same_levels a.runner.has)
+      by Request e = served (store.serve (request step.operation a.runner.has) s a.runner.has.number) e
+      by TreeStep e = roomy (has_room step.operation a.runner.has) e
+
+  due_levels : (r : Runner Position) (due : Option (Step Position)) → SameLevels r.has (local_phase (next core) setting (taking r due) due).runner.has
+  due_levels r None = same_levels r.has
+  due_levels r (Some step) = by (class_of step.operation)
+    where
+      by : (c : Class) → SameLevels r.has (do_local (next core) setting (taking r (Some step)) c step).runner.has
+      by Local = local_levels setting step.operation r.has
+      by Request = same_levels r.has
+      by TreeStep = same_levels r.has
+
+  abbrev acted : (count : ℕ) → Runner Position → Acting Position
+  acted c r = let a = begin (next core) setting c r in local_phase (next core) setting a a.due
+
+  acted_levels : (c : ℕ) (r : Runner Position) → IsUnit c → SameLevels r.has (acted c r).runner.has
+  acted_levels zero r unit = same_levels r.has
+  acted_levels (suc zero) r unit = due_levels r (next core r.left)
+  acted_levels (suc (suc c)) r unit = absurd unit
+
+  part_levels : (c : ℕ) (s s1 : Commons) (p : Owner) (d : Doing) → IsUnit c → part core setting c s p ≡ nodes.Passes s1 d → SameLevels p.runner.has d.acting.runner.has
+  part_levels c s s1 p d unit e = by (request_phase (found s p.heap) (acted c p.runner) (acted c p.runner).due) refl e
+    where
+      by : (x : Phase Position) → request_phase (found s p.heap) (acted c p.runner) (acted c p.runner).due ≡ x → as_part (number_of p) x ≡ nodes.Passes s1 d → SameLevels p.runner.has d.acting.runner.has
+      by (Passes s' b) phase f =
+          levels_join p.runner.has (acted c p.runner).runner.has d.acting.runner.has (acted_levels c p.runner unit)
+          (subst (λ y. SameLevels (acted c p.runner).runner.has y.runner.has) (ap (λ x. (did_in d x).acting) f)
+          (phase_levels (found s p.heap) s' (acted c p.runner) b (acted c p.runner).due phase))
+      by (Breaks site) phase f = absurd (cc)
+
+  abbrev AllSame : List Owner → List Doing → Type 0
+  AllSame [] [] = Unit {0}
+  AllSame (p ∷ ps) (d ∷ ds) = SameLevels p.runner.has d.acting.runner.has × AllSame ps ds
+  AllSame ps ds = ⊥
+
+  all_levels : (counts : List ℕ) (ps : List Owner) (s : Commons) (ds : List Doing) (s' : Commons) → AreUnits counts → nodes.AllPass (core_source core setting) counts ps s ds s' → AllSame ps ds
+  all_levels [] [] s [] s' units all = tt
+  all_levels (c ∷ counts) (p ∷ ps) s (d ∷ ds) s' units all = (part_levels c s all.0 p d units.0 all.1, all_levels counts ps all.0 ds s' units.1 all.2)
+  all_levels counts ps s ds s' units all = absurd (assumption all)
+
+-- ---- levels of nodes
+
+level_same : (tree : Tree) (spaces : ℕ → Space) (n : ℕ) (l l' : Level) (outer : List Level) → l'.size ≡ l.size → l'.space.low ≡ l.space.low → IsLevelOf tree spaces n l outer → IsLevelOf tree spaces n l' outer
+level_same tree spaces n l l' [] size low is = (is.0, size ∙ is.1)
+level_same tree spaces n l l' (k ∷ outer) size low is = (is.0, low ∙ is.1, size ∙ is.2, is.3)
+
+levels_same : (tree : Tree) (spaces : ℕ → Space) (n : ℕ) (p q : Processor) → SameLevels p q → IsLevelOf tree spaces n p.level p.outer → IsLevelOf tree spaces n q.level q.outer
+levels_same tree spaces n p q same is = subst (IsLevelOf tree spaces n q.level) (sym same.3) (level_same tree spaces n p.level q.level p.outer same.1 same.2 is)
+
+-- in a tree with the same members and parents
+pub record SameNodes (old tree : Tree) : Type 0 where
+  pub members : (k : ℕ) → trees.members tree k ≡ trees.members old k
+  pub parents : (k : ℕ) → trees.parent tree k ≡ trees.parent old k
+
+level_along : (old tree : Tree) (spaces : ℕ → Space) → SameNodes old tree → (n : ℕ) (l : Level) (outer : List Level) → IsLevelOf old spaces n l outer → IsLevelOf tree spaces n l outer
+level_along old tree spaces same n l [] is = (is.0, is.1 ∙ ap (λ ms. length ms) (sym (same.members n)))
+level_along old tree spaces same n l (k ∷ outer) is =
+    (is.0, is.1, is.2 ∙ ap (λ ms. length ms) (sym (same.members n)), subst (λ j. IsLevelOf tree spaces j k outer) (sym (same.parents n)) (level_along old tree spaces same (trees.parent old n) k outer is.3))
+
+-- where a group has ended, those round others stay: a node that waits for a part is no group
+level_past : (p : ℕ) (old tree : Tree) (spaces : ℕ → Space) → IsSound p old → (g : ℕ) → trees.kind old g ≡ Some Lockstep → ((k : ℕ) → k ≢ g → tree.nodes k ≡ old.nodes k)
+    → (n : ℕ) (l : Level) (outer : List Level) → old.nodes n ≢ None → n ≢ g → IsLevelOf old spaces n l outer → IsLevelOf tree spaces n l outer
+level_past p old tree spaces sound g kind others n l [] some ne is = (is.0, is.1 ∙ ap (λ x. length (members_of x)) (sym (others n ne)))
+level_past p old tree spaces sound g kind others n l (k ∷ outer) some ne is =
+    let waits : awaits (trees.kind old (trees.parent old n)) n ≡ true = sound.awaited n is.0 some in
+    let ne' : trees.parent old n ≢ g = λ e. false≢true (ap (λ x. awaits x n) (sym (ap (trees.kind old) e ∙ kind)) ∙ waits) in (
+      is.0,
+      is.1,
+      is.2 ∙ ap (λ x. length (members_of x)) (sym (others n ne)),
+      subst (λ j. IsLevelOf tree spaces j k outer) (ap parent_of (sym (others n ne)))
+          (level_past p old tree spaces sound g kind others (trees.parent old n) k outer (awaits-some old (trees.parent old n) n waits) ne' is.3),
+    )
+
+-- ---- steps by which nobody moves
+
+step_nodes : (operation : Operation) (n : ℕ) (whose : ℕ → Processor) (highest low : ℕ) (tree : Tree) → stays_put operation ≡ true → SameNodes tree (changes operation n whose highest low tree)
+step_nodes o.Begin n whose highest low tree put = absurd (cc)
+step_nodes (o.Divide by) n whose highest low tree put = absurd (cc)
+step_nodes o.Shrink n whose highest low tree put = absurd (cc)
+step_nodes o.End n whose highest low tree put = absurd (cc)
+step_nodes o.Farm n whose highest low tree put = record { members = λ k. kind_members n _ tree k; parents = λ k. kind_parent n _ tree k }
+step_nodes o.Seq n whose highest low tree put = record { members = λ k. kind_members n _ tree k; parents = λ k. kind_parent n _ tree k }
+step_nodes (o.Meet true) n whose highest low tree put = record { members = λ k. kind_members n _ tree k; parents = λ k. kind_parent n _ tree k }
+step_nodes o.Resume n whose highest low tree put = record { members = λ k. kind_members n _ tree k; parents = λ k. kind_parent n _ tree k }
+step_nodes operation n whose highest low tree put = record { members = λ k. refl; parents = λ k. refl }
+
+either_nodes : (b : Bool) (old x : Tree) → SameNodes old x → SameNodes old (if b then x else old)
+either_nodes true old x same = same
+either_nodes false old x same = record { members = λ k. refl; parents = λ k. refl }
+
+change_nodes : (actors : List (Acting Position)) (old : Tree) (h : ℕ) (due : Option (Step Position)) (tree : Tree) → Stays due → SameNodes tree (change_by actors old h due tree)
+change_nodes actors old h None tree stay = record { members = λ k. refl; parents = λ k. refl }
+change_nodes actors old h (Some step) tree stay =
+    let n = old.places h in
+    let members = trees.members old n in
+    either_nodes (h == lowest members) tree (changes step.operation n (who actors) (agreed actors members) h tree) (step_nodes step.operation n (who actors) (agreed actors members) h tree stay)
+
+all_nodes : (actors : List (Acting Position)) (old : Tree) (ds : List Doing) (tree : Tree) → AllStay ds → SameNodes tree (all_changes actors old (actings ds) tree)
+all_nodes actors old [] tree stay = record { members = λ k. refl; parents = λ k. refl }
+all_nodes actors old (d ∷ ds) tree stay =
+    let one = change_nodes actors old d.acting.runner.has.number d.acting.due tree stay.0 in
+    let more = all_nodes actors old ds (change_by actors old d.acting.runner.has.number d.acting.due tree) stay.1 in
+    record { members = λ k. more.members k ∙ one.members k; parents = λ k. more.parents k ∙ one.parents k }
+
+-- ---- all processors
+
+-- what the step of one that doesn't move makes of it
+settled_levels : (acting : List (Acting Position)) (old new : Tree) (r : Runner Position) (due : Option (Step Position)) → Stays due → SameLevels r.has (settled_by acting old new r due).has
+settled_levels acting old new r None stay = same_levels r.has
+settled_levels acting old new r (Some step) stay =
+    let h = r.has.number in
+    let members = trees.members old (old.places h) in
+    does_levels step.operation (agreed acting members) (length (trees.members new (new.places h))) r.has stay
+
+module _ (core : List CoreOp) (setting : Setting) (spaces : ℕ → Space) where
+  stay_home : (acting : List (Acting Position)) (old new : Tree) (number : ℕ) (ps : List Owner) (ds : List Doing) → SameNodes old new → ((h : ℕ) → new.places h ≡ old.places h) → AllStay ds
+      → AllHome old spaces number ps → AllSame core setting ps ds → AllHome new spaces number (map (owner_after acting old new) ds)
+  stay_home acting old new number [] [] same places stay home levels = tt
+  stay_home acting old new number (p ∷ ps) (d ∷ ds) same places stay home levels =
+      let q = settled_by acting old new d.acting.runner d.acting.due in
+      let both = levels_join p.runner.has d.acting.runner.has q.has levels.0 (settled_levels acting old new d.acting.runner d.acting.due stay.0) in (
+        both.0 ∙ home.0,
+        levels_same new spaces (new.places number) p.runner.has q.has both
+            (level_along old new spaces same (new.places number) p.runner.has.level p.runner.has.outer
+            (subst (λ k. IsLevelOf old spaces k p.runner.has.level p.runner.has.outer) (sym (places number)) home.1)),
+        stay_home acting old new (suc number) ps ds same places stay.1 home.2 levels.1,
+      )
+  stay_home acting old new number ps ds same places stay home levels = absurd (assumption levels)
+
+  -- a group ends
+  module _ (old : Tree) (sound : IsSound setting.processors old) (g : ℕ) (kind : trees.kind old g ≡ Some Lockstep) where
+    others : (k : ℕ) → k ≢ g → (trees.finish g old).nodes k ≡ old.nodes k
+    others k ne = with_other g (trees.left_by (λ h. false) (old.nodes g)) old.nodes k ne
+
+    there : old.nodes g ≢ None
+    there = not_none (old.nodes g) (kind_there (old.nodes g) Lockstep kind)
+
+    not_root : g ≢ 0
+    not_root e = sound.free (ap (trees.kind old) (sym e) ∙ kind)
+
+    parent_waits : awaits (trees.kind old (trees.parent old g)) g ≡ true
+    parent_waits = sound.awaited g not_root there
+
+    parent_other : trees.parent old g ≢ g
+    parent_other e = false≢true (ap (λ x. awaits x g) (sym (ap (trees.kind old) e ∙ kind)) ∙ parent_waits)
+
+    -- of a member, when it leaves
+    left_home : (p : Processor) (outer : List Level) → IsLevelOf old spaces g p.level outer
+        → IsLevelOf (trees.finish g old) spaces (trees.parent old g) (to_outer p outer).level (to_outer p outer).outer
+    left_home p [] is = absurd (not_root is.0)
+    left_home p (k ∷ outer) is =
+        level_past setting.processors old (trees.finish g old) spaces sound g kind others (trees.parent old g) k outer (awaits-some old (trees.parent old g) g parent_waits) parent_other is.3
+
+    outer_number : (p : Processor) (outer : List Level) → (to_outer p outer).number ≡ p.number
+    outer_number p [] = refl
+    outer_number p (k ∷ outer) = refl
+
+    leaves : (acting : List (Acting Position)) (r : Runner Position) (due : Option (Step Position)) → DoesStep o.End due → (settled_by acting old (trees.finish g old) r due).has ≡ to_outer r.has r.has.outer
+    leaves acting r None does' = absurd does'
+    leaves acting r (Some step) does' =
+        let h = r.has.number in
+        let members = trees.members old (old.places h) in
+        ap (λ op. does op (agreed acting members) (length (trees.members (trees.finish g old) ((trees.finish g old).places h))) r.has) does'
+
+    goes : (h : ℕ) → h < setting.processors → old.places h ≡ g → (trees.finish g old).places h ≡ trees.parent old g
+    goes h lt at =
+        ap (λ b. if b && true then trees.parent old g else old.places h) (subst (λ k. is_member h (trees.members old k) ≡ true) at (sound.placed h lt).member)
+
+    stays_there : (h : ℕ) → old.places h ≢ g → (trees.finish g old).places h ≡ old.places h
+    stays_there h ne =
+        ⊎_elim (λ is. absurd (ne (leaf_place setting.processors old sound g h kind is))) (λ off. ap (λ b. if b && true then trees.parent old g else old.places h) off)
+        (cases_Bool (is_member h (trees.members old g)))
+
+    end_home : (acting : List (Acting Position)) (number : ℕ) (ps : List Owner) (ds : List Doing) → number + length ds ≡ setting.processors → StepsAt old g number o.End ds → AllHome old spaces number ps
+        → AllSame core setting ps ds → AllHome (trees.finish g old) spaces number (map (owner_after acting old (trees.finish g old)) ds)
+    end_home acting number [] [] many steps home levels = tt
+    end_home acting number (p ∷ ps) (d ∷ ds) many steps home levels =
+        let new = trees.finish g old in
+        let r = d.acting.runner in
+        let q = settled_by acting old new r d.acting.due in
+        let lt : number < setting.processors = omega (arith, many) in
+        let more = end_home acting (suc number) ps ds (omega (arith, many)) steps.3 home.2 levels.1 in
+        let was : IsLevelOf old spaces (old.places number) r.has.level r.has.outer = levels_same old spaces (old.places number) p.runner.has r.has levels.0 home.1 in
+        let number_is : r.has.number ≡ number = levels.0.0 ∙ home.0 in
+        ⊎_elim
+        (λ at.
+        let has = leaves acting r d.acting.due (steps.1 at) in
+        let here = left_home r.has r.has.outer (subst (λ k. IsLevelOf old spaces k r.has.level r.has.outer) at was) in (
+          ap (λ x. x.number) has ∙ outer_number r.has r.has.outer ∙ number_is,
+          subst (λ k. IsLevelOf new spaces k q.has.level q.has.outer) (sym (goes number lt at))
+              (subst (λ x. IsLevelOf new spaces (trees.parent old g) x.level x.outer) (sym has) here),
+          more,
+        ))
+        (λ ne.
+        let same = settled_levels acting old new r d.acting.due (keeps_stay d.acting.due (steps.2 ne)) in
+        let past = level_past setting.processors old new spaces sound g kind others (old.places number) r.has.level r.has.outer (has_some old (old.places number) number (sound.placed number lt).member) ne was in (
+          same.0 ∙ number_is,
+          levels_same new spaces (new.places number) r.has q.has same (subst (λ k. IsLevelOf new spaces k r.has.level r.has.outer) (sym (stays_there number ne)) past),
+          more,
+        ))
+        (cases_eq (old.places number) g)
+    end_home acting number ps ds many steps home levels = absurd (assumption levels)
+
+pub homes_stay : HomesStay
+homes_stay core setting tree spaces stages ps did shared shared' sound long home all known =
+    let levels = all_levels core setting (counts_for stages) ps shared did shared' (counts_are_units stages) all in
+    let stay : AllStay did → AllHome (tree_after tree did) spaces 0 (owners_after tree (tree_after tree did) did)
+    = λ put.
+    stay_home core setting spaces (actings did) tree (tree_after tree did) 0 ps did (all_nodes (actings did) tree did tree put) (λ h. ap (λ f. f h) (all_places (actings did) tree did tree put)) put home levels in
+    let ends : EndsGroup tree did → AllHome (tree_after tree did) spaces 0 (owners_after tree (tree_after tree did) did)
+    = λ e.
+    let same : tree_after tree did ≡ trees.finish e.group tree
+    = step_is_brought setting.processors tree sound e.group Lockstep o.End did e.kind (λ h member. leaf_place setting.processors tree sound e.group h e.kind member) long e.steps in
+    subst (λ x. AllHome x spaces 0 (owners_after tree x did)) (sym same)
+    (end_home core setting spaces tree sound e.group e.kind (actings did) 0 ps did (omega (arith, long)) e.steps home levels) in
+    ⊎_elim (λ keep. stay (all_keep_stay did keep))
+    (λ a.
+    ⊎_elim (λ r. stay (steps_stay tree 0 0 o.Resume did refl r.steps))
+    (λ b.
+    ⊎_elim (λ c. stay (steps_stay tree c.group 0 (o.Meet true) did refl c.steps))
+    (λ c.
+    ⊎_elim (λ f. stay (steps_stay tree f.group 0 o.Farm did refl f.steps))
+    (λ d. ⊎_elim (λ s. stay (steps_stay tree s.group 0 o.Seq did refl s.steps)) (λ e. ends e) d) c) b) a) known
+
+-- ---- what is to be known of who goes on
+
+home_words : (spaces : ℕ → Space) (n : ℕ) (low : ℕ) → n ≢ 0 → low ≡ (spaces n).low → low ≡ first_of spaces n
+home_words spaces zero low ne e = absurd (ne refl)
+home_words spaces (suc n) low ne e = e
+
+at_home : (tree : Tree) (spaces : ℕ → Space) (n : ℕ) (l : Level) (outer : List Level) → IsLevelOf tree spaces n l outer → (first_word l outer ≡ first_of spaces n) × (l.size ≡ length (trees.members tree n))
+at_home tree spaces n l [] is = (ap (first_of spaces) (sym is.0), is.1)
+at_home tree spaces n l (k ∷ outer) is = (home_words spaces n l.space.low is.0 is.1, is.2)
+
+all_on : (core : List CoreOp) (nestings : Nestings) (setting : Setting) (tree : Tree) (spaces : ℕ → Space) (number : ℕ) (afters : List (Option Stage)) (ds : List Doing) (ps : List Owner) → AllHome tree spaces number ps → AllNext core nestings setting tree number afters ds ps
+    → AllGoOn core nestings setting tree spaces number afters ds ps
+all_on core nestings setting tree spaces number [] [] [] home on = tt
+all_on core nestings setting tree spaces number (a ∷ afters) (d ∷ ds) (p ∷ ps) home on =
+    let at = at_home tree spaces (tree.places number) p.runner.has.level p.runner.has.outer home.1 in
+    (record { number_is = home.0; words = at.0; size = at.1 }, on.0, all_on core nestings setting tree spaces (suc number) afters ds ps home.2 on.1)
+all_on core nestings setting tree spaces number afters ds ps home on = absurd (assumption on)
+
+pub homes_go_on : HomesGoOn
+homes_go_on core nestings setting tree spaces afters ds ps home on = all_on core nestings setting tree spaces 0 afters ds ps home on

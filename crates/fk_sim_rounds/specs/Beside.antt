@@ -1,0 +1,40 @@
+-- A state of a core run, beside the processors of a machine, each of which is at the operation that jumps lead it to.
+use Rattle.std.specs.Prelude.{◌≡◌, ℕ, suc, List, [], ◌∷◌, map, None}
+use Rattle.fk_num.specs.Word.{Memory}
+use Rattle.fk_meaning.specs.Processor.{Setting}
+use Rattle.fk_meaning.specs.Round.{Runner, State, Round, result}
+use Rattle.fk_core.specs.declared.op.CoreOp.{CoreOp}
+use Rattle.fk_core.specs.Next.{Position, position, landing, next}
+use Rattle.fk_sim_block.specs.Owner.{Commons, commons_of, Owner}
+use Rattle.fk_sim_rounds.specs.Next.{JumpsLead}
+use Rattle.fk_sim_rounds.specs.After.{runners_of}
+
+module _ (core : List CoreOp) where
+  abbrev pub landed_runner : Runner Position → Runner Position
+  landed_runner r = record r { left = position (landing core r.left.at) r.left.callers }
+
+  abbrev pub landed_state : State Position → State Position
+  landed_state s = record s { runners = map landed_runner s.runners }
+
+-- each has the heap of its number, from one on
+abbrev pub HaveHeaps : (number : ℕ) → (heaps : ℕ → Memory) → List Owner → Type 0
+HaveHeaps number heaps [] = Unit {0}
+HaveHeaps number heaps (p ∷ ps) = (heaps number ≡ p.heap) × HaveHeaps (suc number) heaps ps
+
+-- runners stand in the order of their numbers
+abbrev pub AreInOrder : (number : ℕ) → List (Runner Position) → Type 0
+AreInOrder number [] = Unit {0}
+AreInOrder number (r ∷ rs) = (r.has.number ≡ number) × AreInOrder (suc number) rs
+
+-- a run goes on, with these processors and what they share
+pub record IsBeside (core : List CoreOp) (s : State Position) (ps : List Owner) (shared : Commons) : Type 0 where
+  pub going : s.fault ≡ None
+  pub runners : runners_of ps ≡ map (landed_runner core) s.runners
+  pub heaps : HaveHeaps 0 s.store.heaps ps
+  pub commons : commons_of s.store ≡ shared
+
+-- whichever of both forms a round begins with, it leaves the same
+abbrev pub LandedRunsAreRuns : Type 0
+LandedRunsAreRuns =
+    (core : List CoreOp) (setting : Setting) (round : Round) (s : State Position) → JumpsLead core
+    → landed_state core (result (next core) setting round (landed_state core s)) ≡ landed_state core (result (next core) setting round s)

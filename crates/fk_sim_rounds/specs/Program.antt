@@ -1,0 +1,45 @@
+-- Members of a group that have one program are about to do one operation, and go one way.
+use Rattle.std.specs.Prelude.{◌≡◌, ℕ, suc, ◌≤◌, List, [], ◌∷◌, length, true, Some, ◌⊎◌}
+use Rattle.fk_tree.specs.declared.node.Kind.TheVariants.{Lockstep}
+use Rattle.fk_tree.specs.Tree as trees
+use Rattle.fk_tree.specs.Sound.{IsSound}
+use Rattle.fk_meaning_operation.specs.declared.operation.Operation.{Operation}
+use Rattle.fk_meaning_operation.specs.declared.operation.Operation.TheVariants.{End}
+use Rattle.fk_meaning.specs.Round.{State}
+use Rattle.fk_core.specs.declared.op.CoreOp.{CoreOp}
+use Rattle.fk_core.specs.Next.{Position, next}
+use Rattle.fk_sim_nodes.specs.Node.{of_node}
+use Rattle.fk_lockstep.specs.OneProgram.{HaveOneProgram}
+use Rattle.fk_sim_block.specs.Owner.{Owner, number_of}
+use Rattle.fk_sim_block.specs.Next.{StandsOp}
+use Rattle.fk_sim_block.specs.Ready.{is_alone, IsReady}
+use Rattle.fk_sim_block.specs.Node.{Nestings}
+use Rattle.fk_sim_block.specs.Lockstep.{IsInStart}
+use Rattle.fk_sim_block.specs.Law.{is_shared_step}
+use Rattle.fk_sim_rounds.specs.Next.{landed, HaveNext}
+use Rattle.fk_sim_rounds.specs.After.{ArePlaces, runners_of}
+
+-- what a member of a group may do
+abbrev pub MayInStep : Nestings → Operation → Owner → Type 0
+MayInStep nestings operation p = (is_alone operation ≡ true) ⊎ ((is_shared_step operation ≡ true) ⊎ ((operation ≡ End) × IsInStart nestings p))
+
+-- and is about to do
+pub record IsInStep (core : List CoreOp) (nestings : Nestings) (number : ℕ) (p : Owner) : Type 0 where
+  pub number_is : number_of p ≡ number
+  pub op : CoreOp
+  pub operation : Operation
+  pub stands : StandsOp core p.runner.left.at op operation
+  pub ready : IsReady op operation p.runner
+  pub may : MayInStep nestings operation p
+
+-- so it is with those who stand in a node, from a number on
+abbrev pub AllInStep : List CoreOp → Nestings → (g number : ℕ) → (nodes : List ℕ) → List Owner → Type 0
+AllInStep core nestings g number [] [] = Unit {0}
+AllInStep core nestings g number (n ∷ nodes) (p ∷ ps) = (n ≡ g → IsInStep core nestings number (landed core p)) × AllInStep core nestings g (suc number) nodes ps
+AllInStep core nestings g number nodes ps = ⊥
+
+abbrev pub GroupsHaveNext : Type 0
+GroupsHaveNext =
+    (core : List CoreOp) (nestings : Nestings) (processors : ℕ) (s : State Position) (nodes : List ℕ) (ps : List Owner) (g : ℕ)
+    → processors ≤ 1024 → IsSound processors s.tree → ArePlaces s.tree 0 nodes → length nodes ≡ processors → s.runners ≡ runners_of ps
+    → HaveOneProgram (next core) s → trees.kind s.tree g ≡ Some Lockstep → AllInStep core nestings g 0 nodes ps → HaveNext core nestings (of_node g nodes ps)

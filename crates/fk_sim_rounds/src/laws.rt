@@ -1,0 +1,198 @@
+//! Laws of the definitions.
+
+ghost use Rattle.fk_sim_rounds.specs.InRange.{ListsStayInRange};
+ghost use Rattle.fk_sim_rounds.specs.Programs.{ProgramsAreFollowed};
+ghost use Rattle.fk_sim_rounds.specs.Comes.{MembersComeToStages, GroupsComeToCommits};
+ghost use Rattle.fk_sim_rounds.specs.Cycle.{CyclesBindAgain};
+ghost use Rattle.fk_sim_rounds.specs.Program.{GroupsHaveNext};
+ghost use Rattle.fk_sim_rounds.specs.Start.{CyclesComeToStart, RoundsStart};
+ghost use Rattle.fk_sim_rounds.specs.Unite.{CyclesUnite};
+ghost use Rattle.fk_sim_rounds.specs.Rest.{KnownRoundsKeepGroups, EndedGroupsRest};
+ghost use Rattle.fk_sim_rounds.specs.Rounds.{RoundsKeepTrees, RoundsResume, RoundsClose, RoundsSetFree, RoundsSendOne, RoundsEnd, RoundsBindAgain};
+ghost use Rattle.fk_sim_rounds.specs.Beside.{LandedRunsAreRuns};
+ghost use Rattle.fk_sim_rounds.specs.Results.{CyclesAreResults, CutsAreFaults};
+ghost use Rattle.fk_sim_rounds.specs.Homes.{HomesStay, HomesGoOn, HomesBegin};
+ghost use Rattle.fk_sim_rounds.specs.Machines.{MachinesFollowRounds, MachinesFollowStarts};
+ghost use Rattle.fk_sim_rounds.specs.RestInRuns.{OpeningsAreReady, CyclesStayReady, StartsStayReady};
+ghost use Rattle.fk_sim_rounds.specs.Starts.{CyclesFollowStarts};
+ghost use Rattle.fk_sim_rounds.specs.Follow.{CyclesFollowRounds, HartsEndWithProcessors};
+
+/// What follows core runs of a list follows the runs of a program whose code stands in the list.
+pub fn programs_are_followed()
+    ensures { ProgramsAreFollowed }
+{
+    fk_core::laws::flat_lists_keep_runs();
+}
+
+/// In every run of a list, with groups too, the values and variables of each processor are words, it has taken no more of its
+/// private heap than there is, and fewer than 256 calls wait.
+///
+/// So it is after every schedule of 1,024 processors at most, whose globals, first values and input are words, with room for
+/// globals and input in one half of shared data.
+pub fn lists_stay_in_range()
+    ensures { ListsStayInRange }
+{}
+
+/// A member by itself that has committed comes to the stage of its next operation, by a jump or straight: at a distance of at
+/// most 254 from its commit, or of 251 from the word where it meets others, 211 where it unites with them.
+pub fn members_come_to_stages()
+    ensures { MembersComeToStages }
+{}
+
+/// Members in lockstep come so to their next common commit.
+pub fn groups_come_to_commits()
+    ensures { GroupsComeToCommits }
+{}
+
+/// Members of a group that have one program (`fk_lockstep`) are about to do one operation, and go one way at a branch.
+pub fn groups_have_next()
+    ensures { GroupsHaveNext }
+{}
+
+/// After a round in which no step changes the tree, whether its processors did local operations, requests, agrees, barriers or
+/// halts, all are bound again.
+pub fn rounds_keep_trees()
+    ensures { RoundsKeepTrees }
+{}
+
+/// So they are after the round in which all processors, back from the group of `start`, go on by themselves.
+pub fn rounds_resume()
+    ensures { RoundsResume }
+{}
+
+/// And after the round in which those of a group meet at the end of its body, and are in lockstep again.
+pub fn rounds_close()
+    ensures { RoundsClose }
+{}
+
+/// After the round in which a group comes to the body of a `farm` all are bound again: each of its members goes on by itself.
+pub fn rounds_set_free()
+    ensures { RoundsSetFree }
+{}
+
+/// So they are after the round in which it comes to a `seq`: its lowest member runs the body, and the others wait for it.
+pub fn rounds_send_one()
+    ensures { RoundsSendOne }
+{}
+
+/// And after the round in which the group of `start` ends: its members are back in the root, each by itself.
+pub fn rounds_end()
+    ensures { RoundsEnd }
+{}
+
+/// Where the plan of a tree binds all harts before the cycle in which the last of all processors leaves the word where they meet at
+/// the beginning of `start`, nobody is in that round, and behind it all are in the root, in lockstep.
+pub fn cycles_unite()
+    ensures { CyclesUnite }
+{}
+
+/// Where those who have met for a `start` in the root are bound in lockstep before a cycle, it is a round of the counts that the
+/// stages tell, up to its first fault: nobody is in it, and all are one cycle nearer to their commit, or all are.
+pub fn cycles_come_to_start()
+    ensures { CyclesComeToStart }
+{}
+
+/// After the round in which the group of `start` begins so all are bound again.
+pub fn rounds_start()
+    ensures { RoundsStart }
+{}
+
+/// Where the plan of a tree binds all harts before a cycle that is one of these rounds, that of the next tree binds them behind it.
+pub fn rounds_bind_again()
+    ensures { RoundsBindAgain }
+{}
+
+/// A group that is there stays behind each of these rounds, but for one that ends.
+pub fn known_rounds_keep_groups()
+    ensures { KnownRoundsKeepGroups }
+{}
+
+/// Nobody is left at the words of one that ends: they are 0.
+pub fn ended_groups_rest()
+    ensures { EndedGroupsRest }
+{}
+
+/// So from one cycle of the machine to the next, where nobody unites with others: it is a round of the counts that the stages tell, up to its first fault, and where
+/// it is one of these rounds, all are bound again.
+pub fn cycles_bind_again()
+    ensures { CyclesBindAgain }
+{}
+
+/// It doesn't matter whether processors are at jumps or at the operations that these lead to: a round leaves the same.
+pub fn landed_runs_are_runs()
+    ensures { LandedRunsAreRuns }
+{}
+
+/// Where all parts of a round pass, one after another, the state of the run after that round stands beside what they leave: it has
+/// their tree, their stores, and their processors behind the steps of the tree.
+pub fn cycles_are_results()
+    ensures { CyclesAreResults }
+{}
+
+/// Where one of them faults, that is the fault of the round, and of the round without the processors above it.
+pub fn cuts_are_faults()
+    ensures { CutsAreFaults }
+{}
+
+/// Where each processor has of its group, and of those round it, what the tree has of the node where it stands, and of its parents,
+/// it has so behind a known round.
+pub fn homes_stay()
+    ensures { HomesStay }
+{}
+
+/// And so it has behind the beginning of the group of `start`, which has the space of the root.
+pub fn homes_begin()
+    ensures { HomesBegin }
+{}
+
+/// So nothing but their next operations is to be known of those who go on.
+pub fn homes_go_on()
+    ensures { HomesGoOn }
+{}
+
+/// From one cycle to the next a machine follows a run: where the plan of a state's tree binds the harts of the processors that
+/// stand beside it, a cycle is the round of those whose stages commit, which is possible, or a stopped one. Where it is a round of
+/// `fk_sim_rounds`, and processors go on as is told there, the state behind it is followed too. Or nobody is in the round, since
+/// all processors have met at the beginning of `start`, and behind it they are in lockstep there.
+pub fn cycles_follow_rounds()
+    ensures { CyclesFollowRounds }
+{}
+
+/// Where all have met there, they come nearer to their commit by rounds that nobody is in, and then to the one in which the group
+/// begins. The state behind that is followed again.
+pub fn cycles_follow_starts()
+    ensures { CyclesFollowStarts }
+{}
+
+/// All harts of a machine that follows a state have ended exactly where all its processors have nothing left to do.
+pub fn harts_end_with_processors()
+    ensures { HartsEndWithProcessors }
+{}
+
+/// So a machine follows a run cycle by cycle: the round that is read off a cycle is possible, and the machine has finished behind it
+/// exactly where the run has; or it is stopped, and its fault ends the machine; or all have met at the beginning of `start`.
+pub fn machines_follow_rounds()
+    ensures { MachinesFollowRounds }
+{}
+
+/// Where all its processors have met at the beginning of `start`, it goes on to the round in which the group begins, and follows the
+/// state behind it.
+pub fn machines_follow_starts()
+    ensures { MachinesFollowStarts }
+{}
+
+/// At the beginning nobody is at the words of the group to come.
+pub fn openings_are_ready()
+    ensures { OpeningsAreReady }
+{}
+
+/// As long as there is no group, nobody comes to the words of the one to come; and nobody is left there when a group ends. So each
+/// cycle of a machine that follows a state leaves them ready, where groups come one at a time and have one header.
+pub fn cycles_stay_ready()
+    ensures { CyclesStayReady }
+{}
+
+/// So nobody is at them in the cycle in which the group of `start` begins.
+pub fn starts_stay_ready()
+    ensures { StartsStayReady }
+{}

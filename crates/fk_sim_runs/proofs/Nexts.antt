@@ -1,0 +1,192 @@
+-- What each processor of a state does next that a run of a list with one group at a time has come to.
+use Rattle.std.proofs.Common.{◌≡◌, ◌≢◌, ◌⊎◌, inl, inr, ⊎_elim, ℕ, zero, suc, ◌<◌, Bool, true, false, List, [], ◌∷◌, Option, Some, refl, sym, ap, ◌∙◌, subst, arith}
+use Rattle.std.specs.Prelude.{slice_get}
+use Rattle.std.proofs.lemmas.Bool.{false≢true}
+use Rattle.fk_num.specs.Word.{Memory}
+use Rattle.fk_meaning_operation.specs.Kinds.{class_of, joint_of}
+use Rattle.fk_meaning_operation.specs.declared.operation.Operation.{Operation}
+use Rattle.fk_meaning_operation.specs.declared.operation.Operation.TheVariants as o
+use Rattle.fk_tree.specs.declared.node.Kind.{Kind}
+use Rattle.fk_tree.specs.declared.node.Kind.TheVariants.{Waiting, Asynchronous}
+use Rattle.fk_tree.specs.Tree as trees
+use Rattle.fk_tree.specs.Tree.{Tree, is_member}
+use Rattle.fk_tree.specs.Sound.{Has}
+use Rattle.fk_meaning.specs.Processor.{Level, Setting}
+use Rattle.fk_meaning.specs.Round.{Runner, State, body_of}
+use Rattle.fk_core.specs.declared.op.CoreOp.{CoreOp}
+use Rattle.fk_core.specs.Next.{Position, position, landing, next}
+use Rattle.fk_lockstep.proofs.Round.{at_below}
+use Rattle.fk_lockstep_one_group.specs.Where.{Where, InRoot, Waits, InGroup, InBody, BehindBody, goes, Goes}
+use Rattle.fk_lockstep_one_group.specs.Placed.{where_at, HasLevels, IsPlaced}
+use Rattle.fk_lockstep_one_group.proofs.Moves.{goes_on}
+use Rattle.fk_sim_block.specs.Owner.{Owner}
+use Rattle.fk_sim_block.specs.Next.{step_at}
+use Rattle.fk_sim_block.specs.Ready.{is_no_step, MayDo, IsReady}
+use Rattle.fk_sim_block.specs.Node.{Nestings}
+use Rattle.fk_sim_block.specs.Lockstep.{NoneSaved}
+use Rattle.fk_sim_block.specs.Joint.{word_of}
+use Rattle.fk_sim_block.specs.Start.{IsInRoot}
+use Rattle.fk_sim_match.specs.Nodes.{is_lockstep}
+use Rattle.fk_sim_match.specs.Rounds.{joint_at_word}
+use Rattle.fk_sim_rounds.specs.Next.{landed, MayMeet, MayByItself, HasNext}
+use Rattle.fk_sim_runs.specs.Lists.{IsOfOneGroup}
+use Rattle.fk_sim_runs.specs.Reached.{the_end, IsReached}
+use Rattle.fk_sim_runs.specs.Facts.{ReachedProcessorsHaveNext}
+use Rattle.fk_sim_runs.proofs.Ways.{StepOf, step_of_place, in_root, in_waiting, in_group, in_body, behind_body, Leading, leading}
+
+-- ---- meetings
+
+closes_body : (g : ℕ) (alone : Bool) → g ≢ 0 → joint_of (o.Meet true) ≡ joint_at_word g (Some (Asynchronous alone)) (word_of (o.Meet true))
+closes_body zero alone ne = absurd (ne refl)
+closes_body (suc g) alone ne = refl
+
+pub meets_at_end : (tree : Tree) (number : ℕ) (alone : Bool) → tree.places number ≢ 0 → trees.kind tree (tree.places number) ≡ Some (Asynchronous alone) → Has tree (tree.places number) number
+    → MayMeet tree (tree.places number) number (o.Meet true)
+meets_at_end tree number alone ne kind has = record {
+  meeting = refl;
+  joint = subst (λ (k : Option Kind). joint_of (o.Meet true) ≡ joint_at_word (tree.places number) k (word_of (o.Meet true))) (sym kind) (closes_body (tree.places number) alone ne);
+  member = has;
+}
+
+pub meets_at_barrier : (tree : Tree) (number : ℕ) → is_member number (body_of (trees.kind tree (tree.places number)) (trees.members tree (tree.places number))) ≡ true
+    → MayMeet tree (tree.places number) number (o.Meet false)
+meets_at_barrier tree number runs = record { meeting = refl; joint = refl; member = runs }
+
+resumes_at : (g first parts : ℕ) → joint_of o.Resume ≡ joint_at_word g (Some (Waiting first parts)) (word_of o.Resume)
+resumes_at zero first parts = refl
+resumes_at (suc g) first parts = refl
+
+pub meets_to_resume : (tree : Tree) (number first parts : ℕ) → trees.kind tree (tree.places number) ≡ Some (Waiting first parts) → Has tree (tree.places number) number
+    → MayMeet tree (tree.places number) number o.Resume
+meets_to_resume tree number first parts kind has = record {
+  meeting = refl;
+  joint = subst (λ (k : Option Kind). joint_of o.Resume ≡ joint_at_word (tree.places number) k (word_of o.Resume)) (sym kind) (resumes_at (tree.places number) first parts);
+  member = has;
+}
+
+-- a processor at its operation may do what it may before
+pub may_same : (operation : Operation) (r : Runner Position) (i : ℕ) → MayDo operation r → MayDo operation (record r { left = position i r.left.callers })
+may_same o.Read r i x = x
+may_same operation r i x = x
+
+pub none_saved : (nestings : Nestings) → ((i : ℕ) → nestings.levels i ≡ 0) → (indices : List ℕ) → NoneSaved nestings indices
+none_saved nestings none [] = tt
+none_saved nestings none (i ∷ indices) = (none i, none_saved nestings none indices)
+
+pub root_levels : (core : List CoreOp) (nestings : Nestings) (setting : Setting) (p : Owner) → ((i : ℕ) → nestings.levels i ≡ 0) → HasLevels setting InRoot p.runner.has → IsInRoot nestings setting (landed core p)
+root_levels core nestings setting p none levels = record {
+  outer = levels.0;
+  level = record {
+    number = ap (λ (l : Level). l.number) levels.1;
+    rank = ap (λ (l : Level). l.rank) levels.1;
+    size = ap (λ (l : Level). l.size) levels.1;
+  };
+  space = ap (λ (l : Level). l.space) levels.1;
+  none = none_saved nestings none (landing core p.runner.left.at ∷ p.runner.left.callers);
+}
+
+module _ (core : List CoreOp) (nestings : Nestings) (main : ℕ) (setting : Setting) (s : State Position) (list : IsOfOneGroup core nestings main) (is : IsReached core setting s) where
+  pub below : (h : ℕ) (r : Runner Position) → slice_get s.runners h ≡ Some r → h < setting.processors
+  below h r at = let lt = at_below s.runners h r at in let many = is.one_group.many in omega (arith, lt, many)
+
+  pub leads_to : (h : ℕ) (r : Runner Position) → slice_get s.runners h ≡ Some r → r.left ≢ the_end core → Leading core r.left
+  leads_to h r at going = ⊎_elim (λ w. leading core list.well_formed.leads_on r.left w.at) (λ e. absurd (going e)) (is.within h r at)
+
+  module _ (h : ℕ) (r : Runner Position) (heap : Memory) (at : slice_get s.runners h ≡ Some r) (leads : Leading core r.left) where
+    abbrev p : Owner
+    p = record { runner = r; heap = heap }
+
+    abbrev g : ℕ
+    g = s.tree.places h
+
+    abbrev operation : Operation
+    operation = leads.operation
+
+    abbrev pub placed : IsPlaced (next core) setting s.tree h r
+    placed = is.one_group.placed h r at
+
+    pub ready : IsReady leads.op operation (landed core p).runner
+    ready = record {
+      depth = is.depth h r leads.op at leads.at.stands;
+      may = may_same operation r (landing core r.left.at) (is.may h r leads.op operation at leads.at.stands leads.at.is_read);
+      in_range = is.in_range h r at;
+    }
+
+    has : Has s.tree g h
+    has = (is.sound.placed h (below h r at)).member
+
+    abbrev runs : Bool
+    runs = is_member h (body_of (trees.kind s.tree g) (trees.members s.tree g))
+
+    way : (to : Where) × (goes placed.place operation true ≡ Some to) × Goes (next core) to ((step_at core (landing core r.left.at) leads.op operation r.left.callers).rest true)
+    way = goes_on (next core) placed.place r.left (step_at core (landing core r.left.at) leads.op operation r.left.callers) placed.goes leads.is_next true
+
+    pub does : (is_no_step (class_of operation) ≡ true) ⊎ StepOf placed.place operation
+    does = step_of_place placed.place operation true way.0 way.1
+
+    abbrev Next : Type 0
+    Next = HasNext core nestings setting s.tree h (landed core p)
+
+    by_itself : MayByItself nestings setting s.tree g h operation (landed core p) → Next
+    by_itself may = record { op = leads.op; operation = operation; stands = leads.at; ready = ready; may = λ unlocked. may }
+
+    meets : (op : Operation) → operation ≡ op → MayMeet s.tree g h op → Next
+    meets op e may = by_itself (inr (inr (inl (subst (MayMeet s.tree g h) (sym e) may))))
+
+    -- what the root is when nobody waits there
+    root_kind : (alone : Bool) → trees.kind s.tree 0 ≡ Some (Asynchronous alone) → trees.kind s.tree 0 ≡ Some (Asynchronous false)
+    root_kind alone e =
+        ⊎_elim (λ none. none.root) (λ one. let clash : Some (Asynchronous alone) ≡ Some (Waiting one.0 1) = sym e ∙ one.1.root in absurd (cc)) is.one_group.tree
+
+    at_start : operation ≡ o.Begin → g ≡ 0 → trees.kind s.tree 0 ≡ Some (Asynchronous false) → HasLevels setting InRoot r.has → Next
+    at_start e none kind levels =
+        by_itself (inr (inr (inr (record {
+          begins = e;
+          root = none;
+          kind = kind;
+          member = subst (λ (n : ℕ). Has s.tree n h) none has;
+          in_root = root_levels core nestings setting p list.levels levels;
+        }))))
+
+    by_place : (place : Where) → where_at s.tree h ≡ Some place → HasLevels setting place r.has → StepOf place operation → Next
+    by_place InRoot there levels step =
+        let node = in_root g (trees.kind s.tree g) runs there in
+        let alone = node.1.0 in
+        let kind0 : trees.kind s.tree 0 ≡ Some (Asynchronous alone) = subst (λ (n : ℕ). trees.kind s.tree n ≡ Some (Asynchronous alone)) node.0 node.1.1 in
+        let kind = root_kind alone kind0 in
+        ⊎_elim
+        (λ e. at_start e node.0 kind levels)
+        (λ more. ⊎_elim
+        (λ e.
+        let here : trees.kind s.tree g ≡ Some (Asynchronous false) = ap (trees.kind s.tree) node.0 ∙ kind in
+        let runs_is : runs ≡ true = ap (λ (k : Option Kind). is_member h (body_of k (trees.members s.tree g))) here ∙ has in
+        meets (o.Meet false) e (meets_at_barrier s.tree h runs_is))
+        (λ e. by_itself (inr (inl e))) more)
+        step
+    by_place Waits there levels step =
+        let node = in_waiting g (trees.kind s.tree g) runs there in
+        meets o.Resume step (meets_to_resume s.tree h node.1.0 node.1.1 node.1.2 has)
+    by_place InGroup there levels step =
+        let kind = in_group g (trees.kind s.tree g) runs there in
+        record {
+          op = leads.op;
+          operation = operation;
+          stands = leads.at;
+          ready = ready;
+          may = λ unlocked. absurd (false≢true (sym unlocked ∙ ap is_lockstep kind));
+        }
+    by_place InBody there levels step =
+        let node = in_body g (trees.kind s.tree g) runs there in
+        ⊎_elim (λ e. meets (o.Meet true) e (meets_at_end s.tree h node.2.0 node.0 node.2.1 has)) (λ e. meets (o.Meet false) e (meets_at_barrier s.tree h node.1)) step
+    by_place BehindBody there levels step =
+        let node = behind_body g (trees.kind s.tree g) runs there in
+        meets (o.Meet true) step (meets_at_end s.tree h node.1.0 node.0 node.1.1 has)
+
+    pub next_is : Next
+    next_is =
+        ⊎_elim (λ plain. by_itself (inl (list.alone (landing core r.left.at) leads.op operation leads.at plain)))
+        (λ step. by_place placed.place placed.there placed.levels step) does
+
+pub reached_processors_have_next : ReachedProcessorsHaveNext
+reached_processors_have_next core nestings main setting s h r heap list is at going =
+    next_is core nestings main setting s list is h r heap at (leads_to core nestings main setting s list is h r at going)

@@ -1,0 +1,117 @@
+-- What is known of the states that runs of lists with one group at a time come to.
+use Rattle.std.proofs.Common.{◌≡◌, ◌⊎◌, inl, ⊎_elim, ℕ, ◌<◌, Bool, true, List, [], length, Option, Some, None, sym, ap, ◌∙◌, subst, arith}
+use Rattle.std.specs.Prelude.{slice_get, slice_index}
+use Rattle.std.proofs.lemmas.List.Elements.{All-nil}
+use Rattle.fk_tree.specs.Tree as t
+use Rattle.fk_tree.specs.Tree.{Tree}
+use Rattle.fk_meaning.specs.Processor.{Setting, setting_of}
+use Rattle.fk_meaning.specs.Group.{goes_onward}
+use Rattle.fk_meaning.specs.Round.{Step, Runner, State, Round, Acting, agreed, lowest, all_changes, settled_by, settled, result, is_possible}
+use Rattle.fk_meaning.specs.Schedule.{Schedule, run, IsLawful}
+use Rattle.fk_lockstep.proofs.Rounds.{settled_at}
+use Rattle.fk_core.specs.declared.op.CoreOp.{CoreOp}
+use Rattle.fk_core.specs.Next.{Position, position, landing, next, list_opening}
+use Rattle.fk_lockstep.proofs.Round.{first_is, at_below, settled_length}
+use Rattle.fk_lockstep_one_group.specs.Rounds.{IsSingle, stepping}
+use Rattle.fk_lockstep_one_group.specs.Runs.{AreSingle}
+use Rattle.fk_lockstep_one_group.proofs.Acts.{Acts, acts, stepping_length, result_is}
+use Rattle.fk_lockstep_one_group.proofs.Opening.{begins_at}
+use Rattle.fk_lockstep_one_group.proofs.Runs.{are_all, round_by_round}
+use Rattle.fk_sim_block.specs.Next.{step_at}
+use Rattle.fk_sim_block.specs.Lists.{StaysInList}
+use Rattle.fk_sim_rounds.specs.InRange.{ListsStayInRange}
+use Rattle.fk_sim_rounds.proofs.Way.{ended_next}
+use Rattle.fk_sim_block.specs.Node.{Nestings}
+use Rattle.fk_sim_runs.specs.Lists.{IsOfOneGroup}
+use Rattle.fk_sim_runs.specs.Reached.{the_end, RunsReach}
+use Rattle.fk_sim_runs.proofs.Ways.{leading, goes_within}
+
+abbrev IsThere : List CoreOp → Position → Type 0
+IsThere core w = StaysInList core w ⊎ (w ≡ the_end core)
+
+abbrev AreThere : List CoreOp → State Position → Type 0
+AreThere core s = (h : ℕ) (r : Runner Position) → slice_get s.runners h ≡ Some r → IsThere core r.left
+
+-- each round keeps them there
+module _ (core : List CoreOp) (set : Setting) (round : Round) (s : State Position) (single : IsSingle round) (possible : is_possible (next core) set round s ≡ true)
+    (goes : (h : ℕ) (r : Runner Position) → slice_get s.runners h ≡ Some r → IsThere core r.left → (step : Step Position) → next core r.left ≡ Some step → (onward : Bool) → IsThere core (step.rest onward))
+    (there : AreThere core s) where
+  abbrev actors : List (Acting Position)
+  actors = stepping (next core) set round s
+
+  abbrev new : Tree
+  new = all_changes actors s.tree actors s.tree
+
+  settled_there : (h : ℕ) (a : Acts (next core) set round s single possible h) → IsThere core (settled_by actors s.tree new a.acting.runner a.acting.due).left
+  settled_there h a =
+      let here = there h a.runner a.is in
+      ⊎_elim
+      (λ idle. subst (λ (x : Acting Position). IsThere core (settled_by actors s.tree new x.runner x.due).left) (sym idle.0) here)
+      (λ busy. ⊎_elim
+      (λ moved.
+      subst (λ (due : Option (Step Position)). IsThere core (settled_by actors s.tree new a.acting.runner due).left) (sym moved.due)
+      (subst (IsThere core) (sym moved.left) (goes h a.runner a.is here moved.step moved.next_is moved.onward)))
+      (λ d.
+      let ms = t.members s.tree (s.tree.places a.runner.has.number) in
+      subst (λ (x : Acting Position). IsThere core (settled_by actors s.tree new x.runner x.due).left) (sym d.is)
+      (goes h a.runner a.is here d.step d.next_is (goes_onward d.step.operation (agreed actors ms) (lowest ms) a.runner.has)))
+      busy.1)
+      a.comes
+
+  round_there : AreThere core (result (next core) set round s)
+  round_there =
+      subst (AreThere core) (sym (result_is (next core) set round s single possible))
+      (λ h r at.
+      let below = at_below (settled actors s.tree new actors) h r at in
+      let long = settled_length actors s.tree new actors in
+      let many = stepping_length (next core) set round s single possible in
+      let a = acts (next core) set round s single possible h (omega (arith, below, long, many)) in
+      let same : r ≡ settled_by actors s.tree new a.acting.runner a.acting.due
+      = first_is r (settled_by actors s.tree new a.acting.runner a.acting.due) (sym at ∙ settled_at actors s.tree new actors h a.acting a.at) in
+      subst (λ (x : Runner Position). IsThere core x.left) (sym same) (settled_there h a))
+
+module _ (core : List CoreOp) (nestings : Nestings) (main : ℕ) (list : IsOfOneGroup core nestings main) (words firsts input : List ℕ) (p : ℕ) where
+  abbrev set : Setting
+  set = setting_of p words input
+
+  abbrev first : State Position
+  first = list_opening main words firsts input p
+
+  begin_there : AreThere core first
+  begin_there h r at =
+      let b = begins_at set (slice_index firsts) (position main []) 0 p h r at in
+      inl (subst (StaysInList core) (sym b.left) (record { at = list.begins; callers = All-nil (λ i. i < length core) }))
+
+  -- behind its operation
+  goes_there : (schedule : Schedule) → IsLawful (next core) set schedule first → (run (next core) set schedule first).fault ≡ None → (h : ℕ) (r : Runner Position)
+      → slice_get (run (next core) set schedule first).runners h ≡ Some r → IsThere core r.left → (step : Step Position) → next core r.left ≡ Some step → (onward : Bool) → IsThere core (step.rest onward)
+  goes_there schedule lawful none h r at there step e onward =
+      ⊎_elim
+      (λ w.
+      let l = leading core list.well_formed.leads_on r.left w.at in
+      let same : step ≡ step_at core (landing core r.left.at) l.op l.operation r.left.callers = first_is _ _ (sym e ∙ l.is_next) in
+      let may = list.may words firsts input p schedule lawful none h r l.op l.operation at l.at.stands l.at.is_read in
+      subst (λ (x : Step Position). IsThere core (x.rest onward)) (sym same)
+      (goes_within core nestings main list (landing core r.left.at) l.op l.operation r onward l.at may w.callers))
+      (λ ended. let clash : None ≡ Some step = sym (ended_next core []) ∙ ap (next core) (sym ended) ∙ e in absurd (cc)) there
+
+  all_there : (schedule : Schedule) → IsLawful (next core) set schedule first → AreSingle schedule → (run (next core) set schedule first).fault ≡ None → AreThere core (run (next core) set schedule first)
+  all_there schedule lawful single none =
+      round_by_round (next core) set first (AreThere core)
+      (λ xs round before running' one possible there.
+      round_there core set round (run (next core) set xs first) one possible (λ h r at here step e onward. goes_there xs before running' h r at here step e onward) there)
+      [] schedule (are_all (next core) set schedule first lawful.possible none) lawful.pace single begin_there
+
+pub runs_reach : ListsStayInRange → RunsReach
+runs_reach stay core nestings main list words firsts input p schedule some given lawful single none =
+    let known = list.one_group p words input (slice_index firsts) schedule some lawful single none in
+    record {
+      sound = known.0;
+      one_program = known.1;
+      one_group = known.2;
+      beginners = known.3;
+      within = all_there core nestings main list words firsts input p schedule lawful single none;
+      depth = λ h r op at stands. list.well_formed.depths words firsts input p schedule lawful none h r op at stands;
+      may = λ h r op operation at stands is_read. list.may words firsts input p schedule lawful none h r op operation at stands is_read;
+      in_range = λ h r at. stay core main words firsts input p schedule given h r at;
+    }

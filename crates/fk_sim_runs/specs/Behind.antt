@@ -1,0 +1,90 @@
+-- What is known behind a round of a machine, in the state that it leaves, as laws of machines that follow it ask it.
+use Rattle.std.specs.Prelude.{◌≡◌, ◌≢◌, ℕ, ◌≤◌, List, [], ◌∷◌, ◌++◌, length, true, Option, Some, None}
+use Rattle.fk_space.specs.Space.{Space}
+use Rattle.fk_meaning_operation.specs.declared.operation.Operation.TheVariants.{Begin}
+use Rattle.fk_meaning.specs.Processor.{Setting, setting_of}
+use Rattle.fk_meaning.specs.Round.{Runner, State, result, is_possible}
+use Rattle.fk_meaning.specs.Schedule.{Schedule, run, IsLawful}
+use Rattle.fk_core.specs.declared.op.CoreOp.{CoreOp}
+use Rattle.fk_core.specs.Next.{Position, next, list_opening}
+use Rattle.fk_lockstep_one_group.specs.Runs.{AreSingle}
+use Rattle.fk_sim_nodes.specs.Source.{AllPass}
+use Rattle.fk_sim_match.specs.Stage.{Stage, counts_for, Pairwise, Remains}
+use Rattle.fk_sim_block.specs.Owner.{Commons, Owner, Doing, core_source}
+use Rattle.fk_sim_block.specs.Next.{StandsOp}
+use Rattle.fk_sim_rounds.specs.InRange.{AreGiven}
+use Rattle.fk_sim_block.specs.Node.{Nestings}
+use Rattle.fk_sim_match.specs.Rounds.{AllDue}
+use Rattle.fk_sim_rounds.specs.Next.{JumpsLead, AllAbout}
+use Rattle.fk_sim_rounds.specs.After.{owners_after, ArePlaces, GroupsGoOn}
+use Rattle.fk_sim_rounds.specs.Rounds.{IsTree, IsKnownRound}
+use Rattle.fk_sim_rounds.specs.Beside.{landed_state, AreInOrder, IsBeside}
+use Rattle.fk_sim_rounds.specs.Homes.{AllNext}
+use Rattle.fk_sim_runs.specs.Lists.{IsOfOneGroup}
+use Rattle.fk_sim_runs.specs.Reached.{IsReached}
+use Rattle.fk_sim_runs.specs.Facts.{spaces_of, HasSpace}
+
+-- who has committed, or has met those with whom it unites, had something left to do
+abbrev pub HadNext : List CoreOp → (afters : List (Option Stage)) → List (Runner Position) → Type 0
+HadNext core [] [] = Unit {0}
+HadNext core (a ∷ afters) (r ∷ rs) = (a ≡ None → next core r.left ≢ None) × HadNext core afters rs
+HadNext core afters rs = ⊥
+
+-- so it is with all where all are about to begin the group of a `start`
+abbrev pub UnitedHadNext : Type 0
+UnitedHadNext =
+    (core : List CoreOp) (s : State Position) (ps : List Owner) (shared : Commons) (i : ℕ) (op : CoreOp) (afters : List (Option Stage))
+    → JumpsLead core → IsBeside core s ps shared → StandsOp core i op Begin → AllAbout i op Begin ps → length afters ≡ length s.runners → HadNext core afters s.runners
+
+module _ (core : List CoreOp) (setting : Setting) (s : State Position) (stages : List Stage) where
+  abbrev pub behind : State Position
+  behind = result (next core) setting (counts_for stages) s
+
+  -- a possible round of those whose stages commit, which is what processors beside the state have done
+  pub record IsRoundOf (did : List Doing) : Type 0 where
+    pub ps : List Owner
+    pub shared : Commons
+    pub shared' : Commons
+    pub order : AreInOrder 0 s.runners
+    pub beside : IsBeside core s ps shared
+    pub possible : is_possible (next core) setting (counts_for stages) s ≡ true
+    pub passes : AllPass (core_source core setting) (counts_for stages) ps shared did shared'
+
+  -- both states are reached
+  pub record AreReached : Type 0 where
+    pub before : IsReached core setting s
+    pub after : IsReached core setting behind
+
+  -- its tree is sound, and its nodes own words apart; all who have committed go on, and so do groups all of which have committed
+  pub record GoAhead (nestings : Nestings) (did : List Doing) (afters : List (Option Stage)) : Type 0 where
+    pub tree : IsTree setting behind.tree (spaces_of setting)
+    pub ahead : AllNext core nestings setting behind.tree 0 afters did (owners_after s.tree behind.tree did)
+    pub groups : (nodes : List ℕ) → ArePlaces behind.tree 0 nodes → length nodes ≡ setting.processors
+        → GroupsGoOn core nestings behind.tree nodes afters (owners_after s.tree behind.tree did)
+
+-- a group all of which have come to one index goes on whether they were in the round or not
+abbrev pub ReachedRoundsGoOn : Type 0
+ReachedRoundsGoOn =
+    (core : List CoreOp) (nestings : Nestings) (main : ℕ) (setting : Setting) (s : State Position) (stages : List Stage) (afters : List (Option Stage)) (did : List Doing)
+    → IsOfOneGroup core nestings main → HasSpace setting → setting.processors ≤ 1024 → AreReached core setting s stages → IsRoundOf core setting s stages did
+    → HadNext core afters s.runners → GoAhead core setting s stages nestings did afters
+
+-- where each processor is about to do what its stage tells, and stages stay or are over, nobody begins the group of a `start`, and
+-- the round is a known one
+abbrev pub ReachedStagesGoOn : Type 0
+ReachedStagesGoOn =
+    (core : List CoreOp) (nestings : Nestings) (main : ℕ) (setting : Setting) (s : State Position) (stages : List Stage) (afters : List (Option Stage)) (did : List Doing)
+    (spaces : ℕ → Space) → IsOfOneGroup core nestings main → HasSpace setting → setting.processors ≤ 1024 → AreReached core setting s stages
+    → IsRoundOf core setting s stages did → AllDue core s.tree spaces 0 stages (landed_state core s).runners → Pairwise Remains stages afters
+    → IsKnownRound s.tree did × GoAhead core setting s stages nestings did afters
+
+-- in a run both states of its last round are reached
+abbrev pub RunsReachRounds : Type 0
+RunsReachRounds =
+    (core : List CoreOp) (nestings : Nestings) (main : ℕ) → IsOfOneGroup core nestings main
+    → (words firsts input : List ℕ) (p : ℕ) (schedule : Schedule) (stages : List Stage)
+    → let setting = setting_of p words input in
+    let first = list_opening main words firsts input p in
+    let s = run (next core) setting schedule first in
+    1 ≤ p → AreGiven words firsts input p → IsLawful (next core) setting (schedule ++ counts_for stages ∷ []) first → AreSingle schedule → is_possible (next core) setting (counts_for stages) s ≡ true
+    → IsReached core setting s × IsReached core setting (behind core setting s stages)

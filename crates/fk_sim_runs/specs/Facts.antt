@@ -1,0 +1,71 @@
+-- What is known of such a state, as laws of machines that follow it ask it.
+use Rattle.std.specs.Prelude.{◌≡◌, ◌≢◌, ℕ, ◌+◌, ◌^◌, ◌≤◌, List, length, Some, true, false, slice_get, ◌⊎◌}
+use Rattle.fk_num.specs.Word.{Memory}
+use Rattle.fk_space.specs.Space.{Space}
+use Rattle.fk_meaning_operation.specs.declared.operation.Operation.TheVariants.{Begin}
+use Rattle.fk_tree.specs.declared.node.Kind.TheVariants.{Lockstep, Asynchronous}
+use Rattle.fk_tree.specs.Tree as trees
+use Rattle.fk_tree.specs.Tree.{Tree}
+use Rattle.fk_meaning.specs.Processor.{Setting, group_space}
+use Rattle.fk_meaning.specs.Round.{Runner, State, is_possible}
+use Rattle.fk_core.specs.declared.op.CoreOp.{CoreOp}
+use Rattle.fk_core.specs.Next.{Position, next}
+use Rattle.fk_sim_nodes.specs.Node.{of_node}
+use Rattle.fk_sim_nodes.specs.Source.{AllPass}
+use Rattle.fk_sim_match.specs.Stage.{Stage, counts_for}
+use Rattle.fk_sim_block.specs.Owner.{Commons, Owner, Doing, core_source}
+use Rattle.fk_sim_block.specs.Node.{Nestings}
+use Rattle.fk_sim_rounds.specs.Next.{landed, HasNext, HaveNext}
+use Rattle.fk_sim_rounds.specs.After.{runners_of, StepsAt, ArePlaces}
+use Rattle.fk_sim_rounds.specs.Rounds.{IsTree, IsKnownRound}
+use Rattle.fk_sim_rounds.specs.Beside.{AreInOrder, IsBeside}
+use Rattle.fk_sim_runs.specs.Lists.{IsOfOneGroup}
+use Rattle.fk_sim_runs.specs.Reached.{the_end, IsReached}
+
+-- each group has all of the group space
+abbrev pub spaces_of : Setting → (group : ℕ) → Space
+spaces_of setting g = group_space setting
+
+-- the globals and the input have room in one half of the words of shared data
+abbrev pub HasSpace : Setting → Type 0
+HasSpace setting = setting.globals + setting.inputs ≤ 2 ^ 19
+
+-- the tree is sound, and its nodes own words apart
+abbrev pub ReachedTreesHaveSpaces : Type 0
+ReachedTreesHaveSpaces =
+    (core : List CoreOp) (setting : Setting) (s : State Position) → IsReached core setting s → HasSpace setting → IsTree setting s.tree (spaces_of setting)
+
+-- ---- one processor
+
+-- who is not at its end is about to do something by itself, with those whom it meets, or with its group
+abbrev pub ReachedProcessorsHaveNext : Type 0
+ReachedProcessorsHaveNext =
+    (core : List CoreOp) (nestings : Nestings) (main : ℕ) (setting : Setting) (s : State Position) (h : ℕ) (r : Runner Position) (heap : Memory)
+    → IsOfOneGroup core nestings main → IsReached core setting s → slice_get s.runners h ≡ Some r → r.left ≢ the_end core
+    → let p : Owner = record { runner = r; heap = heap } in
+    HasNext core nestings setting s.tree h (landed core p)
+
+-- ---- a group
+
+-- its members are about to do one operation, and go one way
+abbrev pub ReachedGroupsHaveNext : Type 0
+ReachedGroupsHaveNext =
+    (core : List CoreOp) (nestings : Nestings) (main : ℕ) (setting : Setting) (s : State Position) (nodes : List ℕ) (ps : List Owner) (g : ℕ)
+    → IsOfOneGroup core nestings main → IsReached core setting s → setting.processors ≤ 1024 → ArePlaces s.tree 0 nodes → length nodes ≡ setting.processors
+    → s.runners ≡ runners_of ps → trees.kind s.tree g ≡ Some Lockstep → HaveNext core nestings (of_node g nodes ps)
+
+-- ---- a round
+
+-- all begin the group of a `start`
+pub record BeginsGroup (tree : Tree) (ds : List Doing) : Type 0 where
+  pub kind : trees.kind tree 0 ≡ Some (Asynchronous false)
+  pub stand : (h : ℕ) → trees.is_member h (trees.members tree 0) ≡ true → tree.places h ≡ 0
+  pub steps : StepsAt tree 0 0 Begin ds
+
+-- what those in a possible round of a machine do is one of the known rounds
+abbrev pub ReachedRoundsAreKnown : Type 0
+ReachedRoundsAreKnown =
+    (core : List CoreOp) (nestings : Nestings) (main : ℕ) (setting : Setting) (stages : List Stage) (s : State Position) (ps : List Owner) (did : List Doing) (shared shared' : Commons)
+    → IsOfOneGroup core nestings main → IsReached core setting s → AreInOrder 0 s.runners → IsBeside core s ps shared
+    → is_possible (next core) setting (counts_for stages) s ≡ true → AllPass (core_source core setting) (counts_for stages) ps shared did shared'
+    → IsKnownRound s.tree did ⊎ BeginsGroup s.tree did

@@ -1,0 +1,30 @@
+-- Lists with one group at a time.
+use Rattle.std.specs.Prelude.{◌≡◌, ℕ, ◌<◌, List, [], length, Bool, true, false, Some, slice_get}
+use Rattle.fk_meaning_operation.specs.Kinds.{class_of}
+use Rattle.fk_meaning_operation.specs.declared.operation.Operation.{Operation}
+use Rattle.fk_core.specs.declared.op.CoreOp.{CoreOp}
+use Rattle.fk_core.specs.Next.{position, landing, is_jump, follows, next}
+use Rattle.fk_core.specs.WellFormed.{IsOperation, IsWellFormed}
+use Rattle.fk_lockstep_one_group.specs.Runs.{AlwaysOneGroup}
+use Rattle.fk_sim_block.specs.Next.{StandsOp}
+use Rattle.fk_sim_block.specs.Ready.{is_no_step, is_alone}
+use Rattle.fk_sim_block.specs.Lists.{StaysInList, is_end, AlwaysMay}
+use Rattle.fk_sim_block.specs.Node.{Nestings}
+
+-- What is asked of a list: of each index alone, of whatever ways its processors go, and of all its lawful runs
+pub record IsOfOneGroup (core : List CoreOp) (nestings : Nestings) (main : ℕ) : Type 0 where
+  pub begins : main < length core
+  -- a jump leads to an operation
+  pub jumps : (i : ℕ) (op : CoreOp) → slice_get core i ≡ Some op → is_jump op ≡ true → IsOperation core op.target
+  -- no operation but an end goes on outside the list
+  pub within : (i : ℕ) (op : CoreOp) (operation : Operation) → StandsOp core i op operation → is_end operation ≡ false
+      → (onward : Bool) → StaysInList core (follows core operation i op.target [] onward)
+  -- local operations and requests have nothing to do with frames of groups, nor with the heap that all share
+  pub alone : (i : ℕ) (op : CoreOp) (operation : Operation) → StandsOp core i op operation → is_no_step (class_of operation) ≡ true → is_alone operation ≡ true
+  -- no level stands in a frame: round a group there is the root alone
+  pub levels : (i : ℕ) → nestings.levels i ≡ 0
+  -- in every lawful run the members of a group in lockstep are at one index, and so are those who begin one; and there is one group at a time
+  pub one_group : AlwaysOneGroup (next core) (λ w. landing core w.at) (position main [])
+  -- in every lawful run each has as many values as its operation expects, and may do it
+  pub well_formed : IsWellFormed core main
+  pub may : AlwaysMay core main

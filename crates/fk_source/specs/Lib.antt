@@ -1,4 +1,0 @@
-pub mod Left
-pub mod Next
-pub mod Program
-pub mod Sites

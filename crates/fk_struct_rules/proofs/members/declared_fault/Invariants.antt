@@ -1,7 +1,0 @@
-use Rattle.fk_rules.specs.Least.{IsLeast, among_first}
-use Rattle.fk_structs.specs.Whole.{structs_in}
-use Rattle.fk_struct_rules.specs.Structs.{StructBreaks}
-use Rattle.fk_struct_rules.proofs.members.declared_fault.Given as goal
-
-abbrev pub invariant-loop-index : goal.invariant-loop-index
-invariant-loop-index l = IsLeast (among_first l.index (StructBreaks (structs_in l.structs)) (structs_in l.structs)) l.fault

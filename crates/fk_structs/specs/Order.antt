@@ -1,7 +1,0 @@
--- Structs that are gone through.
-use Rattle.std.specs.Prelude.{ℕ, ◌<◌, List, All}
-use Rattle.fk_structs.specs.declared.order.Visit.{Visit}
-
--- the visits are of so many structs
-abbrev pub AreVisits : ℕ → List Visit → Type 0
-AreVisits count visits = All (λ (v : Visit). v.index < count) visits

@@ -1,8 +1,0 @@
-//! Laws of the definitions.
-
-ghost use Rattle.fk_structs.specs.Laws.{HasOneSize};
-
-/// A type has at most one number of words.
-pub fn one_size()
-    ensures { HasOneSize }
-{}

@@ -1,5 +1,0 @@
-use Rattle.fk_together.proofs.Whole as whole
-use Rattle.fk_together.proofs.laws.groups_have_one_program.Goals as goal
-
-pub returns : goal.returns
-returns g c = whole.groups_have_one_program g.row.W.Denot

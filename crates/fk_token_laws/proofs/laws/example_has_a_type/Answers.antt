@@ -1,5 +1,0 @@
-use Rattle.fk_token_laws.proofs.Example.{example_sound, number_typed}
-use Rattle.fk_token_laws.proofs.laws.example_has_a_type.Goals as goal
-
-pub returns : goal.returns
-returns c = record { well_formed = example_sound; typed = number_typed }

@@ -1,0 +1,50 @@
+-- Words are at most one command.
+use Rattle.std.proofs.Common.{◌≡◌, List, Option, Some, false, codes, refl, sym, ◌∙◌, subst}
+use Rattle.std.specs.Str.{bytes_eq}
+use Rattle.clap.specs.Walk.{Row}
+use Rattle.fk_top_words.specs.Arguments.{Text}
+use Rattle.fk_top_words.specs.Asked.{AsksFor, AsksOf}
+use Rattle.fk_top_words.specs.Command.{Command, Run, Build, Exec, ListCode, OneCommand}
+use Rattle.fk_top_words.proofs.Whole.{asked, differ}
+
+-- a name is that of one command
+apart : {A : Type 0} (name a b : Text) → bytes_eq a b ≡ false → name ≡ a → name ≡ b → A
+apart name a b other e f = absurd (differ a b other (sym e ∙ f))
+
+same_asked : (name : Text) (rows : List Row) (c d : Command) → AsksFor name rows c → AsksFor name rows d → c ≡ d
+same_asked name rows (Run file harts cycles show) (Run file' harts' cycles' show') asks other =
+    let f : Some file ≡ Some file' = sym asks.1 ∙ other.1 in
+    let h : Some harts ≡ Some harts' = sym asks.2.harts_are ∙ other.2.harts_are in
+    let n : Some cycles ≡ Some cycles' = sym asks.2.cycles_are ∙ other.2.cycles_are in
+    let s : show ≡ show' = sym asks.3 ∙ other.3 in
+    cc
+same_asked name rows (Build file image) (Build file' image') asks other =
+    let f : Some file ≡ Some file' = sym asks.1 ∙ other.1 in
+    let i : Some image ≡ Some image' = sym asks.2 ∙ other.2 in
+    cc
+same_asked name rows (Exec file harts cycles) (Exec file' harts' cycles') asks other =
+    let f : Some file ≡ Some file' = sym asks.1 ∙ other.1 in
+    let h : Some harts ≡ Some harts' = sym asks.2.harts_are ∙ other.2.harts_are in
+    let n : Some cycles ≡ Some cycles' = sym asks.2.cycles_are ∙ other.2.cycles_are in
+    cc
+same_asked name rows (ListCode image) (ListCode image') asks other =
+    let f : Some image ≡ Some image' = sym asks.1 ∙ other.1 in
+    cc
+same_asked name rows (Run file harts cycles show) (Build file' image') asks other = apart name (codes "run") (codes "build") refl asks.0 other.0
+same_asked name rows (Run file harts cycles show) (Exec image' harts' cycles') asks other = apart name (codes "run") (codes "exec") refl asks.0 other.0
+same_asked name rows (Run file harts cycles show) (ListCode image') asks other = apart name (codes "run") (codes "list") refl asks.0 other.0
+same_asked name rows (Build file image) (Run file' harts' cycles' show') asks other = apart name (codes "build") (codes "run") refl asks.0 other.0
+same_asked name rows (Build file image) (Exec image' harts' cycles') asks other = apart name (codes "build") (codes "exec") refl asks.0 other.0
+same_asked name rows (Build file image) (ListCode image') asks other = apart name (codes "build") (codes "list") refl asks.0 other.0
+same_asked name rows (Exec image harts cycles) (Run file' harts' cycles' show') asks other = apart name (codes "exec") (codes "run") refl asks.0 other.0
+same_asked name rows (Exec image harts cycles) (Build file' image') asks other = apart name (codes "exec") (codes "build") refl asks.0 other.0
+same_asked name rows (Exec image harts cycles) (ListCode image') asks other = apart name (codes "exec") (codes "list") refl asks.0 other.0
+same_asked name rows (ListCode image) (Run file' harts' cycles' show') asks other = apart name (codes "list") (codes "run") refl asks.0 other.0
+same_asked name rows (ListCode image) (Build file' image') asks other = apart name (codes "list") (codes "build") refl asks.0 other.0
+same_asked name rows (ListCode image) (Exec image' harts' cycles') asks other = apart name (codes "list") (codes "exec") refl asks.0 other.0
+
+pub one_command : OneCommand
+one_command words c d reads other =
+    let a = asked words c reads in
+    let b = asked words d other in
+    same_asked a.name a.found c d a.asks (subst (λ (met : Option (Text × List Row)). AsksOf met d) (sym b.matches ∙ a.matches) b.asks)

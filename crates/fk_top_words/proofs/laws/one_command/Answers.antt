@@ -1,0 +1,5 @@
+use Rattle.fk_top_words.proofs.OneCommand.{one_command}
+use Rattle.fk_top_words.proofs.laws.one_command.Goals as goal
+
+pub returns : goal.returns
+returns c = one_command

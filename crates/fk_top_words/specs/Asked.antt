@@ -1,0 +1,30 @@
+-- What the values that `clap` found for a command ask for.
+use Rattle.std.specs.Prelude.{◌≡◌, ℕ, ◌≤◌, List, Option, Some, None, codes, option_and_then}
+use Rattle.fk_num.specs.Numeral.{read_word}
+use Rattle.clap.specs.Walk.{Row, first_of}
+use Rattle.fk_top_words.specs.Arguments.{Text}
+use Rattle.fk_top_words.specs.Command.{Command, Run, Build, Exec, ListCode}
+
+-- the number that is found for an argument
+abbrev pub number_of : Text → List Row → Option ℕ
+number_of id rows = option_and_then read_word (first_of id rows)
+
+-- numbers in range
+pub record RunsBy (rows : List Row) (harts cycles : ℕ) : Type 0 where
+  pub harts_are : number_of (codes "harts") rows ≡ Some harts
+  pub cycles_are : number_of (codes "cycles") rows ≡ Some cycles
+  pub some_harts : 1 ≤ harts
+  pub few_harts : harts ≤ 1024
+
+abbrev pub AsksFor : Text → List Row → Command → Type 0
+AsksFor name rows (Run file harts cycles show) =
+    (name ≡ codes "run") × (first_of (codes "file") rows ≡ Some file) × RunsBy rows harts cycles × (first_of (codes "show") rows ≡ show)
+AsksFor name rows (Build file image) =
+    (name ≡ codes "build") × (first_of (codes "file") rows ≡ Some file) × (first_of (codes "image") rows ≡ Some image)
+AsksFor name rows (Exec image harts cycles) = (name ≡ codes "exec") × (first_of (codes "file") rows ≡ Some image) × RunsBy rows harts cycles
+AsksFor name rows (ListCode image) = (name ≡ codes "list") × (first_of (codes "file") rows ≡ Some image)
+
+-- the same of the command that `clap` met, where it met one
+abbrev pub AsksOf : Option (Text × List Row) → Command → Type 0
+AsksOf None command = ⊥
+AsksOf (Some (name, rows)) command = AsksFor name rows command

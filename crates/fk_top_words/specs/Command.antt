@@ -1,0 +1,61 @@
+-- What a command line asks for.
+use Rattle.std.specs.Prelude.{◌≡◌, ℕ, ◌≤◌, List, [], ◌∷◌, Option, Some, None, codes, option_map}
+use Rattle.fk_num.specs.Numeral.{read_word}
+use Rattle.fk_top_words.specs.Arguments.{Text, Values, Gives}
+use Rattle.fk_top_words.specs.declared.command.CommandWords.{CommandWords}
+use Rattle.fk_top_words.specs.declared.command.CommandWords.TheVariants as words
+
+-- compile a file and run it, and then show a variable, if one is named; compile it into an image; run an image;
+-- list an image's code. What is run is run by so many harts, for at most so many cycles
+pub data Command : Type 0 where
+  Run : (file : Text) (harts cycles : ℕ) (show : Option Text) → Command
+  Build : (file image : Text) → Command
+  Exec : (image : Text) (harts cycles : ℕ) → Command
+  ListCode : (image : Text) → Command
+
+abbrev pub once_or_never : Option Text → List Text
+once_or_never None = []
+once_or_never (Some value) = value ∷ []
+
+-- a file, `--harts P` and `--cycles N`, each once, with P from 1 to 1,024 and N below 2^32, and `--show` once or never
+pub record ReadsRun (words : List Text) (file : Text) (harts cycles : ℕ) (show : Option Text) : Type 0 where
+  pub harts_text : Text
+  pub cycles_text : Text
+  pub given : Gives words (record {
+    file = file ∷ [];
+    harts = harts_text ∷ [];
+    cycles = cycles_text ∷ [];
+    show = once_or_never show;
+    image = [];
+  })
+  pub harts_are : read_word harts_text ≡ Some harts
+  pub cycles_are : read_word cycles_text ≡ Some cycles
+  pub some_harts : 1 ≤ harts
+  pub few_harts : harts ≤ 1024
+
+abbrev pub only_file : Text → Values
+only_file file = record { file = file ∷ []; harts = []; cycles = []; show = []; image = [] }
+
+-- the words behind the command word of each command
+abbrev pub ReadsBehind : Text → List Text → Command → Type 0
+ReadsBehind word words (Run file harts cycles show) = (word ≡ codes "run") × ReadsRun words file harts cycles show
+ReadsBehind word words (Build file image) =
+    (word ≡ codes "build") × Gives words (record (only_file file) { image = image ∷ [] })
+ReadsBehind word words (Exec image harts cycles) = (word ≡ codes "exec") × ReadsRun words image harts cycles None
+ReadsBehind word words (ListCode image) = (word ≡ codes "list") × Gives words (only_file image)
+
+-- the words that each command has, those after the program's name
+abbrev pub Reads : List Text → Command → Type 0
+Reads [] command = ⊥
+Reads (word ∷ words) command = ReadsBehind word words command
+
+-- words are at most one command
+abbrev pub OneCommand : Type 0
+OneCommand = (words : List Text) (c d : Command) → Reads words c → Reads words d → c ≡ d
+
+-- the command of words that were read
+abbrev pub command_of : CommandWords → Command
+command_of (words.Run r show) = Run r.file.now r.harts r.cycles (option_map (λ s. s.now) show)
+command_of (words.Build file image) = Build file.now image.now
+command_of (words.Exec r) = Exec r.file.now r.harts r.cycles
+command_of (words.List image) = ListCode image.now

@@ -1,0 +1,83 @@
+-- The commands as `clap` has them: what is written down of each argument and each command.
+use Rattle.std.specs.Prelude.{◌≡◌, ℕ, Bool, true, false, List, [], ◌∷◌, Option, Some, None, codes, map}
+use Rattle.clap.specs.declared.builder.action.ArgAction.TheVariants.{Set}
+use Rattle.clap.specs.declared.builder.command.Command.{Command}
+use Rattle.clap.specs.declared.builder.command.Command.TheViews.{out-Command}
+use Rattle.clap.specs.Walk.{Rule}
+use Rattle.clap.specs.Simple.{App, Shape, app_of, new_rule, new_shape}
+use Rattle.fk_top_words.specs.Arguments.{Text, Part, File, Harts, Cycles, Show, Image}
+
+abbrev pub id_of : Part → Text
+id_of File = codes "file"
+id_of Harts = codes "harts"
+id_of Cycles = codes "cycles"
+id_of Show = codes "show"
+id_of Image = codes "image"
+
+abbrev pub long_of_part : Part → Option Text
+long_of_part File = None
+long_of_part Harts = Some (codes "harts")
+long_of_part Cycles = Some (codes "cycles")
+long_of_part Show = Some (codes "show")
+long_of_part Image = None
+
+abbrev pub short_of_part : Part → Option ℕ
+short_of_part Image = Some 111
+short_of_part _ = None
+
+abbrev pub is_required : Part → Bool
+is_required Show = false
+is_required _ = true
+
+-- an argument as it is written
+abbrev pub written : Part → Rule
+written p = record (new_rule (id_of p)) {
+  long = long_of_part p;
+  short = short_of_part p;
+  action = Some Set;
+  required = is_required p;
+}
+
+-- an option `--name` with a value
+abbrev pub option_rule : Text → Bool → Rule
+option_rule name required = record (new_rule name) { long = Some name; action = Some Set; required = required }
+
+abbrev pub run_parts : List Part
+run_parts = File ∷ Harts ∷ Cycles ∷ Show ∷ []
+
+abbrev pub build_parts : List Part
+build_parts = File ∷ Image ∷ []
+
+abbrev pub exec_parts : List Part
+exec_parts = File ∷ Harts ∷ Cycles ∷ []
+
+abbrev pub list_parts : List Part
+list_parts = File ∷ []
+
+-- a command with these arguments
+abbrev pub written_command : Text → List Part → Shape
+written_command name ps = record (new_shape name) { rules = map written ps }
+
+-- a command without commands of its own
+abbrev pub leaf : Text → List Part → App
+leaf name ps = record { top = written_command name ps; subs = [] }
+
+-- the command is this one, and has no argument that those below it have too
+pub record IsLocal (app : App) (command : Command) : Type 0 where
+  pub shape : app_of command ≡ app
+  pub local : (out-Command command).has_globals ≡ false
+
+abbrev pub written_top : Shape
+written_top = record (new_shape (codes "fork95")) {
+  no_binary_name = true;
+  disable_help_flag = true;
+  disable_help_subcommand = true;
+  subcommand_required = true;
+}
+
+abbrev pub written_app : App
+written_app = record {
+  top = record written_top { is_leaf = false };
+  subs = written_command (codes "run") run_parts ∷ written_command (codes "build") build_parts
+      ∷ written_command (codes "exec") exec_parts ∷ written_command (codes "list") list_parts ∷ [];
+}

@@ -1,0 +1,68 @@
+//! What the values of a command ask for.
+
+ghost use Rattle.std.specs.Prelude.{◌≡◌, ℕ, ◌≤◌, Some, IsNone, IfSome, option_map};
+ghost use Rattle.clap.specs.Matches.{found_of};
+ghost use Rattle.clap.specs.Simple.{subcommand_rows_of};
+ghost use Rattle.clap.specs.Walk.{first_of, rows_of};
+ghost use Rattle.fk_top_words.specs.Asked.{AsksFor, AsksOf, RunsBy, number_of};
+ghost use Rattle.fk_top_words.specs.Command.{Command, command_of};
+
+use crate::command::{CommandWords, RunWords};
+use clap::ArgMatches;
+use fk_num::read_unsigned;
+
+/// The command that these matches ask for.
+pub(crate) fn asked<'a>(matches: &ArgMatches<'a>) -> Option<CommandWords<'a>>
+    ensures some { IfSome result (λ c. AsksOf (subcommand_rows_of matches.now) (command_of c)) }
+    ensures none { IsNone result → (c : Command) → AsksOf (subcommand_rows_of matches.now) c → ⊥ }
+{
+    let (name, given) = matches.subcommand()?;
+    asked_for(given, name)
+}
+
+/// The command of this name that these values ask for.
+fn asked_for<'a>(given: &ArgMatches<'a>, name: &str) -> Option<CommandWords<'a>>
+    ensures some { IfSome result (λ c. AsksFor name.now (rows_of (found_of given.now)) (command_of c)) }
+    ensures none { IsNone result → (c : Command) → AsksFor name.now (rows_of (found_of given.now)) c → ⊥ }
+{
+    let file = text_of(given, "file")?;
+    match name {
+        "run" => Some(CommandWords::Run(asked_run(given, file)?, text_of(given, "show"))),
+        "build" => Some(CommandWords::Build(file, text_of(given, "image")?)),
+        "exec" => Some(CommandWords::Exec(asked_run(given, file)?)),
+        "list" => Some(CommandWords::List(file)),
+        _ => None,
+    }
+}
+
+/// The run of a file with these values, where its numbers are in range.
+fn asked_run<'a>(given: &ArgMatches<'a>, file: &'a str) -> Option<RunWords<'a>>
+    ensures file { IfSome result (λ run. run.file.now ≡ file.now) }
+    ensures some { IfSome result (λ run. RunsBy (rows_of (found_of given.now)) run.harts run.cycles) }
+    ensures none { IsNone result → (p : ℕ) (n : ℕ) → RunsBy (rows_of (found_of given.now)) p n → ⊥ }
+{
+    let harts = number_of(given, "harts")?;
+    let cycles = number_of(given, "cycles")?;
+    if harts < 1 || harts > 1024 {
+        return None;
+    }
+    Some(RunWords {
+        file,
+        harts,
+        cycles,
+    })
+}
+
+/// The number that is found for an argument.
+fn number_of(given: &ArgMatches<'_>, id: &str) -> Option<u32>
+    ensures { result ≡ number_of id.now (rows_of (found_of given.now)) }
+{
+    read_unsigned(text_of(given, id)?.as_bytes())
+}
+
+/// The text that is found for an argument.
+fn text_of<'a>(given: &ArgMatches<'a>, id: &str) -> Option<&'a str>
+    ensures { option_map (λ s. s.now) result ≡ first_of id.now (rows_of (found_of given.now)) }
+{
+    given.get_str(id)
+}

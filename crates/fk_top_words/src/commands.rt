@@ -1,0 +1,114 @@
+//! The commands as `clap` reads them.
+
+ghost use Rattle.std.specs.Prelude.{◌≡◌, ℕ, List, [], false, IfOk, codes};
+ghost use Rattle.clap.specs.Simple.{App, app_of, with_rule, with_subcommand};
+ghost use Rattle.clap.specs.Walk.{Rule, rule_of};
+ghost use Rattle.fk_top_words.specs.Arguments.{Part, File, Image};
+ghost use Rattle.fk_top_words.specs.Written.{written, option_rule, IsLocal, leaf, written_command, run_parts, build_parts, exec_parts, list_parts, written_top, written_app};
+
+use clap::{Arg, ArgAction, Command};
+use std::alloc::{AllocError, Global};
+
+// The name of the file that a command reads.
+fn file<'a>(alloc: Global) -> Arg<'a>
+    ensures rule { rule_of result ≡ written File }
+    ensures local { result.global ≡ false }
+{
+    Arg::new(alloc, "file")
+        .action(ArgAction::Set)
+        .required(true)
+}
+
+// An option that is named by a word, and has a value.
+fn option<'a>(alloc: Global, name: &'a str, required: bool) -> Arg<'a>
+    ensures rule { rule_of result ≡ option_rule name.now required }
+    ensures local { result.global ≡ false }
+{
+    Arg::new(alloc, name)
+        .long(name)
+        .action(ArgAction::Set)
+        .required(required)
+}
+
+fn image<'a>(alloc: Global) -> Arg<'a>
+    ensures rule { rule_of result ≡ written Image }
+    ensures local { result.global ≡ false }
+{
+    Arg::new(alloc, "image")
+        .short('o')
+        .action(ArgAction::Set)
+        .required(true)
+}
+
+// A command with one argument more. Want of memory for the command is want of it here.
+fn taking<'a>(
+    command: Result<Command<'a>, AllocError>,
+    arg: Arg<'a>,
+) -> Result<Command<'a>, AllocError>
+    requires { arg.global ≡ false }
+    ensures { (app : App) (rule : Rule) → rule_of arg.entry ≡ rule → IfOk command.entry (IsLocal app)
+        → IfOk result (IsLocal (with_rule app rule)) }
+{
+    command?.arg(arg)
+}
+
+// A command with one command more below it. Want of memory for one of them is want of it here.
+fn holding<'a>(
+    command: Result<Command<'a>, AllocError>,
+    inner: Result<Command<'a>, AllocError>,
+) -> Result<Command<'a>, AllocError>
+    ensures { (app : App) (name : List ℕ) (parts : List Part) → IfOk command.entry (λ c. app_of c ≡ app)
+        → IfOk inner.entry (IsLocal (leaf name parts))
+        → IfOk result (λ c. app_of c ≡ with_subcommand app (written_command name parts)) }
+{
+    command?.subcommand(inner?)
+}
+
+// A command that reads a file.
+fn reading<'a>(alloc: Global, name: &'a str) -> Result<Command<'a>, AllocError>
+    ensures { IfOk result (IsLocal (leaf name.now list_parts)) }
+{
+    taking(Ok(Command::new(alloc, name)), file(alloc))
+}
+
+// A command that runs what it makes of a file.
+fn running<'a>(alloc: Global, name: &'a str) -> Result<Command<'a>, AllocError>
+    ensures { IfOk result (IsLocal (leaf name.now exec_parts)) }
+{
+    let reading = reading(alloc, name);
+    let harts = taking(reading, option(alloc, "harts", true));
+    taking(harts, option(alloc, "cycles", true))
+}
+
+fn run<'a>(alloc: Global) -> Result<Command<'a>, AllocError>
+    ensures { IfOk result (IsLocal (leaf (codes "run") run_parts)) }
+{
+    taking(running(alloc, "run"), option(alloc, "show", false))
+}
+
+fn build<'a>(alloc: Global) -> Result<Command<'a>, AllocError>
+    ensures { IfOk result (IsLocal (leaf (codes "build") build_parts)) }
+{
+    taking(reading(alloc, "build"), image(alloc))
+}
+
+// The program. It has no help: a call for it is no command.
+fn program<'a>(alloc: Global) -> Command<'a>
+    ensures { app_of result ≡ record { top = written_top; subs = [] } }
+{
+    Command::new(alloc, "fork95")
+        .no_binary_name(true)
+        .disable_help_flag(true)
+        .disable_help_subcommand(true)
+        .subcommand_required(true)
+}
+
+/// All commands.
+pub(crate) fn commands<'a>(alloc: Global) -> Result<Command<'a>, AllocError>
+    ensures { IfOk result (λ c. app_of c ≡ written_app) }
+{
+    let sources = holding(Ok(program(alloc)), run(alloc));
+    let sources = holding(sources, build(alloc));
+    let images = holding(sources, running(alloc, "exec"));
+    holding(images, reading(alloc, "list"))
+}

@@ -1,0 +1,8 @@
+//! Laws of the definitions, which no code runs.
+
+ghost use Rattle.fk_top_words.specs.Command.{OneCommand};
+
+/// Words are at most one command.
+pub fn one_command()
+    ensures { OneCommand }
+{}

@@ -1,4 +1,0 @@
-pub mod Low
-pub mod Meanings
-pub mod Used
-pub mod Alike

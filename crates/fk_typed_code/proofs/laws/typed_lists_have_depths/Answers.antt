@@ -1,5 +1,0 @@
-use Rattle.fk_typed_code.proofs.Depths.{typed_lists_have_depths}
-use Rattle.fk_typed_code.proofs.laws.typed_lists_have_depths.Goals as goal
-
-pub returns : goal.returns
-returns c = typed_lists_have_depths

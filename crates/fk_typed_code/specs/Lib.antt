@@ -1,4 +1,0 @@
-pub mod Values
-pub mod Typed
-pub mod Heights
-pub mod Laws

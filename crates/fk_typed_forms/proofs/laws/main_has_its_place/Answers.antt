@@ -1,5 +1,0 @@
-use Rattle.fk_typed_forms.proofs.Mains.{main_has_its_place}
-use Rattle.fk_typed_forms.proofs.laws.main_has_its_place.Goals as goal
-
-pub returns : goal.returns
-returns c = main_has_its_place

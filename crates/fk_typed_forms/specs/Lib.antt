@@ -1,4 +1,0 @@
-pub mod Ways
-pub mod Asked
-pub mod Typed
-pub mod Laws

@@ -1,0 +1,22 @@
+-- What declarations declare.
+use Rattle.std.specs.Prelude.{◌≡◌, List, Option, Some}
+use Rattle.std.specs.Option.{option_map}
+use Rattle.fk_syntax.specs.Program.{FunctionTree}
+use Rattle.fk_types_structs.specs.declared.types.DataType.{DataType}
+use Rattle.fk_types_structs.specs.Types.{StructTree}
+use Rattle.fk_types_names.specs.Outline.{DeclarationTree}
+use Rattle.fk_types_operators.specs.Values.{result_of}
+use Rattle.fk_types_judgments.specs.Names.{IsSignature, IsDeclared}
+use Rattle.fk_types_forms.specs.declared.names.Signature.{Signature}
+use Rattle.fk_types_forms.specs.declared.names.Known.{Known}
+use Rattle.fk_types_forms.specs.Scope.{known_meant}
+
+-- what is kept of the parameters and the result of a function is right
+pub record HasSignature (structs : List StructTree) (function : FunctionTree) (signature : Signature) : Type 0 where
+  pub type : Option DataType
+  pub right : IsSignature structs function signature.parameters.items type
+  pub gives : signature.result ≡ option_map result_of type
+
+-- what is kept of a declaration is what it declares
+abbrev pub IsKnown : List StructTree → DeclarationTree → Known → Type 0
+IsKnown structs declaration known = IsDeclared structs declaration (known_meant (Some known))

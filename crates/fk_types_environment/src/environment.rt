@@ -1,0 +1,54 @@
+//! What is known of a program before its expressions are read.
+
+ghost use Rattle.std.specs.Prelude.{◌≡◌, IfOk};
+ghost use Rattle.fk_types_structs.specs.Whole.{IsSound};
+ghost use Rattle.fk_types_forms.specs.Scope.{env_in};
+ghost use Rattle.fk_types_environment.specs.Environment.{env_of, IsRight};
+
+use crate::declarations::all_known;
+use crate::types::all_member_types;
+use fk_types_names::Names;
+use fk_types_forms::{Known, Scope};
+use fk_types_structs::{DataType, Structs};
+use std::alloc::{AllocError, Global};
+
+/// What is known of a program before its expressions are read, beside its structs and names: what
+/// each declaration declares, and the types of the members of structs. What is declared has no type
+/// where its declaration is broken.
+#[derive(Drop)]
+pub struct Environment {
+    // By the numbers of declarations.
+    known: Vec<Known>,
+    // By the indices of structs and the places of their members.
+    members: Vec<Vec<Option<DataType>>>,
+}
+
+impl Environment {
+    /// What is known of the program of these structs and names, in time linear in its declarations.
+    /// Fails only for want of memory.
+    pub fn of(alloc: Global, structs: &Structs, names: &Names) -> Result<Self, AllocError>
+        requires { IsSound structs.now }
+        ensures { IfOk result (IsRight structs.now names.now) }
+    {
+        let known = all_known(alloc, structs, &names.declarations)?;
+        let members = all_member_types(alloc, structs)?;
+        Ok(Environment { known, members })
+    }
+
+    /// What is known where an expression of the program stands.
+    pub fn scope<'c, 'p, 'a>(
+        &'c self,
+        structs: &'c Structs<'p, 'a>,
+        names: &'c Names<'p, 'a>,
+    ) -> Scope<'c, 'p, 'a>
+        ensures env { env_in result ≡ env_of structs.now names.now self.now }
+        ensures structs { result.structs.now ≡ structs.now }
+    {
+        Scope {
+            structs,
+            names,
+            known: &self.known,
+            members: &self.members,
+        }
+    }
+}

@@ -1,0 +1,7 @@
+//! The types of the expressions of a program, and the first rule that each breaks.
+#![tactic(auto)]
+
+mod walk;
+
+pub use fk_types_forms::{Known, Part, Scope, Signature};
+pub use walk::expression;

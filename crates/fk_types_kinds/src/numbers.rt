@@ -1,0 +1,120 @@
+//! The kinds of the types of tokens, and their numbers.
+
+ghost use Rattle.std.specs.Prelude.{◌≡◌, ◌^◌, ◌<◌, ◌≤◌, ◌+◌, length, IfOk, OnOk};
+ghost use Rattle.fk_types_structs.specs.Whole.{structs_in, IsSound};
+ghost use Rattle.fk_types_kinds.specs.Rows.{kind_in, kinds_in};
+ghost use Rattle.fk_types_kinds.specs.Met.{IsNumbered, IsNext, AreMet};
+
+use crate::kind::kind_of;
+use fk_types_operators::ExpressionType;
+use fk_types_structs::Structs;
+use fk_syntax::Kind;
+use indexmap::IndexSet;
+use std::alloc::{AllocError, Global};
+
+// A kind in a set, by its fields.
+#[derive(Clone, Copy, PartialEq, Eq, Hash)]
+struct Row {
+    words: u32,
+    unsigned: bool,
+    array: bool,
+    step: u32,
+}
+
+impl Row {
+    fn of(kind: Kind) -> Self
+        ensures { kind_in result ≡ kind }
+    {
+        Row {
+            words: kind.words,
+            unsigned: kind.unsigned,
+            array: kind.array,
+            step: kind.step,
+        }
+    }
+
+    fn kind(&self) -> Kind
+        ensures { result ≡ kind_in self.now }
+    {
+        Kind {
+            words: self.words,
+            unsigned: self.unsigned,
+            array: self.array,
+            step: self.step,
+        }
+    }
+}
+
+// The number of a kind among those that were met. A new one comes last.
+fn number_of(met: &mut IndexSet<Row>, kind: Kind) -> Result<usize, AllocError>
+    ensures numbered { IfOk result
+        (λ number. IsNumbered (kinds_in met.old.keys) kind (kinds_in met.new.keys) number) }
+    ensures last { IfOk result (λ number. number ≤ length met.old.keys) }
+    ensures few { OnOk result (length met.new.keys ≤ length met.old.keys + 1) }
+{
+    let (number, _) = met.insert_full(Row::of(kind))?;
+    Ok(number)
+}
+
+// The number of the kind of one more token: 0 where it has no type.
+fn meet(
+    met: &mut IndexSet<Row>,
+    structs: &Structs,
+    kind: &Option<ExpressionType>,
+) -> Result<u32, AllocError>
+    requires sound { IsSound structs.now }
+    requires few { length met.old.keys < 2 ^ 32 }
+    ensures next { IfOk result (λ number. IsNext (structs_in structs.now) kind.now
+        (kinds_in met.old.keys) (kinds_in met.new.keys) number) }
+    ensures few { OnOk result (length met.new.keys ≤ length met.old.keys + 1) }
+{
+    match kind {
+        Some(kind) => {
+            let number = number_of(met, kind_of(structs, kind))?;
+            Ok(number as u32)
+        }
+        None => Ok(0),
+    }
+}
+
+fn list_of(alloc: Global, rows: &[Row]) -> Result<Vec<Kind>, AllocError>
+    ensures { IfOk result (λ kinds. kinds.items ≡ kinds_in rows.now) }
+{
+    let mut kinds = Vec::new(alloc);
+    for row in rows {
+        kinds.push(row.kind())?;
+    }
+    Ok(kinds)
+}
+
+/// The kinds of the types of tokens.
+#[derive(Drop)]
+pub struct Kinds {
+    /// For each token the number of the kind of its type, which is its index in `list`: 0 where the
+    /// token has no type.
+    pub numbers: Vec<u32>,
+    /// Each kind once, in the order in which they are first met from token to token.
+    pub list: Vec<Kind>,
+}
+
+impl Kinds {
+    /// The kinds of the types of tokens, in linear time. Fails only for want of memory.
+    pub fn of(
+        alloc: Global,
+        structs: &Structs,
+        types: &[Option<ExpressionType>],
+    ) -> Result<Self, AllocError>
+        requires sound { IsSound structs.now }
+        requires few { length types.now < 2 ^ 32 }
+        ensures { IfOk result (λ kinds. AreMet (structs_in structs.now) types.now
+            kinds.list.items kinds.numbers.items) }
+    {
+        let mut met = IndexSet::new(alloc);
+        let mut numbers = Vec::new(alloc);
+        for kind in types {
+            numbers.push(meet(&mut met, structs, kind)?)?;
+        }
+        let list = list_of(alloc, met.as_slice())?;
+        Ok(Kinds { numbers, list })
+    }
+}

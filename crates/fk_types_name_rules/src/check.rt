@@ -1,0 +1,105 @@
+//! The first rule about names that a program breaks.
+
+ghost use Rattle.std.specs.Prelude.{◌≡◌, IfOk, map};
+ghost use Rattle.fk_syntax.specs.ProgramView.{item_of, program_of};
+ghost use Rattle.fk_check_rules.specs.declared.rule.Rule.TheVariants.{NoMain};
+ghost use Rattle.fk_check_rules.specs.Least.{IsLeast, among, either};
+ghost use Rattle.fk_check_rules.specs.Told.{told};
+ghost use Rattle.fk_types_names.specs.Outline.{items_marks};
+ghost use Rattle.fk_types_names.specs.OutlineView.{marks_in};
+ghost use Rattle.fk_types_names.specs.View.{mark_of};
+ghost use Rattle.fk_types_names.specs.Reading.{IsAt, marks_of};
+ghost use Rattle.fk_types_name_rules.specs.Headers.{HasNoMain};
+ghost use Rattle.fk_types_name_rules.specs.Found.{MarkBreaks, ItemBreaks};
+ghost use Rattle.fk_types_name_rules.specs.Known.{AreHeaders};
+ghost use Rattle.fk_types_name_rules.specs.Broken.{NamesBreak};
+
+use crate::headers::Headers;
+use crate::named::mark_fault;
+use fk_types_names::{Mark, Outline, Reader};
+use fk_check_rules::{Fault, Rule, fault_if, first_of};
+use fk_syntax::{Item, Place, Program};
+use std::alloc::{AllocError, Global};
+
+// The first that names break where they are used and where they are declared, by a reader before the
+// first mark.
+fn fault_from<'m, 'p, 't>(
+    reader: &mut Reader<'m, 'p, 't>,
+    marks: &'m [Mark<'p, 't>],
+) -> Result<Option<Fault>, AllocError>
+    requires here { IsAt reader.old 0 }
+    requires same { marks_of reader.old ≡ map mark_of marks.now }
+    ensures { IfOk result (λ fault. IsLeast
+        (among (MarkBreaks (map mark_of marks.now)) (map mark_of marks.now)) fault) }
+{
+    let mut fault = None;
+    for at in 0..marks.len() {
+        fault = first_of(fault, mark_fault(reader, marks, at));
+        reader.pass(at)?;
+    }
+    Ok(fault)
+}
+
+// The first that the names in an outline break where they are used and where they are declared.
+fn marks_fault(alloc: Global, outline: &Outline) -> Result<Option<Fault>, AllocError>
+    ensures { IfOk result
+        (IsLeast (among (MarkBreaks (marks_in outline.now)) (marks_in outline.now))) }
+{
+    let marks = outline.marks();
+    let mut reader = Reader::new(alloc, marks)?;
+    fault_from(&mut reader, marks)
+}
+
+// The first that headers break.
+fn headers_fault(items: &[Item], headers: &Headers) -> Option<Fault>
+    requires { AreHeaders (map item_of items.now) headers.now }
+    ensures { IsLeast (among (ItemBreaks (map item_of items.now)) (map item_of items.now)) result }
+{
+    let mut fault = None;
+    for (at, item) in items.iter().enumerate() {
+        fault = first_of(fault, Headers::fault(items, at, item, headers));
+    }
+    fault
+}
+
+// The first that the names in items break where they are used and where they are declared.
+fn named_fault(alloc: Global, items: &[Item]) -> Result<Option<Fault>, AllocError>
+    ensures { IfOk result (IsLeast (among (MarkBreaks (items_marks (map item_of items.now)))
+        (items_marks (map item_of items.now)))) }
+{
+    let outline = Outline::of(alloc, items)?;
+    marks_fault(alloc, &outline)
+}
+
+// The first that the known headers of functions break, where a text ends at a place.
+fn known_fault(items: &[Item], end: Place, headers: &Headers) -> Option<Fault>
+    requires { AreHeaders (map item_of items.now) headers.now }
+    ensures { IsLeast (either (told NoMain end (HasNoMain (map item_of items.now)))
+        (among (ItemBreaks (map item_of items.now)) (map item_of items.now))) result }
+{
+    let main = fault_if(Rule::NoMain, end, Headers::has_no_main(items, headers));
+    first_of(main, headers_fault(items, headers))
+}
+
+// The first that the headers of functions break, where a text ends at a place.
+fn functions_fault(alloc: Global, items: &[Item], end: Place) -> Result<Option<Fault>, AllocError>
+    ensures { IfOk result (IsLeast (either (told NoMain end (HasNoMain (map item_of items.now)))
+        (among (ItemBreaks (map item_of items.now)) (map item_of items.now)))) }
+{
+    let headers = Headers::of(alloc, items)?;
+    Ok(known_fault(items, end, &headers))
+}
+
+/// The first rule about the names of variables and functions that a program breaks, by its place and
+/// then by its number: a name in an expression that means nothing; a name that is declared twice in
+/// one scope, or at file scope before each text; headers of one function that differ, or a function
+/// without a body or with two; no `main`, or one with parameters, `sync` or `straight`. It takes
+/// linear time, and fails only for want of memory.
+pub fn name_fault(alloc: Global, program: &Program) -> Result<Option<Fault>, AllocError>
+    ensures { IfOk result (IsLeast (NamesBreak (program_of program.now))) }
+{
+    let items: &[Item] = &program.items;
+    let marks = named_fault(alloc, items)?;
+    let functions = functions_fault(alloc, items, program.end)?;
+    Ok(first_of(marks, functions))
+}

@@ -1,0 +1,66 @@
+-- What a name means.
+use Rattle.std.specs.Prelude.{◌≡◌, ◌⊎◌, ℕ, ◌<◌, List, [], ◌∷◌, length, take, Some, slice_get, Contains, codes, IsSome, IsSomeAnd}
+use Rattle.fk_syntax.specs.Tree.{Named}
+use Rattle.fk_syntax.specs.Program.{ProgramTree}
+use Rattle.fk_types_names.specs.declared.names.Meaning.{Meaning}
+use Rattle.fk_types_names.specs.declared.names.Meaning.TheVariants as m
+use Rattle.fk_types_names.specs.Outline.{DeclarationTree, MarkTree, Variable, Header, Opens, Closes, Declares, Uses, outline, declared_in}
+use Rattle.fk_types_names.specs.Visible.{IsInnermost, IsHidden}
+
+-- names that are declared before each text
+abbrev pub predeclared : List (List ℕ)
+predeclared = codes "mpadd" ∷ codes "mpmax" ∷ codes "mpand" ∷ codes "mpor"
+    ∷ codes "shmalloc" ∷ codes "shalloc" ∷ codes "malloc"
+    ∷ codes "putint" ∷ codes "putchar" ∷ codes "groupsize"
+    ∷ codes "__PROC_NR__" ∷ codes "__STARTED_PROCS__" ∷ codes "__input" ∷ codes "__inputs" ∷ []
+
+-- the number of the declaration at an index
+abbrev pub binding : List MarkTree → ℕ → ℕ
+binding marks at = length (declared_in (take at marks))
+
+-- a mark is the header of this function that has the body
+abbrev pub DefinesHere : List ℕ → MarkTree → Type 0
+DefinesHere bytes Opens = ⊥
+DefinesHere bytes Closes = ⊥
+DefinesHere bytes (Declares (Variable variable)) = ⊥
+DefinesHere bytes (Declares (Header function)) = (function.name.bytes ≡ bytes) × IsSome function.body
+DefinesHere bytes (Uses name) = ⊥
+
+-- and the mark stands at an index
+abbrev pub HasBodyAt : List MarkTree → List ℕ → ℕ → Type 0
+HasBodyAt marks bytes at = IsSomeAnd (slice_get marks at) (DefinesHere bytes)
+
+-- and it is the first one with a body
+pub record IsDefinition (marks : List MarkTree) (bytes : List ℕ) (at : ℕ) : Type 0 where
+  pub body : HasBodyAt marks bytes at
+  pub first : (k : ℕ) → k < at → ¬ HasBodyAt marks bytes k
+
+-- what a name stands for whose innermost declaration this is: of a function the header that has
+-- the body, where there is one
+abbrev pub StandsFor : List MarkTree → List ℕ → ℕ → DeclarationTree → ℕ → Type 0
+StandsFor marks bytes at (Variable variable) meant = meant ≡ at
+StandsFor marks bytes at (Header function) meant = IsDefinition marks bytes meant
+    ⊎ ((meant ≡ at) × ((k : ℕ) → ¬ HasBodyAt marks bytes k))
+
+-- what a name means that is used at an index
+abbrev pub MeansAt : List MarkTree → List ℕ → ℕ → Meaning → Type 0
+MeansAt marks bytes from (m.Declared number) = (at : ℕ) × (d : DeclarationTree) × (meant : ℕ)
+    × IsInnermost marks bytes from at × (slice_get marks at ≡ Some (Declares d))
+    × StandsFor marks bytes at d meant × (number ≡ binding marks meant)
+MeansAt marks bytes from m.Predeclared = IsHidden marks bytes from × Contains predeclared bytes
+MeansAt marks bytes from m.Undeclared = IsHidden marks bytes from × (¬ Contains predeclared bytes)
+
+-- a name stands in an expression at an index of the outline
+abbrev pub UsesAt : List MarkTree → Named → ℕ → Type 0
+UsesAt marks name from = slice_get marks from ≡ Some (Uses name)
+
+-- what the token of an index means, where it is a name in an expression
+pub record MeansIn (marks : List MarkTree) (token : ℕ) (meaning : Meaning) : Type 0 where
+  pub name : Named
+  pub from : ℕ
+  pub used : UsesAt marks name from
+  pub here : name.at ≡ token
+  pub meant : MeansAt marks name.bytes from meaning
+
+abbrev pub Means : ProgramTree → ℕ → Meaning → Type 0
+Means program token meaning = MeansIn (outline program) token meaning

@@ -1,0 +1,443 @@
+//! The scopes and names of a program, in the order in which it is read.
+
+ghost use Rattle.std.specs.Prelude.{◌≡◌, ◌∷◌, ◌++◌, [], map, IfOk, OnOk};
+ghost use Rattle.std.specs.Option.{option_map};
+ghost use Rattle.fk_syntax.specs.Tree.{links_of, trees_of, suffixes_of};
+ghost use Rattle.fk_syntax.specs.View.{tree_of, link_of, suffix_of, named};
+ghost use Rattle.fk_syntax.specs.Program.{statements_of};
+ghost use Rattle.fk_syntax.specs.ProgramView.{declared_of, statement_of, function_of, item_of, program_of};
+ghost use Rattle.fk_types_names.specs.Outline as o;
+ghost use Rattle.fk_types_names.specs.Outline.{tree_marks, links_marks, trees_marks, suffixes_marks, optional_marks, variable_marks, variables_marks, body_marks, scope, statement_marks, statements_marks, function_marks, item_marks, items_marks, name_of};
+ghost use Rattle.fk_types_names.specs.View.{mark_of, declaration_of};
+ghost use Rattle.fk_types_names.specs.OutlineView.{marks_in};
+ghost use Rattle.fk_types_names.specs.Visible.{is_opening, is_closing};
+ghost use Rattle.fk_types_names.specs.Filling.{is_header};
+
+use fk_syntax::{Declared, Expr, Function, Item, Link, Name, Stmt, Suffix};
+use std::alloc::{AllocError, Global};
+
+/// What has a name of its own, other than structs and their members.
+#[derive(Clone, Copy)]
+pub enum Declaration<'p, 'a> {
+    /// A variable or a parameter.
+    Variable(&'p Declared<'a>),
+    /// A header of a function, with its body where it has one.
+    Function(&'p Function<'a>),
+}
+
+impl<'a> Declaration<'_, 'a> {
+    /// The bytes of its name.
+    pub fn name(&self) -> &'a [u8]
+        ensures { result.now ≡ (name_of (declaration_of self.now)).bytes }
+    {
+        match self {
+            Declaration::Variable(variable) => variable.name.bytes,
+            Declaration::Function(function) => function.name.bytes,
+        }
+    }
+}
+
+/// What matters for names, at one point of a text.
+#[derive(Clone, Copy)]
+pub enum Mark<'p, 'a> {
+    /// A scope begins.
+    Opens,
+    /// The scope that began last and has no end yet ends.
+    Closes,
+    /// The name of a declaration.
+    Declares(Declaration<'p, 'a>),
+    /// A name in an expression.
+    Uses(Name<'a>),
+}
+
+impl Mark<'_, '_> {
+    /// Whether a scope begins.
+    pub fn is_opening(&self) -> bool
+        ensures { result ≡ is_opening (mark_of self.now) }
+    {
+        match self {
+            Mark::Opens => true,
+            Mark::Closes | Mark::Declares(_) | Mark::Uses(_) => false,
+        }
+    }
+
+    /// Whether a function's header is declared.
+    pub fn is_header(&self) -> bool
+        ensures { result ≡ is_header (mark_of self.now) }
+    {
+        matches!(self, Mark::Declares(Declaration::Function(_)))
+    }
+
+    /// Whether a scope ends.
+    pub fn is_closing(&self) -> bool
+        ensures { result ≡ is_closing (mark_of self.now) }
+    {
+        match self {
+            Mark::Closes => true,
+            Mark::Opens | Mark::Declares(_) | Mark::Uses(_) => false,
+        }
+    }
+}
+
+/// The marks of a text, in the order in which it is read.
+#[derive(Drop)]
+pub struct Outline<'p, 'a> {
+    marks: Vec<Mark<'p, 'a>>,
+}
+
+impl<'p, 'a> Outline<'p, 'a> {
+    /// The marks of a program. Fails only for want of memory.
+    pub fn of(alloc: Global, items: &'p [Item<'a>]) -> Result<Self, AllocError>
+        ensures { IfOk result (λ outline. marks_in outline ≡ items_marks (map item_of items.now)) }
+    {
+        let mut outline = Outline {
+            marks: Vec::new(alloc),
+        };
+        Self::add_items(items, &mut outline)?;
+        Ok(outline)
+    }
+
+    /// The marks, in order.
+    pub fn marks(&self) -> &[Mark<'p, 'a>]
+        ensures { map mark_of result.now ≡ marks_in self.now }
+    {
+        &self.marks
+    }
+
+    // What is read stands before what it is added to: such calls have shorter proofs than methods.
+    fn add(mark: Mark<'p, 'a>, kept: &mut Self) -> Result<(), AllocError>
+        ensures { OnOk result (marks_in kept.new ≡ marks_in kept.old ++ mark_of mark.entry ∷ []) }
+    {
+        kept.marks.push(mark)?;
+        Ok(())
+    }
+
+    #[cycle(expression)]
+    fn add_expression(expression: &'p Expr<'a>, kept: &mut Self) -> Result<(), AllocError>
+        ensures { OnOk result (marks_in kept.new ≡ marks_in kept.old ++ tree_marks (tree_of expression.now)) }
+    {
+        match expression {
+            Expr::Number(_, _, _)
+            | Expr::Puts(_, _)
+            | Expr::Sizeof(_, _)
+            | Expr::GroupNumber(_)
+            | Expr::GroupRank(_) => Ok(()),
+            Expr::Named(name) => Self::add(Mark::Uses(*name), kept),
+            Expr::Prefix(_, _, operand) | Expr::Cast(_, _, operand) => {
+                Self::add_expression(operand, kept)
+            }
+            Expr::Chain(first, links) => {
+                Self::add_expression(first, kept)?;
+                Self::add_links(links, kept)
+            }
+            Expr::Postfix(whole, suffixes) => {
+                Self::add_expression(whole, kept)?;
+                Self::add_suffixes(suffixes, kept)
+            }
+            Expr::Assign(_, _, target, value) => {
+                Self::add_expression(target, kept)?;
+                Self::add_expression(value, kept)
+            }
+            Expr::Choose(_, condition, first, second) => {
+                Self::add_expression(condition, kept)?;
+                Self::add_expression(first, kept)?;
+                Self::add_expression(second, kept)
+            }
+        }
+    }
+
+    #[cycle(expression)]
+    fn add_links(links: &'p [Link<'a>], kept: &mut Self) -> Result<(), AllocError>
+        ensures { OnOk result (marks_in kept.new
+            ≡ marks_in kept.old ++ links_marks (links_of (map link_of links.now))) }
+    {
+        for link in links {
+            Self::add_expression(&link.right, kept)?;
+        }
+        Ok(())
+    }
+
+    #[cycle(expression)]
+    fn add_suffixes(suffixes: &'p [Suffix<'a>], kept: &mut Self) -> Result<(), AllocError>
+        ensures { OnOk result (marks_in kept.new
+            ≡ marks_in kept.old ++ suffixes_marks (suffixes_of (map suffix_of suffixes.now))) }
+    {
+        for suffix in suffixes {
+            match suffix {
+                Suffix::Index(_, by) => Self::add_expression(by, kept)?,
+                Suffix::Call(_, arguments) => Self::add_expressions(arguments, kept)?,
+                Suffix::Dot(_, _) | Suffix::Arrow(_, _) | Suffix::Up(_) | Suffix::Down(_) => {}
+            }
+        }
+        Ok(())
+    }
+
+    #[cycle(expression)]
+    fn add_expressions(expressions: &'p [Expr<'a>], kept: &mut Self) -> Result<(), AllocError>
+        ensures { OnOk result (marks_in kept.new
+            ≡ marks_in kept.old ++ trees_marks (trees_of (map tree_of expressions.now))) }
+    {
+        for expression in expressions {
+            Self::add_expression(expression, kept)?;
+        }
+        Ok(())
+    }
+
+    fn add_optional(expression: &'p Option<Expr<'a>>, kept: &mut Self) -> Result<(), AllocError>
+        ensures { OnOk result (marks_in kept.new
+            ≡ marks_in kept.old ++ optional_marks (option_map tree_of expression.now)) }
+    {
+        match expression {
+            Some(expression) => Self::add_expression(expression, kept),
+            None => Ok(()),
+        }
+    }
+
+    fn add_variable(variable: &'p Declared<'a>, kept: &mut Self) -> Result<(), AllocError>
+        ensures { OnOk result (marks_in kept.new
+            ≡ marks_in kept.old ++ variable_marks (declared_of variable.now)) }
+    {
+        Self::add(Mark::Declares(Declaration::Variable(variable)), kept)?;
+        Self::add_optional(&variable.first, kept)
+    }
+
+    fn add_variables(variables: &'p [Declared<'a>], kept: &mut Self) -> Result<(), AllocError>
+        ensures { OnOk result (marks_in kept.new
+            ≡ marks_in kept.old ++ variables_marks (map declared_of variables.now)) }
+    {
+        for variable in variables {
+            Self::add_variable(variable, kept)?;
+        }
+        Ok(())
+    }
+
+    // The three expressions of a `for`.
+    fn add_head(
+        before: &'p Option<Expr<'a>>,
+        condition: &'p Option<Expr<'a>>,
+        after: &'p Option<Expr<'a>>,
+        kept: &mut Self,
+    ) -> Result<(), AllocError>
+        ensures { OnOk result (marks_in kept.new ≡ marks_in kept.old
+            ++ (optional_marks (option_map tree_of before.now)
+            ++ optional_marks (option_map tree_of condition.now)
+            ++ optional_marks (option_map tree_of after.now))) }
+    {
+        Self::add_optional(before, kept)?;
+        Self::add_optional(condition, kept)?;
+        Self::add_optional(after, kept)
+    }
+
+    // The three expressions of a `fork`.
+    fn add_parts(
+        parts: &'p Expr<'a>,
+        part: &'p Expr<'a>,
+        rank: &'p Option<Expr<'a>>,
+        kept: &mut Self,
+    ) -> Result<(), AllocError>
+        ensures { OnOk result (marks_in kept.new ≡ marks_in kept.old
+            ++ (tree_marks (tree_of parts.now)
+            ++ tree_marks (tree_of part.now)
+            ++ optional_marks (option_map tree_of rank.now))) }
+    {
+        Self::add_expression(parts, kept)?;
+        Self::add_expression(part, kept)?;
+        Self::add_optional(rank, kept)
+    }
+
+    #[cycle(statement)]
+    fn add_statement(statement: &'p Stmt<'a>, kept: &mut Self) -> Result<(), AllocError>
+        ensures { OnOk result (marks_in kept.new
+            ≡ marks_in kept.old ++ statement_marks (statement_of statement.now)) }
+    {
+        match statement {
+            Stmt::Empty | Stmt::Barrier(_) | Stmt::Break(_) | Stmt::Continue(_) => Ok(()),
+            Stmt::Expression(value) => Self::add_expression(value, kept),
+            Stmt::Block(statements) => Self::add_block(statements, kept),
+            Stmt::Declare(variables) => Self::add_variables(variables, kept),
+            Stmt::If(_, condition, then, otherwise) => {
+                Self::add_expression(condition, kept)?;
+                Self::add_body(then, kept)?;
+                match otherwise {
+                    Some(otherwise) => Self::add_body(otherwise, kept),
+                    None => Ok(()),
+                }
+            }
+            Stmt::While(_, condition, body) => Self::add_while(body, condition, kept),
+            Stmt::DoWhile(_, body, condition) => Self::add_do_while(body, condition, kept),
+            Stmt::For(_, before, condition, after, body) => {
+                Self::add_for(body, before, condition, after, kept)
+            }
+            Stmt::Start(_, count, body) => Self::add_start(body, count, kept),
+            Stmt::Farm(_, body) | Stmt::Seq(_, body) => Self::add_body(body, kept),
+            Stmt::Fork(_, parts, part, rank, body) => Self::add_fork(body, parts, part, rank, kept),
+            Stmt::Return(_, value) => Self::add_optional(value, kept),
+        }
+    }
+
+    // A body behind its condition.
+    #[cycle(statement)]
+    fn add_while(
+        body: &'p Stmt<'a>,
+        condition: &'p Expr<'a>,
+        kept: &mut Self,
+    ) -> Result<(), AllocError>
+        ensures { OnOk result (marks_in kept.new ≡ marks_in kept.old
+            ++ (tree_marks (tree_of condition.now)
+            ++ scope (statement_marks (statement_of body.now)))) }
+    {
+        Self::add_expression(condition, kept)?;
+        Self::add_body(body, kept)
+    }
+
+    // A body before its condition.
+    #[cycle(statement)]
+    fn add_do_while(
+        body: &'p Stmt<'a>,
+        condition: &'p Expr<'a>,
+        kept: &mut Self,
+    ) -> Result<(), AllocError>
+        ensures { OnOk result (marks_in kept.new ≡ marks_in kept.old
+            ++ (scope (statement_marks (statement_of body.now))
+            ++ tree_marks (tree_of condition.now))) }
+    {
+        Self::add_body(body, kept)?;
+        Self::add_expression(condition, kept)
+    }
+
+    // The body of a `for` behind its three expressions.
+    #[cycle(statement)]
+    fn add_for(
+        body: &'p Stmt<'a>,
+        before: &'p Option<Expr<'a>>,
+        condition: &'p Option<Expr<'a>>,
+        after: &'p Option<Expr<'a>>,
+        kept: &mut Self,
+    ) -> Result<(), AllocError>
+        ensures { OnOk result (marks_in kept.new ≡ marks_in kept.old
+            ++ (optional_marks (option_map tree_of before.now)
+            ++ optional_marks (option_map tree_of condition.now)
+            ++ optional_marks (option_map tree_of after.now)
+            ++ scope (statement_marks (statement_of body.now)))) }
+    {
+        Self::add_head(before, condition, after, kept)?;
+        Self::add_body(body, kept)
+    }
+
+    // The body of a `start` behind its count.
+    #[cycle(statement)]
+    fn add_start(
+        body: &'p Stmt<'a>,
+        count: &'p Option<Expr<'a>>,
+        kept: &mut Self,
+    ) -> Result<(), AllocError>
+        ensures { OnOk result (marks_in kept.new ≡ marks_in kept.old
+            ++ (optional_marks (option_map tree_of count.now)
+            ++ scope (statement_marks (statement_of body.now)))) }
+    {
+        Self::add_optional(count, kept)?;
+        Self::add_body(body, kept)
+    }
+
+    // The body of a `fork` behind its three expressions.
+    #[cycle(statement)]
+    fn add_fork(
+        body: &'p Stmt<'a>,
+        parts: &'p Expr<'a>,
+        part: &'p Expr<'a>,
+        rank: &'p Option<Expr<'a>>,
+        kept: &mut Self,
+    ) -> Result<(), AllocError>
+        ensures { OnOk result (marks_in kept.new ≡ marks_in kept.old
+            ++ (tree_marks (tree_of parts.now)
+            ++ tree_marks (tree_of part.now)
+            ++ optional_marks (option_map tree_of rank.now)
+            ++ scope (statement_marks (statement_of body.now)))) }
+    {
+        Self::add_parts(parts, part, rank, kept)?;
+        Self::add_body(body, kept)
+    }
+
+    // A statement that is the body of another.
+    #[cycle(statement)]
+    fn add_body(body: &'p Stmt<'a>, kept: &mut Self) -> Result<(), AllocError>
+        ensures { OnOk result (marks_in kept.new
+            ≡ marks_in kept.old ++ scope (statement_marks (statement_of body.now))) }
+    {
+        Self::add(Mark::Opens, kept)?;
+        Self::add_statement(body, kept)?;
+        Self::add(Mark::Closes, kept)
+    }
+
+    #[cycle(statement)]
+    fn add_block(statements: &'p [Stmt<'a>], kept: &mut Self) -> Result<(), AllocError>
+        ensures { OnOk result (marks_in kept.new ≡ marks_in kept.old
+            ++ scope (statements_marks (statements_of (map statement_of statements.now)))) }
+    {
+        Self::add(Mark::Opens, kept)?;
+        Self::add_statements(statements, kept)?;
+        Self::add(Mark::Closes, kept)
+    }
+
+    #[cycle(statement)]
+    fn add_statements(statements: &'p [Stmt<'a>], kept: &mut Self) -> Result<(), AllocError>
+        ensures { OnOk result (marks_in kept.new ≡ marks_in kept.old
+            ++ statements_marks (statements_of (map statement_of statements.now))) }
+    {
+        for statement in statements {
+            Self::add_statement(statement, kept)?;
+        }
+        Ok(())
+    }
+
+    fn add_function(function: &'p Function<'a>, kept: &mut Self) -> Result<(), AllocError>
+        ensures { OnOk result (marks_in kept.new
+            ≡ marks_in kept.old ++ function_marks (function_of function.now)) }
+    {
+        Self::add(Mark::Declares(Declaration::Function(function)), kept)?;
+        Self::add_scope(function, kept)
+    }
+
+    // The scope of a function.
+    fn add_scope(function: &'p Function<'a>, kept: &mut Self) -> Result<(), AllocError>
+        ensures { OnOk result (marks_in kept.new ≡ marks_in kept.old
+            ++ scope (variables_marks (function_of function.now).parameters
+            ++ body_marks (function_of function.now).body)) }
+    {
+        Self::add(Mark::Opens, kept)?;
+        Self::add_inside(function, kept)?;
+        Self::add(Mark::Closes, kept)
+    }
+
+    // The parameters of a function, and its body where it has one.
+    fn add_inside(function: &'p Function<'a>, kept: &mut Self) -> Result<(), AllocError>
+        ensures { OnOk result (marks_in kept.new ≡ marks_in kept.old
+            ++ (variables_marks (function_of function.now).parameters
+            ++ body_marks (function_of function.now).body)) }
+    {
+        Self::add_variables(&function.params, kept)?;
+        match &function.body {
+            Some(body) => Self::add_statements(body, kept),
+            None => Ok(()),
+        }
+    }
+
+    fn add_item(item: &'p Item<'a>, kept: &mut Self) -> Result<(), AllocError>
+        ensures { OnOk result (marks_in kept.new ≡ marks_in kept.old ++ item_marks (item_of item.now)) }
+    {
+        match item {
+            Item::Struct(_, _) => Ok(()),
+            Item::Variables(variables) => Self::add_variables(variables, kept),
+            Item::Function(function) => Self::add_function(function, kept),
+        }
+    }
+
+    fn add_items(items: &'p [Item<'a>], kept: &mut Self) -> Result<(), AllocError>
+        ensures { OnOk result (marks_in kept.new ≡ marks_in kept.old ++ items_marks (map item_of items.now)) }
+    {
+        for item in items {
+            Self::add_item(item, kept)?;
+        }
+        Ok(())
+    }
+}

@@ -1,0 +1,255 @@
+//! The pieces of a text, in the order in which it is read.
+
+ghost use Rattle.std.specs.Prelude.{◌≡◌, ◌∷◌, ◌++◌, [], map, IfOk, OnOk};
+ghost use Rattle.std.specs.Option.{option_map};
+ghost use Rattle.fk_syntax.specs.View.{type_of, tree_of};
+ghost use Rattle.fk_syntax.specs.Program.{statements_of};
+ghost use Rattle.fk_syntax.specs.ProgramView.{declared_of, statement_of, function_of, item_of};
+ghost use Rattle.fk_types_obligations.specs.declared.piece.Role.TheVariants as r;
+ghost use Rattle.fk_types_obligations.specs.Pieces as t;
+ghost use Rattle.fk_types_obligations.specs.Pieces.{optional_pieces, variables_pieces, file_pieces, parameters_pieces, statement_pieces, statements_pieces, function_pieces, item_pieces, items_pieces};
+ghost use Rattle.fk_types_obligations.specs.View.{piece_of};
+ghost use Rattle.fk_types_obligations.specs.PiecesView.{pieces_in};
+
+use crate::piece::{Piece, Role};
+use fk_syntax::{Declared, Expr, Function, Item, Spot, Stmt, TypeName};
+use std::alloc::{AllocError, Global};
+
+/// The pieces of a text, in the order in which it is read: a `do` has its body before its
+/// condition.
+#[derive(Drop)]
+pub struct Pieces<'p, 'a> {
+    list: Vec<Piece<'p, 'a>>,
+}
+
+impl<'p, 'a> Pieces<'p, 'a> {
+    /// The pieces of some items. Fails only for want of memory.
+    pub fn of(alloc: Global, items: &'p [Item<'a>]) -> Result<Self, AllocError>
+        ensures { IfOk result (λ kept. pieces_in kept ≡ items_pieces (map item_of items.now)) }
+    {
+        let mut kept = Pieces {
+            list: Vec::new(alloc),
+        };
+        Self::add_items(items, &mut kept)?;
+        Ok(kept)
+    }
+
+    /// The pieces, in order.
+    pub fn list(&self) -> &[Piece<'p, 'a>]
+        ensures { map piece_of result.now ≡ pieces_in self.now }
+    {
+        &self.list
+    }
+
+    // What is read stands before what it is added to: such calls have shorter proofs than methods.
+    fn add(piece: Piece<'p, 'a>, kept: &mut Self) -> Result<(), AllocError>
+        ensures { OnOk result (pieces_in kept.new
+            ≡ pieces_in kept.old ++ piece_of piece.entry ∷ []) }
+    {
+        kept.list.push(piece)?;
+        Ok(())
+    }
+
+    fn add_used(value: &'p Expr<'a>, role: Role, kept: &mut Self) -> Result<(), AllocError>
+        ensures { OnOk result (pieces_in kept.new
+            ≡ pieces_in kept.old ++ t.Used role (tree_of value.now) ∷ []) }
+    {
+        Self::add(Piece::Used(role, value), kept)
+    }
+
+    fn add_optional(
+        value: &'p Option<Expr<'a>>,
+        role: Role,
+        kept: &mut Self,
+    ) -> Result<(), AllocError>
+        ensures { OnOk result (pieces_in kept.new
+            ≡ pieces_in kept.old ++ optional_pieces role (option_map tree_of value.now)) }
+    {
+        match value {
+            Some(value) => Self::add_used(value, role, kept),
+            None => Ok(()),
+        }
+    }
+
+    fn add_variables(variables: &'p [Declared<'a>], kept: &mut Self) -> Result<(), AllocError>
+        ensures { OnOk result (pieces_in kept.new
+            ≡ pieces_in kept.old ++ variables_pieces (map declared_of variables.now)) }
+    {
+        for variable in variables {
+            Self::add(Piece::Variable(variable), kept)?;
+        }
+        Ok(())
+    }
+
+    fn add_of_file(variables: &'p [Declared<'a>], kept: &mut Self) -> Result<(), AllocError>
+        ensures { OnOk result (pieces_in kept.new
+            ≡ pieces_in kept.old ++ file_pieces (map declared_of variables.now)) }
+    {
+        for variable in variables {
+            Self::add(Piece::FileVariable(variable), kept)?;
+        }
+        Ok(())
+    }
+
+    fn add_parameters(parameters: &'p [Declared<'a>], kept: &mut Self) -> Result<(), AllocError>
+        ensures { OnOk result (pieces_in kept.new
+            ≡ pieces_in kept.old ++ parameters_pieces (map declared_of parameters.now)) }
+    {
+        for parameter in parameters {
+            Self::add(Piece::Parameter(parameter), kept)?;
+        }
+        Ok(())
+    }
+
+    // The three expressions of a `for`.
+    fn add_head(
+        before: &'p Option<Expr<'a>>,
+        condition: &'p Option<Expr<'a>>,
+        after: &'p Option<Expr<'a>>,
+        kept: &mut Self,
+    ) -> Result<(), AllocError>
+        ensures { OnOk result (pieces_in kept.new ≡ pieces_in kept.old
+            ++ (optional_pieces r.Alone (option_map tree_of before.now)
+            ++ optional_pieces r.Condition (option_map tree_of condition.now)
+            ++ optional_pieces r.Alone (option_map tree_of after.now))) }
+    {
+        Self::add_optional(before, Role::Alone, kept)?;
+        Self::add_optional(condition, Role::Condition, kept)?;
+        Self::add_optional(after, Role::Alone, kept)
+    }
+
+    // The three expressions of a `fork`.
+    fn add_parts(
+        parts: &'p Expr<'a>,
+        part: &'p Expr<'a>,
+        rank: &'p Option<Expr<'a>>,
+        kept: &mut Self,
+    ) -> Result<(), AllocError>
+        ensures { OnOk result (pieces_in kept.new ≡ pieces_in kept.old
+            ++ (t.Used r.Word (tree_of parts.now) ∷ t.Used r.Word (tree_of part.now)
+            ∷ optional_pieces r.Word (option_map tree_of rank.now))) }
+    {
+        Self::add_used(parts, Role::Word, kept)?;
+        Self::add_used(part, Role::Word, kept)?;
+        Self::add_optional(rank, Role::Word, kept)
+    }
+
+    // A `return` in a function of a result.
+    //
+    // Here and below a piece is made in a function of its own: what makes it and does more has a
+    // longer proof.
+    fn add_return(
+        value: &'p Option<Expr<'a>>,
+        gives: &'p TypeName<'a>,
+        spot: Spot,
+        kept: &mut Self,
+    ) -> Result<(), AllocError>
+        ensures { OnOk result (pieces_in kept.new ≡ pieces_in kept.old
+            ++ t.Return (type_of gives.now) spot (option_map tree_of value.now) ∷ []) }
+    {
+        Self::add(Piece::Return(gives, spot, value), kept)
+    }
+
+    #[cycle(statement)]
+    fn add_statement(
+        statement: &'p Stmt<'a>,
+        gives: &'p TypeName<'a>,
+        kept: &mut Self,
+    ) -> Result<(), AllocError>
+        ensures { OnOk result (pieces_in kept.new ≡ pieces_in kept.old
+            ++ statement_pieces (type_of gives.now) (statement_of statement.now)) }
+    {
+        match statement {
+            Stmt::Empty | Stmt::Barrier(_) | Stmt::Break(_) | Stmt::Continue(_) => Ok(()),
+            Stmt::Expression(value) => Self::add_used(value, Role::Alone, kept),
+            Stmt::Block(statements) => Self::add_statements(statements, gives, kept),
+            Stmt::Declare(variables) => Self::add_variables(variables, kept),
+            Stmt::If(_, condition, then, otherwise) => {
+                Self::add_used(condition, Role::Condition, kept)?;
+                Self::add_statement(then, gives, kept)?;
+                match otherwise {
+                    Some(otherwise) => Self::add_statement(otherwise, gives, kept),
+                    None => Ok(()),
+                }
+            }
+            Stmt::While(_, condition, body) => {
+                Self::add_used(condition, Role::Condition, kept)?;
+                Self::add_statement(body, gives, kept)
+            }
+            Stmt::DoWhile(_, body, condition) => {
+                Self::add_statement(body, gives, kept)?;
+                Self::add_used(condition, Role::Condition, kept)
+            }
+            Stmt::For(_, before, condition, after, body) => {
+                Self::add_head(before, condition, after, kept)?;
+                Self::add_statement(body, gives, kept)
+            }
+            Stmt::Start(_, count, body) => {
+                Self::add_optional(count, Role::Word, kept)?;
+                Self::add_statement(body, gives, kept)
+            }
+            Stmt::Farm(_, body) | Stmt::Seq(_, body) => Self::add_statement(body, gives, kept),
+            Stmt::Fork(_, parts, part, rank, body) => {
+                Self::add_parts(parts, part, rank, kept)?;
+                Self::add_statement(body, gives, kept)
+            }
+            Stmt::Return(spot, value) => Self::add_return(value, gives, *spot, kept),
+        }
+    }
+
+    #[cycle(statement)]
+    fn add_statements(
+        statements: &'p [Stmt<'a>],
+        gives: &'p TypeName<'a>,
+        kept: &mut Self,
+    ) -> Result<(), AllocError>
+        ensures { OnOk result (pieces_in kept.new ≡ pieces_in kept.old ++ statements_pieces
+            (type_of gives.now) (statements_of (map statement_of statements.now))) }
+    {
+        for statement in statements {
+            Self::add_statement(statement, gives, kept)?;
+        }
+        Ok(())
+    }
+
+    // The header of a function.
+    fn add_header(function: &'p Function<'a>, kept: &mut Self) -> Result<(), AllocError>
+        ensures { OnOk result (pieces_in kept.new
+            ≡ pieces_in kept.old ++ t.Header (function_of function.now) ∷ []) }
+    {
+        Self::add(Piece::Header(function), kept)
+    }
+
+    fn add_function(function: &'p Function<'a>, kept: &mut Self) -> Result<(), AllocError>
+        ensures { OnOk result (pieces_in kept.new
+            ≡ pieces_in kept.old ++ function_pieces (function_of function.now)) }
+    {
+        Self::add_header(function, kept)?;
+        Self::add_parameters(&function.params, kept)?;
+        match &function.body {
+            Some(body) => Self::add_statements(body, &function.result, kept),
+            None => Ok(()),
+        }
+    }
+
+    fn add_item(item: &'p Item<'a>, kept: &mut Self) -> Result<(), AllocError>
+        ensures { OnOk result (pieces_in kept.new
+            ≡ pieces_in kept.old ++ item_pieces (item_of item.now)) }
+    {
+        match item {
+            Item::Struct(_, _) => Ok(()),
+            Item::Variables(variables) => Self::add_of_file(variables, kept),
+            Item::Function(function) => Self::add_function(function, kept),
+        }
+    }
+
+    fn add_items(items: &'p [Item<'a>], kept: &mut Self) -> Result<(), AllocError>
+        ensures { OnOk result (pieces_in kept.new
+            ≡ pieces_in kept.old ++ items_pieces (map item_of items.now)) }
+    {
+        for item in items {
+            Self::add_item(item, kept)?;
+        }
+        Ok(())
+    }
+}

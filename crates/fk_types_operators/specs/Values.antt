@@ -1,0 +1,51 @@
+-- The types of expressions, and what each is as a value.
+use Rattle.std.specs.Prelude.{ℕ, zero, suc, Bool, false, Option, Some, None, is_some, unwrap_or}
+use Rattle.std.specs.Option.{option_map}
+use Rattle.fk_types_structs.specs.declared.types.Root.{Root}
+use Rattle.fk_types_structs.specs.declared.types.Root.TheVariants as r
+use Rattle.fk_types_structs.specs.declared.types.DataType.{DataType}
+use Rattle.fk_types_operators.specs.declared.values.Target.{Target}
+use Rattle.fk_types_operators.specs.declared.values.Value.{Value}
+use Rattle.fk_types_operators.specs.declared.values.Value.TheVariants.{Int, Unsigned, Pointer}
+use Rattle.fk_types_operators.specs.declared.values.ExpressionType.{ExpressionType}
+use Rattle.fk_types_operators.specs.declared.values.ExpressionType.TheVariants.{Stored, Computed, Nothing}
+
+abbrev pub target : Root → ℕ → Target
+target root stars = record { root = root; stars = stars }
+
+-- a root with so many stars, as a value: `void` and a struct are none
+abbrev pub value_under : Root → ℕ → Option Value
+value_under r.Int zero = Some Int
+value_under r.Unsigned zero = Some Unsigned
+value_under r.Void zero = None
+value_under (r.Struct index) zero = None
+value_under root (suc stars) = Some (Pointer (target root stars))
+
+-- what is stored, as a value: an array is the pointer to its first element
+abbrev pub value_held : Root → ℕ → Option ℕ → Option Value
+value_held root stars None = value_under root stars
+value_held root stars (Some length) = Some (Pointer (target root stars))
+
+abbrev pub value_stored : DataType → Option Value
+value_stored type = value_held type.root type.stars type.length
+
+-- an expression of a type, as a value
+abbrev pub value_of : ExpressionType → Option Value
+value_of (Stored type) = value_stored type
+value_of (Computed value) = Some value
+value_of Nothing = None
+
+-- what a call gives whose function has this type as its result: for `void` nothing
+abbrev pub result_of : DataType → ExpressionType
+result_of type = unwrap_or (option_map Computed (value_stored type)) Nothing
+
+abbrev pub is_array : ExpressionType → Bool
+is_array (Stored type) = is_some type.length
+is_array (Computed value) = false
+is_array Nothing = false
+
+-- the pointer to what is stored: for an array to its first element
+abbrev pub address_of : ExpressionType → Option Value
+address_of (Stored type) = Some (Pointer (target type.root type.stars))
+address_of (Computed value) = None
+address_of Nothing = None

@@ -1,0 +1,11 @@
+pub mod Low
+pub mod Meanings
+pub mod Used
+pub mod Alike
+pub mod Counting
+pub mod References
+pub mod Pieces
+pub mod Notes
+pub mod Table
+pub mod Tokens
+pub mod Example

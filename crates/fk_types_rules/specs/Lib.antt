@@ -1,0 +1,11 @@
+pub mod Constant
+pub mod Pieces
+pub mod Broken
+pub mod Kinds
+pub mod Noted
+pub mod Bound
+pub mod Facts
+pub mod Laws
+pub mod Apart
+pub mod Example
+pub mod Unique

@@ -1,0 +1,167 @@
+//! The rules about types where they are written: of a variable, a member, a parameter, a result or in
+//! `sizeof`.
+
+ghost use Rattle.std.specs.Prelude.{◌≡◌, ◌↔◌, ◌⊎◌, IsTrue};
+ghost use Rattle.fk_syntax.specs.View.{type_of};
+ghost use Rattle.fk_syntax.specs.ProgramView.{declared_of};
+ghost use Rattle.fk_check_rules.specs.declared.rule.Rule.TheVariants as rules;
+ghost use Rattle.fk_check_rules.specs.Least.{IsLeast, only};
+ghost use Rattle.fk_types_structs.specs.Whole.{structs_in, IsSound};
+ghost use Rattle.fk_types_struct_rules.specs.Declarations.{NamesNoStruct, IsVoid, HasWrongLength, IsTooLarge, HasLargeType, IsStruct, At, DeclarationBreaks, ParameterBreaks, ResultBreaks, SizeofBreaks};
+
+use fk_check_rules::{Fault, Rule, first_of};
+use fk_types_structs::{DataType, Structs};
+use fk_syntax::{Base, Declared, Place, TypeName};
+
+/// The most elements and the most words.
+const LIMIT: u32 = 524_288;
+
+/// A struct that a type names and that is not declared, at its name.
+pub fn no_struct(structs: &Structs, kind: &TypeName) -> Option<Fault>
+    requires { IsSound structs.now }
+    ensures { IsLeast (only rules.NoStruct
+        (NamesNoStruct (structs_in structs.now) (type_of kind.now))) result }
+{
+    match kind.base {
+        Base::Struct(name) if structs.find(name.bytes).is_none() => Some(Fault {
+            place: name.place,
+            rule: Rule::NoStruct,
+        }),
+        _ => None,
+    }
+}
+
+/// Whether a type is `void`, and no pointer.
+pub fn is_void(kind: &TypeName) -> bool
+    ensures { IsTrue result ↔ IsVoid (type_of kind.now) }
+{
+    matches!(
+        kind,
+        TypeName {
+            base: Base::Void,
+            stars: 0
+        }
+    )
+}
+
+/// Whether a type is a struct, and no pointer.
+pub fn is_struct(kind: &TypeName) -> bool
+    ensures { IsTrue result ↔ IsStruct (type_of kind.now) }
+{
+    match kind.base {
+        Base::Struct(_) => kind.stars == 0,
+        Base::Int | Base::Unsigned | Base::Void => false,
+    }
+}
+
+// Whether the length of an array is none.
+fn has_wrong_length(declared: &Declared) -> bool
+    ensures { IsTrue result ↔ HasWrongLength (declared_of declared.now) }
+{
+    match declared.length {
+        Some(length) => length == 0 || length > LIMIT,
+        None => false,
+    }
+}
+
+/// Whether a type has too many words.
+pub(crate) fn is_too_large(structs: &Structs, kind: &DataType) -> bool
+    requires { IsSound structs.now }
+    ensures { IsTrue result ↔ IsTooLarge (structs_in structs.now) kind.now }
+{
+    match structs.words(kind) {
+        Some(words) => words > LIMIT,
+        None => false,
+    }
+}
+
+// Whether the type of what is declared has too many words.
+fn has_large_type(structs: &Structs, declared: &Declared) -> bool
+    requires { IsSound structs.now }
+    ensures { IsTrue result ↔ HasLargeType (structs_in structs.now) (declared_of declared.now) }
+{
+    match structs.type_of(&declared.kind, declared.length) {
+        Some(kind) => is_too_large(structs, &kind),
+        None => false,
+    }
+}
+
+// A type that is `void`.
+fn void(kind: &TypeName, place: Place) -> Option<Fault>
+    ensures { IsLeast (only rules.NoVariable (At place (IsVoid (type_of kind.now)))) result }
+{
+    if is_void(kind) {
+        return Some(Fault {
+            place,
+            rule: Rule::NoVariable,
+        });
+    }
+    None
+}
+
+// A type that is a struct.
+fn whole_struct(kind: &TypeName, place: Place) -> Option<Fault>
+    ensures { IsLeast (only rules.NoVariable (At place (IsStruct (type_of kind.now)))) result }
+{
+    if is_struct(kind) {
+        return Some(Fault {
+            place,
+            rule: Rule::NoVariable,
+        });
+    }
+    None
+}
+
+// A declaration of a wrong length or of too many words.
+fn wrong_size(structs: &Structs, declared: &Declared) -> Option<Fault>
+    requires { IsSound structs.now }
+    ensures { IsLeast (only rules.WrongSize (At (declared_of declared.now).name.place
+        (HasWrongLength (declared_of declared.now)
+        ⊎ HasLargeType (structs_in structs.now) (declared_of declared.now)))) result }
+{
+    if has_wrong_length(declared) || has_large_type(structs, declared) {
+        return Some(Fault {
+            place: declared.name.place,
+            rule: Rule::WrongSize,
+        });
+    }
+    None
+}
+
+/// The first that a declaration breaks by its type and length alone: a struct that is not declared,
+/// `void`, or a wrong length or size.
+pub fn declaration_fault(structs: &Structs, declared: &Declared) -> Option<Fault>
+    requires { IsSound structs.now }
+    ensures { IsLeast (DeclarationBreaks (structs_in structs.now) (declared_of declared.now)) result }
+{
+    let size = wrong_size(structs, declared);
+    let later = first_of(void(&declared.kind, declared.name.place), size);
+    first_of(no_struct(structs, &declared.kind), later)
+}
+
+/// The first that a parameter breaks by its type alone: what any declaration breaks, and a struct.
+pub fn parameter_fault(structs: &Structs, parameter: &Declared) -> Option<Fault>
+    requires { IsSound structs.now }
+    ensures { IsLeast (ParameterBreaks (structs_in structs.now) (declared_of parameter.now)) result }
+{
+    let whole = whole_struct(&parameter.kind, parameter.name.place);
+    first_of(declaration_fault(structs, parameter), whole)
+}
+
+/// The first that the result of a function breaks by its type, where the function's name stands at
+/// a place: a struct that is not declared, or one that is no pointer.
+pub fn result_fault(structs: &Structs, kind: &TypeName, place: Place) -> Option<Fault>
+    requires { IsSound structs.now }
+    ensures { IsLeast (ResultBreaks (structs_in structs.now) (type_of kind.now) place) result }
+{
+    first_of(no_struct(structs, kind), whole_struct(kind, place))
+}
+
+/// The first that a `sizeof` at a place breaks by its type: a struct that is not declared, or
+/// `void`.
+pub fn sizeof_fault(structs: &Structs, kind: &TypeName, place: Place) -> Option<Fault>
+    requires { IsSound structs.now }
+    ensures { IsLeast (SizeofBreaks (structs_in structs.now) (type_of kind.now) place) result }
+{
+    first_of(no_struct(structs, kind), void(kind, place))
+}

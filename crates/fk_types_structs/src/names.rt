@@ -1,0 +1,56 @@
+//! Names, and where each stands first.
+
+ghost use Rattle.std.specs.Prelude.{◌≡◌, ℕ, List, [], ◌∷◌, ◌++◌, length, map, IfOk, OnOk};
+ghost use Rattle.fk_syntax.specs.ProgramView.{declared_of};
+ghost use Rattle.fk_types_structs.specs.Types.{names_of, member_names};
+ghost use Rattle.fk_types_structs.specs.View.{outline_tree, Finds};
+
+use crate::outline::Outline;
+use fk_syntax::Declared;
+use indexmap::IndexMap;
+use std::alloc::{AllocError, Global};
+
+/// For each of some names the place where it stands first, from 0.
+pub(crate) type Places<'a> = IndexMap<&'a [u8], usize>;
+
+// A name at a place after those of all names so far.
+fn add<'a>(places: &mut Places<'a>, name: &'a [u8], place: usize) -> Result<(), AllocError>
+    ensures { OnOk result ((names : List (List ℕ)) → place ≡ length names
+        → Finds places.old.entries names → Finds places.new.entries (names ++ name.now ∷ [])) }
+{
+    if places.get(name).is_some() {
+        return Ok(());
+    }
+    places.insert(name, place)?;
+    Ok(())
+}
+
+/// Where each member's name stands first among its struct's members.
+pub(crate) fn member_places<'a>(
+    alloc: Global,
+    members: &[Declared<'a>],
+) -> Result<Places<'a>, AllocError>
+    ensures { IfOk result
+        (λ places. Finds places.entries (member_names (map declared_of members.now))) }
+{
+    let mut places = IndexMap::new(alloc);
+    for (place, member) in members.iter().enumerate() {
+        add(&mut places, member.name.bytes, place)?;
+    }
+    Ok(places)
+}
+
+/// Where each name stands first among those of structs.
+pub(crate) fn struct_places<'a>(
+    alloc: Global,
+    structs: &[Outline<'_, 'a>],
+) -> Result<Places<'a>, AllocError>
+    ensures { IfOk result
+        (λ places. Finds places.entries (names_of (map outline_tree structs.now))) }
+{
+    let mut places = IndexMap::new(alloc);
+    for (place, outline) in structs.iter().enumerate() {
+        add(&mut places, outline.name.bytes, place)?;
+    }
+    Ok(places)
+}

@@ -1,8 +1,0 @@
-//! Laws of the definitions.
-
-ghost use Rattle.fk_typing.specs.Laws.{HasOneType};
-
-/// An expression has at most one type.
-pub fn one_type()
-    ensures { HasOneType }
-{}

@@ -1,7 +1,0 @@
-//! The types of the expressions of a program, and the first rule that each breaks.
-#![tactic(auto)]
-
-mod walk;
-
-pub use fk_parts::{Known, Part, Scope, Signature};
-pub use walk::expression;

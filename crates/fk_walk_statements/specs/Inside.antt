@@ -1,6 +1,0 @@
--- The function in which statements stand, as the forms have it.
-use Rattle.fk_forms.specs.Statements as s
-use Rattle.fk_walk_statements.specs.declared.inside.Inside.{Inside}
-
-abbrev pub inside_of : Inside → s.Inside
-inside_of inside = record { main = inside.main; framed = inside.framed }

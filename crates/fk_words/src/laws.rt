@@ -1,8 +1,0 @@
-//! Laws of the definitions, which no code runs.
-
-ghost use Rattle.fk_words.specs.Command.{OneCommand};
-
-/// Words are at most one command.
-pub fn one_command()
-    ensures { OneCommand }
-{}
