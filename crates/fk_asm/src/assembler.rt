@@ -35,7 +35,7 @@ impl Model for Assembler {
 
 impl Assembler {
     /// An assembler without lines, labels and entries.
-    pub fn make(alloc: Global) -> Assembler
+    pub fn new(alloc: Global) -> Assembler
         ensures { result ≡ empty }
     {
         Assembler {

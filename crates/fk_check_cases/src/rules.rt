@@ -25,7 +25,7 @@ const MOST_BYTES: usize = 1_048_576;
 
 /// What is known of a text that keeps all rules.
 #[derive(Drop)]
-pub struct Known<'a> {
+pub struct Checked<'a> {
     pub tokens: Vec<Token<'a>>,
     pub facts: Facts,
 }
@@ -40,7 +40,7 @@ pub enum Answer<'a> {
     /// It keeps all rules.
     Kept,
     /// It keeps them, and this is known of it.
-    Known(Known<'a>),
+    Checked(Checked<'a>),
     /// It keeps them, and these are its operations and frames.
     Sites(Layout<'a>),
     /// It keeps them, and this is where all else lies.
@@ -109,7 +109,7 @@ fn kept<'a>(
 {
     match asked {
         Question::Rules => Ok(Answer::Kept),
-        Question::Facts => Ok(Answer::Known(Known { tokens, facts })),
+        Question::Facts => Ok(Answer::Checked(Checked { tokens, facts })),
         Question::Sites => match lay_out(alloc, program, &facts) {
             Ok(layout) => Ok(Answer::Sites(layout)),
             Err(fault) => without_layout(program, &facts, fault),

@@ -1,7 +1,7 @@
 //! What is written of a text.
 
 use crate::laid::{SitesAndFrames, Tables};
-use crate::rules::{Answer, Known};
+use crate::rules::{Answer, Checked};
 use fk_layout::LayoutFault;
 use fk_lex::token::Token;
 use fk_syntax::{Kind, Note};
@@ -88,7 +88,7 @@ impl<'t, 'a> fmt::Display for NotedTokens<'t, 'a> {
     }
 }
 
-impl<'a> fmt::Display for Known<'a> {
+impl<'a> fmt::Display for Checked<'a> {
     fn fmt<W: fmt::Write>(&self, f: &mut fmt::Formatter<W>) -> fmt::Result {
         let kinds = Kinds(&self.facts.kinds);
         let tokens = NotedTokens(&self.tokens, &self.facts.notes);
@@ -120,7 +120,7 @@ impl<'a> fmt::Display for Answer<'a> {
                 writeln!(f, "breaks {rule} at {}:{}", place.line, place.column)
             }
             Answer::Kept => writeln!(f, "keeps them"),
-            Answer::Known(known) => write!(f, "{known}"),
+            Answer::Checked(known) => write!(f, "{known}"),
             Answer::Sites(layout) => writeln!(f, "{}", SitesAndFrames(layout)),
             Answer::Tables(layout) => write!(f, "{}", Tables(layout)),
             Answer::TooLarge(fault) => writeln!(f, "{}", TooLarge(*fault)),

@@ -11,10 +11,10 @@ use Rattle.fk_syntax.specs.Program.{DeclaredTree}
 use Rattle.fk_meaning_operation.specs.declared.operation.Operation.{Operation}
 use Rattle.fk_meaning_operation.specs.declared.operation.Operation.TheVariants as o
 use Rattle.fk_meaning_operation.specs.declared.operation.Variable.{Variable}
-use Rattle.fk_meaning_operation.specs.declared.operation.Known.TheVariants as x'
+use Rattle.fk_meaning_operation.specs.declared.operation.OwnValue.TheVariants as x'
 use Rattle.fk_meaning_operation.specs.declared.operation.Multiprefix.{Multiprefix}
-use Rattle.fk_meaning_operation.specs.declared.operation.Split.{Split}
-use Rattle.fk_meaning_operation.specs.declared.operation.Split.TheVariants.{AndThen, OrElse}
+use Rattle.fk_meaning_operation.specs.declared.operation.SplitKind.{SplitKind}
+use Rattle.fk_meaning_operation.specs.declared.operation.SplitKind.TheVariants.{AndThen, OrElse}
 use Rattle.fk_meaning_forms.specs.declared.tables.Home.{Home}
 use Rattle.fk_meaning_forms.specs.declared.tables.Home.TheVariants as h
 use Rattle.fk_meaning_forms.specs.declared.signs.Move.{Move}
@@ -143,7 +143,7 @@ module _ (tables : Tables) (functions : (binding : ℕ) → Signature) where
   prefixed_passes spot g.Decrement e at h k f = updated_first g.Minus e at spot.at (x.plain (o.Push 1)) k h (λ rest r n. refl)
   prefixed_passes spot sign e at h k f = value_passes e h _ (f OnList)
 
-  logical_first : (spot : Spot) (split : Split) (onward : Bool) (other : ℕ) (a b : Stands) (k : Standing → Coded) → Passes a → First (x.logical tables functions spot split onward other a b k)
+  logical_first : (spot : Spot) (split : SplitKind) (onward : Bool) (other : ℕ) (a b : Stands) (k : Standing → Coded) → Passes a → First (x.logical tables functions spot split onward other a b k)
   logical_first spot split onward other a b k h =
       value_passes a h _ (either_first (note tables spot.at).splits _ _ (λ n. refl) (agreed_first (note tables spot.at).sync _ (λ n. refl)))
 

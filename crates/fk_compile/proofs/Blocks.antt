@@ -1,11 +1,11 @@
 -- Plain operations have blocks, with their targets in the list, and find their values.
 use Rattle.std.proofs.Common.{◌≡◌, ℕ, ◌<◌, ◌≤◌, List, length, true, false, arith, refl, inl, inr}
 use Rattle.std.proofs.lemmas.Option.{slice_get_within}
-use Rattle.fk_meaning_operation.specs.declared.operation.Known.TheVariants.{FrameAddress}
+use Rattle.fk_meaning_operation.specs.declared.operation.OwnValue.TheVariants.{FrameAddress}
 use Rattle.fk_meaning_operation.specs.declared.operation.Multiprefix.{Multiprefix}
 use Rattle.fk_meaning_operation.specs.declared.operation.Multiprefix.TheVariants.{MpAdd, MpMax, MpAnd, MpOr}
 use Rattle.fk_meaning_operation.specs.declared.operation.Operation.{Operation}
-use Rattle.fk_meaning_operation.specs.declared.operation.Operation.TheVariants.{Get, Branch, Leave, Combine, Heap, Begin, Agree, Frame, Block, Divide, Shrink, End, Resume, Farm, Seq, Meet, Halt}
+use Rattle.fk_meaning_operation.specs.declared.operation.Operation.TheVariants.{Get, Branch, Leave, Combine, Heap, Begin, Agree, Frame, Block, Split, Shrink, End, Resume, Farm, Seq, Meet, Halt}
 use Rattle.fk_core.specs.declared.op.CoreOp.{CoreOp}
 use Rattle.fk_core_flat.specs.Items.{straight, way_of}
 use Rattle.fk_core_typing.specs.LocalDepths.{needs}
@@ -33,7 +33,7 @@ own_block (Leave gives true) plain = never plain
 own_block Heap plain = never plain
 own_block (Frame nesting words) plain = never plain
 own_block Block plain = never plain
-own_block (Divide split) plain = never plain
+own_block (Split split) plain = never plain
 own_block Shrink plain = never plain
 own_block Halt plain = inr (inl refl)
 own_block Begin plain = inr (inr refl)

@@ -13,7 +13,7 @@ use Rattle.fk_meaning_forms.specs.declared.tables.Home.{Home}
 use Rattle.fk_meaning_forms.specs.declared.tables.Home.TheVariants as h
 use Rattle.fk_meaning_forms.specs.Tables.{Tables, no_binding, note, slot}
 use Rattle.fk_meaning_forms.specs.Expressions.{Signature, is_name, token}
-use Rattle.fk_core_liveness.specs.declared.places.Place.{Place}
+use Rattle.fk_core_liveness.specs.declared.places.FunctionKind.{FunctionKind}
 use Rattle.fk_lockstep_structure.specs.Valued as c
 use Rattle.fk_lockstep_structure.specs.Valued.{Evaluates, LinksEvaluate, SuffixesEvaluate, AllEvaluate}
 use Rattle.fk_lower_laws.specs.Ways as w
@@ -89,7 +89,7 @@ placed_same h.Private i name = refl
 placed_same (h.Group r) i name = refl
 placed_same h.NoWord i name = refl
 
-module _ (tables : Tables) (functions : (binding : ℕ) → Signature) (place_of : (binding : ℕ) → Place) (results : GiveResults functions place_of) where
+module _ (tables : Tables) (functions : (binding : ℕ) → Signature) (place_of : (binding : ℕ) → FunctionKind) (results : GiveResults functions place_of) where
   abbrev the_way : Tree → w.Way
   the_way x = w.way tables place_of x
 

@@ -7,8 +7,8 @@ use Rattle.fk_syntax.specs.Program as p
 use Rattle.fk_syntax.specs.Program.{DeclaredTree, Statement, Statements}
 use Rattle.fk_meaning_operation.specs.declared.operation.Operation.{Operation}
 use Rattle.fk_meaning_operation.specs.declared.operation.Operation.TheVariants as o
-use Rattle.fk_meaning_operation.specs.declared.operation.Known.TheVariants as n
-use Rattle.fk_meaning_operation.specs.declared.operation.Split.TheVariants.{IfAlone, IfElse, Loop, Fork}
+use Rattle.fk_meaning_operation.specs.declared.operation.OwnValue.TheVariants as n
+use Rattle.fk_meaning_operation.specs.declared.operation.SplitKind.TheVariants.{IfAlone, IfElse, Loop, Fork}
 use Rattle.fk_meaning_forms.specs.Code as c
 use Rattle.fk_meaning_forms.specs.Code.{Code, done, perform, choose, while, until, turn, again, quit, break, continue, call, ends}
 use Rattle.fk_meaning_forms.specs.Tables.{Tables, note, frame_at}
@@ -243,7 +243,7 @@ module _ (tables : Tables) (functions : (binding : ℕ) → Signature) (may_call
 
   loops : (x : Want) (spot : Spot) (loop : Coded → Coded) → Keeps x loop → Keeps x (looping tables functions spot loop)
   loops x spot loop keeps rest q =
-      splits_not (note tables spot.at).splits x (choose spot.place (o.Divide Loop) (part_frame tables functions spot 0 (loop done)) done (plain o.Resume rest)) (loop rest) (λ all. all.0) (keeps rest q)
+      splits_not (note tables spot.at).splits x (choose spot.place (o.Split Loop) (part_frame tables functions spot 0 (loop done)) done (plain o.Resume rest)) (loop rest) (λ all. all.0) (keeps rest q)
 
   -- ends of functions
   halts : (x : Want) (main framed : Bool) → w.is_main (who_of x.base x.outermost) ≡ main → Keeps x (ends nowhere (if main then o.Halt else o.Leave false framed))
@@ -318,7 +318,7 @@ module _ (tables : Tables) (functions : (binding : ℕ) → Signature) (may_call
   barriers : (x : Want) → in_group x.base ≡ false → Keeps x (plain (o.Meet false))
   barriers x g rest q = λ all shape. (place_of x.base, meets_in x.base g, q all.1 shape.2)
 
-  forks : (x : Want) (spot : Spot) (body rest : Coded) → Fine x (choose spot.place (o.Divide Fork) body done (plain o.Resume rest))
+  forks : (x : Want) (spot : Spot) (body rest : Coded) → Fine x (choose spot.place (o.Split Fork) body done (plain o.Resume rest))
   forks x spot body rest = λ all shape. untrue all.0
 
   -- statements
@@ -350,7 +350,7 @@ module _ (tables : Tables) (functions : (binding : ℕ) → Signature) (may_call
     statement x inside (p.If spot condition first) h rest q =
         let here = note tables spot.at in
         let body = executed tables functions inside first in
-        let parted = choose spot.place (o.Divide IfAlone) (part_frame tables functions spot 0 (body (plain o.End done))) done (plain o.Resume rest) in
+        let parted = choose spot.place (o.Split IfAlone) (part_frame tables functions spot 0 (body (plain o.End done))) done (plain o.Resume rest) in
         let branched = choose nowhere (o.Branch true) (body done) done rest in
         gives x condition (told_there x condition h.1) (if here.splits then parted else agreed here.sync branched)
         (splits_not here.splits x parted (agreed here.sync branched) (λ all. all.0)
@@ -361,7 +361,7 @@ module _ (tables : Tables) (functions : (binding : ℕ) → Signature) (may_call
         let here = note tables spot.at in
         let a = executed tables functions inside first in
         let b = executed tables functions inside second in
-        let parted = choose spot.place (o.Divide IfElse) (part_frame tables functions spot 0 (a (plain o.End done))) (part_frame tables functions spot 1 (b (plain o.End done))) (plain o.Resume rest) in
+        let parted = choose spot.place (o.Split IfElse) (part_frame tables functions spot 0 (a (plain o.End done))) (part_frame tables functions spot 1 (b (plain o.End done))) (plain o.Resume rest) in
         let branched = choose nowhere (o.Branch true) (a done) (b done) rest in
         gives x condition (told_there x condition h.1) (if here.splits then parted else agreed here.sync branched)
         (splits_not here.splits x parted (agreed here.sync branched) (λ all. all.0)
@@ -398,7 +398,7 @@ module _ (tables : Tables) (functions : (binding : ℕ) → Signature) (may_call
         (frames_in (start_of x) spot 0 (executed tables functions inside body (plain o.End done))
         (statement (start_of x) inside body h.2 (plain o.End done) (wants.part_ended tables functions may_call unshared (start_of x)))) q)
     statement x inside (p.Fork spot parts part rank body) h rest q =
-        let divided = choose spot.place (o.Divide Fork) (part_frame tables functions spot 0 (executed tables functions inside body (plain o.End done))) done (plain o.Resume rest) in
+        let divided = choose spot.place (o.Split Fork) (part_frame tables functions spot 0 (executed tables functions inside body (plain o.End done))) done (plain o.Resume rest) in
         let ranked = value_or tables functions (plain (o.Get n.Rank)) rank divided in
         gives x parts (told_there x parts h.1) (plain o.Agree (value tables functions part ranked))
         (wants.agrees tables functions may_call unshared x (group_there x h.0) (value tables functions part ranked)

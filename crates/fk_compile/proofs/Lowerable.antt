@@ -5,7 +5,7 @@ use Rattle.fk_syntax.specs.declared.facts.Facts.{Facts}
 use Rattle.fk_syntax.specs.Program.{ItemTree, ProgramTree}
 use Rattle.fk_meaning_forms.specs.Tables.{Tables}
 use Rattle.fk_meaning_forms.specs.Program.{functions_of, bodies_of, sites_in}
-use Rattle.fk_layout_walk.specs.declared.known.Known.{Known}
+use Rattle.fk_layout_walk.specs.declared.known.ProgramTables.{ProgramTables}
 use Rattle.fk_layout_walk.specs.Known.{tables_of}
 use Rattle.fk_layout_walk_statements.specs.Texts.{functions_in, sites_of_text}
 use Rattle.fk_core.specs.declared.op.CoreOp.{CoreOp}
@@ -30,7 +30,7 @@ use Rattle.fk_compile.specs.PlainLists.{PlainListsHaveBlocks}
 use Rattle.fk_compile.specs.OneGroup.{PlainListsAreOfOneGroup}
 use Rattle.fk_compile.specs.Lists.{HasListOf, IsGrouped}
 
-module _ (program : ProgramTree) (facts : Facts) (known : Known) (of : IsKnownOf program facts known) where
+module _ (program : ProgramTree) (facts : Facts) (known : ProgramTables) (of : IsKnownOf program facts known) where
   pub lowerable : IsCorrect program facts → ProgramIsTrim program → CorrectProgramsFit → FormsAreShaped → AreWhole known (functions_in known) → IsLowerable known program
   lowerable valid trim fit shaped whole = record {
     items = sym of.items;
@@ -44,7 +44,7 @@ module _ (program : ProgramTree) (facts : Facts) (known : Known) (of : IsKnownOf
       (subst (λ (t : Tables). length (sites_in t (functions_of program.items) (functions_of program.items)) ≤ 16000) (sym of.tables) fits.sites)
 
 -- and its list has one group at a time
-pub grouped_list : (program : ProgramTree) (facts : Facts) (known : Known) → IsKnownOf program facts known
+pub grouped_list : (program : ProgramTree) (facts : Facts) (known : ProgramTables) → IsKnownOf program facts known
     → LoweredListsCanHaveGroups → PlainListsHaveBlocks → PlainListsAreOfOneGroup → AreShaped (bodies_of (tables_by program facts) program)
     → IsCorrect program facts → ProgramIsTrim program → ProgramIsProper program → Fits (tables_by program facts) program.items
     → ArePlain (tables_by program facts) program

@@ -3,7 +3,7 @@ use Rattle.std.proofs.Common.{◌≡◌, true, true≢false, sym}
 use Rattle.fk_meaning_operation.specs.Kinds.{class_of}
 use Rattle.fk_meaning_operation.specs.declared.operation.Operation.{Operation}
 use Rattle.fk_meaning_operation.specs.declared.operation.Operation.TheVariants as o
-use Rattle.fk_meaning_operation.specs.declared.operation.Known.TheVariants.{FrameAddress}
+use Rattle.fk_meaning_operation.specs.declared.operation.OwnValue.TheVariants.{FrameAddress}
 use Rattle.fk_layout.specs.Layout.{tables_by}
 use Rattle.fk_core_flat.proofs.FlatCode.{flat_code_stands}
 use Rattle.fk_core_flat.proofs.Programs.{forms_are_shaped}

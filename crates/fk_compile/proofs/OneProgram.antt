@@ -13,8 +13,8 @@ use Rattle.fk_meaning_forms.specs.Tables.{Tables, frame_in}
 use Rattle.fk_meaning_forms.specs.Expressions.{Signature}
 use Rattle.fk_meaning_forms.specs.Statements.{is_nothing}
 use Rattle.fk_meaning_forms.specs.Program.{functions_of, binding_of, signature_of, signature_in, is_main}
-use Rattle.fk_core_liveness.specs.declared.places.Place.{Place}
-use Rattle.fk_core_liveness.specs.declared.places.Place.TheVariants.{Main, Called}
+use Rattle.fk_core_liveness.specs.declared.places.FunctionKind.{FunctionKind}
+use Rattle.fk_core_liveness.specs.declared.places.FunctionKind.TheVariants.{Main, Called}
 use Rattle.fk_layout_slots.specs.Frames.{regions_of}
 use Rattle.fk_layout.specs.Layout.{told_by, tables_by}
 use Rattle.fk_layout.specs.Refusal.{Fits}
@@ -33,7 +33,7 @@ use Rattle.fk_lower_laws.proofs.Programs.{correct_programs_are_asked}
 use Rattle.fk_compile.specs.OneProgram.{GiveResults, IsLaidOut, ForksGiveValues, CorrectProgramsHaveOneProgram, TextsHaveOneProgram, TextsHaveOneSpace}
 use Rattle.fk_compile.proofs.Evaluating.{evaluates_as}
 
-module _ (tables : Tables) (functions : (binding : ℕ) → Signature) (places : (binding : ℕ) → Place) (results : GiveResults functions places) where
+module _ (tables : Tables) (functions : (binding : ℕ) → Signature) (places : (binding : ℕ) → FunctionKind) (results : GiveResults functions places) where
   values : (e : Tree) → ValueAsked tables functions places e → IsValued tables functions e
   values e h = let s = evaluates_as tables functions places results e h.0 in (s.0, s.1 ∙ h.1)
 
@@ -41,7 +41,7 @@ module _ (tables : Tables) (functions : (binding : ℕ) → Signature) (places :
   option_values None h = tt
   option_values (Some e) h = values e h
 
-  module _ (place : Place) where
+  module _ (place : FunctionKind) where
     mutual
       statement : (l : Bool) (s : Statement) → StatementAsked tables functions places place l s → StatementValued tables functions s
       statement l (p.Block body) h = statements l body h

@@ -8,11 +8,11 @@ use Rattle.fk_syntax.specs.Program.{DeclaredTree}
 use Rattle.fk_meaning_operation.specs.declared.kinds.Class.TheVariants.{Request}
 use Rattle.fk_meaning_operation.specs.declared.operation.Operation.{Operation}
 use Rattle.fk_meaning_operation.specs.declared.operation.Operation.TheVariants as o
-use Rattle.fk_meaning_operation.specs.declared.operation.Known.TheVariants as n
+use Rattle.fk_meaning_operation.specs.declared.operation.OwnValue.TheVariants as n
 use Rattle.fk_meaning_operation.specs.declared.operation.Variable.TheVariants as v
 use Rattle.fk_meaning_operation.specs.declared.operation.Multiprefix.{Multiprefix}
 use Rattle.fk_meaning_operation.specs.declared.operation.Multiprefix.TheVariants.{MpAdd, MpMax, MpAnd, MpOr}
-use Rattle.fk_meaning_operation.specs.declared.operation.Split.{Split}
+use Rattle.fk_meaning_operation.specs.declared.operation.SplitKind.{SplitKind}
 use Rattle.fk_meaning_operation.specs.Kinds.{class_of}
 use Rattle.fk_meaning_forms.specs.declared.tables.Region.{Region}
 use Rattle.fk_meaning_forms.specs.Code.{done, perform, choose}
@@ -76,7 +76,7 @@ keeps o.Begin = false
 keeps o.Agree = false
 keeps (o.Frame nesting words) = false
 keeps o.Block = false
-keeps (o.Divide by) = false
+keeps (o.Split by) = false
 keeps o.Shrink = false
 keeps o.End = false
 keeps o.Resume = false
@@ -97,7 +97,7 @@ keeps_at b o.Begin e way = untrue e
 keeps_at b o.Agree e way = untrue e
 keeps_at b (o.Frame nesting words) e way = untrue e
 keeps_at b o.Block e way = untrue e
-keeps_at b (o.Divide by) e way = untrue e
+keeps_at b (o.Split by) e way = untrue e
 keeps_at b o.Shrink e way = untrue e
 keeps_at b o.End e way = untrue e
 keeps_at b o.Resume e way = untrue e
@@ -126,7 +126,7 @@ keeps_of o.Begin e f = untrue e
 keeps_of o.Agree e f = untrue e
 keeps_of (o.Frame nesting words) e f = untrue f
 keeps_of o.Block e f = untrue e
-keeps_of (o.Divide by) e f = untrue e
+keeps_of (o.Split by) e f = untrue e
 keeps_of o.Shrink e f = untrue e
 keeps_of o.End e f = untrue e
 keeps_of o.Resume e f = untrue e
@@ -214,8 +214,8 @@ module _ (tables : Tables) (functions : (binding : ℕ) → Signature) (may_call
     r all.3 shape.6,
   )
 
-  divides : (w : Want) (spot : Spot) (by : Split) (a b rest : Coded) → is_of_value by ≡ true → Splits tables may_call (in_group w.base) spot.at → (note tables spot.at).splits ≡ true
-      → Fine (arm w) a → Fine (arm w) b → Fine w rest → Fine w (choose spot.place (o.Divide by) a b (plain o.Resume rest))
+  divides : (w : Want) (spot : Spot) (by : SplitKind) (a b rest : Coded) → is_of_value by ≡ true → Splits tables may_call (in_group w.base) spot.at → (note tables spot.at).splits ≡ true
+      → Fine (arm w) a → Fine (arm w) b → Fine w rest → Fine w (choose spot.place (o.Split by) a b (plain o.Resume rest))
   divides w spot by a b rest e splits is p q r = λ all shape. untrue all.0
 
   branches : (w : Want) (spot : Spot) (onward : Bool) (a b rest : Coded) → Splits tables may_call (in_group w.base) spot.at → Fine (arm w) a → Fine (arm w) b → Fine w rest

@@ -3,7 +3,7 @@ use Rattle.std.specs.Prelude.{◌≡◌, ℕ, List}
 use Rattle.fk_syntax.specs.declared.facts.Facts.{Facts}
 use Rattle.fk_syntax.specs.Program.{ProgramTree}
 use Rattle.fk_meaning_forms.specs.Program.{bodies_of, main_of}
-use Rattle.fk_layout_walk.specs.declared.known.Known.{Known}
+use Rattle.fk_layout_walk.specs.declared.known.ProgramTables.{ProgramTables}
 use Rattle.fk_layout_walk_statements.specs.Texts.{functions_in}
 use Rattle.fk_layout.specs.Layout.{tables_by}
 use Rattle.fk_core.specs.declared.op.CoreOp.{CoreOp}
@@ -20,7 +20,7 @@ use Rattle.fk_compile.specs.OneProgram.{IsLaidOut}
 -- where no level stands in a frame
 abbrev pub PlainListsAreOfOneGroup : Type 0
 PlainListsAreOfOneGroup =
-    (program : ProgramTree) (facts : Facts) (known : Known) → IsKnownOf program facts known → IsLaidOut program facts
+    (program : ProgramTree) (facts : Facts) (known : ProgramTables) → IsKnownOf program facts known → IsLaidOut program facts
     → let tables = tables_by program facts in
     ArePlain tables program
     → (core : List CoreOp) (entry : (binding : ℕ) → ℕ) → IsFlat (bodies_of tables program) core entry

@@ -15,7 +15,7 @@ use Rattle.fk_meaning_forms.specs.Tables.{Tables}
 use Rattle.fk_meaning_forms.specs.Expressions.{Signature}
 use Rattle.fk_meaning_forms.specs.Program.{functions_of, signature_in}
 use Rattle.fk_meaning.specs.Program.{next_in, program_opening}
-use Rattle.fk_core_liveness.specs.declared.places.Place.{Place}
+use Rattle.fk_core_liveness.specs.declared.places.FunctionKind.{FunctionKind}
 use Rattle.fk_layout.specs.Layout.{tables_by}
 use Rattle.fk_layout.specs.Refusal.{Fits}
 use Rattle.fk_lex.specs.Reading.{Spelled, Tokens}
@@ -32,13 +32,13 @@ use Rattle.fk_lower_laws.specs.Typed.{IsNothing, Known}
 use Rattle.fk_lower_laws.specs.Proper.{ProgramIsProper}
 
 -- a function that is called gives a value where it has a result
-abbrev pub GiveResults : (functions : (binding : ℕ) → Signature) → (place_of : (binding : ℕ) → Place) → Type 0
+abbrev pub GiveResults : (functions : (binding : ℕ) → Signature) → (place_of : (binding : ℕ) → FunctionKind) → Type 0
 GiveResults functions place_of = (binding : ℕ) → IsCalled (place_of binding) → w.place_gives (place_of binding) ≡ gives_value functions binding
 
 -- what well typed code asks of an expression is enough for it to leave one value or none
 abbrev pub AskedEvaluates : Type 0
 AskedEvaluates =
-    (tables : Tables) (functions : (binding : ℕ) → Signature) (place_of : (binding : ℕ) → Place) → GiveResults functions place_of
+    (tables : Tables) (functions : (binding : ℕ) → Signature) (place_of : (binding : ℕ) → FunctionKind) → GiveResults functions place_of
     → (x : Tree) → Asked tables functions place_of x
     → Evaluates tables functions x × (gives (way tables functions x) ≡ w.gives (w.way tables place_of x))
 
@@ -47,7 +47,7 @@ abbrev pub TypedEvaluates : Type 0
 TypedEvaluates =
     (has_room : (address : ℕ) → DataType → Bool)
     → ((address : ℕ) (type : DataType) → has_room address type ≡ true → may_use true address ≡ true)
-    → (env : Env) (tables : Tables) (functions : (binding : ℕ) → Signature) (place_of : (binding : ℕ) → Place) → GiveResults functions place_of
+    → (env : Env) (tables : Tables) (functions : (binding : ℕ) → Signature) (place_of : (binding : ℕ) → FunctionKind) → GiveResults functions place_of
     → (x : Tree) → Known (λ address type. has_room address type ≡ true) env tables functions place_of x
     → (type : ExpressionType) → type_of env (term_of x) ≡ Some type
     → Evaluates tables functions x × (gives (way tables functions x) ≡ not (IsNothing type))

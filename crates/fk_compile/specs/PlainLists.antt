@@ -2,7 +2,7 @@
 use Rattle.std.specs.Prelude.{◌≡◌, ℕ, ◌^◌, ◌<◌, ◌≤◌, List, All, length, sum_by}
 use Rattle.fk_meaning_operation.specs.declared.operation.Operation.{Operation}
 use Rattle.fk_meaning_forms.specs.Code.{Code}
-use Rattle.fk_layout_walk.specs.declared.known.Known.{Known}
+use Rattle.fk_layout_walk.specs.declared.known.ProgramTables.{ProgramTables}
 use Rattle.fk_layout_walk_statements.specs.Texts.{sites_of_text}
 use Rattle.fk_core.specs.declared.op.CoreOp.{CoreOp}
 use Rattle.fk_core.specs.WellFormed.{LeadsOn}
@@ -43,4 +43,4 @@ GroupedListsAreGenerable =
 
 -- the blocks of a list have few words where its text has few operations
 abbrev pub ListsAreSmall : Type 0
-ListsAreSmall = (known : Known) (core : List CoreOp) → HasSites known core → length (sites_of_text known) ≤ 16000 → sum_by most_words core ≤ 256000
+ListsAreSmall = (known : ProgramTables) (core : List CoreOp) → HasSites known core → length (sites_of_text known) ≤ 16000 → sum_by most_words core ≤ 256000

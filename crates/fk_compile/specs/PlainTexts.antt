@@ -3,7 +3,7 @@ use Rattle.std.specs.Prelude.{ℕ, List, []}
 use Rattle.fk_syntax.specs.declared.facts.Facts.{Facts}
 use Rattle.fk_syntax.specs.Program.{ProgramTree}
 use Rattle.fk_meaning_forms.specs.Program.{bodies_of, main_of}
-use Rattle.fk_layout_walk.specs.declared.known.Known.{Known}
+use Rattle.fk_layout_walk.specs.declared.known.ProgramTables.{ProgramTables}
 use Rattle.fk_layout.specs.Layout.{tables_by}
 use Rattle.fk_core.specs.declared.op.CoreOp.{CoreOp}
 use Rattle.fk_core.specs.Next.{position, landing, next}
@@ -15,7 +15,7 @@ use Rattle.fk_compile_text.specs.Plain.{ArePlain}
 use Rattle.fk_compile.specs.OneProgram.{IsLaidOut}
 
 abbrev pub SitesAreOwn : Type 0
-SitesAreOwn = (known : Known) (core : List CoreOp) → HasSites known core → HasOwnSites core
+SitesAreOwn = (known : ProgramTables) (core : List CoreOp) → HasSites known core → HasOwnSites core
 
 abbrev pub PlainProgramsHaveOneGroup : Type 0
 PlainProgramsHaveOneGroup =

@@ -41,7 +41,7 @@ use fk_parse_laws::laws::texts_have_words;
 use fk_parse_laws::laws::texts_are_trim;
 use fk_core_flat::laws::forms_are_shaped;
 use fk_compile_text::{Built, Refusal, known_of};
-use fk_layout_walk::Known;
+use fk_layout_walk::ProgramTables;
 use std::alloc::{AllocError, Global};
 
 /// The flat list of a text, and the index where its `main` begins.
@@ -52,7 +52,7 @@ pub(crate) struct List {
 }
 
 // The list of a text of which all is known.
-fn lowered(alloc: Global, known: &Known) -> Result<List, Refusal>
+fn lowered(alloc: Global, known: &ProgramTables) -> Result<List, Refusal>
     requires sound { IsSound known.now }
     requires laid { CanBeLaid known.now 0 0 (functions_in known.now) }
     requires numbered { AreNumbered known.now (functions_in known.now) }

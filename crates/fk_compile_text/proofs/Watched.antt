@@ -5,13 +5,13 @@ use Rattle.std.proofs.lemmas.List.Sums.{AllPass-from_list_all}
 use Rattle.fk_syntax.specs.Program.{FunctionTree, ItemTree, ProgramTree}
 use Rattle.fk_meaning_operation.specs.declared.operation.Operation.{Operation}
 use Rattle.fk_meaning_operation.specs.declared.operation.Operation.TheVariants as o
-use Rattle.fk_meaning_operation.specs.declared.operation.Known.{Known}
-use Rattle.fk_meaning_operation.specs.declared.operation.Known.TheVariants as k
+use Rattle.fk_meaning_operation.specs.declared.operation.OwnValue.{OwnValue}
+use Rattle.fk_meaning_operation.specs.declared.operation.OwnValue.TheVariants as k
 use Rattle.fk_meaning_forms.specs.Code.{done, perform, choose, while, until, turn, again, quit, break, continue, call, ends}
 use Rattle.fk_meaning_forms.specs.Expressions.{Coded, Signature}
 use Rattle.fk_meaning_forms.specs.Program as p
 use Rattle.fk_meaning_forms.specs.Tables.{Tables}
-use Rattle.fk_layout_walk.specs.declared.known.Known as w
+use Rattle.fk_layout_walk.specs.declared.known.ProgramTables as w
 use Rattle.fk_layout_walk.specs.Known.{tables_of, items_in, functions_of}
 use Rattle.fk_layout_walk.specs.Shown.{shown, shown_known}
 use Rattle.fk_layout_walk.specs.Through.{through}
@@ -23,7 +23,7 @@ use Rattle.fk_compile_text.specs.declared.building.Building.{Building}
 use Rattle.fk_compile_text.proofs.Elements.{one_fails}
 
 -- an operation is built as it is shown
-known_as_shown : (known : Known) → is_plain (o.Get (shown_known known)) ≡ is_plain (o.Get known)
+known_as_shown : (known : OwnValue) → is_plain (o.Get (shown_known known)) ≡ is_plain (o.Get known)
 known_as_shown (k.FrameAddress nesting word) = refl
 known_as_shown known = refl
 

@@ -1,9 +1,9 @@
 -- Texts with one group, in which no group splits.
 use Rattle.std.specs.Prelude.{◌≡◌, Bool, true, false, All}
 use Rattle.fk_syntax.specs.Program.{ProgramTree}
-use Rattle.fk_meaning_operation.specs.declared.operation.Known.TheVariants.{FrameAddress}
+use Rattle.fk_meaning_operation.specs.declared.operation.OwnValue.TheVariants.{FrameAddress}
 use Rattle.fk_meaning_operation.specs.declared.operation.Operation.{Operation}
-use Rattle.fk_meaning_operation.specs.declared.operation.Operation.TheVariants.{Get, Leave, Heap, Frame, Block, Divide, Shrink}
+use Rattle.fk_meaning_operation.specs.declared.operation.Operation.TheVariants.{Get, Leave, Heap, Frame, Block, Split, Shrink}
 use Rattle.fk_meaning_forms.specs.Tables.{Tables}
 use Rattle.fk_compile_text.specs.Built.{operations_of}
 
@@ -14,7 +14,7 @@ is_plain (Leave gives true) = false
 is_plain Heap = false
 is_plain (Frame nesting words) = false
 is_plain Block = false
-is_plain (Divide split) = false
+is_plain (Split split) = false
 is_plain Shrink = false
 is_plain operation = true
 

@@ -7,8 +7,8 @@ ghost use Rattle.fk_layout_walk_statements.specs.Texts.{functions_in};
 ghost use Rattle.fk_compile_text.specs.Built.{operations_in};
 ghost use Rattle.fk_compile_text.specs.Plain.{is_plain};
 
-use fk_meaning_operation::{Known as Pushed, Operation};
-use fk_layout_walk::{Event, Known, Mark, Visitor};
+use fk_meaning_operation::{OwnValue as Pushed, Operation};
+use fk_layout_walk::{Event, ProgramTables, Mark, Visitor};
 use fk_layout_walk_statements::text;
 
 /// Whether an operation is built: none that splits a group or tests a split loop, uses a group frame, takes a block of the
@@ -23,7 +23,7 @@ pub fn is_plain(operation: Operation) -> bool
             | Operation::Heap
             | Operation::Frame { .. }
             | Operation::Block
-            | Operation::Divide(_)
+            | Operation::Split(_)
             | Operation::Shrink
     )
 }
@@ -59,7 +59,7 @@ impl Visitor for Building {
 }
 
 /// Whether all operations of a text are built. It takes no memory, and time linear in the text.
-pub(crate) fn are_built(known: &Known) -> bool
+pub(crate) fn are_built(known: &ProgramTables) -> bool
     requires { IsSound known.now }
     ensures { result ≡ list_all is_plain
         (operations_in (tables_of known.now) (functions_in known.now) (functions_in known.now)) }

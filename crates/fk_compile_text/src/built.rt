@@ -17,7 +17,7 @@ use crate::text::{Checked, checked_text};
 use fk_layout::Layout;
 use fk_layout_lookup::Lookup;
 use fk_syntax::{Facts, Program};
-use fk_layout_walk::Known;
+use fk_layout_walk::ProgramTables;
 use std::alloc::Global;
 
 /// A text that keeps all rules, what is known of it, and where all that it has lies.
@@ -33,12 +33,12 @@ pub fn known_of<'p, 'a>(
     tree: &'p Program<'a>,
     facts: &'p Facts,
     layout: &'p Layout<'a>,
-) -> Known<'p, 'a>
+) -> ProgramTables<'p, 'a>
     requires { IsLayout (program_of tree.now) facts.now layout.now }
     ensures tables { tables_of result ≡ tables_by (program_of tree.now) facts.now }
     ensures items { items_in result ≡ (program_of tree.now).items }
 {
-    Known {
+    ProgramTables {
         notes: &facts.notes,
         kinds: &facts.kinds,
         slots: &layout.slots,

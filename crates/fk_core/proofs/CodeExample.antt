@@ -6,7 +6,7 @@ use Rattle.fk_syntax.specs.declared.sign.Sign.TheVariants as g
 use Rattle.fk_syntax.specs.Tree as t
 use Rattle.fk_syntax.specs.Program as p
 use Rattle.fk_syntax.specs.Program.{ProgramTree}
-use Rattle.fk_meaning_operation.specs.declared.operation.Known.TheVariants.{Rank, Processors}
+use Rattle.fk_meaning_operation.specs.declared.operation.OwnValue.TheVariants.{Rank, Processors}
 use Rattle.fk_meaning_operation.specs.declared.operation.Operation.{Operation}
 use Rattle.fk_meaning_operation.specs.declared.operation.Operation.TheVariants as o
 use Rattle.fk_meaning_forms.specs.declared.tables.Home.TheVariants as h

@@ -1,6 +1,6 @@
 -- A loop that is left by `break`, and the list in which it stands: while (__PROC_NR__) break;
 use Rattle.std.proofs.Common.{ℕ, true, List, [], ◌∷◌, Some, None, refl}
-use Rattle.fk_meaning_operation.specs.declared.operation.Known.TheVariants.{ProcessorNumber}
+use Rattle.fk_meaning_operation.specs.declared.operation.OwnValue.TheVariants.{ProcessorNumber}
 use Rattle.fk_meaning_operation.specs.declared.operation.Operation.TheVariants.{Get, Branch, Halt}
 use Rattle.fk_meaning_forms.specs.Code.{Code, done, perform, while, quit, break, ends}
 use Rattle.fk_core.specs.declared.op.CoreOp.{CoreOp}

@@ -23,7 +23,7 @@ is_jump op = op.kind == 0
 abbrev pub has_two_ways : Operation → Bool
 has_two_ways (o.Branch onward) = true
 has_two_ways o.Begin = true
-has_two_ways (o.Divide by) = true
+has_two_ways (o.Split by) = true
 has_two_ways o.Shrink = true
 has_two_ways o.Farm = true
 has_two_ways o.Seq = true

@@ -4,12 +4,12 @@ use Rattle.fk_num.specs.declared.operator.Op.{Op}
 use Rattle.fk_num.specs.declared.operator.Op.TheVariants as f
 use Rattle.fk_meaning_operation.specs.declared.kinds.Class.{Class}
 use Rattle.fk_meaning_operation.specs.declared.kinds.Class.TheVariants.{Local, Request, Tree}
-use Rattle.fk_meaning_operation.specs.declared.operation.Known.{Known}
-use Rattle.fk_meaning_operation.specs.declared.operation.Known.TheVariants as k
+use Rattle.fk_meaning_operation.specs.declared.operation.OwnValue.{OwnValue}
+use Rattle.fk_meaning_operation.specs.declared.operation.OwnValue.TheVariants as k
 use Rattle.fk_meaning_operation.specs.declared.operation.Operation.{Operation}
 use Rattle.fk_meaning_operation.specs.declared.operation.Operation.TheVariants as o
-use Rattle.fk_meaning_operation.specs.declared.operation.Split.{Split}
-use Rattle.fk_meaning_operation.specs.declared.operation.Split.TheVariants as s
+use Rattle.fk_meaning_operation.specs.declared.operation.SplitKind.{SplitKind}
+use Rattle.fk_meaning_operation.specs.declared.operation.SplitKind.TheVariants as s
 use Rattle.fk_meaning_operation.specs.declared.operation.Unary.{Unary}
 use Rattle.fk_meaning_operation.specs.declared.operation.Unary.TheVariants as u
 use Rattle.fk_meaning_operation.specs.declared.operation.Variable.{Variable}
@@ -29,7 +29,7 @@ abbrev pub variable_of : ℕ → Variable
 variable_of n = if is_odd n then v.OfFile (n / 2) else v.Private (n / 2)
 
 -- what a processor knows by itself, each with a number of its own
-abbrev pub known_of : (which : ℕ) → ℕ → Known
+abbrev pub known_of : (which : ℕ) → ℕ → OwnValue
 known_of which n =
     if which == 0 then k.Value (variable_of n)
     else if which == 1 then k.FrameAddress (n % nestings) (n / nestings)
@@ -44,7 +44,7 @@ known_of which n =
 abbrev pub unary_of : ℕ → Unary
 unary_of n = if n == 0 then u.Negate else if n == 1 then u.Complement else u.Not
 
-abbrev pub split_of : ℕ → Split
+abbrev pub split_of : ℕ → SplitKind
 split_of n =
     if n == 0 then s.IfAlone
     else if n == 1 then s.IfElse
@@ -90,7 +90,7 @@ local_of kind n =
     else if kind == 4 then Some o.DropLast
     else if kind == 5 then Some o.CopyLast
     else if kind == 6 then Some (o.Apply (unary_of n))
-    else if kind == 7 then Some (o.Join (operator_of (n / 2)) (is_odd n))
+    else if kind == 7 then Some (o.Binary (operator_of (n / 2)) (is_odd n))
     else if kind == 8 then Some (o.Index n)
     else if kind == 9 then Some (o.Branch (is_odd n))
     else if kind == 10 then Some o.Take
@@ -114,7 +114,7 @@ tree_step_of kind n =
     else if kind == 24 then Some o.Agree
     else if kind == 25 then Some (o.Frame (n % nestings) (n / nestings))
     else if kind == 26 then Some o.Block
-    else if kind == 27 then Some (o.Divide (split_of n))
+    else if kind == 27 then Some (o.Split (split_of n))
     else if kind == 28 then Some o.Shrink
     else if kind == 29 then Some o.End
     else if kind == 30 then Some o.Resume
@@ -138,7 +138,7 @@ abbrev pub IsNear : Variable → Type 0
 IsNear (v.Private i) = i < 2 ^ 26
 IsNear (v.OfFile i) = i < 2 ^ 26
 
-abbrev pub IsKnownNear : Known → Type 0
+abbrev pub IsKnownNear : OwnValue → Type 0
 IsKnownNear (k.Value variable) = IsNear variable
 IsKnownNear (k.FrameAddress nesting word) = (word < 2 ^ 21) × (nesting < nestings)
 IsKnownNear known = Unit {0}

@@ -5,7 +5,7 @@ ghost use Rattle.fk_meaning_operation.specs.Kinds.{kind_of};
 ghost use Rattle.fk_core.specs.Numbers.{is_odd, nestings, variable_of, known_of, unary_of, split_of, operator_of, operation_of, local_of as local_by, request_of as request_by, tree_step_of as tree_step_by, IsNear, IsKnownNear, HasNumber};
 
 use fk_num::Op;
-use fk_meaning_operation::{Known, Multiprefix, Operation, Split, Unary, Variable};
+use fk_meaning_operation::{OwnValue, Multiprefix, Operation, SplitKind, Unary, Variable};
 
 const NESTINGS: u32 = 129;
 
@@ -20,7 +20,7 @@ pub fn local_of(kind: u8, number: u32) -> Option<Operation>
         4 => Operation::DropLast,
         5 => Operation::CopyLast,
         6 => Operation::Apply(unary(number)),
-        7 => Operation::Join(operator(number / 2), odd(number)),
+        7 => Operation::Binary(operator(number / 2), odd(number)),
         8 => Operation::Index(number),
         9 => Operation::Branch(odd(number)),
         10 => Operation::Take,
@@ -60,7 +60,7 @@ pub fn tree_step_of(kind: u8, number: u32) -> Option<Operation>
             words: number / NESTINGS,
         },
         26 => Operation::Block,
-        27 => Operation::Divide(split(number)),
+        27 => Operation::Split(split(number)),
         28 => Operation::Shrink,
         29 => Operation::End,
         30 => Operation::Resume,
@@ -88,19 +88,19 @@ fn variable(number: u32) -> Variable
     }
 }
 
-fn known(which: u32, number: u32) -> Known
+fn known(which: u32, number: u32) -> OwnValue
     ensures { result ≡ known_of which number }
 {
     match which {
-        0 => Known::Value(variable(number)),
-        1 => Known::FrameAddress(number % NESTINGS, number / NESTINGS),
-        2 => Known::Rank,
-        3 => Known::GroupNumber,
-        4 => Known::ProcessorNumber,
-        5 => Known::Processors,
-        6 => Known::GroupSize,
-        7 => Known::InputLength,
-        _ => Known::InputAddress,
+        0 => OwnValue::Value(variable(number)),
+        1 => OwnValue::FrameAddress(number % NESTINGS, number / NESTINGS),
+        2 => OwnValue::Rank,
+        3 => OwnValue::GroupNumber,
+        4 => OwnValue::ProcessorNumber,
+        5 => OwnValue::Processors,
+        6 => OwnValue::GroupSize,
+        7 => OwnValue::InputLength,
+        _ => OwnValue::InputAddress,
     }
 }
 
@@ -114,16 +114,16 @@ fn unary(number: u32) -> Unary
     }
 }
 
-fn split(number: u32) -> Split
+fn split(number: u32) -> SplitKind
     ensures { result ≡ split_of number }
 {
     match number {
-        0 => Split::IfAlone,
-        1 => Split::IfElse,
-        2 => Split::AndThen,
-        3 => Split::OrElse,
-        4 => Split::Loop,
-        _ => Split::Fork,
+        0 => SplitKind::IfAlone,
+        1 => SplitKind::IfElse,
+        2 => SplitKind::AndThen,
+        3 => SplitKind::OrElse,
+        4 => SplitKind::Loop,
+        _ => SplitKind::Fork,
     }
 }
 
@@ -170,11 +170,11 @@ pub fn number_of(operation: Operation) -> u32
         Operation::Get(known) => known_number(known),
         Operation::Set(variable) => variable_number(variable),
         Operation::Apply(unary) => unary_number(unary),
-        Operation::Join(operator, turned) => two(operator_number(operator), turned),
+        Operation::Binary(operator, turned) => two(operator_number(operator), turned),
         Operation::Branch(flag) | Operation::Check(flag) | Operation::Meet(flag) => two(0, flag),
         Operation::Leave { gives, framed } => two(two(0, gives), framed),
         Operation::Frame { nesting, words } => joined(words, NESTINGS, nesting),
-        Operation::Divide(split) => split_number(split),
+        Operation::Split(split) => split_number(split),
         _ => 0,
     }
 }
@@ -210,20 +210,20 @@ fn variable_number(variable: Variable) -> u32
     }
 }
 
-fn known_number(known: Known) -> u32
+fn known_number(known: OwnValue) -> u32
     requires near { IsKnownNear known }
     ensures { known_of (result % 9) (result / 9) ≡ known }
 {
     let (which, number) = match known {
-        Known::Value(variable) => (0, variable_number(variable)),
-        Known::FrameAddress(nesting, word) => (1, joined(word, NESTINGS, nesting)),
-        Known::Rank => (2, 0),
-        Known::GroupNumber => (3, 0),
-        Known::ProcessorNumber => (4, 0),
-        Known::Processors => (5, 0),
-        Known::GroupSize => (6, 0),
-        Known::InputLength => (7, 0),
-        Known::InputAddress => (8, 0),
+        OwnValue::Value(variable) => (0, variable_number(variable)),
+        OwnValue::FrameAddress(nesting, word) => (1, joined(word, NESTINGS, nesting)),
+        OwnValue::Rank => (2, 0),
+        OwnValue::GroupNumber => (3, 0),
+        OwnValue::ProcessorNumber => (4, 0),
+        OwnValue::Processors => (5, 0),
+        OwnValue::GroupSize => (6, 0),
+        OwnValue::InputLength => (7, 0),
+        OwnValue::InputAddress => (8, 0),
     };
     joined(number, 9, which)
 }
@@ -238,16 +238,16 @@ fn unary_number(unary: Unary) -> u32
     }
 }
 
-fn split_number(split: Split) -> u32
+fn split_number(split: SplitKind) -> u32
     ensures { split_of result ≡ split }
 {
     match split {
-        Split::IfAlone => 0,
-        Split::IfElse => 1,
-        Split::AndThen => 2,
-        Split::OrElse => 3,
-        Split::Loop => 4,
-        Split::Fork => 5,
+        SplitKind::IfAlone => 0,
+        SplitKind::IfElse => 1,
+        SplitKind::AndThen => 2,
+        SplitKind::OrElse => 3,
+        SplitKind::Loop => 4,
+        SplitKind::Fork => 5,
     }
 }
 

@@ -17,7 +17,7 @@ pub struct CoreProgram {
 
 impl CoreProgram {
     /// One without operations and functions.
-    pub fn make(alloc: Global) -> CoreProgram
+    pub fn new(alloc: Global) -> CoreProgram
         ensures ops { result.ops.items ≡ [] }
         ensures entries { result.entries.items ≡ [] }
         ensures frames { result.frames.items ≡ [] }

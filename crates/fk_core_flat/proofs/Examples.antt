@@ -1,7 +1,7 @@
 -- Code and its lists.
 use Rattle.std.proofs.Common.{◌≡◌, ℕ, ◌+◌, true, false, List, [], ◌∷◌, length, None, refl}
-use Rattle.fk_meaning_operation.specs.declared.operation.Known.TheVariants as k
-use Rattle.fk_meaning_operation.specs.declared.operation.Split.TheVariants as s
+use Rattle.fk_meaning_operation.specs.declared.operation.OwnValue.TheVariants as k
+use Rattle.fk_meaning_operation.specs.declared.operation.SplitKind.TheVariants as s
 use Rattle.fk_meaning_operation.specs.declared.operation.Operation.{Operation}
 use Rattle.fk_meaning_operation.specs.declared.operation.Operation.TheVariants as o
 use Rattle.fk_meaning_forms.specs.Code.{Code, done, perform, choose, while, until, quit, break, continue, call, ends}
@@ -88,11 +88,11 @@ called : list 12 (perform 0 get (choose 1 branch
 called = refl
 
 -- parts of a group end at the resume
-parts : list 8 (perform 0 get (choose 1 (o.Divide s.IfElse)
+parts : list 8 (perform 0 get (choose 1 (o.Split s.IfElse)
     (perform 2 get (perform 3 o.End done))
     (perform 4 get (perform 5 o.End done))
     (perform 6 o.Resume (ends 7 o.Halt done))))
-    ≡ act 0 get 0 ∷ act 1 (o.Divide s.IfElse) 4 ∷ act 2 get 0 ∷ act 3 o.End 6 ∷ act 4 get 0 ∷ act 5 o.End 6 ∷ act 6 o.Resume 0 ∷ act 7 o.Halt 0 ∷ []
+    ≡ act 0 get 0 ∷ act 1 (o.Split s.IfElse) 4 ∷ act 2 get 0 ∷ act 3 o.End 6 ∷ act 4 get 0 ∷ act 5 o.End 6 ∷ act 6 o.Resume 0 ∷ act 7 o.Halt 0 ∷ []
 parts = refl
 
 -- return; $; return: what can't be reached is written too

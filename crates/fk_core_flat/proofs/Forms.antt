@@ -7,7 +7,7 @@ use Rattle.fk_syntax.specs.Program.{DeclaredTree}
 use Rattle.fk_meaning_operation.specs.declared.operation.Operation.{Operation}
 use Rattle.fk_meaning_operation.specs.declared.operation.Operation.TheVariants as o
 use Rattle.fk_meaning_operation.specs.declared.operation.Variable.TheVariants as v
-use Rattle.fk_meaning_operation.specs.declared.operation.Known.TheVariants as n
+use Rattle.fk_meaning_operation.specs.declared.operation.OwnValue.TheVariants as n
 use Rattle.fk_meaning_forms.specs.declared.tables.Region.{Region}
 use Rattle.fk_meaning_forms.specs.Code.{numbered}
 use Rattle.fk_meaning_forms.specs.Tables.{Tables, note, slot, frame_at}
@@ -25,7 +25,7 @@ goes_on (o.Branch onward) e = untrue e
 goes_on (o.Leave gives framed') e = untrue e
 goes_on (o.Enter arguments) e = untrue e
 goes_on o.Begin e = untrue e
-goes_on (o.Divide by) e = untrue e
+goes_on (o.Split by) e = untrue e
 goes_on o.Shrink e = untrue e
 goes_on o.End e = untrue e
 goes_on o.Farm e = untrue e

@@ -3,10 +3,10 @@ use Rattle.std.proofs.Common.{◌≡◌, ℕ, ◌+◌, ◌≤◌, ◌<◌, Bool,
 use Rattle.std.specs.Prelude.{◌==◌, nat_lt, map, ◌⊎◌}
 use Rattle.std.proofs.lemmas.Bool.{ltb-true, ltb-false}
 use Rattle.fk_num.specs.declared.operator.Op.TheVariants.{Add, Sub, Mul, LtS, Eq}
-use Rattle.fk_meaning_operation.specs.declared.operation.Known.TheVariants.{Value}
+use Rattle.fk_meaning_operation.specs.declared.operation.OwnValue.TheVariants.{Value}
 use Rattle.fk_meaning_operation.specs.declared.operation.Variable.TheVariants.{Private}
 use Rattle.fk_meaning_operation.specs.declared.operation.Operation.{Operation}
-use Rattle.fk_meaning_operation.specs.declared.operation.Operation.TheVariants.{Push, Get, Set, DropLast, Join, Branch, Leave, Enter, PrintNumber, PrintByte, Halt}
+use Rattle.fk_meaning_operation.specs.declared.operation.Operation.TheVariants.{Push, Get, Set, DropLast, Binary, Branch, Leave, Enter, PrintNumber, PrintByte, Halt}
 use Rattle.fk_meaning_forms.specs.Code.{Code, done, perform, choose, while, until, quit, break, continue, call, ends}
 use Rattle.fk_core.specs.declared.op.CoreOp.{CoreOp}
 use Rattle.fk_core.specs.Numbers.{operation_of}
@@ -35,18 +35,18 @@ no_entry f = 0
 
 -- void main(void) { int i; int s = 0; for (i = 0; i < 9; i++) { if (i == 1) continue; if (i == 4) break; s += i; } do { s = s * 2; } while (s < 30); putint(s); puts("a\n"); }
 abbrev loops_test : Code ℕ
-loops_test = perform 9 i (perform 10 (Push 9) (perform 11 (Join LtS false) (quit 12 (Branch true) done)))
+loops_test = perform 9 i (perform 10 (Push 9) (perform 11 (Binary LtS false) (quit 12 (Branch true) done)))
 
 abbrev loops_body : Code ℕ
 loops_body =
-    perform 13 i (perform 14 (Push 1) (perform 15 (Join Eq false) (choose 16 (Branch true) (continue done) done
-    (perform 17 i (perform 18 (Push 4) (perform 19 (Join Eq false) (choose 20 (Branch true) (break done) done
-    (perform 21 s (perform 22 i (perform 23 (Join Add false) (perform 24 (Set (Private 1)) (perform 25 DropLast done))))))))))))
+    perform 13 i (perform 14 (Push 1) (perform 15 (Binary Eq false) (choose 16 (Branch true) (continue done) done
+    (perform 17 i (perform 18 (Push 4) (perform 19 (Binary Eq false) (choose 20 (Branch true) (break done) done
+    (perform 21 s (perform 22 i (perform 23 (Binary Add false) (perform 24 (Set (Private 1)) (perform 25 DropLast done))))))))))))
 
 abbrev loops_step : Code ℕ
 loops_step =
-    perform 26 i (perform 27 (Push 1) (perform 28 (Join Add false) (perform 29 (Set (Private 0))
-    (perform 30 (Push 1) (perform 31 (Join Sub false) (perform 32 DropLast done))))))
+    perform 26 i (perform 27 (Push 1) (perform 28 (Binary Add false) (perform 29 (Set (Private 0))
+    (perform 30 (Push 1) (perform 31 (Binary Sub false) (perform 32 DropLast done))))))
 
 abbrev loops_code : Code ℕ
 loops_code =
@@ -54,8 +54,8 @@ loops_code =
     (perform 3 (Push 0) (perform 4 (Set (Private 1)) (perform 5 DropLast
     (perform 6 (Push 0) (perform 7 (Set (Private 0)) (perform 8 DropLast
     (while loops_test loops_body loops_step (until
-    (perform 33 s (perform 34 (Push 2) (perform 35 (Join Mul false) (perform 36 (Set (Private 1)) (perform 37 DropLast done)))))
-    (perform 38 s (perform 39 (Push 30) (perform 40 (Join LtS false) (quit 41 (Branch true) done))))
+    (perform 33 s (perform 34 (Push 2) (perform 35 (Binary Mul false) (perform 36 (Set (Private 1)) (perform 37 DropLast done)))))
+    (perform 38 s (perform 39 (Push 30) (perform 40 (Binary LtS false) (quit 41 (Branch true) done))))
     (perform 42 s (perform 43 PrintNumber (perform 44 (Push 97) (perform 45 PrintByte (perform 46 (Push 10) (perform 47 PrintByte (ends 48 Halt done)))))))))))))))))
 
 loops : map item_of loops_core ≡ flat no_entry false None 0 (length loops_core) loops_code
@@ -65,7 +65,7 @@ loops = refl
 abbrev pub f_code : Code ℕ
 f_code =
     perform 0 i (choose 1 (Branch true)
-    (perform 2 (Push 1) (perform 3 i (perform 4 (Push 1) (perform 5 (Join Sub false) (call 6 (Enter 1) 0 done (perform 7 (Join Add false) done))))))
+    (perform 2 (Push 1) (perform 3 i (perform 4 (Push 1) (perform 5 (Binary Sub false) (call 6 (Enter 1) 0 done (perform 7 (Binary Add false) done))))))
     (perform 8 (Push 0) done)
     (ends 9 (Leave true false) (perform 10 (Push 0) (ends 11 (Leave true false) done))))
 

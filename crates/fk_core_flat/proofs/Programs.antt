@@ -7,8 +7,8 @@ use Rattle.fk_syntax.specs.Tree.{Named, TypeTree, Tree}
 use Rattle.fk_syntax.specs.Program as p
 use Rattle.fk_syntax.specs.Program.{DeclaredTree, Statement, Statements, FunctionTree, ProgramTree}
 use Rattle.fk_meaning_operation.specs.declared.operation.Operation.TheVariants as o
-use Rattle.fk_meaning_operation.specs.declared.operation.Known.TheVariants as n
-use Rattle.fk_meaning_operation.specs.declared.operation.Split.TheVariants.{IfAlone, IfElse, Loop, Fork}
+use Rattle.fk_meaning_operation.specs.declared.operation.OwnValue.TheVariants as n
+use Rattle.fk_meaning_operation.specs.declared.operation.SplitKind.TheVariants.{IfAlone, IfElse, Loop, Fork}
 use Rattle.fk_meaning_forms.specs.Code as c
 use Rattle.fk_meaning_forms.specs.Code.{Code, done, perform, choose, while, until, turn, again, quit, break, continue, call, ends, size, numbered}
 use Rattle.fk_meaning_forms.specs.Tables.{Tables, note, frame_at}
@@ -73,7 +73,7 @@ module _ (tables : Tables) (functions : (binding : ℕ) → Signature) (has_body
   loops spot l loop keeps closed rest q =
       let x = at l closed in
       either all x (note tables spot.at).splits
-      (choose spot.place (o.Divide Loop) (part_frame tables functions spot 0 (loop done)) done (plain o.Resume rest)) (loop rest)
+      (choose spot.place (o.Split Loop) (part_frame tables functions spot 0 (loop done)) done (plain o.Resume rest)) (loop rest)
       (branch refl (part_frames all spot 0 (inner x) (loop done) (keeps false done (ended x))) (ended x) (on refl q))
       (keeps closed rest q)
 
@@ -118,7 +118,7 @@ module _ (tables : Tables) (functions : (binding : ℕ) → Signature) (has_body
         let here = note tables spot.at in
         let body = executed tables functions inside first in
         let runs = statement inside l first fits.1 in
-        let parted = choose spot.place (o.Divide IfAlone) (part_frame tables functions spot 0 (body (plain o.End done))) done (plain o.Resume rest) in
+        let parted = choose spot.place (o.Split IfAlone) (part_frame tables functions spot 0 (body (plain o.End done))) done (plain o.Resume rest) in
         let branched = choose nowhere (o.Branch true) (body done) done rest in
         values_kept all condition fits.0 x (if here.splits then parted else agreed here.sync branched)
         (either all x here.splits parted (agreed here.sync branched)
@@ -131,7 +131,7 @@ module _ (tables : Tables) (functions : (binding : ℕ) → Signature) (has_body
         let b = executed tables functions inside second in
         let runs_a = statement inside l first fits.1 in
         let runs_b = statement inside l second fits.2 in
-        let parted = choose spot.place (o.Divide IfElse) (part_frame tables functions spot 0 (a (plain o.End done))) (part_frame tables functions spot 1 (b (plain o.End done))) (plain o.Resume rest) in
+        let parted = choose spot.place (o.Split IfElse) (part_frame tables functions spot 0 (a (plain o.End done))) (part_frame tables functions spot 1 (b (plain o.End done))) (plain o.Resume rest) in
         let branched = choose nowhere (o.Branch true) (a done) (b done) rest in
         values_kept all condition fits.0 x (if here.splits then parted else agreed here.sync branched)
         (either all x here.splits parted (agreed here.sync branched)
@@ -164,7 +164,7 @@ module _ (tables : Tables) (functions : (binding : ℕ) → Signature) (has_body
     statement inside l (p.Fork spot k number rank body) fits closed rest q =
         let x = at l closed in
         let run = executed tables functions inside body in
-        let split = choose spot.place (o.Divide Fork) (part_frame tables functions spot 0 (run (plain o.End done))) done (plain o.Resume rest) in
+        let split = choose spot.place (o.Split Fork) (part_frame tables functions spot 0 (run (plain o.End done))) done (plain o.Resume rest) in
         let ranked = value_or tables functions (plain (o.Get n.Rank)) rank split in
         let numbered' = value tables functions number ranked in
         let forked : Fine x split = branch refl (parts spot 0 l closed run (statement inside l body fits.3)) (ended x) (on refl q) in

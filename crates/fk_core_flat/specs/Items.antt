@@ -34,7 +34,7 @@ pub data Way : Type 0 where
 abbrev pub way_of : Operation → Way
 way_of (o.Branch onward) = either
 way_of o.Begin = either
-way_of (o.Divide by) = either
+way_of (o.Split by) = either
 way_of o.Shrink = either
 way_of o.Farm = either
 way_of o.Seq = either

@@ -1,11 +1,11 @@
 -- The words of sets in frames.
 use Rattle.std.specs.Prelude.{ℕ, Bool, true, false, Option, Some, None}
-use Rattle.fk_core_liveness.specs.declared.places.Place.{Place}
-use Rattle.fk_core_liveness.specs.declared.places.Place.TheVariants.{Main, Called}
+use Rattle.fk_core_liveness.specs.declared.places.FunctionKind.{FunctionKind}
+use Rattle.fk_core_liveness.specs.declared.places.FunctionKind.TheVariants.{Main, Called}
 use Rattle.fk_core_liveness.specs.declared.set.Set.{Set}
 use Rattle.fk_core_liveness.specs.Sets.{is_in}
 
-abbrev pub is_main_place : Place → Bool
+abbrev pub is_main_place : FunctionKind → Bool
 is_main_place Main = true
 is_main_place (Called gives) = false
 

@@ -7,5 +7,5 @@ mod places;
 mod set;
 
 pub use live::live_words;
-pub use places::Place;
+pub use places::FunctionKind;
 pub use set::Set;

@@ -32,7 +32,7 @@ pub(crate) fn follows(
         Operation::End => target as usize,
         Operation::Branch(_)
         | Operation::Begin
-        | Operation::Divide(_)
+        | Operation::Split(_)
         | Operation::Shrink
         | Operation::Farm
         | Operation::Seq => if onward { index + 1 } else { target as usize },

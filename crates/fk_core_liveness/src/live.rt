@@ -8,7 +8,7 @@ ghost use Rattle.fk_core_liveness.specs.Sets.{is_in};
 use crate::list::{follows, op_at};
 use crate::set::Set;
 use fk_core::CoreOp;
-use fk_meaning_operation::{Known, Operation, Variable};
+use fk_meaning_operation::{OwnValue, Operation, Variable};
 use std::alloc::{AllocError, Global};
 
 fn set_at(sets: &[Set], index: usize) -> Set
@@ -43,7 +43,7 @@ fn before(operation: Operation, behind: Set) -> Set
         ≡ v.needed operation (is_in behind.mask word) word }
 {
     match operation {
-        Operation::Get(Known::Value(Variable::Private(word))) => behind.with(word),
+        Operation::Get(OwnValue::Value(Variable::Private(word))) => behind.with(word),
         Operation::Set(Variable::Private(word)) => behind.without(word),
         _ => behind,
     }

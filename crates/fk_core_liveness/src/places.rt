@@ -2,7 +2,7 @@
 
 /// The function in which an index lies.
 #[derive(Clone, Copy, PartialEq, Eq, Debug)]
-pub enum Place {
+pub enum FunctionKind {
     Main,
     /// One that is called, and whether it gives a value.
     Called(bool),

@@ -21,8 +21,8 @@ use Rattle.fk_core.specs.Next.{Position, is_jump, through, led_by, landing_by, l
 use Rattle.fk_sim_block.specs.Ready.{MayDo}
 use Rattle.fk_meaning.specs.Round.{Runner}
 use Rattle.fk_meaning_operation.specs.declared.kinds.FaultKind.TheVariants.{BadAddress}
-use Rattle.fk_core_liveness.specs.declared.places.Place.{Place}
-use Rattle.fk_core_liveness.specs.declared.places.Place.TheVariants.{Main, Called}
+use Rattle.fk_core_liveness.specs.declared.places.FunctionKind.{FunctionKind}
+use Rattle.fk_core_liveness.specs.declared.places.FunctionKind.TheVariants.{Main, Called}
 use Rattle.fk_core_typing.specs.declared.change.Change.{Change}
 use Rattle.fk_core_typing.specs.declared.constants.Constants.{Constants}
 use Rattle.fk_num.specs.Op.{applied}
@@ -52,10 +52,10 @@ behind_call shared_alone known n false v p knows = dropped shared_alone known n 
 
 module _ (core : List CoreOp) (main : ℕ) (known : HasKnowledge core main) where
   -- the calls that wait: each goes on with its values, and whatever result of the one that it waits for
-  abbrev pub Waits : Place → (callers : List ℕ) → (calls : List Call) → Type 0
+  abbrev pub Waits : FunctionKind → (callers : List ℕ) → (calls : List Call) → Type 0
   Waits Main [] [] = Unit {0}
   Waits (Called gives) (back ∷ callers) (call ∷ calls) =
-      (place : Place) × (known.within back ≡ place)
+      (place : FunctionKind) × (known.within back ≡ place)
       × ((v : ℕ) (shared_alone : Bool) → Knows shared_alone (known.known shared_alone back) (handed gives v call).values)
       × AreSameIn (known.constants back) no_constants
       × Waits place callers calls
@@ -75,7 +75,7 @@ module _ (core : List CoreOp) (main : ℕ) (known : HasKnowledge core main) wher
   goes changes behind i j callers p q leads waits same knows has = record {
     knows = λ shared_alone value e. knows shared_alone value (leads.is_known shared_alone value e);
     constants = fewer_constants (known.constants j) behind (values q) leads.same has;
-    waits = (let there : Waits (known.within j) callers p.callers = subst (λ (place : Place). Waits place callers p.callers) (sym leads.inside) waits in
+    waits = (let there : Waits (known.within j) callers p.callers = subst (λ (place : FunctionKind). Waits place callers p.callers) (sym leads.inside) waits in
         subst (λ (calls : List Call). Waits (known.within j) callers calls) (sym same) there);
   }
 
@@ -107,7 +107,7 @@ module _ (core : List CoreOp) (main : ℕ) (known : HasKnowledge core main) wher
   stops [] p waits = record {
     knows = λ shared_alone. nothing shared_alone (known.known shared_alone (length core)) (values p) (let none = known.ends.nothing in none.addresses shared_alone);
     constants = fewer_constants (known.constants (length core)) no_constants (values p) (let none = known.ends.nothing in none.same) (no_constant (values p));
-    waits = subst (λ (place : Place). Waits place [] p.callers) (sym known.ends.inside) waits;
+    waits = subst (λ (place : FunctionKind). Waits place [] p.callers) (sym known.ends.inside) waits;
   }
   stops (back ∷ callers) p waits = absurd waits
 
@@ -118,12 +118,12 @@ module _ (core : List CoreOp) (main : ℕ) (known : HasKnowledge core main) wher
   returns true v p (back ∷ callers) (call ∷ calls) waits = record {
     knows = λ shared_alone. waits.2 v shared_alone;
     constants = fewer_constants (known.constants back) no_constants (handed true v call).values waits.3 (no_constant (handed true v call).values);
-    waits = subst (λ (place : Place). Waits place callers calls) (sym waits.1) waits.4;
+    waits = subst (λ (place : FunctionKind). Waits place callers calls) (sym waits.1) waits.4;
   }
   returns false v p (back ∷ callers) (call ∷ calls) waits = record {
     knows = λ shared_alone. waits.2 v shared_alone;
     constants = fewer_constants (known.constants back) no_constants (handed false v call).values waits.3 (no_constant (handed false v call).values);
-    waits = subst (λ (place : Place). Waits place callers calls) (sym waits.1) waits.4;
+    waits = subst (λ (place : FunctionKind). Waits place callers calls) (sym waits.1) waits.4;
   }
 
   -- a processor at an operation
@@ -171,8 +171,8 @@ module _ (core : List CoreOp) (main : ℕ) (known : HasKnowledge core main) wher
         (all_kept s (K s) (values p) (stands.knows s))) (no_constant _)
     by_local set (o.Apply sign) f e =
         on (o.Apply sign) (suc i) (local set (o.Apply sign) p) (f.goes_on true) refl (λ s. one_replaced s (K s) _ (values p) (stands.knows s)) (no_constant _)
-    by_local set (o.Join sign turned) f e =
-        on (o.Join sign turned) (suc i) (local set (o.Join sign turned) p) (f.goes_on true) refl
+    by_local set (o.Binary sign turned) f e =
+        on (o.Binary sign turned) (suc i) (local set (o.Binary sign turned) p) (f.goes_on true) refl
         (λ s. two_joined s (K s) (is_address s (joined_constant sign turned C.second C.last)) (in_order turned (applied sign)) (values p)
         (joined_may s sign turned C (values p) stands.constants) (joined_two s sign turned C (values p) stands.constants) (stands.knows s))
         (constant_joined sign turned C (values p) stands.constants)
@@ -188,7 +188,7 @@ module _ (core : List CoreOp) (main : ℕ) (known : HasKnowledge core main) wher
     by_local set o.Take f e =
         on o.Take (suc i) (local set o.Take p) (f.goes_on true) (taken_callers _ p) (λ s. words_taken s (K s) _ p (stands.knows s)) (no_constant _)
     by_local set (o.Leave gives framed) f e =
-        returns gives (last (values p)) (unframed framed p) callers p.callers (subst (λ (place : Place). Waits place callers p.callers) f.goes_on stands.waits)
+        returns gives (last (values p)) (unframed framed p) callers p.callers (subst (λ (place : FunctionKind). Waits place callers p.callers) f.goes_on stands.waits)
     by_local set (o.Combine by) f e = absurd (no_local by e)
     by_local set op f e = absurd (cc)
 
@@ -206,12 +206,12 @@ module _ (core : List CoreOp) (main : ℕ) (known : HasKnowledge core main) wher
           refl,
           (λ w s value e. behind_call s (K s) n calls.gives w p (stands.knows s) value (let leads = calls.back in leads.is_known s value e)),
           (let leads = calls.back in leads.same),
-          (let leads = calls.back in subst (λ (place : Place). Waits place callers p.callers) (sym leads.inside) stands.waits),
+          (let leads = calls.back in subst (λ (place : FunctionKind). Waits place callers p.callers) (sym leads.inside) stands.waits),
         ) in
         record {
           knows = λ s. nothing s (known.known s (suc i)) [] (let none = calls.begins in none.addresses s);
           constants = fewer_constants (known.constants (suc i)) no_constants [] (let none = calls.begins in none.same) (no_constant []);
-          waits = subst (λ (place : Place). Waits place (back ∷ callers) (caller ∷ p.callers)) (sym calls.inside) waits;
+          waits = subst (λ (place : FunctionKind). Waits place (back ∷ callers) (caller ∷ p.callers)) (sym calls.inside) waits;
         }
 
     pub by_request : (s s' : Store) (v : ℕ) (op : Operation) → Fitting op → class_of op ≡ Request → serve (request op p) s p.number ≡ Served s' v
@@ -261,14 +261,14 @@ module _ (core : List CoreOp) (main : ℕ) (known : HasKnowledge core main) wher
         blocks false None = on o.Block (suc i) (in_place 0 p) (f.goes_on true) refl (λ s. one_replaced s (K s) 0 (values p) (stands.knows s)) (no_constant _)
         blocks false (Some found) =
             on o.Block (suc i) (allotted p (Some found)) (f.goes_on true) refl (λ s. one_replaced s (K s) (address_of found.0) (values p) (stands.knows s)) (no_constant _)
-    by_tree highest lowest size (o.Divide split) f e = divide (part split (values p))
+    by_tree highest lowest size (o.Split split) f e = divide (part split (values p))
       where
         parts : (way : Bool) (q : Processor) → q.callers ≡ p.callers → ((s : Bool) → Knows s (after (ch.by (taken_by split) (pushed_by split way)) (K s)) (values q))
-            → Going (o.Divide split) way q
-        parts true q same knows = on (o.Divide split) (suc i) q (f.goes_on true) same knows (no_constant (values q))
-        parts false q same knows = on_way false (o.Divide split) target q (f.goes_on false) same knows (no_constant (values q))
+            → Going (o.Split split) way q
+        parts true q same knows = on (o.Split split) (suc i) q (f.goes_on true) same knows (no_constant (values q))
+        parts false q same knows = on_way false (o.Split split) target q (f.goes_on false) same knows (no_constant (values q))
 
-        divide : (part : Option ℕ) → Going (o.Divide split) (enters split part) (divided split size p part)
+        divide : (part : Option ℕ) → Going (o.Split split) (enters split part) (divided split size p part)
         divide None = parts (enters split None) (divided split size p None) refl (λ s. divides s (K s) split size p None (stands.knows s))
         divide (Some n) = parts (enters split (Some n)) (divided split size p (Some n)) refl (λ s. divides s (K s) split size p (Some n) (stands.knows s))
     by_tree highest lowest size o.Shrink f e = shrink (stays_in p)
@@ -288,7 +288,7 @@ module _ (core : List CoreOp) (main : ℕ) (known : HasKnowledge core main) wher
         body true = stays true o.Seq (suc i) p (f.goes_on true) (λ s. refl) refl refl refl
         body false = stays false o.Seq target p (f.goes_on false) (λ s. refl) refl refl refl
     by_tree highest lowest size (o.Meet closing) f e = stays true (o.Meet closing) (suc i) p (f.goes_on true) (λ s. refl) refl refl refl
-    by_tree highest lowest size o.Halt f e = stops callers p (subst (λ (place : Place). Waits place callers p.callers) f.goes_on stands.waits)
+    by_tree highest lowest size o.Halt f e = stops callers p (subst (λ (place : FunctionKind). Waits place callers p.callers) f.goes_on stands.waits)
     by_tree highest lowest size (o.Combine by) f e = absurd (no_step by e)
     by_tree highest lowest size op f e = absurd (cc)
 
@@ -306,7 +306,7 @@ module _ (core : List CoreOp) (main : ℕ) (known : HasKnowledge core main) wher
   may_do r i target o.Write stands f = second_holds false (values r.has) (stands.knows false 1 f.asks)
   may_do r i target (o.Combine by) stands f = second_holds true (values r.has) (stands.knows true 1 f.asks)
   may_do r i target (o.Leave gives framed) stands f =
-      waits_called gives r.left.callers r.has.callers (subst (λ (place : Place). Waits place r.left.callers r.has.callers) f.goes_on stands.waits)
+      waits_called gives r.left.callers r.has.callers (subst (λ (place : FunctionKind). Waits place r.left.callers r.has.callers) f.goes_on stands.waits)
   may_do r i target o.Halt stands f =
-      waits_main r.left.callers r.has.callers (subst (λ (place : Place). Waits place r.left.callers r.has.callers) f.goes_on stands.waits)
+      waits_main r.left.callers r.has.callers (subst (λ (place : FunctionKind). Waits place r.left.callers r.has.callers) f.goes_on stands.waits)
   may_do r i target op stands f = tt

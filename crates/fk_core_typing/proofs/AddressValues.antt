@@ -4,8 +4,8 @@ use Rattle.fk_meaning_store.specs.Store.{private_words, private_address}
 use Rattle.fk_meaning_store.specs.Serve.{may_use}
 use Rattle.fk_meaning.specs.Processor.{Level, Processor, values, last, before, in_place, to_outer}
 use Rattle.fk_meaning.specs.Group.{taken_by, divided, enters}
-use Rattle.fk_meaning_operation.specs.declared.operation.Split.{Split}
-use Rattle.fk_meaning_operation.specs.declared.operation.Split.TheVariants as s
+use Rattle.fk_meaning_operation.specs.declared.operation.SplitKind.{SplitKind}
+use Rattle.fk_meaning_operation.specs.declared.operation.SplitKind.TheVariants as s
 use Rattle.fk_num.specs.Op.{applied}
 use Rattle.fk_num.specs.declared.operator.Op.{Op}
 use Rattle.fk_meaning.specs.Local.{joined, taken, in_order}
@@ -226,7 +226,7 @@ outer_callers p [] = refl
 outer_callers p (l ∷ ls) = refl
 
 -- what a split leaves of the values of a member
-pub divides : (shared_alone : Bool) (known : ℕ → Bool) (split : Split) (size : ℕ) (p : Processor) (part : Option ℕ) → Knows shared_alone known (values p)
+pub divides : (shared_alone : Bool) (known : ℕ → Bool) (split : SplitKind) (size : ℕ) (p : Processor) (part : Option ℕ) → Knows shared_alone known (values p)
     → Knows shared_alone (after (ch.by (taken_by split) (pushed_by split (enters split part))) known) (values (divided split size p part))
 divides sh known s.IfAlone size p None knows = dropped sh known 1 (values p) knows
 divides sh known s.IfElse size p None knows = dropped sh known 1 (values p) knows

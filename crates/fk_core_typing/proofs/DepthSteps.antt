@@ -106,7 +106,7 @@ module _ (core : List CoreOp) (within : ℕ → Within) where
     by_local set o.DropLast r e = goes r.place callers (suc index) r.depth r.waits r.count (r.on true) (dropped 1 p)
     by_local set o.CopyLast r e = goes r.place callers (suc index) r.depth r.waits r.count (r.on true) (pushed _ p)
     by_local set (o.Apply sign) r e = goes r.place callers (suc index) r.depth r.waits r.count (r.on true) (replaced _ p)
-    by_local set (o.Join sign turned) r e =
+    by_local set (o.Binary sign turned) r e =
         let n = r.count in let m = r.enough in goes r.place callers (suc index) r.depth r.waits r.count (r.on true) (joins _ p (omega (arith, n, m)))
     by_local set (o.Index size) r e =
         let n = r.count in let m = r.enough in goes r.place callers (suc index) r.depth r.waits r.count (r.on true) (joins _ p (omega (arith, n, m)))
@@ -154,11 +154,11 @@ module _ (core : List CoreOp) (within : ℕ → Within) where
         let n = r.count in let m = r.enough in goes r.place callers (suc index) r.depth r.waits r.count (r.on true) (kept_last highest p (omega (arith, n, m)))
     by_tree highest lowest size (o.Frame nesting words) r e = goes r.place callers (suc index) r.depth r.waits r.count (r.on true) (frames nesting p _)
     by_tree highest lowest size o.Block r e = goes r.place callers (suc index) r.depth r.waits r.count (r.on true) (blocks _ p)
-    by_tree highest lowest size (o.Divide by) r e =
-        divided_to (goes_onward (o.Divide by) highest lowest p) (divides by size p (part by (values p)))
+    by_tree highest lowest size (o.Split by) r e =
+        divided_to (goes_onward (o.Split by) highest lowest p) (divides by size p (part by (values p)))
       where
-        divided_to : (way : Bool) → Leaves (takes (o.Divide by)) (leaves (o.Divide by) way) p (does (o.Divide by) highest size p)
-            → Going (o.Divide by) way (does (o.Divide by) highest size p)
+        divided_to : (way : Bool) → Leaves (takes (o.Split by)) (leaves (o.Split by) way) p (does (o.Split by) highest size p)
+            → Going (o.Split by) way (does (o.Split by) highest size p)
         divided_to true x = goes {p = p} r.place callers (suc index) r.depth r.waits r.count (r.on true) x
         divided_to false x = goes {p = p} r.place callers target r.depth r.waits r.count (r.on false) x
     by_tree highest lowest size o.Shrink r e = shrink (stays_in p)

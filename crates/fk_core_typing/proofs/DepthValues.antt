@@ -2,8 +2,8 @@
 use Rattle.std.proofs.Common.{◌≡◌, ℕ, zero, suc, ◌+◌, ◌-◌, ◌≤◌, ◌==◌, nat_lt, Bool, true, false, if◌then◌else◌, List, [], ◌∷◌, length, Option, Some, None, refl, ap, ◌∙◌, arith}
 use Rattle.fk_space.specs.Space.{Space, block}
 use Rattle.fk_meaning_store.specs.Store.{private_words, private_address}
-use Rattle.fk_meaning_operation.specs.declared.operation.Split.{Split}
-use Rattle.fk_meaning_operation.specs.declared.operation.Split.TheVariants as s
+use Rattle.fk_meaning_operation.specs.declared.operation.SplitKind.{SplitKind}
+use Rattle.fk_meaning_operation.specs.declared.operation.SplitKind.TheVariants as s
 use Rattle.fk_meaning_operation.specs.declared.operation.Operation.TheVariants as o
 use Rattle.fk_meaning.specs.Processor.{Level, Call, Processor, values, before, with_values, with_space, drop_last, in_place, push, enter_level, to_outer, leave_level}
 use Rattle.fk_meaning.specs.Local.{joined, stored, taken, unframed}
@@ -84,7 +84,7 @@ pub outer : {less more : ℕ} {p : Processor} (q : Processor) (levels : List Lev
 outer q [] x = x
 outer q (l ∷ ls) x = record { count = x.count; callers = x.callers }
 
-pub divides : (by : Split) (size : ℕ) (p : Processor) (part : Option ℕ) → Leaves (takes (o.Divide by)) (leaves (o.Divide by) (enters by part)) p (divided by size p part)
+pub divides : (by : SplitKind) (size : ℕ) (p : Processor) (part : Option ℕ) → Leaves (takes (o.Split by)) (leaves (o.Split by) (enters by part)) p (divided by size p part)
 divides s.IfAlone size p None = dropped 1 p
 divides s.IfElse size p None = dropped 1 p
 divides s.AndThen size p None = let e = length_before 1 (values p) in record { count = omega (arith, e); callers = refl }

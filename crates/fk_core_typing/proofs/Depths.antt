@@ -6,8 +6,8 @@ use Rattle.fk_meaning_operation.specs.declared.operation.Operation.{Operation}
 use Rattle.fk_meaning_operation.specs.declared.operation.Operation.TheVariants as o
 use Rattle.fk_layout_sizes.specs.Operations.{takes}
 use Rattle.fk_meaning_forms.specs.Code.{Code}
-use Rattle.fk_core_liveness.specs.declared.places.Place.{Place}
-use Rattle.fk_core_liveness.specs.declared.places.Place.TheVariants as p
+use Rattle.fk_core_liveness.specs.declared.places.FunctionKind.{FunctionKind}
+use Rattle.fk_core_liveness.specs.declared.places.FunctionKind.TheVariants as p
 use Rattle.fk_core.specs.declared.op.CoreOp.{CoreOp}
 use Rattle.fk_core.specs.Numbers.{operation_of}
 use Rattle.fk_core.specs.Next.{landing, behind_jump, follows}
@@ -33,11 +33,11 @@ use Rattle.fk_core_typing.proofs.Valued.{same_ways, values, values_lawful, all_j
 use Rattle.fk_core_typing.proofs.Listed.{some_same, entries, Found, found, of_jump, of_operation, goes_on}
 use Rattle.fk_core_typing.proofs.Knowing.{label_done}
 
-abbrev within_of : Place → Within
+abbrev within_of : FunctionKind → Within
 within_of p.Main = Main
 within_of (p.Called gives) = Called gives
 
-module _ (bodies : ℕ → Code ℕ) (core : List CoreOp) (entry : ℕ → ℕ) (place_of : ℕ → Place) (typed : IsTypedList bodies core entry place_of)
+module _ (bodies : ℕ → Code ℕ) (core : List CoreOp) (entry : ℕ → ℕ) (place_of : ℕ → FunctionKind) (typed : IsTypedList bodies core entry place_of)
     (tall : HasHeightsOf bodies core place_of) where
   abbrev at : ℕ → State
   at = v.at bodies core entry place_of typed

@@ -15,7 +15,7 @@ use Rattle.fk_meaning.specs.Schedule.{beginners, first_processor}
 use Rattle.fk_core.specs.declared.op.CoreOp.{CoreOp}
 use Rattle.fk_core.specs.Numbers.{operation_of}
 use Rattle.fk_core.specs.Next.{Position, position, landing, follows, step_by, step_of, next, list_opening}
-use Rattle.fk_core_liveness.specs.declared.places.Place.{Place}
+use Rattle.fk_core_liveness.specs.declared.places.FunctionKind.{FunctionKind}
 use Rattle.fk_core_typing.specs.LocalAddresses.{HasKnowledge, KnowledgeIsEnough, Fits}
 use Rattle.fk_core_typing.specs.AddressValues.{no_constants}
 use Rattle.fk_core_typing.proofs.AddressValues.{nothing, no_constant, fewer_constants}
@@ -98,7 +98,7 @@ module _ (core : List CoreOp) (main : ℕ) (known : HasKnowledge core main) wher
       begins = record {
         knows = λ shared_alone. nothing shared_alone (known.known shared_alone main) [] (let none = known.begins.nothing in none.addresses shared_alone);
         constants = fewer_constants (known.constants main) no_constants [] (let none = known.begins.nothing in none.same) (no_constant []);
-        waits = subst (λ (place : Place). Waits core main known place [] []) (sym known.begins.inside) tt;
+        waits = subst (λ (place : FunctionKind). Waits core main known place [] []) (sym known.begins.inside) tt;
       }
 
 pub knowledge_is_enough : KnowledgeIsEnough

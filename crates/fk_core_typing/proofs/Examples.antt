@@ -3,11 +3,11 @@ use Rattle.std.proofs.Common.{ℕ, zero, suc, ◌≤◌, true, false, List, [], 
 use Rattle.fk_num.specs.declared.operator.Op.TheVariants as f
 use Rattle.fk_meaning_operation.specs.declared.operation.Operation.TheVariants as o
 use Rattle.fk_meaning_operation.specs.declared.operation.Operation.{Operation}
-use Rattle.fk_meaning_operation.specs.declared.operation.Known.TheVariants as n
+use Rattle.fk_meaning_operation.specs.declared.operation.OwnValue.TheVariants as n
 use Rattle.fk_meaning_operation.specs.declared.operation.Variable.TheVariants as v
 use Rattle.fk_meaning_forms.specs.Code.{Code, done, perform, choose, while, quit, break, call, ends}
-use Rattle.fk_core_liveness.specs.declared.places.Place.{Place}
-use Rattle.fk_core_liveness.specs.declared.places.Place.TheVariants.{Main, Called}
+use Rattle.fk_core_liveness.specs.declared.places.FunctionKind.{FunctionKind}
+use Rattle.fk_core_liveness.specs.declared.places.FunctionKind.TheVariants.{Main, Called}
 use Rattle.fk_core_typing.specs.AddressValues.{constants, no_constants}
 use Rattle.fk_core_typing.specs.LocalDepths.{needs}
 use Rattle.fk_sim_block.specs.Suits.{looks_at}
@@ -16,7 +16,7 @@ use Rattle.fk_core_typing.specs.Typed.{Typed, IsTyped}
 use Rattle.fk_core_typing.proofs.Granting.{none_asked, good_as_itself, grants_itself}
 
 -- function 0 is `main`. All others give a value
-abbrev place_of : ℕ → Place
+abbrev place_of : ℕ → FunctionKind
 place_of zero = Main
 place_of (suc f) = Called true
 
@@ -27,17 +27,17 @@ pub may : (operation : Operation) (s : State) → (needs operation ≤ length s.
     → Asks operation s.values → May operation s
 may operation s few asks = record { values = few.0; looks = few.1; asks = asks }
 
-abbrev pub at : Place → List Value → State
+abbrev pub at : FunctionKind → List Value → State
 at place values = record { place = place; values = values; constants = no_constants }
 
 -- x.b = c; return; of a struct at the beginning of shared data
 abbrev member : Code ℕ
 member =
-    perform 0 (o.Push 0x10000000) (perform 1 (o.Push 4) (perform 2 (o.Join f.Add false)
+    perform 0 (o.Push 0x10000000) (perform 1 (o.Push 4) (perform 2 (o.Binary f.Add false)
     (perform 3 (get 0) (perform 4 o.Write (perform 5 o.DropLast (ends 6 o.Halt done))))))
 
 -- what a state with so many values is asked
-values : (place : Place) (vs : List Value) → Grants (at place vs) (at place vs)
+values : (place : FunctionKind) (vs : List Value) → Grants (at place vs) (at place vs)
 values place vs = grants_itself (at place vs)
 
 member_is_typed : IsTyped place_of 0 member
@@ -68,7 +68,7 @@ member_is_typed = (
 abbrev read : ℕ → Code ℕ → Code ℕ
 read i rest = perform i (get 0) (perform (suc i) (o.Check false) (perform (suc (suc i)) o.Read rest))
 
-reads : (rest : Code ℕ) (asked : State) (l : Option State) (i : ℕ) (place : Place) (vs : List Value)
+reads : (rest : Code ℕ) (asked : State) (l : Option State) (i : ℕ) (place : FunctionKind) (vs : List Value)
     → Typed place_of l (at place (Unknown ∷ vs)) rest asked → Typed place_of l (at place vs) (read i rest) asked
 reads rest asked l i place vs more = (may _ _ (omega arith, omega arith) tt, (may _ _ (omega arith, omega arith) tt, (may _ _ (omega arith, omega arith) refl, more)))
 
@@ -97,7 +97,7 @@ assigned_is_typed = (may _ _ (omega arith, omega arith) refl, (may _ _ (omega ar
 abbrev call_with : Code ℕ
 call_with =
     choose 9 (o.Branch true)
-    (perform 10 (get 1) (perform 11 (o.Push 0) (perform 12 (o.Join f.Ne false) done)))
+    (perform 10 (get 1) (perform 11 (o.Push 0) (perform 12 (o.Binary f.Ne false) done)))
     (perform 13 (o.Push 0) done)
     (call 14 (o.Enter 2) 1 done assigned)
 

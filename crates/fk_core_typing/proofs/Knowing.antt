@@ -4,12 +4,12 @@ use Rattle.std.specs.Prelude.{not, ◌&&◌, ◌||◌, ◌⊎◌, if◌then◌el
 use Rattle.fk_num.specs.Word.{word}
 use Rattle.fk_meaning_operation.specs.declared.operation.Operation.{Operation}
 use Rattle.fk_meaning_operation.specs.declared.operation.Operation.TheVariants as o
-use Rattle.fk_meaning_operation.specs.declared.operation.Split.{Split}
-use Rattle.fk_meaning_operation.specs.declared.operation.Split.TheVariants as s
+use Rattle.fk_meaning_operation.specs.declared.operation.SplitKind.{SplitKind}
+use Rattle.fk_meaning_operation.specs.declared.operation.SplitKind.TheVariants as s
 use Rattle.fk_meaning_store.specs.Serve.{may_use}
 use Rattle.fk_meaning_forms.specs.Code.{Code}
-use Rattle.fk_core_liveness.specs.declared.places.Place.{Place}
-use Rattle.fk_core_liveness.specs.declared.places.Place.TheVariants.{Main, Called}
+use Rattle.fk_core_liveness.specs.declared.places.FunctionKind.{FunctionKind}
+use Rattle.fk_core_liveness.specs.declared.places.FunctionKind.TheVariants.{Main, Called}
 use Rattle.fk_core.specs.declared.op.CoreOp.{CoreOp}
 use Rattle.fk_core.specs.Next.{follows, behind_jump}
 use Rattle.fk_core.specs.Stands.{Around}
@@ -93,9 +93,9 @@ known_checked true false Usable e = e
 known_checked false false Usable e = refl
 
 -- behind a split
-split_known : (split : Split) (last : Bool) (known : Constants) (vs : List Value) (onward sh : Bool) (n : ℕ)
-    → known_at sh (changed (takes (o.Divide split)) (leaves (o.Divide split) onward) vs) n ≡ true
-    → after (change sh (o.Divide split) onward last known) (known_at sh vs) n ≡ true
+split_known : (split : SplitKind) (last : Bool) (known : Constants) (vs : List Value) (onward sh : Bool) (n : ℕ)
+    → known_at sh (changed (takes (o.Split split)) (leaves (o.Split split) onward) vs) n ≡ true
+    → after (change sh (o.Split split) onward last known) (known_at sh vs) n ≡ true
 split_known s.IfAlone last known vs true sh n e = dropping sh 1 vs n e
 split_known s.IfAlone last known vs false sh n e = dropping sh 1 vs n e
 split_known s.IfElse last known vs true sh n e = dropping sh 1 vs n e
@@ -119,9 +119,9 @@ change_known o.DropLast known vs onward r few sh n e = dropping sh 1 vs n e
 change_known o.CopyLast known [] onward r few sh n e = absurd (let z : ⊥ = omega arith in z)
 change_known o.CopyLast known (v ∷ vs) onward r few sh n e = pushing sh 0 (v ∷ vs) v (is_known sh v) (λ z. z) n e
 change_known (o.Apply sign) known vs onward r few sh n e = pushing sh 1 vs Unknown false (λ z. z) n e
-change_known (o.Join sign turned) known [] onward r few sh n e = absurd (let z : ⊥ = omega arith in z)
-change_known (o.Join sign turned) known (x ∷ []) onward r few sh n e = absurd (let z : ⊥ = omega arith in z)
-change_known (o.Join sign turned) known (x ∷ y ∷ vs) onward r few sh n e =
+change_known (o.Binary sign turned) known [] onward r few sh n e = absurd (let z : ⊥ = omega arith in z)
+change_known (o.Binary sign turned) known (x ∷ []) onward r few sh n e = absurd (let z : ⊥ = omega arith in z)
+change_known (o.Binary sign turned) known (x ∷ y ∷ vs) onward r few sh n e =
     let c = joined_constant sign turned known.second known.last in
     pushing sh 2 (x ∷ y ∷ vs) (of_constant c) (is_address sh c) (known_constant sh c) n e
 change_known (o.Index size) known vs onward r few sh n e = pushing sh 2 vs Unknown false (λ z. z) n e
@@ -141,7 +141,7 @@ change_known o.Agree known [] onward r few sh n e = absurd (cc)
 change_known o.Agree known (v ∷ vs) onward r few sh n e = pushing sh 1 (v ∷ vs) Unknown false (λ z. z) n e
 change_known (o.Frame nesting words) known vs onward r few sh n e = dropping sh 0 vs n e
 change_known o.Block known vs onward r few sh n e = pushing sh 1 vs Unknown false (λ z. z) n e
-change_known (o.Divide split) known vs onward r few sh n e = split_known split (known_at sh vs 0) known vs onward sh n e
+change_known (o.Split split) known vs onward r few sh n e = split_known split (known_at sh vs 0) known vs onward sh n e
 change_known o.Shrink known vs onward r few sh n e = dropping sh 1 vs n e
 change_known o.End known vs onward r few sh n e = dropping sh 0 vs n e
 change_known o.Resume known vs onward r few sh n e = dropping sh 0 vs n e
@@ -178,7 +178,7 @@ combined_asked by (x ∷ a ∷ vs) few h = h
 pub label_done : (code : Code ℕ) (c : Around) (i k : ℕ) → is_done code ≡ true → label c i k code ≡ k
 label_done code c i k e = by_done (λ x. label c i k x ≡ k) code e refl
 
-module _ (bodies : ℕ → Code ℕ) (core : List CoreOp) (entry : ℕ → ℕ) (place_of : ℕ → Place) (typed : IsTypedList bodies core entry place_of) where
+module _ (bodies : ℕ → Code ℕ) (core : List CoreOp) (entry : ℕ → ℕ) (place_of : ℕ → FunctionKind) (typed : IsTypedList bodies core entry place_of) where
   abbrev at : ℕ → State
   at = v.at bodies core entry place_of typed
 
@@ -191,7 +191,7 @@ module _ (bodies : ℕ → Code ℕ) (core : List CoreOp) (entry : ℕ → ℕ) 
   abbrev ComesTo : State → ℕ → Type 0
   ComesTo = Comes core entry place_of (values place_of) (values_lawful place_of) at false none
 
-  abbrev within : ℕ → Place
+  abbrev within : ℕ → FunctionKind
   within i = (at i).place
 
   abbrev known : Bool → (index value : ℕ) → Bool
@@ -209,7 +209,7 @@ module _ (bodies : ℕ → Code ℕ) (core : List CoreOp) (entry : ℕ → ℕ) 
     same = same_both (constants j) s.constants behind comes.grants.constants c;
   }
 
-  bare_at : (place : Place) (i : ℕ) → Grants (bare place) (at i) → k.KnowsNothing core within known constants i
+  bare_at : (place : FunctionKind) (i : ℕ) → Grants (bare place) (at i) → k.KnowsNothing core within known constants i
   bare_at place i g = record { addresses = λ sh n. bare_known (at i).values g.values sh n; same = g.constants }
 
   ordinary : (op : Operation) (i target : ℕ) → is_ordinary op ≡ true

@@ -2,7 +2,7 @@
 use Rattle.std.proofs.Common.{◌≡◌, ℕ, zero, suc, ◌<◌, Bool, true, false, true≢false, List, [], ◌∷◌, length, All, arith, refl, sym, ◌∙◌, subst}
 use Rattle.fk_meaning_operation.specs.declared.operation.Operation.{Operation}
 use Rattle.fk_meaning_operation.specs.declared.operation.Operation.TheVariants as o
-use Rattle.fk_core_liveness.specs.declared.places.Place.{Place}
+use Rattle.fk_core_liveness.specs.declared.places.FunctionKind.{FunctionKind}
 use Rattle.fk_meaning_forms.specs.Code.{Code}
 use Rattle.fk_core.specs.declared.op.CoreOp.{CoreOp}
 use Rattle.fk_core.specs.Next.{follows, behind_jump}
@@ -12,7 +12,7 @@ use Rattle.fk_core_flat.specs.Shape.{is_closed}
 use Rattle.fk_core_flat.proofs.Ways.{goes_by}
 use Rattle.fk_core_flat.proofs.Jumps.{jumps_lead_to_operations}
 use Rattle.fk_sim_block.specs.Lists.{is_end, StaysInList}
-use Rattle.fk_core_liveness.specs.declared.places.Place.TheVariants.{Main}
+use Rattle.fk_core_liveness.specs.declared.places.FunctionKind.TheVariants.{Main}
 use Rattle.fk_core_typing.specs.Values.{bare}
 use Rattle.fk_core_typing.specs.Laws.{IsTypedList, TypedListsLeadWithin}
 use Rattle.fk_core_typing.proofs.Sound.{Goes}
@@ -25,7 +25,7 @@ out_ends (o.Leave gives framed) e = refl
 out_ends o.Halt e = refl
 out_ends op e = absurd (cc)
 
-module _ (core : List CoreOp) (entry : ℕ → ℕ) (place_of : ℕ → Place) (sys : System) (lawful : IsLawful sys place_of) (state : ℕ → sys.State) (told : Bool) (depth : ℕ → ℕ) where
+module _ (core : List CoreOp) (entry : ℕ → ℕ) (place_of : ℕ → FunctionKind) (sys : System) (lawful : IsLawful sys place_of) (state : ℕ → sys.State) (told : Bool) (depth : ℕ → ℕ) where
   nobody : All (λ i. i < length core) []
   nobody k d h = absurd (let z : ⊥ = omega arith in z)
 
@@ -44,7 +44,7 @@ module _ (core : List CoreOp) (entry : ℕ → ℕ) (place_of : ℕ → Place) (
   inside op s i target w.out e n g onward = absurd (true≢false (sym (out_ends op e) ∙ n))
 
 -- a function with code begins in the list
-pub entries_are_within : (bodies : ℕ → Code ℕ) (core : List CoreOp) (entry : ℕ → ℕ) (place_of : ℕ → Place) → IsTypedList bodies core entry place_of
+pub entries_are_within : (bodies : ℕ → Code ℕ) (core : List CoreOp) (entry : ℕ → ℕ) (place_of : ℕ → FunctionKind) → IsTypedList bodies core entry place_of
     → (f : ℕ) → is_closed (bodies f) ≡ true → entry f < length core
 entries_are_within bodies core entry place_of typed f closed =
     let none : ℕ → ℕ = λ n. 0 in

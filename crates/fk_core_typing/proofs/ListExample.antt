@@ -11,8 +11,8 @@ use Rattle.fk_core.proofs.Examples.{recursion_core as core}
 use Rattle.fk_core_flat.specs.Flat.{extent}
 use Rattle.fk_core_flat.proofs.ListExamples.{f_code, main_code, of_binding, bodies, entry, is_flat, are_shaped}
 use Rattle.fk_core_typing.specs.LocalDepths.{HasLocalDepths}
-use Rattle.fk_core_liveness.specs.declared.places.Place.{Place}
-use Rattle.fk_core_liveness.specs.declared.places.Place.TheVariants.{Main, Called}
+use Rattle.fk_core_liveness.specs.declared.places.FunctionKind.{FunctionKind}
+use Rattle.fk_core_liveness.specs.declared.places.FunctionKind.TheVariants.{Main, Called}
 use Rattle.fk_core_typing.specs.LocalAddresses.{HasKnowledge}
 use Rattle.fk_core_typing.specs.AddressValues.{constants}
 use Rattle.fk_core_typing.specs.Values.{Unknown, State, bare, Grants}
@@ -25,7 +25,7 @@ use Rattle.fk_core_typing.proofs.LeadingWithin.{typed_lists_lead_within}
 use Rattle.fk_core_typing.proofs.Knowing.{typed_lists_know}
 use Rattle.fk_core_typing.proofs.Depths.{typed_lists_have_depths}
 
-abbrev place_of : ℕ → Place
+abbrev place_of : ℕ → FunctionKind
 place_of f = of_binding (Called true) Main (Called true) (f == 0) (f == 1)
 
 abbrev none : State
@@ -35,7 +35,7 @@ abbrev one : State
 one = at (Called true) (Unknown ∷ [])
 
 -- one value of which nothing is asked, whatever constant it is
-any : (place : Place) (n : ℕ) → Grants (record { place = place; values = Unknown ∷ []; constants = constants (Some n) None }) (at place (Unknown ∷ []))
+any : (place : FunctionKind) (n : ℕ) → Grants (record { place = place; values = Unknown ∷ []; constants = constants (Some n) None }) (at place (Unknown ∷ []))
 any place n = record { place = refl; values = good_as_itself (Unknown ∷ []); constants = none_asked _ }
 
 f_is_typed : IsTyped place_of 0 f_code

@@ -5,7 +5,7 @@ use Rattle.std.proofs.lemmas.Option.{slice_get_within, get_or_from_slice_get}
 use Rattle.fk_meaning_operation.specs.declared.operation.Operation.{Operation}
 use Rattle.fk_meaning_operation.specs.declared.operation.Operation.TheVariants as o
 use Rattle.fk_meaning_forms.specs.Code.{Code}
-use Rattle.fk_core_liveness.specs.declared.places.Place.{Place}
+use Rattle.fk_core_liveness.specs.declared.places.FunctionKind.{FunctionKind}
 use Rattle.fk_core.specs.declared.op.CoreOp.{CoreOp}
 use Rattle.fk_core.specs.Numbers.{operation_of}
 use Rattle.fk_core.specs.Next.{is_jump, follows}
@@ -51,7 +51,7 @@ module _ (core : List CoreOp) (entry : ℕ → ℕ) where
   has_below (item ∷ items) j zero a h = let b = slice_get_within core j h.0.0 h.0.1 in omega arith
   has_below (item ∷ items) j (suc d) a h = let b = has_below items (suc j) d (omega arith) h.1 in omega arith
 
-module _ (bodies : ℕ → Code ℕ) (core : List CoreOp) (entry : ℕ → ℕ) (place_of : ℕ → Place) (typed : IsTypedList bodies core entry place_of)
+module _ (bodies : ℕ → Code ℕ) (core : List CoreOp) (entry : ℕ → ℕ) (place_of : ℕ → FunctionKind) (typed : IsTypedList bodies core entry place_of)
     (sys : System) (lawful : IsLawful sys place_of) (judged : (f : ℕ) → (end : sys.State) × Judged sys None (sys.first f) (bodies f) end) (nothing : sys.State) where
   abbrev place : ℕ → ℕ
   place = typed.flat.place

@@ -5,8 +5,8 @@ use Rattle.fk_meaning_operation.specs.declared.operation.Operation.{Operation}
 use Rattle.fk_meaning_operation.specs.declared.operation.Operation.TheVariants as o
 use Rattle.fk_layout_sizes.specs.Operations.{takes}
 use Rattle.fk_core_typing.specs.LocalDepths.{leaves, results}
-use Rattle.fk_core_liveness.specs.declared.places.Place.{Place}
-use Rattle.fk_core_liveness.specs.declared.places.Place.TheVariants.{Called}
+use Rattle.fk_core_liveness.specs.declared.places.FunctionKind.{FunctionKind}
+use Rattle.fk_core_liveness.specs.declared.places.FunctionKind.TheVariants.{Called}
 use Rattle.fk_core_typing.specs.declared.constants.Constants.{Constants}
 use Rattle.fk_core_typing.specs.Values.{Value, Unknown, State, changed, values_behind, behind, behind_call}
 use Rattle.fk_core_typing.specs.Heights.{raised, results_of}
@@ -27,15 +27,15 @@ values_length (o.Check shared_alone) onward known [] = changed_length 0 0 []
 values_length (o.Check shared_alone) onward known (v ∷ vs) = omega arith
 values_length o.Agree onward known [] = changed_length 0 0 []
 values_length o.Agree onward known (v ∷ vs) = omega arith
-values_length (o.Join sign turned) onward known [] = changed_length 2 1 []
-values_length (o.Join sign turned) onward known (b ∷ []) = changed_length 2 1 (b ∷ [])
-values_length (o.Join sign turned) onward known (b ∷ a ∷ vs) = omega arith
+values_length (o.Binary sign turned) onward known [] = changed_length 2 1 []
+values_length (o.Binary sign turned) onward known (b ∷ []) = changed_length 2 1 (b ∷ [])
+values_length (o.Binary sign turned) onward known (b ∷ a ∷ vs) = omega arith
 values_length op onward known vs = changed_length (takes op) (leaves op onward) vs
 
 pub rises : (op : Operation) (onward : Bool) (s : State) → length (behind op onward s).values ≡ raised (length s.values) op onward
 rises op onward s = values_length op onward s.constants s.values
 
-module _ (place_of : ℕ → Place) where
+module _ (place_of : ℕ → FunctionKind) where
   pub called_rises : (op : Operation) (f : ℕ) (gives : Bool) (s : State) → place_of f ≡ Called gives
       → length s.values - takes op + results_of (place_of f) ≡ length (behind_call (takes op) gives s).values
   called_rises op f gives s e =

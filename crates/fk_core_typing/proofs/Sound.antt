@@ -4,7 +4,7 @@ use Rattle.std.specs.Prelude.{◌==◌, ◌||◌, ◌⊎◌, is_some, if◌then�
 use Rattle.std.proofs.lemmas.Option.{slice_get_within}
 use Rattle.fk_meaning_operation.specs.declared.operation.Operation.{Operation}
 use Rattle.fk_meaning_forms.specs.Code.{Code, done, perform, choose, while, until, turn, again, quit, break, continue, call, ends}
-use Rattle.fk_core_liveness.specs.declared.places.Place.{Place}
+use Rattle.fk_core_liveness.specs.declared.places.FunctionKind.{FunctionKind}
 use Rattle.fk_core.specs.declared.op.CoreOp.{CoreOp}
 use Rattle.fk_core.specs.Next.{is_jump, behind_jump}
 use Rattle.fk_core.specs.Stands.{Loop, Around, is_first, is_start}
@@ -24,7 +24,7 @@ use Rattle.fk_core_typing.proofs.Marks.{skip_mark, skip_length, Noted, noted_fro
 use Rattle.fk_core_typing.proofs.Standing.{stands_at}
 
 -- the list, the states at its indices, and where depths are told, the depth of each site
-module _ (core : List CoreOp) (entry : ℕ → ℕ) (place_of : ℕ → Place) (sys : System) (lawful : IsLawful sys place_of) (state : ℕ → sys.State) (told : Bool) (depth : ℕ → ℕ) where
+module _ (core : List CoreOp) (entry : ℕ → ℕ) (place_of : ℕ → FunctionKind) (sys : System) (lawful : IsLawful sys place_of) (state : ℕ → sys.State) (told : Bool) (depth : ℕ → ℕ) where
   -- who comes to an index in a state finds what is asked there, and an operation or a jump
   pub record Comes (s : sys.State) (j : ℕ) : Type 0 where
     pub grants : sys.Grants s (state j)

@@ -1,11 +1,11 @@
 -- Along code there are as many values as are counted.
 use Rattle.std.proofs.Common.{◌≡◌, ℕ, true, Option, Some, sym, ap, ◌∙◌}
 use Rattle.fk_meaning_forms.specs.Code.{Code, done, perform, choose, while, until, turn, again, quit, break, continue, call, ends}
-use Rattle.fk_core_liveness.specs.declared.places.Place.{Place}
+use Rattle.fk_core_liveness.specs.declared.places.FunctionKind.{FunctionKind}
 use Rattle.fk_core_typing.specs.Heights.{height}
 use Rattle.fk_core_typing.proofs.System.{System, Judged, IsLawful}
 
-module _ (sys : System) (place_of : ℕ → Place) (lawful : IsLawful sys place_of) where
+module _ (sys : System) (place_of : ℕ → FunctionKind) (lawful : IsLawful sys place_of) where
   -- so many stand behind code as are counted
   pub stands_at : (code : Code ℕ) (l : Option sys.State) (s e : sys.State) → Judged sys l s code e → height place_of (sys.height s) code ≡ sys.height e
   stands_at done l s e t = lawful.level s e t

@@ -3,7 +3,7 @@ use Rattle.std.proofs.Common.{◌≡◌, ℕ, ◌+◌, ◌-◌, Bool, true, fals
 use Rattle.fk_meaning_operation.specs.declared.operation.Operation.{Operation}
 use Rattle.fk_layout_sizes.specs.Operations.{takes}
 use Rattle.fk_meaning_forms.specs.Code.{Code, done, perform, choose, while, until, quit, break, continue, call, ends}
-use Rattle.fk_core_liveness.specs.declared.places.Place.{Place}
+use Rattle.fk_core_liveness.specs.declared.places.FunctionKind.{FunctionKind}
 use Rattle.fk_core_typing.specs.Heights.{raised, results_of}
 
 pub record System : Type 1 where
@@ -52,7 +52,7 @@ module _ (y : System) where
   Judged l s code e = ⊥
 
   -- what is so of states
-  pub record IsLawful (place_of : ℕ → Place) : Type 0 where
+  pub record IsLawful (place_of : ℕ → FunctionKind) : Type 0 where
     pub itself : (s : y.State) → y.Grants s s
     pub both : (s t u : y.State) → y.Grants s t → y.Grants t u → y.Grants s u
     pub enters : (op : Operation) (f : ℕ) (gives : Bool) (opening : Code ℕ) → y.Calls op f gives opening → y.Grants (y.begin op f gives) (y.first f)

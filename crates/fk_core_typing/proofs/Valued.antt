@@ -5,8 +5,8 @@ use Rattle.fk_meaning_operation.specs.declared.operation.Operation.{Operation}
 use Rattle.fk_meaning_operation.specs.declared.operation.Operation.TheVariants as o
 use Rattle.fk_layout_sizes.specs.Operations.{takes}
 use Rattle.fk_meaning_forms.specs.Code.{Code, done, perform, choose, while, until, turn, again, quit, break, continue, call, ends}
-use Rattle.fk_core_liveness.specs.declared.places.Place.{Place}
-use Rattle.fk_core_liveness.specs.declared.places.Place.TheVariants.{Main, Called}
+use Rattle.fk_core_liveness.specs.declared.places.FunctionKind.{FunctionKind}
+use Rattle.fk_core_liveness.specs.declared.places.FunctionKind.TheVariants.{Main, Called}
 use Rattle.fk_core.specs.declared.op.CoreOp.{CoreOp}
 use Rattle.fk_core_flat.specs.Items as w
 use Rattle.fk_core_flat.specs.Items.{Way, way_of}
@@ -21,11 +21,11 @@ use Rattle.fk_core_typing.proofs.Listed.{state}
 
 -- what has one way goes on alike
 pub same_ways : (op : Operation) (s : State) (way : Way) → way_of op ≡ way → (way ≡ w.straight) ⊎ (way ≡ w.onto) → behind op false s ≡ behind op true s
-same_ways (o.Divide by) s way e (inl f) = let g : w.either ≡ w.straight = e ∙ f in absurd (cc)
-same_ways (o.Divide by) s way e (inr f) = let g : w.either ≡ w.onto = e ∙ f in absurd (cc)
+same_ways (o.Split by) s way e (inl f) = let g : w.either ≡ w.straight = e ∙ f in absurd (cc)
+same_ways (o.Split by) s way e (inr f) = let g : w.either ≡ w.onto = e ∙ f in absurd (cc)
 same_ways op s way e f = refl
 
-module _ (place_of : ℕ → Place) where
+module _ (place_of : ℕ → FunctionKind) where
   abbrev pub values : System
   values = record {
     State = State;
@@ -76,7 +76,7 @@ module _ (place_of : ℕ → Place) where
   judged (ends n op rest) l s e h = (h.0, h.1, judged rest l (behind op true s) e h.2)
 
 -- those of a flat list
-module _ (bodies : ℕ → Code ℕ) (core : List CoreOp) (entry : ℕ → ℕ) (place_of : ℕ → Place) (typed : IsTypedList bodies core entry place_of) where
+module _ (bodies : ℕ → Code ℕ) (core : List CoreOp) (entry : ℕ → ℕ) (place_of : ℕ → FunctionKind) (typed : IsTypedList bodies core entry place_of) where
   pub all_judged : (f : ℕ) → (end : State) × Judged (values place_of) None (bare (place_of f)) (bodies f) end
   all_judged f = ((typed.typed f).0, judged place_of (bodies f) None (bare (place_of f)) (typed.typed f).0 (typed.typed f).1)
 

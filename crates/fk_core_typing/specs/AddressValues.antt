@@ -4,9 +4,9 @@ use Rattle.fk_num.specs.Word.{word}
 use Rattle.fk_num.specs.Op.{applied}
 use Rattle.fk_num.specs.declared.operator.Op.{Op}
 use Rattle.fk_meaning_operation.specs.declared.operation.Operation.{Operation}
-use Rattle.fk_meaning_operation.specs.declared.operation.Operation.TheVariants.{Push, Get, DropLast, CopyLast, Apply, Join, Index, Branch, Take, Check, Read, Write, Combine, PrintNumber, PrintByte, Heap, Begin, Agree, Block, Divide, Shrink}
-use Rattle.fk_meaning_operation.specs.declared.operation.Split.{Split}
-use Rattle.fk_meaning_operation.specs.declared.operation.Split.TheVariants.{AndThen, OrElse}
+use Rattle.fk_meaning_operation.specs.declared.operation.Operation.TheVariants.{Push, Get, DropLast, CopyLast, Apply, Binary, Index, Branch, Take, Check, Read, Write, Combine, PrintNumber, PrintByte, Heap, Begin, Agree, Block, Split, Shrink}
+use Rattle.fk_meaning_operation.specs.declared.operation.SplitKind.{SplitKind}
+use Rattle.fk_meaning_operation.specs.declared.operation.SplitKind.TheVariants.{AndThen, OrElse}
 use Rattle.fk_meaning_store.specs.Serve.{may_use}
 use Rattle.fk_meaning.specs.Local.{in_order}
 use Rattle.fk_meaning.specs.Group.{taken_by}
@@ -43,7 +43,7 @@ joined_constant sign turned second last = None
 
 abbrev pub constants_behind : Operation → Constants → Constants
 constants_behind (Push n) known = constants (Some (word n)) known.last
-constants_behind (Join sign turned) known = constants (joined_constant sign turned known.second known.last) None
+constants_behind (Binary sign turned) known = constants (joined_constant sign turned known.second known.last) None
 constants_behind operation known = no_constants
 
 abbrev pub is_address : (shared_alone : Bool) → (constant : Option ℕ) → Bool
@@ -51,7 +51,7 @@ is_address shared_alone None = false
 is_address shared_alone (Some n) = may_use shared_alone n
 
 -- those who wait at `&&` and `||` have the value of the whole
-abbrev pub pushed_by : Split → (onward : Bool) → Option Bool
+abbrev pub pushed_by : SplitKind → (onward : Bool) → Option Bool
 pushed_by AndThen false = unknown
 pushed_by OrElse false = unknown
 pushed_by split onward = None
@@ -74,13 +74,13 @@ change shared_alone Heap onward last known = by 1 unknown
 change shared_alone Block onward last known = by 1 unknown
 change shared_alone Agree onward last known = by 1 unknown
 change shared_alone Read onward last known = by 1 unknown
-change shared_alone (Join sign turned) onward last known =
+change shared_alone (Binary sign turned) onward last known =
     by 2 (Some (is_address shared_alone (joined_constant sign turned known.second known.last)))
 change shared_alone (Index size) onward last known = by 2 unknown
 change shared_alone Write onward last known = by 2 unknown
 change shared_alone (Combine operator) onward last known = by 2 unknown
 change shared_alone (Check checked) onward last known = by 1 (Some (last || (checked || not shared_alone)))
-change shared_alone (Divide split) onward last known = by (taken_by split) (pushed_by split onward)
+change shared_alone (Split split) onward last known = by (taken_by split) (pushed_by split onward)
 change shared_alone operation onward last known = by 0 None
 
 -- the change by a whole call

@@ -3,18 +3,18 @@ use Rattle.std.specs.Prelude.{◌≡◌, ℕ, ◌+◌, ◌-◌, Bool, true, fals
 use Rattle.fk_meaning_operation.specs.declared.operation.Operation.{Operation}
 use Rattle.fk_layout_sizes.specs.Operations.{takes}
 use Rattle.fk_meaning_forms.specs.Code.{Code, done, perform, choose, while, until, turn, again, quit, break, continue, call, ends}
-use Rattle.fk_core_liveness.specs.declared.places.Place.{Place}
-use Rattle.fk_core_liveness.specs.declared.places.Place.TheVariants.{Main, Called}
+use Rattle.fk_core_liveness.specs.declared.places.FunctionKind.{FunctionKind}
+use Rattle.fk_core_liveness.specs.declared.places.FunctionKind.TheVariants.{Main, Called}
 use Rattle.fk_core_typing.specs.LocalDepths.{results, leaves}
 
 abbrev pub raised : (values : ℕ) → Operation → (onward : Bool) → ℕ
 raised h op onward = h - takes op + leaves op onward
 
-abbrev pub results_of : Place → ℕ
+abbrev pub results_of : FunctionKind → ℕ
 results_of Main = 0
 results_of (Called gives) = results gives
 
-module _ (place_of : (binding : ℕ) → Place) where
+module _ (place_of : (binding : ℕ) → FunctionKind) where
   -- so many there are behind code: behind a choice as many as at the end of its first way
   abbrev pub height : (values : ℕ) → Code ℕ → ℕ
   height h done = h

@@ -10,13 +10,13 @@ use Rattle.fk_core_flat.specs.Flat.{extent}
 use Rattle.fk_core_flat.specs.Laws.{AreShaped, IsFlat}
 use Rattle.fk_sim_block.specs.Lists.{is_end, StaysInList}
 use Rattle.fk_core_typing.specs.LocalDepths.{HasLocalDepths}
-use Rattle.fk_core_liveness.specs.declared.places.Place.{Place}
-use Rattle.fk_core_liveness.specs.declared.places.Place.TheVariants.{Main}
+use Rattle.fk_core_liveness.specs.declared.places.FunctionKind.{FunctionKind}
+use Rattle.fk_core_liveness.specs.declared.places.FunctionKind.TheVariants.{Main}
 use Rattle.fk_core_typing.specs.LocalAddresses.{HasKnowledge}
 use Rattle.fk_core_typing.specs.Typed.{AreTyped}
 use Rattle.fk_core_typing.specs.Heights.{HasHeights}
 
-module _ (bodies : (binding : ℕ) → Code ℕ) (core : List CoreOp) (entry : ℕ → ℕ) (place_of : (binding : ℕ) → Place) where
+module _ (bodies : (binding : ℕ) → Code ℕ) (core : List CoreOp) (entry : ℕ → ℕ) (place_of : (binding : ℕ) → FunctionKind) where
   -- an index lies in the code of a function
   abbrev pub LiesIn : (place : ℕ → ℕ) → (index binding : ℕ) → Type 0
   LiesIn place i f = (place f ≤ i) × (i < place f + extent false (bodies f))
@@ -36,7 +36,7 @@ pub record LeadsWithin (core : List CoreOp) : Type 0 where
       → (onward : Bool) → StaysInList core (follows core operation i op.target [] onward)
 
 -- the depth of each operation of a list is told by its site, and is as high as the code before it makes it
-pub record HasHeightsOf (bodies : (binding : ℕ) → Code ℕ) (core : List CoreOp) (place_of : (binding : ℕ) → Place) : Type 0 where
+pub record HasHeightsOf (bodies : (binding : ℕ) → Code ℕ) (core : List CoreOp) (place_of : (binding : ℕ) → FunctionKind) : Type 0 where
   pub depth : (site : ℕ) → ℕ
   pub told : (i : ℕ) (op : CoreOp) (operation : Operation) → slice_get core i ≡ Some op
       → operation_of op.kind op.number ≡ Some operation → op.depth ≡ depth op.site
@@ -44,16 +44,16 @@ pub record HasHeightsOf (bodies : (binding : ℕ) → Code ℕ) (core : List Cor
 
 abbrev pub TypedListsLeadWithin : Type 0
 TypedListsLeadWithin =
-    (bodies : (binding : ℕ) → Code ℕ) (core : List CoreOp) (entry : ℕ → ℕ) (place_of : (binding : ℕ) → Place)
+    (bodies : (binding : ℕ) → Code ℕ) (core : List CoreOp) (entry : ℕ → ℕ) (place_of : (binding : ℕ) → FunctionKind)
     → IsTypedList bodies core entry place_of → LeadsWithin core
 
 abbrev pub TypedListsKnow : Type 0
 TypedListsKnow =
-    (bodies : (binding : ℕ) → Code ℕ) (core : List CoreOp) (entry : ℕ → ℕ) (place_of : (binding : ℕ) → Place)
+    (bodies : (binding : ℕ) → Code ℕ) (core : List CoreOp) (entry : ℕ → ℕ) (place_of : (binding : ℕ) → FunctionKind)
     → IsTypedList bodies core entry place_of → (main : ℕ) → place_of main ≡ Main → HasKnowledge core (entry main)
 
 abbrev pub TypedListsHaveDepths : Type 0
 TypedListsHaveDepths =
-    (bodies : (binding : ℕ) → Code ℕ) (core : List CoreOp) (entry : ℕ → ℕ) (place_of : (binding : ℕ) → Place)
+    (bodies : (binding : ℕ) → Code ℕ) (core : List CoreOp) (entry : ℕ → ℕ) (place_of : (binding : ℕ) → FunctionKind)
     → IsTypedList bodies core entry place_of → HasHeightsOf bodies core place_of
     → (main : ℕ) → place_of main ≡ Main → HasLocalDepths core (entry main)

@@ -6,8 +6,8 @@ use Rattle.fk_core.specs.declared.op.CoreOp.{CoreOp}
 use Rattle.fk_core.specs.Numbers.{operation_of}
 use Rattle.fk_core.specs.Next.{is_jump, behind_jump, follows}
 use Rattle.fk_sim_block.specs.Lists.{AlwaysMay}
-use Rattle.fk_core_liveness.specs.declared.places.Place.{Place}
-use Rattle.fk_core_liveness.specs.declared.places.Place.TheVariants.{Main, Called}
+use Rattle.fk_core_liveness.specs.declared.places.FunctionKind.{FunctionKind}
+use Rattle.fk_core_liveness.specs.declared.places.FunctionKind.TheVariants.{Main, Called}
 use Rattle.fk_core_typing.specs.declared.change.Change.{Change}
 use Rattle.fk_core_typing.specs.declared.constants.Constants.{Constants}
 use Rattle.fk_core_typing.specs.AddressValues.{after, change, called, unchanged, no_constants, constants_behind}
@@ -22,7 +22,7 @@ pub record AreSameIn (here elsewhere : Constants) : Type 0 where
 
 -- the function in which each index lies, which values of its call are addresses that may be used, or by a multiprefix too, and
 -- which constants the last ones are
-module _ (core : List CoreOp) (within : (index : ℕ) → Place) (known : (shared_alone : Bool) (index value : ℕ) → Bool)
+module _ (core : List CoreOp) (within : (index : ℕ) → FunctionKind) (known : (shared_alone : Bool) (index value : ℕ) → Bool)
     (constants : (index : ℕ) → Constants) where
   -- from an index the call goes on at another: what is known there is so behind the change
   pub record Leads (changes : (shared_alone : Bool) → Change) (behind : Constants) (i j : ℕ) : Type 0 where
@@ -69,7 +69,7 @@ module _ (core : List CoreOp) (within : (index : ℕ) → Place) (known : (share
 
 -- knowledge of a list, which has none where `main` begins and at its end
 pub record HasKnowledge (core : List CoreOp) (main : ℕ) : Type 0 where
-  pub within : (index : ℕ) → Place
+  pub within : (index : ℕ) → FunctionKind
   pub known : (shared_alone : Bool) (index value : ℕ) → Bool
   pub constants : (index : ℕ) → Constants
   pub begins : IsBare core within known constants main

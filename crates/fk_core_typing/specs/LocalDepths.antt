@@ -2,7 +2,7 @@
 use Rattle.std.specs.Prelude.{◌≡◌, ℕ, ◌+◌, ◌-◌, ◌≤◌, Bool, true, false, List, [], slice_get, unwrap_or, Some, if◌then◌else◌}
 use Rattle.fk_meaning_operation.specs.declared.operation.Operation.{Operation}
 use Rattle.fk_meaning_operation.specs.declared.operation.Operation.TheVariants as o
-use Rattle.fk_meaning_operation.specs.declared.operation.Split.TheVariants.{AndThen, OrElse}
+use Rattle.fk_meaning_operation.specs.declared.operation.SplitKind.TheVariants.{AndThen, OrElse}
 use Rattle.fk_layout_sizes.specs.Operations.{takes, pushes}
 use Rattle.fk_core.specs.declared.op.CoreOp.{CoreOp}
 use Rattle.fk_core.specs.Numbers.{operation_of}
@@ -21,8 +21,8 @@ needs operation = takes operation
 
 -- and how many it pushes by the way on which it goes on. Those who wait at `&&` and `||` have the value of the whole
 abbrev pub leaves : Operation → (onward : Bool) → ℕ
-leaves (o.Divide AndThen) false = 1
-leaves (o.Divide OrElse) false = 1
+leaves (o.Split AndThen) false = 1
+leaves (o.Split OrElse) false = 1
 leaves operation onward = pushes operation
 
 -- which operations go on in their function

@@ -8,8 +8,8 @@ use Rattle.fk_meaning_operation.specs.declared.operation.Operation.{Operation}
 use Rattle.fk_meaning_operation.specs.declared.operation.Operation.TheVariants.{Leave, Halt}
 use Rattle.fk_layout_sizes.specs.Operations.{takes}
 use Rattle.fk_meaning_forms.specs.Code.{Code, done, perform, choose, while, until, quit, break, continue, call, ends}
-use Rattle.fk_core_liveness.specs.declared.places.Place.{Place}
-use Rattle.fk_core_liveness.specs.declared.places.Place.TheVariants.{Main, Called}
+use Rattle.fk_core_liveness.specs.declared.places.FunctionKind.{FunctionKind}
+use Rattle.fk_core_liveness.specs.declared.places.FunctionKind.TheVariants.{Main, Called}
 use Rattle.fk_core_typing.specs.Values.{State, bare, behind, behind_call, May, Grants}
 
 -- the loop round a place: the state in which it begins, goes on and ends; or there is none
@@ -18,13 +18,13 @@ GrantsLoop None s = ⊥
 GrantsLoop (Some turn) s = Grants s turn
 
 -- `main` halts, and a function that is called leaves with its result or without
-abbrev pub EndsIn : Operation → Place → Type 0
+abbrev pub EndsIn : Operation → FunctionKind → Type 0
 EndsIn (Leave gives framed) place = place ≡ Called gives
 EndsIn Halt place = place ≡ Main
 EndsIn operation place = ⊥
 
 -- whether the function of a binding is `main`, and whether it gives a value
-module _ (place_of : (binding : ℕ) → Place) where
+module _ (place_of : (binding : ℕ) → FunctionKind) where
   -- code that begins in a state, and behind which another one is asked
   abbrev pub Typed : (loop : Option State) → State → Code ℕ → (asked : State) → Type 0
   Typed l s done e = Grants s e

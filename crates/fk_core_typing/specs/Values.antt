@@ -2,12 +2,12 @@
 use Rattle.std.specs.Prelude.{◌≡◌, ℕ, ◌≤◌, Bool, true, false, not, List, [], ◌∷◌, ◌++◌, length, drop, replicate, Option, Some, None, if◌then◌else◌}
 use Rattle.fk_num.specs.Word.{word}
 use Rattle.fk_meaning_operation.specs.declared.operation.Operation.{Operation}
-use Rattle.fk_meaning_operation.specs.declared.operation.Operation.TheVariants.{Push, CopyLast, Join, Check, Read, Write, Combine, Agree}
+use Rattle.fk_meaning_operation.specs.declared.operation.Operation.TheVariants.{Push, CopyLast, Binary, Check, Read, Write, Combine, Agree}
 use Rattle.fk_meaning_store.specs.Serve.{may_use}
 use Rattle.fk_layout_sizes.specs.Operations.{takes}
 use Rattle.fk_core_typing.specs.LocalDepths.{results, needs, leaves}
 use Rattle.fk_sim_block.specs.Suits.{looks_at}
-use Rattle.fk_core_liveness.specs.declared.places.Place.{Place}
+use Rattle.fk_core_liveness.specs.declared.places.FunctionKind.{FunctionKind}
 use Rattle.fk_core_typing.specs.declared.constants.Constants.{Constants}
 use Rattle.fk_core_typing.specs.AddressValues.{no_constants, joined_constant, constants_behind}
 use Rattle.fk_core_typing.specs.LocalAddresses.{AreSameIn}
@@ -40,12 +40,12 @@ checked false v = Usable
 -- a place in code: in `main`, or in a function that is called; the values of the running call, the last one first; and the
 -- constants that the two last ones are, where they are known
 pub record State : Type 0 where
-  pub place : Place
+  pub place : FunctionKind
   pub values : List Value
   pub constants : Constants
 
 -- where a function begins: there are no values
-abbrev pub bare : Place → State
+abbrev pub bare : FunctionKind → State
 bare place = record { place = place; values = []; constants = no_constants }
 
 -- so many values are taken, and so many pushed of which nothing is known
@@ -58,7 +58,7 @@ values_behind (Push n) onward known vs = of_number (word n) ∷ vs
 values_behind CopyLast onward known (v ∷ vs) = v ∷ v ∷ vs
 values_behind (Check shared_alone) onward known (v ∷ vs) = checked shared_alone v ∷ vs
 values_behind Agree onward known (v ∷ vs) = Unknown ∷ vs
-values_behind (Join sign turned) onward known (b ∷ a ∷ vs) = of_constant (joined_constant sign turned known.second known.last) ∷ vs
+values_behind (Binary sign turned) onward known (b ∷ a ∷ vs) = of_constant (joined_constant sign turned known.second known.last) ∷ vs
 values_behind operation onward known vs = changed (takes operation) (leaves operation onward) vs
 
 abbrev pub behind : Operation → (onward : Bool) → State → State

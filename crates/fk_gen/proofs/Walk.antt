@@ -7,7 +7,7 @@ use Rattle.fk_image.specs.declared.Image.{Image}
 use Rattle.fk_isa.specs.declared.instruction.Instruction.{Instruction}
 use Rattle.fk_isa.specs.declared.instruction.Instruction.TheVariants.{Lui, Lw, Sw, Addi, Slti, Sltiu, Xori, Ori, Andi, Slli, Srli, Srai, Add, Sub, Sll, Slt, Sltu, Xor, Srl, Sra, Or, And, Mul, Mulh, Mulhsu, Mulhu, Div, Divu, Rem, Remu}
 use Rattle.fk_machine.specs.declared.place.Device.TheVariants.{HartId, Harts, Inputs}
-use Rattle.fk_machine.specs.declared.place.Place.TheVariants.{DeviceWord}
+use Rattle.fk_machine.specs.declared.place.Location.TheVariants.{DeviceWord}
 use Rattle.fk_machine.specs.Place.{place_of, device_at}
 use Rattle.fk_machine.specs.Hart.{Hart, Shared, Setting, Goes}
 use Rattle.fk_machine.specs.Step.{perform}

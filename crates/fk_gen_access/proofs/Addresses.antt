@@ -2,7 +2,7 @@
 use Rattle.std.proofs.Common.{◌≡◌, ℕ, ◌+◌, ◌*◌, ◌%◌, ◌^◌, ◌<◌, ◌≤◌, Bool, true, false, refl, arith, ◌⊎◌, inl, inr}
 use Rattle.std.specs.Prelude.{not, ◌&&◌}
 use Rattle.std.proofs.lemmas.Bool.{and_parts, and_from, or_cases, or_left, or_right, eqb-true, eq-eqb, leb-true, ltb-true, le-leb, lt-ltb, false_from_ne_true}
-use Rattle.fk_machine.specs.declared.place.Place.TheVariants.{SharedWord, LocalWord}
+use Rattle.fk_machine.specs.declared.place.Location.TheVariants.{SharedWord, LocalWord}
 use Rattle.fk_machine.specs.Place.{place_of}
 use Rattle.fk_machine.proofs.Places.{place_of-shared, place_of-local}
 use Rattle.fk_meaning_store.specs.Serve.{is_in, is_shared, is_private, may_use, shared_index, private_index}

@@ -7,7 +7,7 @@ use Rattle.fk_num.specs.Word.{Memory, put, word_sum}
 use Rattle.fk_num.specs.Op.{applied}
 use Rattle.fk_isa.specs.declared.instruction.Instruction.TheVariants.{Lw}
 use Rattle.fk_isa.specs.Atomic.{combined}
-use Rattle.fk_machine.specs.declared.place.Place.TheVariants.{SharedWord}
+use Rattle.fk_machine.specs.declared.place.Location.TheVariants.{SharedWord}
 use Rattle.fk_machine.specs.Place.{place_of}
 use Rattle.fk_machine.specs.Hart.{Hart, Shared, Goes, Setting}
 use Rattle.fk_machine.specs.Reach.{cleared}

@@ -8,7 +8,7 @@ use Rattle.fk_core.specs.declared.op.CoreOp.{CoreOp}
 use Rattle.fk_image.specs.declared.Image.{Image}
 use Rattle.fk_isa.specs.declared.instruction.Instruction.TheVariants.{Sw}
 use Rattle.fk_machine.specs.declared.place.Device.TheVariants.{OutChar}
-use Rattle.fk_machine.specs.declared.place.Place.TheVariants.{DeviceWord}
+use Rattle.fk_machine.specs.declared.place.Location.TheVariants.{DeviceWord}
 use Rattle.fk_machine.specs.Place.{place_of, device_at}
 use Rattle.fk_machine.specs.Hart.{Hart, Shared, Goes, Setting as MachineSetting}
 use Rattle.fk_machine.specs.Step.{perform}

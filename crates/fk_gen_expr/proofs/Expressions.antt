@@ -6,10 +6,10 @@ use Rattle.std.proofs.lemmas.Bool.{eqb-true, eq-eqb}
 use Rattle.fk_num.specs.Word.{put, word, word_sum}
 use Rattle.fk_num.specs.Op.{applied}
 use Rattle.fk_num.specs.declared.operator.Op.{Op}
-use Rattle.fk_meaning_operation.specs.declared.operation.Known.{Known}
-use Rattle.fk_meaning_operation.specs.declared.operation.Known.TheVariants.{Value, Rank, GroupNumber, ProcessorNumber, Processors, GroupSize, InputLength, FrameAddress, InputAddress}
+use Rattle.fk_meaning_operation.specs.declared.operation.OwnValue.{OwnValue}
+use Rattle.fk_meaning_operation.specs.declared.operation.OwnValue.TheVariants.{Value, Rank, GroupNumber, ProcessorNumber, Processors, GroupSize, InputLength, FrameAddress, InputAddress}
 use Rattle.fk_meaning_operation.specs.declared.operation.Operation.{Operation}
-use Rattle.fk_meaning_operation.specs.declared.operation.Operation.TheVariants.{Push, Get, Set, DropLast, CopyLast, Apply, Join, Index}
+use Rattle.fk_meaning_operation.specs.declared.operation.Operation.TheVariants.{Push, Get, Set, DropLast, CopyLast, Apply, Binary, Index}
 use Rattle.fk_meaning_operation.specs.declared.operation.Unary.{Unary}
 use Rattle.fk_meaning_operation.specs.declared.operation.Variable.{Variable}
 use Rattle.fk_meaning_operation.specs.declared.operation.Variable.TheVariants.{Private, OfFile}
@@ -201,7 +201,7 @@ module _ (core : List CoreOp) (image : Image) (places : Places) (bound : ℕ →
       (here.fits.goes_on true) (room_for_one here.fits.place) (omega arith) (omega arith) (omega arith)
 
   -- what code leaves in a register of what is known
-  get_with : (known : Known) (code : Quiets) (register v : ℕ) → Here (Get known)
+  get_with : (known : OwnValue) (code : Quiets) (register v : ℕ) → Here (Get known)
       → first_commits (instructions_of (code ++ (store_value register (d + 1), LocalAt (frame_end n - (d + 1))) ∷ [])) ≡ expression_block globals d (Get known)
       → length code ≤ 20
       → local setting (Get known) p.runner.has ≡ with_values p.runner.has (v ∷ vs)
@@ -226,7 +226,7 @@ module _ (core : List CoreOp) (image : Image) (places : Places) (bound : ℕ →
     result = e;
   }
 
-  get_does : (known : Known) → Here (Get known) → IsDone (Get known)
+  get_does : (known : OwnValue) → Here (Get known) → IsDone (Get known)
   get_does (Value (Private w)) here =
       let stands = here.enters.at.stands in
       let is = here.is in
@@ -292,19 +292,19 @@ module _ (core : List CoreOp) (image : Image) (places : Places) (bound : ℕ →
       (sign_gives told sign (after told load.0 load.1 h) (last vs) here.enters.at.stands.nought (top_at (Apply sign) here is.0)))
       (here.fits.goes_on true) here.fits.room (omega arith) (omega arith) (omega arith)
 
-  join_with : (sign : Op) (turned : Bool) (first second : Instruction × Reached) (a b : ℕ) → Here (Join sign turned)
-      → first_commits (first.0 ∷ second.0 ∷ (operator_code sign ++ store_value 5 (d - 1) ∷ [])) ≡ expression_block globals d (Join sign turned)
+  join_with : (sign : Op) (turned : Bool) (first second : Instruction × Reached) (a b : ℕ) → Here (Binary sign turned)
+      → first_commits (first.0 ∷ second.0 ∷ (operator_code sign ++ store_value 5 (d - 1) ∷ [])) ≡ expression_block globals d (Binary sign turned)
       → CanWalk told (first ∷ second ∷ []) h → HasSame h (walk told (first ∷ second ∷ []) h)
       → (walk told (first ∷ second ∷ []) h).local ≡ h.local
       → HasOperands (walk told (first ∷ second ∷ []) h) a b
       → in_order turned (applied sign) (last (before 1 vs)) (last vs) ≡ applied sign a b
-      → IsDone (Join sign turned)
+      → IsDone (Binary sign turned)
   join_with sign turned first second a b here same can unchanged locals operands order =
       let depth = here.enters.ready.depth in
       let is = here.is in
       let short = few_of_operator sign in
       let count = length-on_registers (operator_code sign) in
-      value_does (Join sign turned) (first ∷ second ∷ on_registers (operator_code sign)) 5 2 (d - 1) (applied sign a b) here
+      value_does (Binary sign turned) (first ∷ second ∷ on_registers (operator_code sign)) 5 2 (d - 1) (applied sign a b) here
       (ap (λ rest. first_commits (first.0 ∷ second.0 ∷ rest)) (instructions_of-append (operator_code sign) _) ∙ same)
       (omega arith)
       record { kind = refl; onward = refl }
@@ -313,16 +313,16 @@ module _ (core : List CoreOp) (image : Image) (places : Places) (bound : ℕ →
       (operator_gives told sign (walk told (first ∷ second ∷ []) h) a b operands))
       (here.fits.goes_on true) (less_room places i d (d - 1) (omega arith) here.fits.room) (omega arith) (omega arith) (omega arith)
 
-  join_does : (sign : Op) (turned : Bool) → Here (Join sign turned) → IsDone (Join sign turned)
+  join_does : (sign : Op) (turned : Bool) → Here (Binary sign turned) → IsDone (Binary sign turned)
   join_does sign false here =
       let is = here.is in
       let words = here.enters.ready.in_range.values in
       let first : Instruction × Reached = (load_value 5 (d - 1), LocalAt (frame_end n - (d - 1))) in
       let second : Instruction × Reached = (load_value 6 d, LocalAt (frame_end n - d)) in
-      let a = second_at (Join sign false) here is.0 in
-      let b = top_at (Join sign false) here (omega arith) in
+      let a = second_at (Binary sign false) here is.0 in
+      let b = top_at (Binary sign false) here (omega arith) in
       join_with sign false first second (last (before 1 vs)) (last vs) here refl
-      (reaches (Join sign false) (d - 1) here (omega arith) (omega arith), (reaches (Join sign false) d here (omega arith) is.1, tt))
+      (reaches (Binary sign false) (d - 1) here (omega arith) (omega arith), (reaches (Binary sign false) d here (omega arith) is.1, tt))
       (itself h) refl
       record {
         nought = here.enters.at.stands.nought;
@@ -337,10 +337,10 @@ module _ (core : List CoreOp) (image : Image) (places : Places) (bound : ℕ →
       let words = here.enters.ready.in_range.values in
       let first : Instruction × Reached = (load_value 6 (d - 1), LocalAt (frame_end n - (d - 1))) in
       let second : Instruction × Reached = (load_value 5 d, LocalAt (frame_end n - d)) in
-      let a = second_at (Join sign true) here is.0 in
-      let b = top_at (Join sign true) here (omega arith) in
+      let a = second_at (Binary sign true) here is.0 in
+      let b = top_at (Binary sign true) here (omega arith) in
       join_with sign true first second (last vs) (last (before 1 vs)) here refl
-      (reaches (Join sign true) (d - 1) here (omega arith) (omega arith), (reaches (Join sign true) d here (omega arith) is.1, tt))
+      (reaches (Binary sign true) (d - 1) here (omega arith) (omega arith), (reaches (Binary sign true) d here (omega arith) is.1, tt))
       (itself h) refl
       record {
         nought = here.enters.at.stands.nought;
@@ -466,7 +466,7 @@ module _ (core : List CoreOp) (image : Image) (places : Places) (bound : ℕ →
   block_does DropLast here = drop_does here
   block_does CopyLast here = copy_does here
   block_does (Apply sign) here = apply_does sign here
-  block_does (Join sign turned) here = join_does sign turned here
+  block_does (Binary sign turned) here = join_does sign turned here
   block_does (Index size) here = index_does size here
   block_does operation here = let is = here.is in absurd (assumption is)
 

@@ -3,9 +3,9 @@ use Rattle.std.proofs.Common.{◌≡◌, ℕ, ◌+◌, ◌-◌, ◌≤◌, List,
 use Rattle.std.specs.Prelude.{◌==◌}
 use Rattle.std.proofs.lemmas.List.{length-append, length-map}
 use Rattle.std.proofs.lemmas.List.Elements.{All-nil, All-cons}
-use Rattle.fk_meaning_operation.specs.declared.operation.Known.TheVariants.{Value, Rank, GroupNumber, ProcessorNumber, Processors, GroupSize, InputLength, FrameAddress, InputAddress}
+use Rattle.fk_meaning_operation.specs.declared.operation.OwnValue.TheVariants.{Value, Rank, GroupNumber, ProcessorNumber, Processors, GroupSize, InputLength, FrameAddress, InputAddress}
 use Rattle.fk_meaning_operation.specs.declared.operation.Operation.{Operation}
-use Rattle.fk_meaning_operation.specs.declared.operation.Operation.TheVariants.{Push, Get, Set, DropLast, CopyLast, Apply, Join, Index}
+use Rattle.fk_meaning_operation.specs.declared.operation.Operation.TheVariants.{Push, Get, Set, DropLast, CopyLast, Apply, Binary, Index}
 use Rattle.fk_meaning_store.specs.Store.{address_of}
 use Rattle.fk_isa.specs.declared.instruction.Instruction.{Instruction}
 use Rattle.fk_isa.specs.declared.instruction.Instruction.TheVariants.{Add}
@@ -67,7 +67,7 @@ block_short globals d (Set variable) is = record { some = omega arith; few = ome
 block_short globals d DropLast is = record { some = omega arith; few = omega arith }
 block_short globals d CopyLast is = record { some = omega arith; few = omega arith }
 block_short globals d (Apply sign) is = record { some = omega arith; few = omega arith }
-block_short globals d (Join sign false) is = joined_few (operator_code sign) (load_value t0 (d - 1)) (load_value t1 d) (store_value t0 (d - 1)) (omega arith) (few_of_operator sign)
-block_short globals d (Join sign true) is = joined_few (operator_code sign) (load_value t1 (d - 1)) (load_value t0 d) (store_value t0 (d - 1)) (omega arith) (few_of_operator sign)
+block_short globals d (Binary sign false) is = joined_few (operator_code sign) (load_value t0 (d - 1)) (load_value t1 d) (store_value t0 (d - 1)) (omega arith) (few_of_operator sign)
+block_short globals d (Binary sign true) is = joined_few (operator_code sign) (load_value t1 (d - 1)) (load_value t0 d) (store_value t0 (d - 1)) (omega arith) (few_of_operator sign)
 block_short globals d (Index size) is = index_short (size == 4) size (load_value t0 (d - 1)) (load_value t1 d) (Add t0 t0 t1) (store_value t0 (d - 1))
 block_short globals d operation is = absurd (assumption is)

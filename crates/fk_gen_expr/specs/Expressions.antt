@@ -4,10 +4,10 @@
 use Rattle.std.specs.Prelude.{ℕ, ◌+◌, ◌-◌, ◌^◌, ◌<◌, ◌≤◌, ◌==◌, List, [], ◌∷◌, ◌++◌, map, Bool, true, false, IsSomeAnd}
 use Rattle.std.specs.Option.{option_map_or}
 use Rattle.fk_num.specs.declared.operator.Op.{Op}
-use Rattle.fk_meaning_operation.specs.declared.operation.Known.{Known}
-use Rattle.fk_meaning_operation.specs.declared.operation.Known.TheVariants.{Value, Rank, GroupNumber, ProcessorNumber, Processors, GroupSize, InputLength, FrameAddress, InputAddress}
+use Rattle.fk_meaning_operation.specs.declared.operation.OwnValue.{OwnValue}
+use Rattle.fk_meaning_operation.specs.declared.operation.OwnValue.TheVariants.{Value, Rank, GroupNumber, ProcessorNumber, Processors, GroupSize, InputLength, FrameAddress, InputAddress}
 use Rattle.fk_meaning_operation.specs.declared.operation.Operation.{Operation}
-use Rattle.fk_meaning_operation.specs.declared.operation.Operation.TheVariants.{Push, Get, Set, DropLast, CopyLast, Apply, Join, Index}
+use Rattle.fk_meaning_operation.specs.declared.operation.Operation.TheVariants.{Push, Get, Set, DropLast, CopyLast, Apply, Binary, Index}
 use Rattle.fk_meaning_operation.specs.declared.operation.Variable.{Variable}
 use Rattle.fk_meaning_operation.specs.declared.operation.Variable.TheVariants.{Private, OfFile}
 use Rattle.fk_meaning_store.specs.Store.{address_of}
@@ -54,7 +54,7 @@ push_device d offset = Lw t0 device_register offset ∷ store_value t0 (d + 1) �
 abbrev pub push_number : (depth n : ℕ) → List Instruction
 push_number d n = load_number n ++ store_value t0 (d + 1) ∷ []
 
-abbrev pub get_code : (globals depth : ℕ) → Known → List Instruction
+abbrev pub get_code : (globals depth : ℕ) → OwnValue → List Instruction
 get_code globals d (Value variable) = load_variable variable ∷ store_value t0 (d + 1) ∷ []
 get_code globals d Rank = store_value rank_register (d + 1) ∷ []
 get_code globals d GroupNumber = store_value number_register (d + 1) ∷ []
@@ -86,8 +86,8 @@ expression_code globals d (Set variable) = load_value t0 d ∷ store_variable va
 expression_code globals d DropLast = Addi zero_register zero_register 0 ∷ []
 expression_code globals d CopyLast = load_value t0 d ∷ store_value t0 (d + 1) ∷ []
 expression_code globals d (Apply sign) = load_value t0 d ∷ sign_instruction sign ∷ store_value t0 d ∷ []
-expression_code globals d (Join sign false) = join_code d sign t0 t1
-expression_code globals d (Join sign true) = join_code d sign t1 t0
+expression_code globals d (Binary sign false) = join_code d sign t0 t1
+expression_code globals d (Binary sign true) = join_code d sign t1 t0
 expression_code globals d (Index size) = index_code d size
 expression_code globals d operation = []
 
@@ -104,7 +104,7 @@ expression_block globals d operation = first_commits (expression_code globals d 
 abbrev pub IsReached : Variable → Type 0
 IsReached variable = place_of variable < 64
 
-abbrev pub IsKnown : Known → (globals : ℕ) → Type 0
+abbrev pub IsKnown : OwnValue → (globals : ℕ) → Type 0
 IsKnown (Value variable) globals = IsReached variable
 IsKnown (FrameAddress nesting word) globals = ⊥
 IsKnown InputAddress globals = globals ≤ 2 ^ 20
@@ -118,7 +118,7 @@ IsExpression globals d (Set variable) = (1 ≤ d) × (d ≤ 64) × IsReached var
 IsExpression globals d DropLast = Unit {0}
 IsExpression globals d CopyLast = (1 ≤ d) × (d < 64)
 IsExpression globals d (Apply sign) = (1 ≤ d) × (d ≤ 64)
-IsExpression globals d (Join sign turned) = (2 ≤ d) × (d ≤ 64)
+IsExpression globals d (Binary sign turned) = (2 ≤ d) × (d ≤ 64)
 IsExpression globals d (Index size) = (2 ≤ d) × (d ≤ 64) × (size < 2 ^ 32)
 IsExpression globals d operation = ⊥
 

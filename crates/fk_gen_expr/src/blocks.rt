@@ -13,7 +13,7 @@ use fk_gen::registers::{DEVICES, END, FRAME, LOCAL, NUMBER, RANK, SIZE, T0, T1, 
 use fk_gen::{BlockLine, Placed, emit_lines};
 use fk_isa::Instruction;
 use fk_num::Op;
-use fk_meaning_operation::{Known, Operation, Unary, Variable};
+use fk_meaning_operation::{OwnValue, Operation, Unary, Variable};
 use std::alloc::AllocError;
 
 /// How many bytes a word has.
@@ -69,8 +69,8 @@ fn emit_expression(
             move_word(into, load_value(T0, depth), store_value(T0, depth + 1))
         }
         Operation::Apply(sign) => apply(into, depth, sign),
-        Operation::Join(sign, false) => join(into, depth, sign, T0, T1),
-        Operation::Join(sign, true) => join(into, depth, sign, T1, T0),
+        Operation::Binary(sign, false) => join(into, depth, sign, T0, T1),
+        Operation::Binary(sign, true) => join(into, depth, sign, T1, T0),
         Operation::Index(size) => index(into, depth, size),
         _ => Ok(()),
     }
@@ -100,7 +100,7 @@ fn push_number(into: &mut Assembler, depth: u32, number: u32) -> Result<(), Allo
     }
 }
 
-fn get(into: &mut Assembler, globals: u32, depth: u32, known: Known) -> Result<(), AllocError>
+fn get(into: &mut Assembler, globals: u32, depth: u32, known: OwnValue) -> Result<(), AllocError>
     requires depth { depth < 64 }
     requires known { code.IsKnown known globals }
     requires room { length into.old.lines + length (code.first_commits (code.get_code globals depth known)) < 2 ^ 30 }
@@ -109,17 +109,17 @@ fn get(into: &mut Assembler, globals: u32, depth: u32, known: Known) -> Result<(
     ensures begun { OnErr result (HasBegun (code.first_commits (code.get_code globals depth known)) into.old into.new) }
 {
     match known {
-        Known::Value(variable) => {
+        OwnValue::Value(variable) => {
             move_word(into, load_variable(variable), store_value(T0, depth + 1))
         }
-        Known::Rank => alone(into, store_value(RANK, depth + 1)),
-        Known::GroupNumber => alone(into, store_value(NUMBER, depth + 1)),
-        Known::GroupSize => alone(into, store_value(SIZE, depth + 1)),
-        Known::ProcessorNumber => push_device(into, depth, HART_NUMBER),
-        Known::Processors => push_device(into, depth, HARTS),
-        Known::InputLength => push_device(into, depth, INPUTS),
-        Known::InputAddress => push_number(into, depth, 0x1000_0000 + 4 * globals),
-        Known::FrameAddress(_, _) => Ok(()),
+        OwnValue::Rank => alone(into, store_value(RANK, depth + 1)),
+        OwnValue::GroupNumber => alone(into, store_value(NUMBER, depth + 1)),
+        OwnValue::GroupSize => alone(into, store_value(SIZE, depth + 1)),
+        OwnValue::ProcessorNumber => push_device(into, depth, HART_NUMBER),
+        OwnValue::Processors => push_device(into, depth, HARTS),
+        OwnValue::InputLength => push_device(into, depth, INPUTS),
+        OwnValue::InputAddress => push_number(into, depth, 0x1000_0000 + 4 * globals),
+        OwnValue::FrameAddress(_, _) => Ok(()),
     }
 }
 

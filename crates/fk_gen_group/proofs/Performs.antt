@@ -4,7 +4,7 @@ use Rattle.std.specs.Prelude.{◌==◌, nat_lt, bit_and}
 use Rattle.fk_num.specs.Word.{word_sum}
 use Rattle.fk_isa.specs.declared.instruction.Instruction.TheVariants.{Lw, Andi, Beq, Bne, Bltu}
 use Rattle.fk_machine.specs.declared.place.Device.TheVariants.{Cycle}
-use Rattle.fk_machine.specs.declared.place.Place.TheVariants.{DeviceWord}
+use Rattle.fk_machine.specs.declared.place.Location.TheVariants.{DeviceWord}
 use Rattle.fk_machine.specs.Place.{place_of, device_at}
 use Rattle.fk_machine.specs.Hart.{Hart, Shared, Setting, Goes}
 use Rattle.fk_machine.specs.Step.{perform}

@@ -3,10 +3,10 @@ use Rattle.std.proofs.Common.{◌≡◌, ℕ, ◌+◌, ◌^◌, ◌<◌, ◌≤�
 use Rattle.std.specs.Prelude.{◌==◌, slice_get}
 use Rattle.std.specs.Option.{option_map_or}
 use Rattle.std.proofs.lemmas.Bool.{eqb-true}
-use Rattle.fk_meaning_operation.specs.declared.operation.Known.{Known}
-use Rattle.fk_meaning_operation.specs.declared.operation.Known.TheVariants.{FrameAddress}
+use Rattle.fk_meaning_operation.specs.declared.operation.OwnValue.{OwnValue}
+use Rattle.fk_meaning_operation.specs.declared.operation.OwnValue.TheVariants.{FrameAddress}
 use Rattle.fk_meaning_operation.specs.declared.operation.Operation.{Operation}
-use Rattle.fk_meaning_operation.specs.declared.operation.Operation.TheVariants.{Push, Get, Set, DropLast, CopyLast, Apply, Join, Index, Branch, Leave, Check, Enter, Begin}
+use Rattle.fk_meaning_operation.specs.declared.operation.Operation.TheVariants.{Push, Get, Set, DropLast, CopyLast, Apply, Binary, Index, Branch, Leave, Check, Enter, Begin}
 use Rattle.fk_core.specs.declared.op.CoreOp.{CoreOp}
 use Rattle.fk_core.specs.Next.{is_jump}
 use Rattle.fk_core.specs.Numbers.{operation_of}
@@ -66,7 +66,7 @@ module _ (core : List CoreOp) (frames : Frames) (i : ℕ) (here : Placed) (few :
       few_expression here.globals here.op.depth operation
       (has_expression core frames i here.globals here.op operation read fits few number some alone f a)
 
-  of_known : (known : Known) → operation_of here.op.kind here.op.number ≡ Some (Get known) → Fits core frames i here.op (Get known)
+  of_known : (known : OwnValue) → operation_of here.op.kind here.op.number ≡ Some (Get known) → Fits core frames i here.op (Get known)
       → past_first (expression_block here.globals here.op.depth (Get known)) ≤ most_behind
   of_known (FrameAddress nesting word) read fits = omega arith
   of_known known read fits = of_expression (Get known) read fits refl refl refl
@@ -79,7 +79,7 @@ module _ (core : List CoreOp) (frames : Frames) (i : ℕ) (here : Placed) (few :
   few_behind_of DropLast onward read fits = of_expression DropLast read fits refl refl refl
   few_behind_of CopyLast onward read fits = of_expression CopyLast read fits refl refl refl
   few_behind_of (Apply sign) onward read fits = of_expression (Apply sign) read fits refl refl refl
-  few_behind_of (Join sign turned) onward read fits = of_expression (Join sign turned) read fits refl refl refl
+  few_behind_of (Binary sign turned) onward read fits = of_expression (Binary sign turned) read fits refl refl refl
   few_behind_of (Index size) onward read fits = of_expression (Index size) read fits refl refl refl
   few_behind_of (Branch turned) true read fits = omega arith
   few_behind_of (Branch turned) false read fits = omega arith

@@ -8,8 +8,8 @@ use Rattle.std.proofs.lemmas.List.Elements.{All-nil, All-cons, All-append, All-f
 use Rattle.std.proofs.lemmas.List.Sums.{sum_by-cons}
 use Rattle.fk_num.specs.declared.operator.Op.{Op}
 use Rattle.fk_num.specs.declared.operator.Op.TheVariants as op
-use Rattle.fk_meaning_operation.specs.declared.operation.Known.{Known}
-use Rattle.fk_meaning_operation.specs.declared.operation.Known.TheVariants as known
+use Rattle.fk_meaning_operation.specs.declared.operation.OwnValue.{OwnValue}
+use Rattle.fk_meaning_operation.specs.declared.operation.OwnValue.TheVariants as known
 use Rattle.fk_meaning_operation.specs.declared.operation.Operation.{Operation}
 use Rattle.fk_meaning_operation.specs.declared.operation.Operation.TheVariants as o
 use Rattle.fk_core.specs.declared.op.CoreOp.{CoreOp}
@@ -251,7 +251,7 @@ index_length : (d size : ℕ) (is_word : Bool) (a b c s : Instruction) → lengt
 index_length d size true a b c s = omega arith
 index_length d size false a b c s = omega arith
 
-get_length : (globals d : ℕ) (which : Known) → length (expressions.get_code globals d which) ≤ 15
+get_length : (globals d : ℕ) (which : OwnValue) → length (expressions.get_code globals d which) ≤ 15
 get_length globals d (known.Value variable) = omega arith
 get_length globals d known.Rank = omega arith
 get_length globals d known.GroupNumber = omega arith
@@ -269,8 +269,8 @@ code_length globals d (o.Set variable) = omega arith
 code_length globals d o.DropLast = omega arith
 code_length globals d o.CopyLast = omega arith
 code_length globals d (o.Apply sign) = omega arith
-code_length globals d (o.Join sign false) = join_length d sign t0 t1
-code_length globals d (o.Join sign true) = join_length d sign t1 t0
+code_length globals d (o.Binary sign false) = join_length d sign t0 t1
+code_length globals d (o.Binary sign true) = join_length d sign t1 t0
 code_length globals d (o.Index size) =
     index_length d size (size == 4) (expressions.load_value t0 (d - 1)) (expressions.load_value t1 d) (Add t0 t0 t1) (expressions.store_value t0 (d - 1))
 code_length globals d operation = omega arith

@@ -2,10 +2,10 @@
 use Rattle.std.proofs.Common.{◌≡◌, ℕ, suc, ◌^◌, ◌<◌, ◌≤◌, List, length, Bool, true, false, Option, Some, None, sym, ap, subst, ◌∙◌, arith, refl, ◌⊎◌, inl, inr, if◌then◌else◌}
 use Rattle.std.specs.Prelude.{◌==◌, ◌||◌, IsSomeAnd, option_map}
 use Rattle.std.proofs.lemmas.Bool.{eqb-true}
-use Rattle.fk_meaning_operation.specs.declared.operation.Known.TheVariants.{Value, Rank, GroupNumber, ProcessorNumber, Processors, GroupSize, InputLength, FrameAddress, InputAddress}
+use Rattle.fk_meaning_operation.specs.declared.operation.OwnValue.TheVariants.{Value, Rank, GroupNumber, ProcessorNumber, Processors, GroupSize, InputLength, FrameAddress, InputAddress}
 use Rattle.fk_meaning_operation.specs.declared.operation.Multiprefix.{Multiprefix}
 use Rattle.fk_meaning_operation.specs.declared.operation.Operation.{Operation}
-use Rattle.fk_meaning_operation.specs.declared.operation.Operation.TheVariants.{Push, Get, Set, DropLast, CopyLast, Apply, Join, Index, Branch, Enter, Leave, Combine, Halt, Begin, Agree, Farm, Seq, End, Resume, Meet}
+use Rattle.fk_meaning_operation.specs.declared.operation.Operation.TheVariants.{Push, Get, Set, DropLast, CopyLast, Apply, Binary, Index, Branch, Enter, Leave, Combine, Halt, Begin, Agree, Farm, Seq, End, Resume, Meet}
 use Rattle.fk_meaning_operation.specs.declared.operation.Variable.TheVariants.{Private, OfFile}
 use Rattle.fk_meaning_operation.specs.declared.kinds.Class.{Class}
 use Rattle.fk_meaning_operation.specs.declared.kinds.Class.TheVariants.{Local, Request, Tree}
@@ -100,7 +100,7 @@ has_expression core frames i globals op (Set (OfFile w)) read fits few number so
 has_expression core frames i globals op DropLast read fits few number some alone f a = tt
 has_expression core frames i globals op CopyLast read fits few number some alone f a = (fits.values, one_more frames i op.depth fits.place)
 has_expression core frames i globals op (Apply sign) read fits few number some alone f a = (fits.values, at_most frames i op.depth fits.room)
-has_expression core frames i globals op (Join sign turned) read fits few number some alone f a = (fits.values, at_most frames i op.depth fits.room)
+has_expression core frames i globals op (Binary sign turned) read fits few number some alone f a = (fits.values, at_most frames i op.depth fits.room)
 has_expression core frames i globals op (Index size) read fits few number some alone f a =
     let e = size_is op.kind op.number size read in (fits.values, at_most frames i op.depth fits.room, omega arith)
 has_expression core frames i globals op (Leave gives true) read fits few number some alone f a = never alone

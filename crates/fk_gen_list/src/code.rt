@@ -60,7 +60,7 @@ fn lay(
     ensures laid { IfOk result (IsLaid block_of (opening_lines (length firsts.now) firsts.now main) globals (all_placed globals kept.now ops.now)) }
     ensures followed { IfOk result AreFollowed }
 {
-    let mut into = Assembler::make(alloc);
+    let mut into = Assembler::new(alloc);
     make_labels(&mut into, FIRST_LABEL + ops.len() as u32)?;
     emit_opening(&mut into, firsts, main)?;
     emit_copying(&mut into)?;

@@ -5,7 +5,7 @@ use Rattle.fk_meaning_forms.specs.Code.{done, perform, choose, while, until, tur
 use Rattle.fk_meaning_forms.specs.Expressions.{Coded, Signature}
 use Rattle.fk_meaning_forms.specs.Program.{sites_in}
 use Rattle.fk_meaning_forms.proofs.Ranks.{counted}
-use Rattle.fk_layout_walk.specs.declared.known.Known.{Known}
+use Rattle.fk_layout_walk.specs.declared.known.ProgramTables.{ProgramTables}
 use Rattle.fk_layout_walk.specs.declared.tally.Tally.{Tally}
 use Rattle.fk_layout_walk.specs.Known.{tables_of, functions_of}
 use Rattle.fk_layout_walk.specs.Tally.{tally_after, no_mark}
@@ -89,7 +89,7 @@ module _ (functions : (binding : ℕ) → Signature) where
   is_counted (call t op f opening rest) tally h = one_two opening rest (is_counted opening) (is_counted rest) tally
   is_counted (ends t op rest) tally h = one rest (is_counted rest) tally
 
-functions_counted : (known : Known) (fs : List FunctionTree) (tally : Tally) → tally.count ≤ 2 ^ 64 - 1
+functions_counted : (known : ProgramTables) (fs : List FunctionTree) (tally : Tally) → tally.count ≤ 2 ^ 64 - 1
     → Adds tally.count (length (sites_in (tables_of known) (functions_in known) fs)) (through_all tally_after no_mark known tally fs).count
 functions_counted known [] tally h = nothing tally.count h
 functions_counted known (f ∷ fs) tally h =
@@ -101,7 +101,7 @@ functions_counted known (f ∷ fs) tally h =
     both tally.count s.count (through_all tally_after no_mark known s fs).count (size code) (length others) (length (sites code ++ others)) all first
     (functions_counted known fs s (within tally.count (size code) s.count first))
 
-pub text_counted : (known : Known) → (through_all tally_after no_mark known (record { count = 0 }) (functions_in known)).count ≡ min (length (sites_of_text known)) (2 ^ 64 - 1)
+pub text_counted : (known : ProgramTables) → (through_all tally_after no_mark known (record { count = 0 }) (functions_in known)).count ≡ min (length (sites_of_text known)) (2 ^ 64 - 1)
 text_counted known =
     functions_counted known (functions_in known) (record { count = 0 }) (omega arith)
     ∙ ap (λ (n : ℕ). min n (2 ^ 64 - 1)) (zero-add (length (sites_of_text known)))

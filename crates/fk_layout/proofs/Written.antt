@@ -11,7 +11,7 @@ use Rattle.fk_meaning_forms.specs.Expressions.{Coded, Signature}
 use Rattle.fk_meaning_forms.specs.Program.{sites_in}
 use Rattle.fk_meaning_forms.proofs.Ranks.{counted}
 use Rattle.fk_syntax.specs.Program.{FunctionTree}
-use Rattle.fk_layout_walk.specs.declared.known.Known.{Known}
+use Rattle.fk_layout_walk.specs.declared.known.ProgramTables.{ProgramTables}
 use Rattle.fk_layout_walk.specs.declared.visitor.Event.TheVariants.{Perform}
 use Rattle.fk_layout_walk.specs.Known.{tables_of, functions_of}
 use Rattle.fk_layout_walk_statements.specs.Texts.{functions_in, code_in, sites_of_text, through_all}
@@ -145,7 +145,7 @@ module _ (functions : (binding : ℕ) → Signature) where
       (two opening rest (is_listed opening) (is_listed rest) m (omega (arith, g, r, h)))
   is_listed (ends t op rest) l h = after_one op t rest (is_listed rest) l h
 
-functions_listed : (known : Known) (fs : List FunctionTree) (l : Listing)
+functions_listed : (known : ProgramTables) (fs : List FunctionTree) (l : Listing)
     → l.filled + length (sites_in (tables_of known) (functions_in known) fs) ≤ length l.sites.items
     → Adds l (sites_in (tables_of known) (functions_in known) fs) (length (sites_in (tables_of known) (functions_in known) fs))
     (through_all listing_after no_mark known l fs)
@@ -165,7 +165,7 @@ functions_listed known (f ∷ fs) l h =
     subst (λ (k : ℕ). Adds l (sites code ++ others) k (through_all listing_after no_mark known s fs)) e z
 
 -- with room for just these, they are all that is written
-pub text_listed : (known : Known) (l : Listing) → l.filled ≡ 0 → length l.sites.items ≡ length (sites_of_text known)
+pub text_listed : (known : ProgramTables) (l : Listing) → l.filled ≡ 0 → length l.sites.items ≡ length (sites_of_text known)
     → (through_all listing_after no_mark known l (functions_in known)).sites.items ≡ map site (sites_of_text known)
 text_listed known l e r =
     let t = through_all listing_after no_mark known l (functions_in known) in

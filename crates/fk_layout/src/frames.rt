@@ -18,7 +18,7 @@ use fk_meaning_forms::FrameSize;
 use fk_layout_sizes::extent_of;
 use fk_layout_slots::Own;
 use fk_syntax::{Declared, Function, Item};
-use fk_layout_walk::Known;
+use fk_layout_walk::ProgramTables;
 use std::alloc::{AllocError, Global};
 
 /// How many words a private frame may have.
@@ -103,7 +103,7 @@ fn functions_in<'p, 'a>(
 
 // How many private places a function has, where the file has so many. Above 2^64 - 1 it is that
 // number.
-fn privates_of(known: &Known, file: u64, own: Own, function: &Function) -> u64
+fn privates_of(known: &ProgramTables, file: u64, own: Own, function: &Function) -> u64
     requires file { file ≡ min (file_privates (items_in known.now)) (2 ^ 64 - 1) }
     requires own { own ≡ own_of (told_in (tables_of known.now)) (function_of function.now) }
     ensures { result ≡ min (f.privates_of (tables_of known.now) (items_in known.now)
@@ -118,7 +118,7 @@ fn privates_of(known: &Known, file: u64, own: Own, function: &Function) -> u64
 }
 
 // How many words the private frame of a function has. Above 2^64 - 1 it is that number.
-fn private_words(known: &Known, file: u64, own: Own, function: &Function) -> u64
+fn private_words(known: &ProgramTables, file: u64, own: Own, function: &Function) -> u64
     requires sound { IsSound known.now }
     requires file { file ≡ min (file_privates (items_in known.now)) (2 ^ 64 - 1) }
     requires own { own ≡ own_of (told_in (tables_of known.now)) (function_of function.now) }
@@ -137,7 +137,7 @@ fn private_words(known: &Known, file: u64, own: Own, function: &Function) -> u64
 
 // The frame of a function, or that it is too large.
 fn frame_of(
-    known: &Known,
+    known: &ProgramTables,
     file: u64,
     own: Own,
     function: &Function,
@@ -171,7 +171,7 @@ fn frame_of(
 /// first one that is too large. It takes time and memory linear in the text.
 pub(crate) fn fitting_frames(
     alloc: Global,
-    known: &Known,
+    known: &ProgramTables,
     owns: &[Own],
 ) -> Result<Vec<FrameSize>, LayoutFault>
     requires sound { IsSound known.now }

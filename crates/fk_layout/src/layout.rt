@@ -16,7 +16,7 @@ use fk_layout_globals::{GlobalRow, Globals, GlobalsFault, lay_globals};
 use fk_layout_lookup::Lookup;
 use fk_layout_slots::{Own, Slots, slots};
 use fk_syntax::{Facts, Program};
-use fk_layout_walk::Known;
+use fk_layout_walk::ProgramTables;
 use std::alloc::Global;
 
 /// Where all that a program has lies.
@@ -75,12 +75,12 @@ fn globals_of<'a>(
 }
 
 // What is known of a program of which nothing is looked up yet.
-fn known_of<'p, 'a>(program: &'p Program<'a>, facts: &'p Facts, places: &'p Slots) -> Known<'p, 'a>
+fn known_of<'p, 'a>(program: &'p Program<'a>, facts: &'p Facts, places: &'p Slots) -> ProgramTables<'p, 'a>
     requires { ArePlaces (program_of program.now) facts.now places.now }
     ensures tables { tables_of result ≡ tables_by (program_of program.now) facts.now }
     ensures items { items_in result ≡ (program_of program.now).items }
 {
-    Known {
+    ProgramTables {
         notes: &facts.notes,
         kinds: &facts.kinds,
         slots: &places.slots,
@@ -92,7 +92,7 @@ fn known_of<'p, 'a>(program: &'p Program<'a>, facts: &'p Facts, places: &'p Slot
 }
 
 // The operations and frames of a text of which nothing is looked up yet.
-fn sizes_in(alloc: Global, known: Known, owns: &[Own]) -> Result<Sizes, LayoutFault>
+fn sizes_in(alloc: Global, known: ProgramTables, owns: &[Own]) -> Result<Sizes, LayoutFault>
     requires { owns.now ≡ owns_of (told_in (tables_of known)) (items_in known) }
     ensures sizes { IfOk result (AreSizes (tables_of known.entry) (items_in known.entry)) }
     ensures refused { IfErr result (IsRefusal (tables_of known.entry) (items_in known.entry)) }

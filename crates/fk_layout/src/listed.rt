@@ -8,7 +8,7 @@ ghost use Rattle.fk_layout.specs.Refusal.{HasTooMany};
 
 use crate::sites::{LayoutFault, fitting_sites};
 use fk_syntax::Place;
-use fk_layout_walk::{Event, Known, Mark, NOWHERE, Visitor};
+use fk_layout_walk::{Event, ProgramTables, Mark, NOWHERE, Visitor};
 use fk_layout_walk_statements::text;
 use std::alloc::Global;
 
@@ -67,7 +67,7 @@ impl Visitor for Listing {
 /// # Errors
 /// `TooManySites` where there are more than 16,000, with their number; `Memory` where there is no
 /// memory.
-pub fn all_sites(alloc: Global, known: &Known) -> Result<Vec<Site>, LayoutFault>
+pub fn all_sites(alloc: Global, known: &ProgramTables) -> Result<Vec<Site>, LayoutFault>
     requires { IsSound known.now }
     ensures listed { IfOk result (λ sites. sites.items ≡ map site (sites_of_text known.now)) }
     ensures few { IfOk result (λ sites. length sites.items ≤ 16000) }

@@ -5,7 +5,7 @@ ghost use Rattle.fk_layout_walk.specs.Known.{IsSound};
 ghost use Rattle.fk_layout_walk_statements.specs.Texts.{sites_of_text};
 
 use fk_syntax::Place;
-use fk_layout_walk::{Known, Tally};
+use fk_layout_walk::{ProgramTables, Tally};
 use fk_layout_walk_statements::text;
 use std::alloc::AllocError;
 
@@ -37,7 +37,7 @@ pub(crate) fn out_of_memory(_refused: AllocError) -> LayoutFault
 
 /// How many operations a text has. Above 2^64 - 1 it is that number. It takes no memory, and time
 /// linear in the text.
-pub fn count_sites(known: &Known) -> u64
+pub fn count_sites(known: &ProgramTables) -> u64
     requires { IsSound known.now }
     ensures { result ≡ min (length (sites_of_text known.now)) (2 ^ 64 - 1) }
 {
@@ -47,7 +47,7 @@ pub fn count_sites(known: &Known) -> u64
 }
 
 /// How many operations a text has, where an image can name them all; else that there are too many.
-pub fn fitting_sites(known: &Known) -> Result<u32, LayoutFault>
+pub fn fitting_sites(known: &ProgramTables) -> Result<u32, LayoutFault>
     requires { IsSound known.now }
     ensures fits { IfOk result (λ count. count ≡ length (sites_of_text known.now)) }
     ensures few { IfOk result (λ count. count ≤ 16000) }

@@ -13,7 +13,7 @@ use Rattle.fk_meaning_forms.specs.declared.signs.Move.{Move}
 use Rattle.fk_meaning_forms.specs.declared.signs.Move.TheVariants.{Forth, Back, NoMove}
 use Rattle.fk_meaning_operation.specs.declared.operation.Operation.TheVariants as o
 use Rattle.fk_meaning_operation.specs.declared.operation.Unary.TheVariants as u
-use Rattle.fk_meaning_operation.specs.declared.operation.Split.TheVariants.{IfElse, AndThen, OrElse}
+use Rattle.fk_meaning_operation.specs.declared.operation.SplitKind.TheVariants.{IfElse, AndThen, OrElse}
 use Rattle.fk_syntax.specs.declared.facts.Note.{Note}
 use Rattle.fk_meaning_forms.specs.Code.{done, choose}
 use Rattle.fk_meaning_forms.specs.Tables.{Tables, note, kind_at, is_unsigned, is_void}
@@ -113,13 +113,13 @@ module _ (tables : Tables) (functions : (binding : ℕ) → Signature) (set : Se
       ∙ by-step set ((kind_at tables left).step == 0) (move_of sign) (kind_at tables left).step sign unsigned a b p (k OnList)
 
   truth-leaves : (f : Stands) (b : ℕ) → Leaves f b → (p : Processor) → behind set (truth tables functions f done) p ≡ push (from_bool (not (b == 0))) p
-  truth-leaves f b y p = as-value f b y (plain (o.Push 0) (plain (o.Join n.Ne false) done)) p
+  truth-leaves f b y p = as-value f b y (plain (o.Push 0) (plain (o.Binary n.Ne false) done)) p
 
   and-leaves : (spot : Spot) (e : Stands) (a : ℕ) (f : Stands) (b : ℕ) → IsWhole tables spot.at → Leaves e a → Leaves f b
       → Leaves (logical tables functions spot AndThen true 0 e f) (if a == 0 then 0 else from_bool (not (b == 0)))
   and-leaves spot e a f b whole x y k p =
       let here : Note = note tables spot.at in
-      let aside : Coded = choose spot.place (o.Divide AndThen) (truth tables functions f (plain o.End done)) done (plain o.Resume (k OnList)) in
+      let aside : Coded = choose spot.place (o.Split AndThen) (truth tables functions f (plain o.End done)) done (plain o.Resume (k OnList)) in
       let onward : Coded = choose nowhere (o.Branch true) (truth tables functions f done) (plain (o.Push 0) done) (k OnList) in
       as-value e a x (if here.splits then aside else agreed here.sync onward) p
       ∙ goes-on set here.splits here.sync whole aside onward (push a p)
@@ -129,7 +129,7 @@ module _ (tables : Tables) (functions : (binding : ℕ) → Signature) (set : Se
       → Leaves (logical tables functions spot OrElse false 1 e f) (if a == 0 then from_bool (not (b == 0)) else 1)
   or-leaves spot e a f b whole x y k p =
       let here : Note = note tables spot.at in
-      let aside : Coded = choose spot.place (o.Divide OrElse) (truth tables functions f (plain o.End done)) done (plain o.Resume (k OnList)) in
+      let aside : Coded = choose spot.place (o.Split OrElse) (truth tables functions f (plain o.End done)) done (plain o.Resume (k OnList)) in
       let onward : Coded = choose nowhere (o.Branch false) (truth tables functions f done) (plain (o.Push 1) done) (k OnList) in
       as-value e a x (if here.splits then aside else agreed here.sync onward) p
       ∙ goes-on set here.splits here.sync whole aside onward (push a p)
@@ -139,7 +139,7 @@ module _ (tables : Tables) (functions : (binding : ℕ) → Signature) (set : Se
       → Leaves (chosen tables functions spot e f g) (if a == 0 then d else b)
   chosen-leaves spot e a f b g d whole x y z k p =
       let here : Note = note tables spot.at in
-      let aside : Coded = choose spot.place (o.Divide IfElse) (value_of tables functions f (plain o.End done)) (value_of tables functions g (plain o.End done)) (plain o.Resume (k OnList)) in
+      let aside : Coded = choose spot.place (o.Split IfElse) (value_of tables functions f (plain o.End done)) (value_of tables functions g (plain o.End done)) (plain o.Resume (k OnList)) in
       let onward : Coded = choose nowhere (o.Branch true) (value_of tables functions f done) (value_of tables functions g done) (k OnList) in
       as-value e a x (if here.splits then aside else agreed here.sync onward) p
       ∙ goes-on set here.splits here.sync whole aside onward (push a p)

@@ -32,7 +32,7 @@ behind_sign sign v = 0
 
 -- an operator on two words, on these turned round where it says so
 abbrev pub joined : Operation → (a b : ℕ) → ℕ
-joined (o.Join op turned) a b = if turned then applied op b a else applied op a b
+joined (o.Binary op turned) a b = if turned then applied op b a else applied op a b
 joined operation a b = 0
 
 -- a pointer so many steps forth or back, by another sign as two words

@@ -95,8 +95,8 @@ fn join(operation: Operation, a: u32, b: u32) -> u32
     ensures { result ≡ c.joined operation a b }
 {
     match operation {
-        Operation::Join(op, true) => apply(op, b, a),
-        Operation::Join(op, false) => apply(op, a, b),
+        Operation::Binary(op, true) => apply(op, b, a),
+        Operation::Binary(op, false) => apply(op, a, b),
         _ => 0,
     }
 }

@@ -5,7 +5,7 @@ use Rattle.fk_syntax.specs.Program.{Statements, ItemTree, FunctionItem}
 use Rattle.fk_meaning_forms.specs.declared.tables.Region.{Region}
 use Rattle.fk_meaning_forms.specs.Tables.{Tables, frame_in}
 use Rattle.fk_meaning_forms.specs.Program.{functions_of, binding_of, signature_in}
-use Rattle.fk_layout_walk.specs.declared.known.Known.{Known}
+use Rattle.fk_layout_walk.specs.declared.known.ProgramTables.{ProgramTables}
 use Rattle.fk_layout_walk.specs.declared.known.Framed.{Framed}
 use Rattle.fk_layout_walk.specs.Known.{tables_of, items_in, signature_at, called, framed_in, part_of}
 use Rattle.fk_layout_lookup.specs.declared.lookup.Lookup.{Lookup}
@@ -26,7 +26,7 @@ TellsFrames tables regions framed =
     (at : ℕ) (second : Bool) → frame_in tables regions at (part_of second) ≡ framed_in (slice_get framed at) second
 
 -- all of a text
-pub record Tells (known : Known) (lookup : Lookup) : Type 0 where
+pub record Tells (known : ProgramTables) (lookup : Lookup) : Type 0 where
   pub callees : TellsCallees (tables_of known) (items_in known) (items_in known) lookup.callees.items
   pub frames : TellsFrames (tables_of known) known.regions.now lookup.framed.items
 

@@ -8,7 +8,7 @@ ghost use Rattle.fk_layout_lookup.specs.Lookup.{Tells, TellsCallees, TellsFrames
 
 use fk_meaning_forms::Region;
 use fk_syntax::Item;
-use fk_layout_walk::{Framed, Known};
+use fk_layout_walk::{Framed, ProgramTables};
 use std::alloc::{AllocError, Global};
 
 const UNFRAMED: Framed = Framed {
@@ -27,7 +27,7 @@ impl Lookup {
     /// What there is to find in a text, by its items and tables alone. It takes time and memory
     /// linear in these, in the greatest binding of a function, and in the last token that has a
     /// group frame. Fails only for want of memory.
-    pub fn of(alloc: Global, known: &Known) -> Result<Lookup, AllocError>
+    pub fn of(alloc: Global, known: &ProgramTables) -> Result<Lookup, AllocError>
         ensures { IfOk result (λ lookup. Tells known.now lookup) }
     {
         Ok(Lookup {
@@ -37,13 +37,13 @@ impl Lookup {
     }
 
     /// What is known of a text, with what there is to find in it.
-    pub fn complete<'p, 't>(&'p self, known: Known<'p, 't>) -> Known<'p, 't>
+    pub fn complete<'p, 't>(&'p self, known: ProgramTables<'p, 't>) -> ProgramTables<'p, 't>
         requires { Tells known self.now }
         ensures sound { IsSound result }
         ensures tables { tables_of result ≡ tables_of known.entry }
         ensures items { items_in result ≡ items_in known.entry }
     {
-        Known {
+        ProgramTables {
             notes: known.notes,
             kinds: known.kinds,
             slots: known.slots,
@@ -79,7 +79,7 @@ fn mean(callees: &mut Vec<Option<usize>>, binding: usize, index: usize) -> Resul
 }
 
 // The binding of the function of an item, where that has a body.
-fn defined(known: &Known, item: &Item) -> Option<u32>
+fn defined(known: &ProgramTables, item: &Item) -> Option<u32>
     ensures { result ≡ defined_by (tables_of known.now) (item_of item.now) }
 {
     match item {
@@ -93,7 +93,7 @@ fn defined(known: &Known, item: &Item) -> Option<u32>
 
 // Notes the function of an index, where it is one with a body.
 fn note_callee(
-    known: &Known,
+    known: &ProgramTables,
     callees: &mut Vec<Option<usize>>,
     index: usize,
 ) -> Result<(), AllocError>
@@ -112,7 +112,7 @@ fn note_callee(
 }
 
 // Of several functions that have one binding it means the first, which is noted last.
-fn find_callees(alloc: Global, known: &Known) -> Result<Vec<Option<usize>>, AllocError>
+fn find_callees(alloc: Global, known: &ProgramTables) -> Result<Vec<Option<usize>>, AllocError>
     ensures { IfOk result (λ callees. TellsCallees (tables_of known.now) (items_in known.now)
         (items_in known.now) callees.items) }
 {
@@ -142,7 +142,7 @@ fn note_part(framed: &mut Vec<Framed>, region: Region, second: bool) -> Result<(
 }
 
 // Notes the group frame of a region. The parts of a token have the numbers 0 and 1.
-fn note_frame(known: &Known, framed: &mut Vec<Framed>, index: usize) -> Result<(), AllocError>
+fn note_frame(known: &ProgramTables, framed: &mut Vec<Framed>, index: usize) -> Result<(), AllocError>
     requires here { index < length known.now.regions.now }
     requires told { TellsFrames (tables_of known.now) (drop (index + 1) known.now.regions.now)
         framed.old.items }
@@ -157,7 +157,7 @@ fn note_frame(known: &Known, framed: &mut Vec<Framed>, index: usize) -> Result<(
     }
 }
 
-fn find_frames(alloc: Global, known: &Known) -> Result<Vec<Framed>, AllocError>
+fn find_frames(alloc: Global, known: &ProgramTables) -> Result<Vec<Framed>, AllocError>
     ensures { IfOk result
         (λ framed. TellsFrames (tables_of known.now) known.now.regions.now framed.items) }
 {

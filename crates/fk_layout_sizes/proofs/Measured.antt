@@ -5,7 +5,7 @@ use Rattle.fk_meaning_forms.specs.Code.{done, perform, choose, while, until, tur
 use Rattle.fk_meaning_forms.specs.Expressions.{Coded, Signature}
 use Rattle.fk_layout_walk.specs.declared.visitor.Event.TheVariants.{Aside, Joined}
 use Rattle.fk_syntax.specs.Program.{FunctionTree}
-use Rattle.fk_layout_walk.specs.declared.known.Known.{Known}
+use Rattle.fk_layout_walk.specs.declared.known.ProgramTables.{ProgramTables}
 use Rattle.fk_layout_walk.specs.Known.{functions_of}
 use Rattle.fk_layout_walk_statements.specs.Texts.{code_in}
 use Rattle.fk_layout_walk.specs.Shown.{shown}
@@ -482,7 +482,7 @@ module _ (functions : (binding : ℕ) → Signature) where
 abbrev start : Measure
 start = record { mark = record { values = 0; most = 0; nesting = 0; deepest = 0 } }
 
-pub function_measured : (known : Known) (f : FunctionTree) (t : Measure) → t ≡ past (functions_of known) start (code_in known f)
+pub function_measured : (known : ProgramTables) (f : FunctionTree) (t : Measure) → t ≡ past (functions_of known) start (code_in known f)
     → size (code_in known f) < 2 ^ 31
     → (t.mark.most ≡ most_values (places_in known f)) × (t.mark.deepest ≡ nesting_in known f)
 function_measured known f t e h =

@@ -2,11 +2,11 @@
 use Rattle.std.specs.Prelude.{ℕ, Bool, if◌then◌else◌}
 use Rattle.fk_meaning_operation.specs.declared.operation.Operation.{Operation}
 use Rattle.fk_meaning_operation.specs.declared.operation.Operation.TheVariants as o
-use Rattle.fk_meaning_operation.specs.declared.operation.Split.{Split}
-use Rattle.fk_meaning_operation.specs.declared.operation.Split.TheVariants.{Loop, Fork}
+use Rattle.fk_meaning_operation.specs.declared.operation.SplitKind.{SplitKind}
+use Rattle.fk_meaning_operation.specs.declared.operation.SplitKind.TheVariants.{Loop, Fork}
 
 -- a loop's part has all members. A `fork` takes how many parts there are, which one and which `$`. All else takes a condition
-abbrev pub split_takes : Split → ℕ
+abbrev pub split_takes : SplitKind → ℕ
 split_takes Loop = 0
 split_takes Fork = 3
 split_takes split = 1
@@ -15,7 +15,7 @@ split_takes split = 1
 abbrev pub takes : Operation → ℕ
 takes o.DropLast = 1
 takes (o.Apply sign) = 1
-takes (o.Join operator turned) = 2
+takes (o.Binary operator turned) = 2
 takes (o.Index bytes) = 2
 takes (o.Branch onward) = 1
 takes o.Take = 1
@@ -29,7 +29,7 @@ takes o.Heap = 1
 takes (o.Enter arguments) = arguments
 takes o.Begin = 1
 takes o.Block = 1
-takes (o.Divide split) = split_takes split
+takes (o.Split split) = split_takes split
 takes o.Shrink = 1
 takes operation = 0
 
@@ -39,7 +39,7 @@ pushes (o.Push n) = 1
 pushes (o.Get known) = 1
 pushes o.CopyLast = 1
 pushes (o.Apply sign) = 1
-pushes (o.Join operator turned) = 1
+pushes (o.Binary operator turned) = 1
 pushes (o.Index bytes) = 1
 pushes o.Take = 1
 pushes o.Read = 1
@@ -52,7 +52,7 @@ pushes operation = 0
 -- in how many parts more what it leads to lies
 abbrev pub nests : Operation → ℕ
 nests o.Begin = 1
-nests (o.Divide split) = 1
+nests (o.Split split) = 1
 nests o.Farm = 1
 nests o.Seq = 1
 nests operation = 0

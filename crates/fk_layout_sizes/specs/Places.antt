@@ -2,7 +2,7 @@
 use Rattle.std.specs.Prelude.{ℕ, ◌+◌, ◌-◌, max, List, [], ◌∷◌, ◌++◌, if◌then◌else◌}
 use Rattle.fk_meaning_operation.specs.declared.operation.Operation.{Operation}
 use Rattle.fk_syntax.specs.Program.{DeclaredTree, FunctionTree}
-use Rattle.fk_layout_walk.specs.declared.known.Known.{Known}
+use Rattle.fk_layout_walk.specs.declared.known.ProgramTables.{ProgramTables}
 use Rattle.fk_layout_walk.specs.Known.{functions_of}
 use Rattle.fk_layout_walk_statements.specs.Texts.{code_in}
 use Rattle.fk_meaning_forms.specs.Code.{done, perform, choose, while, until, turn, again, quit, break, continue, call, ends}
@@ -83,11 +83,11 @@ filling [] = 0
 filling (x ∷ xs) = if x.shared then 2 else filling xs
 
 -- the places of a function, and the most values that its call has
-abbrev pub places_in : Known → FunctionTree → List At
+abbrev pub places_in : ProgramTables → FunctionTree → List At
 places_in known f = places (functions_of known) beginning (code_in known f)
 
-abbrev pub values_in : Known → FunctionTree → ℕ
+abbrev pub values_in : ProgramTables → FunctionTree → ℕ
 values_in known f = max (filling f.parameters) (most_values (places_in known f))
 
-abbrev pub nesting_in : Known → FunctionTree → ℕ
+abbrev pub nesting_in : ProgramTables → FunctionTree → ℕ
 nesting_in known f = deepest (places_in known f)

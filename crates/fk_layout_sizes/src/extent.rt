@@ -9,7 +9,7 @@ ghost use Rattle.fk_layout_sizes.specs.Places as p;
 
 use crate::measure::Measure;
 use fk_syntax::{Declared, Function};
-use fk_layout_walk::{Known, Mark};
+use fk_layout_walk::{ProgramTables, Mark};
 use fk_layout_walk_statements::function;
 
 /// How much room a call of a function has for values and nested parts.
@@ -42,7 +42,7 @@ fn filling(parameters: &[Declared]) -> u64
 
 /// How much room a call of a function has, for one of fewer than 2^31 operations. It takes no
 /// memory, and time linear in the function.
-pub fn extent_of(known: &Known, whole: &Function) -> Extent
+pub fn extent_of(known: &ProgramTables, whole: &Function) -> Extent
     requires { IsSound known.now }
     ensures values { size (code_in known.now (function_of whole.now)) < 2 ^ 31
         → result.values ≡ p.values_in known.now (function_of whole.now) }

@@ -3,16 +3,16 @@
 ghost use Rattle.std.specs.Prelude.{◌≡◌};
 ghost use Rattle.fk_layout_sizes.specs.Operations as o;
 
-use fk_meaning_operation::{Operation, Split};
+use fk_meaning_operation::{Operation, SplitKind};
 
 // How many values a group takes to split.
-fn split_takes(split: Split) -> u32
+fn split_takes(split: SplitKind) -> u32
     ensures { result ≡ o.split_takes split }
 {
     match split {
-        Split::Loop => 0,
-        Split::Fork => 3,
-        Split::IfAlone | Split::IfElse | Split::AndThen | Split::OrElse => 1,
+        SplitKind::Loop => 0,
+        SplitKind::Fork => 3,
+        SplitKind::IfAlone | SplitKind::IfElse | SplitKind::AndThen | SplitKind::OrElse => 1,
     }
 }
 
@@ -21,7 +21,7 @@ pub fn takes(operation: Operation) -> u32
     ensures { result ≡ o.takes operation }
 {
     match operation {
-        Operation::Join(_, _) | Operation::Index(_) | Operation::Write | Operation::Combine(_) => 2,
+        Operation::Binary(_, _) | Operation::Index(_) | Operation::Write | Operation::Combine(_) => 2,
         Operation::DropLast
         | Operation::Apply(_)
         | Operation::Branch(_)
@@ -35,7 +35,7 @@ pub fn takes(operation: Operation) -> u32
         | Operation::Shrink => 1,
         Operation::Leave { gives, framed: _ } => gives as u32,
         Operation::Enter(arguments) => arguments,
-        Operation::Divide(split) => split_takes(split),
+        Operation::Split(split) => split_takes(split),
         _ => 0,
     }
 }
@@ -49,7 +49,7 @@ pub fn pushes(operation: Operation) -> u32
         | Operation::Get(_)
         | Operation::CopyLast
         | Operation::Apply(_)
-        | Operation::Join(_, _)
+        | Operation::Binary(_, _)
         | Operation::Index(_)
         | Operation::Take
         | Operation::Read
@@ -66,7 +66,7 @@ pub fn nests(operation: Operation) -> u32
     ensures { result ≡ o.nests operation }
 {
     match operation {
-        Operation::Begin | Operation::Divide(_) | Operation::Farm | Operation::Seq => 1,
+        Operation::Begin | Operation::Split(_) | Operation::Farm | Operation::Seq => 1,
         _ => 0,
     }
 }

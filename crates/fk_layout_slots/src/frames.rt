@@ -7,7 +7,7 @@ ghost use Rattle.fk_layout_slots.specs.KnownView.{told_by};
 ghost use Rattle.fk_layout_slots.specs.Frames.{frame, deeper as deeper_of, body_frame, frames_in, all_frames_in, item_frames, body_frames, regions_of};
 ghost use Rattle.fk_layout_slots.specs.Parts.{framed_frames, split_frames, both_framed_frames, both_frames};
 
-use crate::known::Known;
+use crate::known::TypeNotes;
 use crate::words::{own_words, statement_words};
 use fk_meaning_forms::Region;
 use fk_syntax::{Function, Item, Stmt};
@@ -34,7 +34,7 @@ impl Frames {
     pub(crate) fn of(
         alloc: Global,
         items: &[Item],
-        known: &Known,
+        known: &TypeNotes,
     ) -> Result<Vec<Region>, AllocError>
         ensures { IfOk result (λ list. list.items
             ≡ regions_of (told_by known.now) (map item_of items.now)) }
@@ -69,43 +69,43 @@ impl Frames {
     // than methods.
     fn add_body_frame(
         body: &Stmt,
-        known: &Known,
+        known: &TypeNotes,
         at: u32,
         part: u32,
         level: u32,
-        kept: &mut Self,
+        into: &mut Self,
     ) -> Result<(), AllocError>
-        ensures { OnOk result (kept.new.list.items ≡ kept.old.list.items
+        ensures { OnOk result (into.new.list.items ≡ into.old.list.items
             ++ body_frame (told_by known.now) at part level (statement_of body.now)) }
     {
-        kept.add(at, part, level, statement_words(body, known, 0))
+        into.add(at, part, level, statement_words(body, known, 0))
     }
 
     // The frames that begin in a statement that stands so deep in a function.
     #[cycle(statement)]
     fn add_statement(
         statement: &Stmt,
-        known: &Known,
+        known: &TypeNotes,
         level: u32,
-        kept: &mut Self,
+        into: &mut Self,
     ) -> Result<(), AllocError>
-        ensures { OnOk result (kept.new.list.items ≡ kept.old.list.items
+        ensures { OnOk result (into.new.list.items ≡ into.old.list.items
             ++ frames_in (told_by known.now) level (statement_of statement.now)) }
     {
         match statement {
-            Stmt::Block(list) => Self::add_statements(list, known, level, kept),
+            Stmt::Block(list) => Self::add_statements(list, known, level, into),
             Stmt::If(spot, _, first, otherwise) => match otherwise {
-                Some(second) => Self::add_both(first, second, known, spot.at, level, kept),
-                None => Self::add_split(first, known, spot.at, level, kept),
+                Some(second) => Self::add_both(first, second, known, spot.at, level, into),
+                None => Self::add_split(first, known, spot.at, level, into),
             },
             Stmt::While(spot, _, body)
             | Stmt::DoWhile(spot, body, _)
-            | Stmt::For(spot, _, _, _, body) => Self::add_split(body, known, spot.at, level, kept),
+            | Stmt::For(spot, _, _, _, body) => Self::add_split(body, known, spot.at, level, into),
             Stmt::Start(spot, _, body) | Stmt::Fork(spot, _, _, _, body) => {
-                Self::add_framed(body, known, spot.at, level, kept)
+                Self::add_framed(body, known, spot.at, level, into)
             }
             Stmt::Farm(_, body) | Stmt::Seq(_, body) => {
-                Self::add_statement(body, known, deeper(level), kept)
+                Self::add_statement(body, known, deeper(level), into)
             }
             Stmt::Empty
             | Stmt::Expression(_)
@@ -121,18 +121,18 @@ impl Frames {
     #[cycle(statement)]
     fn add_split(
         body: &Stmt,
-        known: &Known,
+        known: &TypeNotes,
         at: u32,
         level: u32,
-        kept: &mut Self,
+        into: &mut Self,
     ) -> Result<(), AllocError>
-        ensures { OnOk result (kept.new.list.items ≡ kept.old.list.items
+        ensures { OnOk result (into.new.list.items ≡ into.old.list.items
             ++ split_frames (told_by known.now) at level (statement_of body.now)) }
     {
         if known.splits(at) {
-            Self::add_framed(body, known, at, level, kept)
+            Self::add_framed(body, known, at, level, into)
         } else {
-            Self::add_statement(body, known, level, kept)
+            Self::add_statement(body, known, level, into)
         }
     }
 
@@ -140,17 +140,17 @@ impl Frames {
     #[cycle(statement)]
     fn add_framed(
         body: &Stmt,
-        known: &Known,
+        known: &TypeNotes,
         at: u32,
         level: u32,
-        kept: &mut Self,
+        into: &mut Self,
     ) -> Result<(), AllocError>
-        ensures { OnOk result (kept.new.list.items ≡ kept.old.list.items
+        ensures { OnOk result (into.new.list.items ≡ into.old.list.items
             ++ framed_frames (told_by known.now) at level (statement_of body.now)) }
     {
         let inner = deeper(level);
-        Self::add_body_frame(body, known, at, 0, inner, kept)?;
-        Self::add_statement(body, known, inner, kept)
+        Self::add_body_frame(body, known, at, 0, inner, into)?;
+        Self::add_statement(body, known, inner, into)
     }
 
     // Those of two bodies that have frames where the group splits.
@@ -158,20 +158,20 @@ impl Frames {
     fn add_both<'t, 'a>(
         first: &'t Stmt<'a>,
         second: &'t Stmt<'a>,
-        known: &Known,
+        known: &TypeNotes,
         at: u32,
         level: u32,
-        kept: &mut Self,
+        into: &mut Self,
     ) -> Result<(), AllocError>
-        ensures { OnOk result (kept.new.list.items ≡ kept.old.list.items
+        ensures { OnOk result (into.new.list.items ≡ into.old.list.items
             ++ both_frames (told_by known.now) at level (statement_of first.now)
             (statement_of second.now)) }
     {
         if known.splits(at) {
-            return Self::add_both_framed(first, second, known, at, level, kept);
+            return Self::add_both_framed(first, second, known, at, level, into);
         }
-        Self::add_statement(first, known, level, kept)?;
-        Self::add_statement(second, known, level, kept)
+        Self::add_statement(first, known, level, into)?;
+        Self::add_statement(second, known, level, into)
     }
 
     // Those of two bodies that have frames: their own, and those within both.
@@ -179,70 +179,70 @@ impl Frames {
     fn add_both_framed<'t, 'a>(
         first: &'t Stmt<'a>,
         second: &'t Stmt<'a>,
-        known: &Known,
+        known: &TypeNotes,
         at: u32,
         level: u32,
-        kept: &mut Self,
+        into: &mut Self,
     ) -> Result<(), AllocError>
-        ensures { OnOk result (kept.new.list.items ≡ kept.old.list.items
+        ensures { OnOk result (into.new.list.items ≡ into.old.list.items
             ++ both_framed_frames (told_by known.now) at level (statement_of first.now)
             (statement_of second.now)) }
     {
         let inner = deeper(level);
-        Self::add_body_frame(first, known, at, 0, inner, kept)?;
-        Self::add_body_frame(second, known, at, 1, inner, kept)?;
-        Self::add_statement(first, known, inner, kept)?;
-        Self::add_statement(second, known, inner, kept)
+        Self::add_body_frame(first, known, at, 0, inner, into)?;
+        Self::add_body_frame(second, known, at, 1, inner, into)?;
+        Self::add_statement(first, known, inner, into)?;
+        Self::add_statement(second, known, inner, into)
     }
 
     #[cycle(statement)]
     fn add_statements(
         statements: &[Stmt],
-        known: &Known,
+        known: &TypeNotes,
         level: u32,
-        kept: &mut Self,
+        into: &mut Self,
     ) -> Result<(), AllocError>
-        ensures { OnOk result (kept.new.list.items ≡ kept.old.list.items
+        ensures { OnOk result (into.new.list.items ≡ into.old.list.items
             ++ all_frames_in (told_by known.now) level
             (statements_of (map statement_of statements.now))) }
     {
         for statement in statements {
-            Self::add_statement(statement, known, level, kept)?;
+            Self::add_statement(statement, known, level, into)?;
         }
         Ok(())
     }
 
-    fn add_function(function: &Function, known: &Known, kept: &mut Self) -> Result<(), AllocError>
-        ensures { OnOk result (kept.new.list.items ≡ kept.old.list.items
+    fn add_function(function: &Function, known: &TypeNotes, into: &mut Self) -> Result<(), AllocError>
+        ensures { OnOk result (into.new.list.items ≡ into.old.list.items
             ++ body_frames (told_by known.now) (function_of function.now).name.at
             (function_of function.now).parameters (function_of function.now).body) }
     {
         match &function.body {
             Some(body) => {
                 let words = own_words(&function.params, body, known);
-                kept.add(function.name.at, 0, 0, words)?;
-                Self::add_statements(body, known, 0, kept)
+                into.add(function.name.at, 0, 0, words)?;
+                Self::add_statements(body, known, 0, into)
             }
             None => Ok(()),
         }
     }
 
-    fn add_item(item: &Item, known: &Known, kept: &mut Self) -> Result<(), AllocError>
-        ensures { OnOk result (kept.new.list.items ≡ kept.old.list.items
+    fn add_item(item: &Item, known: &TypeNotes, into: &mut Self) -> Result<(), AllocError>
+        ensures { OnOk result (into.new.list.items ≡ into.old.list.items
             ++ item_frames (told_by known.now) (item_of item.now)) }
     {
         match item {
             Item::Struct(_, _) | Item::Variables(_) => Ok(()),
-            Item::Function(function) => Self::add_function(function, known, kept),
+            Item::Function(function) => Self::add_function(function, known, into),
         }
     }
 
-    fn add_items(items: &[Item], known: &Known, kept: &mut Self) -> Result<(), AllocError>
-        ensures { OnOk result (kept.new.list.items ≡ kept.old.list.items
+    fn add_items(items: &[Item], known: &TypeNotes, into: &mut Self) -> Result<(), AllocError>
+        ensures { OnOk result (into.new.list.items ≡ into.old.list.items
             ++ regions_of (told_by known.now) (map item_of items.now)) }
     {
         for item in items {
-            Self::add_item(item, known, kept)?;
+            Self::add_item(item, known, into)?;
         }
         Ok(())
     }

@@ -8,7 +8,7 @@ use fk_syntax::{Kind, Note};
 
 /// What is known of a program.
 #[derive(Clone, Copy)]
-pub(crate) struct Known<'p> {
+pub(crate) struct TypeNotes<'p> {
     /// A note for each token.
     pub(crate) notes: &'p [Note],
     /// The types.
@@ -23,7 +23,7 @@ const NO_NOTE: Note = Note {
     splits: false,
 };
 
-impl<'p> Known<'p> {
+impl<'p> TypeNotes<'p> {
     // The note of a token.
     fn note(&self, at: u32) -> Note
         ensures { result ≡ note_at (told_by self.now) at }

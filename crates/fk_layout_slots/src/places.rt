@@ -10,7 +10,7 @@ ghost use Rattle.fk_layout_slots.specs.Slots as s;
 ghost use Rattle.fk_layout_slots.specs.Parts as b;
 
 use crate::frames::LAST_WORD;
-use crate::known::Known;
+use crate::known::TypeNotes;
 use crate::tables::Own;
 use crate::taken::Taken;
 use crate::words::{own_words, statement_words};
@@ -62,7 +62,7 @@ fn file_slot(variable: &Declared, taken: Taken) -> Slot
 
 // What is taken behind a variable.
 #[tactic(auto, unfolding(crate::specs::Places::behind_variable, crate::specs::Places::behind_words))]
-fn behind_variable(variable: &Declared, known: &Known, taken: Taken) -> Taken
+fn behind_variable(variable: &Declared, known: &TypeNotes, taken: Taken) -> Taken
     ensures { result ≡ g.behind_variable (told_by known.now) taken (declared_of variable.now) }
 {
     if variable.shared {
@@ -74,7 +74,7 @@ fn behind_variable(variable: &Declared, known: &Known, taken: Taken) -> Taken
 
 // What is taken behind a parameter.
 #[tactic(auto, unfolding(crate::specs::Places::behind_parameter, crate::specs::Places::behind_words))]
-fn behind_parameter(parameter: &Declared, known: &Known, taken: Taken) -> Taken
+fn behind_parameter(parameter: &Declared, known: &TypeNotes, taken: Taken) -> Taken
     ensures { result ≡ g.behind_parameter (told_by known.now) taken (declared_of parameter.now) }
 {
     if parameter.shared {
@@ -86,7 +86,7 @@ fn behind_parameter(parameter: &Declared, known: &Known, taken: Taken) -> Taken
 }
 
 // What is taken behind the frame of a body.
-fn behind_body_frame(body: &Stmt, known: &Known, taken: Taken) -> Taken
+fn behind_body_frame(body: &Stmt, known: &TypeNotes, taken: Taken) -> Taken
     ensures { result ≡ s.behind_body_frame (told_by known.now) taken (statement_of body.now) }
 {
     taken.behind_frame(statement_words(body, known, 0))
@@ -96,7 +96,7 @@ fn behind_body_frame(body: &Stmt, known: &Known, taken: Taken) -> Taken
 fn taken_first<'t, 'a>(
     parameters: &'t [Declared<'a>],
     body: &'t [Stmt<'a>],
-    known: &Known,
+    known: &TypeNotes,
     file: Taken,
 ) -> Taken
     ensures { result ≡ s.taken_first (told_by known.now) file (map declared_of parameters.now)
@@ -114,7 +114,7 @@ fn taken_first<'t, 'a>(
 fn own_by<'t, 'a>(
     parameters: &'t [Declared<'a>],
     body: &'t [Stmt<'a>],
-    known: &Known,
+    known: &TypeNotes,
     last: Taken,
 ) -> Own
     requires { last.privates
@@ -140,7 +140,7 @@ impl Places {
     pub(crate) fn of(
         alloc: Global,
         items: &[Item],
-        known: &Known,
+        known: &TypeNotes,
     ) -> Result<(Vec<Slot>, Vec<Own>), AllocError>
         ensures slots { IfOk result (λ both. both.0.items
             ≡ s.slots_of (told_by known.now) (map item_of items.now)) }
@@ -161,19 +161,19 @@ impl Places {
     // than methods.
     fn add_variables(
         variables: &[Declared],
-        known: &Known,
+        known: &TypeNotes,
         frame: u32,
         taken: Taken,
-        kept: &mut Self,
+        into: &mut Self,
     ) -> Result<Taken, AllocError>
-        ensures slots { OnOk result (kept.new.list.items ≡ kept.old.list.items
+        ensures slots { OnOk result (into.new.list.items ≡ into.old.list.items
             ++ g.variables_slots (told_by known.now) frame taken (map declared_of variables.now)) }
         ensures taken { IfOk result (λ behind. behind
             ≡ g.behind_variables (told_by known.now) taken (map declared_of variables.now)) }
     {
         let mut behind = taken;
         for variable in variables {
-            kept.list.push(slot_in(variable, frame, behind))?;
+            into.list.push(slot_in(variable, frame, behind))?;
             behind = behind_variable(variable, known, behind);
         }
         Ok(behind)
@@ -182,12 +182,12 @@ impl Places {
     // Those of the parameters of a function.
     fn add_parameters(
         parameters: &[Declared],
-        known: &Known,
+        known: &TypeNotes,
         frame: u32,
         taken: Taken,
-        kept: &mut Self,
+        into: &mut Self,
     ) -> Result<Taken, AllocError>
-        ensures slots { OnOk result (kept.new.list.items ≡ kept.old.list.items
+        ensures slots { OnOk result (into.new.list.items ≡ into.old.list.items
             ++ g.parameters_slots (told_by known.now) frame taken
             (map declared_of parameters.now)) }
         ensures taken { IfOk result (λ behind. behind
@@ -195,19 +195,19 @@ impl Places {
     {
         let mut behind = taken;
         for parameter in parameters {
-            kept.list.push(slot_in(parameter, frame, behind))?;
+            into.list.push(slot_in(parameter, frame, behind))?;
             behind = behind_parameter(parameter, known, behind);
         }
         Ok(behind)
     }
 
     // Those of parameters that have no word.
-    fn add_none(parameters: &[Declared], kept: &mut Self) -> Result<(), AllocError>
-        ensures { OnOk result (kept.new.list.items ≡ kept.old.list.items
+    fn add_none(parameters: &[Declared], into: &mut Self) -> Result<(), AllocError>
+        ensures { OnOk result (into.new.list.items ≡ into.old.list.items
             ++ g.no_slots (map declared_of parameters.now)) }
     {
         for _parameter in parameters {
-            kept.list.push(NO_SLOT)?;
+            into.list.push(NO_SLOT)?;
         }
         Ok(())
     }
@@ -215,18 +215,18 @@ impl Places {
     // Those of variables of file scope.
     fn add_file(
         variables: &[Declared],
-        known: &Known,
+        known: &TypeNotes,
         taken: Taken,
-        kept: &mut Self,
+        into: &mut Self,
     ) -> Result<Taken, AllocError>
-        ensures slots { OnOk result (kept.new.list.items ≡ kept.old.list.items
+        ensures slots { OnOk result (into.new.list.items ≡ into.old.list.items
             ++ g.file_slots (told_by known.now) taken (map declared_of variables.now)) }
         ensures taken { IfOk result (λ behind. behind
             ≡ g.behind_variables (told_by known.now) taken (map declared_of variables.now)) }
     {
         let mut behind = taken;
         for variable in variables {
-            kept.list.push(file_slot(variable, behind))?;
+            into.list.push(file_slot(variable, behind))?;
             behind = behind_variable(variable, known, behind);
         }
         Ok(behind)
@@ -237,35 +237,35 @@ impl Places {
     #[cycle(statement)]
     fn add_statement(
         statement: &Stmt,
-        known: &Known,
+        known: &TypeNotes,
         frame: u32,
         taken: Taken,
-        kept: &mut Self,
+        into: &mut Self,
     ) -> Result<Taken, AllocError>
-        ensures slots { OnOk result (kept.new.list.items ≡ kept.old.list.items
+        ensures slots { OnOk result (into.new.list.items ≡ into.old.list.items
             ++ s.slots_in (told_by known.now) frame taken (statement_of statement.now)) }
         ensures taken { IfOk result (λ behind. behind
             ≡ s.behind (told_by known.now) taken (statement_of statement.now)) }
     {
         match statement {
-            Stmt::Block(list) => Self::add_statements(list, known, frame, taken, kept),
-            Stmt::Declare(variables) => Self::add_variables(variables, known, frame, taken, kept),
+            Stmt::Block(list) => Self::add_statements(list, known, frame, taken, into),
+            Stmt::Declare(variables) => Self::add_variables(variables, known, frame, taken, into),
             Stmt::If(spot, _, first, otherwise) => match otherwise {
                 Some(second) => {
-                    Self::add_both(first, second, known, spot.at, frame, taken, kept)
+                    Self::add_both(first, second, known, spot.at, frame, taken, into)
                 }
-                None => Self::add_split(first, known, spot.at, frame, taken, kept),
+                None => Self::add_split(first, known, spot.at, frame, taken, into),
             },
             Stmt::While(spot, _, body)
             | Stmt::DoWhile(spot, body, _)
             | Stmt::For(spot, _, _, _, body) => {
-                Self::add_split(body, known, spot.at, frame, taken, kept)
+                Self::add_split(body, known, spot.at, frame, taken, into)
             }
             Stmt::Start(_, _, body) | Stmt::Fork(_, _, _, _, body) => {
-                Self::add_framed(body, known, taken, kept)
+                Self::add_framed(body, known, taken, into)
             }
             Stmt::Farm(_, body) | Stmt::Seq(_, body) => {
-                Self::add_statement(body, known, frame, taken, kept)
+                Self::add_statement(body, known, frame, taken, into)
             }
             Stmt::Empty
             | Stmt::Expression(_)
@@ -280,21 +280,21 @@ impl Places {
     #[cycle(statement)]
     fn add_split(
         body: &Stmt,
-        known: &Known,
+        known: &TypeNotes,
         at: u32,
         frame: u32,
         taken: Taken,
-        kept: &mut Self,
+        into: &mut Self,
     ) -> Result<Taken, AllocError>
-        ensures slots { OnOk result (kept.new.list.items ≡ kept.old.list.items
+        ensures slots { OnOk result (into.new.list.items ≡ into.old.list.items
             ++ b.split_slots (told_by known.now) at frame taken (statement_of body.now)) }
         ensures taken { IfOk result (λ behind. behind
             ≡ b.behind_split (told_by known.now) at taken (statement_of body.now)) }
     {
         if known.splits(at) {
-            Self::add_framed(body, known, taken, kept)
+            Self::add_framed(body, known, taken, into)
         } else {
-            Self::add_statement(body, known, frame, taken, kept)
+            Self::add_statement(body, known, frame, taken, into)
         }
     }
 
@@ -302,17 +302,17 @@ impl Places {
     #[cycle(statement)]
     fn add_framed(
         body: &Stmt,
-        known: &Known,
+        known: &TypeNotes,
         taken: Taken,
-        kept: &mut Self,
+        into: &mut Self,
     ) -> Result<Taken, AllocError>
-        ensures slots { OnOk result (kept.new.list.items ≡ kept.old.list.items
+        ensures slots { OnOk result (into.new.list.items ≡ into.old.list.items
             ++ b.framed_slots (told_by known.now) taken (statement_of body.now)) }
         ensures taken { IfOk result (λ behind. behind
             ≡ b.behind_framed (told_by known.now) taken (statement_of body.now)) }
     {
         let begun = behind_body_frame(body, known, taken).within();
-        let behind = Self::add_statement(body, known, taken.frames, begun, kept)?;
+        let behind = Self::add_statement(body, known, taken.frames, begun, into)?;
         Ok(behind.outside(taken))
     }
 
@@ -321,13 +321,13 @@ impl Places {
     fn add_both<'t, 'a>(
         first: &'t Stmt<'a>,
         second: &'t Stmt<'a>,
-        known: &Known,
+        known: &TypeNotes,
         at: u32,
         frame: u32,
         taken: Taken,
-        kept: &mut Self,
+        into: &mut Self,
     ) -> Result<Taken, AllocError>
-        ensures slots { OnOk result (kept.new.list.items ≡ kept.old.list.items
+        ensures slots { OnOk result (into.new.list.items ≡ into.old.list.items
             ++ b.both_slots (told_by known.now) at frame taken (statement_of first.now)
             (statement_of second.now)) }
         ensures taken { IfOk result (λ behind. behind
@@ -335,10 +335,10 @@ impl Places {
             (statement_of second.now)) }
     {
         if known.splits(at) {
-            return Self::add_both_framed(first, second, known, taken, kept);
+            return Self::add_both_framed(first, second, known, taken, into);
         }
-        let behind = Self::add_statement(first, known, frame, taken, kept)?;
-        Self::add_statement(second, known, frame, behind, kept)
+        let behind = Self::add_statement(first, known, frame, taken, into)?;
+        Self::add_statement(second, known, frame, behind, into)
     }
 
     // Those of two bodies that have frames, which get the next numbers.
@@ -346,11 +346,11 @@ impl Places {
     fn add_both_framed<'t, 'a>(
         first: &'t Stmt<'a>,
         second: &'t Stmt<'a>,
-        known: &Known,
+        known: &TypeNotes,
         taken: Taken,
-        kept: &mut Self,
+        into: &mut Self,
     ) -> Result<Taken, AllocError>
-        ensures slots { OnOk result (kept.new.list.items ≡ kept.old.list.items
+        ensures slots { OnOk result (into.new.list.items ≡ into.old.list.items
             ++ b.both_framed_slots (told_by known.now) taken (statement_of first.now)
             (statement_of second.now)) }
         ensures taken { IfOk result (λ behind. behind
@@ -359,20 +359,20 @@ impl Places {
     {
         let one = behind_body_frame(first, known, taken);
         let begun = behind_body_frame(second, known, one).within();
-        let behind = Self::add_statement(first, known, taken.frames, begun, kept)?;
-        let last = Self::add_statement(second, known, one.frames, behind.within(), kept)?;
+        let behind = Self::add_statement(first, known, taken.frames, begun, into)?;
+        let last = Self::add_statement(second, known, one.frames, behind.within(), into)?;
         Ok(last.outside(taken))
     }
 
     #[cycle(statement)]
     fn add_statements(
         statements: &[Stmt],
-        known: &Known,
+        known: &TypeNotes,
         frame: u32,
         taken: Taken,
-        kept: &mut Self,
+        into: &mut Self,
     ) -> Result<Taken, AllocError>
-        ensures slots { OnOk result (kept.new.list.items ≡ kept.old.list.items
+        ensures slots { OnOk result (into.new.list.items ≡ into.old.list.items
             ++ s.all_slots_in (told_by known.now) frame taken
             (statements_of (map statement_of statements.now))) }
         ensures taken { IfOk result (λ behind. behind
@@ -381,7 +381,7 @@ impl Places {
     {
         let mut behind = taken;
         for statement in statements {
-            behind = Self::add_statement(statement, known, frame, behind, kept)?;
+            behind = Self::add_statement(statement, known, frame, behind, into)?;
         }
         Ok(behind)
     }
@@ -391,11 +391,11 @@ impl Places {
     fn add_body<'t, 'a>(
         parameters: &'t [Declared<'a>],
         body: &'t [Stmt<'a>],
-        known: &Known,
+        known: &TypeNotes,
         file: Taken,
-        kept: &mut Self,
+        into: &mut Self,
     ) -> Result<Taken, AllocError>
-        ensures slots { OnOk result (kept.new.list.items ≡ kept.old.list.items
+        ensures slots { OnOk result (into.new.list.items ≡ into.old.list.items
             ++ s.body_slots (told_by known.now) file (map declared_of parameters.now)
             (Some (statements_of (map statement_of body.now)))) }
         ensures frames { IfOk result (λ last. last.frames
@@ -406,8 +406,8 @@ impl Places {
             (Some (statements_of (map statement_of body.now)))).privates) }
     {
         let opening = taken_first(parameters, body, known, file);
-        let behind = Self::add_parameters(parameters, known, file.frames, opening, kept)?;
-        let last = Self::add_statements(body, known, file.frames, behind, kept)?;
+        let behind = Self::add_parameters(parameters, known, file.frames, opening, into)?;
+        let last = Self::add_statements(body, known, file.frames, behind, into)?;
         Ok(last)
     }
 
@@ -415,12 +415,12 @@ impl Places {
     // list of these.
     fn add_function(
         function: &Function,
-        known: &Known,
+        known: &TypeNotes,
         owns: &mut Vec<Own>,
         file: Taken,
-        kept: &mut Self,
+        into: &mut Self,
     ) -> Result<Taken, AllocError>
-        ensures slots { OnOk result (kept.new.list.items ≡ kept.old.list.items
+        ensures slots { OnOk result (into.new.list.items ≡ into.old.list.items
             ++ s.item_slots (told_by known.now) file (p.FunctionItem (function_of function.now))) }
         ensures taken { IfOk result (λ behind. behind
             ≡ s.behind_item (told_by known.now) file
@@ -428,10 +428,10 @@ impl Places {
         ensures owns { OnOk result (owns.new.items ≡ owns.old.items
             ++ s.owns_of (told_by known.now) (p.FunctionItem (function_of function.now) ∷ [])) }
     {
-        kept.list.push(NO_SLOT)?;
+        into.list.push(NO_SLOT)?;
         match &function.body {
             Some(body) => {
-                let last = Self::add_body(&function.params, body, known, file, kept)?;
+                let last = Self::add_body(&function.params, body, known, file, into)?;
                 owns.push(own_by(&function.params, body, known, last))?;
                 Ok(Taken {
                     frames: last.frames,
@@ -439,7 +439,7 @@ impl Places {
                 })
             }
             None => {
-                Self::add_none(&function.params, kept)?;
+                Self::add_none(&function.params, into)?;
                 Ok(file)
             }
         }
@@ -447,12 +447,12 @@ impl Places {
 
     fn add_item(
         item: &Item,
-        known: &Known,
+        known: &TypeNotes,
         owns: &mut Vec<Own>,
         file: Taken,
-        kept: &mut Self,
+        into: &mut Self,
     ) -> Result<Taken, AllocError>
-        ensures slots { OnOk result (kept.new.list.items ≡ kept.old.list.items
+        ensures slots { OnOk result (into.new.list.items ≡ into.old.list.items
             ++ s.item_slots (told_by known.now) file (item_of item.now)) }
         ensures taken { IfOk result (λ behind. behind
             ≡ s.behind_item (told_by known.now) file (item_of item.now)) }
@@ -461,26 +461,26 @@ impl Places {
     {
         match item {
             Item::Struct(_, _) => Ok(file),
-            Item::Variables(variables) => Self::add_file(variables, known, file, kept),
-            Item::Function(function) => Self::add_function(function, known, owns, file, kept),
+            Item::Variables(variables) => Self::add_file(variables, known, file, into),
+            Item::Function(function) => Self::add_function(function, known, owns, file, into),
         }
     }
 
     #[tactic(auto, using(crate::proofs::Alike::owns_of_more))]
     fn add_items(
         items: &[Item],
-        known: &Known,
+        known: &TypeNotes,
         owns: &mut Vec<Own>,
-        kept: &mut Self,
+        into: &mut Self,
     ) -> Result<(), AllocError>
-        ensures slots { OnOk result (kept.new.list.items ≡ kept.old.list.items
+        ensures slots { OnOk result (into.new.list.items ≡ into.old.list.items
             ++ s.slots_of (told_by known.now) (map item_of items.now)) }
         ensures owns { OnOk result (owns.new.items ≡ owns.old.items
             ++ s.owns_of (told_by known.now) (map item_of items.now)) }
     {
         let mut behind = Taken::none();
         for item in items {
-            behind = Self::add_item(item, known, owns, behind, kept)?;
+            behind = Self::add_item(item, known, owns, behind, into)?;
         }
         Ok(())
     }

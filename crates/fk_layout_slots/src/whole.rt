@@ -6,7 +6,7 @@ ghost use Rattle.fk_layout_slots.specs.Frames.{regions_of};
 ghost use Rattle.fk_layout_slots.specs.Slots.{slots_of, owns_of};
 
 use crate::frames::Frames;
-use crate::known::Known;
+use crate::known::TypeNotes;
 use crate::places::Places;
 use crate::tables::Slots;
 use fk_syntax::{Item, Kind, Note};
@@ -27,7 +27,7 @@ pub fn slots(
     ensures owns { IfOk result (λ all. all.owns.items
         ≡ owns_of (record { notes = notes.now; kinds = kinds.now }) (map item_of items.now)) }
 {
-    let known = Known { notes, kinds };
+    let known = TypeNotes { notes, kinds };
     let regions = Frames::of(alloc, items, &known)?;
     let (slots, owns) = Places::of(alloc, items, &known)?;
     Ok(Slots {

@@ -6,11 +6,11 @@ ghost use Rattle.fk_syntax.specs.ProgramView.{declared_of, statement_of};
 ghost use Rattle.fk_layout_slots.specs.KnownView.{told_by};
 ghost use Rattle.fk_layout_slots.specs.Words as w;
 
-use crate::known::Known;
+use crate::known::TypeNotes;
 use fk_syntax::{Declared, Stmt};
 
 // The words that are taken behind a variable or parameter.
-fn declared_words(variable: &Declared, known: &Known, taken: u32) -> u32
+fn declared_words(variable: &Declared, known: &TypeNotes, taken: u32) -> u32
     ensures { result ≡ w.declared_words (told_by known.now) taken (declared_of variable.now) }
 {
     if variable.shared {
@@ -21,7 +21,7 @@ fn declared_words(variable: &Declared, known: &Known, taken: u32) -> u32
 }
 
 // The words that are taken behind variables or parameters.
-fn variables_words(variables: &[Declared], known: &Known, taken: u32) -> u32
+fn variables_words(variables: &[Declared], known: &TypeNotes, taken: u32) -> u32
     ensures { result
         ≡ w.variables_words (told_by known.now) taken (map declared_of variables.now) }
 {
@@ -35,7 +35,7 @@ fn variables_words(variables: &[Declared], known: &Known, taken: u32) -> u32
 /// The words of the frame round a statement that are taken behind it, where so many are taken
 /// before it.
 #[cycle(statement)]
-pub(crate) fn statement_words(statement: &Stmt, known: &Known, taken: u32) -> u32
+pub(crate) fn statement_words(statement: &Stmt, known: &TypeNotes, taken: u32) -> u32
     ensures { result
         ≡ w.statement_words (told_by known.now) taken (statement_of statement.now) }
 {
@@ -74,7 +74,7 @@ pub(crate) fn statement_words(statement: &Stmt, known: &Known, taken: u32) -> u3
 }
 
 #[cycle(statement)]
-fn statements_words(statements: &[Stmt], known: &Known, taken: u32) -> u32
+fn statements_words(statements: &[Stmt], known: &TypeNotes, taken: u32) -> u32
     ensures { result ≡ w.statements_words (told_by known.now) taken
         (statements_of (map statement_of statements.now)) }
 {
@@ -89,7 +89,7 @@ fn statements_words(statements: &[Stmt], known: &Known, taken: u32) -> u32
 pub(crate) fn own_words<'t, 'a>(
     parameters: &'t [Declared<'a>],
     body: &'t [Stmt<'a>],
-    known: &Known,
+    known: &TypeNotes,
 ) -> u32
     ensures { result ≡ w.own_words (told_by known.now) (map declared_of parameters.now)
         (statements_of (map statement_of body.now)) }

@@ -8,10 +8,10 @@ use Rattle.fk_meaning_forms.specs.Tables.{Tables, frame_at}
 use Rattle.fk_meaning_forms.specs.Expressions.{Signature}
 use Rattle.fk_meaning_forms.specs.Program as f
 use Rattle.fk_meaning_forms.specs.Program.{signature_of, no_signature, signature_in}
-use Rattle.fk_layout_walk.specs.declared.known.Known.{Known}
+use Rattle.fk_layout_walk.specs.declared.known.ProgramTables.{ProgramTables}
 use Rattle.fk_layout_walk.specs.declared.known.Framed.{Framed}
 
-abbrev pub tables_of : Known → Tables
+abbrev pub tables_of : ProgramTables → Tables
 tables_of known = record {
   notes = known.notes.now;
   kinds = known.kinds.now;
@@ -19,11 +19,11 @@ tables_of known = record {
   regions = known.regions.now;
 }
 
-abbrev pub items_in : Known → List ItemTree
+abbrev pub items_in : ProgramTables → List ItemTree
 items_in known = map item_of known.items.now
 
 -- the function that a binding means
-abbrev pub functions_of : Known → (binding : ℕ) → Signature
+abbrev pub functions_of : ProgramTables → (binding : ℕ) → Signature
 functions_of known binding = signature_in (tables_of known) (f.functions_of (items_in known)) binding
 
 -- the function of an index, as calls see it, if there is one
@@ -48,6 +48,6 @@ abbrev pub part_of : (second : Bool) → ℕ
 part_of second = if second then 1 else 0
 
 -- the indices tell the same functions as the bindings do, and the tokens the same group frames as the regions do
-pub record IsSound (known : Known) : Type 0 where
+pub record IsSound (known : ProgramTables) : Type 0 where
   pub callees : (binding : ℕ) → functions_of known binding ≡ signature_at (called (slice_get known.callees.now binding) (items_in known))
   pub frames : (at : ℕ) (second : Bool) → frame_at (tables_of known) at (part_of second) ≡ framed_in (slice_get known.framed.now at) second

@@ -5,8 +5,8 @@ use Rattle.fk_meaning_operation.specs.declared.operation.Operation.{Operation}
 use Rattle.fk_meaning_operation.specs.declared.operation.Operation.TheVariants as o
 use Rattle.fk_meaning_operation.specs.declared.operation.Variable.{Variable}
 use Rattle.fk_meaning_operation.specs.declared.operation.Variable.TheVariants as v
-use Rattle.fk_meaning_operation.specs.declared.operation.Known.{Known}
-use Rattle.fk_meaning_operation.specs.declared.operation.Known.TheVariants as k
+use Rattle.fk_meaning_operation.specs.declared.operation.OwnValue.{OwnValue}
+use Rattle.fk_meaning_operation.specs.declared.operation.OwnValue.TheVariants as k
 
 abbrev pub as_word : ℕ → ℕ
 as_word n = min n (2 ^ 32 - 1)
@@ -15,7 +15,7 @@ abbrev pub shown_variable : Variable → Variable
 shown_variable (v.Private n) = v.Private (as_word n)
 shown_variable (v.OfFile n) = v.OfFile (as_word n)
 
-abbrev pub shown_known : Known → Known
+abbrev pub shown_known : OwnValue → OwnValue
 shown_known (k.Value variable) = k.Value (shown_variable variable)
 shown_known (k.FrameAddress nesting number) = k.FrameAddress (as_word nesting) (as_word number)
 shown_known known = known

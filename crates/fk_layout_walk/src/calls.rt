@@ -12,13 +12,13 @@ ghost use Rattle.fk_meaning_operation.specs.declared.operation.Operation.TheVari
 ghost use Rattle.fk_layout_walk.specs.Known.{tables_of, functions_of, part_of, IsSound};
 ghost use Rattle.fk_layout_walk.specs.Through.{through, Passes};
 
-use crate::known::Known;
+use crate::known::ProgramTables;
 use crate::visitor::{Event, NOWHERE, Visitor, perform, plain};
-use fk_meaning_operation::{Known as Value, Operation, Variable};
+use fk_meaning_operation::{OwnValue as Value, Operation, Variable};
 use fk_syntax::{Declared, Place};
 
 /// The group frame of a part of a token, where it has words.
-pub fn frame<V: Visitor>(known: &Known, visitor: &mut V, at: u32, second: bool, place: Place)
+pub fn frame<V: Visitor>(known: &ProgramTables, visitor: &mut V, at: u32, second: bool, place: Place)
     requires { IsSound known.now }
     ensures { Passes V.after V.counts (functions_of known.now) visitor.old visitor.new
         (e.framed (tables_of known.now) (functions_of known.now)
@@ -35,7 +35,7 @@ pub fn frame<V: Visitor>(known: &Known, visitor: &mut V, at: u32, second: bool, 
 
 // A parameter with this number is put into the frame, where it is `sh`. A number above 2^32 - 1 is
 // shown as that one.
-fn keep<V: Visitor>(known: &Known, visitor: &mut V, number: usize, parameter: &Declared)
+fn keep<V: Visitor>(known: &ProgramTables, visitor: &mut V, number: usize, parameter: &Declared)
     ensures { (others : List DeclaredTree)
         → through V.after V.counts (functions_of known.now) visitor.old
         (e.parameters (tables_of known.now) (functions_of known.now) number
@@ -54,7 +54,7 @@ fn keep<V: Visitor>(known: &Known, visitor: &mut V, number: usize, parameter: &D
 }
 
 // The `sh` parameters are put into the frame.
-fn fill<V: Visitor>(known: &Known, visitor: &mut V, parameters: &[Declared])
+fn fill<V: Visitor>(known: &ProgramTables, visitor: &mut V, parameters: &[Declared])
     ensures { visitor.new ≡ through V.after V.counts (functions_of known.now) visitor.old
         (e.parameters (tables_of known.now) (functions_of known.now) 0
         (map declared_of parameters.now)) }
@@ -67,7 +67,7 @@ fn fill<V: Visitor>(known: &Known, visitor: &mut V, parameters: &[Declared])
 /// A call of the function of a binding, whose name has this token, with these parameters. If it has
 /// more than 2^32 - 1 of them, so many are shown.
 pub(crate) fn enter<V: Visitor>(
-    known: &Known,
+    known: &ProgramTables,
     visitor: &mut V,
     place: Place,
     binding: u32,

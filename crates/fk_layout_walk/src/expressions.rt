@@ -18,7 +18,7 @@ ghost use Rattle.fk_meaning_operation.specs.declared.operation.Operation.TheVari
 
 use crate::builtin::{Builtin, builtin_of};
 use crate::calls::enter;
-use crate::known::{Known, PREDECLARED};
+use crate::known::{ProgramTables, PREDECLARED};
 use crate::standing::Standing;
 use crate::standings::{
     agree, discard, end, enter_member, fetch, give_address, give_value, is_deep, name, operate,
@@ -29,7 +29,7 @@ use crate::tokens::{suffix_token, token_of};
 use crate::types::is_nothing;
 use crate::visitor::{Event, NOWHERE, Visitor, Ways, choose, plain};
 use fk_num::Op;
-use fk_meaning_operation::{Known as Value, Multiprefix, Operation, Split, Unary};
+use fk_meaning_operation::{OwnValue as Value, Multiprefix, Operation, SplitKind, Unary};
 use fk_syntax::{Declared, Expr, Link, Name, Sign, Spot, Suffix};
 
 /// Shows a visitor the operations of an expression, and tells how it stands behind them. It is
@@ -37,7 +37,7 @@ use fk_syntax::{Declared, Expr, Link, Name, Sign, Spot, Suffix};
 /// linear in the expression.
 #[cycle(expression)]
 pub fn expression<'t, V: Visitor>(
-    known: &Known,
+    known: &ProgramTables,
     visitor: &mut V,
     whole: &Expr<'t>,
 ) -> Option<Standing<'t>>
@@ -78,7 +78,7 @@ pub fn expression<'t, V: Visitor>(
 /// Shows a visitor the operations of an expression and those that make it a value, and tells
 /// whether something follows.
 #[cycle(expression)]
-pub fn value<V: Visitor>(known: &Known, visitor: &mut V, whole: &Expr) -> Option<()>
+pub fn value<V: Visitor>(known: &ProgramTables, visitor: &mut V, whole: &Expr) -> Option<()>
     requires { IsSound known.now }
     ensures { LeadsOn V.after V.counts (functions_of known.now) visitor.old visitor.new result
         (e.value (tables_of known.now) (functions_of known.now) (tree_of whole.now)) }
@@ -91,7 +91,7 @@ pub fn value<V: Visitor>(known: &Known, visitor: &mut V, whole: &Expr) -> Option
 // A sign in front.
 #[cycle(expression)]
 fn prefix<'t, V: Visitor>(
-    known: &Known,
+    known: &ProgramTables,
     visitor: &mut V,
     operand: &Expr<'t>,
     spot: Spot,
@@ -118,7 +118,7 @@ fn prefix<'t, V: Visitor>(
 // A value that stays one.
 #[cycle(expression)]
 fn on_list<'t, V: Visitor>(
-    known: &Known,
+    known: &ProgramTables,
     visitor: &mut V,
     operand: &Expr<'t>,
 ) -> Option<Standing<'t>>
@@ -134,7 +134,7 @@ fn on_list<'t, V: Visitor>(
 // `*`, which makes a value an address.
 #[cycle(expression)]
 fn dereference<'t, V: Visitor>(
-    known: &Known,
+    known: &ProgramTables,
     visitor: &mut V,
     operand: &Expr<'t>,
     spot: Spot,
@@ -151,7 +151,7 @@ fn dereference<'t, V: Visitor>(
 // `&`, which makes an address a value.
 #[cycle(expression)]
 fn address_of<'t, V: Visitor>(
-    known: &Known,
+    known: &ProgramTables,
     visitor: &mut V,
     operand: &Expr<'t>,
 ) -> Option<Standing<'t>>
@@ -167,7 +167,7 @@ fn address_of<'t, V: Visitor>(
 
 // One operation, which leaves a value.
 fn single<'t, V: Visitor>(
-    known: &Known,
+    known: &ProgramTables,
     visitor: &mut V,
     operation: Operation,
 ) -> Option<Standing<'t>>
@@ -179,7 +179,7 @@ fn single<'t, V: Visitor>(
 }
 
 // `sizeof`, by its token.
-fn size_of<'t, V: Visitor>(known: &Known, visitor: &mut V, at: u32) -> Option<Standing<'t>>
+fn size_of<'t, V: Visitor>(known: &ProgramTables, visitor: &mut V, at: u32) -> Option<Standing<'t>>
     ensures { Leads V.after V.counts (functions_of known.now) visitor.old visitor.new result
         (λ k. e.plain (o.Push (t.note (tables_of known.now) at).binding) (k e.OnList)) }
 {
@@ -187,7 +187,7 @@ fn size_of<'t, V: Visitor>(known: &Known, visitor: &mut V, at: u32) -> Option<St
 }
 
 // `puts`.
-fn puts<'t, V: Visitor>(known: &Known, visitor: &mut V, text: &[u8]) -> Option<Standing<'t>>
+fn puts<'t, V: Visitor>(known: &ProgramTables, visitor: &mut V, text: &[u8]) -> Option<Standing<'t>>
     ensures { Leads V.after V.counts (functions_of known.now) visitor.old visitor.new result
         (λ k. e.put_bytes (text_of text.now) (k e.OnList)) }
 {
@@ -198,7 +198,7 @@ fn puts<'t, V: Visitor>(known: &Known, visitor: &mut V, text: &[u8]) -> Option<S
 // A sign in front that is one operation on a value.
 #[cycle(expression)]
 fn unary<'t, V: Visitor>(
-    known: &Known,
+    known: &ProgramTables,
     visitor: &mut V,
     operand: &Expr<'t>,
     by: Unary,
@@ -215,7 +215,7 @@ fn unary<'t, V: Visitor>(
 // `++` or `--` in front, as the sum or difference with 1.
 #[cycle(expression)]
 fn increase<'t, V: Visitor>(
-    known: &Known,
+    known: &ProgramTables,
     visitor: &mut V,
     operand: &Expr<'t>,
     sign: Sign,
@@ -236,7 +236,7 @@ fn increase<'t, V: Visitor>(
 // The links of a chain, behind what stands before them.
 #[cycle(expression)]
 fn chain<'t, V: Visitor>(
-    known: &Known,
+    known: &ProgramTables,
     visitor: &mut V,
     links: &[Link<'t>],
     first: Standing<'t>,
@@ -259,7 +259,7 @@ fn chain<'t, V: Visitor>(
 // A sign between two expressions, behind the left one.
 #[cycle(expression)]
 fn join<'t, V: Visitor>(
-    known: &Known,
+    known: &ProgramTables,
     visitor: &mut V,
     link: &Link<'t>,
     left: Standing<'t>,
@@ -284,7 +284,7 @@ fn join<'t, V: Visitor>(
                 &link.right,
                 left,
                 link.spot,
-                Split::AndThen,
+                SplitKind::AndThen,
                 true,
             );
             Some(Standing::OnList)
@@ -296,7 +296,7 @@ fn join<'t, V: Visitor>(
                 &link.right,
                 left,
                 link.spot,
-                Split::OrElse,
+                SplitKind::OrElse,
                 false,
             );
             Some(Standing::OnList)
@@ -314,12 +314,12 @@ fn join<'t, V: Visitor>(
 // branches, or splits.
 #[cycle(expression)]
 fn logical<'t, V: Visitor>(
-    known: &Known,
+    known: &ProgramTables,
     visitor: &mut V,
     right: &Expr<'t>,
     left: Standing<'t>,
     spot: Spot,
-    split: Split,
+    split: SplitKind,
     onward: bool,
 )
     requires { IsSound known.now }
@@ -335,7 +335,7 @@ fn logical<'t, V: Visitor>(
     let here = known.note(spot.at);
     if here.splits {
         let before = visitor.mark();
-        choose(visitor, Operation::Divide(split), spot.place);
+        choose(visitor, Operation::Split(split), spot.place);
         let inside = visitor.mark();
         truth(known, visitor, right, true);
         let behind = visitor.mark();
@@ -364,7 +364,7 @@ fn other_value(onward: bool) -> u32
 
 // The right side of `&&` or `||`, whose value becomes 0 or 1. A part of a split ends behind it.
 #[cycle(expression)]
-fn truth<V: Visitor>(known: &Known, visitor: &mut V, right: &Expr, ends: bool)
+fn truth<V: Visitor>(known: &ProgramTables, visitor: &mut V, right: &Expr, ends: bool)
     requires { IsSound known.now }
     ensures { visitor.new ≡ through V.after V.counts (functions_of known.now) visitor.old
         (e.truth (tables_of known.now) (functions_of known.now)
@@ -373,14 +373,14 @@ fn truth<V: Visitor>(known: &Known, visitor: &mut V, right: &Expr, ends: bool)
 {
     if value(known, visitor, right).is_some() {
         plain(visitor, Operation::Push(0));
-        plain(visitor, Operation::Join(Op::Ne, false));
+        plain(visitor, Operation::Binary(Op::Ne, false));
         end(visitor, ends);
     }
 }
 
 // One of the two values of `?:`. A part of a split ends behind it.
 #[cycle(expression)]
-fn arm<V: Visitor>(known: &Known, visitor: &mut V, whole: &Expr, ends: bool)
+fn arm<V: Visitor>(known: &ProgramTables, visitor: &mut V, whole: &Expr, ends: bool)
     requires { IsSound known.now }
     ensures { visitor.new ≡ through V.after V.counts (functions_of known.now) visitor.old
         (e.value (tables_of known.now) (functions_of known.now) (tree_of whole.now)
@@ -394,7 +394,7 @@ fn arm<V: Visitor>(known: &Known, visitor: &mut V, whole: &Expr, ends: bool)
 // The first of the two values of `?:`, behind its condition. In a synchronous region the group
 // agrees before it branches, or splits.
 #[cycle(expression)]
-fn first_arm<V: Visitor>(known: &Known, visitor: &mut V, first: &Expr, spot: Spot) -> Ways
+fn first_arm<V: Visitor>(known: &ProgramTables, visitor: &mut V, first: &Expr, spot: Spot) -> Ways
     requires { IsSound known.now }
     ensures { (second : e.Stands) (k : e.Standing → Coded)
         → through V.after V.counts (functions_of known.now) visitor.old
@@ -407,7 +407,7 @@ fn first_arm<V: Visitor>(known: &Known, visitor: &mut V, first: &Expr, spot: Spo
     let here = known.note(spot.at);
     if here.splits {
         let before = visitor.mark();
-        choose(visitor, Operation::Divide(Split::IfElse), spot.place);
+        choose(visitor, Operation::Split(SplitKind::IfElse), spot.place);
         let inside = visitor.mark();
         arm(known, visitor, first, true);
         let behind = visitor.mark();
@@ -433,7 +433,7 @@ fn first_arm<V: Visitor>(known: &Known, visitor: &mut V, first: &Expr, spot: Spo
 
 // The second value of `?:`, and where both ways meet.
 #[cycle(expression)]
-fn second_arm<V: Visitor>(known: &Known, visitor: &mut V, second: &Expr, spot: Spot, ways: Ways)
+fn second_arm<V: Visitor>(known: &ProgramTables, visitor: &mut V, second: &Expr, spot: Spot, ways: Ways)
     requires { IsSound known.now }
     ensures { (rest : Coded) → behind_first V.after V.counts (functions_of known.now) visitor.old
         ways (other_arm (tables_of known.now) (functions_of known.now) spot
@@ -456,7 +456,7 @@ fn second_arm<V: Visitor>(known: &Known, visitor: &mut V, second: &Expr, spot: S
 #[cycle(expression)]
 #[tactic(auto, unfolding(crate::specs::Suffix::assigned_to))]
 fn assign<'t, V: Visitor>(
-    known: &Known,
+    known: &ProgramTables,
     visitor: &mut V,
     right: &Expr<'t>,
     target: Standing<'t>,
@@ -489,7 +489,7 @@ fn assign<'t, V: Visitor>(
 #[cycle(expression)]
 #[tactic(auto, using(crate::proofs::Stepwise::followed_step))]
 fn postfix<'t, V: Visitor>(
-    known: &Known,
+    known: &ProgramTables,
     visitor: &mut V,
     suffixes: &[Suffix<'t>],
     whole: Standing<'t>,
@@ -512,7 +512,7 @@ fn postfix<'t, V: Visitor>(
 // One suffix, behind what stands before it.
 #[cycle(expression)]
 fn one_suffix<'t, V: Visitor>(
-    known: &Known,
+    known: &ProgramTables,
     visitor: &mut V,
     suffix: &Suffix<'t>,
     standing: Standing<'t>,
@@ -555,7 +555,7 @@ fn one_suffix<'t, V: Visitor>(
 // A call of what stands before it. Nothing follows where that is no function's name.
 #[cycle(expression)]
 fn call<'t, V: Visitor>(
-    known: &Known,
+    known: &ProgramTables,
     visitor: &mut V,
     arguments: &[Expr<'t>],
     standing: Standing<'t>,
@@ -582,7 +582,7 @@ fn call<'t, V: Visitor>(
 // A call of a function of the text.
 #[cycle(expression)]
 fn call_declared<'t, V: Visitor>(
-    known: &Known,
+    known: &ProgramTables,
     visitor: &mut V,
     arguments: &[Expr<'t>],
     name: Name<'t>,
@@ -621,7 +621,7 @@ fn call_declared<'t, V: Visitor>(
 #[cycle(expression)]
 #[tactic(auto, using(crate::proofs::Arguments::no_parameters))]
 fn argue<V: Visitor>(
-    known: &Known,
+    known: &ProgramTables,
     visitor: &mut V,
     arguments: &[Expr],
     parameters: &[Declared],
@@ -646,7 +646,7 @@ fn argue<V: Visitor>(
 // A call of a function that is declared before each text.
 #[cycle(expression)]
 fn call_predeclared<'t, V: Visitor>(
-    known: &Known,
+    known: &ProgramTables,
     visitor: &mut V,
     arguments: &[Expr<'t>],
     name: Name<'t>,
@@ -670,7 +670,7 @@ fn call_predeclared<'t, V: Visitor>(
 #[cycle(expression)]
 #[tactic(auto, using(crate::proofs::Arguments::too_few))]
 fn multiprefix<'t, V: Visitor>(
-    known: &Known,
+    known: &ProgramTables,
     visitor: &mut V,
     arguments: &[Expr<'t>],
     name: Name<'t>,
@@ -696,7 +696,7 @@ fn multiprefix<'t, V: Visitor>(
 // none.
 #[cycle(expression)]
 fn with_one<'t, V: Visitor>(
-    known: &Known,
+    known: &ProgramTables,
     visitor: &mut V,
     arguments: &[Expr<'t>],
     agreed: bool,

@@ -23,7 +23,7 @@ pub struct Framed {
 
 /// What is known of a program.
 #[derive(Drop)]
-pub struct Known<'p, 't> {
+pub struct ProgramTables<'p, 't> {
     /// A note for each token.
     pub notes: &'p [Note],
     /// The types.
@@ -67,7 +67,7 @@ const NO_REGION: Region = Region {
     words: 0,
 };
 
-impl<'p, 't> Known<'p, 't> {
+impl<'p, 't> ProgramTables<'p, 't> {
     /// The note of a token.
     pub fn note(&self, at: u32) -> Note
         ensures { result ≡ t.note (tables_of self.now) at }

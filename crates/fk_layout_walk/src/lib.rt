@@ -18,7 +18,7 @@ mod visitor;
 
 pub use calls::frame;
 pub use expressions::{expression, value};
-pub use known::{Framed, Known};
+pub use known::{Framed, ProgramTables};
 pub use standing::Standing;
 pub use standings::{agree, discard, end, give_address, name, put};
 pub use tally::Tally;

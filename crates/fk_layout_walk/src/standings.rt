@@ -11,16 +11,16 @@ ghost use Rattle.fk_layout_walk.specs.Standing.{standing_of, ending};
 ghost use Rattle.fk_meaning_forms.specs.Tables.{Tables};
 ghost use Rattle.fk_layout_walk.specs.Through.{through, Leads, Passes};
 
-use crate::known::{Known, PREDECLARED};
+use crate::known::{ProgramTables, PREDECLARED};
 use crate::standing::Standing;
 use crate::visitor::{Event, NOWHERE, Visitor, plain};
 use fk_meaning_forms::{Home, Move, is_shift, move_of, operator_of};
 use fk_num::Op;
-use fk_meaning_operation::{Known as Value, Operation, Unary, Variable};
+use fk_meaning_operation::{OwnValue as Value, Operation, Unary, Variable};
 use fk_syntax::{Name, Sign, Spot};
 
 // The check of an address that lies behind a dereference or an index.
-pub(crate) fn check<V: Visitor>(known: &Known, visitor: &mut V, deep: bool, spot: Spot)
+pub(crate) fn check<V: Visitor>(known: &ProgramTables, visitor: &mut V, deep: bool, spot: Spot)
     ensures { Passes V.after V.counts (functions_of known.now) visitor.old visitor.new
         (e.checked (tables_of known.now) (functions_of known.now) deep spot) }
 {
@@ -30,7 +30,7 @@ pub(crate) fn check<V: Visitor>(known: &Known, visitor: &mut V, deep: bool, spot
 }
 
 // An expression as a value.
-pub(crate) fn give_value<V: Visitor>(known: &Known, visitor: &mut V, standing: Standing)
+pub(crate) fn give_value<V: Visitor>(known: &ProgramTables, visitor: &mut V, standing: Standing)
     ensures { Passes V.after V.counts (functions_of known.now) visitor.old visitor.new
         (e.valued (tables_of known.now) (functions_of known.now) (standing_of standing.entry)) }
 {
@@ -47,7 +47,7 @@ pub(crate) fn give_value<V: Visitor>(known: &Known, visitor: &mut V, standing: S
 }
 
 /// Makes an expression an address.
-pub fn give_address<V: Visitor>(known: &Known, visitor: &mut V, standing: Standing)
+pub fn give_address<V: Visitor>(known: &ProgramTables, visitor: &mut V, standing: Standing)
     ensures { Passes V.after V.counts (functions_of known.now) visitor.old visitor.new
         (e.addressed (tables_of known.now) (functions_of known.now) (standing_of standing.entry)) }
 {
@@ -57,7 +57,7 @@ pub fn give_address<V: Visitor>(known: &Known, visitor: &mut V, standing: Standi
 }
 
 // A value of which a compound assignment makes another one.
-pub(crate) fn fetch<V: Visitor>(known: &Known, visitor: &mut V, standing: Standing)
+pub(crate) fn fetch<V: Visitor>(known: &ProgramTables, visitor: &mut V, standing: Standing)
     ensures { Passes V.after V.counts (functions_of known.now) visitor.old visitor.new
         (e.fetched (tables_of known.now) (functions_of known.now) (standing_of standing.entry)) }
 {
@@ -73,7 +73,7 @@ pub(crate) fn fetch<V: Visitor>(known: &Known, visitor: &mut V, standing: Standi
 }
 
 /// Stores the new value of what was assigned to.
-pub fn put<V: Visitor>(known: &Known, visitor: &mut V, standing: Standing)
+pub fn put<V: Visitor>(known: &ProgramTables, visitor: &mut V, standing: Standing)
     ensures { Passes V.after V.counts (functions_of known.now) visitor.old visitor.new
         (e.assigned (tables_of known.now) (functions_of known.now) (standing_of standing.entry)) }
 {
@@ -85,7 +85,7 @@ pub fn put<V: Visitor>(known: &Known, visitor: &mut V, standing: Standing)
 }
 
 /// Drops a value that nobody uses, where the token tells that there is one.
-pub fn discard<V: Visitor>(known: &Known, visitor: &mut V, at: u32)
+pub fn discard<V: Visitor>(known: &ProgramTables, visitor: &mut V, at: u32)
     ensures { Passes V.after V.counts (functions_of known.now) visitor.old visitor.new
         (e.dropped (tables_of known.now) (functions_of known.now) at) }
 {
@@ -95,7 +95,7 @@ pub fn discard<V: Visitor>(known: &Known, visitor: &mut V, at: u32)
 }
 
 // The operation of a sign on the values of two tokens, by their types.
-fn operator(known: &Known, sign: Sign, left: u32, right: u32) -> Operation
+fn operator(known: &ProgramTables, sign: Sign, left: u32, right: u32) -> Operation
     ensures { result ≡ operator_by sign (if is_a_shift sign
         then t.is_unsigned (tables_of known.now) left
         else t.is_unsigned (tables_of known.now) left || t.is_unsigned (tables_of known.now) right) }
@@ -124,7 +124,7 @@ fn advance<V: Visitor>(visitor: &mut V, by: Move, step: u32, otherwise: Operatio
 }
 
 /// The operator of a sign between the values of two tokens.
-pub(crate) fn operate<V: Visitor>(known: &Known, visitor: &mut V, sign: Sign, left: u32, right: u32)
+pub(crate) fn operate<V: Visitor>(known: &ProgramTables, visitor: &mut V, sign: Sign, left: u32, right: u32)
     ensures { Passes V.after V.counts (functions_of known.now) visitor.old visitor.new
         (e.operate (tables_of known.now) (functions_of known.now) sign left right) }
 {
@@ -145,7 +145,7 @@ fn global_address(index: u32) -> u32
 }
 
 /// Shows the operations of a variable or another name, and tells how it stands.
-pub fn name<'t, V: Visitor>(known: &Known, visitor: &mut V, name: Name<'t>) -> Option<Standing<'t>>
+pub fn name<'t, V: Visitor>(known: &ProgramTables, visitor: &mut V, name: Name<'t>) -> Option<Standing<'t>>
     ensures { Leads V.after V.counts (functions_of known.now) visitor.old visitor.new result
         (e.variable (tables_of known.now) (functions_of known.now) (named name.entry)) }
 {
@@ -177,7 +177,7 @@ pub fn name<'t, V: Visitor>(known: &Known, visitor: &mut V, name: Name<'t>) -> O
 
 // A name that is declared before each text.
 pub(crate) fn predeclared<'t, V: Visitor>(
-    known: &Known,
+    known: &ProgramTables,
     visitor: &mut V,
     name: Name<'t>,
 ) -> Standing<'t>
@@ -213,7 +213,7 @@ pub(crate) fn spot_of(name: Name) -> Spot
 
 // `++` or `--`, as the sum or difference with 1.
 pub(crate) fn raise<V: Visitor>(
-    known: &Known,
+    known: &ProgramTables,
     visitor: &mut V,
     sign: Sign,
     standing: Standing,
@@ -232,7 +232,7 @@ pub(crate) fn raise<V: Visitor>(
 }
 
 // By how much `++` behind a value is undone: by 1, or for a pointer by the bytes of its step.
-fn step_back(known: &Known, at: u32) -> u32
+fn step_back(known: &ProgramTables, at: u32) -> u32
     ensures { result ≡ e.step_back (tables_of known.now) (functions_of known.now) at }
 {
     match known.kind_at(at).step {
@@ -243,7 +243,7 @@ fn step_back(known: &Known, at: u32) -> u32
 
 // `++` or `--` behind a value: as in front, and then undone by the sign that leads back.
 pub(crate) fn raise_and_undo<V: Visitor>(
-    known: &Known,
+    known: &ProgramTables,
     visitor: &mut V,
     sign: Sign,
     back: Sign,
@@ -260,13 +260,13 @@ pub(crate) fn raise_and_undo<V: Visitor>(
 }
 
 /// The place of a member, behind that of its struct.
-pub(crate) fn enter_member<V: Visitor>(known: &Known, visitor: &mut V, member: u32)
+pub(crate) fn enter_member<V: Visitor>(known: &ProgramTables, visitor: &mut V, member: u32)
     ensures { Passes V.after V.counts (functions_of known.now) visitor.old visitor.new
         (e.member (tables_of known.now) (functions_of known.now) member) }
 {
     let before = Operation::Push(known.bytes_before(member));
     visitor.meet(Event::Perform(before, NOWHERE));
-    plain(visitor, Operation::Join(Op::Add, false));
+    plain(visitor, Operation::Binary(Op::Add, false));
 }
 
 /// The agreement of a group in a synchronous region.

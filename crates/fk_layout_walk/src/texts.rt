@@ -7,7 +7,7 @@ ghost use Rattle.fk_meaning_operation.specs.declared.operation.Operation.TheVari
 ghost use Rattle.fk_layout_walk.specs.Known.{functions_of};
 ghost use Rattle.fk_layout_walk.specs.Through.{through, Passes};
 
-use crate::known::Known;
+use crate::known::ProgramTables;
 use crate::visitor::{Visitor, plain};
 use fk_meaning_operation::Operation;
 
@@ -20,7 +20,7 @@ pub(crate) fn is_spelled(bytes: &[u8], name: &[u8]) -> bool
 
 /// `puts`: each byte of a text, which has its quotes, is pushed and printed.
 #[tactic(auto, using(crate::proofs::Printed::short))]
-pub(crate) fn put_bytes<V: Visitor>(known: &Known, visitor: &mut V, text: &[u8])
+pub(crate) fn put_bytes<V: Visitor>(known: &ProgramTables, visitor: &mut V, text: &[u8])
     ensures { Passes V.after V.counts (functions_of known.now) visitor.old visitor.new
         (e.put_bytes (text_of text.now)) }
 {

@@ -17,10 +17,10 @@ use crate::inside::Inside;
 use crate::nested::statements;
 use crate::simple::finish;
 use fk_syntax::{Function, Item, Name, Stmt};
-use fk_layout_walk::{Known, Visitor, is_nothing};
+use fk_layout_walk::{ProgramTables, Visitor, is_nothing};
 
 // What the statements of a function need to know of it.
-fn inside_function(known: &Known, name: Name) -> Inside
+fn inside_function(known: &ProgramTables, name: Name) -> Inside
     requires { IsSound known.now }
     ensures main { result.main ≡ is_name (named name.entry) (codes "main") }
     ensures framed { result.framed
@@ -33,7 +33,7 @@ fn inside_function(known: &Known, name: Name) -> Inside
 }
 
 // The statements of a function, and its end.
-fn body<V: Visitor>(known: &Known, visitor: &mut V, list: &[Stmt], inside: Inside, void: bool)
+fn body<V: Visitor>(known: &ProgramTables, visitor: &mut V, list: &[Stmt], inside: Inside, void: bool)
     requires { IsSound known.now }
     ensures { visitor.new ≡ through V.after V.counts (functions_of known.now) visitor.old
         (s.body_of (tables_of known.now) (functions_of known.now) (inside_of inside) void
@@ -46,7 +46,7 @@ fn body<V: Visitor>(known: &Known, visitor: &mut V, list: &[Stmt], inside: Insid
 
 /// Shows a visitor the operations of a function, that of its end included. One without a body has
 /// none.
-pub fn function<V: Visitor>(known: &Known, visitor: &mut V, whole: &Function)
+pub fn function<V: Visitor>(known: &ProgramTables, visitor: &mut V, whole: &Function)
     requires { IsSound known.now }
     ensures { visitor.new ≡ through V.after V.counts (functions_of known.now) visitor.old
         (code_in known.now (function_of whole.now)) }
@@ -58,7 +58,7 @@ pub fn function<V: Visitor>(known: &Known, visitor: &mut V, whole: &Function)
 }
 
 // What stands in a text side by side.
-fn item<V: Visitor>(known: &Known, visitor: &mut V, whole: &Item)
+fn item<V: Visitor>(known: &ProgramTables, visitor: &mut V, whole: &Item)
     requires { IsSound known.now }
     ensures { (others : List ItemTree)
         → through_all V.after V.counts known.now visitor.old
@@ -71,7 +71,7 @@ fn item<V: Visitor>(known: &Known, visitor: &mut V, whole: &Item)
     }
 }
 
-fn items<V: Visitor>(known: &Known, visitor: &mut V, list: &[Item])
+fn items<V: Visitor>(known: &ProgramTables, visitor: &mut V, list: &[Item])
     requires { IsSound known.now }
     ensures { visitor.new ≡ through_all V.after V.counts known.now visitor.old
         (f.functions_of (map item_of list.now)) }
@@ -82,7 +82,7 @@ fn items<V: Visitor>(known: &Known, visitor: &mut V, list: &[Item])
 }
 
 /// Shows a visitor all operations of the text, function by function in its order.
-pub fn text<V: Visitor>(known: &Known, visitor: &mut V)
+pub fn text<V: Visitor>(known: &ProgramTables, visitor: &mut V)
     requires { IsSound known.now }
     ensures { visitor.new ≡ through_all V.after V.counts known.now visitor.old
         (functions_in known.now) }

@@ -24,15 +24,15 @@ use crate::simple::{
     used, used_or,
 };
 use crate::turns::Turns;
-use fk_meaning_operation::{Operation, Split};
+use fk_meaning_operation::{Operation, SplitKind};
 use fk_syntax::{Expr, Place, Spot, Stmt};
-use fk_layout_walk::{Event, Known, NOWHERE, Visitor, Ways, agree, choose, end, frame, plain, value};
+use fk_layout_walk::{Event, ProgramTables, NOWHERE, Visitor, Ways, agree, choose, end, frame, plain, value};
 
 /// Shows a visitor the operations of a statement in a function, and tells whether something follows
 /// them: nothing does behind a call of what is no function.
 #[cycle(statement)]
 pub fn statement<V: Visitor>(
-    known: &Known,
+    known: &ProgramTables,
     visitor: &mut V,
     inside: Inside,
     whole: &Stmt,
@@ -67,7 +67,7 @@ pub fn statement<V: Visitor>(
         Stmt::Start(spot, count, body) => start(known, visitor, inside, *spot, count, body),
         Stmt::Fork(spot, parts, part, rank, body) => {
             numbers(known, visitor, parts, part, rank)?;
-            let divide = Operation::Divide(Split::Fork);
+            let divide = Operation::Split(SplitKind::Fork);
             group(known, visitor, inside, divide, spot.place, *spot, body)
         }
         Stmt::Farm(_, body) => meeting(known, visitor, inside, Operation::Farm, body),
@@ -83,7 +83,7 @@ pub fn statement<V: Visitor>(
 /// them.
 #[cycle(statement)]
 pub fn statements<V: Visitor>(
-    known: &Known,
+    known: &ProgramTables,
     visitor: &mut V,
     inside: Inside,
     list: &[Stmt],
@@ -102,7 +102,7 @@ pub fn statements<V: Visitor>(
 // A `start`, whose part has a place for its frame alone.
 #[cycle(statement)]
 fn start<'s, 't, V: Visitor>(
-    known: &Known,
+    known: &ProgramTables,
     visitor: &mut V,
     inside: Inside,
     spot: Spot,
@@ -121,7 +121,7 @@ fn start<'s, 't, V: Visitor>(
 
 // A statement that is one way of a choice or the body of a loop, behind which the way ends.
 #[cycle(statement)]
-fn way<V: Visitor>(known: &Known, visitor: &mut V, inside: Inside, body: &Stmt, ends: bool)
+fn way<V: Visitor>(known: &ProgramTables, visitor: &mut V, inside: Inside, body: &Stmt, ends: bool)
     requires { IsSound known.now }
     ensures { visitor.new ≡ through V.after V.counts (functions_of known.now) visitor.old
         (s.executed (tables_of known.now) (functions_of known.now) (inside_of inside)
@@ -135,7 +135,7 @@ fn way<V: Visitor>(known: &Known, visitor: &mut V, inside: Inside, body: &Stmt, 
 // A statement that is a part of a group.
 #[cycle(statement)]
 fn part<V: Visitor>(
-    known: &Known,
+    known: &ProgramTables,
     visitor: &mut V,
     inside: Inside,
     spot: Spot,
@@ -154,7 +154,7 @@ fn part<V: Visitor>(
 // A part that an operation begins, and what the others do behind it.
 #[cycle(statement)]
 fn group<V: Visitor>(
-    known: &Known,
+    known: &ProgramTables,
     visitor: &mut V,
     inside: Inside,
     begin: Operation,
@@ -181,7 +181,7 @@ fn group<V: Visitor>(
 
 // A statement that an operation leads to, or past it.
 #[cycle(statement)]
-fn apart<V: Visitor>(known: &Known, visitor: &mut V, inside: Inside, begin: Operation, body: &Stmt)
+fn apart<V: Visitor>(known: &ProgramTables, visitor: &mut V, inside: Inside, begin: Operation, body: &Stmt)
     requires { IsSound known.now }
     ensures { Passes V.after V.counts (functions_of known.now) visitor.old visitor.new
         (λ rest. c.choose e.nowhere begin
@@ -200,7 +200,7 @@ fn apart<V: Visitor>(known: &Known, visitor: &mut V, inside: Inside, begin: Oper
 // `farm` or `seq`, by the operation that begins it.
 #[cycle(statement)]
 fn meeting<V: Visitor>(
-    known: &Known,
+    known: &ProgramTables,
     visitor: &mut V,
     inside: Inside,
     begin: Operation,
@@ -220,7 +220,7 @@ fn meeting<V: Visitor>(
 // An `if` without `else`. In a synchronous region the group agrees before it branches, or splits.
 #[cycle(statement)]
 fn alone<'s, 't, V: Visitor>(
-    known: &Known,
+    known: &ProgramTables,
     visitor: &mut V,
     inside: Inside,
     spot: Spot,
@@ -235,7 +235,7 @@ fn alone<'s, 't, V: Visitor>(
     value(known, visitor, condition)?;
     let here = known.note(spot.at);
     if here.splits {
-        let divide = Operation::Divide(Split::IfAlone);
+        let divide = Operation::Split(SplitKind::IfAlone);
         group(known, visitor, inside, divide, spot.place, spot, first)
     } else {
         agree(visitor, here.sync);
@@ -247,7 +247,7 @@ fn alone<'s, 't, V: Visitor>(
 // The condition and the first way of an `if` that has an `else`.
 #[cycle(statement)]
 fn first_way<'s, 't, V: Visitor>(
-    known: &Known,
+    known: &ProgramTables,
     visitor: &mut V,
     inside: Inside,
     spot: Spot,
@@ -266,7 +266,7 @@ fn first_way<'s, 't, V: Visitor>(
     let here = known.note(spot.at);
     if here.splits {
         let before = visitor.mark();
-        choose(visitor, Operation::Divide(Split::IfElse), spot.place);
+        choose(visitor, Operation::Split(SplitKind::IfElse), spot.place);
         let within = visitor.mark();
         part(known, visitor, inside, spot, false, first);
         let behind = visitor.mark();
@@ -293,7 +293,7 @@ fn first_way<'s, 't, V: Visitor>(
 // The second way, and where both meet.
 #[cycle(statement)]
 fn second_way<V: Visitor>(
-    known: &Known,
+    known: &ProgramTables,
     visitor: &mut V,
     inside: Inside,
     spot: Spot,
@@ -323,7 +323,7 @@ fn second_way<V: Visitor>(
 // A `for`: what it does before its loop, then the loop.
 #[cycle(statement)]
 fn count_up<'s, 't, V: Visitor>(
-    known: &Known,
+    known: &ProgramTables,
     visitor: &mut V,
     inside: Inside,
     spot: Spot,
@@ -346,7 +346,7 @@ fn count_up<'s, 't, V: Visitor>(
 // A loop. Where a group splits at it, it runs in a part, of which each member leaves it by itself.
 #[cycle(statement)]
 fn repeat<'s, 't, V: Visitor>(
-    known: &Known,
+    known: &ProgramTables,
     visitor: &mut V,
     inside: Inside,
     spot: Spot,
@@ -362,7 +362,7 @@ fn repeat<'s, 't, V: Visitor>(
 {
     if known.note(spot.at).splits {
         let before = visitor.mark();
-        choose(visitor, Operation::Divide(Split::Loop), spot.place);
+        choose(visitor, Operation::Split(SplitKind::Loop), spot.place);
         let within = visitor.mark();
         frame(known, visitor, spot.at, false, spot.place);
         turn(known, visitor, inside, spot, body, turns);
@@ -380,7 +380,7 @@ fn repeat<'s, 't, V: Visitor>(
 // A loop: its test, its body and its step, in the order in which a turn does them.
 #[cycle(statement)]
 fn turn<'s, 't, V: Visitor>(
-    known: &Known,
+    known: &ProgramTables,
     visitor: &mut V,
     inside: Inside,
     spot: Spot,

@@ -5,7 +5,7 @@ ghost use Rattle.std.specs.Option.{option_map};
 ghost use Rattle.fk_syntax.specs.View.{tree_of};
 ghost use Rattle.fk_syntax.specs.ProgramView.{declared_of};
 ghost use Rattle.fk_meaning_operation.specs.declared.operation.Operation.TheVariants as o;
-ghost use Rattle.fk_meaning_operation.specs.declared.operation.Known.TheVariants as n;
+ghost use Rattle.fk_meaning_operation.specs.declared.operation.OwnValue.TheVariants as n;
 ghost use Rattle.fk_meaning_forms.specs.Code as c;
 ghost use Rattle.fk_meaning_forms.specs.Tables as t;
 ghost use Rattle.fk_meaning_forms.specs.Expressions as e;
@@ -16,15 +16,15 @@ ghost use Rattle.fk_layout_walk_statements.specs.Inside.{inside_of};
 
 use crate::inside::Inside;
 use crate::types::is_scalar;
-use fk_meaning_operation::{Known as Value, Operation};
+use fk_meaning_operation::{OwnValue as Value, Operation};
 use fk_syntax::{Declared, Expr, Spot};
 use fk_layout_walk::{
-    Event, Known, NOWHERE, Visitor, agree, discard, ends, give_address, name, plain, put, token_of,
+    Event, ProgramTables, NOWHERE, Visitor, agree, discard, ends, give_address, name, plain, put, token_of,
     value,
 };
 
 /// An expression that stands as a statement.
-pub(crate) fn used<V: Visitor>(known: &Known, visitor: &mut V, whole: &Expr) -> Option<()>
+pub(crate) fn used<V: Visitor>(known: &ProgramTables, visitor: &mut V, whole: &Expr) -> Option<()>
     requires { IsSound known.now }
     ensures { LeadsOn V.after V.counts (functions_of known.now) visitor.old visitor.new result
         (s.used (tables_of known.now) (functions_of known.now) (tree_of whole.now)) }
@@ -36,7 +36,7 @@ pub(crate) fn used<V: Visitor>(known: &Known, visitor: &mut V, whole: &Expr) -> 
 
 /// One that may be absent.
 pub(crate) fn used_or<V: Visitor>(
-    known: &Known,
+    known: &ProgramTables,
     visitor: &mut V,
     whole: &Option<Expr>,
 ) -> Option<()>
@@ -51,7 +51,7 @@ pub(crate) fn used_or<V: Visitor>(
 }
 
 /// The step of a `for`, behind which its turn ends.
-pub(crate) fn step<V: Visitor>(known: &Known, visitor: &mut V, after: &Option<Expr>)
+pub(crate) fn step<V: Visitor>(known: &ProgramTables, visitor: &mut V, after: &Option<Expr>)
     requires { IsSound known.now }
     ensures { visitor.new ≡ through V.after V.counts (functions_of known.now) visitor.old
         (s.used_or (tables_of known.now) (functions_of known.now) (option_map tree_of after.now)
@@ -67,7 +67,7 @@ pub(crate) fn step<V: Visitor>(known: &Known, visitor: &mut V, after: &Option<Ex
 
 // A value, or an operation in its place.
 fn value_or<V: Visitor>(
-    known: &Known,
+    known: &ProgramTables,
     visitor: &mut V,
     absent: Operation,
     whole: &Option<Expr>,
@@ -87,7 +87,7 @@ fn value_or<V: Visitor>(
 }
 
 // A scalar that is declared gets its value, or 0. An array and a struct keep what their words hold.
-fn declare<V: Visitor>(known: &Known, visitor: &mut V, declared: &Declared) -> Option<()>
+fn declare<V: Visitor>(known: &ProgramTables, visitor: &mut V, declared: &Declared) -> Option<()>
     requires { IsSound known.now }
     ensures { LeadsOn V.after V.counts (functions_of known.now) visitor.old visitor.new result
         (s.declared (tables_of known.now) (functions_of known.now) (declared_of declared.now)) }
@@ -105,7 +105,7 @@ fn declare<V: Visitor>(known: &Known, visitor: &mut V, declared: &Declared) -> O
 
 /// Declarations, in their order.
 pub(crate) fn declare_all<V: Visitor>(
-    known: &Known,
+    known: &ProgramTables,
     visitor: &mut V,
     variables: &[Declared],
 ) -> Option<()>
@@ -121,7 +121,7 @@ pub(crate) fn declare_all<V: Visitor>(
 }
 
 // What goes on in a loop, or leaves it, by its condition.
-fn leave_loop<V: Visitor>(known: &Known, visitor: &mut V, spot: Spot)
+fn leave_loop<V: Visitor>(known: &ProgramTables, visitor: &mut V, spot: Spot)
     ensures { visitor.new ≡ through V.after V.counts (functions_of known.now) visitor.old
         (s.leaving (tables_of known.now) (functions_of known.now)
         (t.note (tables_of known.now) spot.at)) }
@@ -136,7 +136,7 @@ fn leave_loop<V: Visitor>(known: &Known, visitor: &mut V, spot: Spot)
 }
 
 /// The condition of a loop, and what leaves the loop by it.
-pub(crate) fn test<V: Visitor>(known: &Known, visitor: &mut V, spot: Spot, condition: &Expr)
+pub(crate) fn test<V: Visitor>(known: &ProgramTables, visitor: &mut V, spot: Spot, condition: &Expr)
     requires { IsSound known.now }
     ensures { visitor.new ≡ through V.after V.counts (functions_of known.now) visitor.old
         (s.tested (tables_of known.now) (functions_of known.now) spot
@@ -149,7 +149,7 @@ pub(crate) fn test<V: Visitor>(known: &Known, visitor: &mut V, spot: Spot, condi
 
 /// The condition of a `for`. An absent one is 1.
 pub(crate) fn test_or<V: Visitor>(
-    known: &Known,
+    known: &ProgramTables,
     visitor: &mut V,
     spot: Spot,
     condition: &Option<Expr>,
@@ -170,7 +170,7 @@ pub(crate) fn test_or<V: Visitor>(
 
 /// The count of a `start`. An absent one is the number of all processors.
 pub(crate) fn count_or_all<V: Visitor>(
-    known: &Known,
+    known: &ProgramTables,
     visitor: &mut V,
     count: &Option<Expr>,
 ) -> Option<()>
@@ -185,7 +185,7 @@ pub(crate) fn count_or_all<V: Visitor>(
 /// The numbers of a `fork`: of its parts, of the part that a processor enters, and of its rank
 /// there. An absent rank is the one that it has.
 pub(crate) fn numbers<'s, 't, V: Visitor>(
-    known: &Known,
+    known: &ProgramTables,
     visitor: &mut V,
     parts: &'s Expr<'t>,
     part: &'s Expr<'t>,
@@ -206,7 +206,7 @@ pub(crate) fn numbers<'s, 't, V: Visitor>(
 }
 
 /// `barrier`.
-pub(crate) fn barrier<V: Visitor>(known: &Known, visitor: &mut V) -> Option<()>
+pub(crate) fn barrier<V: Visitor>(known: &ProgramTables, visitor: &mut V) -> Option<()>
     ensures { LeadsOn V.after V.counts (functions_of known.now) visitor.old visitor.new result
         (e.plain (o.Meet false)) }
 {
@@ -215,7 +215,7 @@ pub(crate) fn barrier<V: Visitor>(known: &Known, visitor: &mut V) -> Option<()>
 }
 
 /// `break`.
-pub(crate) fn break_off<V: Visitor>(known: &Known, visitor: &mut V) -> Option<()>
+pub(crate) fn break_off<V: Visitor>(known: &ProgramTables, visitor: &mut V) -> Option<()>
     ensures { LeadsOn V.after V.counts (functions_of known.now) visitor.old visitor.new result
         c.break }
 {
@@ -224,7 +224,7 @@ pub(crate) fn break_off<V: Visitor>(known: &Known, visitor: &mut V) -> Option<()
 }
 
 /// `continue`.
-pub(crate) fn go_on<V: Visitor>(known: &Known, visitor: &mut V) -> Option<()>
+pub(crate) fn go_on<V: Visitor>(known: &ProgramTables, visitor: &mut V) -> Option<()>
     ensures { LeadsOn V.after V.counts (functions_of known.now) visitor.old visitor.new result
         c.continue }
 {
@@ -245,7 +245,7 @@ fn ending_by(inside: Inside, gives: bool) -> Operation
 }
 
 // The end of a call.
-fn end_call<V: Visitor>(known: &Known, visitor: &mut V, inside: Inside, gives: bool)
+fn end_call<V: Visitor>(known: &ProgramTables, visitor: &mut V, inside: Inside, gives: bool)
     ensures { Passes V.after V.counts (functions_of known.now) visitor.old visitor.new
         (λ rest. c.ends e.nowhere (if inside.main then o.Halt else o.Leave gives inside.framed)
         rest) }
@@ -254,7 +254,7 @@ fn end_call<V: Visitor>(known: &Known, visitor: &mut V, inside: Inside, gives: b
 }
 
 // What a `return` does behind its value, which `main` drops.
-fn hand_over<V: Visitor>(known: &Known, visitor: &mut V, inside: Inside)
+fn hand_over<V: Visitor>(known: &ProgramTables, visitor: &mut V, inside: Inside)
     ensures { Passes V.after V.counts (functions_of known.now) visitor.old visitor.new
         (λ rest. if inside.main then e.plain o.DropLast (c.ends e.nowhere o.Halt rest)
         else c.ends e.nowhere (o.Leave true inside.framed) rest) }
@@ -269,7 +269,7 @@ fn hand_over<V: Visitor>(known: &Known, visitor: &mut V, inside: Inside)
 
 /// A `return`, with its value where it has one.
 pub(crate) fn give_back<V: Visitor>(
-    known: &Known,
+    known: &ProgramTables,
     visitor: &mut V,
     inside: Inside,
     given: &Option<Expr>,
@@ -293,7 +293,7 @@ pub(crate) fn give_back<V: Visitor>(
 }
 
 /// What stands at the end of a function, where one with a result gives 0.
-pub(crate) fn finish<V: Visitor>(known: &Known, visitor: &mut V, inside: Inside, void: bool)
+pub(crate) fn finish<V: Visitor>(known: &ProgramTables, visitor: &mut V, inside: Inside, void: bool)
     ensures { visitor.new ≡ through V.after V.counts (functions_of known.now) visitor.old
         (s.end_of (tables_of known.now) (functions_of known.now) (inside_of inside) void) }
 {

@@ -95,7 +95,7 @@ onward_is None op r may value = refl
 
 pub plain_way : (op : Operation) (highest lowest : ℕ) (p : Processor) → changes_tree op ≡ false → goes_onward op highest lowest p ≡ true
 plain_way o.Begin highest lowest p e = absurd (true≢false e)
-plain_way (o.Divide by) highest lowest p e = absurd (true≢false e)
+plain_way (o.Split by) highest lowest p e = absurd (true≢false e)
 plain_way o.Shrink highest lowest p e = absurd (true≢false e)
 plain_way o.Seq highest lowest p e = absurd (true≢false e)
 plain_way op highest lowest p e = refl
@@ -159,7 +159,7 @@ module _ {W : Type 0} (next : W → Option (Step W)) (outs : W → List W) (coun
 
   leaves_by : (op : Operation) (w : W) (rest : Bool → W) (c : Class) → class_of op ≡ c → c ≢ Tree → CountsGoOn next outs counts op w rest → Leaves next outs counts c op w rest
   leaves_by o.Agree w rest c is isnt h = absurd (isnt (sym is))
-  leaves_by (o.Divide by) w rest c is isnt h = absurd (isnt (sym is))
+  leaves_by (o.Split by) w rest c is isnt h = absurd (isnt (sym is))
   leaves_by o.Farm w rest c is isnt h = absurd (isnt (sym is))
   leaves_by o.Begin w rest c is isnt h = absurd (isnt (sym is))
   leaves_by op w rest c is isnt h = subst (λ (c' : Class). Leaves next outs counts c' op w rest) is h
@@ -169,7 +169,7 @@ module _ {W : Type 0} (next : W → Option (Step W)) (outs : W → List W) (coun
       → ArePending next outs counts (rest true) (does op v size p) (numbers_after op (counts.pending w) (counts.pending (rest true)) v ns)
   plain_numbers o.Agree w rest is e h v size p ns are = h v p ns are
   plain_numbers o.Begin w rest is e h v size p ns are = absurd (true≢false e)
-  plain_numbers (o.Divide by) w rest is e h v size p ns are = absurd (true≢false e)
+  plain_numbers (o.Split by) w rest is e h v size p ns are = absurd (true≢false e)
   plain_numbers o.Shrink w rest is e h v size p ns are = absurd (true≢false e)
   plain_numbers o.End w rest is e h v size p ns are = absurd (true≢false e)
   plain_numbers o.Farm w rest is e h v size p ns are = absurd (true≢false e)
@@ -188,7 +188,7 @@ module _ {W : Type 0} (next : W → Option (Step W)) (outs : W → List W) (coun
   group_stays F agreed (o.Branch onward) w rest c is isnt h = h.1
   group_stays F agreed o.Block w rest c is isnt h = absurd (isnt (sym is))
   group_stays F agreed o.Agree w rest c is isnt h = absurd (isnt (sym is))
-  group_stays F agreed (o.Divide by) w rest c is isnt h = absurd (isnt (sym is))
+  group_stays F agreed (o.Split by) w rest c is isnt h = absurd (isnt (sym is))
   group_stays F agreed o.Shrink w rest c is isnt h = absurd (isnt (sym is))
   group_stays F agreed o.End w rest c is isnt h = absurd (isnt (sym is))
   group_stays F agreed o.Farm w rest c is isnt h = absurd (isnt (sym is))
@@ -209,7 +209,7 @@ module _ {W : Type 0} (next : W → Option (Step W)) (outs : W → List W) (coun
       → Does next outs F (InGroup agreed) op w rest → Stays next outs F (InGroup (is_agree op)) w rest
   group_plain F agreed o.Block w rest is e h = h.1
   group_plain F agreed o.Agree w rest is e h = h
-  group_plain F agreed (o.Divide by) w rest is e h = absurd (true≢false e)
+  group_plain F agreed (o.Split by) w rest is e h = absurd (true≢false e)
   group_plain F agreed o.Shrink w rest is e h = absurd (true≢false e)
   group_plain F agreed o.End w rest is e h = absurd (true≢false e)
   group_plain F agreed o.Farm w rest is e h = absurd (true≢false e)
@@ -230,13 +230,13 @@ module _ {W : Type 0} (next : W → Option (Step W)) (outs : W → List W) (coun
   alone_stays F false (o.Meet true) w rest c is isnt h = absurd h
   alone_stays F true o.Halt w rest c is isnt h = absurd h
   alone_stays F false o.Halt w rest c is isnt h = absurd (isnt (sym is))
-  alone_stays F true (o.Divide by) w rest c is isnt h = absurd h
+  alone_stays F true (o.Split by) w rest c is isnt h = absurd h
   alone_stays F true o.Shrink w rest c is isnt h = absurd h
   alone_stays F true o.End w rest c is isnt h = absurd h
   alone_stays F true o.Farm w rest c is isnt h = absurd h
   alone_stays F true o.Seq w rest c is isnt h = absurd h
   alone_stays F true o.Resume w rest c is isnt h = absurd h
-  alone_stays F false (o.Divide by) w rest c is isnt h = absurd h
+  alone_stays F false (o.Split by) w rest c is isnt h = absurd h
   alone_stays F false o.Shrink w rest c is isnt h = absurd h
   alone_stays F false o.End w rest c is isnt h = absurd h
   alone_stays F false o.Farm w rest c is isnt h = absurd h
@@ -255,13 +255,13 @@ module _ {W : Type 0} (next : W → Option (Step W)) (outs : W → List W) (coun
   alone_plain F false (o.Meet true) w rest e isnt h = absurd h
   alone_plain F true o.Halt w rest e isnt h = absurd h
   alone_plain F false o.Halt w rest e isnt h = absurd (isnt refl)
-  alone_plain F true (o.Divide by) w rest e isnt h = absurd h
+  alone_plain F true (o.Split by) w rest e isnt h = absurd h
   alone_plain F true o.Shrink w rest e isnt h = absurd h
   alone_plain F true o.End w rest e isnt h = absurd h
   alone_plain F true o.Farm w rest e isnt h = absurd h
   alone_plain F true o.Seq w rest e isnt h = absurd h
   alone_plain F true o.Resume w rest e isnt h = absurd h
-  alone_plain F false (o.Divide by) w rest e isnt h = absurd h
+  alone_plain F false (o.Split by) w rest e isnt h = absurd h
   alone_plain F false o.Shrink w rest e isnt h = absurd h
   alone_plain F false o.End w rest e isnt h = absurd h
   alone_plain F false o.Farm w rest e isnt h = absurd h
@@ -298,13 +298,13 @@ module _ {W : Type 0} (next : W → Option (Step W)) (outs : W → List W) (coun
   alone_joint F false (o.Meet true) w rest e h = absurd h
   alone_joint F true (o.Meet false) w rest e h = untrue e
   alone_joint F false (o.Meet false) w rest e h = untrue e
-  alone_joint F true (o.Divide by) w rest e h = absurd h
+  alone_joint F true (o.Split by) w rest e h = absurd h
   alone_joint F true o.Shrink w rest e h = absurd h
   alone_joint F true o.End w rest e h = absurd h
   alone_joint F true o.Farm w rest e h = absurd h
   alone_joint F true o.Seq w rest e h = absurd h
   alone_joint F true o.Resume w rest e h = absurd h
-  alone_joint F false (o.Divide by) w rest e h = absurd h
+  alone_joint F false (o.Split by) w rest e h = absurd h
   alone_joint F false o.Shrink w rest e h = absurd h
   alone_joint F false o.End w rest e h = absurd h
   alone_joint F false o.Farm w rest e h = absurd h

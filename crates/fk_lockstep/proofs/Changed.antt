@@ -4,8 +4,8 @@ use Rattle.std.specs.Prelude.{option_map}
 use Rattle.std.proofs.lemmas.Bool.{cases_Bool, cases_eq, cases_lt, eqb-true, eq-eqb, lt-ltb, le-ltb, cond-true}
 use Rattle.fk_meaning_operation.specs.declared.operation.Operation.{Operation}
 use Rattle.fk_meaning_operation.specs.declared.operation.Operation.TheVariants as o
-use Rattle.fk_meaning_operation.specs.declared.operation.Split.{Split}
-use Rattle.fk_meaning_operation.specs.declared.operation.Split.TheVariants as split_by
+use Rattle.fk_meaning_operation.specs.declared.operation.SplitKind.{SplitKind}
+use Rattle.fk_meaning_operation.specs.declared.operation.SplitKind.TheVariants as split_by
 use Rattle.fk_tree.specs.declared.node.Kind.{Kind}
 use Rattle.fk_tree.specs.declared.node.Kind.TheVariants.{Lockstep, Waiting, Asynchronous}
 use Rattle.fk_tree.specs.Tree as t
@@ -34,14 +34,14 @@ use Rattle.fk_lockstep.proofs.Quiet.{head_of, RoundIs, Ordinary, Outer, Single, 
 
 -- behind the parts of a split there is where the others wait
 module _ {W : Type 0} (next : W → Option (Step W)) (outs : W → List W) where
-  record Splitting (by : Split) (here : W) (rest : Bool → W) : Type 0 where
+  record Splitting (by : SplitKind) (here : W) (rest : Bool → W) : Type 0 where
     waiter : W
     waiter_outs : outs waiter ≡ outs here
     outs_in : (j : ℕ) → outs (rest (enters by (Some j))) ≡ waiter ∷ outs here
     aside : (vs : List ℕ) → part by vs ≡ None → rest (enters by None) ≡ waiter
     first : outs (rest true) ≡ waiter ∷ outs here
 
-  splitting : (by : Split) (here : W) (rest : Bool → W) (os : List W) → outs (rest true) ≡ os → Parts next outs (FollowsFor next outs 0) by here rest os → Splitting by here rest
+  splitting : (by : SplitKind) (here : W) (rest : Bool → W) (os : List W) → outs (rest true) ≡ os → Parts next outs (FollowsFor next outs 0) by here rest os → Splitting by here rest
   splitting by here rest [] e h = absurd h
   splitting split_by.IfElse here rest (w ∷ ws) e h = record {
     waiter = w;
@@ -63,7 +63,7 @@ module _ {W : Type 0} (next : W → Option (Step W)) (outs : W → List W) where
   }
 
 -- members of a group make as many parts
-parts_same : {W : Type 0} (next : W → Option (Step W)) (outs : W → List W) (counts : Counts W) (by : Split) (here : W) (rest : Bool → W) → CountsGoOn next outs counts (o.Divide by) here rest
+parts_same : {W : Type 0} (next : W → Option (Step W)) (outs : W → List W) (counts : Counts W) (by : SplitKind) (here : W) (rest : Bool → W) → CountsGoOn next outs counts (o.Split by) here rest
     → (q r : Processor) (ns : List ℕ) → ArePending next outs counts here q ns → ArePending next outs counts here r ns → parts by (values q) ≡ parts by (values r)
 parts_same next outs counts split_by.Fork here rest c q r ns e f = ap not_negative (ap head (sym (c.0 0 None q ns e).1 ∙ (c.0 0 None r ns f).1))
   where
@@ -431,7 +431,7 @@ module _ {W : Type 0} (next : W → Option (Step W)) (outs : W → List W) (coun
             has_op = m.has' ∙ ap (λ (o' : Operation). does o' value m.size m.before'.has) e;
           }
 
-      splits : (by : Split) → op ≡ o.Divide by → After (changes (o.Divide by) n (who actings) value i tree)
+      splits : (by : SplitKind) → op ≡ o.Split by → After (changes (o.Split by) n (who actings) value i tree)
       splits by e = subst After (split_same n many into' into tree same_into) (parted many into' can waits inside (λ j. refl) enter stay)
         where
           many : ℕ
@@ -459,16 +459,16 @@ module _ {W : Type 0} (next : W → Option (Step W)) (outs : W → List W) (coun
           inside : ℕ → Tiers
           inside j = part_of y many j
 
-          parting_of : (h : ℕ) (r' : Runner W) (f : Grouping (o.Divide by) h r') → Splitting next outs by f.m.before'.left f.m.step'.rest
+          parting_of : (h : ℕ) (r' : Runner W) (f : Grouping (o.Split by) h r') → Splitting next outs by f.m.before'.left f.m.step'.rest
           parting_of h r' f = splitting next outs by f.m.before'.left f.m.step'.rest (outs (f.m.step'.rest true)) refl (f.does_op 0)
 
-          goes_in : (h : ℕ) (r' : Runner W) (f : Grouping (o.Divide by) h r') (o' : Option ℕ) → into h ≡ o' → part by (values f.m.before'.has) ≡ o'
+          goes_in : (h : ℕ) (r' : Runner W) (f : Grouping (o.Split by) h r') (o' : Option ℕ) → into h ≡ o' → part by (values f.m.before'.has) ≡ o'
           goes_in h r' f o' e' = ap (λ (q : Processor). part by (values q)) (sym f.m.known) ∙ e'
 
           enter : (h j : ℕ) (r' : Runner W) → Has tree n h → into' h ≡ Some j → middles (suc i) h ≡ Some r' → InIt next outs depth (inside j) r'
           enter h j r' is e' e'' =
-              let f = grouping (o.Divide by) e h r' is e'' in
-              let own = grouping (o.Divide by) e i mine.0 in_n mine.1 in
+              let f = grouping (o.Split by) e h r' is e'' in
+              let own = grouping (o.Split by) e i mine.0 in_n mine.1 in
               let d = parting_of h r' f in
               let part_is = goes_in h r' f (Some j) (sym (same_into h is) ∙ e') in
               let as_deep : AsDeep next outs depth (depth f.m.before'.left) (d.waiter ∷ outs f.m.before'.left)
@@ -480,7 +480,7 @@ module _ {W : Type 0} (next : W → Option (Step W)) (outs : W → List W) (coun
 
           stay : (h : ℕ) (r' : Runner W) → Has tree n h → into' h ≡ None → middles (suc i) h ≡ Some r' → InIt next outs depth y r'
           stay h r' is e' e'' =
-              let f = grouping (o.Divide by) e h r' is e'' in
+              let f = grouping (o.Split by) e h r' is e'' in
               let d = parting_of h r' f in
               let part_is = goes_in h r' f None (sym (same_into h is) ∙ e') in
               enters_none next outs depth y f.m.before' f.in_it f.m.step'.rest by f.goes f.m.size (values f.m.before'.has) part_is
@@ -558,7 +558,7 @@ module _ {W : Type 0} (next : W → Option (Step W)) (outs : W → List W) (coun
               )
 
       in_group : (op' : Operation) → op ≡ op' → changes_tree op' ≡ true → After (changes op' n (who actings) value i tree)
-      in_group (o.Divide by) e c = splits by e
+      in_group (o.Split by) e c = splits by e
       in_group o.Shrink e c = shrinks e
       in_group o.End e c = finishes e
       in_group o.Farm e c = sets_free e
@@ -747,13 +747,13 @@ module _ {W : Type 0} (next : W → Option (Step W)) (outs : W → List W) (coun
       alone_none o.Begin w here rest c ne ne' d = ne refl
       alone_none (o.Meet true) w here rest c ne ne' d = ne' refl
       alone_none (o.Meet false) w here rest c ne ne' d = untrue c
-      alone_none (o.Divide by) true here rest c ne ne' d = d
+      alone_none (o.Split by) true here rest c ne ne' d = d
       alone_none o.Shrink true here rest c ne ne' d = d
       alone_none o.End true here rest c ne ne' d = d
       alone_none o.Farm true here rest c ne ne' d = d
       alone_none o.Seq true here rest c ne ne' d = d
       alone_none o.Resume true here rest c ne ne' d = d
-      alone_none (o.Divide by) false here rest c ne ne' d = d
+      alone_none (o.Split by) false here rest c ne ne' d = d
       alone_none o.Shrink false here rest c ne ne' d = d
       alone_none o.End false here rest c ne ne' d = d
       alone_none o.Farm false here rest c ne ne' d = d

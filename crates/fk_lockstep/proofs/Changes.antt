@@ -4,8 +4,8 @@ use Rattle.std.specs.Prelude.{option_map}
 use Rattle.std.proofs.lemmas.Bool.{cases_Bool, cases_eq, cases_lt, eqb-true, eq-eqb, ne_eqb, lt-ltb, le-ltb}
 use Rattle.fk_meaning_operation.specs.declared.operation.Operation.{Operation}
 use Rattle.fk_meaning_operation.specs.declared.operation.Operation.TheVariants as o
-use Rattle.fk_meaning_operation.specs.declared.operation.Split.{Split}
-use Rattle.fk_meaning_operation.specs.declared.operation.Split.TheVariants as split_by
+use Rattle.fk_meaning_operation.specs.declared.operation.SplitKind.{SplitKind}
+use Rattle.fk_meaning_operation.specs.declared.operation.SplitKind.TheVariants as split_by
 use Rattle.fk_tree.specs.declared.node.Kind.{Kind}
 use Rattle.fk_tree.specs.declared.node.Kind.TheVariants.{Lockstep, Waiting, Asynchronous}
 use Rattle.fk_tree.specs.Tree as t
@@ -58,7 +58,7 @@ below_of i k j e =
     cond_no false e' f = cc
 
 -- where two have as many parts, one of them enters one of those of the other
-pub few : (by : Split) (vs vs' : List ℕ) (j : ℕ) → parts by vs ≡ parts by vs' → part by vs ≡ Some j → j < parts by vs'
+pub few : (by : SplitKind) (vs vs' : List ℕ) (j : ℕ) → parts by vs ≡ parts by vs' → part by vs ≡ Some j → j < parts by vs'
 few split_by.Fork vs vs' j same e = subst (λ (k : ℕ). j < k) same (below_of (last (before 1 vs)) (parts split_by.Fork vs) j e)
 few split_by.IfElse vs vs' j same e = one_of_two (last vs == 0) j e
 few split_by.IfAlone vs vs' j same e = one_of_one (last vs == 0) j e
@@ -113,7 +113,7 @@ lt_suc l i ne =
 
 pub step_of_none : (n : ℕ) (whose : ℕ → Processor) (highest low : ℕ) (tree : Tree) (op : Operation) → changes_tree op ≡ false → changes op n whose highest low tree ≡ tree
 step_of_none n whose highest low tree o.Begin e = absurd (true≢false e)
-step_of_none n whose highest low tree (o.Divide by) e = absurd (true≢false e)
+step_of_none n whose highest low tree (o.Split by) e = absurd (true≢false e)
 step_of_none n whose highest low tree o.Shrink e = absurd (true≢false e)
 step_of_none n whose highest low tree o.End e = absurd (true≢false e)
 step_of_none n whose highest low tree o.Farm e = absurd (true≢false e)
@@ -128,7 +128,7 @@ module _ {W : Type 0} (next : W → Option (Step W)) (outs : W → List W) (coun
   Pends w p ns = ArePending next outs counts w p ns
 
   -- what is pending behind a split
-  pub record Dividing (by : Split) (here : W) (rest : Bool → W) (waiter : W) (b : List (Out W)) (ns : List ℕ) : Type 0 where
+  pub record Dividing (by : SplitKind) (here : W) (rest : Bool → W) (waiter : W) (b : List (Out W)) (ns : List ℕ) : Type 0 where
     pub behind : List ℕ
     pub after : (size : ℕ) (o' : Option ℕ) (q : Processor) → Pends here q ns → Pends (rest (enters by o')) (divided by size q o') behind
     pub many : length behind ≡ counts.pending waiter
@@ -139,7 +139,7 @@ module _ {W : Type 0} (next : W → Option (Step W)) (outs : W → List W) (coun
   FirstMany [] = Unit {0}
   FirstMany (y ∷ ys) = length y.numbers ≡ counts.pending y.left
 
-  pub record Parting (by : Split) (here : W) (rest : Bool → W) : Type 0 where
+  pub record Parting (by : SplitKind) (here : W) (rest : Bool → W) : Type 0 where
     pub waiter : W
     pub waiter_outs : outs waiter ≡ outs here
     pub waits : Follows next outs (Waits true) waiter
@@ -148,7 +148,7 @@ module _ {W : Type 0} (next : W → Option (Step W)) (outs : W → List W) (coun
     pub aside : (vs : List ℕ) → part by vs ≡ None → rest (enters by None) ≡ waiter
     pub divides : (b : List (Out W)) (ns : List ℕ) (q : Processor) → outs here ≡ lefts b → Pends here q ns → FirstMany b → Ends b ns → Dividing by here rest waiter b ns
 
-  forking : (here : W) (rest : Bool → W) (w : W) → rest false ≡ w → CountsGoOn next outs counts (o.Divide split_by.Fork) here rest
+  forking : (here : W) (rest : Bool → W) (w : W) → rest false ≡ w → CountsGoOn next outs counts (o.Split split_by.Fork) here rest
       → (b : List (Out W)) (ns : List ℕ) (q : Processor) → outs here ≡ lefts b → Pends here q ns → FirstMany b → Ends b ns → Dividing split_by.Fork here rest w b ns
   forking here rest w is c b ns q outs_are pends first ends =
       let aside_taken = c.0 0 None q ns pends in
@@ -177,8 +177,8 @@ module _ {W : Type 0} (next : W → Option (Step W)) (outs : W → List W) (coun
           by_more [] e = let size = ap length e in absurd (omega (arith, size, first', less, in_many))
           by_more (m ∷ more) e = (more, ap tail e)
 
-  parting : (by : Split) (here : W) (rest : Bool → W) (os : List W) → outs (rest true) ≡ os → ((n : ℕ) → Parts next outs (FollowsFor next outs n) by here rest os)
-      → CountsGoOn next outs counts (o.Divide by) here rest → Parting by here rest
+  parting : (by : SplitKind) (here : W) (rest : Bool → W) (os : List W) → outs (rest true) ≡ os → ((n : ℕ) → Parts next outs (FollowsFor next outs n) by here rest os)
+      → CountsGoOn next outs counts (o.Split by) here rest → Parting by here rest
   parting by here rest [] e h c = absurd (h 0)
   parting split_by.Fork here rest (w ∷ ws) e h c = record {
     waiter = w;
@@ -616,15 +616,15 @@ module _ {W : Type 0} (next : W → Option (Step W)) (outs : W → List W) (coun
           let f = fin h r'.0 is r'.1 in
           subst (λ (q : Processor). ArePending next outs counts x.left q x.numbers) (sym f.known) f.numbers
 
-      group_splits : (by : Split) (d : Parting next outs counts by x.left rest) → Dividing next outs counts by x.left rest d.waiter b x.numbers
-          → ((onward : Bool) → IsCounted next outs counts (rest onward)) → AllFin (o.Divide by) x.left rest x.numbers → Next (changes (o.Divide by) n (who actings) value i tree)
+      group_splits : (by : SplitKind) (d : Parting next outs counts by x.left rest) → Dividing next outs counts by x.left rest d.waiter b x.numbers
+          → ((onward : Bool) → IsCounted next outs counts (rest onward)) → AllFin (o.Split by) x.left rest x.numbers → Next (changes (o.Split by) n (who actings) value i tree)
       group_splits by d v on fin =
           let vs = values (who actings i) in
           let k = parts by vs in
           let into : ℕ → Option ℕ = λ h. part by (values (who actings h)) in
           let into' : ℕ → Option ℕ = λ h. cut k (into h) in
           let ns = v.behind in
-          let numbers_at : (h : ℕ) → Has tree n h → ArePending next outs counts x.left (who actings h) x.numbers = numbers_of (o.Divide by) fin in
+          let numbers_at : (h : ℕ) → Has tree n h → ArePending next outs counts x.left (who actings h) x.numbers = numbers_of (o.Split by) fin in
           let same_into : (h : ℕ) → Has tree n h → into' h ≡ into h
           = λ h is. cut_same k (into h) (λ j e. few by (values (who actings h)) vs j (v.same_parts (who actings h) (who actings i) (numbers_at h is) (numbers_at i (has i in_i))) e) in
           let can : CanSplit n k into' tree = record { there = some_n; leaf = leaf; few = λ h j e. cut_few k (into h) j e } in
@@ -735,7 +735,7 @@ module _ {W : Type 0} (next : W → Option (Step W)) (outs : W → List W) (coun
       group_by : (op' : Operation) → changes_tree op' ≡ true → ((k : ℕ) → Does next outs (FollowsFor next outs k) (InGroup (is_some x.agreed)) op' x.left rest)
           → CountsGoOn next outs counts op' x.left rest → (q : Processor) → ArePending next outs counts x.left q x.numbers → ((onward : Bool) → IsCounted next outs counts (rest onward))
           → AllFin op' x.left rest x.numbers → Next (changes op' n (who actings) value i tree)
-      group_by (o.Divide by) c d k q pends on fin =
+      group_by (o.Split by) c d k q pends on fin =
           let parts_of = parting next outs counts by x.left rest (outs (rest true)) refl d k in
           group_splits by parts_of (parts_of.divides b x.numbers q g.outs_are pends first_many g.ends) on fin
       group_by o.Shrink c d k q pends on fin = shrinks (d 0) (λ m. (d m).1) k on fin
@@ -837,13 +837,13 @@ module _ {W : Type 0} (next : W → Option (Step W)) (outs : W → List W) (coun
     meets_first false (o.Meet true) w rest c d = absurd d
     meets_first true (o.Meet false) w rest c d = untrue c
     meets_first false (o.Meet false) w rest c d = untrue c
-    meets_first true (o.Divide by) w rest c d = absurd d
+    meets_first true (o.Split by) w rest c d = absurd d
     meets_first true o.Shrink w rest c d = absurd d
     meets_first true o.End w rest c d = absurd d
     meets_first true o.Farm w rest c d = absurd d
     meets_first true o.Seq w rest c d = absurd d
     meets_first true o.Resume w rest c d = absurd d
-    meets_first false (o.Divide by) w rest c d = absurd d
+    meets_first false (o.Split by) w rest c d = absurd d
     meets_first false o.Shrink w rest c d = absurd d
     meets_first false o.End w rest c d = absurd d
     meets_first false o.Farm w rest c d = absurd d
@@ -999,13 +999,13 @@ module _ {W : Type 0} (next : W → Option (Step W)) (outs : W → List W) (coun
     alone_by false e (o.Meet true) w rest c is d k on at_n come = absurd (d 0)
     alone_by true e (o.Meet false) w rest c is d k on at_n come = untrue c
     alone_by false e (o.Meet false) w rest c is d k on at_n come = untrue c
-    alone_by true e (o.Divide by) w rest c is d k on at_n come = absurd (d 0)
+    alone_by true e (o.Split by) w rest c is d k on at_n come = absurd (d 0)
     alone_by true e o.Shrink w rest c is d k on at_n come = absurd (d 0)
     alone_by true e o.End w rest c is d k on at_n come = absurd (d 0)
     alone_by true e o.Farm w rest c is d k on at_n come = absurd (d 0)
     alone_by true e o.Seq w rest c is d k on at_n come = absurd (d 0)
     alone_by true e o.Resume w rest c is d k on at_n come = absurd (d 0)
-    alone_by false e (o.Divide by) w rest c is d k on at_n come = absurd (d 0)
+    alone_by false e (o.Split by) w rest c is d k on at_n come = absurd (d 0)
     alone_by false e o.Shrink w rest c is d k on at_n come = absurd (d 0)
     alone_by false e o.End w rest c is d k on at_n come = absurd (d 0)
     alone_by false e o.Farm w rest c is d k on at_n come = absurd (d 0)
@@ -1043,7 +1043,7 @@ module _ {W : Type 0} (next : W → Option (Step W)) (outs : W → List W) (coun
     -- a `start` is at the root, and each member enters one of the parts that the lowest one has
     pub record Allowed : Type 0 where
       pub root : op ≡ o.Begin → n ≡ 0
-      pub enters_one : (by : Split) → op ≡ o.Divide by → (h j : ℕ) → Has tree n h → part by (values (who actings h)) ≡ Some j → j < parts by (values (who actings i))
+      pub enters_one : (by : SplitKind) → op ≡ o.Split by → (h j : ℕ) → Has tree n h → part by (values (who actings h)) ≡ Some j → j < parts by (values (who actings i))
       pub shrunk : op ≡ o.Shrink → n ≢ 0
       pub ended : op ≡ o.End → n ≢ 0
 
@@ -1051,7 +1051,7 @@ module _ {W : Type 0} (next : W → Option (Step W)) (outs : W → List W) (coun
     alone_root true e w rest d = absurd d
     alone_root false e w rest d = outside_root n e
 
-    alone_split : (alone : Bool) (by : Split) (w : W) (rest : Bool → W) → Does next outs (FollowsFor next outs 0) (ByItself alone) (o.Divide by) w rest → ⊥
+    alone_split : (alone : Bool) (by : SplitKind) (w : W) (rest : Bool → W) → Does next outs (FollowsFor next outs 0) (ByItself alone) (o.Split by) w rest → ⊥
     alone_split true by w rest d = d
     alone_split false by w rest d = d
 
@@ -1070,14 +1070,14 @@ module _ {W : Type 0} (next : W → Option (Step W)) (outs : W → List W) (coun
         u = my_move.step'
 
         -- the members of a group make as many parts
-        same_parts : (locked : kind tree n ≡ Some Lockstep) → Grouped next outs counts b x → (v : Step W) → (Is next outs counts) x my_move.before → (by' : Split) → op ≡ o.Divide by'
+        same_parts : (locked : kind tree n ≡ Some Lockstep) → Grouped next outs counts b x → (v : Step W) → (Is next outs counts) x my_move.before → (by' : SplitKind) → op ≡ o.Split by'
             → (h : ℕ) → Has tree n h → parts by' (values (who actings h)) ≡ parts by' (values (who actings i))
         same_parts locked g v is_mine by' e h is =
             let stands : next x.left ≡ Some u = ap next (sym is_mine.left) ∙ my_move.stands in
             let so = does_so next outs counts (InGroup (is_some x.agreed)) x.left u g.follows stands in
-            let does_op : (k : ℕ) → Does next outs (FollowsFor next outs k) (InGroup (is_some x.agreed)) (o.Divide by') x.left u.rest
+            let does_op : (k : ℕ) → Does next outs (FollowsFor next outs k) (InGroup (is_some x.agreed)) (o.Split by') x.left u.rest
             = λ k. subst (λ (op' : Operation). Does next outs (FollowsFor next outs k) (InGroup (is_some x.agreed)) op' x.left u.rest) (my_move.same ∙ e) (so k) in
-            let c : CountsGoOn next outs counts (o.Divide by') x.left u.rest
+            let c : CountsGoOn next outs counts (o.Split by') x.left u.rest
             = subst (λ (op' : Operation). CountsGoOn next outs counts op' x.left u.rest) (my_move.same ∙ e) (counts_so next outs counts x.left u is_mine.counted stands) in
             let d = parting next outs counts by' x.left u.rest (outs (u.rest true)) refl does_op c in
             let divides = d.divides b x.numbers my_move.before.has g.outs_are is_mine.numbers (first_many locked g u.rest) g.ends in
@@ -1107,7 +1107,7 @@ module _ {W : Type 0} (next : W → Option (Step W)) (outs : W → List W) (coun
             = λ op' e'. subst (λ (op'' : Operation). Does next outs (FollowsFor next outs 0) (Waits (within n)) op'' x.left u.rest) (my_move.same ∙ e') so in
             record {
               root = λ e'. absurd (does_op o.Begin e');
-              enters_one = λ by' e' h j is into. absurd (does_op (o.Divide by') e');
+              enters_one = λ by' e' h j is into. absurd (does_op (o.Split by') e');
               shrunk = λ e'. absurd (does_op o.Shrink e');
               ended = λ e'. absurd (does_op o.End e');
             }
@@ -1119,7 +1119,7 @@ module _ {W : Type 0} (next : W → Option (Step W)) (outs : W → List W) (coun
             = λ op' e'. subst (λ (op'' : Operation). Does next outs (FollowsFor next outs 0) (ByItself (within n)) op'' w u.rest) (my_move.same ∙ e') so in
             record {
               root = λ e'. alone_root (within n) refl w u.rest (does_op o.Begin e');
-              enters_one = λ by' e' h j is into. absurd (alone_split (within n) by' w u.rest (does_op (o.Divide by') e'));
+              enters_one = λ by' e' h j is into. absurd (alone_split (within n) by' w u.rest (does_op (o.Split by') e'));
               shrunk = λ e'. absurd (alone_shrink (within n) w u.rest (does_op o.Shrink e'));
               ended = λ e'. absurd (alone_end (within n) w u.rest (does_op o.End e'));
             }

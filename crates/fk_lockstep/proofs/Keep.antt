@@ -16,7 +16,7 @@ changed e = absurd (true≢false e)
 
 quiet_way : (op : Operation) (highest lowest : ℕ) (p q : Processor) → changes_tree op ≡ false → OneWay op highest lowest p q
 quiet_way o.Begin highest lowest p q e = changed e
-quiet_way (o.Divide by) highest lowest p q e = changed e
+quiet_way (o.Split by) highest lowest p q e = changed e
 quiet_way o.Shrink highest lowest p q e = changed e
 quiet_way o.Seq highest lowest p q e = changed e
 quiet_way op highest lowest p q e = refl

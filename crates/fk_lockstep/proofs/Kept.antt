@@ -12,12 +12,12 @@ use Rattle.fk_syntax.specs.Program.{DeclaredTree}
 use Rattle.fk_meaning_operation.specs.declared.operation.Operation.{Operation}
 use Rattle.fk_meaning_operation.specs.declared.operation.Operation.TheVariants as o
 use Rattle.fk_meaning_operation.specs.declared.operation.Variable.TheVariants as v
-use Rattle.fk_meaning_operation.specs.declared.operation.Known.TheVariants as n
+use Rattle.fk_meaning_operation.specs.declared.operation.OwnValue.TheVariants as n
 use Rattle.fk_meaning_operation.specs.declared.operation.Unary.TheVariants as u
 use Rattle.fk_meaning_operation.specs.declared.operation.Multiprefix.{Multiprefix}
 use Rattle.fk_meaning_operation.specs.declared.operation.Multiprefix.TheVariants.{MpAdd, MpMax, MpAnd, MpOr}
-use Rattle.fk_meaning_operation.specs.declared.operation.Split.{Split}
-use Rattle.fk_meaning_operation.specs.declared.operation.Split.TheVariants.{IfElse, AndThen, OrElse}
+use Rattle.fk_meaning_operation.specs.declared.operation.SplitKind.{SplitKind}
+use Rattle.fk_meaning_operation.specs.declared.operation.SplitKind.TheVariants.{IfElse, AndThen, OrElse}
 use Rattle.fk_meaning_forms.specs.declared.tables.Home.{Home}
 use Rattle.fk_meaning_forms.specs.declared.tables.Home.TheVariants as h
 use Rattle.fk_meaning_forms.specs.declared.tables.Region.{Region}
@@ -49,7 +49,7 @@ quiet_plain o.Agree e = absurd (true≢false (sym e))
 quiet_plain op e = e
 
 -- the splits of expressions
-abbrev pub is_of_value : Split → Bool
+abbrev pub is_of_value : SplitKind → Bool
 is_of_value IfElse = true
 is_of_value AndThen = true
 is_of_value OrElse = true
@@ -75,8 +75,8 @@ pub record IsKept (tables : Tables) (functions : (binding : ℕ) → Signature) 
   pub allots : (who : W) (name : Named) (rest : Coded) → Means who name → Allots tables name → Fine who rest → Fine who (plain o.Agree (plain o.Block rest))
   pub ends : (who : W) → Fine who done
   pub part_ends : (who : W) → Fine who (plain o.End done)
-  pub divides : (who : W) (spot : Spot) (by : Split) (a b rest : Coded) → is_of_value by ≡ true → Decides who spot.at → (note tables spot.at).splits ≡ true
-      → Fine (inner who) a → Fine (inner who) b → Fine who rest → Fine who (choose spot.place (o.Divide by) a b (plain o.Resume rest))
+  pub divides : (who : W) (spot : Spot) (by : SplitKind) (a b rest : Coded) → is_of_value by ≡ true → Decides who spot.at → (note tables spot.at).splits ≡ true
+      → Fine (inner who) a → Fine (inner who) b → Fine who rest → Fine who (choose spot.place (o.Split by) a b (plain o.Resume rest))
   pub branches : (who : W) (spot : Spot) (onward : Bool) (a b rest : Coded) → Decides who spot.at → Fine (inner who) a → Fine (inner who) b → Fine who rest
       → Fine who (agreed (note tables spot.at).sync (choose nowhere (o.Branch onward) a b rest))
   pub shares : (who : W) (name : Named) → Means who name → SharesAgree Fine who (functions (note tables name.at).binding).parameters
@@ -224,17 +224,17 @@ module _ {tables : Tables} {functions : (binding : ℕ) → Signature} {W : Type
   prefixes who spot sign e good at k p = value_is who e good (k OnList) (p OnList tt)
 
   truths : (who : W) → (e : Stands) → Good who e → (rest : Coded) → Ok who rest → Ok who (truth tables functions e rest)
-  truths who e good rest p = value_is who e good (plain (o.Push 0) (plain (o.Join f.Ne false) rest)) (on refl (on refl p))
+  truths who e good rest p = value_is who e good (plain (o.Push 0) (plain (o.Binary f.Ne false) rest)) (on refl (on refl p))
 
   pub splits_to : (b : Bool) (who : W) (x y : Coded) → (b ≡ true → Ok who x) → Ok who y → Ok who (if b then x else y)
   splits_to true who x y p q = p refl
   splits_to false who x y p q = q
 
-  logicals : (who : W) → (spot : Spot) (split : Split) (onward : Bool) (other : ℕ) (a : Stands) → Good who a → (b : Stands) → Good (kept.inner who) b → Decides who spot.at
+  logicals : (who : W) → (spot : Spot) (split : SplitKind) (onward : Bool) (other : ℕ) (a : Stands) → Good who a → (b : Stands) → Good (kept.inner who) b → Decides who spot.at
       → is_of_value split ≡ true → Good who (logical tables functions spot split onward other a b)
   logicals who spot split onward other a good_a b good_b decides of_value k p =
       let here = note tables spot.at in
-      let parted = choose spot.place (o.Divide split) (truth tables functions b (plain o.End done)) done (plain o.Resume (k OnList)) in
+      let parted = choose spot.place (o.Split split) (truth tables functions b (plain o.End done)) done (plain o.Resume (k OnList)) in
       let branched = choose nowhere (o.Branch onward) (truth tables functions b done) (plain (o.Push other) done) (k OnList) in
       value_is who a good_a (if here.splits then parted else agreed here.sync branched)
       (splits_to here.splits who parted (agreed here.sync branched)
@@ -249,7 +249,7 @@ module _ {tables : Tables} {functions : (binding : ℕ) → Signature} {W : Type
       let here = note tables spot.at in
       let first = value_of tables functions a in
       let second = value_of tables functions b in
-      let parted = choose spot.place (o.Divide IfElse) (first (plain o.End done)) (second (plain o.End done)) (plain o.Resume (k OnList)) in
+      let parted = choose spot.place (o.Split IfElse) (first (plain o.End done)) (second (plain o.End done)) (plain o.Resume (k OnList)) in
       let branched = choose nowhere (o.Branch true) (first done) (second done) (k OnList) in
       let ended = kept.part_ends (kept.inner who) in
       value_is who c good_c (if here.splits then parted else agreed here.sync branched)

@@ -3,7 +3,7 @@ use Rattle.std.proofs.Common.{◌≡◌, ◌≢◌, ◌⊎◌, inl, inr, ⊎_eli
 use Rattle.std.proofs.lemmas.Bool.{cases_Bool, cases_eq, cases_lt, eqb-true, eq-eqb, ne_eqb, lt-ltb, le-ltb, cond-true, cond-false, false≢true}
 use Rattle.fk_meaning_operation.specs.declared.operation.Operation.{Operation}
 use Rattle.fk_meaning_operation.specs.declared.operation.Operation.TheVariants as o
-use Rattle.fk_meaning_operation.specs.declared.operation.Split.{Split}
+use Rattle.fk_meaning_operation.specs.declared.operation.SplitKind.{SplitKind}
 use Rattle.fk_tree.specs.declared.node.Kind.{Kind}
 use Rattle.fk_tree.specs.declared.node.Kind.TheVariants.{Lockstep, Asynchronous}
 use Rattle.fk_tree.specs.Tree as t
@@ -443,13 +443,13 @@ module _ {W : Type 0} (next : W → Option (Step W)) (outs : W → List W) (coun
             left_groups q up_headed.0 up_headed.1 (whole ∙ ap (λ (g : ℕ × ℕ). g ∷ up_headed.0 ∷ up_headed.1) (sym own))
             ∙ sym up_headed.2 ∙ sym (ap round_it up)
 
-    divided_in : (by : Split) (size : ℕ) (q : Processor) (o' : Option ℕ) (j : ℕ) → q.level.number ≡ first_of (sizes n) → o' ≡ Some j
+    divided_in : (by : SplitKind) (size : ℕ) (q : Processor) (o' : Option ℕ) (j : ℕ) → q.level.number ≡ first_of (sizes n) → o' ≡ Some j
         → groups_of (divided by size q o') ≡ (part_number by (first_of (sizes n)) j, size) ∷ groups_of q
     divided_in by size q None j own e = absurd (cc)
     divided_in by size q (Some j') j own e =
         ap₂ (λ (i' number : ℕ). (part_number by number i', size) ∷ groups_of q) (first_is j' j e) own
 
-    divided_out : (by : Split) (size : ℕ) (q : Processor) (o' : Option ℕ) → o' ≡ None → groups_of (divided by size q o') ≡ groups_of q
+    divided_out : (by : SplitKind) (size : ℕ) (q : Processor) (o' : Option ℕ) → o' ≡ None → groups_of (divided by size q o') ≡ groups_of q
     divided_out by size q None e = refl
     divided_out by size q (Some j) e = absurd (cc)
 
@@ -494,9 +494,9 @@ module _ {W : Type 0} (next : W → Option (Step W)) (outs : W → List W) (coun
 
     made_by : (op' : Operation) → op ≡ op' → changes_tree op' ≡ true → Made op' (changes op' n (who actings) value i tree)
     made_by o.Begin e c = begin_made (allows.root e)
-    made_by (o.Divide by) e c =
+    made_by (o.Split by) e c =
         let vs = values (who actings i) in
-        split_made (o.Divide by) (parts by vs) (λ h. part by (values (who actings h))) (λ j. part_number by (first_of (sizes n)) j) (λ h j is e'. allows.enters_one by e h j (has_n h is) e')
+        split_made (o.Split by) (parts by vs) (λ h. part by (values (who actings h))) (λ j. part_number by (first_of (sizes n)) j) (λ h j is e'. allows.enters_one by e h j (has_n h is) e')
         (λ h is b at' none. divided_out by (size_after h) b.runner.has (part by (values b.runner.has)) (ap (λ (q : Processor). part by (values q)) (sym (who_is actings h b at')) ∙ none))
         (λ h j is b at' into. divided_in by (size_after h) b.runner.has (part by (values b.runner.has)) j (own_number h is b at') (ap (λ (q : Processor). part by (values q)) (sym (who_is actings h b at')) ∙ into))
     made_by o.Shrink e c =

@@ -6,7 +6,7 @@ use Rattle.fk_meaning_operation.specs.declared.operation.Operation.{Operation}
 use Rattle.fk_meaning_operation.specs.declared.operation.Operation.TheVariants as o
 use Rattle.fk_meaning_operation.specs.declared.operation.Variable.{Variable}
 use Rattle.fk_meaning_operation.specs.declared.operation.Variable.TheVariants as v
-use Rattle.fk_meaning_operation.specs.declared.operation.Split.{Split}
+use Rattle.fk_meaning_operation.specs.declared.operation.SplitKind.{SplitKind}
 use Rattle.fk_meaning_store.specs.Store.{private_words, private_address}
 use Rattle.fk_meaning_store.specs.Serve.{words_of}
 use Rattle.fk_meaning.specs.Processor.{Level, Call, Processor, Setting, values, last, drop_last, in_place, enter_level, to_outer, leave_level}
@@ -83,7 +83,7 @@ locally set (o.Set variable) p q h = both_stay p q _ _ h (stores (last (values p
 locally set o.DropLast p q h = record { level = h.level; outer = h.outer; frame = h.frame; callers = h.callers }
 locally set o.CopyLast p q h = record { level = h.level; outer = h.outer; frame = h.frame; callers = h.callers }
 locally set (o.Apply sign) p q h = record { level = h.level; outer = h.outer; frame = h.frame; callers = h.callers }
-locally set (o.Join sign turned) p q h = record { level = h.level; outer = h.outer; frame = h.frame; callers = h.callers }
+locally set (o.Binary sign turned) p q h = record { level = h.level; outer = h.outer; frame = h.frame; callers = h.callers }
 locally set (o.Index size) p q h = record { level = h.level; outer = h.outer; frame = h.frame; callers = h.callers }
 locally set (o.Branch onward) p q h = record { level = h.level; outer = h.outer; frame = h.frame; callers = h.callers }
 locally set o.Take p q h = both_stay p q _ _ h (takes (words_of (last (values p))) p) (takes (words_of (last (values q))) q)
@@ -172,7 +172,7 @@ blocks_alike words p q h = by (words == 0)
     by true = record { level = h.level; outer = h.outer; frame = h.frame; callers = h.callers }
     by false = allots_alike p q (block p.level.space words) (block q.level.space words) (ap (λ (s : Space). block s words) h.level.space) h
 
-divides_alike : (by : Split) (size : ℕ) (p q : Processor) (a b : Option ℕ) → a ≡ b → parts by (values p) ≡ parts by (values q) → SamePlace p q
+divides_alike : (by : SplitKind) (size : ℕ) (p q : Processor) (a b : Option ℕ) → a ≡ b → parts by (values p) ≡ parts by (values q) → SamePlace p q
     → SamePlace (divided by size p a) (divided by size q b)
 divides_alike by size p q None None e k h = record { level = h.level; outer = h.outer; frame = h.frame; callers = h.callers }
 divides_alike by size p q None (Some j) e k h = absurd (cc)
@@ -217,7 +217,7 @@ does_alike agreed (o.Frame nesting words) highest lowest size p q stands same wa
 does_alike agreed o.Block highest lowest size p q stands same way h =
     subst (λ words. SamePlace (with_block (words_of (last (values p))) p) (with_block words q)) (ap words_of (same stands))
     (blocks_alike (words_of (last (values p))) p q h)
-does_alike agreed (o.Divide by) highest lowest size p q stands same way h =
+does_alike agreed (o.Split by) highest lowest size p q stands same way h =
     divides_alike by size p q (part by (values p)) (part by (values q)) way.0 way.1 h
 does_alike agreed o.Shrink highest lowest size p q stands same way h = shrinks (stays p) (stays q) size p q way h
 does_alike agreed o.End highest lowest size p q stands same way h = leaves_alike p q h
@@ -225,5 +225,5 @@ does_alike agreed op highest lowest size p q stands same way h = h
 
 pub way_alike : (op : Operation) (highest lowest : ℕ) (p q : Processor) → OneWay op highest lowest p q
     → goes_onward op highest lowest p ≡ goes_onward op highest lowest q
-way_alike (o.Divide by) highest lowest p q way = ap (enters by) way.0
+way_alike (o.Split by) highest lowest p q way = ap (enters by) way.0
 way_alike op highest lowest p q way = way

@@ -6,7 +6,7 @@ use Rattle.fk_meaning_operation.specs.declared.operation.Operation.{Operation}
 use Rattle.fk_meaning_operation.specs.declared.operation.Operation.TheVariants as o
 use Rattle.fk_meaning_operation.specs.declared.operation.Variable.{Variable}
 use Rattle.fk_meaning_operation.specs.declared.operation.Variable.TheVariants as v
-use Rattle.fk_meaning_operation.specs.declared.operation.Split.TheVariants.{IfElse}
+use Rattle.fk_meaning_operation.specs.declared.operation.SplitKind.TheVariants.{IfElse}
 use Rattle.fk_meaning_operation.specs.declared.kinds.Class.{Class}
 use Rattle.fk_meaning_operation.specs.declared.kinds.Class.TheVariants.{Local, Request, Tree}
 use Rattle.fk_meaning_store.specs.Store.{private_words, private_address}
@@ -30,8 +30,8 @@ use Rattle.fk_lockstep.proofs.Rounds.{Outcome, OutcomeBy, begin_at, map_at, sett
 -- local operations and requests enter and leave no part
 outs_stay : (op : Operation) (here : Work) (behind : List Work) (rest : Bool → Work) (c : Class) → class_of op ≡ c → (c ≡ Tree → ⊥) → GoesOn op here behind rest
     → (onward : Bool) → outs (rest onward) ≡ behind
-outs_stay (o.Divide IfElse) here behind rest c is isnt h = absurd (isnt (sym is))
-outs_stay (o.Divide by) here behind rest c is isnt h = absurd (isnt (sym is))
+outs_stay (o.Split IfElse) here behind rest c is isnt h = absurd (isnt (sym is))
+outs_stay (o.Split by) here behind rest c is isnt h = absurd (isnt (sym is))
 outs_stay o.Begin here behind rest c is isnt h = absurd (isnt (sym is))
 outs_stay o.Shrink here behind rest c is isnt h = absurd (isnt (sym is))
 outs_stay o.End here behind rest c is isnt h = absurd (isnt (sym is))

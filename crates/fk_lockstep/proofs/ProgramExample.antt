@@ -9,8 +9,8 @@ use Rattle.fk_meaning_operation.specs.declared.kinds.Class.TheVariants as class
 use Rattle.std.specs.Prelude.{if◌then◌else◌}
 use Rattle.fk_num.specs.Word.{Memory}
 use Rattle.fk_meaning_operation.specs.declared.operation.Operation.TheVariants as o
-use Rattle.fk_meaning_operation.specs.declared.operation.Known.TheVariants as n
-use Rattle.fk_meaning_operation.specs.declared.operation.Split.TheVariants.{IfElse, Loop, Fork}
+use Rattle.fk_meaning_operation.specs.declared.operation.OwnValue.TheVariants as n
+use Rattle.fk_meaning_operation.specs.declared.operation.SplitKind.TheVariants.{IfElse, Loop, Fork}
 use Rattle.fk_meaning.specs.Processor.{Processor, Setting, values, last, before}
 use Rattle.fk_meaning.specs.Group.{divided, does, goes_onward}
 use Rattle.fk_meaning.specs.Round.{Step}
@@ -59,7 +59,7 @@ abbrev second_part : Code ℕ
 second_part = perform 7 o.End done
 
 abbrev in_start : Code ℕ
-in_start = perform 2 (o.Get n.Rank) (choose 3 (o.Divide IfElse) first_part second_part behind_parts)
+in_start = perform 2 (o.Get n.Rank) (choose 3 (o.Split IfElse) first_part second_part behind_parts)
 
 abbrev main : Code ℕ
 main = perform 0 (o.Get n.Processors) (choose 1 o.Begin in_start done behind_all)
@@ -114,7 +114,7 @@ second_ends : Goes (InGroup false) (append second_part (append behind_parts behi
 second_ends zero = tt
 second_ends (suc k) = refl
 
-splitting : Goes (InGroup false) (append (choose 3 (o.Divide IfElse) first_part second_part behind_parts) behind_all)
+splitting : Goes (InGroup false) (append (choose 3 (o.Split IfElse) first_part second_part behind_parts) behind_all)
 splitting zero = tt
 splitting (suc k) = (refl, refl, parted k, first_goes k, second_ends k, refl)
 
@@ -132,7 +132,7 @@ whole (suc k) = λ onward. (refl, beginning k)
 
 -- without a `fork` no number of parts is pending
 abbrev is_fork : Operation → Bool
-is_fork (o.Divide Fork) = true
+is_fork (o.Split Fork) = true
 is_fork op = false
 
 abbrev are_none : List ℕ → Bool
@@ -158,9 +158,9 @@ module _ (next' : Work → Option (Step Work)) where
 
   none_pending : (op : Operation) → is_fork op ≡ false → (here : Work) (rest : Bool → Work) → CountsGoOn next' all_outs no_counts op here rest
   none_pending o.Agree e here rest = λ value p ns h. h
-  none_pending (o.Divide Fork) e here rest = absurd (true≢false e)
-  none_pending (o.Divide IfElse) e here rest = ((λ size part p ns h. h), none_met (all_outs (rest true)))
-  none_pending (o.Divide by) e here rest = ((λ size part p ns h. h), tt)
+  none_pending (o.Split Fork) e here rest = absurd (true≢false e)
+  none_pending (o.Split IfElse) e here rest = ((λ size part p ns h. h), none_met (all_outs (rest true)))
+  none_pending (o.Split by) e here rest = ((λ size part p ns h. h), tt)
   none_pending o.Farm e here rest = (none_left class.Tree o.Farm here rest, none_met (all_outs (rest true)))
   none_pending o.Begin e here rest = (none_left class.Tree o.Begin here rest, refl)
   none_pending op e here rest = none_left (class_of op) op here rest
@@ -206,17 +206,17 @@ free_parts =
     (chosen_free 9 o.Farm (perform 10 (o.Meet false) done) done (append body_end behind_all) refl
     (goes_free 10 (o.Meet false) (append body_end behind_all) refl free_meeting) free_meeting)
 
-free_split : IsFree (append (choose 3 (o.Divide IfElse) first_part second_part behind_parts) behind_all)
+free_split : IsFree (append (choose 3 (o.Split IfElse) first_part second_part behind_parts) behind_all)
 free_split =
     let behind = append behind_parts behind_all in
-    chosen_free 3 (o.Divide IfElse) first_part second_part behind refl
+    chosen_free 3 (o.Split IfElse) first_part second_part behind refl
     (goes_free 4 (o.Push 1) (perform 5 o.DropLast (perform 6 o.End behind)) refl
     (goes_free 5 o.DropLast (perform 6 o.End behind) refl (goes_free 6 o.End behind refl free_parts)))
     (goes_free 7 o.End behind refl free_parts)
 
 free_main : IsFree main
 free_main =
-    let split = append (choose 3 (o.Divide IfElse) first_part second_part behind_parts) behind_all in
+    let split = append (choose 3 (o.Split IfElse) first_part second_part behind_parts) behind_all in
     goes_free 0 (o.Get n.Processors) (choose 1 o.Begin in_start done behind_all) refl
     (chosen_free 1 o.Begin in_start done behind_all refl (goes_free 2 (o.Get n.Rank) split refl free_split) free_behind)
 
@@ -237,7 +237,7 @@ abbrev behind_loop : Code ℕ
 behind_loop = perform 34 o.Resume (perform 35 o.End done)
 
 abbrev looping : Code ℕ
-looping = choose 29 (o.Divide Loop) (while test turn_body done done) done behind_loop
+looping = choose 29 (o.Split Loop) (while test turn_body done done) done behind_loop
 
 abbrev loop_main : Code ℕ
 loop_main = perform 28 (o.Get n.Processors) (choose 29 o.Begin looping done behind_all)
@@ -307,7 +307,7 @@ abbrev behind_fork : Code ℕ
 behind_fork = perform 45 o.Resume (perform 46 o.End behind_all)
 
 abbrev forking : Code ℕ
-forking = choose 43 (o.Divide Fork) (perform 44 o.End done) done behind_fork
+forking = choose 43 (o.Split Fork) (perform 44 o.End done) done behind_fork
 
 abbrev ranked : Code ℕ
 ranked = perform 42 (o.Get n.Rank) forking
@@ -317,16 +317,16 @@ numbered = perform 41 (o.Get n.Rank) ranked
 
 abbrev fork_main : Code ℕ
 fork_main = perform 37 (o.Get n.Processors) (choose 38 o.Begin (perform 39 (o.Push 2) (perform 40 o.Agree (perform 41 (o.Get n.Rank) (perform 42 (o.Get n.Rank)
-    (choose 43 (o.Divide Fork) (perform 44 o.End done) done (perform 45 o.Resume (perform 46 o.End done))))))) done behind_all)
+    (choose 43 (o.Split Fork) (perform 44 o.End done) done (perform 45 o.Resume (perform 46 o.End done))))))) done behind_all)
 
 abbrev next_in_fork : Work → Option (Step Work)
 next_in_fork = next (λ binding. fork_main)
 
 -- from the agree to the `fork` its number of parts is pending: two values stand above it at last
 abbrev above : Code ℕ → Option ℕ
-above (choose t (o.Divide Fork) a b rest) = Some 2
-above (perform t (o.Get k) (choose t' (o.Divide Fork) a b rest)) = Some 1
-above (perform t (o.Get k) (perform t' (o.Get k') (choose t'' (o.Divide Fork) a b rest))) = Some 0
+above (choose t (o.Split Fork) a b rest) = Some 2
+above (perform t (o.Get k) (choose t' (o.Split Fork) a b rest)) = Some 1
+above (perform t (o.Get k) (perform t' (o.Get k') (choose t'' (o.Split Fork) a b rest))) = Some 0
 above code = None
 
 abbrev numbers_at : Option ℕ → Processor → List ℕ
@@ -395,7 +395,7 @@ fork_pushes zero = tt
 fork_pushes (suc k) = λ onward. (refl, fork_agrees k)
 
 fork_begins : Forks (ByItself false) (choose 38 o.Begin (perform 39 (o.Push 2) (perform 40 o.Agree (perform 41 (o.Get n.Rank) (perform 42 (o.Get n.Rank)
-    (choose 43 (o.Divide Fork) (perform 44 o.End done) done (perform 45 o.Resume (perform 46 o.End done))))))) done behind_all)
+    (choose 43 (o.Split Fork) (perform 44 o.End done) done (perform 45 o.Resume (perform 46 o.End done))))))) done behind_all)
 fork_begins zero = tt
 fork_begins (suc k) = (refl, fork_others k, refl, fork_pushes k)
 
@@ -458,13 +458,13 @@ count_pushes zero = tt
 count_pushes (suc k) = ((λ set onward p ns h. h), (λ onward. count_agrees k))
 
 count_begins : IsCountedThere (choose 38 o.Begin (perform 39 (o.Push 2) (perform 40 o.Agree (perform 41 (o.Get n.Rank) (perform 42 (o.Get n.Rank)
-    (choose 43 (o.Divide Fork) (perform 44 o.End done) done (perform 45 o.Resume (perform 46 o.End done))))))) done behind_all)
+    (choose 43 (o.Split Fork) (perform 44 o.End done) done (perform 45 o.Resume (perform 46 o.End done))))))) done behind_all)
 count_begins zero = tt
 count_begins (suc k) = ((taken, refl), by)
   where
     abbrev_part : Code ℕ
     abbrev_part = perform 39 (o.Push 2) (perform 40 o.Agree (perform 41 (o.Get n.Rank) (perform 42 (o.Get n.Rank)
-        (choose 43 (o.Divide Fork) (perform 44 o.End done) done (perform 45 o.Resume (perform 46 o.End done))))))
+        (choose 43 (o.Split Fork) (perform 44 o.End done) done (perform 45 o.Resume (perform 46 o.End done))))))
 
     either : (onward : Bool) (p : Processor) (ns : List ℕ) → bytes_eq ns [] ≡ true
         → ArePending next_in_fork all_outs fork_counts (going (append (if onward then abbrev_part else done) behind_all) []) p ns

@@ -15,7 +15,7 @@ use Rattle.fk_tree.proofs.RootSound.{root_sound}
 use Rattle.fk_tree.proofs.Turns.{leaf_by, idle-lockstep}
 use Rattle.fk_space.specs.Space.{Space, frame, block}
 use Rattle.fk_meaning_store.specs.Serve.{words_of}
-use Rattle.fk_meaning_operation.specs.declared.operation.Split.{Split}
+use Rattle.fk_meaning_operation.specs.declared.operation.SplitKind.{SplitKind}
 use Rattle.fk_meaning.specs.Processor.{Level, Processor, Setting, setting_of, values, last, drop_last, in_place, enter_level, to_outer, leave_level}
 use Rattle.fk_meaning.specs.Group.{does, with_block, with_size, allotted, framed, part, divided, start_level, is_taken, stays}
 use Rattle.fk_meaning.specs.Round.{Step, Runner, Fault, State, Round, Acting, lowest, tree_phase, result, is_possible, IsStopped}
@@ -32,7 +32,7 @@ use Rattle.fk_lockstep.proofs.KeptSizes.{Sized, new_sizes, new_sized, new_groups
 use Rattle.fk_lockstep.proofs.Changes.{ends_none, mids, last_stage}
 
 -- steps of the tree leave a processor its number
-divided_number : (by : Split) (size : ℕ) (p : Processor) (o' : Option ℕ) → (divided by size p o').number ≡ p.number
+divided_number : (by : SplitKind) (size : ℕ) (p : Processor) (o' : Option ℕ) → (divided by size p o').number ≡ p.number
 divided_number by size p None = refl
 divided_number by size p (Some i) = refl
 
@@ -63,7 +63,7 @@ pub does_number : (op : Operation) (highest size : ℕ) (p : Processor) → (doe
 does_number o.Begin highest size p = either_number (is_taken highest p) (enter_level (start_level p size) (drop_last 1 p)) (drop_last 1 p) p.number refl refl
 does_number (o.Frame nesting words) highest size p = framed_number nesting p (frame p.level.space words)
 does_number o.Block highest size p = block_number (words_of (last (values p))) p
-does_number (o.Divide by) highest size p = divided_number by size p (part by (values p))
+does_number (o.Split by) highest size p = divided_number by size p (part by (values p))
 does_number o.Shrink highest size p =
     either_number (stays p) (with_size size (drop_last 1 p)) (leave_level (drop_last 1 p)) p.number refl (outer_number (drop_last 1 p) p.outer)
 does_number o.End highest size p = outer_number p p.outer

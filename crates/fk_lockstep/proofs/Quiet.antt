@@ -48,13 +48,13 @@ module _ {W : Type 0} (next : W → Option (Step W)) (outs : W → List W) where
   alone_outs F false (o.Meet true) w rest e isnt h = absurd h
   alone_outs F true o.Halt w rest e isnt h = absurd h
   alone_outs F false o.Halt w rest e isnt h = absurd (isnt refl)
-  alone_outs F true (o.Divide by) w rest e isnt h = absurd h
+  alone_outs F true (o.Split by) w rest e isnt h = absurd h
   alone_outs F true o.Shrink w rest e isnt h = absurd h
   alone_outs F true o.End w rest e isnt h = absurd h
   alone_outs F true o.Farm w rest e isnt h = absurd h
   alone_outs F true o.Seq w rest e isnt h = absurd h
   alone_outs F true o.Resume w rest e isnt h = absurd h
-  alone_outs F false (o.Divide by) w rest e isnt h = absurd h
+  alone_outs F false (o.Split by) w rest e isnt h = absurd h
   alone_outs F false o.Shrink w rest e isnt h = absurd h
   alone_outs F false o.End w rest e isnt h = absurd h
   alone_outs F false o.Farm w rest e isnt h = absurd h

@@ -65,7 +65,7 @@ block_groups words p = by (words == 0)
 
 pub plain_groups : (op : Operation) (highest size : ℕ) (p : Processor) → changes_tree op ≡ false → groups_of (does op highest size p) ≡ groups_of p
 plain_groups o.Begin highest size p e = absurd (true≢false e)
-plain_groups (o.Divide by) highest size p e = absurd (true≢false e)
+plain_groups (o.Split by) highest size p e = absurd (true≢false e)
 plain_groups o.Shrink highest size p e = absurd (true≢false e)
 plain_groups o.End highest size p e = absurd (true≢false e)
 plain_groups (o.Frame nesting words) highest size p e = framed_groups nesting p (frame p.level.space words)

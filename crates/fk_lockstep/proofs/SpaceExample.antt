@@ -2,7 +2,7 @@
 -- themselves. They have one space.
 use Rattle.std.proofs.Common.{ℕ, zero, suc, Bool, true, false, List, [], ◌∷◌, length, refl, arith, if◌then◌else◌, ◌≡◌, ◌≤◌, ◌++◌, map, None}
 use Rattle.fk_meaning_operation.specs.declared.operation.Operation.TheVariants as o
-use Rattle.fk_meaning_operation.specs.declared.operation.Known.TheVariants as n
+use Rattle.fk_meaning_operation.specs.declared.operation.OwnValue.TheVariants as n
 use Rattle.fk_meaning_forms.specs.Code.{Code, done, perform, choose, while, until, turn, again, quit, break, continue, call, ends, append}
 use Rattle.fk_meaning.specs.Next.{Work, going, next}
 use Rattle.fk_meaning.specs.Behind.{outs}

@@ -3,8 +3,8 @@ use Rattle.std.proofs.Common.{◌≡◌, ◌≢◌, ℕ, zero, suc, ◌==◌, Bo
 use Rattle.fk_space.specs.Space.{Space, child}
 use Rattle.fk_meaning_operation.specs.declared.operation.Operation.{Operation}
 use Rattle.fk_meaning_operation.specs.declared.operation.Operation.TheVariants as o
-use Rattle.fk_meaning_operation.specs.declared.operation.Split.{Split}
-use Rattle.fk_meaning_operation.specs.declared.operation.Split.TheVariants as split_by
+use Rattle.fk_meaning_operation.specs.declared.operation.SplitKind.{SplitKind}
+use Rattle.fk_meaning_operation.specs.declared.operation.SplitKind.TheVariants as split_by
 use Rattle.fk_meaning.specs.Processor.{Level, Processor, values, last, drop_last, enter_level, to_outer, leave_level}
 use Rattle.fk_meaning.specs.Group.{parts, part, enters, divided, start_level, with_size}
 use Rattle.fk_meaning.specs.Round.{Step, Runner}
@@ -39,7 +39,7 @@ never_none true e = absurd (cc)
 never_none false e = absurd (cc)
 
 -- who enters no part stays in its group
-round_aside : (by : Split) (vs : List ℕ) (n : ℕ) → part by vs ≡ None → round_after (o.Divide by) (enters by None) n ≡ n
+round_aside : (by : SplitKind) (vs : List ℕ) (n : ℕ) → part by vs ≡ None → round_after (o.Split by) (enters by None) n ≡ n
 round_aside split_by.IfElse vs n e = never_none (last vs == 0) e
 round_aside split_by.IfAlone vs n e = refl
 round_aside split_by.AndThen vs n e = refl
@@ -47,7 +47,7 @@ round_aside split_by.OrElse vs n e = refl
 round_aside split_by.Loop vs n e = refl
 round_aside split_by.Fork vs n e = refl
 
-round_in : (by : Split) (j n : ℕ) → round_after (o.Divide by) (enters by (Some j)) n ≡ suc n
+round_in : (by : SplitKind) (j n : ℕ) → round_after (o.Split by) (enters by (Some j)) n ≡ suc n
 round_in split_by.IfElse j n = refl
 round_in split_by.IfAlone j n = refl
 round_in split_by.AndThen j n = refl
@@ -55,7 +55,7 @@ round_in split_by.OrElse j n = refl
 round_in split_by.Loop j n = refl
 round_in split_by.Fork j n = refl
 
-none_frames : (p : Processor) (by : Split) (size : ℕ) → own_of (divided by size p None) ≡ own_of p
+none_frames : (p : Processor) (by : SplitKind) (size : ℕ) → own_of (divided by size p None) ≡ own_of p
 none_frames p by size = refl
 
 module _ {W : Type 0} (next : W → Option (Step W)) (outs : W → List W) (depth : W → ℕ) where
@@ -76,7 +76,7 @@ module _ {W : Type 0} (next : W → Option (Step W)) (outs : W → List W) (dept
     n = length x.round
 
     -- it enters a part
-    pub enters_part : (by : Split) → Goes n false (o.Divide by) r.left rest → (parent : W) (j size k : ℕ) → outs (rest (enters by (Some j))) ≡ parent ∷ outs r.left → depth parent ≡ depth r.left
+    pub enters_part : (by : SplitKind) → Goes n false (o.Split by) r.left rest → (parent : W) (j size k : ℕ) → outs (rest (enters by (Some j))) ≡ parent ∷ outs r.left → depth parent ≡ depth r.left
         → parts by (values r.has) ≡ k → (r' : Runner W) → r'.left ≡ rest (enters by (Some j)) → r'.has ≡ divided by size r.has (Some j)
         → InIt next outs depth (part_of x k j) r'
     enters_part by f parent j size k inside met many r' left has =
@@ -88,11 +88,11 @@ module _ {W : Type 0} (next : W → Option (Step W)) (outs : W → List W) (dept
           link = ([], refl);
           links = (a.link, a.links);
           marks = subst (λ (ws : List W). Marks next outs depth ws (all_of x)) (sym inside) (a.deep ∙ ap (λ (m : ℕ). suc m) (sym met), a.marks);
-          framed = goes_to n false (o.Divide by) r.left rest f (enters by (Some j)) (suc n) false (round_in by j n) refl;
+          framed = goes_to n false (o.Split by) r.left rest f (enters by (Some j)) (suc n) false (round_in by j n) refl;
         })
 
     -- it enters none
-    pub enters_none : (by : Split) → Goes n false (o.Divide by) r.left rest → (size : ℕ) (vs : List ℕ) → part by vs ≡ None → outs (rest (enters by None)) ≡ outs r.left
+    pub enters_none : (by : SplitKind) → Goes n false (o.Split by) r.left rest → (size : ℕ) (vs : List ℕ) → part by vs ≡ None → outs (rest (enters by None)) ≡ outs r.left
         → (r' : Runner W) → r'.left ≡ rest (enters by None) → r'.has ≡ divided by size r.has None
         → InIt next outs depth x r'
     enters_none by f size vs none same r' left has =
@@ -104,7 +104,7 @@ module _ {W : Type 0} (next : W → Option (Step W)) (outs : W → List W) (dept
           link = a.link;
           links = a.links;
           marks = subst (λ (ws : List W). Marks next outs depth ws x.round) (sym same) a.marks;
-          framed = goes_to n false (o.Divide by) r.left rest f (enters by None) n false (round_aside by vs n none) refl;
+          framed = goes_to n false (o.Split by) r.left rest f (enters by None) n false (round_aside by vs n none) refl;
         })
 
     -- it stays in a loop

@@ -64,7 +64,7 @@ no_more (m ∷ more) fs e = let more' = longer more fs in absurd (omega (arith, 
 
 pub local_plain : (op : Operation) (c : Class) → class_of op ≡ c → c ≢ class.Tree → changes_tree op ≡ false
 local_plain o.Begin c is isnt = absurd (isnt (sym is))
-local_plain (o.Divide by) c is isnt = absurd (isnt (sym is))
+local_plain (o.Split by) c is isnt = absurd (isnt (sym is))
 local_plain o.Shrink c is isnt = absurd (isnt (sym is))
 local_plain o.End c is isnt = absurd (isnt (sym is))
 local_plain o.Farm c is isnt = absurd (isnt (sym is))
@@ -76,7 +76,7 @@ local_plain op c is isnt = refl
 
 round_same : (op : Operation) (onward : Bool) (n : ℕ) → changes_tree op ≡ false → round_after op onward n ≡ n
 round_same o.Begin onward n e = absurd (true≢false e)
-round_same (o.Divide by) onward n e = absurd (true≢false e)
+round_same (o.Split by) onward n e = absurd (true≢false e)
 round_same o.Shrink onward n e = absurd (true≢false e)
 round_same o.End onward n e = absurd (true≢false e)
 round_same op onward n e = refl

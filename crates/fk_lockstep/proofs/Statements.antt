@@ -9,8 +9,8 @@ use Rattle.fk_syntax.specs.Tree.{Named, TypeTree, Tree}
 use Rattle.fk_syntax.specs.Program as p
 use Rattle.fk_syntax.specs.Program.{DeclaredTree, Statement, Statements, FunctionTree, ProgramTree}
 use Rattle.fk_meaning_operation.specs.declared.operation.Operation.TheVariants as o
-use Rattle.fk_meaning_operation.specs.declared.operation.Known.TheVariants as n
-use Rattle.fk_meaning_operation.specs.declared.operation.Split.TheVariants.{IfAlone, IfElse, Loop, Fork}
+use Rattle.fk_meaning_operation.specs.declared.operation.OwnValue.TheVariants as n
+use Rattle.fk_meaning_operation.specs.declared.operation.SplitKind.TheVariants.{IfAlone, IfElse, Loop, Fork}
 use Rattle.fk_meaning_forms.specs.Code as c
 use Rattle.fk_meaning_forms.specs.Code.{Code, done, perform, choose, while, until, turn, again, quit, break, continue, call, ends, size, numbered}
 use Rattle.fk_meaning_forms.specs.Tables.{Tables, note, frame_at}
@@ -71,7 +71,7 @@ module _ (tables : Tables) (functions : (binding : ℕ) → Signature) (may_call
   loops : (spot : Spot) (loop : Coded → Coded) → Keeps loop → Keeps (looping tables functions spot loop)
   loops spot loop keeps rest q =
       let part = part_frame tables functions spot 0 (loop done) in
-      either tables functions may_call (note tables spot.at).splits (choose spot.place (o.Divide Loop) part done (plain o.Resume rest)) (loop rest)
+      either tables functions may_call (note tables spot.at).splits (choose spot.place (o.Split Loop) part done (plain o.Resume rest)) (loop rest)
       (refl, part_frames spot 0 (loop done) (keeps done tt), tt, (refl, q)) (keeps rest q)
 
   halts : (inside : Inside) (main : Bool) (rest : Coded) → Fine rest → Fine (ends nowhere (if main then o.Halt else o.Leave false inside.framed) rest)
@@ -99,7 +99,7 @@ module _ (tables : Tables) (functions : (binding : ℕ) → Signature) (may_call
     statement inside (p.If spot condition first) noted rest q =
         let here = note tables spot.at in
         let body = executed tables functions inside first in
-        let parted = choose spot.place (o.Divide IfAlone) (part_frame tables functions spot 0 (body (plain o.End done))) done (plain o.Resume rest) in
+        let parted = choose spot.place (o.Split IfAlone) (part_frame tables functions spot 0 (body (plain o.End done))) done (plain o.Resume rest) in
         let branched = choose nowhere (o.Branch true) (body done) done rest in
         value_in_step tables functions may_call condition noted.1 (if here.splits then parted else agreed here.sync branched)
         (either tables functions may_call here.splits parted (agreed here.sync branched)
@@ -109,7 +109,7 @@ module _ (tables : Tables) (functions : (binding : ℕ) → Signature) (may_call
         let here = note tables spot.at in
         let a = executed tables functions inside first in
         let b = executed tables functions inside second in
-        let parted = choose spot.place (o.Divide IfElse) (part_frame tables functions spot 0 (a (plain o.End done))) (part_frame tables functions spot 1 (b (plain o.End done))) (plain o.Resume rest) in
+        let parted = choose spot.place (o.Split IfElse) (part_frame tables functions spot 0 (a (plain o.End done))) (part_frame tables functions spot 1 (b (plain o.End done))) (plain o.Resume rest) in
         let branched = choose nowhere (o.Branch true) (a done) (b done) rest in
         value_in_step tables functions may_call condition noted.1 (if here.splits then parted else agreed here.sync branched)
         (either tables functions may_call here.splits parted (agreed here.sync branched)
@@ -133,7 +133,7 @@ module _ (tables : Tables) (functions : (binding : ℕ) → Signature) (may_call
         (refl, parts spot 0 run (statement inside body noted.1), tt, (refl, q))
     statement inside (p.Fork spot k part rank body) noted rest q =
         let run = executed tables functions inside body in
-        let split = choose spot.place (o.Divide Fork) (part_frame tables functions spot 0 (run (plain o.End done))) done (plain o.Resume rest) in
+        let split = choose spot.place (o.Split Fork) (part_frame tables functions spot 0 (run (plain o.End done))) done (plain o.Resume rest) in
         let ranked = value_or tables functions (plain (o.Get n.Rank)) rank split in
         let numbers = value tables functions part ranked in
         let forked : Fine split = (refl, parts spot 0 run (statement inside body noted.3), tt, (refl, q)) in

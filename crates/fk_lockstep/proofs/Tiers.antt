@@ -70,7 +70,7 @@ answer_keeps op a p e = record { own = refl; outer = refl }
 
 pub plain_keeps : (op : Operation) (highest size : ℕ) (p : Processor) → changes_tree op ≡ false → takes_space op ≡ false → Kept p (does op highest size p)
 plain_keeps o.Begin highest size p e f = absurd (true≢false e)
-plain_keeps (o.Divide by) highest size p e f = absurd (true≢false e)
+plain_keeps (o.Split by) highest size p e f = absurd (true≢false e)
 plain_keeps o.Shrink highest size p e f = absurd (true≢false e)
 plain_keeps o.End highest size p e f = absurd (true≢false e)
 plain_keeps (o.Frame nesting words) highest size p e f = absurd (true≢false f)
@@ -155,7 +155,7 @@ block_makes words p = by (words == 0)
 
 pub plain_makes : (op : Operation) (highest size : ℕ) (p : Processor) → changes_tree op ≡ false → Makes (plain_own op (last (values p)) (own_of p)) p (does op highest size p)
 plain_makes o.Begin highest size p e = absurd (true≢false e)
-plain_makes (o.Divide by) highest size p e = absurd (true≢false e)
+plain_makes (o.Split by) highest size p e = absurd (true≢false e)
 plain_makes o.Shrink highest size p e = absurd (true≢false e)
 plain_makes o.End highest size p e = absurd (true≢false e)
 plain_makes (o.Frame nesting words) highest size p e = frame_makes nesting p (frame p.level.space words)

@@ -69,13 +69,13 @@ module _ (n : ℕ) (whose : ℕ → Processor) (highest low : ℕ) (tree : Tree)
 
   step_given : (op : Operation) → tree.given ≤ (changed op).given
   step_given o.Begin = split_given 1
-  step_given (o.Divide by) = split_given (parts by (values (whose low)))
+  step_given (o.Split by) = split_given (parts by (values (whose low)))
   step_given (o.Meet true) = le_same tree.given
   step_given op = le_same tree.given
 
   step_members : (op : Operation) (i h : ℕ) → i < tree.given → is_member h (members (changed op) i) ≡ true → is_member h (members tree i) ≡ true
   step_members o.Begin i h lt is = split_members 0 1 (first_part (min (not_negative highest) (length (members tree n)))) tree i h lt is
-  step_members (o.Divide by) i h lt is = split_members n (parts by (values (whose low))) (λ g. part by (values (whose g))) tree i h lt is
+  step_members (o.Split by) i h lt is = split_members n (parts by (values (whose low))) (λ g. part by (values (whose g))) tree i h lt is
   step_members o.Shrink i h lt is = shrink_members n (λ g. stays (whose g)) tree i h is
   step_members o.End i h lt is = shrink_members n (λ g. false) tree i h is
   step_members o.Farm i h lt is = kind_kept n (Asynchronous false) tree i h is
@@ -86,7 +86,7 @@ module _ (n : ℕ) (whose : ℕ → Processor) (highest low : ℕ) (tree : Tree)
 
   step_nodes : (op : Operation) (i : ℕ) → i ≢ 0 → i < tree.given → i ≢ n → (changed op).nodes i ≡ tree.nodes i
   step_nodes o.Begin i root lt isnt = split_nodes 0 1 (first_part (min (not_negative highest) (length (members tree n)))) tree i lt root
-  step_nodes (o.Divide by) i root lt isnt = split_nodes n (parts by (values (whose low))) (λ g. part by (values (whose g))) tree i lt isnt
+  step_nodes (o.Split by) i root lt isnt = split_nodes n (parts by (values (whose low))) (λ g. part by (values (whose g))) tree i lt isnt
   step_nodes o.Shrink i root lt isnt = with_other n (left_by (λ g. stays (whose g)) (tree.nodes n)) tree.nodes i isnt
   step_nodes o.End i root lt isnt = with_other n (left_by (λ g. false) (tree.nodes n)) tree.nodes i isnt
   step_nodes o.Farm i root lt isnt = with_other n (t.turned (Asynchronous false) (tree.nodes n)) tree.nodes i isnt
@@ -97,7 +97,7 @@ module _ (n : ℕ) (whose : ℕ → Processor) (highest low : ℕ) (tree : Tree)
 
   step_places : (op : Operation) (h : ℕ) → op ≢ o.Begin → is_member h (members tree n) ≡ false → (changed op).places h ≡ tree.places h
   step_places o.Begin h no_start isnt = absurd (no_start refl)
-  step_places (o.Divide by) h no_start isnt = split_places n (parts by (values (whose low))) (λ g. part by (values (whose g))) tree h isnt
+  step_places (o.Split by) h no_start isnt = split_places n (parts by (values (whose low))) (λ g. part by (values (whose g))) tree h isnt
   step_places o.Shrink h no_start isnt = shrink_places n (λ g. stays (whose g)) tree h isnt
   step_places o.End h no_start isnt = shrink_places n (λ g. false) tree h isnt
   step_places (o.Meet true) h no_start isnt = refl
@@ -105,7 +105,7 @@ module _ (n : ℕ) (whose : ℕ → Processor) (highest low : ℕ) (tree : Tree)
 
   step_of_none : (op : Operation) → changes_tree op ≡ false → changed op ≡ tree
   step_of_none o.Begin e = absurd (true≢false e)
-  step_of_none (o.Divide by) e = absurd (true≢false e)
+  step_of_none (o.Split by) e = absurd (true≢false e)
   step_of_none o.Shrink e = absurd (true≢false e)
   step_of_none o.End e = absurd (true≢false e)
   step_of_none o.Farm e = absurd (true≢false e)

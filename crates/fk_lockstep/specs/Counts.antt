@@ -3,8 +3,8 @@ use Rattle.std.specs.Prelude.{◌≡◌, ℕ, zero, suc, ◌≤◌, nat_lt, Bool
 use Rattle.fk_meaning_operation.specs.Kinds.{class_of}
 use Rattle.fk_meaning_operation.specs.declared.operation.Operation.{Operation}
 use Rattle.fk_meaning_operation.specs.declared.operation.Operation.TheVariants as o
-use Rattle.fk_meaning_operation.specs.declared.operation.Split.{Split}
-use Rattle.fk_meaning_operation.specs.declared.operation.Split.TheVariants.{IfElse, Fork}
+use Rattle.fk_meaning_operation.specs.declared.operation.SplitKind.{SplitKind}
+use Rattle.fk_meaning_operation.specs.declared.operation.SplitKind.TheVariants.{IfElse, Fork}
 use Rattle.fk_meaning_operation.specs.declared.kinds.Class.{Class}
 use Rattle.fk_meaning_operation.specs.declared.kinds.Class.TheVariants.{Local, Request, Tree}
 use Rattle.fk_meaning.specs.Processor.{Processor, Setting, values, last, before, in_place}
@@ -44,7 +44,7 @@ module _ {W : Type 0} (next : W → Option (Step W)) (outs : W → List W) (coun
       (highest lowest size : ℕ) (p : Processor) (ns : List ℕ) → ArePending here p ns
       → ArePending (rest (goes_onward op highest lowest p)) (does op highest size p) ns
 
-  abbrev pub LeavesAtSplit : Split → (here : W) → (rest : Bool → W) → Type 0
+  abbrev pub LeavesAtSplit : SplitKind → (here : W) → (rest : Bool → W) → Type 0
   LeavesAtSplit by here rest =
       (size : ℕ) (part : Option ℕ) (p : Processor) (ns : List ℕ) → ArePending here p ns
       → ArePending (rest (enters by part)) (divided by size p part) ns
@@ -59,12 +59,12 @@ module _ {W : Type 0} (next : W → Option (Step W)) (outs : W → List W) (coun
   CountsGoOn o.Agree here rest =
       (value : ℕ) (p : Processor) (ns : List ℕ) → ArePending here p ns
       → ArePending (rest true) (in_place value p) (grown (nat_lt (counts.pending here) (counts.pending (rest true))) value ns)
-  CountsGoOn (o.Divide Fork) here rest =
+  CountsGoOn (o.Split Fork) here rest =
       ((size : ℕ) (part : Option ℕ) (p : Processor) (ns : List ℕ) → ArePending here p ns
       → IsTaken p (divided Fork size p part) (rest (is_some part)) ns)
       × NoMore (counts.pending (rest true)) (outs here)
-  CountsGoOn (o.Divide IfElse) here rest = LeavesAtSplit IfElse here rest × AsMany (counts.pending here) (outs (rest true))
-  CountsGoOn (o.Divide by) here rest = LeavesAtSplit by here rest × Unit {0}
+  CountsGoOn (o.Split IfElse) here rest = LeavesAtSplit IfElse here rest × AsMany (counts.pending here) (outs (rest true))
+  CountsGoOn (o.Split by) here rest = LeavesAtSplit by here rest × Unit {0}
   CountsGoOn o.Farm here rest = Leaves Tree o.Farm here rest × AsMany (counts.pending here) (outs (rest true))
   CountsGoOn o.Begin here rest = Leaves Tree o.Begin here rest × (counts.pending here ≡ 0)
   CountsGoOn op here rest = Leaves (class_of op) op here rest

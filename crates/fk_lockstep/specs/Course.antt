@@ -2,8 +2,8 @@
 use Rattle.std.specs.Prelude.{◌≡◌, ℕ, zero, suc, Bool, true, false, List, [], ◌∷◌, Option, Some, None}
 use Rattle.fk_meaning_operation.specs.declared.operation.Operation.{Operation}
 use Rattle.fk_meaning_operation.specs.declared.operation.Operation.TheVariants as o
-use Rattle.fk_meaning_operation.specs.declared.operation.Split.{Split}
-use Rattle.fk_meaning_operation.specs.declared.operation.Split.TheVariants.{IfElse}
+use Rattle.fk_meaning_operation.specs.declared.operation.SplitKind.{SplitKind}
+use Rattle.fk_meaning_operation.specs.declared.operation.SplitKind.TheVariants.{IfElse}
 use Rattle.fk_meaning.specs.Round.{Step}
 
 -- where a processor stands: in a group in lockstep, directly behind an agree or not; where it waits for parts, within a
@@ -27,7 +27,7 @@ module _ {W : Type 0} (next : W → Option (Step W)) (outs : W → List W) where
     Stays stand here rest = (onward : Bool) → (outs (rest onward) ≡ outs here) × Follows stand (rest onward)
 
     -- behind parts there is where the others wait
-    abbrev pub Parts : Split → (here : W) → (rest : Bool → W) → (outs_of_part : List W) → Type 0
+    abbrev pub Parts : SplitKind → (here : W) → (rest : Bool → W) → (outs_of_part : List W) → Type 0
     Parts by here rest [] = ⊥
     Parts IfElse here rest (parent ∷ behind) =
         (behind ≡ outs here) × (outs parent ≡ outs here) × Follows (Waits true) parent
@@ -41,7 +41,7 @@ module _ {W : Type 0} (next : W → Option (Step W)) (outs : W → List W) where
     Does (InGroup agreed) (o.Branch onward) here rest = (agreed ≡ true) × Stays (InGroup false) here rest
     Does (InGroup agreed) o.Block here rest = (agreed ≡ true) × Stays (InGroup false) here rest
     Does (InGroup agreed) o.Agree here rest = Stays (InGroup true) here rest
-    Does (InGroup agreed) (o.Divide by) here rest = Parts by here rest (outs (rest true))
+    Does (InGroup agreed) (o.Split by) here rest = Parts by here rest (outs (rest true))
     Does (InGroup agreed) o.Shrink here rest =
         (outs (rest true) ≡ outs here) × Follows (InGroup false) (rest true) × (outs here ≡ rest false ∷ outs (rest false))
     Does (InGroup agreed) o.End here rest = outs here ≡ rest true ∷ outs (rest true)
@@ -58,7 +58,7 @@ module _ {W : Type 0} (next : W → Option (Step W)) (outs : W → List W) where
     Does (InGroup agreed) operation here rest = Stays (InGroup false) here rest
     Does (Waits within) o.Resume here rest = (outs (rest true) ≡ outs here) × Follows (after_waiting within) (rest true)
     Does (Waits within) operation here rest = ⊥
-    Does (ByItself within) (o.Divide by) here rest = ⊥
+    Does (ByItself within) (o.Split by) here rest = ⊥
     Does (ByItself within) o.Shrink here rest = ⊥
     Does (ByItself within) o.End here rest = ⊥
     Does (ByItself within) o.Farm here rest = ⊥

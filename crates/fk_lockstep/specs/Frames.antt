@@ -3,7 +3,7 @@
 use Rattle.std.specs.Prelude.{◌≡◌, ℕ, zero, suc, ◌<◌, ◌≤◌, Bool, true, false, List, [], ◌∷◌, Option, Some, None}
 use Rattle.fk_meaning_operation.specs.declared.operation.Operation.{Operation}
 use Rattle.fk_meaning_operation.specs.declared.operation.Operation.TheVariants as o
-use Rattle.fk_meaning_operation.specs.declared.operation.Split.TheVariants.{IfElse}
+use Rattle.fk_meaning_operation.specs.declared.operation.SplitKind.TheVariants.{IfElse}
 use Rattle.fk_meaning.specs.Round.{Step}
 
 -- what an operation does with calls
@@ -34,7 +34,7 @@ is_start o.Begin = true
 is_start op = false
 
 abbrev pub is_split : Operation → Bool
-is_split (o.Divide by) = true
+is_split (o.Split by) = true
 is_split op = false
 
 abbrev pub one_less : ℕ → ℕ
@@ -49,9 +49,9 @@ is_none_round (suc n) = false
 abbrev pub round_after : Operation → (onward : Bool) → ℕ → ℕ
 round_after o.Begin true n = suc n
 round_after o.Begin false n = n
-round_after (o.Divide IfElse) onward n = suc n
-round_after (o.Divide by) true n = suc n
-round_after (o.Divide by) false n = n
+round_after (o.Split IfElse) onward n = suc n
+round_after (o.Split by) true n = suc n
+round_after (o.Split by) false n = n
 round_after o.Shrink true n = n
 round_after o.Shrink false n = one_less n
 round_after o.End onward n = one_less n

@@ -36,7 +36,7 @@ pub record SamePlace (p q : Processor) : Type 0 where
 
 -- two members go one way at a step of the tree: at a split into one of as many parts, or both wait
 abbrev pub OneWay : Operation → (highest lowest : ℕ) → Processor → Processor → Type 0
-OneWay (o.Divide by) highest lowest p q =
+OneWay (o.Split by) highest lowest p q =
     (part by (values p) ≡ part by (values q)) × (parts by (values p) ≡ parts by (values q))
 OneWay operation highest lowest p q = goes_onward operation highest lowest p ≡ goes_onward operation highest lowest q
 

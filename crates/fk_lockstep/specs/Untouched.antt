@@ -11,7 +11,7 @@ use Rattle.fk_lockstep.specs.Together.{DoesStep}
 -- a step that changes the tree
 abbrev pub changes_tree : Operation → Bool
 changes_tree o.Begin = true
-changes_tree (o.Divide by) = true
+changes_tree (o.Split by) = true
 changes_tree o.Shrink = true
 changes_tree o.End = true
 changes_tree o.Farm = true

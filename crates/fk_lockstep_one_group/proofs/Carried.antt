@@ -3,7 +3,7 @@ use Rattle.std.proofs.Common.{◌≡◌, ◌≢◌, ℕ, zero, suc, ◌≤◌, B
 use Rattle.std.specs.Prelude.{option_map}
 use Rattle.fk_meaning_operation.specs.declared.operation.Operation.{Operation}
 use Rattle.fk_meaning_operation.specs.declared.operation.Operation.TheVariants as o
-use Rattle.fk_meaning_operation.specs.declared.operation.Split.{Split}
+use Rattle.fk_meaning_operation.specs.declared.operation.SplitKind.{SplitKind}
 use Rattle.fk_meaning.specs.Alike.{Same}
 use Rattle.fk_meaning.specs.Round.{Step}
 use Rattle.fk_core.specs.declared.op.CoreOp.{CoreOp}
@@ -46,7 +46,7 @@ seq_behind w.InGroup to e = cc
 seq_behind w.InBody to e = absurd (cc)
 seq_behind w.BehindBody to e = absurd (cc)
 
-no_split : (place : Where) (by : Split) (to : Where) → goes place (o.Divide by) true ≡ Some to → ⊥
+no_split : (place : Where) (by : SplitKind) (to : Where) → goes place (o.Split by) true ≡ Some to → ⊥
 no_split w.InRoot by to e = absurd (cc)
 no_split w.Waits by to e = absurd (cc)
 no_split w.InGroup by to e = absurd (cc)
@@ -255,7 +255,7 @@ module _ {V : Type 0} (next_in : V → Option (Step V)) (outs_in : V → List V)
       does (InGroup a) (o.Branch b) e k = ((k 0).0, stays (InGroup false) (λ m. (k m).1))
       does (InGroup a) o.Block e k = ((k 0).0, stays (InGroup false) (λ m. (k m).1))
       does (InGroup a) o.Agree e k = stays (InGroup true) k
-      does (InGroup a) (o.Divide by) e k = absurd (no_split place by (to true).0 (place_on (o.Divide by) e true))
+      does (InGroup a) (o.Split by) e k = absurd (no_split place by (to true).0 (place_on (o.Split by) e true))
       does (InGroup a) o.Shrink e k = absurd (no_shrink place (to true).0 (place_on o.Shrink e true))
       does (InGroup a) o.End e k =
           listed (s.rest true) (outs_in v) (outs_in (s.rest true)) (rest true) x.at.callers (rest true).at.callers (k 0)
@@ -272,7 +272,7 @@ module _ {V : Type 0} (next_in : V → Option (Step V)) (outs_in : V → List V)
       does (InGroup a) op e k = stays (InGroup false) k
       does (Waits b) o.Resume e k = (outs_stay true (k 0).0, on _ true (λ m. (k m).1))
       does (Waits b) op e k = k 0
-      does (ByItself b) (o.Divide by) e k = k 0
+      does (ByItself b) (o.Split by) e k = k 0
       does (ByItself b) o.Shrink e k = k 0
       does (ByItself b) o.End e k = k 0
       does (ByItself b) o.Farm e k = k 0

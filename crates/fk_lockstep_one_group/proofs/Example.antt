@@ -2,7 +2,7 @@
 -- void f(void) { 1; } void main(void) { while (1) { f(); break; } barrier; start { f(); if (1) 1; seq barrier; farm ; } }
 use Rattle.std.proofs.Common.{◌≡◌, inl, inr, ℕ, zero, suc, Bool, true, false, true≢false, [], Some, None, sym, refl}
 use Rattle.fk_meaning_operation.specs.declared.operation.Operation.TheVariants as o
-use Rattle.fk_meaning_operation.specs.declared.operation.Known.TheVariants.{Processors}
+use Rattle.fk_meaning_operation.specs.declared.operation.OwnValue.TheVariants.{Processors}
 use Rattle.fk_meaning_forms.specs.Code.{Code, done, perform, choose, while, quit, break, call, ends}
 use Rattle.fk_meaning.specs.Next.{going, next}
 use Rattle.fk_core_flat.specs.Shape.{is_closed}

@@ -52,7 +52,7 @@ keeps_place BehindBody op onward to keep e = absurd (cc)
 
 pub keeps_tree : (op : Operation) → (class_of op ≡ class.Tree → ⊥) → changes_tree op ≡ false
 keeps_tree o.Begin off = absurd (off refl)
-keeps_tree (o.Divide by) off = absurd (off refl)
+keeps_tree (o.Split by) off = absurd (off refl)
 keeps_tree o.Shrink off = absurd (off refl)
 keeps_tree o.End off = absurd (off refl)
 keeps_tree o.Farm off = absurd (off refl)
@@ -65,7 +65,7 @@ keeps_tree op off = refl
 -- which steps change the tree, by where they stand
 pub root_begins : (op : Operation) (onward : Bool) (to : Where) → changes_tree op ≡ true → goes InRoot op onward ≡ Some to → op ≡ o.Begin
 root_begins o.Begin onward to changes e = refl
-root_begins (o.Divide by) onward to changes e = absurd (cc)
+root_begins (o.Split by) onward to changes e = absurd (cc)
 root_begins o.Shrink onward to changes e = absurd (cc)
 root_begins o.End onward to changes e = absurd (cc)
 root_begins o.Farm onward to changes e = absurd (cc)
@@ -82,7 +82,7 @@ waiters_resume op onward to e = absurd (cc)
 
 pub group_steps : (op : Operation) (onward : Bool) (to : Where) → changes_tree op ≡ true → goes InGroup op onward ≡ Some to → (op ≡ o.Farm) ⊎ ((op ≡ o.Seq) ⊎ (op ≡ o.End))
 group_steps o.Begin onward to changes e = absurd (cc)
-group_steps (o.Divide by) onward to changes e = absurd (cc)
+group_steps (o.Split by) onward to changes e = absurd (cc)
 group_steps o.Shrink onward to changes e = absurd (cc)
 group_steps o.End onward to changes e = inr (inr refl)
 group_steps o.Farm onward to changes e = inl refl
@@ -94,7 +94,7 @@ group_steps op onward to changes e = absurd (cc)
 
 pub bodies_meet : (op : Operation) (onward : Bool) (to : Where) → changes_tree op ≡ true → goes InBody op onward ≡ Some to → op ≡ o.Meet true
 bodies_meet o.Begin onward to changes e = absurd (cc)
-bodies_meet (o.Divide by) onward to changes e = absurd (cc)
+bodies_meet (o.Split by) onward to changes e = absurd (cc)
 bodies_meet o.Shrink onward to changes e = absurd (cc)
 bodies_meet o.End onward to changes e = absurd (cc)
 bodies_meet o.Farm onward to changes e = absurd (cc)
@@ -193,7 +193,7 @@ pub does_same : (place : Where) (op : Operation) (onward : Bool) (to : Where) (h
 does_same place (o.Frame nesting words) onward to highest size p keep e = absurd (frames_nowhere place nesting words onward to e)
 does_same place o.Block onward to highest size p keep e = absurd (blocks_nowhere place onward to e)
 does_same place o.Begin onward to highest size p keep e = absurd (cc)
-does_same place (o.Divide by) onward to highest size p keep e = absurd (cc)
+does_same place (o.Split by) onward to highest size p keep e = absurd (cc)
 does_same place o.Shrink onward to highest size p keep e = absurd (cc)
 does_same place o.End onward to highest size p keep e = absurd (cc)
 does_same place op onward to highest size p keep e = (refl, refl, refl)

@@ -9,7 +9,7 @@ use Rattle.fk_meaning_operation.specs.declared.kinds.Class.{Class}
 use Rattle.fk_meaning_operation.specs.declared.kinds.Class.TheVariants as class
 use Rattle.fk_meaning_operation.specs.declared.operation.Operation.{Operation}
 use Rattle.fk_meaning_operation.specs.declared.operation.Operation.TheVariants as o
-use Rattle.fk_meaning_operation.specs.declared.operation.Split.{Split}
+use Rattle.fk_meaning_operation.specs.declared.operation.SplitKind.{SplitKind}
 use Rattle.fk_meaning.specs.Processor.{Setting, setting_of}
 use Rattle.fk_meaning.specs.Round.{Step, State, Fault, Round, result, is_allowed, is_possible, IsStopped}
 use Rattle.fk_meaning.specs.Schedule.{Schedule, opening, run, ArePossible, CouldAct, KeepsPace, IsLawful}
@@ -38,7 +38,7 @@ nil_length (n ∷ ns) e = absurd (false≢true e)
 abbrev no_counts : (W : Type 0) → Counts W
 no_counts W = record { pending = λ work. 0; are_pending = λ work p ns. is_nil ns; many = λ work p ns e. nil_length ns e }
 
-splits_nowhere : (place : Where) (by : Split) (onward : Bool) (to : Where) → goes place (o.Divide by) onward ≡ Some to → ⊥
+splits_nowhere : (place : Where) (by : SplitKind) (onward : Bool) (to : Where) → goes place (o.Split by) onward ≡ Some to → ⊥
 splits_nowhere InRoot by onward to e = absurd (cc)
 splits_nowhere Waits by onward to e = absurd (cc)
 splits_nowhere InGroup by onward to e = absurd (cc)
@@ -57,7 +57,7 @@ module _ {W : Type 0} (next : W → Option (Step W)) (outs : W → List W) where
 
   counts_go : (place : Where) (op : Operation) (onward : Bool) (to : Where) (here : W) (rest : Bool → W) → goes place op onward ≡ Some to → CountsGoOn next outs (no_counts W) op here rest
   counts_go place o.Agree onward to here rest e = λ value p ns h. h
-  counts_go place (o.Divide by) onward to here rest e = absurd (splits_nowhere place by onward to e)
+  counts_go place (o.Split by) onward to here rest e = absurd (splits_nowhere place by onward to e)
   counts_go place o.Farm onward to here rest e = (leaves_by class.Tree o.Farm here rest, as_many (outs (rest true)))
   counts_go place o.Begin onward to here rest e = (leaves_by class.Tree o.Begin here rest, refl)
   counts_go place op onward to here rest e = leaves_by (class_of op) op here rest

@@ -15,7 +15,7 @@ use Rattle.fk_lockstep_one_group.proofs.Known.{At}
 
 keeps_it : (op : Operation) (n : ℕ) (whose : ℕ → Processor) (highest low : ℕ) (tree : Tree) → changes_tree op ≡ false → changes op n whose highest low tree ≡ tree
 keeps_it o.Begin n whose highest low tree e = absurd (cc)
-keeps_it (o.Divide by) n whose highest low tree e = absurd (cc)
+keeps_it (o.Split by) n whose highest low tree e = absurd (cc)
 keeps_it o.Shrink n whose highest low tree e = absurd (cc)
 keeps_it o.End n whose highest low tree e = absurd (cc)
 keeps_it o.Farm n whose highest low tree e = absurd (cc)

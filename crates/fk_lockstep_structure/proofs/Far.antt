@@ -2,8 +2,8 @@
 use Rattle.std.proofs.Common.{◌≡◌, ℕ, Bool, true, false, true≢false, List, ◌∷◌, ◌++◌, Option, Some, None, ap₂, sym, refl, subst}
 use Rattle.fk_meaning_operation.specs.declared.operation.Operation.{Operation}
 use Rattle.fk_meaning_operation.specs.declared.operation.Operation.TheVariants as o
-use Rattle.fk_meaning_operation.specs.declared.operation.Split.{Split}
-use Rattle.fk_meaning_operation.specs.declared.operation.Split.TheVariants as s
+use Rattle.fk_meaning_operation.specs.declared.operation.SplitKind.{SplitKind}
+use Rattle.fk_meaning_operation.specs.declared.operation.SplitKind.TheVariants as s
 use Rattle.fk_meaning.specs.Round.{Step}
 use Rattle.fk_meaning_forms.specs.Code.{Code}
 use Rattle.fk_meaning.specs.Next.{Work, next}
@@ -40,7 +40,7 @@ module _ (P : Stand → Work → Type 0) (bodies : ℕ → Code ℕ) where
       → D (stand_of who agreed within) op here (λ onward. w)
   performed OfGroup agreed within o.Resume here w may is closing part stands go even f = untrue may
   performed OfGroup agreed within o.Halt here w may is closing part stands go even f = untrue may
-  performed OfGroup agreed within (o.Divide by) here w may is closing part stands go even f = untrue is
+  performed OfGroup agreed within (o.Split by) here w may is closing part stands go even f = untrue is
   performed OfGroup agreed within o.Shrink here w may is closing part stands go even f = untrue is
   performed OfGroup agreed within o.Farm here w may is closing part stands go even f = untrue is
   performed OfGroup agreed within o.Seq here w may is closing part stands go even f = untrue is
@@ -56,7 +56,7 @@ module _ (P : Stand → Work → Type 0) (bodies : ℕ → Code ℕ) where
       λ onward. (joined (outs w) (starts w) (outs here) (starts here) (go onward) even, f refl)
   performed OfBody agreed within o.Resume here w may is closing part stands go even f = untrue may
   performed OfBody agreed within o.Halt here w may is closing part stands go even f = untrue may
-  performed OfBody agreed within (o.Divide by) here w may is closing part stands go even f = untrue is
+  performed OfBody agreed within (o.Split by) here w may is closing part stands go even f = untrue is
   performed OfBody agreed within o.Shrink here w may is closing part stands go even f = untrue is
   performed OfBody agreed within o.Farm here w may is closing part stands go even f = untrue is
   performed OfBody agreed within o.Seq here w may is closing part stands go even f = untrue is
@@ -69,7 +69,7 @@ module _ (P : Stand → Work → Type 0) (bodies : ℕ → Code ℕ) where
       λ onward. (joined (outs w) (starts w) (outs here) (starts here) (go onward) even, f refl)
   performed (OfMain b) agreed within o.Resume here w may is closing part stands go even f = untrue may
   performed (OfMain b) agreed within o.Halt here w may is closing part stands go even f = untrue may
-  performed (OfMain b) agreed within (o.Divide by) here w may is closing part stands go even f = untrue is
+  performed (OfMain b) agreed within (o.Split by) here w may is closing part stands go even f = untrue is
   performed (OfMain b) agreed within o.Shrink here w may is closing part stands go even f = untrue is
   performed (OfMain b) agreed within o.Farm here w may is closing part stands go even f = untrue is
   performed (OfMain b) agreed within o.Seq here w may is closing part stands go even f = untrue is
@@ -94,7 +94,7 @@ module _ (P : Stand → Work → Type 0) (bodies : ℕ → Code ℕ) where
       λ onward. (joined (outs (rest onward)) (starts (rest onward)) (outs here) (starts here) (go onward) (even onward), f onward)
 
   -- parts of a group
-  pub one_part : (split : Split) → (split ≡ s.IfElse → ⊥) → (here : Work) (rest : Bool → Work) (outs_of_part : List Work)
+  pub one_part : (split : SplitKind) → (split ≡ s.IfElse → ⊥) → (here : Work) (rest : Bool → Work) (outs_of_part : List Work)
       → outs_of_part ≡ rest false ∷ all_outs here → all_outs (rest false) ≡ all_outs here → P (Waits true) (rest false) → P (InGroup false) (rest true)
       → Parts (next bodies) all_outs P split here rest outs_of_part
   one_part s.IfElse a here rest xs e f p q = absurd (a refl)

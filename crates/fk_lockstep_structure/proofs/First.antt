@@ -3,8 +3,8 @@ use Rattle.std.proofs.Common.{◌≡◌, ℕ, Bool, true, false, true≢false, L
 use Rattle.std.specs.Prelude.{if◌then◌else◌}
 use Rattle.fk_meaning_operation.specs.declared.operation.Operation.{Operation}
 use Rattle.fk_meaning_operation.specs.declared.operation.Operation.TheVariants as o
-use Rattle.fk_meaning_operation.specs.declared.operation.Split.{Split}
-use Rattle.fk_meaning_operation.specs.declared.operation.Split.TheVariants as v
+use Rattle.fk_meaning_operation.specs.declared.operation.SplitKind.{SplitKind}
+use Rattle.fk_meaning_operation.specs.declared.operation.SplitKind.TheVariants as v
 use Rattle.fk_meaning_forms.specs.Code.{Code, done, perform, choose, while, until, turn, again, quit, break, continue, call, ends, append}
 use Rattle.fk_meaning.specs.Left.{broken}
 use Rattle.fk_meaning.specs.Next.{Work, going, returned, next}
@@ -179,9 +179,9 @@ module _ (may_call : (in_group : Bool) → (function : ℕ) → Bool) (bodies : 
     }
 
     -- a group splits
-    module _ (agreed within : Bool) (ahead : List Work) (callers : List (Code ℕ)) (part : Bool) (x : Exits) (t : ℕ) (by : Split) (a z rest d : Code ℕ)
-        (s : Shape part false x (choose t (o.Divide by) a z rest)) (p : Placed may_call OfGroup false (choose t (o.Divide by) a z rest))
-        (i : InStep (may_call true) agreed (choose t (o.Divide by) a z rest)) (b : Behind may_call bodies n OfGroup within ahead callers part x d)
+    module _ (agreed within : Bool) (ahead : List Work) (callers : List (Code ℕ)) (part : Bool) (x : Exits) (t : ℕ) (by : SplitKind) (a z rest d : Code ℕ)
+        (s : Shape part false x (choose t (o.Split by) a z rest)) (p : Placed may_call OfGroup false (choose t (o.Split by) a z rest))
+        (i : InStep (may_call true) agreed (choose t (o.Split by) a z rest)) (b : Behind may_call bodies n OfGroup within ahead callers part x d)
         (here : Work) (even : starts here ≡ ahead) where
       abbrev y : Code ℕ
       y = append rest d
@@ -189,8 +189,8 @@ module _ (may_call : (in_group : Bool) → (function : ℕ) → Bool) (bodies : 
       abbrev parent : Work
       parent = going y callers
 
-      whole : Nested (append (choose t (o.Divide by) a z rest) d)
-      whole = nested_append part false x (choose t (o.Divide by) a z rest) d s b.nested.left b.allows b.quiet b.first
+      whole : Nested (append (choose t (o.Split by) a z rest) d)
+      whole = nested_append part false x (choose t (o.Split by) a z rest) d s b.nested.left b.allows b.quiet b.first
 
       even_y : Even ahead callers y
       even_y = even_append may_call ahead callers OfGroup part false true x rest d refl s.6 p.5 b.even
@@ -231,18 +231,18 @@ module _ (may_call : (in_group : Bool) → (function : ℕ) → Bool) (bodies : 
       ways onward = going (append (if onward then a else z) y) callers
 
       one : (by ≡ v.IfElse → ⊥) → Shape true false none a → z ≡ done → (first : Work) → outs (going (append a y) callers) ≡ first ∷ outs here
-          → Does' n (InGroup agreed) (o.Divide by) here ways
+          → Does' n (InGroup agreed) (o.Split by) here ways
       one not_two h e first behind =
-          subst (λ c. Does' n (InGroup agreed) (o.Divide by) here (λ onward. going (append (if onward then a else c) y) callers)) (sym e)
+          subst (λ c. Does' n (InGroup agreed) (o.Split by) here (λ onward. going (append (if onward then a else c) y) callers)) (sym e)
           (one_part (F may_call bodies n) bodies by not_two here (λ onward. going (append (if onward then a else done) y) callers)
           (all_outs (going (append a y) callers)) (all_part a h p.2 (is_behind first behind h)) (all_parent first behind h) waiting_parent (enters a h p.2 i.1))
 
-    pub first_parts : (agreed within : Bool) (ahead : List Work) (callers : List (Code ℕ)) (part : Bool) (x : Exits) (t : ℕ) (by : Split) (a z rest d : Code ℕ)
-        → (h : Shape part false x (choose t (o.Divide by) a z rest)) (p : Placed may_call OfGroup false (choose t (o.Divide by) a z rest))
-        (i : InStep (may_call true) agreed (choose t (o.Divide by) a z rest)) (b : Behind may_call bodies n OfGroup within ahead callers part x d)
+    pub first_parts : (agreed within : Bool) (ahead : List Work) (callers : List (Code ℕ)) (part : Bool) (x : Exits) (t : ℕ) (by : SplitKind) (a z rest d : Code ℕ)
+        → (h : Shape part false x (choose t (o.Split by) a z rest)) (p : Placed may_call OfGroup false (choose t (o.Split by) a z rest))
+        (i : InStep (may_call true) agreed (choose t (o.Split by) a z rest)) (b : Behind may_call bodies n OfGroup within ahead callers part x d)
         (here : Work) (even : starts here ≡ ahead)
-        → GoesOn (o.Divide by) here (outs here) (λ onward. going (append (if onward then a else z) (append rest d)) callers)
-        → Does' n (InGroup agreed) (o.Divide by) here (λ onward. going (append (if onward then a else z) (append rest d)) callers)
+        → GoesOn (o.Split by) here (outs here) (λ onward. going (append (if onward then a else z) (append rest d)) callers)
+        → Does' n (InGroup agreed) (o.Split by) here (λ onward. going (append (if onward then a else z) (append rest d)) callers)
     first_parts agreed within ahead callers part x t v.IfElse a z rest d h p i b here even g =
         two_parts (F may_call bodies n) bodies (going (append rest d) callers) here (λ onward. going (append (if onward then a else z) (append rest d)) callers)
         (all_outs (going (append a (append rest d)) callers))
@@ -415,7 +415,7 @@ module _ (may_call : (in_group : Bool) → (function : ℕ) → Bool) (bodies : 
         → Does' n (stand_of who agreed within) op here (λ onward. going (append (if onward then a else z) (append rest d)) callers)
     first_choose who agreed within ahead callers part x t (o.Branch on) a z rest d s p low i b here even g =
         first_branch who agreed within ahead callers part x t on a z rest d s p low i b here even g
-    first_choose OfGroup agreed within ahead callers part x t (o.Divide by) a z rest d s p low i b here even g =
+    first_choose OfGroup agreed within ahead callers part x t (o.Split by) a z rest d s p low i b here even g =
         first_parts agreed within ahead callers part x t by a z rest d s p i b here even g
     first_choose OfGroup agreed within ahead callers part x t o.Farm a z rest d s p low i b here even g =
         opens ahead callers part x a z rest d s.2 s.6 (s.4 refl) p.2 p.5 i.3 (of_any_within within ahead callers part x d b) here even
@@ -423,10 +423,10 @@ module _ (may_call : (in_group : Bool) → (function : ℕ) → Bool) (bodies : 
     first_choose OfGroup agreed within ahead callers part x t o.Seq a z rest d s p low i b here even g =
         opens ahead callers part x a z rest d s.2 s.6 (s.4 refl) p.2 p.5 i.3 (of_any_within within ahead callers part x d b) here even
         (nested_append part false x (choose t o.Seq a z rest) d s b.nested.left b.allows b.quiet b.first).8 g.0 g.1
-    first_choose OfBody agreed within ahead callers part x t (o.Divide by) a z rest d s p low i b here even g = untrue p.1
+    first_choose OfBody agreed within ahead callers part x t (o.Split by) a z rest d s p low i b here even g = untrue p.1
     first_choose OfBody agreed within ahead callers part x t o.Farm a z rest d s p low i b here even g = untrue p.1
     first_choose OfBody agreed within ahead callers part x t o.Seq a z rest d s p low i b here even g = untrue p.1
-    first_choose (OfMain c) agreed within ahead callers part x t (o.Divide by) a z rest d s p low i b here even g = untrue p.1
+    first_choose (OfMain c) agreed within ahead callers part x t (o.Split by) a z rest d s p low i b here even g = untrue p.1
     first_choose (OfMain c) agreed within ahead callers part x t o.Farm a z rest d s p low i b here even g = untrue p.1
     first_choose (OfMain c) agreed within ahead callers part x t o.Seq a z rest d s p low i b here even g = untrue p.1
     first_choose who agreed within ahead callers part x t o.Begin a z rest d s p low i b here even g = absurd (true≢false (sym p.1 ∙ low))

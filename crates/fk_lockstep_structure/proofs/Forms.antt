@@ -8,9 +8,9 @@ use Rattle.fk_syntax.specs.Program.{DeclaredTree}
 use Rattle.fk_meaning_operation.specs.declared.operation.Operation.{Operation}
 use Rattle.fk_meaning_operation.specs.declared.operation.Operation.TheVariants as o
 use Rattle.fk_meaning_operation.specs.declared.operation.Variable.TheVariants as v
-use Rattle.fk_meaning_operation.specs.declared.operation.Known.TheVariants as n
-use Rattle.fk_meaning_operation.specs.declared.operation.Split.{Split}
-use Rattle.fk_meaning_operation.specs.declared.operation.Split.TheVariants.{IfAlone, IfElse, AndThen, OrElse, Loop, Fork}
+use Rattle.fk_meaning_operation.specs.declared.operation.OwnValue.TheVariants as n
+use Rattle.fk_meaning_operation.specs.declared.operation.SplitKind.{SplitKind}
+use Rattle.fk_meaning_operation.specs.declared.operation.SplitKind.TheVariants.{IfAlone, IfElse, AndThen, OrElse, Loop, Fork}
 use Rattle.fk_meaning_forms.specs.declared.tables.Region.{Region}
 use Rattle.fk_meaning_forms.specs.Code.{perform, choose}
 use Rattle.fk_meaning_forms.specs.Tables.{Tables, note, slot, frame_at}
@@ -65,8 +65,8 @@ module _ (tables : Tables) (functions : (binding : ℕ) → Signature) (may_call
   performs who t o.Halt rest e p = untrue e
   performs who t op rest e p = (refl, p)
 
-  divides : (who : Who) (spot : Spot) (by : Split) (a b rest : Coded) → is_of_value by ≡ true → Splits tables may_call (is_group who) spot.at → (note tables spot.at).splits ≡ true
-      → Ok (inner who) a → Ok (inner who) b → Ok who rest → Ok who (choose spot.place (o.Divide by) a b (plain o.Resume rest))
+  divides : (who : Who) (spot : Spot) (by : SplitKind) (a b rest : Coded) → is_of_value by ≡ true → Splits tables may_call (is_group who) spot.at → (note tables spot.at).splits ≡ true
+      → Ok (inner who) a → Ok (inner who) b → Ok who rest → Ok who (choose spot.place (o.Split by) a b (plain o.Resume rest))
   divides who spot IfElse a b rest e splits is p q r = (refl, splits.0 is, p, q, (λ f. untrue f), (refl, r))
   divides who spot AndThen a b rest e splits is p q r = (refl, splits.0 is, p, q, (λ f. untrue f), (refl, r))
   divides who spot OrElse a b rest e splits is p q r = (refl, splits.0 is, p, q, (λ f. untrue f), (refl, r))

@@ -8,8 +8,8 @@ use Rattle.fk_syntax.specs.Program.{DeclaredTree}
 use Rattle.fk_meaning_operation.specs.declared.operation.Operation.{Operation}
 use Rattle.fk_meaning_operation.specs.declared.operation.Operation.TheVariants as o
 use Rattle.fk_meaning_operation.specs.declared.operation.Variable.TheVariants as v
-use Rattle.fk_meaning_operation.specs.declared.operation.Known.TheVariants as n
-use Rattle.fk_meaning_operation.specs.declared.operation.Split.{Split}
+use Rattle.fk_meaning_operation.specs.declared.operation.OwnValue.TheVariants as n
+use Rattle.fk_meaning_operation.specs.declared.operation.SplitKind.{SplitKind}
 use Rattle.fk_meaning_forms.specs.declared.tables.Region.{Region}
 use Rattle.fk_meaning_forms.specs.Code.{perform, choose}
 use Rattle.fk_meaning_forms.specs.Tables.{Tables, note, slot, frame_at}
@@ -52,7 +52,7 @@ frames_in who level words e = record { remains = refl; in_group = λ i. e; resum
 pub no_choice : (who : Who) (onward : Bool) → Chooses who (o.Branch onward)
 no_choice who onward = record { starts = λ i. untrue i; divides = λ i. untrue i; bodies = λ i. untrue i }
 
-pub divides_in : (who : Who) (by : Split) → is_group who ≡ true → Chooses who (o.Divide by)
+pub divides_in : (who : Who) (by : SplitKind) → is_group who ≡ true → Chooses who (o.Split by)
 divides_in who by e = record { starts = λ i. untrue i; divides = λ i. e; bodies = λ i. untrue i }
 
 module _ (tables : Tables) (functions : (binding : ℕ) → Signature) (may_call : (in_group : Bool) → (function : ℕ) → Bool)
@@ -115,8 +115,8 @@ module _ (tables : Tables) (functions : (binding : ℕ) → Signature) (may_call
   plain_is_no_frame (o.Frame nesting words) e who t rest p = untrue e
   plain_is_no_frame op e who t rest p = (stays who op e, refl, p)
 
-  divides : (who : Who) (spot : Spot) (by : Split) (a b rest : Coded) → is_of_value by ≡ true → Splits tables may_call (is_group who) spot.at → (note tables spot.at).splits ≡ true
-      → Ok who a → Ok who b → Ok who rest → Ok who (choose spot.place (o.Divide by) a b (plain o.Resume rest))
+  divides : (who : Who) (spot : Spot) (by : SplitKind) (a b rest : Coded) → is_of_value by ≡ true → Splits tables may_call (is_group who) spot.at → (note tables spot.at).splits ≡ true
+      → Ok who a → Ok who b → Ok who rest → Ok who (choose spot.place (o.Split by) a b (plain o.Resume rest))
   divides who spot by a b rest e splits is p q r =
       let g = splits.0 is in (divides_in who by g, p, q, (λ i. refl), (resumes_in_group who g, refl, r))
 

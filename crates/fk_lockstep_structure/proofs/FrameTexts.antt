@@ -8,8 +8,8 @@ use Rattle.fk_syntax.specs.Tree.{Tree}
 use Rattle.fk_syntax.specs.Program as p
 use Rattle.fk_syntax.specs.Program.{DeclaredTree, Statement, Statements}
 use Rattle.fk_meaning_operation.specs.declared.operation.Operation.TheVariants as o
-use Rattle.fk_meaning_operation.specs.declared.operation.Known.TheVariants as n
-use Rattle.fk_meaning_operation.specs.declared.operation.Split.TheVariants.{IfAlone, IfElse, Loop, Fork}
+use Rattle.fk_meaning_operation.specs.declared.operation.OwnValue.TheVariants as n
+use Rattle.fk_meaning_operation.specs.declared.operation.SplitKind.TheVariants.{IfAlone, IfElse, Loop, Fork}
 use Rattle.fk_meaning_forms.specs.declared.tables.Region.{Region}
 use Rattle.fk_meaning_forms.specs.Code as c
 use Rattle.fk_meaning_forms.specs.Code.{done, perform, choose, while, until, quit, break, continue, ends}
@@ -131,7 +131,7 @@ module _ (tables : Tables) (functions : (binding : ℕ) → Signature) (may_call
   loops : (who : Who) (spot : Spot) → Splits tables may_call (is_group who) spot.at → Inner tables spot.at → (loop : Coded → Coded) → Keeps who loop → Keeps who (looping tables functions spot loop)
   loops who spot splits' inner' loop keeps rest q =
       let part = part_frame tables functions spot 0 (loop done) in
-      splits_to tables functions may_call frameless (note tables spot.at).splits who (choose spot.place (o.Divide Loop) part done (plain o.Resume rest)) (loop rest)
+      splits_to tables functions may_call frameless (note tables spot.at).splits who (choose spot.place (o.Split Loop) part done (plain o.Resume rest)) (loop rest)
       (λ e. let g = splits'.0 e in
       (divides_in who Loop g, in_group who spot 0 (loop done) g inner' (keeps done tt), tt, (λ i. refl), (resumes_in_group who g, refl, q)))
       (keeps rest q)
@@ -215,7 +215,7 @@ module _ (tables : Tables) (functions : (binding : ℕ) → Signature) (may_call
         let here = note tables spot.at in
         let body = executed tables functions inside first in
         let keeps = statement who (inner other) (like_inner who other l) inside (of_branch tables functions (is_split tables functions spot.at) x) (in_branch (is_split tables functions spot.at) x who inside g) first h.2 i.1 j.1 in
-        let parted = choose spot.place (o.Divide IfAlone) (part_frame tables functions spot 0 (body (plain o.End done))) done (plain o.Resume rest) in
+        let parted = choose spot.place (o.Split IfAlone) (part_frame tables functions spot 0 (body (plain o.End done))) done (plain o.Resume rest) in
         let branched = choose nowhere (o.Branch true) (body done) done rest in
         let splits' = told_splits who other l spot.at h.0 in
         value_framed tables functions may_call frameless who condition (told who other l condition h.1) (if here.splits then parted else agreed here.sync branched)
@@ -229,7 +229,7 @@ module _ (tables : Tables) (functions : (binding : ℕ) → Signature) (may_call
         let b = executed tables functions inside second in
         let keeps_a = statement who (inner other) (like_inner who other l) inside (of_branch tables functions (is_split tables functions spot.at) x) (in_branch (is_split tables functions spot.at) x who inside g) first h.2 i.1 j.1 in
         let keeps_b = statement who (inner other) (like_inner who other l) inside (of_branch tables functions (is_split tables functions spot.at) x) (in_branch (is_split tables functions spot.at) x who inside g) second h.3 i.2 j.2 in
-        let parted = choose spot.place (o.Divide IfElse) (part_frame tables functions spot 0 (a (plain o.End done))) (part_frame tables functions spot 1 (b (plain o.End done))) (plain o.Resume rest) in
+        let parted = choose spot.place (o.Split IfElse) (part_frame tables functions spot 0 (a (plain o.End done))) (part_frame tables functions spot 1 (b (plain o.End done))) (plain o.Resume rest) in
         let branched = choose nowhere (o.Branch true) (a done) (b done) rest in
         let splits' = told_splits who other l spot.at h.0 in
         value_framed tables functions may_call frameless who condition (told who other l condition h.1) (if here.splits then parted else agreed here.sync branched)
@@ -278,7 +278,7 @@ module _ (tables : Tables) (functions : (binding : ℕ) → Signature) (may_call
     statement who other l inside x g (p.Fork spot count part rank body) h i j rest q =
         let run = executed tables functions inside body in
         let g' = sym l.group ∙ h.0 in
-        let split = choose spot.place (o.Divide Fork) (part_frame tables functions spot 0 (run (plain o.End done))) done (plain o.Resume rest) in
+        let split = choose spot.place (o.Split Fork) (part_frame tables functions spot 0 (run (plain o.End done))) done (plain o.Resume rest) in
         let ranks = value_or tables functions (plain (o.Get n.Rank)) rank split in
         let told' = value tables functions part ranks in
         value_framed tables functions may_call frameless who count (told who other l count h.1) (plain o.Agree told') (

@@ -8,8 +8,8 @@ use Rattle.fk_meaning_operation.specs.declared.operation.Operation.TheVariants a
 use Rattle.fk_meaning_operation.specs.declared.operation.Multiprefix.TheVariants.{MpAdd, MpMax, MpAnd, MpOr}
 use Rattle.fk_meaning_operation.specs.declared.operation.Variable.{Variable}
 use Rattle.fk_meaning_operation.specs.declared.operation.Variable.TheVariants as v
-use Rattle.fk_meaning_operation.specs.declared.operation.Split.{Split}
-use Rattle.fk_meaning_operation.specs.declared.operation.Split.TheVariants.{IfElse, AndThen, OrElse, Fork}
+use Rattle.fk_meaning_operation.specs.declared.operation.SplitKind.{SplitKind}
+use Rattle.fk_meaning_operation.specs.declared.operation.SplitKind.TheVariants.{IfElse, AndThen, OrElse, Fork}
 use Rattle.fk_meaning_operation.specs.declared.kinds.Class.{Class}
 use Rattle.fk_meaning_operation.specs.declared.kinds.Class.TheVariants.{Local, Request, Tree}
 use Rattle.fk_meaning_store.specs.Serve.{words_of}
@@ -150,7 +150,7 @@ outer_callers : (p : Processor) (ls : List Level) → (to_outer p ls).callers �
 outer_callers p [] = refl
 outer_callers p (l ∷ ls) = refl
 
-divided_callers : (by : Split) (size : ℕ) (p : Processor) (j : Option ℕ) → (divided by size p j).callers ≡ p.callers
+divided_callers : (by : SplitKind) (size : ℕ) (p : Processor) (j : Option ℕ) → (divided by size p j).callers ≡ p.callers
 divided_callers by size p None = refl
 divided_callers by size p (Some j) = refl
 
@@ -172,7 +172,7 @@ does_callers (o.Frame nesting words) highest size p = framed_callers nesting p (
 does_callers o.Block highest size p =
     either_callers (words_of (last (values p)) == 0) (in_place 0 p) (allotted p (block p.level.space (words_of (last (values p))))) p refl
     (allotted_callers p (block p.level.space (words_of (last (values p)))))
-does_callers (o.Divide by) highest size p = divided_callers by size p (part by (values p))
+does_callers (o.Split by) highest size p = divided_callers by size p (part by (values p))
 does_callers o.Shrink highest size p =
     either_callers (stays p) (with_size size (drop_last 1 p)) (leave_level (drop_last 1 p)) p refl (outer_callers (drop_last 1 p) p.outer)
 does_callers o.End highest size p = outer_callers p p.outer
@@ -270,7 +270,7 @@ module _ (gives : (function : ℕ) → Bool) where
     GoOn op here rest = CountsGoOn next' all_outs (fork_counts gives) op here rest
 
     abbrev pub Meets : (here : Work) → (rest : Bool → Work) → Operation → Type 0
-    Meets here rest (o.Divide IfElse) = AsMany next' all_outs (fork_counts gives) (pending_of here) (all_outs (rest true))
+    Meets here rest (o.Split IfElse) = AsMany next' all_outs (fork_counts gives) (pending_of here) (all_outs (rest true))
     Meets here rest o.Farm = AsMany next' all_outs (fork_counts gives) (pending_of here) (all_outs (rest true))
     Meets here rest o.Begin = pending_of here ≡ 0
     Meets here rest op = Unit {0}
@@ -292,7 +292,7 @@ module _ (gives : (function : ℕ) → Bool) where
       grouped op keeps = λ highest lowest size p ns h.
           passes here (rest (goes_onward op highest lowest p)) (on (goes_onward op highest lowest p)) p (does op highest size p) (does_callers op highest size p) (keeps highest lowest size p) ns h
 
-      parted : (by : Split) → ((size : ℕ) (part : Option ℕ) (p : Processor) → KeepsOn (enters by part) p (divided by size p part))
+      parted : (by : SplitKind) → ((size : ℕ) (part : Option ℕ) (p : Processor) → KeepsOn (enters by part) p (divided by size p part))
           → LeavesAtSplit next' all_outs (fork_counts gives) by here rest
       parted by keeps = λ size part p ns h.
           passes here (rest (enters by part)) (on (enters by part)) p (divided by size p part) (divided_callers by size p part) (keeps size part p) ns h
@@ -332,9 +332,9 @@ module _ (gives : (function : ℕ) → Bool) where
 
         pub none_goes : (op : Operation) → is_fork op ≡ false → is_of_call op ≡ false → Meets here rest op → GoOn op here rest
         none_goes o.Agree g s met = agrees (ap is_some e ∙ sym (ap is_some (f true))) (λ v p. none_on true p (in_place v p))
-        none_goes (o.Divide Fork) g s met = absurd (true≢false g)
-        none_goes (o.Divide IfElse) g s met = (parted IfElse (λ size part p. none_on (enters IfElse part) p (divided IfElse size p part)), met)
-        none_goes (o.Divide by) g s met = (parted by (λ size part p. none_on (enters by part) p (divided by size p part)), tt)
+        none_goes (o.Split Fork) g s met = absurd (true≢false g)
+        none_goes (o.Split IfElse) g s met = (parted IfElse (λ size part p. none_on (enters IfElse part) p (divided IfElse size p part)), met)
+        none_goes (o.Split by) g s met = (parted by (λ size part p. none_on (enters by part) p (divided by size p part)), tt)
         none_goes o.Farm g s met = (leaves_none Tree o.Farm refl, met)
         none_goes o.Begin g s met = (leaves_none Tree o.Begin refl, met)
         none_goes op g s met = leaves_none (class_of op) op s
@@ -369,8 +369,8 @@ module _ (gives : (function : ℕ) → Bool) where
       some_goes o.CopyLast (suc m) f e l h = some_local o.CopyLast (suc m) m refl f e (λ set p. refl)
       some_goes (o.Apply sign) (suc m) f e l h =
           some_local (o.Apply sign) (suc m) (suc m) refl f e (λ set p. in_place_below m (applied_to sign (last (values p))) (values p))
-      some_goes (o.Join operator turned) (suc m) f e l h =
-          some_local (o.Join operator turned) (suc m) (suc (suc m)) refl f e (λ set p. joined_below m (in_order turned (applied operator)) (values p))
+      some_goes (o.Binary operator turned) (suc m) f e l h =
+          some_local (o.Binary operator turned) (suc m) (suc (suc m)) refl f e (λ set p. joined_below m (in_order turned (applied operator)) (values p))
       some_goes (o.Index bytes) (suc m) f e l h =
           some_local (o.Index bytes) (suc m) (suc (suc m)) refl f e (λ set p. joined_below m (λ address i. word (address + i * bytes)) (values p))
       some_goes o.Take (suc m) f e l h = some_local o.Take (suc m) (suc m) refl f e (λ set p. taken_below m (words_of (last (values p))) p)
@@ -404,13 +404,13 @@ module _ (gives : (function : ℕ) → Bool) where
       here_some : (op : Operation) → Before op → is_some (above here.left) ≡ true
       here_some op h = ap is_some (h.same_as true) ∙ h.some
 
-      split_goes : (by : Split) → Before (o.Divide by) → ((size : ℕ) (part : Option ℕ) (p : Processor) (m m' : ℕ)
-          → above_choice (o.Divide by) (enters by part) m ≡ Some m' → before m (values (divided by size p part)) ≡ before m' (values p))
+      split_goes : (by : SplitKind) → Before (o.Split by) → ((size : ℕ) (part : Option ℕ) (p : Processor) (m m' : ℕ)
+          → above_choice (o.Split by) (enters by part) m ≡ Some m' → before m (values (divided by size p part)) ≡ before m' (values p))
           → LeavesAtSplit next' all_outs (fork_counts gives) by here rest
       split_goes by h same' =
           parted by (λ size part p.
-          some_by (o.Divide by) (enters by part) (above here.left) (above (rest (enters by part)).left) (divided by size p part) p
-          (h.same_as (enters by part)) (here_some (o.Divide by) h) (same' size part p))
+          some_by (o.Split by) (enters by part) (above here.left) (above (rest (enters by part)).left) (divided by size p part) p
+          (h.same_as (enters by part)) (here_some (o.Split by) h) (same' size part p))
 
       less_one : (m m' : ℕ) → Some (suc m) ≡ Some m' → m' ≡ suc m
       less_one m m' e = cc
@@ -418,11 +418,11 @@ module _ (gives : (function : ℕ) → Bool) where
       one_below : (m m' : ℕ) (vs : List ℕ) → Some (suc m) ≡ Some m' → before m (before 1 vs) ≡ before m' vs
       one_below m m' vs e = before_one m vs ∙ ap (λ (n : ℕ). before n vs) (sym (less_one m m' e))
 
-      waits_below : (m m' v : ℕ) (vs : List ℕ) → above_choice (o.Divide AndThen) false m ≡ Some m' → before m (v ∷ before 1 vs) ≡ before m' vs
+      waits_below : (m m' v : ℕ) (vs : List ℕ) → above_choice (o.Split AndThen) false m ≡ Some m' → before m (v ∷ before 1 vs) ≡ before m' vs
       waits_below zero m' v vs e = absurd (cc)
       waits_below (suc m) m' v vs e = one_below m m' vs e
 
-      or_waits_below : (m m' v : ℕ) (vs : List ℕ) → above_choice (o.Divide OrElse) false m ≡ Some m' → before m (v ∷ before 1 vs) ≡ before m' vs
+      or_waits_below : (m m' v : ℕ) (vs : List ℕ) → above_choice (o.Split OrElse) false m ≡ Some m' → before m (v ∷ before 1 vs) ≡ before m' vs
       or_waits_below zero m' v vs e = absurd (cc)
       or_waits_below (suc m) m' v vs e = one_below m m' vs e
 
@@ -434,19 +434,19 @@ module _ (gives : (function : ℕ) → Bool) where
       ways_go (o.Branch by) h met =
           locally (o.Branch by) refl (λ set onward p.
           some_by (o.Branch by) onward (above here.left) (above (rest onward).left) (drop_last 1 p) p (h.same_as onward) (here_some (o.Branch by) h) (λ m m' e. one_below m m' (values p) e))
-      ways_go (o.Divide IfElse) h met = (split_goes IfElse h by, met)
+      ways_go (o.Split IfElse) h met = (split_goes IfElse h by, met)
         where
-          by : (size : ℕ) (part : Option ℕ) (p : Processor) (m m' : ℕ) → above_choice (o.Divide IfElse) (enters IfElse part) m ≡ Some m' → before m (values (divided IfElse size p part)) ≡ before m' (values p)
+          by : (size : ℕ) (part : Option ℕ) (p : Processor) (m m' : ℕ) → above_choice (o.Split IfElse) (enters IfElse part) m ≡ Some m' → before m (values (divided IfElse size p part)) ≡ before m' (values p)
           by size None p m m' e = one_below m m' (values p) e
           by size (Some i) p m m' e = one_below m m' (values p) e
-      ways_go (o.Divide AndThen) h met = (split_goes AndThen h by, tt)
+      ways_go (o.Split AndThen) h met = (split_goes AndThen h by, tt)
         where
-          by : (size : ℕ) (part : Option ℕ) (p : Processor) (m m' : ℕ) → above_choice (o.Divide AndThen) (enters AndThen part) m ≡ Some m' → before m (values (divided AndThen size p part)) ≡ before m' (values p)
+          by : (size : ℕ) (part : Option ℕ) (p : Processor) (m m' : ℕ) → above_choice (o.Split AndThen) (enters AndThen part) m ≡ Some m' → before m (values (divided AndThen size p part)) ≡ before m' (values p)
           by size None p m m' e = waits_below m m' 0 (values p) e
           by size (Some i) p m m' e = one_below m m' (values p) e
-      ways_go (o.Divide OrElse) h met = (split_goes OrElse h by, tt)
+      ways_go (o.Split OrElse) h met = (split_goes OrElse h by, tt)
         where
-          by : (size : ℕ) (part : Option ℕ) (p : Processor) (m m' : ℕ) → above_choice (o.Divide OrElse) (enters OrElse part) m ≡ Some m' → before m (values (divided OrElse size p part)) ≡ before m' (values p)
+          by : (size : ℕ) (part : Option ℕ) (p : Processor) (m m' : ℕ) → above_choice (o.Split OrElse) (enters OrElse part) m ≡ Some m' → before m (values (divided OrElse size p part)) ≡ before m' (values p)
           by size None p m m' e = or_waits_below m m' 1 (values p) e
           by size (Some i) p m m' e = one_below m m' (values p) e
       ways_go op h met = absurd (no_way op (above (rest true).left) h.some (λ m. refl))

@@ -277,7 +277,7 @@ module _ (may_call : (in_group : Bool) → (function : ℕ) → Bool) (bodies : 
         by false e f = f e
     follows (choose t (o.Branch on) a z rest) s p n = branches t on a z rest (s, p) (follows rest s.6 p.5) n
     follows (choose t o.Begin a z rest) s p n = begins_main t a z rest (s, p) (resumes rest s.6 p.5) n
-    follows (choose t (o.Divide by) a z rest) s p n = untrue p.1
+    follows (choose t (o.Split by) a z rest) s p n = untrue p.1
     follows (choose t o.Farm a z rest) s p n = untrue p.1
     follows (choose t o.Seq a z rest) s p n = untrue p.1
     follows (choose t op a z rest) s p n = untrue s.1

@@ -9,9 +9,9 @@ use Rattle.fk_syntax.specs.Program as p
 use Rattle.fk_syntax.specs.Program.{DeclaredTree, Statement, Statements}
 use Rattle.fk_meaning_operation.specs.declared.operation.Operation.{Operation}
 use Rattle.fk_meaning_operation.specs.declared.operation.Operation.TheVariants as o
-use Rattle.fk_meaning_operation.specs.declared.operation.Known.TheVariants as n
-use Rattle.fk_meaning_operation.specs.declared.operation.Split.{Split}
-use Rattle.fk_meaning_operation.specs.declared.operation.Split.TheVariants.{IfAlone, IfElse, Loop, Fork}
+use Rattle.fk_meaning_operation.specs.declared.operation.OwnValue.TheVariants as n
+use Rattle.fk_meaning_operation.specs.declared.operation.SplitKind.{SplitKind}
+use Rattle.fk_meaning_operation.specs.declared.operation.SplitKind.TheVariants.{IfAlone, IfElse, Loop, Fork}
 use Rattle.fk_meaning_forms.specs.declared.tables.Region.{Region}
 use Rattle.fk_meaning_forms.specs.Code as c
 use Rattle.fk_meaning_forms.specs.Code.{Code, done, perform, choose, while, until, turn, again, quit, break, continue, call, ends, size, numbered}
@@ -131,16 +131,16 @@ module _ (may_call : (in_group : Bool) → (function : ℕ) → Bool) (functions
         )
 
     performs : (who : Who) (t : Place) (op : Operation) (rest : Coded) → is_quiet op ≡ true → Idle rest → Idle (perform t op rest)
-    performs who t (o.Divide by) rest e p = untrue e
+    performs who t (o.Split by) rest e p = untrue e
     performs who t (o.Enter n') rest e p = untrue e
     performs who t (o.Leave result framed') rest e p = untrue e
     performs who t o.Halt rest e p = untrue e
     performs who t op rest e p = goes t op rest refl p
 
-    divides : (who : Who) (spot : Spot) (by : Split) (a b rest : Coded) → is_of_value by ≡ true → Splits tables may_call (is_group who) spot.at → (note tables spot.at).splits ≡ true
-        → Idle a → Idle b → Idle rest → Idle (choose spot.place (o.Divide by) a b (plain o.Resume rest))
+    divides : (who : Who) (spot : Spot) (by : SplitKind) (a b rest : Coded) → is_of_value by ≡ true → Splits tables may_call (is_group who) spot.at → (note tables spot.at).splits ≡ true
+        → Idle a → Idle b → Idle rest → Idle (choose spot.place (o.Split by) a b (plain o.Resume rest))
     divides who spot Fork a b rest e splits is p q r = untrue e
-    divides who spot by a b rest e splits is p q r = chooses spot.place (o.Divide by) a b (plain o.Resume rest) refl (may_begin caller (o.Divide by) refl) p q (goes nowhere o.Resume rest refl r)
+    divides who spot by a b rest e splits is p q r = chooses spot.place (o.Split by) a b (plain o.Resume rest) refl (may_begin caller (o.Split by) refl) p q (goes nowhere o.Resume rest refl r)
 
     kept : IsKept tables functions Who (λ who. Idle) (λ who. Splits tables may_call (is_group who)) (λ who. Calls tables may_call (is_group who))
     kept = record {
@@ -204,8 +204,8 @@ module _ (may_call : (in_group : Bool) → (function : ℕ) → Bool) (functions
     loops : (spot : Spot) (loop : Coded → Coded) → Keeps loop → Keeps (looping tables functions spot loop)
     loops spot loop keeps rest q =
         let part = part_frame tables functions spot 0 (loop done) in
-        either (note tables spot.at).splits (choose spot.place (o.Divide Loop) part done (plain o.Resume rest)) (loop rest)
-        (chooses spot.place (o.Divide Loop) part done (plain o.Resume rest) refl (may_begin caller (o.Divide Loop) refl) (part_frames spot 0 (loop done) (keeps done idle_done)) idle_done (goes nowhere o.Resume rest refl q))
+        either (note tables spot.at).splits (choose spot.place (o.Split Loop) part done (plain o.Resume rest)) (loop rest)
+        (chooses spot.place (o.Split Loop) part done (plain o.Resume rest) refl (may_begin caller (o.Split Loop) refl) (part_frames spot 0 (loop done) (keeps done idle_done)) idle_done (goes nowhere o.Resume rest refl q))
         (keeps rest q)
 
     whiles : (test body step : Coded) → Idle test → Idle body → Idle step → Keeps (c.while test body step)
@@ -238,13 +238,13 @@ module _ (may_call : (in_group : Bool) → (function : ℕ) → Bool) (functions
 
     -- a `fork`: from the agree on its number of parts it is pending
     forked : (spot : Spot) (body : Coded → Coded) → Keeps body → (rest : Coded) → Idle rest
-        → At (anyone may_call) results caller true None 2 (choose spot.place (o.Divide Fork) (part_frame tables functions spot 0 (body (plain o.End done))) done (plain o.Resume rest))
+        → At (anyone may_call) results caller true None 2 (choose spot.place (o.Split Fork) (part_frame tables functions spot 0 (body (plain o.End done))) done (plain o.Resume rest))
     forked spot body keeps rest q =
         let part = part_frame tables functions spot 0 (body (plain o.End done)) in
         let resumed : Idle (plain o.Resume rest) = goes nowhere o.Resume rest refl q in
         record {
           there = refl;
-          counted = (ways (o.Divide Fork) part done (plain o.Resume rest) (parts spot 0 body keeps) idle_done resumed.0, resumed.1, may_begin caller (o.Divide Fork) refl);
+          counted = (ways (o.Split Fork) part done (plain o.Resume rest) (parts spot 0 body keeps) idle_done resumed.0, resumed.1, may_begin caller (o.Split Fork) refl);
           leading = λ is. refl;
         }
 
@@ -281,12 +281,12 @@ module _ (may_call : (in_group : Bool) → (function : ℕ) → Bool) (functions
       statement main who inside (p.If spot condition first) h v r w m rest q =
           let here = note tables spot.at in
           let body = executed tables functions inside first in
-          let parted = choose spot.place (o.Divide IfAlone) (part_frame tables functions spot 0 (body (plain o.End done))) done (plain o.Resume rest) in
+          let parted = choose spot.place (o.Split IfAlone) (part_frame tables functions spot 0 (body (plain o.End done))) done (plain o.Resume rest) in
           let branched = choose nowhere (o.Branch true) (body done) done rest in
           let in_body = statement main (inner who) inside first h.2 v r w (λ e. m (sym (inner_main who) ∙ e)) in
           gives who condition h.1 (if here.splits then parted else agreed here.sync branched)
           (either here.splits parted (agreed here.sync branched)
-          (chooses spot.place (o.Divide IfAlone) (part_frame tables functions spot 0 (body (plain o.End done))) done (plain o.Resume rest) refl (may_begin caller (o.Divide IfAlone) refl) (parts spot 0 body in_body) idle_done (goes nowhere o.Resume rest refl q))
+          (chooses spot.place (o.Split IfAlone) (part_frame tables functions spot 0 (body (plain o.End done))) done (plain o.Resume rest) refl (may_begin caller (o.Split IfAlone) refl) (parts spot 0 body in_body) idle_done (goes nowhere o.Resume rest refl q))
           (agrees_or here.sync branched (chooses nowhere (o.Branch true) (body done) done rest refl (may_begin caller (o.Branch true) refl) (in_body done idle_done) idle_done q)))
       statement main who inside (p.IfElse spot condition first second) h v r w m rest q =
           let here = note tables spot.at in
@@ -294,13 +294,13 @@ module _ (may_call : (in_group : Bool) → (function : ℕ) → Bool) (functions
           let b = executed tables functions inside second in
           let part_a = part_frame tables functions spot 0 (a (plain o.End done)) in
           let part_b = part_frame tables functions spot 1 (b (plain o.End done)) in
-          let parted = choose spot.place (o.Divide IfElse) part_a part_b (plain o.Resume rest) in
+          let parted = choose spot.place (o.Split IfElse) part_a part_b (plain o.Resume rest) in
           let branched = choose nowhere (o.Branch true) (a done) (b done) rest in
           let in_a = statement main (inner who) inside first h.2 v.0 (λ g e. (r g e).0) w (λ e. m (sym (inner_main who) ∙ e)) in
           let in_b = statement main (inner who) inside second h.3 v.1 (λ g e. (r g e).1) w (λ e. m (sym (inner_main who) ∙ e)) in
           gives who condition h.1 (if here.splits then parted else agreed here.sync branched)
           (either here.splits parted (agreed here.sync branched)
-          (chooses spot.place (o.Divide IfElse) part_a part_b (plain o.Resume rest) refl (may_begin caller (o.Divide IfElse) refl) (parts spot 0 a in_a) (parts spot 1 b in_b) (goes nowhere o.Resume rest refl q))
+          (chooses spot.place (o.Split IfElse) part_a part_b (plain o.Resume rest) refl (may_begin caller (o.Split IfElse) refl) (parts spot 0 a in_a) (parts spot 1 b in_b) (goes nowhere o.Resume rest refl q))
           (agrees_or here.sync branched (chooses nowhere (o.Branch true) (a done) (b done) rest refl (may_begin caller (o.Branch true) refl) (in_a done idle_done) (in_b done idle_done) q)))
       statement main who inside (p.While spot condition body) h v r w m rest q =
           loops spot (c.while (tested tables functions spot (Some condition)) (executed tables functions inside body done) done)
@@ -324,7 +324,7 @@ module _ (may_call : (in_group : Bool) → (function : ℕ) → Bool) (functions
           (chooses nowhere o.Begin part done (plain o.Resume rest) refl (begins_in caller (m (outermost_main who h.0))) (parts spot 0 run (statement main OfGroup inside body h.2 v r w (λ e. untrue e))) idle_done (goes nowhere o.Resume rest refl q))
       statement main who inside (p.Fork spot count part rank body) h v r w m rest q =
           let run = executed tables functions inside body in
-          let split = choose spot.place (o.Divide Fork) (part_frame tables functions spot 0 (run (plain o.End done))) done (plain o.Resume rest) in
+          let split = choose spot.place (o.Split Fork) (part_frame tables functions spot 0 (run (plain o.End done))) done (plain o.Resume rest) in
           let ranks = value_or tables functions (plain (o.Get n.Rank)) rank split in
           let told = value tables functions part ranks in
           gives who count h.1 (plain o.Agree told)

@@ -6,7 +6,7 @@ use Rattle.fk_syntax.specs.Program.{DeclaredTree}
 use Rattle.fk_meaning_operation.specs.declared.operation.Operation.{Operation}
 use Rattle.fk_meaning_operation.specs.declared.operation.Operation.TheVariants as o
 use Rattle.fk_meaning_operation.specs.declared.operation.Variable.TheVariants as v
-use Rattle.fk_meaning_operation.specs.declared.operation.Known.TheVariants as n
+use Rattle.fk_meaning_operation.specs.declared.operation.OwnValue.TheVariants as n
 use Rattle.fk_meaning_forms.specs.declared.tables.Region.{Region}
 use Rattle.fk_meaning_forms.specs.Code.{done, perform}
 use Rattle.fk_meaning_forms.specs.Tables.{Tables, note, slot}

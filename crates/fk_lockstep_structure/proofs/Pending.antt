@@ -4,7 +4,7 @@ use Rattle.std.specs.Prelude.{◌&&◌, ◌||◌, not, if◌then◌else◌}
 use Rattle.std.proofs.lemmas.Bool.{and_parts}
 use Rattle.fk_meaning_operation.specs.declared.operation.Operation.{Operation}
 use Rattle.fk_meaning_operation.specs.declared.operation.Operation.TheVariants as o
-use Rattle.fk_meaning_operation.specs.declared.operation.Split.TheVariants.{IfAlone, IfElse, AndThen, OrElse, Loop, Fork}
+use Rattle.fk_meaning_operation.specs.declared.operation.SplitKind.TheVariants.{IfAlone, IfElse, AndThen, OrElse, Loop, Fork}
 use Rattle.fk_meaning_forms.specs.Code.{Code, done, perform, choose, while, until, turn, again, quit, break, continue, call, ends, append}
 use Rattle.fk_meaning.specs.Left.{broken, settled}
 use Rattle.fk_meaning.specs.Next.{Work, going, returned, step, step_of, next}
@@ -61,13 +61,13 @@ module _ (may_call gives : (function : ℕ) → Bool) where
   quiet_behind op a b rest (Some m) is may h = by (is_fork op) refl h
     where
       fork_never : (op' : Operation) (y : Option ℕ) → is_fork op' ≡ true → is_some (before_way op' true y) ≡ true → ⊥
-      fork_never (o.Divide Fork) None e s = untrue s
-      fork_never (o.Divide Fork) (Some k) e s = untrue s
-      fork_never (o.Divide IfAlone) y e s = untrue e
-      fork_never (o.Divide IfElse) y e s = untrue e
-      fork_never (o.Divide AndThen) y e s = untrue e
-      fork_never (o.Divide OrElse) y e s = untrue e
-      fork_never (o.Divide Loop) y e s = untrue e
+      fork_never (o.Split Fork) None e s = untrue s
+      fork_never (o.Split Fork) (Some k) e s = untrue s
+      fork_never (o.Split IfAlone) y e s = untrue e
+      fork_never (o.Split IfElse) y e s = untrue e
+      fork_never (o.Split AndThen) y e s = untrue e
+      fork_never (o.Split OrElse) y e s = untrue e
+      fork_never (o.Split Loop) y e s = untrue e
       fork_never op' y e s = untrue e
 
       by : (f : Bool) → is_fork op ≡ f → ((if f then Some 2 else before_way op true (above (Some m) a)) ≡ None) ⊎ ((f || leads rest) ≡ true) → Quiet rest
@@ -295,13 +295,13 @@ module _ (may_call gives : (function : ℕ) → Bool) where
     Met here rest op = h.Meets gives (next bodies) here rest op
 
     met_performed : (here : Work) (rest : Bool → Work) (op : Operation) → is_performed op ≡ true → Met here rest op
-    met_performed here rest (o.Divide by) is = untrue is
+    met_performed here rest (o.Split by) is = untrue is
     met_performed here rest o.Farm is = untrue is
     met_performed here rest o.Begin is = untrue is
     met_performed here rest op is = tt
 
     met_quit : (here : Work) (rest : Bool → Work) (op : Operation) → is_quit op ≡ true → Met here rest op
-    met_quit here rest (o.Divide by) is = untrue is
+    met_quit here rest (o.Split by) is = untrue is
     met_quit here rest o.Farm is = untrue is
     met_quit here rest o.Begin is = untrue is
     met_quit here rest op is = tt
@@ -384,16 +384,16 @@ module _ (may_call gives : (function : ℕ) → Bool) where
                     ∙ ap (before_way op false) (sym (above_on false ∙ ap (λ (r : Option ℕ). above r b) is))
 
       -- a `fork`
-      fork_ways : (r x y : Option ℕ) → MayChoose (o.Divide Fork) r x y → (x ≡ None) × (y ≡ None)
+      fork_ways : (r x y : Option ℕ) → MayChoose (o.Split Fork) r x y → (x ≡ None) × (y ≡ None)
       fork_ways None x y may = may
       fork_ways (Some m) None y may = untrue may.0
       fork_ways (Some m) (Some k) y may = untrue may.0
 
-      fork_on : (called : Option Bool) (here : Work) (t : ℕ) (a b rest : Code ℕ) (callers : List (Code ℕ)) (may : MayBe called callers) (c : Counted called (choose t (o.Divide Fork) a b rest))
-          (i : AllCounted callers) (nested : (onward : Bool) → WorkNested (going (append (if onward then a else b) rest) callers)) (s : StandsAt here (choose t (o.Divide Fork) a b rest) callers)
-          → (above (above None rest) a ≡ None) × (above (above None rest) b ≡ None) → (onward : Bool) → above None (w called here t (o.Divide Fork) a b rest callers may c i nested s onward).left ≡ None
-      fork_on called here t a b rest callers may c i nested s ways true = above_on called here t (o.Divide Fork) a b rest callers may c i nested s true ∙ ways.0
-      fork_on called here t a b rest callers may c i nested s ways false = above_on called here t (o.Divide Fork) a b rest callers may c i nested s false ∙ ways.1
+      fork_on : (called : Option Bool) (here : Work) (t : ℕ) (a b rest : Code ℕ) (callers : List (Code ℕ)) (may : MayBe called callers) (c : Counted called (choose t (o.Split Fork) a b rest))
+          (i : AllCounted callers) (nested : (onward : Bool) → WorkNested (going (append (if onward then a else b) rest) callers)) (s : StandsAt here (choose t (o.Split Fork) a b rest) callers)
+          → (above (above None rest) a ≡ None) × (above (above None rest) b ≡ None) → (onward : Bool) → above None (w called here t (o.Split Fork) a b rest callers may c i nested s onward).left ≡ None
+      fork_on called here t a b rest callers may c i nested s ways true = above_on called here t (o.Split Fork) a b rest callers may c i nested s true ∙ ways.0
+      fork_on called here t a b rest callers may c i nested s ways false = above_on called here t (o.Split Fork) a b rest callers may c i nested s false ∙ ways.1
 
       begin_alone : (called : Option Bool) (callers : List (Code ℕ)) → MayBe called callers → MayBegin called o.Begin → many_waiting gives callers ≡ 0
       begin_alone None callers may begin = ap (many_waiting gives) may
@@ -425,28 +425,28 @@ module _ (may_call gives : (function : ℕ) → Bool) where
             performs called here op rest callers c.0 nested.left.0 c.2 (passes_to here rest callers s.callers s.leave) (above None rest) refl c.1 s.above_is,
             (λ onward. goes_on called rest callers may c.2 i (on.nested true)),
           )
-      stepped called here (choose t (o.Divide Fork) a b rest) callers may c i nested s q =
-          let on' = is_stepped bodies all_bodies (at (choose t (o.Divide Fork) a b rest) callers) nested in
+      stepped called here (choose t (o.Split Fork) a b rest) callers may c i nested s q =
+          let on' = is_stepped bodies all_bodies (at (choose t (o.Split Fork) a b rest) callers) nested in
           let none_ways = fork_ways (above None rest) (above (above None rest) a) (above (above None rest) b) c.0.0 in
-          let none_on : (onward : Bool) → above None (w called here t (o.Divide Fork) a b rest callers may c i on'.nested s onward).left ≡ None
+          let none_on : (onward : Bool) → above None (w called here t (o.Split Fork) a b rest callers may c i on'.nested s onward).left ≡ None
           = fork_on called here t a b rest callers may c i on'.nested s none_ways in
-          let size : pending_of gives (w called here t (o.Divide Fork) a b rest callers may c i on'.nested s true) ≡ many_waiting gives callers
+          let size : pending_of gives (w called here t (o.Split Fork) a b rest callers may c i on'.nested s true) ≡ many_waiting gives callers
           = ap (λ (x : Option ℕ). one_more x (many_waiting gives callers)) (none_on true) in (
             (
-              takes_one gives (next bodies) here (w called here t (o.Divide Fork) a b rest callers may c i on'.nested s) (on called here t (o.Divide Fork) a b rest callers may c i on'.nested s) s.above_is none_on,
-              no_more (all_outs here) (many_waiting gives callers) (q (inr refl)) (pending_of gives (w called here t (o.Divide Fork) a b rest callers may c i on'.nested s true)) (omega (arith, size)),
+              takes_one gives (next bodies) here (w called here t (o.Split Fork) a b rest callers may c i on'.nested s) (on called here t (o.Split Fork) a b rest callers may c i on'.nested s) s.above_is none_on,
+              no_more (all_outs here) (many_waiting gives callers) (q (inr refl)) (pending_of gives (w called here t (o.Split Fork) a b rest callers may c i on'.nested s true)) (omega (arith, size)),
             ),
-            for_on called here t (o.Divide Fork) a b rest callers may c i on'.nested s,
+            for_on called here t (o.Split Fork) a b rest callers may c i on'.nested s,
           )
-      stepped called here (choose t (o.Divide IfElse) a b rest) callers may c i nested s q =
-          let on' = is_stepped bodies all_bodies (at (choose t (o.Divide IfElse) a b rest) callers) nested in (
-            choice_goes called here t (o.Divide IfElse) a b rest callers may c i on'.nested s refl refl
+      stepped called here (choose t (o.Split IfElse) a b rest) callers may c i nested s q =
+          let on' = is_stepped bodies all_bodies (at (choose t (o.Split IfElse) a b rest) callers) nested in (
+            choice_goes called here t (o.Split IfElse) a b rest callers may c i on'.nested s refl refl
                 (λ same'.
                 first_met (pending_of gives here) (going rest callers) (outs (going rest callers)) (starts (going (append a rest) callers)) (outs (going (append a rest) callers))
                 (behind_part a rest callers none nested.left.2 nested.left.8
                 (nested_append true false none a rest nested.left.2 nested.left.8 (no_exits rest) (λ e'. refl) (λ e'. nested.left.5 refl)))
                 (same_pending gives here (going rest callers) (sym s.callers) (same' ∙ sym (ap is_some (counted_settled may_call gives called rest c.1).0)))),
-            for_on called here t (o.Divide IfElse) a b rest callers may c i on'.nested s,
+            for_on called here t (o.Split IfElse) a b rest callers may c i on'.nested s,
           )
       stepped called here (choose t o.Farm a b rest) callers may c i nested s q =
           let on' = is_stepped bodies all_bodies (at (choose t o.Farm a b rest) callers) nested in
@@ -459,9 +459,9 @@ module _ (may_call gives : (function : ℕ) → Bool) where
                 (same' ∙ sym (ap is_some (above_on called here t o.Farm a b rest callers may c i on'.nested s false ∙ ap (above (above None rest)) b_is))))),
             for_on called here t o.Farm a b rest callers may c i on'.nested s,
           )
-      stepped called here (choose t (o.Divide by) a b rest) callers may c i nested s q =
-          let on' = is_stepped bodies all_bodies (at (choose t (o.Divide by) a b rest) callers) nested in
-          (choice_goes called here t (o.Divide by) a b rest callers may c i on'.nested s refl refl (λ same. tt), for_on called here t (o.Divide by) a b rest callers may c i on'.nested s)
+      stepped called here (choose t (o.Split by) a b rest) callers may c i nested s q =
+          let on' = is_stepped bodies all_bodies (at (choose t (o.Split by) a b rest) callers) nested in
+          (choice_goes called here t (o.Split by) a b rest callers may c i on'.nested s refl refl (λ same. tt), for_on called here t (o.Split by) a b rest callers may c i on'.nested s)
       stepped called here (choose t o.Begin a b rest) callers may c i nested s q =
           let on' = is_stepped bodies all_bodies (at (choose t o.Begin a b rest) callers) nested in
           let none_here : above None here.left ≡ None = s.above_is ∙ begin_none (above (above None rest) a) in

@@ -3,8 +3,8 @@ use Rattle.std.proofs.Common.{◌≡◌, ℕ, zero, suc, Bool, true, false, true
 use Rattle.std.specs.Prelude.{if◌then◌else◌}
 use Rattle.fk_meaning_operation.specs.declared.operation.Operation.{Operation}
 use Rattle.fk_meaning_operation.specs.declared.operation.Operation.TheVariants as o
-use Rattle.fk_meaning_operation.specs.declared.operation.Split.{Split}
-use Rattle.fk_meaning_operation.specs.declared.operation.Split.TheVariants.{IfElse}
+use Rattle.fk_meaning_operation.specs.declared.operation.SplitKind.{SplitKind}
+use Rattle.fk_meaning_operation.specs.declared.operation.SplitKind.TheVariants.{IfElse}
 use Rattle.fk_meaning.specs.Round.{Step}
 use Rattle.fk_meaning_forms.specs.Code.{Code, done, perform, choose, while, until, turn, again, quit, break, continue, call, ends, append}
 use Rattle.fk_meaning.specs.Left.{broken, settled}
@@ -176,7 +176,7 @@ module _ (may_call : (in_group : Bool) → (function : ℕ) → Bool) where
 
     performed_rounds : (round : ℕ) (alone : Bool) (t : ℕ) (op : Operation) (rest : Code ℕ) (callers : List (Code ℕ)) (onward : Bool) → is_performed op ≡ true
         → Stands may_call round alone (perform t op rest) callers → round_after op onward round ≡ rounds (past rest) callers
-    performed_rounds round alone t (o.Divide by) rest callers onward is h = untrue is
+    performed_rounds round alone t (o.Split by) rest callers onward is h = untrue is
     performed_rounds round alone t o.Begin rest callers onward is h = untrue is
     performed_rounds round alone t o.Shrink rest callers onward is h = untrue is
     performed_rounds round alone t o.End rest callers onward is h =
@@ -215,7 +215,7 @@ module _ (may_call : (in_group : Bool) → (function : ℕ) → Bool) where
     performed_starts op is = refl
 
     performed_splits : (op : Operation) → is_performed op ≡ true → is_split op ≡ false
-    performed_splits (o.Divide by) is = untrue is
+    performed_splits (o.Split by) is = untrue is
     performed_splits op is = refl
 
     performs : (round : ℕ) (alone : Bool) (t : ℕ) (op : Operation) (rest left : Code ℕ) (callers : List (Code ℕ)) → past left ≡ past (perform t op rest) → is_performed op ≡ true
@@ -240,12 +240,12 @@ module _ (may_call : (in_group : Bool) → (function : ℕ) → Bool) where
 
     splits_confine : (op : Operation) → splits op ≡ true → confines op ≡ true
     splits_confine o.Begin e = refl
-    splits_confine (o.Divide by) e = refl
+    splits_confine (o.Split by) e = refl
     splits_confine op e = untrue e
 
     two_confine : (op : Operation) → has_two_parts op ≡ true → splits op ≡ true
-    two_confine (o.Divide IfElse) e = refl
-    two_confine (o.Divide by) e = untrue e
+    two_confine (o.Split IfElse) e = refl
+    two_confine (o.Split by) e = untrue e
     two_confine op e = untrue e
 
     record Chosen (t : ℕ) (op : Operation) (a b rest : Code ℕ) (callers : List (Code ℕ)) : Type 0 where
@@ -368,9 +368,9 @@ module _ (may_call : (in_group : Bool) → (function : ℕ) → Bool) where
           subst (λ c. WorkStands round alone' (going (append c rest) callers)) (sym is)
           (goes round alone' rest callers n (record { left = h; many = r; alone = e }) k l)
 
-      divides : (by : Split) → Chosen t (o.Divide by) a b rest callers → Stands may_call round alone (choose t (o.Divide by) a b rest) callers → GoesOn round alone (o.Divide by) here_at way
+      divides : (by : SplitKind) → Chosen t (o.Split by) a b rest callers → Stands may_call round alone (choose t (o.Split by) a b rest) callers → GoesOn round alone (o.Split by) here_at way
       divides IfElse c h =
-          let who = who_in (outer_of callers) (choose t (o.Divide IfElse) a b rest) in
+          let who = who_in (outer_of callers) (choose t (o.Split IfElse) a b rest) in
           let g = h.left.0.0.divides refl in
           record {
             calls = λ onward. refl;
@@ -378,14 +378,14 @@ module _ (may_call : (in_group : Bool) → (function : ℕ) → Bool) where
             own = λ e. untrue e;
             outermost = λ e. untrue e;
             met = λ e. part_met a rest callers c.first c.first_nested;
-            goes_on = λ onward. subst (λ d. WorkStands (suc round) d (way onward)) (sym (group_of (o.Divide IfElse) h g)) (each onward);
+            goes_on = λ onward. subst (λ d. WorkStands (suc round) d (way onward)) (sym (group_of (o.Split IfElse) h g)) (each onward);
           }
         where
           each : (onward : Bool) → WorkStands (suc round) false (way onward)
           each true = goes (suc round) false (append a rest) callers c.first_nested
-              (part_stands round a rest callers c.first (of_group (who_in (outer_of callers) (choose t (o.Divide IfElse) a b rest)) a (h.left.0.0.divides refl) h.left.0.1) (h.left.1 refl) h.left.2 h.many) k l
+              (part_stands round a rest callers c.first (of_group (who_in (outer_of callers) (choose t (o.Split IfElse) a b rest)) a (h.left.0.0.divides refl) h.left.0.1) (h.left.1 refl) h.left.2 h.many) k l
           each false = goes (suc round) false (append b rest) callers c.second_nested
-              (part_stands round b rest callers c.second (of_group (who_in (outer_of callers) (choose t (o.Divide IfElse) a b rest)) b (h.left.0.0.divides refl) h.left.0.2) (h.left.1 refl) h.left.2 h.many) k l
+              (part_stands round b rest callers c.second (of_group (who_in (outer_of callers) (choose t (o.Split IfElse) a b rest)) b (h.left.0.0.divides refl) h.left.0.2) (h.left.1 refl) h.left.2 h.many) k l
       divides by c h = record {
         calls = λ onward. refl;
         in_group = λ e. untrue e;
@@ -395,11 +395,11 @@ module _ (may_call : (in_group : Bool) → (function : ℕ) → Bool) where
         goes_on = each;
       }
         where
-          each : (onward : Bool) → WorkStands (round_after (o.Divide by) onward round) alone (way onward)
+          each : (onward : Bool) → WorkStands (round_after (o.Split by) onward round) alone (way onward)
           each true =
-              subst (λ d. WorkStands (suc round) d (way true)) (sym (group_of (o.Divide by) h (h.left.0.0.divides refl)))
+              subst (λ d. WorkStands (suc round) d (way true)) (sym (group_of (o.Split by) h (h.left.0.0.divides refl)))
               (goes (suc round) false (append a rest) callers c.first_nested
-              (part_stands round a rest callers c.first (of_group (who_in (outer_of callers) (choose t (o.Divide by) a b rest)) a (h.left.0.0.divides refl) h.left.0.1) (h.left.1 refl) h.left.2 h.many) k l)
+              (part_stands round a rest callers c.first (of_group (who_in (outer_of callers) (choose t (o.Split by) a b rest)) a (h.left.0.0.divides refl) h.left.0.1) (h.left.1 refl) h.left.2 h.many) k l)
           each false = resumed alone (inr (h.left.1 refl)) h.left.2 h.many c.nested (c.waits refl)
 
       starts_one : Chosen t o.Begin a b rest callers → Stands may_call round alone (choose t o.Begin a b rest) callers → GoesOn round alone o.Begin here_at way
@@ -425,7 +425,7 @@ module _ (may_call : (in_group : Bool) → (function : ℕ) → Bool) where
 
       chooses : (op : Operation) → is_chosen op ≡ true → Chosen t op a b rest callers → Stands may_call round alone (choose t op a b rest) callers → GoesOn round alone op here_at way
       chooses (o.Branch on) is c h = branches on c h
-      chooses (o.Divide by) is c h = divides by c h
+      chooses (o.Split by) is c h = divides by c h
       chooses o.Begin is c h = starts_one c h
       chooses o.Farm is c h = record {
         calls = λ onward. refl;

@@ -7,8 +7,8 @@ use Rattle.fk_syntax.specs.Tree.{Tree}
 use Rattle.fk_syntax.specs.Program as p
 use Rattle.fk_syntax.specs.Program.{DeclaredTree, Statement, Statements, FunctionTree, ProgramTree}
 use Rattle.fk_meaning_operation.specs.declared.operation.Operation.TheVariants as o
-use Rattle.fk_meaning_operation.specs.declared.operation.Known.TheVariants as n
-use Rattle.fk_meaning_operation.specs.declared.operation.Split.TheVariants.{IfAlone, IfElse, Loop, Fork}
+use Rattle.fk_meaning_operation.specs.declared.operation.OwnValue.TheVariants as n
+use Rattle.fk_meaning_operation.specs.declared.operation.SplitKind.TheVariants.{IfAlone, IfElse, Loop, Fork}
 use Rattle.fk_meaning_forms.specs.Code as c
 use Rattle.fk_meaning_forms.specs.Code.{Code, done, perform, choose, while, until, turn, again, quit, break, continue, call, ends, size, numbered}
 use Rattle.fk_meaning_forms.specs.Tables.{Tables, note, frame_at}
@@ -88,7 +88,7 @@ module _ (tables : Tables) (functions : (binding : ℕ) → Signature) (may_call
   loops : (who : Who) (spot : Spot) → Splits tables may_call (is_group who) spot.at → (loop : Coded → Coded) → Keeps (inner who) loop → Keeps who loop → Keeps who (looping tables functions spot loop)
   loops who spot splits' loop keeps_in keeps rest q =
       let part = part_frame tables functions spot 0 (loop done) in
-      splits_to tables functions may_call (note tables spot.at).splits who (choose spot.place (o.Divide Loop) part done (plain o.Resume rest)) (loop rest)
+      splits_to tables functions may_call (note tables spot.at).splits who (choose spot.place (o.Split Loop) part done (plain o.Resume rest)) (loop rest)
       (λ e. (refl, splits'.0 e, part_frames (inner who) spot 0 (loop done) (keeps_in done refl), refl, (λ f. untrue f), (refl, q))) (keeps rest q)
 
   -- the loop itself, within its part or not
@@ -159,7 +159,7 @@ module _ (tables : Tables) (functions : (binding : ℕ) → Signature) (may_call
     statement who inside (p.If spot condition first) h rest q =
         let here = note tables spot.at in
         let body = executed tables functions inside first in
-        let parted = choose spot.place (o.Divide IfAlone) (part_frame tables functions spot 0 (body (plain o.End done))) done (plain o.Resume rest) in
+        let parted = choose spot.place (o.Split IfAlone) (part_frame tables functions spot 0 (body (plain o.End done))) done (plain o.Resume rest) in
         let branched = choose nowhere (o.Branch true) (body done) done rest in
         value_in_place tables functions may_call who condition h.1 (if here.splits then parted else agreed here.sync branched)
         (splits_to tables functions may_call here.splits who parted (agreed here.sync branched)
@@ -169,7 +169,7 @@ module _ (tables : Tables) (functions : (binding : ℕ) → Signature) (may_call
         let here = note tables spot.at in
         let a = executed tables functions inside first in
         let b = executed tables functions inside second in
-        let parted = choose spot.place (o.Divide IfElse) (part_frame tables functions spot 0 (a (plain o.End done))) (part_frame tables functions spot 1 (b (plain o.End done))) (plain o.Resume rest) in
+        let parted = choose spot.place (o.Split IfElse) (part_frame tables functions spot 0 (a (plain o.End done))) (part_frame tables functions spot 1 (b (plain o.End done))) (plain o.Resume rest) in
         let branched = choose nowhere (o.Branch true) (a done) (b done) rest in
         value_in_place tables functions may_call who condition h.1 (if here.splits then parted else agreed here.sync branched)
         (splits_to tables functions may_call here.splits who parted (agreed here.sync branched)
@@ -214,7 +214,7 @@ module _ (tables : Tables) (functions : (binding : ℕ) → Signature) (may_call
         )
     statement who inside (p.Fork spot count part rank body) h rest q =
         let run = executed tables functions inside body in
-        let split = choose spot.place (o.Divide Fork) (part_frame tables functions spot 0 (run (plain o.End done))) done (plain o.Resume rest) in
+        let split = choose spot.place (o.Split Fork) (part_frame tables functions spot 0 (run (plain o.End done))) done (plain o.Resume rest) in
         let ranks = value_or tables functions (plain (o.Get n.Rank)) rank split in
         let told = value tables functions part ranks in
         value_in_place tables functions may_call who count h.1 (plain o.Agree told) (

@@ -12,12 +12,12 @@ use Rattle.fk_syntax.specs.Program.{DeclaredTree}
 use Rattle.fk_meaning_operation.specs.declared.operation.Operation.{Operation}
 use Rattle.fk_meaning_operation.specs.declared.operation.Operation.TheVariants as o
 use Rattle.fk_meaning_operation.specs.declared.operation.Variable.TheVariants as v
-use Rattle.fk_meaning_operation.specs.declared.operation.Known.TheVariants as n
+use Rattle.fk_meaning_operation.specs.declared.operation.OwnValue.TheVariants as n
 use Rattle.fk_meaning_operation.specs.declared.operation.Unary.TheVariants as u
 use Rattle.fk_meaning_operation.specs.declared.operation.Multiprefix.{Multiprefix}
 use Rattle.fk_meaning_operation.specs.declared.operation.Multiprefix.TheVariants.{MpAdd, MpMax, MpAnd, MpOr}
-use Rattle.fk_meaning_operation.specs.declared.operation.Split.{Split}
-use Rattle.fk_meaning_operation.specs.declared.operation.Split.TheVariants.{IfElse, AndThen, OrElse}
+use Rattle.fk_meaning_operation.specs.declared.operation.SplitKind.{SplitKind}
+use Rattle.fk_meaning_operation.specs.declared.operation.SplitKind.TheVariants.{IfElse, AndThen, OrElse}
 use Rattle.fk_num.specs.declared.operator.Op.TheVariants as f
 use Rattle.fk_meaning_forms.specs.declared.tables.Home.{Home}
 use Rattle.fk_meaning_forms.specs.declared.tables.Home.TheVariants as h
@@ -210,7 +210,7 @@ module _ (may_call : (function : ℕ) → Bool) (tables : Tables) (functions : (
           (operators sign unsigned m rest a) (moves (move_of sign) step sign unsigned m rest a)
 
       members : (at : ℕ) (m : ℕ) (rest : Coded) → At may_call results caller way after (suc m) rest → At may_call results caller way after (suc m) (member tables functions at rest)
-      members at m rest a = pushes _ (suc m) (plain (o.Join f.Add false) rest) (on nowhere (o.Join f.Add false) (suc m) (suc (suc m)) rest refl refl refl a)
+      members at m rest a = pushes _ (suc m) (plain (o.Binary f.Add false) rest) (on nowhere (o.Binary f.Add false) (suc m) (suc (suc m)) rest refl refl refl a)
 
     value_at : (w : Way) (e : Stands) → Good w e → (way : Bool) (after : Option ℕ) (m : ℕ) (rest : Coded) → At may_call results caller way after (up (gives w) m) rest → At may_call results caller way after m (value_of tables functions e rest)
     value_at w e good way after m rest a = good way after m (λ s. valued tables functions s rest) (λ s r. values_at w s rest m r a)
@@ -287,19 +287,19 @@ module _ (may_call : (function : ℕ) → Bool) (tables : Tables) (functions : (
 
     truths : (w : Way) (e : Stands) → Good w e → gives w ≡ true → (way : Bool) (after : Option ℕ) (m : ℕ) (rest : Coded) → At may_call results caller way after (suc m) rest → At may_call results caller way after m (truth tables functions e rest)
     truths w e good is way after m rest a =
-        adds w e good is way after m (plain (o.Push 0) (plain (o.Join f.Ne false) rest))
-        (pushes 0 (suc m) (plain (o.Join f.Ne false) rest) (on nowhere (o.Join f.Ne false) (suc m) (suc (suc m)) rest refl refl refl a))
+        adds w e good is way after m (plain (o.Push 0) (plain (o.Binary f.Ne false) rest))
+        (pushes 0 (suc m) (plain (o.Binary f.Ne false) rest) (on nowhere (o.Binary f.Ne false) (suc m) (suc (suc m)) rest refl refl refl a))
 
-    logicals : (spot : Spot) (split : Split) (onward : Bool) (other : ℕ) (w x : Way) (a b : Stands) → Good w a → gives w ≡ true → Good x b → gives x ≡ true
-        → is_fork (o.Divide split) ≡ false → ((m : ℕ) → above_choice (o.Divide split) true m ≡ Some (suc m)) → ((m : ℕ) → above_choice (o.Divide split) false (suc m) ≡ Some (suc m))
+    logicals : (spot : Spot) (split : SplitKind) (onward : Bool) (other : ℕ) (w x : Way) (a b : Stands) → Good w a → gives w ≡ true → Good x b → gives x ≡ true
+        → is_fork (o.Split split) ≡ false → ((m : ℕ) → above_choice (o.Split split) true m ≡ Some (suc m)) → ((m : ℕ) → above_choice (o.Split split) false (suc m) ≡ Some (suc m))
         → Good Valued (logical tables functions spot split onward other a b)
     logicals spot split onward other w x a b good_a has_a good_b has_b no_fork true_way false_way way after m k p =
         let here = note tables spot.at in
-        let parted = choose spot.place (o.Divide split) (truth tables functions b (plain o.End done)) done (plain o.Resume (k OnList)) in
+        let parted = choose spot.place (o.Split split) (truth tables functions b (plain o.End done)) done (plain o.Resume (k OnList)) in
         let branched = choose nowhere (o.Branch onward) (truth tables functions b done) (plain (o.Push other) done) (k OnList) in
         adds w a good_a has_a way after m (if here.splits then parted else agreed here.sync branched)
         (either (suc m) here.splits parted (agreed here.sync branched)
-        (chooses spot.place (o.Divide split) (truth tables functions b (plain o.End done)) done (plain o.Resume (k OnList)) m (suc m) m (suc m) no_fork refl
+        (chooses spot.place (o.Split split) (truth tables functions b (plain o.End done)) done (plain o.Resume (k OnList)) m (suc m) m (suc m) no_fork refl
         (on nowhere o.Resume (suc m) (suc m) (k OnList) refl refl refl (p OnList tt))
         (truths x b good_b has_b false (Some (suc m)) m (plain o.End done) (part_ends (suc m))) (arm_ends (suc m)) (true_way m) (false_way m))
         (agrees here.sync m branched
@@ -325,11 +325,11 @@ module _ (may_call : (function : ℕ) → Bool) (tables : Tables) (functions : (
         let here = note tables spot.at in
         let first = value_of tables functions a in
         let second = value_of tables functions b in
-        let parted = choose spot.place (o.Divide IfElse) (first (plain o.End done)) (second (plain o.End done)) (plain o.Resume (k OnList)) in
+        let parted = choose spot.place (o.Split IfElse) (first (plain o.End done)) (second (plain o.End done)) (plain o.Resume (k OnList)) in
         let branched = choose nowhere (o.Branch true) (first done) (second done) (k OnList) in
         adds w c good_c has_c way after m (if here.splits then parted else agreed here.sync branched)
         (either (suc m) here.splits parted (agreed here.sync branched)
-        (chooses spot.place (o.Divide IfElse) (first (plain o.End done)) (second (plain o.End done)) (plain o.Resume (k OnList)) m l m m refl refl
+        (chooses spot.place (o.Split IfElse) (first (plain o.End done)) (second (plain o.End done)) (plain o.Resume (k OnList)) m l m m refl refl
         (on nowhere o.Resume l l (k OnList) refl refl refl behind)
         (in_first (plain o.End done) (part_ends l)) (in_second (plain o.End done) (part_ends l)) refl refl)
         (agrees here.sync m branched

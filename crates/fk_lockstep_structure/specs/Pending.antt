@@ -6,7 +6,7 @@ use Rattle.std.proofs.Common.{ap}
 use Rattle.std.proofs.lemmas.Bool.{false≢true, and_parts}
 use Rattle.fk_meaning_operation.specs.declared.operation.Operation.{Operation}
 use Rattle.fk_meaning_operation.specs.declared.operation.Operation.TheVariants as o
-use Rattle.fk_meaning_operation.specs.declared.operation.Split.TheVariants.{IfElse, AndThen, OrElse, Fork}
+use Rattle.fk_meaning_operation.specs.declared.operation.SplitKind.TheVariants.{IfElse, AndThen, OrElse, Fork}
 use Rattle.fk_meaning.specs.Processor.{Call, values, last, before}
 use Rattle.fk_meaning_forms.specs.Code.{Code, done, perform, choose, while, until, turn, again, quit, break, continue, call, ends}
 use Rattle.fk_meaning.specs.Next.{Work, going, next}
@@ -16,7 +16,7 @@ use Rattle.fk_lockstep_structure.specs.Placed.{is_begin}
 use Rattle.fk_lockstep_structure.specs.Ahead.{all_outs}
 
 abbrev pub is_fork : Operation → Bool
-is_fork (o.Divide Fork) = true
+is_fork (o.Split Fork) = true
 is_fork op = false
 
 abbrev pub is_enter : Operation → Bool
@@ -38,7 +38,7 @@ above_before (o.Set variable) m = Some m
 above_before o.DropLast m = Some (suc m)
 above_before o.CopyLast (suc m) = Some m
 above_before (o.Apply sign) (suc m) = Some (suc m)
-above_before (o.Join operator turned) (suc m) = Some (suc (suc m))
+above_before (o.Binary operator turned) (suc m) = Some (suc (suc m))
 above_before (o.Index bytes) (suc m) = Some (suc (suc m))
 above_before o.Take (suc m) = Some (suc m)
 above_before (o.Check shared_alone) m = Some m
@@ -61,11 +61,11 @@ before_it op (Some m) = above_before op m
 -- and so before a choice, where so many do on one of its ways. Those who wait at `&&` and `||` have the value of the whole
 abbrev pub above_choice : Operation → (onward : Bool) → (above : ℕ) → Option ℕ
 above_choice (o.Branch by) onward m = Some (suc m)
-above_choice (o.Divide IfElse) onward m = Some (suc m)
-above_choice (o.Divide AndThen) true m = Some (suc m)
-above_choice (o.Divide AndThen) false (suc m) = Some (suc m)
-above_choice (o.Divide OrElse) true m = Some (suc m)
-above_choice (o.Divide OrElse) false (suc m) = Some (suc m)
+above_choice (o.Split IfElse) onward m = Some (suc m)
+above_choice (o.Split AndThen) true m = Some (suc m)
+above_choice (o.Split AndThen) false (suc m) = Some (suc m)
+above_choice (o.Split OrElse) true m = Some (suc m)
+above_choice (o.Split OrElse) false (suc m) = Some (suc m)
 above_choice op onward m = None
 
 abbrev pub before_way : Operation → (onward : Bool) → Option ℕ → Option ℕ

@@ -51,7 +51,7 @@ may_perform resuming op = not resuming
 -- groups split, and have bodies. A group begins on the outermost level of `main` alone
 abbrev pub may_choose : Who → Operation → Bool
 may_choose who (o.Branch onward) = true
-may_choose who (o.Divide by) = is_group who
+may_choose who (o.Split by) = is_group who
 may_choose who o.Farm = is_group who
 may_choose who o.Seq = is_group who
 may_choose who o.Begin = is_outermost who

@@ -11,7 +11,7 @@ ghost use Rattle.fk_lower.specs.Lowered.{bodies_in, AreMeasured, total, entries_
 use crate::block::Block;
 use crate::depths::tell;
 use crate::fault::{LowerFault, further};
-use crate::write::{Entries, Place, Writer};
+use crate::write::{Entries, InsertPoint, Writer};
 use fk_core::CoreOp;
 use std::alloc::Global;
 
@@ -23,10 +23,10 @@ pub struct Lowered {
 }
 
 // A place outside loops.
-fn outside(at: u32, next: u32) -> Place
+fn outside(at: u32, next: u32) -> InsertPoint
     ensures { result ≡ record { around = None; at = at; next = next } }
 {
-    Place {
+    InsertPoint {
         around: None,
         at,
         next,

@@ -17,7 +17,7 @@ use crate::fault::LowerFault;
 use crate::measure::{goes_away, is_beside};
 use crate::span::{Span, Start, gap};
 use fk_core::CoreOp;
-use fk_meaning_operation::{Known, Operation, Variable};
+use fk_meaning_operation::{OwnValue, Operation, Variable};
 use std::alloc::Global;
 
 /// A loop: the indices behind it, and of its next turn.
@@ -29,7 +29,7 @@ pub struct Loop {
 
 /// Where code is written.
 #[derive(Clone, Copy, PartialEq, Eq, Debug)]
-pub struct Place {
+pub struct InsertPoint {
     /// The innermost loop round it, if there is one.
     pub around: Option<Loop>,
     /// The index where it is written.
@@ -38,7 +38,7 @@ pub struct Place {
     pub next: u32,
 }
 
-impl Place {
+impl InsertPoint {
     // The index where code begins that is written at an index here, and goes on at another one.
     pub(crate) fn target(&self, start: Start, at: u32, next: u32) -> u32
         requires { at + offset start < 2 ^ 32 }
@@ -89,12 +89,12 @@ fn is_near(variable: Variable) -> bool
     }
 }
 
-fn is_known_near(known: Known) -> bool
+fn is_known_near(known: OwnValue) -> bool
     ensures { IsTrue result ↔ IsKnownNear known }
 {
     match known {
-        Known::Value(variable) => is_near(variable),
-        Known::FrameAddress(nesting, word) => word < 0x0020_0000 && nesting < 129,
+        OwnValue::Value(variable) => is_near(variable),
+        OwnValue::FrameAddress(nesting, word) => word < 0x0020_0000 && nesting < 129,
         _ => true,
     }
 }
@@ -197,7 +197,7 @@ impl Writer {
         self.jump(target)
     }
 
-    fn perform(&mut self, act: Act, rest: Span, place: Place) -> Result<u32, LowerFault>
+    fn perform(&mut self, act: Act, rest: Span, place: InsertPoint) -> Result<u32, LowerFault>
         requires within { StartsWithin rest }
         requires room { place.at + (before (t.Perform act) rest).extent < 2 ^ 32 }
         ensures index { IfOk result
@@ -214,7 +214,7 @@ impl Writer {
         Ok(index)
     }
 
-    fn quit(&mut self, act: Act, rest: Span, place: Place) -> Result<u32, LowerFault>
+    fn quit(&mut self, act: Act, rest: Span, place: InsertPoint) -> Result<u32, LowerFault>
         requires within { StartsWithin rest }
         requires room { place.at + (before (t.Quit act) rest).extent < 2 ^ 32 }
         ensures index { IfOk result (λ index. index ≡ behind_of (t.Quit act) rest place.at) }
@@ -251,7 +251,7 @@ impl Writer {
         entries: &Entries,
         block: &Block,
         near: bool,
-        place: Place,
+        place: InsertPoint,
     ) -> Result<(), LowerFault>
         requires measured { IsPartMeasured (part_of block.now) }
         requires room { place.at + (span_in (part_of block.now).spans near).extent < 2 ^ 32 }
@@ -267,7 +267,7 @@ impl Writer {
                 unreachable!()
             };
             has_room(piece, rest, at);
-            at = self.piece(entries, piece, rest, Place { at, ..place })?;
+            at = self.piece(entries, piece, rest, InsertPoint { at, ..place })?;
         }
         Ok(())
     }
@@ -279,7 +279,7 @@ impl Writer {
         entries: &Entries,
         piece: &Piece,
         rest: Span,
-        place: Place,
+        place: InsertPoint,
     ) -> Result<u32, LowerFault>
         requires measured { IsPieceMeasured (piece_of piece.now) }
         requires within { StartsWithin rest }
@@ -316,7 +316,7 @@ impl Writer {
         first: &Block,
         second: &Block,
         rest: Span,
-        place: Place,
+        place: InsertPoint,
     ) -> Result<u32, LowerFault>
         requires measured { let x = part_of first.now in let y = part_of second.now in
             IsPieceMeasured (t.Choose act x.pieces x.spans y.pieces y.spans) }
@@ -342,12 +342,12 @@ impl Writer {
         let next = place.target(rest.start, end, place.next);
         self.act(act, place.target(aside.start, middle, next))?;
         self.skip(onward.here, place.target(onward.start, at, next))?;
-        self.block(entries, first, beside, Place { at, next, ..place })?;
+        self.block(entries, first, beside, InsertPoint { at, next, ..place })?;
         self.block(
             entries,
             second,
             rest.here,
-            Place {
+            InsertPoint {
                 at: middle,
                 next,
                 ..place
@@ -364,7 +364,7 @@ impl Writer {
         body: &Block,
         step: &Block,
         rest: Span,
-        place: Place,
+        place: InsertPoint,
     ) -> Result<u32, LowerFault>
         requires measured { let x = part_of test.now in let y = part_of body.now in let z = part_of step.now in
             IsPieceMeasured (t.While x.pieces x.spans y.pieces y.spans z.pieces z.spans) }
@@ -388,18 +388,18 @@ impl Writer {
         let end = step_at + step.spans.far.extent;
         let behind = place.target(rest.start, end, place.next);
         let onward = chosen(steps, step_at, place.at);
-        let inside = Place {
+        let inside = InsertPoint {
             around: Some(Loop { behind, onward }),
             at: place.at,
             next: place.at,
         };
         let next = inside.target(turn.start, body_at, onward);
-        self.block(entries, test, turn.here, Place { next, ..inside })?;
+        self.block(entries, test, turn.here, InsertPoint { next, ..inside })?;
         self.block(
             entries,
             body,
             steps,
-            Place {
+            InsertPoint {
                 at: body_at,
                 next: onward,
                 ..inside
@@ -409,7 +409,7 @@ impl Writer {
             entries,
             step,
             false,
-            Place {
+            InsertPoint {
                 at: step_at,
                 ..inside
             },
@@ -424,7 +424,7 @@ impl Writer {
         body: &Block,
         test: &Block,
         rest: Span,
-        place: Place,
+        place: InsertPoint,
     ) -> Result<u32, LowerFault>
         requires measured { let x = part_of body.now in let y = part_of test.now in
             IsPieceMeasured (t.Until x.pieces x.spans y.pieces y.spans) }
@@ -445,7 +445,7 @@ impl Writer {
         let onward = place.at + turn.extent;
         let end = onward + test.spans.far.extent;
         let behind = place.target(rest.start, end, place.next);
-        let inside = Place {
+        let inside = InsertPoint {
             around: Some(Loop { behind, onward }),
             at: place.at,
             next: onward,
@@ -456,7 +456,7 @@ impl Writer {
             entries,
             test,
             false,
-            Place {
+            InsertPoint {
                 at: onward,
                 next,
                 ..inside
@@ -473,7 +473,7 @@ impl Writer {
         function: u32,
         opening: &Block,
         rest: Span,
-        place: Place,
+        place: InsertPoint,
     ) -> Result<u32, LowerFault>
         requires measured { let x = part_of opening.now in
             IsPieceMeasured (t.Call act function x.pieces x.spans) }
@@ -499,7 +499,7 @@ impl Writer {
             entries,
             opening,
             true,
-            Place {
+            InsertPoint {
                 around: None,
                 at,
                 next,

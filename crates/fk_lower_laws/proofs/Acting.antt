@@ -8,7 +8,7 @@ use Rattle.fk_num.specs.declared.operator.Op.{Op}
 use Rattle.fk_num.specs.declared.operator.Op.TheVariants as f
 use Rattle.fk_meaning_operation.specs.declared.operation.Operation.{Operation}
 use Rattle.fk_meaning_operation.specs.declared.operation.Operation.TheVariants as o
-use Rattle.fk_meaning_operation.specs.declared.operation.Known.{Known}
+use Rattle.fk_meaning_operation.specs.declared.operation.OwnValue.{OwnValue}
 use Rattle.fk_meaning_operation.specs.declared.operation.Unary.{Unary}
 use Rattle.fk_meaning_operation.specs.declared.operation.Multiprefix.{Multiprefix}
 use Rattle.fk_meaning_operation.specs.declared.operation.Variable.{Variable}
@@ -16,7 +16,7 @@ use Rattle.fk_meaning_store.specs.Serve.{may_use}
 use Rattle.fk_layout_sizes.specs.Operations.{takes}
 use Rattle.fk_core_typing.specs.LocalDepths.{needs, leaves}
 use Rattle.fk_sim_block.specs.Suits.{looks_at}
-use Rattle.fk_core_liveness.specs.declared.places.Place.{Place}
+use Rattle.fk_core_liveness.specs.declared.places.FunctionKind.{FunctionKind}
 use Rattle.fk_core_typing.specs.declared.constants.Constants.{Constants}
 use Rattle.fk_core_typing.specs.AddressValues.{constants, joined_constant}
 use Rattle.fk_core_typing.specs.Values.{Value, Unknown, Usable, Shared, is_known, of_number, of_constant, checked, State, changed, values_behind, Asks, May, IsAsGood, AreAsGood}
@@ -48,7 +48,7 @@ joins_known l r c d is also =
 
 join_good : (sign : Op) (turned : Bool) (known : Constants) (ws : List Value) (x y v : Value) (vs : List Value) → AreAsGood ws (x ∷ y ∷ vs)
     → IsAsGood (of_constant (joined_constant sign turned known.second known.last)) v
-    → AreAsGood (values_behind (o.Join sign turned) true known ws) (v ∷ vs)
+    → AreAsGood (values_behind (o.Binary sign turned) true known ws) (v ∷ vs)
 join_good sign turned known [] x y v vs h k = absurd h
 join_good sign turned known (b ∷ []) x y v vs h k = absurd h.1
 join_good sign turned known (b ∷ a ∷ ws) x y v vs h k = (k, h.1.1)
@@ -83,7 +83,7 @@ combine_asks by [] u v vs h e = absurd h
 combine_asks by (x ∷ []) u v vs h e = absurd h.1
 combine_asks by (x ∷ w ∷ ws) u v vs h e = h.1.0 true e
 
-abbrev pub Does : Place → Operation → (before after : List Value) → Type 0
+abbrev pub Does : FunctionKind → Operation → (before after : List Value) → Type 0
 Does p op ts us = Acts true op (level p ts) (level p us)
 
 -- a number, and one that is a constant address of shared data
@@ -100,16 +100,16 @@ pushed_so n t = record {
 }
 
 -- a number of bytes, behind a constant address
-abbrev pub with_offset : Place → (address offset : ℕ) → List Value → State
+abbrev pub with_offset : FunctionKind → (address offset : ℕ) → List Value → State
 with_offset p c d vs = record { place = p; values = Unknown ∷ Shared ∷ vs; constants = constants (Some d) (Some c) }
 
 -- all others
-pub simply : (p : Place) (onward : Bool) (op : Operation) (ts : List Value) → needs op ≤ length ts → looks_at op ≤ length ts → ((ws : List Value) → Asks op ws)
+pub simply : (p : FunctionKind) (onward : Bool) (op : Operation) (ts : List Value) → needs op ≤ length ts → looks_at op ≤ length ts → ((ws : List Value) → Asks op ws)
     → ((known : Constants) (ws : List Value) → values_behind op onward known ws ≡ changed (takes op) (leaves op onward) ws)
     → Acts onward op (level p ts) (level p (changed (takes op) (leaves op onward) ts))
 simply p onward op ts few looks asks same = acts_so onward op (level p ts) few looks (λ ws g. asks ws) same
 
-module _ {p : Place} {vs : List Value} where
+module _ {p : FunctionKind} {vs : List Value} where
   pub push : (n : ℕ) → Does p (o.Push n) vs (Unknown ∷ vs)
   push n = less (pushed_so n (level p vs)) (record { place = refl; values = (as_unknown (of_number (word n)), good_as_itself vs); constants = none_asked _ })
 
@@ -127,11 +127,11 @@ module _ {p : Place} {vs : List Value} where
     constants = record { last = λ m e. e; second = λ m e. e };
   })
 
-  pub add_offset : (c d : ℕ) → may_use true (applied f.Add c d) ≡ true → Acts true (o.Join f.Add false) (with_offset p c d vs) (noted p (applied f.Add c d) vs)
+  pub add_offset : (c d : ℕ) → may_use true (applied f.Add c d) ≡ true → Acts true (o.Binary f.Add false) (with_offset p c d vs) (noted p (applied f.Add c d) vs)
   add_offset c d is = record {
     acts = λ s g.
         let same = joins_known s.constants.second s.constants.last c d (g.constants.second c refl) (g.constants.last d refl) in (
-          may (o.Join f.Add false) s (with_offset p c d vs) g.values (omega arith) (omega arith) tt,
+          may (o.Binary f.Add false) s (with_offset p c d vs) g.values (omega arith) (omega arith) tt,
           record {
             place = g.place;
             values = join_good f.Add false s.constants s.values Unknown Shared Shared vs g.values
@@ -141,10 +141,10 @@ module _ {p : Place} {vs : List Value} where
         );
   }
 
-  pub join : {u v : Value} → (sign : Op) (turned : Bool) → Does p (o.Join sign turned) (u ∷ v ∷ vs) (Unknown ∷ vs)
+  pub join : {u v : Value} → (sign : Op) (turned : Bool) → Does p (o.Binary sign turned) (u ∷ v ∷ vs) (Unknown ∷ vs)
   join {u = u} {v = v} sign turned = record {
     acts = λ s g. (
-      may (o.Join sign turned) s (level p (u ∷ v ∷ vs)) g.values (omega arith) (omega arith) tt,
+      may (o.Binary sign turned) s (level p (u ∷ v ∷ vs)) g.values (omega arith) (omega arith) tt,
       record {
         place = g.place;
         values = join_good sign turned s.constants s.values u v Unknown vs g.values (as_unknown (of_constant (joined_constant sign turned s.constants.second s.constants.last)));
@@ -184,7 +184,7 @@ module _ {p : Place} {vs : List Value} where
   pub combine : (by : Multiprefix) → Does p (o.Combine by) (Unknown ∷ Shared ∷ vs) (Unknown ∷ vs)
   combine by = acts_so true (o.Combine by) (level p (Unknown ∷ Shared ∷ vs)) (omega arith) (omega arith) (λ ws g. combine_asks by ws Unknown Shared vs g refl) (λ known ws. refl)
 
-  pub get : (known : Known) → Does p (o.Get known) vs (Unknown ∷ vs)
+  pub get : (known : OwnValue) → Does p (o.Get known) vs (Unknown ∷ vs)
   get known = simply p true (o.Get known) vs (omega arith) (omega arith) (λ ws. tt) (λ c ws. refl)
 
   pub set : (variable : Variable) → Does p (o.Set variable) (Unknown ∷ vs) (Unknown ∷ vs)

@@ -7,7 +7,7 @@ use Rattle.fk_types_names.specs.Outline.{DeclarationTree, Header, declared_in, d
 use Rattle.fk_types_rules.proofs.References.{declared_in-append}
 use Rattle.fk_meaning_forms.specs.Tables.{Tables}
 use Rattle.fk_meaning_forms.specs.Program.{functions_of, with_body, binding_of}
-use Rattle.fk_layout_walk.specs.declared.known.Known.{Known}
+use Rattle.fk_layout_walk.specs.declared.known.ProgramTables.{ProgramTables}
 use Rattle.fk_layout_walk.specs.Known.{tables_of}
 use Rattle.fk_lower_text.specs.Laid.{GoUp}
 use Rattle.fk_check_laws.specs.Correct.{IsCorrect}
@@ -17,7 +17,7 @@ use Rattle.fk_check_laws.proofs.Bodies.{one_number}
 use Rattle.fk_check_laws.proofs.Homes.{back_get}
 use Rattle.fk_lower_laws.specs.LoweringLaws.{IsKnownOf, BindingsGoUp}
 
-module _ (program : ProgramTree) (facts : Facts) (valid : IsCorrect program facts) (known : Known) (of : IsKnownOf program facts known) where
+module _ (program : ProgramTree) (facts : Facts) (valid : IsCorrect program facts) (known : ProgramTables) (of : IsKnownOf program facts known) where
   abbrev bound : FunctionTree → ℕ
   bound f = binding_of (tables_of known) f
 

@@ -30,8 +30,8 @@ use Rattle.fk_types_judgments.specs.Broken.{is_no_function, is_wrong_count}
 use Rattle.fk_meaning_forms.specs.Tables.{no_binding, note}
 use Rattle.fk_meaning_forms.specs.Statements.{is_nothing}
 use Rattle.fk_meaning_forms.specs.Program.{functions_of, with_body, binding_of, signature_of, signature_in, is_main}
-use Rattle.fk_core_liveness.specs.declared.places.Place.{Place}
-use Rattle.fk_core_liveness.specs.declared.places.Place.TheVariants as pl
+use Rattle.fk_core_liveness.specs.declared.places.FunctionKind.{FunctionKind}
+use Rattle.fk_core_liveness.specs.declared.places.FunctionKind.TheVariants as pl
 use Rattle.fk_core_flat.specs.Fitting.{is_defined, NameFits}
 use Rattle.fk_check_laws.proofs.Typed.{Unbroken, Not}
 use Rattle.fk_check_laws.proofs.Named.{known}
@@ -220,7 +220,7 @@ module _ (program : ProgramTree) (facts : Facts) (given : IsGiven program facts)
         by_way name es type (way_function program facts given name f)
         (subst (λ (c : Bool). NameTakes tables functions places c name es) (sym other) takes)
         (subst (λ (c : Bool). Stood (result (if c then predeclared_gives name else place_gives (places (bound name)))) type) (sym other)
-        (subst (λ (x : Place). Stood (result (place_gives x)) type) (sym place) (gives_as result' f.is.2.gives parts.2)))
+        (subst (λ (x : FunctionKind). Stood (result (place_gives x)) type) (sym place) (gives_as result' f.is.2.gives parts.2)))
 
   -- one that is declared before each text
   by_result : (a b : Bool) (o : Option ExpressionType) (type : ExpressionType) → (if a && b then o else None) ≡ Some type → o ≡ Some type

@@ -21,7 +21,7 @@ use Rattle.fk_meaning_forms.specs.Program.{functions_of, signature_in, bodies_of
 use Rattle.fk_meaning_forms.specs.Expressions.{Signature}
 use Rattle.fk_compile_text.specs.Built.{operations_of}
 use Rattle.fk_compile_text.specs.Plain.{is_plain, ArePlain}
-use Rattle.fk_core_liveness.specs.declared.places.Place.TheVariants.{Main}
+use Rattle.fk_core_liveness.specs.declared.places.FunctionKind.TheVariants.{Main}
 use Rattle.fk_core_typing.specs.Typed.{AreTyped}
 use Rattle.fk_lower_laws.specs.Ways.{Word, way}
 use Rattle.fk_lower_laws.specs.Asked.{Asked, place_of, ProgramAsked}

@@ -14,12 +14,12 @@ use Rattle.fk_types_names.specs.Outline.{MarkTree, Uses, tree_marks, optional_ma
 use Rattle.fk_meaning_operation.specs.declared.operation.Operation.{Operation}
 use Rattle.fk_meaning_operation.specs.declared.operation.Operation.TheVariants as o
 use Rattle.fk_meaning_operation.specs.declared.operation.Variable.TheVariants as v
-use Rattle.fk_meaning_operation.specs.declared.operation.Known.TheVariants as n
+use Rattle.fk_meaning_operation.specs.declared.operation.OwnValue.TheVariants as n
 use Rattle.fk_meaning_operation.specs.declared.operation.Unary.TheVariants as u
 use Rattle.fk_meaning_operation.specs.declared.operation.Multiprefix.{Multiprefix}
 use Rattle.fk_meaning_operation.specs.declared.operation.Multiprefix.TheVariants.{MpAdd, MpMax, MpAnd, MpOr}
-use Rattle.fk_meaning_operation.specs.declared.operation.Split.{Split}
-use Rattle.fk_meaning_operation.specs.declared.operation.Split.TheVariants.{IfElse, AndThen, OrElse}
+use Rattle.fk_meaning_operation.specs.declared.operation.SplitKind.{SplitKind}
+use Rattle.fk_meaning_operation.specs.declared.operation.SplitKind.TheVariants.{IfElse, AndThen, OrElse}
 use Rattle.fk_meaning_forms.specs.declared.tables.Home.{Home}
 use Rattle.fk_meaning_forms.specs.declared.tables.Home.TheVariants as h
 use Rattle.fk_meaning_forms.specs.declared.tables.Region.{Region}
@@ -193,28 +193,28 @@ module _ (tables : Tables) (functions : (binding : ℕ) → Signature) (has_body
   prefixes spot sign e good at k p = value_is e good (k OnList) (p OnList tt)
 
   truths : (e : Stands) → Good e → Keeps (truth tables functions e)
-  truths e good rest p = value_is e good (plain (o.Push 0) (plain (o.Join f.Ne false) rest)) (goes refl (goes refl p))
+  truths e good rest p = value_is e good (plain (o.Push 0) (plain (o.Binary f.Ne false) rest)) (goes refl (goes refl p))
 
-  logicals : (spot : Spot) (by : Split) (onward : Bool) (other : ℕ) (a : Stands) → Good a → (b : Stands) → Good b
+  logicals : (spot : Spot) (by : SplitKind) (onward : Bool) (other : ℕ) (a : Stands) → Good a → (b : Stands) → Good b
       → Good (logical tables functions spot by onward other a b)
   logicals spot by onward other a good_a b good_b k p =
       let here = note tables spot.at in
-      let parted = choose spot.place (o.Divide by) (truth tables functions b (plain o.End done)) done (plain o.Resume (k OnList)) in
+      let parted = choose spot.place (o.Split by) (truth tables functions b (plain o.End done)) done (plain o.Resume (k OnList)) in
       let branched = choose nowhere (o.Branch onward) (truth tables functions b done) (plain (o.Push other) done) (k OnList) in
       value_is a good_a (if here.splits then parted else agreed here.sync branched)
       (either here.splits parted (agreed here.sync branched)
-      (fork (o.Divide by) refl (truths b good_b (plain o.End done) part_ends) ended (goes refl (p OnList tt)))
+      (fork (o.Split by) refl (truths b good_b (plain o.End done) part_ends) ended (goes refl (p OnList tt)))
       (agrees here.sync branched
       (fork (o.Branch onward) refl (truths b good_b done ended) (goes refl ended) (p OnList tt))))
 
   chooses : (spot : Spot) (c : Stands) → Good c → (a : Stands) → Good a → (b : Stands) → Good b → Good (chosen tables functions spot c a b)
   chooses spot c good_c a good_a b good_b k p =
       let here = note tables spot.at in
-      let parted = choose spot.place (o.Divide IfElse) (value_of tables functions a (plain o.End done)) (value_of tables functions b (plain o.End done)) (plain o.Resume (k OnList)) in
+      let parted = choose spot.place (o.Split IfElse) (value_of tables functions a (plain o.End done)) (value_of tables functions b (plain o.End done)) (plain o.Resume (k OnList)) in
       let branched = choose nowhere (o.Branch true) (value_of tables functions a done) (value_of tables functions b done) (k OnList) in
       value_is c good_c (if here.splits then parted else agreed here.sync branched)
       (either here.splits parted (agreed here.sync branched)
-      (fork (o.Divide IfElse) refl (value_is a good_a (plain o.End done) part_ends) (value_is b good_b (plain o.End done) part_ends) (goes refl (p OnList tt)))
+      (fork (o.Split IfElse) refl (value_is a good_a (plain o.End done) part_ends) (value_is b good_b (plain o.End done) part_ends) (goes refl (p OnList tt)))
       (agrees here.sync branched
       (fork (o.Branch true) refl (value_is a good_a done ended) (value_is b good_b done ended) (p OnList tt))))
 

@@ -9,8 +9,8 @@ use Rattle.fk_meaning_forms.specs.Statements.{is_nothing}
 use Rattle.fk_meaning_forms.specs.Program.{functions_of, binding_of, signature_of, signature_in, is_main, code_of, body_in}
 use Rattle.fk_layout.specs.Frames.{file_privates, values_of, nesting_of}
 use Rattle.fk_core_flat.specs.Shape.{IsShaped}
-use Rattle.fk_core_liveness.specs.declared.places.Place.{Place}
-use Rattle.fk_core_liveness.specs.declared.places.Place.TheVariants.{Main, Called}
+use Rattle.fk_core_liveness.specs.declared.places.FunctionKind.{FunctionKind}
+use Rattle.fk_core_liveness.specs.declared.places.FunctionKind.TheVariants.{Main, Called}
 use Rattle.fk_compile_text.specs.Built.{operations, operations_in}
 use Rattle.fk_core_typing.specs.Values.{State}
 use Rattle.fk_core_typing.specs.Typed.{Typed}
@@ -64,7 +64,7 @@ module _ (tables : Tables) (items : List ItemTree) where
       by false more = more
 
   module _ (has_body : ℕ → Bool) where
-    abbrev places' : (binding : ℕ) → Place
+    abbrev places' : (binding : ℕ) → FunctionKind
     places' b = place_in tables everyone b
 
     function_few : (f : FunctionTree) (first : ℕ) (l : Option State) (s e : State) → IsShaped has_body false (numbered first (code_of tables everyone f))

@@ -6,7 +6,7 @@ use Rattle.fk_layout_sizes.specs.Places.{At, behind_operation, behind_call, behi
 use Rattle.fk_core_typing.specs.LocalDepths.{leaves}
 use Rattle.fk_meaning_forms.specs.Code.{Code, done, perform, choose, while, until, turn, again, quit, break, continue, call, ends, size, numbered}
 use Rattle.fk_meaning_forms.specs.Expressions.{Coded, Signature}
-use Rattle.fk_core_liveness.specs.declared.places.Place.{Place}
+use Rattle.fk_core_liveness.specs.declared.places.FunctionKind.{FunctionKind}
 use Rattle.fk_lower_text.specs.Depths.{depths_from, IsStraight, HasOpenings}
 use Rattle.fk_lower_text.proofs.Deep.{many}
 use Rattle.fk_core_typing.specs.Heights.{raised, HasHeights}
@@ -53,7 +53,7 @@ leaves_on op = grind arith
 rises : (op : Operation) (p : At) {h : ℕ} → h ≡ p.values → raised h op true ≡ (behind_operation p op).values
 rises op p same = ap (λ k. raised k op true) same ∙ ap (λ k. p.values - takes op + k) (leaves_on op)
 
-module _ (functions : (binding : ℕ) → Signature) (place_of : (binding : ℕ) → Place) (depth : (site : ℕ) → ℕ) where
+module _ (functions : (binding : ℕ) → Signature) (place_of : (binding : ℕ) → FunctionKind) (depth : (site : ℕ) → ℕ) where
   abbrev all : At → Coded → List ℕ
   all p code = depths_from functions p code
 

@@ -15,11 +15,11 @@ use Rattle.fk_meaning_operation.specs.declared.operation.Operation.{Operation}
 use Rattle.fk_meaning_operation.specs.declared.operation.Operation.TheVariants as o
 use Rattle.fk_meaning_operation.specs.declared.operation.Variable.{Variable}
 use Rattle.fk_meaning_operation.specs.declared.operation.Variable.TheVariants as v
-use Rattle.fk_meaning_operation.specs.declared.operation.Known.TheVariants as n
+use Rattle.fk_meaning_operation.specs.declared.operation.OwnValue.TheVariants as n
 use Rattle.fk_meaning_operation.specs.declared.operation.Multiprefix.{Multiprefix}
 use Rattle.fk_meaning_operation.specs.declared.operation.Multiprefix.TheVariants.{MpAdd, MpMax, MpAnd, MpOr}
-use Rattle.fk_meaning_operation.specs.declared.operation.Split.{Split}
-use Rattle.fk_meaning_operation.specs.declared.operation.Split.TheVariants.{AndThen, OrElse}
+use Rattle.fk_meaning_operation.specs.declared.operation.SplitKind.{SplitKind}
+use Rattle.fk_meaning_operation.specs.declared.operation.SplitKind.TheVariants.{AndThen, OrElse}
 use Rattle.fk_meaning_forms.specs.declared.tables.Home.{Home}
 use Rattle.fk_meaning_forms.specs.declared.tables.Home.TheVariants as h
 use Rattle.fk_meaning_forms.specs.declared.tables.Region.{Region}
@@ -233,7 +233,7 @@ module _ (tables : Tables) (functions : (binding : ℕ) → Signature) (room : H
   truth_whole : (e : Stands) → Keeps e → (rest : Coded) → IsWhole rest → IsWhole (x.truth tables functions e rest)
   truth_whole e h rest r = value_of_whole e h _ (refl, (refl, r))
 
-  logical_whole : (spot : Spot) (split : Split) (onward : Bool) (other : ℕ) (a b : Stands) (k : Standing → Coded) → other < 2 ^ 32 → Keeps a → Keeps b → IsWhole (k OnList)
+  logical_whole : (spot : Spot) (split : SplitKind) (onward : Bool) (other : ℕ) (a b : Stands) (k : Standing → Coded) → other < 2 ^ 32 → Keeps a → Keeps b → IsWhole (k OnList)
       → IsWhole (x.logical tables functions spot split onward other a b k)
   logical_whole spot split onward other a b k o' h j r =
       value_of_whole a h _ (either_whole (note tables spot.at).splits _ _

@@ -5,7 +5,7 @@ use Rattle.fk_meaning_forms.specs.Code.{sites}
 use Rattle.fk_meaning_forms.specs.Tables.{Tables}
 use Rattle.fk_meaning_forms.specs.Program.{functions_of, sites_in}
 use Rattle.fk_meaning_forms.proofs.Ranks.{counted}
-use Rattle.fk_layout_walk.specs.declared.known.Known.{Known}
+use Rattle.fk_layout_walk.specs.declared.known.ProgramTables.{ProgramTables}
 use Rattle.fk_layout_walk.specs.Known.{tables_of}
 use Rattle.fk_layout_walk_statements.specs.Texts.{functions_in, code_in}
 use Rattle.fk_lower_text.specs.Laid.{sizes}
@@ -14,7 +14,7 @@ use Rattle.fk_lower_laws.specs.LoweringLaws.{TextsCanBeLaid}
 use Rattle.fk_lower_laws.proofs.Bindings.{bindings_go_up}
 
 -- a text has as many operations as sites
-as_many : (known : Known) (fs : List FunctionTree) → sizes known fs ≡ length (sites_in (tables_of known) (functions_in known) fs)
+as_many : (known : ProgramTables) (fs : List FunctionTree) → sizes known fs ≡ length (sites_in (tables_of known) (functions_in known) fs)
 as_many known [] = refl
 as_many known (f ∷ fs) =
     omega (arith, counted (code_in known f), as_many known fs, length-append (sites (code_in known f)) (sites_in (tables_of known) (functions_in known) fs))

@@ -10,7 +10,7 @@ use Rattle.fk_layout_globals.specs.Rows.{first_of}
 use Rattle.fk_layout_globals.specs.Variables.{variables_of}
 use Rattle.fk_layout.specs.Frames.{file_privates}
 use Rattle.fk_layout.specs.Layout.{tables_by}
-use Rattle.fk_core_liveness.specs.declared.places.Place.TheVariants.{Main}
+use Rattle.fk_core_liveness.specs.declared.places.FunctionKind.TheVariants.{Main}
 use Rattle.fk_core_flat.specs.Laws.{IsFlat}
 use Rattle.fk_core_liveness.specs.Live.{words_in}
 use Rattle.fk_core_typing.proofs.Enough.{knowledge_is_enough}
@@ -24,7 +24,7 @@ use Rattle.fk_lower_laws.proofs.Free.{typed_list, lists_are_plain, lists_go_on_w
 use Rattle.fk_lower_laws.proofs.Suiting.{live_words_suit}
 use Rattle.fk_lower_laws.proofs.Room.{correct_programs_have_room}
 use Rattle.fk_core.specs.declared.op.CoreOp.{CoreOp}
-use Rattle.fk_layout_walk.specs.declared.known.Known.{Known}
+use Rattle.fk_layout_walk.specs.declared.known.ProgramTables.{ProgramTables}
 use Rattle.fk_layout_walk_statements.specs.Texts.{functions_in}
 use Rattle.fk_syntax.specs.declared.facts.Facts.{Facts}
 use Rattle.fk_syntax.specs.Program.{ProgramTree}
@@ -95,7 +95,7 @@ correct_lists_have_frames program facts valid trim proper fits plain core entry 
       keeps = λ index word held. held;
     }
 
-module _ (program : ProgramTree) (facts : Facts) (known : Known) (of : IsKnownOf program facts known) (valid : IsCorrect program facts) (trim : ProgramIsTrim program)
+module _ (program : ProgramTree) (facts : Facts) (known : ProgramTables) (of : IsKnownOf program facts known) (valid : IsCorrect program facts) (trim : ProgramIsTrim program)
     (proper : ProgramIsProper program) (fits : Fits (tables_by program facts) program.items) (plain : ArePlain (tables_by program facts) program) where
   -- the depths that are told of the text are those of its code
   tall : (core : List CoreOp) → AreTold (depths_of known (functions_in known)) core

@@ -9,8 +9,8 @@ use Rattle.fk_layout_sizes.specs.Places.{At, behind_operation, behind_call, behi
 use Rattle.fk_core_typing.specs.LocalDepths.{results, leaves}
 use Rattle.fk_meaning_forms.specs.Code.{done, perform, choose, while, until, turn, again, quit, break, continue, call, ends, size, numbered}
 use Rattle.fk_meaning_forms.specs.Expressions.{Coded, Signature}
-use Rattle.fk_core_liveness.specs.declared.places.Place.{Place}
-use Rattle.fk_core_liveness.specs.declared.places.Place.TheVariants.{Called}
+use Rattle.fk_core_liveness.specs.declared.places.FunctionKind.{FunctionKind}
+use Rattle.fk_core_liveness.specs.declared.places.FunctionKind.TheVariants.{Called}
 use Rattle.fk_core_flat.specs.Items.{into, way_of}
 use Rattle.fk_core_flat.specs.Shape.{IsShaped}
 use Rattle.fk_compile_text.specs.Plain.{is_plain}
@@ -25,7 +25,7 @@ use Rattle.fk_lower_laws.proofs.Parts.{three_of, four_of}
 
 -- an operation that is plain leaves as many values on both ways
 leaves_so : (op : Operation) (onward : Bool) → is_plain op ≡ true → leaves op onward ≡ pushes op
-leaves_so (o.Divide by) onward e = absurd (true≢false (sym e))
+leaves_so (o.Split by) onward e = absurd (true≢false (sym e))
 leaves_so op onward e = refl
 
 -- so many values are at each of these places
@@ -42,7 +42,7 @@ pushes_none (o.Push number) e = absurd (cc)
 pushes_none (o.Get known) e = absurd (cc)
 pushes_none o.CopyLast e = absurd (cc)
 pushes_none (o.Apply sign) e = absurd (cc)
-pushes_none (o.Join sign turned) e = absurd (cc)
+pushes_none (o.Binary sign turned) e = absurd (cc)
 pushes_none (o.Index bytes) e = absurd (cc)
 pushes_none o.Take e = absurd (cc)
 pushes_none o.Read e = absurd (cc)
@@ -52,7 +52,7 @@ pushes_none o.Heap e = absurd (cc)
 pushes_none o.Block e = absurd (cc)
 pushes_none op e = refl
 
-module _ (functions : (binding : ℕ) → Signature) (place_of : (binding : ℕ) → Place) where
+module _ (functions : (binding : ℕ) → Signature) (place_of : (binding : ℕ) → FunctionKind) where
   -- code of operations that are plain, whose calls give what is told of the functions
   abbrev pub Counted : Coded → Type 0
   Counted done = Unit {0}

@@ -6,7 +6,7 @@ use Rattle.fk_syntax.specs.Program.{FunctionTree}
 use Rattle.fk_meaning_forms.specs.Tables.{Tables}
 use Rattle.fk_meaning_forms.specs.Statements.{is_nothing}
 use Rattle.fk_meaning_forms.specs.Program.{functions_of, binding_of, is_main, main_in, main_of}
-use Rattle.fk_core_liveness.specs.declared.places.Place.TheVariants.{Main, Called}
+use Rattle.fk_core_liveness.specs.declared.places.FunctionKind.TheVariants.{Main, Called}
 use Rattle.fk_lower_laws.specs.Asked.{place_by, place_in}
 use Rattle.fk_lower_laws.specs.TypedLaws.{HasMain, IsMainAlone, MainHasItsPlace}
 

@@ -9,8 +9,8 @@ use Rattle.fk_types_names.specs.Outline.{MarkTree, Closes, tree_marks, optional_
 use Rattle.fk_meaning_operation.specs.declared.operation.Operation.{Operation}
 use Rattle.fk_meaning_operation.specs.declared.operation.Operation.TheVariants as o
 use Rattle.fk_meaning_operation.specs.declared.operation.Variable.TheVariants as v
-use Rattle.fk_meaning_operation.specs.declared.operation.Known.TheVariants as n
-use Rattle.fk_meaning_operation.specs.declared.operation.Split.TheVariants.{IfAlone, IfElse, Loop, Fork}
+use Rattle.fk_meaning_operation.specs.declared.operation.OwnValue.TheVariants as n
+use Rattle.fk_meaning_operation.specs.declared.operation.SplitKind.TheVariants.{IfAlone, IfElse, Loop, Fork}
 use Rattle.fk_meaning_forms.specs.declared.tables.Home.{Home}
 use Rattle.fk_meaning_forms.specs.declared.tables.Home.TheVariants as h
 use Rattle.fk_meaning_forms.specs.Code as c
@@ -122,8 +122,8 @@ module _ (tables : Tables) (functions : (binding : ℕ) → Signature) (has_body
   loops : (spot : Spot) (f : Coded → Coded) → Keeps f → Keeps (looping tables functions spot f)
   loops spot f runs rest q =
       any (note tables spot.at).splits
-      (choose spot.place (o.Divide Loop) (part_frame tables functions spot 0 (f done)) done (plain o.Resume rest)) (f rest)
-      (branch (freely firsts words (o.Divide Loop) refl) (framed_part spot 0 (f done) (runs done ended)) ended (does refl q))
+      (choose spot.place (o.Split Loop) (part_frame tables functions spot 0 (f done)) done (plain o.Resume rest)) (f rest)
+      (branch (freely firsts words (o.Split Loop) refl) (framed_part spot 0 (f done) (runs done ended)) ended (does refl q))
       (runs rest q)
 
   -- a body that ends its part
@@ -154,11 +154,11 @@ module _ (tables : Tables) (functions : (binding : ℕ) → Signature) (has_body
         let ms = two_of Is (tree_marks condition) (scope (statement_marks first)) asks in
         let body = executed tables functions i first in
         let runs = statement i l first fits.1 (inside (statement_marks first) ms.1) in
-        let parted = choose spot.place (o.Divide IfAlone) (part_frame tables functions spot 0 (body (plain o.End done))) done (plain o.Resume rest) in
+        let parted = choose spot.place (o.Split IfAlone) (part_frame tables functions spot 0 (body (plain o.End done))) done (plain o.Resume rest) in
         let branched = choose nowhere (o.Branch true) (body done) done rest in
         values condition fits.0 ms.0 (if here.splits then parted else agreed here.sync branched)
         (any here.splits parted (agreed here.sync branched)
-        (branch (freely firsts words (o.Divide IfAlone) refl) (parts spot 0 body runs) ended (does refl q))
+        (branch (freely firsts words (o.Split IfAlone) refl) (parts spot 0 body runs) ended (does refl q))
         (agreeing here.sync branched (branch (freely firsts words (o.Branch true) refl) (runs done ended) ended q)))
     statement i l (m.IfElse spot condition first second') fits asks rest q =
         let here = note tables spot.at in
@@ -167,11 +167,11 @@ module _ (tables : Tables) (functions : (binding : ℕ) → Signature) (has_body
         let y = executed tables functions i second' in
         let runs_x = statement i l first fits.1 (inside (statement_marks first) ms.1) in
         let runs_y = statement i l second' fits.2 (inside (statement_marks second') ms.2) in
-        let parted = choose spot.place (o.Divide IfElse) (part_frame tables functions spot 0 (x (plain o.End done))) (part_frame tables functions spot 1 (y (plain o.End done))) (plain o.Resume rest) in
+        let parted = choose spot.place (o.Split IfElse) (part_frame tables functions spot 0 (x (plain o.End done))) (part_frame tables functions spot 1 (y (plain o.End done))) (plain o.Resume rest) in
         let branched = choose nowhere (o.Branch true) (x done) (y done) rest in
         values condition fits.0 ms.0 (if here.splits then parted else agreed here.sync branched)
         (any here.splits parted (agreed here.sync branched)
-        (branch (freely firsts words (o.Divide IfElse) refl) (parts spot 0 x runs_x) (parts spot 1 y runs_y) (does refl q))
+        (branch (freely firsts words (o.Split IfElse) refl) (parts spot 0 x runs_x) (parts spot 1 y runs_y) (does refl q))
         (agreeing here.sync branched (branch (freely firsts words (o.Branch true) refl) (runs_x done ended) (runs_y done ended) q)))
     statement i l (m.While spot condition body) fits asks rest q =
         let ms = two_of Is (tree_marks condition) (scope (statement_marks body)) asks in
@@ -200,12 +200,12 @@ module _ (tables : Tables) (functions : (binding : ℕ) → Signature) (has_body
     statement i l (m.Fork spot k number rank body) fits asks rest q =
         let ms = four_of Is (tree_marks k) (tree_marks number) (optional_marks rank) (scope (statement_marks body)) asks in
         let run = executed tables functions i body in
-        let split = choose spot.place (o.Divide Fork) (part_frame tables functions spot 0 (run (plain o.End done))) done (plain o.Resume rest) in
+        let split = choose spot.place (o.Split Fork) (part_frame tables functions spot 0 (run (plain o.End done))) done (plain o.Resume rest) in
         let ranked = value_or tables functions (plain (o.Get n.Rank)) rank split in
         values k fits.0 ms.0 (plain o.Agree (value tables functions number ranked)) (does refl
         (values number fits.1 ms.1 ranked
         (given_or (plain (o.Get n.Rank)) (λ rest' q'. does refl q') rank fits.2 ms.2 split
-        (branch (freely firsts words (o.Divide Fork) refl) (parts spot 0 run (statement i l body fits.3 (inside (statement_marks body) ms.3))) ended (does refl q)))))
+        (branch (freely firsts words (o.Split Fork) refl) (parts spot 0 run (statement i l body fits.3 (inside (statement_marks body) ms.3))) ended (does refl q)))))
     statement i l (m.Farm spot body) fits asks rest q =
         branch (freely firsts words o.Farm refl) (statement i l body fits (inside (statement_marks body) asks) done ended) ended (does refl q)
     statement i l (m.Seq spot body) fits asks rest q =

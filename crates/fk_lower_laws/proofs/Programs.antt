@@ -14,7 +14,7 @@ use Rattle.fk_layout_slots.specs.Slots.{item_slots, behind_item}
 use Rattle.fk_layout.specs.Layout.{told_by, tables_by}
 use Rattle.fk_meaning_forms.specs.Statements.{is_nothing}
 use Rattle.fk_meaning_forms.specs.Program.{functions_of, with_body, binding_of, is_main, main_in, main_of}
-use Rattle.fk_core_liveness.specs.declared.places.Place.TheVariants.{Main, Called}
+use Rattle.fk_core_liveness.specs.declared.places.FunctionKind.TheVariants.{Main, Called}
 use Rattle.fk_parse_laws.specs.Trim.{BodyIsTrim, ItemsAreTrim}
 use Rattle.fk_core_flat.specs.Fitting as fit
 use Rattle.fk_core_flat.specs.Fitting.{is_defined, FunctionsFit}

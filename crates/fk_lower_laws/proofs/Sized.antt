@@ -5,8 +5,8 @@ use Rattle.fk_meaning_operation.specs.declared.operation.Operation.{Operation}
 use Rattle.fk_meaning_operation.specs.declared.operation.Operation.TheVariants as o
 use Rattle.fk_layout_sizes.specs.Operations.{takes}
 use Rattle.fk_meaning_forms.specs.Code.{Code, done, perform, choose, while, until, turn, again, quit, break, continue, call, ends}
-use Rattle.fk_core_liveness.specs.declared.places.Place.{Place}
-use Rattle.fk_core_liveness.specs.declared.places.Place.TheVariants.{Called}
+use Rattle.fk_core_liveness.specs.declared.places.FunctionKind.{FunctionKind}
+use Rattle.fk_core_liveness.specs.declared.places.FunctionKind.TheVariants.{Called}
 use Rattle.fk_core_flat.specs.Items as w
 use Rattle.fk_core_flat.specs.Items.{Way, way_of}
 use Rattle.fk_core_flat.specs.Shape.{is_done, IsShaped}
@@ -50,7 +50,7 @@ pub record MaySized (firsts : ℕ) (op : Operation) (s : Sized) : Type 0 where
   pub low : length s.state.values ≤ s.most
   pub roomy : IsRoomy op s
 
-module _ (firsts : ℕ) (place_of : ℕ → Place) (words most : ℕ → ℕ) where
+module _ (firsts : ℕ) (place_of : ℕ → FunctionKind) (words most : ℕ → ℕ) where
   pub record CallsSized (op : Operation) (f : ℕ) (gives : Bool) (opening : Code ℕ) : Type 0 where
     pub place : place_of f ≡ Called gives
     pub direct : is_done opening ≡ true
@@ -144,7 +144,7 @@ module _ (firsts : ℕ) (place_of : ℕ → Place) (words most : ℕ → ℕ) wh
     looped None (Some both) s is g = absurd is
     looped (Some round) None s is g = absurd is
 
-    abbrev Room : Place → Type 0
+    abbrev Room : FunctionKind → Type 0
     Room place = ahead_in firsts place + 8 + W + M ≤ 64
 
     roomy : (op : Operation) (s : State) (way : Way) → way_of op ≡ way → (way ≡ w.into → ⊥) → length (behind op true s).values ≤ M → IsRoomy op (sized s W M)

@@ -246,7 +246,7 @@ module _ (structs : List StructTree) where
   one_size type m n h k = one-type (all_types structs) type m n h k
 
   -- what stands before one of several, and the words of that one
-  record Split (sizes : Sizes) (types : List (Option DataType)) (place : ℕ) (type : DataType) (w : ℕ) : Type 0 where
+  record SplitKind (sizes : Sizes) (types : List (Option DataType)) (place : ℕ) (type : DataType) (w : ℕ) : Type 0 where
     before : ℕ
     own : ℕ
     lies : total_words sizes (take place types) ≡ Some before
@@ -259,7 +259,7 @@ module _ (structs : List StructTree) where
   sum_of (Some a) (Some b) w e = (a, b, refl, refl, same_Some (a + b) w e)
 
   split : (sizes : Sizes) (types : List (Option DataType)) (place : ℕ) (type : DataType) (w : ℕ) → total_words sizes types ≡ Some w → slice_get types place ≡ Some (Some type)
-      → Split sizes types place type w
+      → SplitKind sizes types place type w
   split sizes [] place type w total at = absurd (cc)
   split sizes (x ∷ types) zero type w total at =
       let s = sum_of (option_and_then (type_words sizes) x) (total_words sizes types) w total in

@@ -37,8 +37,8 @@ use Rattle.fk_meaning_forms.specs.Tables.{slot, is_void}
 use Rattle.fk_meaning_forms.specs.Expressions.{token}
 use Rattle.fk_meaning_forms.specs.Statements.{is_nothing, is_scalar}
 use Rattle.fk_meaning_forms.specs.Program.{functions_of}
-use Rattle.fk_core_liveness.specs.declared.places.Place.{Place}
-use Rattle.fk_core_liveness.specs.declared.places.Place.TheVariants.{Main, Called}
+use Rattle.fk_core_liveness.specs.declared.places.FunctionKind.{FunctionKind}
+use Rattle.fk_core_liveness.specs.declared.places.FunctionKind.TheVariants.{Main, Called}
 use Rattle.fk_lockstep.specs.Told.{Told}
 use Rattle.fk_parse_laws.specs.Trim.{IsTrim, OptionIsTrim, VariablesAreTrim, StatementIsTrim, StatementsAreTrim}
 use Rattle.fk_core_flat.specs.Fitting.{is_defined, StatementFits, StatementsFit}
@@ -93,7 +93,7 @@ void_is_nothing t.Void stars e = eq-eqb stars 0 e.1
 void_is_nothing (t.Struct name) stars e = absurd (cc)
 
 -- the function of a place has such a result
-abbrev pub IsPlaceOf : Place → TypeTree → Type 0
+abbrev pub IsPlaceOf : FunctionKind → TypeTree → Type 0
 IsPlaceOf Main result = Unit {0}
 IsPlaceOf (Called gives') result = gives' ≡ not (is_nothing result)
 
@@ -186,7 +186,7 @@ module _ (program : ProgramTree) (facts : Facts) (given : IsGiven program facts)
 
     -- ---- returns
 
-    returned : (place : Place) (result : TypeTree) → IsPlaceOf place result → (spot : Spot) (e : Option Tree) → OptionIsTrim e → Each Kept (s.optional_tokens thing around e) → Each S (optional_marks e)
+    returned : (place : FunctionKind) (result : TypeTree) → IsPlaceOf place result → (spot : Spot) (e : Option Tree) → OptionIsTrim e → Each Kept (s.optional_tokens thing around e) → Each S (optional_marks e)
         → IsOne (q.Return result spot e) → ReturnAsked tables functions places place e
     returned Main result of spot None trim k m one = tt
     returned Main result of spot (Some e) trim k m one =
@@ -260,7 +260,7 @@ module _ (program : ProgramTree) (facts : Facts) (given : IsGiven program facts)
   abbrev Fits' : Bool → Statement → Type 0
   Fits' l st = StatementFits tables functions (is_defined tables (functions_of program.items)) l st
 
-  module _ (place : Place) (result : TypeTree) (of : IsPlaceOf place result) where
+  module _ (place : FunctionKind) (result : TypeTree) (of : IsPlaceOf place result) where
     abbrev Good : Bool → Statement → Type 0
     Good l st = StatementAsked tables functions places place l st
 

@@ -4,15 +4,15 @@ use Rattle.std.specs.Prelude.{◌&&◌, not, nat_lt, ◌⊎◌, if◌then◌else
 use Rattle.std.proofs.lemmas.Bool.{ltb-true, lt-ltb, eqb-true, and_parts}
 use Rattle.fk_meaning_operation.specs.declared.operation.Operation.{Operation}
 use Rattle.fk_meaning_operation.specs.declared.operation.Operation.TheVariants as o
-use Rattle.fk_meaning_operation.specs.declared.operation.Known.{Known}
-use Rattle.fk_meaning_operation.specs.declared.operation.Known.TheVariants as n
+use Rattle.fk_meaning_operation.specs.declared.operation.OwnValue.{OwnValue}
+use Rattle.fk_meaning_operation.specs.declared.operation.OwnValue.TheVariants as n
 use Rattle.fk_meaning_operation.specs.declared.operation.Variable.TheVariants as v
 use Rattle.fk_meaning_forms.specs.Code.{Code}
 use Rattle.fk_core.specs.declared.op.CoreOp.{CoreOp}
 use Rattle.fk_core.specs.Numbers.{operation_of}
 use Rattle.fk_core.specs.Next.{is_jump, behind_jump, follows}
-use Rattle.fk_core_liveness.specs.declared.places.Place.{Place}
-use Rattle.fk_core_liveness.specs.declared.places.Place.TheVariants.{Main, Called}
+use Rattle.fk_core_liveness.specs.declared.places.FunctionKind.{FunctionKind}
+use Rattle.fk_core_liveness.specs.declared.places.FunctionKind.TheVariants.{Main, Called}
 use Rattle.fk_core_liveness.specs.Frames.{is_main_place}
 use Rattle.fk_core_liveness.specs.Live.{reads, kept_behind, asked_by, asked_of, IsLive, IsLeast}
 use Rattle.fk_core_liveness.proofs.Asked.{split_or}
@@ -40,7 +40,7 @@ use Rattle.fk_lower_laws.specs.Suiting.{LiveWordsSuit}
 use Rattle.fk_lower_laws.proofs.Sized.{Sized, sized, sizing, sizing_lawful, all_sized}
 use Rattle.fk_lower_laws.proofs.Living.{behind_either, kept_before, read_before, jump_before}
 
-module _ (bodies : ℕ → Code ℕ) (core : List CoreOp) (entry : ℕ → ℕ) (place_of : ℕ → Place) (firsts : ℕ)
+module _ (bodies : ℕ → Code ℕ) (core : List CoreOp) (entry : ℕ → ℕ) (place_of : ℕ → FunctionKind) (firsts : ℕ)
     (typed : IsTypedList bodies core entry place_of) (tall : HasHeightsOf bodies core place_of) (fit : HaveRoom bodies place_of firsts) where
   abbrev sys : System
   sys = sizing firsts place_of fit.words fit.most
@@ -167,7 +167,7 @@ module _ (bodies : ℕ → Code ℕ) (core : List CoreOp) (entry : ℕ → ℕ) 
     abbrev frames : Frames
     frames = record { keeps = keeps; is_main = λ index. is_main_place (at index).state.place; of_file = firsts }
 
-    ahead_is : (place : Place) → ahead frames (is_main_place place) ≡ ahead_in firsts place
+    ahead_is : (place : FunctionKind) → ahead frames (is_main_place place) ≡ ahead_in firsts place
     ahead_is Main = refl
     ahead_is (Called gives) = refl
 
@@ -198,7 +198,7 @@ module _ (bodies : ℕ → Code ℕ) (core : List CoreOp) (entry : ℕ → ℕ) 
     grown : (op : Operation) (i : ℕ) → length (behind op true (at i).state).values ≤ (at i).most → raised (count i) op true ≤ (at i).most
     grown op i a = let e = rises op true (at i).state in omega (arith, e, a)
 
-    there : (known : Known) (i : ℕ) (op : CoreOp) → StandsOp core i op (o.Get known) → HasWord firsts (at i).words (o.Get known)
+    there : (known : OwnValue) (i : ℕ) (op : CoreOp) → StandsOp core i op (o.Get known) → HasWord firsts (at i).words (o.Get known)
         → ahead_in firsts (at i).state.place + 8 + (at i).words + (at i).most ≤ 64 → b.IsThere core frames known i
     there (n.Value (v.Private word)) i op stands h room =
         let low : word < (at i).words = h in read_before core keeps live i op word stands (omega (arith, low, room))

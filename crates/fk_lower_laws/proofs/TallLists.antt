@@ -9,12 +9,12 @@ use Rattle.fk_meaning_forms.specs.Code.{Code, size, numbered}
 use Rattle.fk_meaning_forms.specs.Expressions.{Coded}
 use Rattle.fk_meaning_forms.specs.Tables.{Tables}
 use Rattle.fk_meaning_forms.specs.Program.{binding_of, signature_in, code_of, body_in, bodies_of}
-use Rattle.fk_layout_walk.specs.declared.known.Known.{Known}
+use Rattle.fk_layout_walk.specs.declared.known.ProgramTables.{ProgramTables}
 use Rattle.fk_layout_walk.specs.Known.{tables_of, items_in}
 use Rattle.fk_layout_walk_statements.specs.Texts.{functions_in}
 use Rattle.fk_core.specs.declared.op.CoreOp.{CoreOp}
 use Rattle.fk_core_flat.specs.Shape.{is_closed, IsShaped}
-use Rattle.fk_core_liveness.specs.declared.places.Place.{Place}
+use Rattle.fk_core_liveness.specs.declared.places.FunctionKind.{FunctionKind}
 use Rattle.fk_lower.specs.Depths.{depth_at, AreTold}
 use Rattle.fk_lower_text.specs.Depths.{depths_from, depths_of}
 use Rattle.fk_lower_text.proofs.Deep.{many}
@@ -55,14 +55,14 @@ at_index P [] all i op e = cc
 at_index P (x ∷ core) all zero op e = let same : x ≡ op = cc in subst P same (all 0 x (omega arith))
 at_index P (x ∷ core) all (suc i) op e = at_index P core (λ k d h. all (suc k) d (omega (arith, h))) i op e
 
-module _ (known : Known) (has_body : ℕ → Bool) where
+module _ (known : ProgramTables) (has_body : ℕ → Bool) where
   abbrev tables : Tables
   tables = tables_of known
 
   abbrev everyone : List FunctionTree
   everyone = functions_in known
 
-  abbrev places : (binding : ℕ) → Place
+  abbrev places : (binding : ℕ) → FunctionKind
   places b = place_in tables everyone b
 
   function_tall : (depth : ℕ → ℕ) (f : FunctionTree) (site : ℕ) (l : Option State) (s e : State)
@@ -106,7 +106,7 @@ module _ (known : Known) (has_body : ℕ → Bool) where
           function_tall depth f site l s e (front is_plain (operations (code f)) (operations_in tables everyone fs) all) shaped' typed' parts.0
       by false more shaped' typed' = more shaped' typed'
 
-abbrev Holds : Known → List CoreOp → ProgramTree → Type 0
+abbrev Holds : ProgramTables → List CoreOp → ProgramTree → Type 0
 Holds known core program =
     ProgramFits (tables_of known) program → ArePlain (tables_of known) program
     → AreTyped (place_of (tables_of known) program) (bodies_of (tables_of known) program)
@@ -114,7 +114,7 @@ Holds known core program =
     → HasHeightsOf (bodies_of (tables_of known) program) core (place_of (tables_of known) program)
 
 -- of a program that has the very items
-own_heights : (known : Known) (program : ProgramTree) (core : List CoreOp) → Holds known core (record program { items = items_in known })
+own_heights : (known : ProgramTables) (program : ProgramTree) (core : List CoreOp) → Holds known core (record program { items = items_in known })
 own_heights known program core fits all typed told =
     let own : ProgramTree = record program { items = items_in known } in
     let depths = depths_of known (functions_in known) in

@@ -13,7 +13,7 @@ use Rattle.fk_layout_globals.specs.Variables.{variables_of}
 use Rattle.fk_layout_slots.specs.Slots.{own_of}
 use Rattle.fk_layout.specs.Frames.{told_in, file_privates, values_of, nesting_of, private_words}
 use Rattle.fk_layout.specs.Layout.{tables_by}
-use Rattle.fk_layout_walk.specs.declared.known.Known.{Known}
+use Rattle.fk_layout_walk.specs.declared.known.ProgramTables.{ProgramTables}
 use Rattle.fk_layout_walk.specs.Known.{tables_of}
 use Rattle.fk_layout_walk_statements.specs.Texts.{functions_in, code_in}
 use Rattle.fk_core_flat.specs.Shape.{is_closed, IsShaped}
@@ -64,7 +64,7 @@ record AreFine (firsts : ℕ) (words : ℕ → ℕ) (has_body : ℕ → Bool) (t
   named : (b : ℕ) → HasWords firsts (words b) (body_in tables everyone site fs b)
   shaped : (b : ℕ) → IsShaped has_body false (body_in tables everyone site fs b)
 
-module _ (firsts : ℕ) (words : ℕ → ℕ) (has_body : ℕ → Bool) (few_firsts : firsts ≤ 56) (few_words : (b : ℕ) → words b ≤ 56) (known : Known) where
+module _ (firsts : ℕ) (words : ℕ → ℕ) (has_body : ℕ → Bool) (few_firsts : firsts ≤ 56) (few_words : (b : ℕ) → words b ≤ 56) (known : ProgramTables) where
   abbrev binding : FunctionTree → ℕ
   binding f = binding_of (tables_of known) f
 

@@ -13,12 +13,12 @@ use Rattle.fk_syntax.specs.Tree.{Named, Tree, Links, Trees, Suffixes}
 use Rattle.fk_syntax.specs.Program.{DeclaredTree}
 use Rattle.fk_meaning_operation.specs.declared.operation.Operation.TheVariants as o
 use Rattle.fk_meaning_operation.specs.declared.operation.Variable.TheVariants as v
-use Rattle.fk_meaning_operation.specs.declared.operation.Known.TheVariants as n
+use Rattle.fk_meaning_operation.specs.declared.operation.OwnValue.TheVariants as n
 use Rattle.fk_meaning_operation.specs.declared.operation.Unary.TheVariants as u
 use Rattle.fk_meaning_operation.specs.declared.operation.Multiprefix.{Multiprefix}
 use Rattle.fk_meaning_operation.specs.declared.operation.Multiprefix.TheVariants.{MpAdd, MpMax, MpAnd, MpOr}
-use Rattle.fk_meaning_operation.specs.declared.operation.Split.{Split}
-use Rattle.fk_meaning_operation.specs.declared.operation.Split.TheVariants.{IfElse, AndThen, OrElse}
+use Rattle.fk_meaning_operation.specs.declared.operation.SplitKind.{SplitKind}
+use Rattle.fk_meaning_operation.specs.declared.operation.SplitKind.TheVariants.{IfElse, AndThen, OrElse}
 use Rattle.fk_meaning_forms.specs.declared.tables.Home.{Home}
 use Rattle.fk_meaning_forms.specs.declared.tables.Home.TheVariants as h
 use Rattle.fk_meaning_forms.specs.declared.tables.Region.{Region}
@@ -30,8 +30,8 @@ use Rattle.fk_meaning_forms.specs.Signs.{operator_of, is_shift, move_of}
 use Rattle.fk_meaning_forms.specs.Texts.{text_of}
 use Rattle.fk_meaning_forms.specs.Expressions.{Coded, nowhere, plain, Standing, OnList, AtAddress, InWord, ToCall, Stands, token, spot_of, is_name, Signature, put_bytes, moved, agreed, checked, valued, addressed, fetched, assigned, value_of, dropped, predeclared, placed, variable, operate, updated, one, prefixed, truth, logical, chosen, joined, assignment, member, is_deep, indexed, dotted, pointed, step_back, raised, arguments, framed, parameters, called, multiprefix, with_one, called_predeclared, calling, stands, linked, suffixed, all_stand}
 use Rattle.fk_meaning.specs.Calls.{takes_two, TakesEnough}
-use Rattle.fk_core_liveness.specs.declared.places.Place.{Place}
-use Rattle.fk_core_liveness.specs.declared.places.Place.TheVariants.{Main, Called}
+use Rattle.fk_core_liveness.specs.declared.places.FunctionKind.{FunctionKind}
+use Rattle.fk_core_liveness.specs.declared.places.FunctionKind.TheVariants.{Main, Called}
 use Rattle.fk_core_typing.specs.AddressValues.{constants}
 use Rattle.fk_core_typing.specs.Values.{Value, Unknown, Usable, Shared, State}
 use Rattle.fk_core_typing.proofs.Granting.{none_asked, good_as_itself, as_long}
@@ -82,7 +82,7 @@ pushed_results : (gives : Bool) (vs : List Value) → replicate (results gives) 
 pushed_results true vs = refl
 pushed_results false vs = refl
 
-module _ (tables : Tables) (functions : (binding : ℕ) → Signature) (place_of : (binding : ℕ) → Place) (p : Place) where
+module _ (tables : Tables) (functions : (binding : ℕ) → Signature) (place_of : (binding : ℕ) → FunctionKind) (p : FunctionKind) where
   abbrev pub Fine : Option State → List Value → Coded → State → Type 0
   Fine l vs code e = Ok place_of l (level p vs) code e
 
@@ -295,22 +295,22 @@ module _ (tables : Tables) (functions : (binding : ℕ) → Signature) (place_of
   prefixes spot sign s w good is at l vs k e q = a_value s w good is vs l (k OnList) e (q OnList tt)
 
   truths : (s : Stands) → Pushes true (value_of tables functions s) → Pushes true (truth tables functions s)
-  truths s good vs l rest e q = good vs l (plain (o.Push 0) (plain (o.Join f.Ne false) rest)) e (on (push 0) (on (join f.Ne false) q))
+  truths s good vs l rest e q = good vs l (plain (o.Push 0) (plain (o.Binary f.Ne false) rest)) e (on (push 0) (on (join f.Ne false) q))
 
   -- the others have the value of the whole
-  abbrev Parts : Split → Type 0
-  Parts by = (vs : List Value) → Acts true (o.Divide by) (level p (Unknown ∷ vs)) (level p vs) × Acts false (o.Divide by) (level p (Unknown ∷ vs)) (level p (Unknown ∷ vs))
+  abbrev Parts : SplitKind → Type 0
+  Parts by = (vs : List Value) → Acts true (o.Split by) (level p (Unknown ∷ vs)) (level p vs) × Acts false (o.Split by) (level p (Unknown ∷ vs)) (level p (Unknown ∷ vs))
 
   and_then : Parts AndThen
   and_then vs = (
-    simply p true (o.Divide AndThen) (Unknown ∷ vs) (omega arith) (omega arith) (λ ws. tt) (λ c ws. refl),
-    simply p false (o.Divide AndThen) (Unknown ∷ vs) (omega arith) (omega arith) (λ ws. tt) (λ c ws. refl),
+    simply p true (o.Split AndThen) (Unknown ∷ vs) (omega arith) (omega arith) (λ ws. tt) (λ c ws. refl),
+    simply p false (o.Split AndThen) (Unknown ∷ vs) (omega arith) (omega arith) (λ ws. tt) (λ c ws. refl),
   )
 
   or_else : Parts OrElse
   or_else vs = (
-    simply p true (o.Divide OrElse) (Unknown ∷ vs) (omega arith) (omega arith) (λ ws. tt) (λ c ws. refl),
-    simply p false (o.Divide OrElse) (Unknown ∷ vs) (omega arith) (omega arith) (λ ws. tt) (λ c ws. refl),
+    simply p true (o.Split OrElse) (Unknown ∷ vs) (omega arith) (omega arith) (λ ws. tt) (λ c ws. refl),
+    simply p false (o.Split OrElse) (Unknown ∷ vs) (omega arith) (omega arith) (λ ws. tt) (λ c ws. refl),
   )
 
   pub branches : (onward other : Bool) (vs : List Value) → Acts other (o.Branch onward) (level p (Unknown ∷ vs)) (level p vs)
@@ -322,11 +322,11 @@ module _ (tables : Tables) (functions : (binding : ℕ) → Signature) (place_of
   pub resumes : (vs : List Value) → Acts true o.Resume (level p vs) (level p vs)
   resumes vs = simply p true o.Resume vs (omega arith) (omega arith) (λ ws. tt) (λ c ws. refl)
 
-  logicals : (spot : Spot) (by : Split) → Parts by → (onward : Bool) (other : ℕ) (a b : Stands) → Pushes true (value_of tables functions a) → Pushes true (value_of tables functions b)
+  logicals : (spot : Spot) (by : SplitKind) → Parts by → (onward : Bool) (other : ℕ) (a b : Stands) → Pushes true (value_of tables functions a) → Pushes true (value_of tables functions b)
       → Good (logical tables functions spot by onward other a b) Valued
   logicals spot by parts onward other a b good_a good_b l vs k e q =
       let here = note tables spot.at in
-      let parted = choose spot.place (o.Divide by) (truth tables functions b (plain o.End done)) done (plain o.Resume (k OnList)) in
+      let parted = choose spot.place (o.Split by) (truth tables functions b (plain o.End done)) done (plain o.Resume (k OnList)) in
       let branched = choose nowhere (o.Branch onward) (truth tables functions b done) (plain (o.Push other) done) (k OnList) in
       good_a vs l (if here.splits then parted else agreed here.sync branched) e
       (either here.splits parted (agreed here.sync branched)
@@ -341,15 +341,15 @@ module _ (tables : Tables) (functions : (binding : ℕ) → Signature) (place_of
   on_list true l vs k e q = q OnList tt
   on_list false l vs k e q = q OnList tt
 
-  divides : (onward : Bool) (vs : List Value) → Acts onward (o.Divide IfElse) (level p (Unknown ∷ vs)) (level p vs)
-  divides true vs = simply p true (o.Divide IfElse) (Unknown ∷ vs) (omega arith) (omega arith) (λ ws. tt) (λ c ws. refl)
-  divides false vs = simply p false (o.Divide IfElse) (Unknown ∷ vs) (omega arith) (omega arith) (λ ws. tt) (λ c ws. refl)
+  divides : (onward : Bool) (vs : List Value) → Acts onward (o.Split IfElse) (level p (Unknown ∷ vs)) (level p vs)
+  divides true vs = simply p true (o.Split IfElse) (Unknown ∷ vs) (omega arith) (omega arith) (λ ws. tt) (λ c ws. refl)
+  divides false vs = simply p false (o.Split IfElse) (Unknown ∷ vs) (omega arith) (omega arith) (λ ws. tt) (λ c ws. refl)
 
   chooses : (spot : Spot) (c a b : Stands) (v : Bool) → Pushes true (value_of tables functions c) → Pushes v (value_of tables functions a) → Pushes v (value_of tables functions b)
       → Good (chosen tables functions spot c a b) (result v)
   chooses spot c a b v good_c good_a good_b l vs k e q =
       let here = note tables spot.at in
-      let parted = choose spot.place (o.Divide IfElse) (value_of tables functions a (plain o.End done)) (value_of tables functions b (plain o.End done)) (plain o.Resume (k OnList)) in
+      let parted = choose spot.place (o.Split IfElse) (value_of tables functions a (plain o.End done)) (value_of tables functions b (plain o.End done)) (plain o.Resume (k OnList)) in
       let branched = choose nowhere (o.Branch true) (value_of tables functions a done) (value_of tables functions b done) (k OnList) in
       let whole = level p (after v vs) in
       let goes_on : Fine l (after v vs) (k OnList) e = on_list v l vs k e q in
@@ -437,19 +437,19 @@ module _ (tables : Tables) (functions : (binding : ℕ) → Signature) (place_of
       good.0 vs l (agreed x.shared more) e (agrees x.shared vs l more e (takes_all xs others enough good.1 (Unknown ∷ vs) l rest e q))
 
   -- the beginning of a call has nothing to do with values
-  opens : (q : Place) (i : ℕ) (xs : List DeclaredTree) → Ok place_of None (level q []) (parameters tables functions i xs) (level q [])
+  opens : (q : FunctionKind) (i : ℕ) (xs : List DeclaredTree) → Ok place_of None (level q []) (parameters tables functions i xs) (level q [])
   opens q i [] = ended
   opens q i (x ∷ xs) = either x.shared _ (parameters tables functions (suc i) xs) (not_plain refl) (opens q (suc i) xs)
 
-  pub frame_of : (q : Place) (vs : List Value) (levels words : ℕ) → Acts true (o.Frame levels words) (level q vs) (level q vs)
+  pub frame_of : (q : FunctionKind) (vs : List Value) (levels words : ℕ) → Acts true (o.Frame levels words) (level q vs) (level q vs)
   frame_of q vs levels words = simply q true (o.Frame levels words) vs (omega arith) (omega arith) (λ ws. tt) (λ c ws. refl)
 
-  pub frames : {q : Place} {l : Option State} {vs : List Value} {e : State} {code : Coded} (r : Option Region) (place : y.Place) → Ok place_of l (level q vs) code e
+  pub frames : {q : FunctionKind} {l : Option State} {vs : List Value} {e : State} {code : Coded} (r : Option Region) (place : y.Place) → Ok place_of l (level q vs) code e
       → Ok place_of l (level q vs) (framed tables functions r place code) e
   frames None place h = h
   frames {q = q} {vs = vs} (Some r) place h = on (frame_of q vs r.level r.words) h
 
-  enters_function : (name : Named) (q : Place) → place_of (note tables name.at).binding ≡ q → IsCalled q
+  enters_function : (name : Named) (q : FunctionKind) → place_of (note tables name.at).binding ≡ q → IsCalled q
       → (vs : List Value) (l : Option State) (rest : Coded) (e : State) → Fine l (after (place_gives q) vs) rest e
       → Fine l (stacked (length (functions (note tables name.at).binding).parameters) vs)
       (call name.place (o.Enter (length (functions (note tables name.at).binding).parameters)) (note tables name.at).binding

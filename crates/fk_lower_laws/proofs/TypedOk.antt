@@ -9,8 +9,8 @@ use Rattle.fk_sim_block.specs.Suits.{looks_at}
 use Rattle.fk_meaning_forms.specs.Code.{done, perform, choose, while, until, quit, break, continue, call, ends, size, numbered}
 use Rattle.fk_meaning_forms.specs.Expressions.{Coded}
 use Rattle.fk_lower_laws.proofs.Along.{AllOf}
-use Rattle.fk_core_liveness.specs.declared.places.Place.{Place}
-use Rattle.fk_core_liveness.specs.declared.places.Place.TheVariants.{Called}
+use Rattle.fk_core_liveness.specs.declared.places.FunctionKind.{FunctionKind}
+use Rattle.fk_core_liveness.specs.declared.places.FunctionKind.TheVariants.{Called}
 use Rattle.fk_core_typing.specs.declared.constants.Constants.{Constants}
 use Rattle.fk_core_typing.specs.AddressValues.{constants, no_constants}
 use Rattle.fk_compile_text.specs.Plain.{is_plain}
@@ -19,17 +19,17 @@ use Rattle.fk_core_typing.specs.Typed.{EndsIn, Typed}
 use Rattle.fk_core_typing.proofs.Granting.{none_asked, as_long, grants_itself, grants_both}
 
 -- so many values, and no constants
-abbrev pub level : Place → List Value → State
+abbrev pub level : FunctionKind → List Value → State
 level p vs = record { place = p; values = vs; constants = no_constants }
 
 -- a constant address of shared data is the last one
-abbrev pub noted : Place → (address : ℕ) → List Value → State
+abbrev pub noted : FunctionKind → (address : ℕ) → List Value → State
 noted p c vs = record { place = p; values = Shared ∷ vs; constants = constants (Some c) None }
 
 pub record Acts (onward : Bool) (op : Operation) (t u : State) : Type 0 where
   pub acts : (s : State) → Grants s t → May op s × Grants (behind op onward s) u
 
-pub record Ok (place_of : ℕ → Place) (l : Option State) (t : State) (code : Coded) (e : State) : Type 0 where
+pub record Ok (place_of : ℕ → FunctionKind) (l : Option State) (t : State) (code : Coded) (e : State) : Type 0 where
   pub typed : (s : State) → Grants s t → AllOf is_plain code → (n : ℕ) → Typed place_of l s (numbered n code) e
 
 pub as_unknown : (v : Value) → IsAsGood v Unknown
@@ -72,7 +72,7 @@ less {onward = onward} {op = op} {u = u} {v = v} a g = record {
   acts = λ s h. let both = a.acts s h in (both.0, grants_both (behind op onward s) u v both.1 g);
 }
 
-module _ {place_of : ℕ → Place} where
+module _ {place_of : ℕ → FunctionKind} where
   pub weaken : {l : Option State} {t u e : State} {code : Coded} → Grants t u → Ok place_of l u code e → Ok place_of l t code e
   weaken {t = t} {u = u} g p = record { typed = λ s h b n. p.typed s (grants_both s t u h g) b n }
 

@@ -8,7 +8,7 @@ use Rattle.fk_meaning_forms.specs.Code.{size, numbered}
 use Rattle.fk_meaning_forms.specs.Tables.{Tables, frame_at}
 use Rattle.fk_meaning_forms.specs.Statements.{Inside, is_nothing}
 use Rattle.fk_meaning_forms.specs.Program.{functions_of, binding_of, signature_in, is_main, code_of, body_in}
-use Rattle.fk_core_liveness.specs.declared.places.Place.{Place}
+use Rattle.fk_core_liveness.specs.declared.places.FunctionKind.{FunctionKind}
 use Rattle.fk_compile_text.specs.Built.{operations, operations_in, operations_of}
 use Rattle.fk_core_typing.specs.Values.{State, bare}
 use Rattle.fk_core_typing.specs.Typed.{Typed}
@@ -20,7 +20,7 @@ use Rattle.fk_lower_laws.proofs.Along.{EachOf, each_of, front, back, along}
 use Rattle.fk_lower_laws.proofs.TypedOk.{level, Ok, ended}
 use Rattle.fk_lower_laws.proofs.TypedStatements.{body_fine}
 
-module _ (tables : Tables) (everyone : List FunctionTree) (places : (binding : ℕ) → Place) where
+module _ (tables : Tables) (everyone : List FunctionTree) (places : (binding : ℕ) → FunctionKind) where
   function_by : (mode : Mode) (kind : TypeTree) (name : Named) (parameters : List DeclaredTree) (body : Option Statements)
       → let f : FunctionTree = record { mode = mode; result = kind; name = name; parameters = parameters; body = body } in
       BodyAsked tables (signature_in tables everyone) places (place_by f) body

@@ -7,15 +7,15 @@ use Rattle.fk_syntax.specs.Tree.{Tree}
 use Rattle.fk_syntax.specs.Program as m
 use Rattle.fk_syntax.specs.Program.{DeclaredTree, Statement, Statements}
 use Rattle.fk_meaning_operation.specs.declared.operation.Operation.TheVariants as o
-use Rattle.fk_meaning_operation.specs.declared.operation.Known.TheVariants as n
-use Rattle.fk_meaning_operation.specs.declared.operation.Split.TheVariants.{IfAlone, IfElse, Loop, Fork}
+use Rattle.fk_meaning_operation.specs.declared.operation.OwnValue.TheVariants as n
+use Rattle.fk_meaning_operation.specs.declared.operation.SplitKind.TheVariants.{IfAlone, IfElse, Loop, Fork}
 use Rattle.fk_meaning_forms.specs.Code as c
 use Rattle.fk_meaning_forms.specs.Code.{done, choose, quit, ends}
 use Rattle.fk_meaning_forms.specs.Tables.{Tables, note, is_void, frame_at}
 use Rattle.fk_meaning_forms.specs.Expressions.{Coded, nowhere, plain, agreed, token, Signature, addressed, assigned, dropped, variable, stands, value}
 use Rattle.fk_meaning_forms.specs.Statements.{Inside, is_scalar, used, used_or, value_or, declared, all_declared, part_frame, leaving, tested, looping, left_by, executed, all_executed, end_of, body_of}
-use Rattle.fk_core_liveness.specs.declared.places.Place.{Place}
-use Rattle.fk_core_liveness.specs.declared.places.Place.TheVariants.{Main, Called}
+use Rattle.fk_core_liveness.specs.declared.places.FunctionKind.{FunctionKind}
+use Rattle.fk_core_liveness.specs.declared.places.FunctionKind.TheVariants.{Main, Called}
 use Rattle.fk_core_typing.specs.Values.{Unknown, State}
 use Rattle.fk_lower_laws.specs.Ways.{gives, named_way, way}
 use Rattle.fk_lower_laws.specs.Asked.{ValueAsked, OptionValueAsked, UsedAsked, OptionUsedAsked, ScalarAsked, VariablesAsked, ReturnAsked, StatementAsked, StatementsAsked}
@@ -24,14 +24,14 @@ use Rattle.fk_lower_laws.proofs.Acting.{simply, push, get, drop_last, agree}
 use Rattle.fk_lower_laws.proofs.TypedForms.{after, held, Fine, Pushes, either, agrees, drops, holds, assigns, names, value_is, a_value, branches, part_ends, resumes, frames, tree_good}
 
 -- the place of a function: `main`, or one that gives a value or not
-abbrev pub place_with : (main void : Bool) → Place
+abbrev pub place_with : (main void : Bool) → FunctionKind
 place_with main void = if main then Main else Called (not void)
 
-abbrev pub IsInside : Place → (main : Bool) → Type 0
+abbrev pub IsInside : FunctionKind → (main : Bool) → Type 0
 IsInside Main main = main ≡ true
 IsInside (Called gives) main = main ≡ false
 
-module _ (tables : Tables) (functions : (binding : ℕ) → Signature) (place_of : (binding : ℕ) → Place) where
+module _ (tables : Tables) (functions : (binding : ℕ) → Signature) (place_of : (binding : ℕ) → FunctionKind) where
   -- ends of functions
   halts : {l : Option State} {e : State} {rest : Coded} → Fine tables functions place_of Main l [] rest e → Fine tables functions place_of Main l [] (ends nowhere o.Halt rest) e
   halts q = left (simply Main true o.Halt [] (omega arith) (omega arith) (λ ws. tt) (λ c ws. refl)) (λ s is. is) q
@@ -44,10 +44,10 @@ module _ (tables : Tables) (functions : (binding : ℕ) → Signature) (place_of
       → Fine tables functions place_of (Called false) l [] (ends nowhere (o.Leave false framed) rest) e
   leaves_without framed q = left (simply (Called false) true (o.Leave false framed) [] (omega arith) (omega arith) (λ ws. tt) (λ c ws. refl)) (λ s is. is) q
 
-  values : (p : Place) (e : Tree) → ValueAsked tables functions place_of e → Pushes tables functions place_of p true (value tables functions e)
+  values : (p : FunctionKind) (e : Tree) → ValueAsked tables functions place_of e → Pushes tables functions place_of p true (value tables functions e)
   values p e asks = a_value tables functions place_of p (stands tables functions e) (way tables place_of e) (tree_good tables functions place_of p e asks.0) asks.1
 
-  ends_by : (p : Place) (main framed : Bool) → IsInside p main → ReturnAsked tables functions place_of p None → (l : Option State) (rest : Coded) (e : State)
+  ends_by : (p : FunctionKind) (main framed : Bool) → IsInside p main → ReturnAsked tables functions place_of p None → (l : Option State) (rest : Coded) (e : State)
       → Fine tables functions place_of p l [] rest e → Fine tables functions place_of p l [] (ends nowhere (if main then o.Halt else o.Leave false framed) rest) e
   ends_by Main true framed is asks l rest e q = halts q
   ends_by Main false framed is asks l rest e q = absurd (false≢true is)
@@ -55,7 +55,7 @@ module _ (tables : Tables) (functions : (binding : ℕ) → Signature) (place_of
   ends_by (Called true) false framed is asks l rest e q = absurd (false≢true (sym asks))
   ends_by (Called false) false framed is asks l rest e q = leaves_without framed q
 
-  value_ends : (p : Place) (main framed : Bool) (x : Tree) → IsInside p main → ReturnAsked tables functions place_of p (Some x) → (l : Option State) (rest : Coded) (e : State)
+  value_ends : (p : FunctionKind) (main framed : Bool) (x : Tree) → IsInside p main → ReturnAsked tables functions place_of p (Some x) → (l : Option State) (rest : Coded) (e : State)
       → Fine tables functions place_of p l [] rest e
       → Fine tables functions place_of p l [] (value tables functions x (if main then plain o.DropLast (ends nowhere o.Halt rest) else ends nowhere (o.Leave true framed) rest)) e
   value_ends Main true framed x is asks l rest e q = values Main x asks [] l (plain o.DropLast (ends nowhere o.Halt rest)) e (on drop_last (halts q))
@@ -64,7 +64,7 @@ module _ (tables : Tables) (functions : (binding : ℕ) → Signature) (place_of
   value_ends (Called true) false framed x is asks l rest e q = values (Called true) x asks.1 [] l (ends nowhere (o.Leave true framed) rest) e (leaves_with framed q)
   value_ends (Called false) false framed x is asks l rest e q = absurd (false≢true asks.0)
 
-  returns : (p : Place) (inside : Inside) → IsInside p inside.main → (x : Option Tree) → ReturnAsked tables functions place_of p x → (l : Option State) (rest : Coded) (e : State)
+  returns : (p : FunctionKind) (inside : Inside) → IsInside p inside.main → (x : Option Tree) → ReturnAsked tables functions place_of p x → (l : Option State) (rest : Coded) (e : State)
       → Fine tables functions place_of p l [] rest e → Fine tables functions place_of p l [] (left_by tables functions inside x rest) e
   returns p inside is None asks l rest e q = ends_by p inside.main inside.framed is asks l rest e q
   returns p inside is (Some x) asks l rest e q = value_ends p inside.main inside.framed x is asks l rest e q
@@ -77,7 +77,7 @@ module _ (tables : Tables) (functions : (binding : ℕ) → Signature) (place_of
   end_fine false framed true = leaves_without framed ended
   end_fine false framed false = on (push 0) (leaves_with framed ended)
 
-  module _ (p : Place) where
+  module _ (p : FunctionKind) where
     abbrev whole : State
     whole = level p []
 
@@ -158,21 +158,21 @@ module _ (tables : Tables) (functions : (binding : ℕ) → Signature) (place_of
     resumed : {l : Option State} {e : State} {rest : Coded} → Fine tables functions place_of p l [] rest e → Fine tables functions place_of p l [] (plain o.Resume rest) e
     resumed q = on (resumes tables functions place_of p []) q
 
-    splits_all : (onward : Bool) → Acts onward (o.Divide Loop) whole whole
-    splits_all true = simply p true (o.Divide Loop) [] (omega arith) (omega arith) (λ ws. tt) (λ c ws. refl)
-    splits_all false = simply p false (o.Divide Loop) [] (omega arith) (omega arith) (λ ws. tt) (λ c ws. refl)
+    splits_all : (onward : Bool) → Acts onward (o.Split Loop) whole whole
+    splits_all true = simply p true (o.Split Loop) [] (omega arith) (omega arith) (λ ws. tt) (λ c ws. refl)
+    splits_all false = simply p false (o.Split Loop) [] (omega arith) (omega arith) (λ ws. tt) (λ c ws. refl)
 
-    splits_if : (onward : Bool) → Acts onward (o.Divide IfAlone) (level p (Unknown ∷ [])) whole
-    splits_if true = simply p true (o.Divide IfAlone) (Unknown ∷ []) (omega arith) (omega arith) (λ ws. tt) (λ c ws. refl)
-    splits_if false = simply p false (o.Divide IfAlone) (Unknown ∷ []) (omega arith) (omega arith) (λ ws. tt) (λ c ws. refl)
+    splits_if : (onward : Bool) → Acts onward (o.Split IfAlone) (level p (Unknown ∷ [])) whole
+    splits_if true = simply p true (o.Split IfAlone) (Unknown ∷ []) (omega arith) (omega arith) (λ ws. tt) (λ c ws. refl)
+    splits_if false = simply p false (o.Split IfAlone) (Unknown ∷ []) (omega arith) (omega arith) (λ ws. tt) (λ c ws. refl)
 
-    splits_else : (onward : Bool) → Acts onward (o.Divide IfElse) (level p (Unknown ∷ [])) whole
-    splits_else true = simply p true (o.Divide IfElse) (Unknown ∷ []) (omega arith) (omega arith) (λ ws. tt) (λ c ws. refl)
-    splits_else false = simply p false (o.Divide IfElse) (Unknown ∷ []) (omega arith) (omega arith) (λ ws. tt) (λ c ws. refl)
+    splits_else : (onward : Bool) → Acts onward (o.Split IfElse) (level p (Unknown ∷ [])) whole
+    splits_else true = simply p true (o.Split IfElse) (Unknown ∷ []) (omega arith) (omega arith) (λ ws. tt) (λ c ws. refl)
+    splits_else false = simply p false (o.Split IfElse) (Unknown ∷ []) (omega arith) (omega arith) (λ ws. tt) (λ c ws. refl)
 
-    forks : (onward : Bool) → Acts onward (o.Divide Fork) (level p (Unknown ∷ Unknown ∷ Unknown ∷ [])) whole
-    forks true = simply p true (o.Divide Fork) (Unknown ∷ Unknown ∷ Unknown ∷ []) (omega arith) (omega arith) (λ ws. tt) (λ c ws. refl)
-    forks false = simply p false (o.Divide Fork) (Unknown ∷ Unknown ∷ Unknown ∷ []) (omega arith) (omega arith) (λ ws. tt) (λ c ws. refl)
+    forks : (onward : Bool) → Acts onward (o.Split Fork) (level p (Unknown ∷ Unknown ∷ Unknown ∷ [])) whole
+    forks true = simply p true (o.Split Fork) (Unknown ∷ Unknown ∷ Unknown ∷ []) (omega arith) (omega arith) (λ ws. tt) (λ c ws. refl)
+    forks false = simply p false (o.Split Fork) (Unknown ∷ Unknown ∷ Unknown ∷ []) (omega arith) (omega arith) (λ ws. tt) (λ c ws. refl)
 
     starts : (onward : Bool) → Acts onward o.Begin (level p (Unknown ∷ [])) whole
     starts onward = simply p onward o.Begin (Unknown ∷ []) (omega arith) (omega arith) (λ ws. tt) (λ c ws. refl)
@@ -189,7 +189,7 @@ module _ (tables : Tables) (functions : (binding : ℕ) → Signature) (place_of
     loops : (spot : Spot) (l : Option State) (f : Coded → Coded) → Runs l f → Runs l (looping tables functions spot f)
     loops spot l f runs rest e q =
         either tables functions place_of p (note tables spot.at).splits
-        (choose spot.place (o.Divide Loop) (part_frame tables functions spot 0 (f done)) done (plain o.Resume rest)) (f rest)
+        (choose spot.place (o.Split Loop) (part_frame tables functions spot 0 (f done)) done (plain o.Resume rest)) (f rest)
         (branch (splits_all true) (splits_all false) (frames tables functions place_of p (frame_at tables spot.at 0) spot.place (runs done whole ended)) ended (resumed q))
         (runs rest e q)
 
@@ -212,7 +212,7 @@ module _ (tables : Tables) (functions : (binding : ℕ) → Signature) (place_of
             let here = note tables spot.at in
             let body = executed tables functions inside first in
             let runs = statement l first asks.1 in
-            let parted = choose spot.place (o.Divide IfAlone) (part_frame tables functions spot 0 (body (plain o.End done))) done (plain o.Resume rest) in
+            let parted = choose spot.place (o.Split IfAlone) (part_frame tables functions spot 0 (body (plain o.End done))) done (plain o.Resume rest) in
             let branched = choose nowhere (o.Branch true) (body done) done rest in
             values p condition asks.0 [] (loop l) (if here.splits then parted else agreed here.sync branched) e
             (either tables functions place_of p here.splits parted (agreed here.sync branched)
@@ -225,7 +225,7 @@ module _ (tables : Tables) (functions : (binding : ℕ) → Signature) (place_of
             let b = executed tables functions inside second in
             let runs_a = statement l first asks.1 in
             let runs_b = statement l second asks.2 in
-            let parted = choose spot.place (o.Divide IfElse) (part_frame tables functions spot 0 (a (plain o.End done))) (part_frame tables functions spot 1 (b (plain o.End done))) (plain o.Resume rest) in
+            let parted = choose spot.place (o.Split IfElse) (part_frame tables functions spot 0 (a (plain o.End done))) (part_frame tables functions spot 1 (b (plain o.End done))) (plain o.Resume rest) in
             let branched = choose nowhere (o.Branch true) (a done) (b done) rest in
             values p condition asks.0 [] (loop l) (if here.splits then parted else agreed here.sync branched) e
             (either tables functions place_of p here.splits parted (agreed here.sync branched)
@@ -256,7 +256,7 @@ module _ (tables : Tables) (functions : (binding : ℕ) → Signature) (place_of
             (branch (starts true) (starts false) (parts spot 0 (loop l) run (statement l body asks.1)) ended (resumed q))
         statement l (m.Fork spot k number rank body) asks rest e q =
             let run = executed tables functions inside body in
-            let split = choose spot.place (o.Divide Fork) (part_frame tables functions spot 0 (run (plain o.End done))) done (plain o.Resume rest) in
+            let split = choose spot.place (o.Split Fork) (part_frame tables functions spot 0 (run (plain o.End done))) done (plain o.Resume rest) in
             let ranked = value_or tables functions (plain (o.Get n.Rank)) rank split in
             let numbered' = value tables functions number ranked in
             values p k asks.0 [] (loop l) (plain o.Agree numbered') e (on agree

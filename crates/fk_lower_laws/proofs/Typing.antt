@@ -25,7 +25,7 @@ use Rattle.fk_types_judgments.specs.Names.{Env, Meant, Kept, Constant as Known',
 use Rattle.fk_types_judgments.specs.Typing.{type_of, value_in, operand_in, computed, of_both, is_zero, is_no_target, is_constant, name_type, left_of, last_of, sizeof_type, cast_type, pointed, element, struct_of, struct_of_root, struct_at, member_type, assigned, does_assign, counted_type, branched, call_type, called_as, parameters_of, does_fit, do_all_fit, first_value}
 use Rattle.fk_meaning_forms.specs.Tables.{Tables}
 use Rattle.fk_meaning_forms.specs.Expressions.{Signature, token}
-use Rattle.fk_core_liveness.specs.declared.places.Place.{Place}
+use Rattle.fk_core_liveness.specs.declared.places.FunctionKind.{FunctionKind}
 use Rattle.fk_lower_laws.specs.Ways.{Way, Valued, Absent, Unchecked, Constant, Array, Grouped, Word, Function, gives, result, prefix_way, joined_way, behind_member, called_way, dotted_way, way, chain_way, suffixed_way}
 use Rattle.fk_lower_laws.specs.Asked.{IsTarget, HasAddress, PrefixAsks, DotAsks, JoinAsks, CallAsks, Asked, LinksAsked, SuffixesAsked, AllAsked}
 use Rattle.fk_lower_laws.specs.Typed.{IsNothing, StandsAs, CommaIs, IsNoWord, PrefixIs, MemberIs, Known, LinksKnown, SuffixesKnown, AllKnown, TypedIsAsked}
@@ -259,7 +259,7 @@ module _ (Room : (address : ℕ) → DataType → Type 0) where
         let r = valued A term w is a.0 a.1 in
         (r.0, r.1, stands_valued m.0 T m.2)
 
-    module _ (tables : Tables) (functions : (binding : ℕ) → Signature) (place_of : (binding : ℕ) → Place)
+    module _ (tables : Tables) (functions : (binding : ℕ) → Signature) (place_of : (binding : ℕ) → FunctionKind)
         (may : (address : ℕ) (type : DataType) → Room address type → may_use true address ≡ true) where
       join_is : (spot : Spot) (sign : Sign) (A : Type 0) (l : Term) (w : Way) → Is A l w → (at : ℕ) → CommaIs Room env tables functions place_of sign l at
           → (B : Type 0) (r : Term) (x : Way) → Is B r x → (T : ExpressionType) → type_of env (joined_term spot sign l r) ≡ Some T

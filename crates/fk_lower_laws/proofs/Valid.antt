@@ -22,7 +22,7 @@ use Rattle.fk_types_judgments.specs.Typing.{Noted}
 use Rattle.fk_meaning_forms.specs.Tables.{Tables}
 use Rattle.fk_meaning_forms.specs.Expressions.{Signature}
 use Rattle.fk_meaning_forms.specs.Program.{functions_of, signature_in}
-use Rattle.fk_core_liveness.specs.declared.places.Place.{Place}
+use Rattle.fk_core_liveness.specs.declared.places.FunctionKind.{FunctionKind}
 use Rattle.fk_parse_laws.specs.Trim.{ProgramIsTrim}
 use Rattle.fk_check_laws.specs.Correct.{IsCorrect}
 use Rattle.fk_check_laws.proofs.Each.{Each, each, front_of, rest_of}
@@ -53,7 +53,7 @@ pub record About : Type 1 where
   pub structs : List StructTree
   pub tables : Tables
   pub functions : (binding : ℕ) → Signature
-  pub places : (binding : ℕ) → Place
+  pub places : (binding : ℕ) → FunctionKind
   pub thing : ℕ → Option Thing
   -- a type has its words at an address
   pub Room : (address : ℕ) → DataType → Type 0

@@ -8,7 +8,7 @@ use Rattle.fk_meaning_forms.specs.Tables.{Tables, frame_at}
 use Rattle.fk_meaning_forms.specs.Expressions.{Signature}
 use Rattle.fk_meaning_forms.specs.Statements.{Inside, is_nothing}
 use Rattle.fk_meaning_forms.specs.Program.{functions_of, with_body, binding_of, signature_of, signature_in, is_main, code_of}
-use Rattle.fk_layout_walk.specs.declared.known.Known.{Known}
+use Rattle.fk_layout_walk.specs.declared.known.ProgramTables.{ProgramTables}
 use Rattle.fk_layout_walk.specs.Known.{tables_of, items_in}
 use Rattle.fk_layout_walk_statements.specs.Texts.{functions_in}
 use Rattle.fk_lower_text.specs.Whole.{IsWhole, AreWhole}
@@ -41,7 +41,7 @@ module _ (tables : Tables) where
 
 -- ---- the functions
 
-module _ (known : Known) (room : HasRoom (tables_of known)) (short : AreShort (tables_of known) (functions_in known)) where
+module _ (known : ProgramTables) (room : HasRoom (tables_of known)) (short : AreShort (tables_of known) (functions_in known)) where
   -- a function, by its parts
   function_by : (mode : Mode) (result : TypeTree) (name : Named) (parameters : List DeclaredTree) (body : Option Statements)
       → BodyHasWords body → BodyIsNear (tables_of known) body
@@ -65,5 +65,5 @@ module _ (known : Known) (room : HasRoom (tables_of known)) (short : AreShort (t
       by None others = others
       by (Some _) others = (function_whole f i.0.1 j.0.1, others)
 
-pub whole : (known : Known) → HasRoom (tables_of known) → ItemsAreNear (tables_of known) (items_in known) → ItemsHaveWords (items_in known) → AreWhole known (functions_in known)
+pub whole : (known : ProgramTables) → HasRoom (tables_of known) → ItemsAreNear (tables_of known) (items_in known) → ItemsHaveWords (items_in known) → AreWhole known (functions_in known)
 whole known room near words = functions_whole known room (few (tables_of known) (items_in known) near) (items_in known) near words

@@ -13,8 +13,8 @@ use Rattle.fk_meaning_forms.specs.Expressions.{Signature, token}
 use Rattle.fk_meaning_forms.specs.Statements.{is_nothing, is_scalar}
 use Rattle.fk_meaning_forms.specs.Program.{functions_of, binding_of, signature_in, is_main}
 use Rattle.fk_meaning.specs.Calls.{TakesEnough}
-use Rattle.fk_core_liveness.specs.declared.places.Place.{Place}
-use Rattle.fk_core_liveness.specs.declared.places.Place.TheVariants.{Main, Called}
+use Rattle.fk_core_liveness.specs.declared.places.FunctionKind.{FunctionKind}
+use Rattle.fk_core_liveness.specs.declared.places.FunctionKind.TheVariants.{Main, Called}
 use Rattle.fk_lower_laws.specs.Ways.{Way, Unchecked, Constant, Array, Grouped, Word, Function, Valued, gives, named_way, called_way, dotted_way, joined_way, way}
 
 -- it has a place to which is assigned; and an address
@@ -45,11 +45,11 @@ AreEnough [] es = Unit {0}
 AreEnough (x ∷ xs) t.no_trees = ⊥
 AreEnough (x ∷ xs) (t.tree e es) = AreEnough xs es
 
-abbrev pub IsCalled : Place → Type 0
+abbrev pub IsCalled : FunctionKind → Type 0
 IsCalled Main = ⊥
 IsCalled (Called gives) = Unit {0}
 
-module _ (tables : Tables) (functions : (binding : ℕ) → Signature) (place_of : (binding : ℕ) → Place) where
+module _ (tables : Tables) (functions : (binding : ℕ) → Signature) (place_of : (binding : ℕ) → FunctionKind) where
   -- a constant address is one of shared data
   abbrev pub NameAsks : (at : ℕ) → Way → Type 0
   NameAsks at (Constant address) = may_use true address ≡ true
@@ -142,12 +142,12 @@ module _ (tables : Tables) (functions : (binding : ℕ) → Signature) (place_of
   VariablesAsked (x ∷ xs) = ScalarAsked (is_scalar x) x × VariablesAsked xs
 
   -- `main` ends with a value or without, and any other function as it gives one or not
-  abbrev pub ReturnAsked : Place → Option Tree → Type 0
+  abbrev pub ReturnAsked : FunctionKind → Option Tree → Type 0
   ReturnAsked Main e = OptionValueAsked e
   ReturnAsked (Called gives) None = gives ≡ false
   ReturnAsked (Called gives) (Some e) = (gives ≡ true) × ValueAsked e
 
-  module _ (place : Place) where
+  module _ (place : FunctionKind) where
     abbrev mutual
       pub StatementAsked : (in_loop : Bool) → Statement → Type 0
       StatementAsked l p.Empty = Unit {0}
@@ -174,23 +174,23 @@ module _ (tables : Tables) (functions : (binding : ℕ) → Signature) (place_of
       StatementsAsked l p.no_statements = Unit {0}
       StatementsAsked l (p.statement first others) = StatementAsked l first × StatementsAsked l others
 
-  abbrev pub BodyAsked : Place → Option Statements → Type 0
+  abbrev pub BodyAsked : FunctionKind → Option Statements → Type 0
   BodyAsked place None = Unit {0}
   BodyAsked place (Some statements) = StatementsAsked place false statements
 
 -- `main`, or a function that is called and gives a value or not
-abbrev pub place_by : FunctionTree → Place
+abbrev pub place_by : FunctionTree → FunctionKind
 place_by f = if is_main f then Main else Called (not (is_nothing f.result))
 
 -- the place that a binding means
-abbrev pub place_in : Tables → List FunctionTree → (binding : ℕ) → Place
+abbrev pub place_in : Tables → List FunctionTree → (binding : ℕ) → FunctionKind
 place_in tables [] b = Called false
 place_in tables (f ∷ fs) b = if binding_of tables f == b then place_by f else place_in tables fs b
 
-abbrev pub place_of : Tables → ProgramTree → (binding : ℕ) → Place
+abbrev pub place_of : Tables → ProgramTree → (binding : ℕ) → FunctionKind
 place_of tables program b = place_in tables (functions_of program.items) b
 
-abbrev pub FunctionsAsked : Tables → (functions : (binding : ℕ) → Signature) → (place_of : (binding : ℕ) → Place) → List FunctionTree → Type 0
+abbrev pub FunctionsAsked : Tables → (functions : (binding : ℕ) → Signature) → (place_of : (binding : ℕ) → FunctionKind) → List FunctionTree → Type 0
 FunctionsAsked tables functions places [] = Unit {0}
 FunctionsAsked tables functions places (f ∷ fs) =
     BodyAsked tables functions places (place_by f) f.body × FunctionsAsked tables functions places fs

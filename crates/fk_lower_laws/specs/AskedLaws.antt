@@ -3,7 +3,7 @@ use Rattle.std.specs.Prelude.{◌≡◌, ℕ}
 use Rattle.fk_syntax.specs.declared.facts.Facts.{Facts}
 use Rattle.fk_syntax.specs.Program.{ProgramTree}
 use Rattle.fk_meaning_forms.specs.Program.{main_of}
-use Rattle.fk_core_liveness.specs.declared.places.Place.TheVariants.{Main}
+use Rattle.fk_core_liveness.specs.declared.places.FunctionKind.TheVariants.{Main}
 use Rattle.fk_layout.specs.Layout.{tables_by}
 use Rattle.fk_layout.specs.Refusal.{Fits}
 use Rattle.fk_parse_laws.specs.Trim.{ProgramIsTrim}

@@ -2,7 +2,7 @@
 use Rattle.std.specs.Prelude.{◌≡◌, List}
 use Rattle.fk_syntax.specs.Program.{ProgramTree}
 use Rattle.fk_meaning_forms.specs.Program.{bodies_of}
-use Rattle.fk_layout_walk.specs.declared.known.Known.{Known}
+use Rattle.fk_layout_walk.specs.declared.known.ProgramTables.{ProgramTables}
 use Rattle.fk_layout_walk.specs.Known.{tables_of, items_in}
 use Rattle.fk_layout_walk_statements.specs.Texts.{functions_in}
 use Rattle.fk_core.specs.declared.op.CoreOp.{CoreOp}
@@ -17,7 +17,7 @@ use Rattle.fk_lower_laws.specs.Asked.{place_of}
 -- so where the code is well typed, and all its operations are plain
 abbrev pub ListsHaveHeights : Type 0
 ListsHaveHeights =
-    (known : Known) (program : ProgramTree) (core : List CoreOp) → program.items ≡ items_in known
+    (known : ProgramTables) (program : ProgramTree) (core : List CoreOp) → program.items ≡ items_in known
     → ProgramFits (tables_of known) program → ArePlain (tables_of known) program
     → AreTyped (place_of (tables_of known) program) (bodies_of (tables_of known) program)
     → AreTold (depths_of known (functions_in known)) core

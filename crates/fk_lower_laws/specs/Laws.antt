@@ -6,7 +6,7 @@ use Rattle.fk_meaning_forms.specs.Tables.{Tables}
 use Rattle.fk_meaning_forms.specs.Program.{bodies_of, main_of}
 use Rattle.fk_layout_globals.specs.Constants.{told}
 use Rattle.fk_layout_globals.specs.Rows.{firsts}
-use Rattle.fk_layout_walk.specs.declared.known.Known.{Known}
+use Rattle.fk_layout_walk.specs.declared.known.ProgramTables.{ProgramTables}
 use Rattle.fk_layout_walk_statements.specs.Texts.{functions_in}
 use Rattle.fk_core.specs.declared.op.CoreOp.{CoreOp}
 use Rattle.fk_core.specs.WellFormed.{HasDepths}
@@ -62,7 +62,7 @@ pub record CanHaveGroups (core : List CoreOp) (main firsts : ℕ) : Type 0 where
 
 abbrev pub LoweredListsCanHaveGroups : Type 0
 LoweredListsCanHaveGroups =
-    (program : ProgramTree) (facts : Facts) (known : Known) → IsKnownOf program facts known → IsCorrect program facts → ProgramIsTrim program → ProgramIsProper program
+    (program : ProgramTree) (facts : Facts) (known : ProgramTables) → IsKnownOf program facts known → IsCorrect program facts → ProgramIsTrim program → ProgramIsProper program
     → let tables = tables_by program facts in
     Fits tables program.items → ArePlain tables program
     → (core : List CoreOp) (entry : (binding : ℕ) → ℕ) → IsFlat (bodies_of tables program) core entry → AreTold (depths_of known (functions_in known)) core

@@ -6,11 +6,11 @@ use Rattle.fk_meaning_forms.specs.Code.{Code, done, perform, choose, while, unti
 use Rattle.fk_meaning_forms.specs.Tables.{Tables}
 use Rattle.fk_layout_slots.specs.Slots.{own_of}
 use Rattle.fk_layout.specs.Frames.{told_in, private_words}
-use Rattle.fk_core_liveness.specs.declared.places.Place.{Place}
+use Rattle.fk_core_liveness.specs.declared.places.FunctionKind.{FunctionKind}
 use Rattle.fk_core_typing.specs.Heights.{raised, results_of, height}
 
 -- code with at most so many values at each of its places, counted as in `height`
-module _ (place_of : (binding : ℕ) → Place) (most : ℕ) where
+module _ (place_of : (binding : ℕ) → FunctionKind) (most : ℕ) where
   abbrev pub HasFew : (values : ℕ) → Code ℕ → Type 0
   HasFew h done = h ≤ most
   HasFew h (perform n op rest) = (h ≤ most) × HasFew (raised h op true) rest

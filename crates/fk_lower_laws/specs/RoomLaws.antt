@@ -8,7 +8,7 @@ use Rattle.fk_meaning_forms.specs.Program.{functions_of, bodies_of}
 use Rattle.fk_layout.specs.Frames.{file_privates}
 use Rattle.fk_layout.specs.Layout.{tables_by}
 use Rattle.fk_layout.specs.Refusal.{Fits}
-use Rattle.fk_core_liveness.specs.declared.places.Place.{Place}
+use Rattle.fk_core_liveness.specs.declared.places.FunctionKind.{FunctionKind}
 use Rattle.fk_compile_text.specs.Plain.{ArePlain}
 use Rattle.fk_lower_laws.specs.Rooms.{HasWords, ahead_in, HaveRoom}
 use Rattle.fk_parse_laws.specs.Trim.{ProgramIsTrim}
@@ -23,7 +23,7 @@ abbrev pub words_of : Tables → ProgramTree → (binding : ℕ) → ℕ
 words_of tables program b = words_in tables (own_words tables program.items) (functions_of program.items) b
 
 -- the private words of each function, and its values, have room beside what stands ahead and the 8 words that a layout counts
-pub record HaveValues (bodies : (binding : ℕ) → Code ℕ) (place_of : (binding : ℕ) → Place) (firsts : ℕ) (words : (binding : ℕ) → ℕ) : Type 0 where
+pub record HaveValues (bodies : (binding : ℕ) → Code ℕ) (place_of : (binding : ℕ) → FunctionKind) (firsts : ℕ) (words : (binding : ℕ) → ℕ) : Type 0 where
   pub most : (binding : ℕ) → ℕ
   pub room : (f : ℕ) → ahead_in firsts (place_of f) + 8 + words f + most f ≤ 64
   pub few : (f : ℕ) → HasFew place_of (most f) 0 (bodies f)

@@ -2,13 +2,13 @@
 use Rattle.std.specs.Prelude.{◌≡◌, ℕ, ◌+◌, ◌<◌, ◌≤◌, true}
 use Rattle.fk_meaning_operation.specs.declared.operation.Operation.{Operation}
 use Rattle.fk_meaning_operation.specs.declared.operation.Operation.TheVariants.{Get, Set}
-use Rattle.fk_meaning_operation.specs.declared.operation.Known.TheVariants.{Value}
+use Rattle.fk_meaning_operation.specs.declared.operation.OwnValue.TheVariants.{Value}
 use Rattle.fk_meaning_operation.specs.declared.operation.Variable.TheVariants.{Private, OfFile}
 use Rattle.fk_layout_sizes.specs.Operations.{takes}
 use Rattle.fk_meaning_forms.specs.Code.{Code, done, perform, choose, while, until, quit, break, continue, call, ends}
 use Rattle.fk_core_flat.specs.Shape.{is_done}
-use Rattle.fk_core_liveness.specs.declared.places.Place.{Place}
-use Rattle.fk_core_liveness.specs.declared.places.Place.TheVariants.{Main, Called}
+use Rattle.fk_core_liveness.specs.declared.places.FunctionKind.{FunctionKind}
+use Rattle.fk_core_liveness.specs.declared.places.FunctionKind.TheVariants.{Main, Called}
 use Rattle.fk_lower_laws.specs.Room.{HasFew}
 
 -- there are so many private variables of file scope, and so many private words of a function
@@ -36,13 +36,13 @@ module _ (firsts words : ℕ) where
   HasWords code = ⊥
 
 -- in the frame of `main` the private variables of file scope stand before its private words
-abbrev pub ahead_in : (firsts : ℕ) → Place → ℕ
+abbrev pub ahead_in : (firsts : ℕ) → FunctionKind → ℕ
 ahead_in firsts Main = firsts
 ahead_in firsts (Called gives) = 0
 
 -- The private words of each function and its values have room beside what stands ahead and the 8 words that a layout counts for each
 -- frame: a header of 7, and one for a result behind each call, also where the function that is called gives none
-pub record HaveRoom (bodies : (binding : ℕ) → Code ℕ) (place_of : (binding : ℕ) → Place) (firsts : ℕ) : Type 0 where
+pub record HaveRoom (bodies : (binding : ℕ) → Code ℕ) (place_of : (binding : ℕ) → FunctionKind) (firsts : ℕ) : Type 0 where
   pub words : (binding : ℕ) → ℕ
   pub most : (binding : ℕ) → ℕ
   pub room : (f : ℕ) → ahead_in firsts (place_of f) + 8 + words f + most f ≤ 64

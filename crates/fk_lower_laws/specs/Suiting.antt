@@ -3,8 +3,8 @@ use Rattle.std.specs.Prelude.{◌≡◌, ℕ, Bool, List}
 use Rattle.fk_meaning_forms.specs.Code.{Code}
 use Rattle.fk_core.specs.declared.op.CoreOp.{CoreOp}
 use Rattle.fk_sim_block.specs.Suits.{Suits}
-use Rattle.fk_core_liveness.specs.declared.places.Place.{Place}
-use Rattle.fk_core_liveness.specs.declared.places.Place.TheVariants.{Main}
+use Rattle.fk_core_liveness.specs.declared.places.FunctionKind.{FunctionKind}
+use Rattle.fk_core_liveness.specs.declared.places.FunctionKind.TheVariants.{Main}
 use Rattle.fk_core_liveness.specs.Live.{IsLive, IsLeast}
 use Rattle.fk_core_typing.specs.Laws.{IsTypedList, HasHeightsOf}
 use Rattle.fk_lower_laws.specs.Rooms.{HaveRoom}
@@ -13,7 +13,7 @@ use Rattle.fk_lower_laws.specs.Rooms.{HaveRoom}
 -- are those that its frames hold
 abbrev pub LiveWordsSuit : Type 0
 LiveWordsSuit =
-    (bodies : (binding : ℕ) → Code ℕ) (core : List CoreOp) (entry : ℕ → ℕ) (place_of : (binding : ℕ) → Place) (firsts : ℕ)
+    (bodies : (binding : ℕ) → Code ℕ) (core : List CoreOp) (entry : ℕ → ℕ) (place_of : (binding : ℕ) → FunctionKind) (firsts : ℕ)
     → IsTypedList bodies core entry place_of → HasHeightsOf bodies core place_of → HaveRoom bodies place_of firsts
     → (keeps : (index word : ℕ) → Bool) → IsLive core keeps → IsLeast core keeps
     → (main : ℕ) → place_of main ≡ Main

@@ -15,7 +15,7 @@ use Rattle.fk_types_judgments.specs.Names.{Env}
 use Rattle.fk_types_judgments.specs.Typing.{type_of, struct_of_root, left_of}
 use Rattle.fk_meaning_forms.specs.Tables.{Tables, is_void}
 use Rattle.fk_meaning_forms.specs.Expressions.{Signature, token}
-use Rattle.fk_core_liveness.specs.declared.places.Place.{Place}
+use Rattle.fk_core_liveness.specs.declared.places.FunctionKind.{FunctionKind}
 use Rattle.fk_lower_laws.specs.Ways.{Way, Valued, Absent, Unchecked, Constant, Array, Grouped, Word, behind_member, named_way, called_way, dotted_way, way}
 use Rattle.fk_lower_laws.specs.Asked.{CallAsks, NameAsks, Asked}
 
@@ -45,7 +45,7 @@ module _ (Room : (address : ℕ) → DataType → Type 0) where
   StandsAs Word (Stored type) = (is_some type.length ≡ false) × (struct_of_root type.root type.stars ≡ None)
   StandsAs w type = ⊥
 
-  module _ (env : Env) (tables : Tables) (functions : (binding : ℕ) → Signature) (place_of : (binding : ℕ) → Place) where
+  module _ (env : Env) (tables : Tables) (functions : (binding : ℕ) → Signature) (place_of : (binding : ℕ) → FunctionKind) where
     -- by its type a name stands so; and what is called is a function with its arguments
     abbrev pub NameIs : Named → Type 0
     NameIs name =
@@ -104,7 +104,7 @@ abbrev pub TypedIsAsked : Type 0
 TypedIsAsked =
     (has_room : (address : ℕ) → DataType → Bool)
     → ((address : ℕ) (type : DataType) → has_room address type ≡ true → may_use true address ≡ true)
-    → (env : Env) (tables : Tables) (functions : (binding : ℕ) → Signature) (place_of : (binding : ℕ) → Place) (x : Tree)
+    → (env : Env) (tables : Tables) (functions : (binding : ℕ) → Signature) (place_of : (binding : ℕ) → FunctionKind) (x : Tree)
     → Known (λ address type. has_room address type ≡ true) env tables functions place_of x
     → (type : ExpressionType) → type_of env (term_of x) ≡ Some type
     → Asked tables functions place_of x × StandsAs (λ address type'. has_room address type' ≡ true) (way tables place_of x) type

@@ -4,7 +4,7 @@ use Rattle.fk_syntax.specs.Program.{FunctionTree, ProgramTree}
 use Rattle.fk_meaning_forms.specs.Tables.{Tables}
 use Rattle.fk_meaning_forms.specs.Program.{functions_of, binding_of, is_main, bodies_of, main_of}
 use Rattle.fk_compile_text.specs.Plain.{ArePlain}
-use Rattle.fk_core_liveness.specs.declared.places.Place.TheVariants.{Main}
+use Rattle.fk_core_liveness.specs.declared.places.FunctionKind.TheVariants.{Main}
 use Rattle.fk_core_typing.specs.Typed.{AreTyped}
 use Rattle.fk_lower_laws.specs.Asked.{place_of, ProgramAsked}
 

@@ -12,8 +12,8 @@ use Rattle.fk_meaning_forms.specs.declared.tables.Home.TheVariants as h
 use Rattle.fk_meaning_forms.specs.Tables.{Tables, no_binding, note, slot}
 use Rattle.fk_meaning_forms.specs.Expressions.{is_name}
 use Rattle.fk_meaning.specs.Calls.{takes_two}
-use Rattle.fk_core_liveness.specs.declared.places.Place.{Place}
-use Rattle.fk_core_liveness.specs.declared.places.Place.TheVariants.{Main, Called}
+use Rattle.fk_core_liveness.specs.declared.places.FunctionKind.{FunctionKind}
+use Rattle.fk_core_liveness.specs.declared.places.FunctionKind.TheVariants.{Main, Called}
 
 pub data Way : Type 0 where
   -- as a value, or as none
@@ -44,7 +44,7 @@ abbrev pub predeclared_gives : Named → Bool
 predeclared_gives name =
     takes_two name || (is_name name (codes "groupsize") || not (is_name name (codes "putint") || is_name name (codes "putchar")))
 
-abbrev pub place_gives : Place → Bool
+abbrev pub place_gives : FunctionKind → Bool
 place_gives Main = false
 place_gives (Called gives) = gives
 
@@ -74,7 +74,7 @@ abbrev pub joined_way : Sign → (right : Way) → Way
 joined_way g.Comma right = result (gives right)
 joined_way sign right = Valued
 
-module _ (tables : Tables) (place_of : (binding : ℕ) → Place) where
+module _ (tables : Tables) (place_of : (binding : ℕ) → FunctionKind) where
   abbrev pub named_way : Named → Way
   named_way name =
       let b = (note tables name.at).binding in

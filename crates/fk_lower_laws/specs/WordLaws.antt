@@ -4,7 +4,7 @@ use Rattle.fk_syntax.specs.Program.{ProgramTree}
 use Rattle.std.specs.Prelude.{◌≡◌}
 use Rattle.fk_layout.specs.Layout.{tables_by}
 use Rattle.fk_layout.specs.Refusal.{Fits}
-use Rattle.fk_layout_walk.specs.declared.known.Known.{Known}
+use Rattle.fk_layout_walk.specs.declared.known.ProgramTables.{ProgramTables}
 use Rattle.fk_layout_walk.specs.Known.{tables_of, items_in}
 use Rattle.fk_layout_walk_statements.specs.Texts.{functions_in}
 use Rattle.fk_lower_text.specs.Whole.{AreWhole}
@@ -19,6 +19,6 @@ MembersAreClose = (program : ProgramTree) (facts : Facts) → IsCorrect program 
 -- each number that an operation takes has room in a word, where those that are written in the text have
 abbrev pub NumbersHaveRoom : Type 0
 NumbersHaveRoom =
-    (program : ProgramTree) (facts : Facts) (known : Known) → IsCorrect program facts → Fits (tables_by program facts) program.items
+    (program : ProgramTree) (facts : Facts) (known : ProgramTables) → IsCorrect program facts → Fits (tables_by program facts) program.items
     → NumbersAreWords program → tables_of known ≡ tables_by program facts → items_in known ≡ program.items
     → AreWhole known (functions_in known)

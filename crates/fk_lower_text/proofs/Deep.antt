@@ -9,7 +9,7 @@ use Rattle.fk_meaning_forms.specs.Code.{done, perform, choose, while, until, tur
 use Rattle.fk_meaning_forms.specs.Expressions.{Coded, Signature}
 use Rattle.fk_meaning_forms.specs.Program.{sites_in}
 use Rattle.fk_meaning_forms.proofs.Ranks.{counted}
-use Rattle.fk_layout_walk.specs.declared.known.Known.{Known}
+use Rattle.fk_layout_walk.specs.declared.known.ProgramTables.{ProgramTables}
 use Rattle.fk_layout_walk.specs.Known.{tables_of, functions_of}
 use Rattle.fk_layout_walk_statements.specs.Texts.{functions_in, code_in}
 use Rattle.fk_layout_walk.specs.declared.visitor.Event.TheVariants as v
@@ -305,7 +305,7 @@ module _ (functions : (binding : ℕ) → Signature) where
 
 -- ---- a text
 
-module _ (known : Known) where
+module _ (known : ProgramTables) where
   -- a depth for each site
   pub each : (fs : List FunctionTree) → length (depths_of known fs) ≡ length (sites_in (tables_of known) (functions_in known) fs)
   each [] = refl

@@ -11,7 +11,7 @@ use Rattle.fk_syntax.specs.ProgramView.{item_of}
 use Rattle.fk_meaning_forms.specs.Code as c
 use Rattle.fk_meaning_forms.specs.Code.{Code, size, numbered}
 use Rattle.fk_meaning_forms.specs.Program.{with_body, functions_of, binding_of}
-use Rattle.fk_layout_walk.specs.declared.known.Known.{Known}
+use Rattle.fk_layout_walk.specs.declared.known.ProgramTables.{ProgramTables}
 use Rattle.fk_layout_walk.specs.Known.{tables_of}
 use Rattle.fk_layout_walk_statements.specs.Texts.{code_in}
 use Rattle.fk_lower.specs.Building as b
@@ -39,7 +39,7 @@ one_skipped old now new k j e f n =
     ∙ ap (λ (l : List (Code ℕ)). old ++ l) (replicate_more k c.done ∙ ap (λ m. replicate m c.done) n)
 
 -- a function behind bindings without code
-pub one_laid : (known : Known) (f : FunctionTree) (fs : List FunctionTree) (old mid new : List (Code ℕ)) (count site mid_site binding last behind : ℕ)
+pub one_laid : (known : ProgramTables) (f : FunctionTree) (fs : List FunctionTree) (old mid new : List (Code ℕ)) (count site mid_site binding last behind : ℕ)
     → binding ≡ binding_of (tables_of known) f → mid ≡ old ++ replicate (binding - count) c.done → mid_site ≡ site
     → new ≡ mid ++ numbered mid_site (code_in known f) ∷ [] → last ≡ binding + 1 → behind ≡ mid_site + size (code_in known f)
     → old ++ laid known count site (f ∷ fs) ≡ new ++ laid known last behind fs
@@ -58,7 +58,7 @@ one_laid known f fs old mid new count site mid_site binding last behind h e s g 
     ∙ ap₂ (λ (l r : List (Code ℕ)). l ++ r) whole (ap₂ (λ a z. laid known a z fs) k i)
 
 -- where functions can be laid, so can the first one alone, and those behind it
-module _ (known : Known) where
+module _ (known : ProgramTables) where
   pub first_laid : (f : FunctionTree) (fs : List FunctionTree) (count site : ℕ) → CanBeLaid known count site (f ∷ fs) → CanBeLaid known count site (f ∷ [])
   first_laid f fs count site can = let few = can.few in record { up = (can.up.0, tt); plain = (can.plain.0, tt); few = omega (arith, few) }
 

@@ -5,7 +5,7 @@ use Rattle.fk_syntax.specs.Program.{FunctionTree, ItemTree, ProgramTree}
 use Rattle.fk_meaning_forms.specs.Code as c
 use Rattle.fk_meaning_forms.specs.Code.{Code, done, size, numbered}
 use Rattle.fk_meaning_forms.specs.Program.{functions_of, binding_of, body_in, bodies_of}
-use Rattle.fk_layout_walk.specs.declared.known.Known.{Known}
+use Rattle.fk_layout_walk.specs.declared.known.ProgramTables.{ProgramTables}
 use Rattle.fk_layout_walk.specs.Known.{tables_of}
 use Rattle.fk_layout_walk_statements.specs.Texts.{functions_in, code_in}
 use Rattle.fk_core_flat.specs.Laws.{AreShaped, IsFlat}
@@ -44,7 +44,7 @@ same a b x y e = ap (λ t. if t then x else y) (eq-eqb a b e)
 pub other : {A : Type 0} (a b : ℕ) (x y : A) → (a ≡ b → ⊥) → (if a == b then x else y) ≡ y
 other a b x y n = ap (λ t. if t then x else y) (ne_eqb a b n)
 
-module _ (known : Known) where
+module _ (known : ProgramTables) where
   abbrev binding : FunctionTree → ℕ
   binding f = binding_of (tables_of known) f
 
@@ -105,7 +105,7 @@ unbegun (c.continue rest) whole = unbegun rest whole
 unbegun (c.call t op f opening rest) whole = (unbegun opening whole.1, unbegun rest whole.2)
 unbegun (c.ends t op rest) whole = unbegun rest whole.1
 
-module _ (known : Known) where
+module _ (known : ProgramTables) where
   pub all_plain : (fs : List FunctionTree) → AreWhole known fs → ArePlain known fs
   all_plain [] whole = tt
   all_plain (f ∷ fs) whole = ((unbegun (code_in known f) whole.0, whole.0), all_plain fs whole.1)

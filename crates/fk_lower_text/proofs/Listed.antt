@@ -5,7 +5,7 @@ use Rattle.fk_meaning_forms.specs.Code.{Code, done, size, sites, numbered}
 use Rattle.fk_meaning_forms.specs.Ranks.{ranked}
 use Rattle.fk_meaning_forms.specs.Program.{binding_of, sites_in}
 use Rattle.fk_meaning_forms.proofs.Ranks.{counted, sites_are_ranks}
-use Rattle.fk_layout_walk.specs.declared.known.Known.{Known}
+use Rattle.fk_layout_walk.specs.declared.known.ProgramTables.{ProgramTables}
 use Rattle.fk_layout_walk.specs.Known.{tables_of}
 use Rattle.fk_layout_walk_statements.specs.Texts.{functions_in, code_in}
 use Rattle.fk_core.specs.declared.op.CoreOp.{CoreOp}
@@ -66,7 +66,7 @@ ranked_both : {A : Type 0} (n m : ℕ) (xs ys : List (ℕ × A)) → m ≡ n + l
 ranked_both n m [] ys e = ap (λ k. ranked k ys) (let z : m ≡ n = omega arith in z)
 ranked_both n m (x ∷ xs) ys e = ap (λ more. (x.0, n) ∷ more) (ranked_both (suc n) m xs ys (omega arith))
 
-module _ (known : Known) where
+module _ (known : ProgramTables) where
   laid_sites : (fs : List FunctionTree) (count site : ℕ) → joined (laid known count site fs) ≡ ranked site (sites_in (tables_of known) (functions_in known) fs)
   laid_sites [] count site = refl
   laid_sites (f ∷ fs) count site =

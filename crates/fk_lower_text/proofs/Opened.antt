@@ -3,7 +3,7 @@ use Rattle.std.proofs.Common.{◌≡◌, ℕ, suc, ◌+◌, ◌-◌, Bool, false
 use Rattle.fk_syntax.specs.Program.{FunctionTree, ProgramTree}
 use Rattle.fk_meaning_forms.specs.Code.{Code, done, perform, choose, while, until, turn, again, quit, break, continue, call, ends, size, numbered}
 use Rattle.fk_meaning_forms.specs.Program.{binding_of, bodies_of}
-use Rattle.fk_layout_walk.specs.declared.known.Known.{Known}
+use Rattle.fk_layout_walk.specs.declared.known.ProgramTables.{ProgramTables}
 use Rattle.fk_layout_walk.specs.Known.{tables_of}
 use Rattle.fk_layout_walk_statements.specs.Texts.{functions_in, code_in}
 use Rattle.fk_core_flat.specs.Shape.{is_closed, IsOpening, IsShaped}
@@ -40,7 +40,7 @@ module _ (has_body : (binding : ℕ) → Bool) where
   opened (ends t op rest) n l s = opened rest (suc n) l s.1
 
   -- so of functions that are laid one behind the other
-  pub all_opened : (known : Known) (fs : List FunctionTree) (count site : ℕ)
+  pub all_opened : (known : ProgramTables) (fs : List FunctionTree) (count site : ℕ)
       → ((i : ℕ) → IsShaped has_body false (code_at (laid known count site fs) i)) → HaveOpenings known fs
   all_opened known [] count site shaped = tt
   all_opened known (f ∷ fs) count site shaped =
@@ -55,7 +55,7 @@ module _ (has_body : (binding : ℕ) → Bool) where
       )
 
 -- so of a program that can be lowered
-pub program_opened : (known : Known) (program : ProgramTree) → IsLowerable known program → GoUp known 0 (functions_in known) → HaveOpenings known (functions_in known)
+pub program_opened : (known : ProgramTables) (program : ProgramTree) → IsLowerable known program → GoUp known 0 (functions_in known) → HaveOpenings known (functions_in known)
 program_opened known program lowerable up =
     let has_body : ℕ → Bool = λ f. is_closed (bodies_of (tables_of known) program f) in
     all_opened has_body known (functions_in known) 0 0

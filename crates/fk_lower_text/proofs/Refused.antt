@@ -4,7 +4,7 @@ use Rattle.fk_syntax.specs.Program.{FunctionTree}
 use Rattle.fk_meaning_forms.specs.Code as c
 use Rattle.fk_meaning_forms.specs.Code.{Code, done, size, numbered}
 use Rattle.fk_meaning_forms.specs.Program.{binding_of}
-use Rattle.fk_layout_walk.specs.declared.known.Known.{Known}
+use Rattle.fk_layout_walk.specs.declared.known.ProgramTables.{ProgramTables}
 use Rattle.fk_layout_walk.specs.Known.{tables_of}
 use Rattle.fk_layout_walk_statements.specs.Texts.{functions_in, code_in}
 use Rattle.fk_lower.specs.declared.block.Block.{Block}
@@ -87,7 +87,7 @@ none_numbered : (k : ℕ) (codes : List (Code ℕ)) → EachNumbered codes → E
 none_numbered zero codes h = h
 none_numbered (suc k) codes h = (tt, none_numbered k codes h)
 
-module _ (known : Known) where
+module _ (known : ProgramTables) where
   laid_sized : (fs : List FunctionTree) (count site : ℕ) → all_sizes (laid known count site fs) ≡ sizes known fs
   laid_sized [] count site = refl
   laid_sized (f ∷ fs) count site =
@@ -118,7 +118,7 @@ total_few (block ∷ blocks) m =
     let own = ap (λ (spans : Spans). spans.far.extent) m.0.0 in
     omega (arith, own, extent_few code false, total_few blocks m.1)
 
-module _ (known : Known) where
+module _ (known : ProgramTables) where
   pub only_memory : (fault : LowerFault) → fault ≡ v.Memory → IsTextFault known fault
   only_memory fault is = subst (IsTextFault known) (sym is) tt
 

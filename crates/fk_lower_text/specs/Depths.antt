@@ -3,7 +3,7 @@ use Rattle.std.specs.Prelude.{ℕ, List, [], ◌∷◌, ◌++◌}
 use Rattle.fk_syntax.specs.Program.{FunctionTree}
 use Rattle.fk_meaning_forms.specs.Code.{Code, done, perform, choose, while, until, turn, again, quit, break, continue, call, ends}
 use Rattle.fk_meaning_forms.specs.Expressions.{Coded, Signature}
-use Rattle.fk_layout_walk.specs.declared.known.Known.{Known}
+use Rattle.fk_layout_walk.specs.declared.known.ProgramTables.{ProgramTables}
 use Rattle.fk_layout_walk.specs.Known.{functions_of}
 use Rattle.fk_layout_walk_statements.specs.Texts.{code_in}
 use Rattle.fk_layout_sizes.specs.Places.{At, behind_operation, behind_call, behind, beginning}
@@ -60,7 +60,7 @@ HasOpenings (call t op f opening rest) = IsStraight opening × HasOpenings rest
 HasOpenings (ends t op rest) = HasOpenings rest
 HasOpenings code = ⊥
 
-module _ (known : Known) where
+module _ (known : ProgramTables) where
   -- of functions, each of which begins without values
   abbrev pub depths_of : List FunctionTree → List ℕ
   depths_of [] = []

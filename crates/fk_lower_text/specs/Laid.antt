@@ -3,7 +3,7 @@ use Rattle.std.specs.Prelude.{ℕ, suc, ◌+◌, ◌-◌, ◌*◌, ◌^◌, ◌<
 use Rattle.fk_syntax.specs.Program.{FunctionTree}
 use Rattle.fk_meaning_forms.specs.Code.{Code, done, size, numbered}
 use Rattle.fk_meaning_forms.specs.Program.{binding_of}
-use Rattle.fk_layout_walk.specs.declared.known.Known.{Known}
+use Rattle.fk_layout_walk.specs.declared.known.ProgramTables.{ProgramTables}
 use Rattle.fk_layout_walk.specs.Known.{tables_of}
 use Rattle.fk_layout_walk_statements.specs.Texts.{code_in}
 use Rattle.fk_lower.specs.declared.block.Block.{Block}
@@ -13,7 +13,7 @@ use Rattle.fk_lower_text.specs.Whole.{ArePlain}
 abbrev pub codes_of : List Block → List (Code ℕ)
 codes_of blocks = map block_code blocks
 
-module _ (known : Known) where
+module _ (known : ProgramTables) where
   -- the code of functions, each at its binding, where there are so many bindings before, and the next operation has a site
   abbrev pub laid : (count site : ℕ) → List FunctionTree → List (Code ℕ)
   laid count site [] = []

@@ -7,7 +7,7 @@ use Rattle.fk_meaning.specs.Alike.{RunAlike}
 use Rattle.fk_meaning.specs.Program as source
 use Rattle.fk_meaning_forms.specs.Ranks.{ranked}
 use Rattle.fk_meaning_forms.specs.Program.{bodies_of, main_of}
-use Rattle.fk_layout_walk.specs.declared.known.Known.{Known}
+use Rattle.fk_layout_walk.specs.declared.known.ProgramTables.{ProgramTables}
 use Rattle.fk_layout_walk.specs.Known.{tables_of, items_in}
 use Rattle.fk_layout_walk_statements.specs.Texts.{functions_in, sites_of_text}
 use Rattle.fk_core.specs.declared.op.CoreOp.{CoreOp}
@@ -22,12 +22,12 @@ use Rattle.fk_lower_text.specs.Whole.{AreWhole, AreNumbered}
 
 -- a program of these items, of whose code is asked that it has the shape of flat lists, and that each number of its operations has
 -- room in a word
-pub record IsLowerable (known : Known) (program : ProgramTree) : Type 0 where
+pub record IsLowerable (known : ProgramTables) (program : ProgramTree) : Type 0 where
   pub items : program.items ≡ items_in known
   pub shaped : AreShaped (bodies_of (tables_of known) program)
   pub whole : AreWhole known (functions_in known)
 
-module _ (known : Known) (program : ProgramTree) (core : List CoreOp) (entry : (binding : ℕ) → ℕ) where
+module _ (known : ProgramTables) (program : ProgramTree) (core : List CoreOp) (entry : (binding : ℕ) → ℕ) where
   -- the list is flat, with the code of each function at its entry; and so the code of the program stands in it
   pub record HasProgram : Type 0 where
     pub flat : IsFlat (bodies_of (tables_of known) program) core entry
@@ -43,14 +43,14 @@ module _ (known : Known) (program : ProgramTree) (core : List CoreOp) (entry : (
 
 -- the operations of the list are those of the text in their order, each with its rank as its site, and there are few jumps
 -- between them
-pub record HasSites (known : Known) (core : List CoreOp) : Type 0 where
+pub record HasSites (known : ProgramTables) (core : List CoreOp) : Type 0 where
   pub items : List Item
   pub are : IsListOf core items
   pub sites : acts items ≡ ranked 0 (sites_of_text known)
   pub few : jumps items ≤ length (acts items) + calls items
 
 -- Why functions that can be laid have no list: an operation has no number, or memory is refused, which no clause can say
-abbrev pub IsTextFault : Known → LowerFault → Type 0
+abbrev pub IsTextFault : ProgramTables → LowerFault → Type 0
 IsTextFault known TooLong = ⊥
 IsTextFault known OutOfRange = AreNumbered known (functions_in known) → ⊥
 IsTextFault known Misplaced = ⊥

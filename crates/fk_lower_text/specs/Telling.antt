@@ -4,7 +4,7 @@ use Rattle.std.specs.Vec.{with_item}
 use Rattle.fk_meaning_operation.specs.declared.operation.Operation.{Operation}
 use Rattle.fk_syntax.specs.declared.place.Place.{Place}
 use Rattle.fk_syntax.specs.Program.{FunctionTree}
-use Rattle.fk_layout_walk.specs.declared.known.Known.{Known}
+use Rattle.fk_layout_walk.specs.declared.known.ProgramTables.{ProgramTables}
 use Rattle.fk_layout_walk.specs.declared.visitor.Event.{Event}
 use Rattle.fk_layout_walk.specs.declared.visitor.Mark.{Mark}
 use Rattle.fk_layout_walk.specs.Event.{operation_of}
@@ -37,7 +37,7 @@ depths_mark depths = mark_of depths.height
 abbrev pub begun : Depths → Depths
 begun depths = record depths { height = high 0 None }
 
-abbrev pub through_functions : Known → Depths → List FunctionTree → Depths
+abbrev pub through_functions : ProgramTables → Depths → List FunctionTree → Depths
 through_functions known depths [] = depths
 through_functions known depths (f ∷ fs) =
     through_functions known (through depths_after depths_mark (functions_of known) (begun depths) (code_in known f)) fs

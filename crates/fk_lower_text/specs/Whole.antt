@@ -3,7 +3,7 @@ use Rattle.std.specs.Prelude.{◌≡◌, List, [], ◌∷◌}
 use Rattle.fk_meaning_operation.specs.declared.operation.Operation.{Operation}
 use Rattle.fk_syntax.specs.Program.{FunctionTree}
 use Rattle.fk_meaning_forms.specs.Code.{Code, done, perform, choose, while, until, quit, break, continue, call, ends}
-use Rattle.fk_layout_walk.specs.declared.known.Known.{Known}
+use Rattle.fk_layout_walk.specs.declared.known.ProgramTables.{ProgramTables}
 use Rattle.fk_layout_walk.specs.Shown.{shown}
 use Rattle.fk_layout_walk_statements.specs.Texts.{code_in}
 use Rattle.fk_lower.specs.Building.{IsUnbegun}
@@ -32,15 +32,15 @@ abbrev pub IsPlain : {A : Type 0} → Code A → Type 0
 IsPlain code = IsUnbegun code × IsWhole code
 
 -- so of the code of functions
-abbrev pub AreWhole : Known → List FunctionTree → Type 0
+abbrev pub AreWhole : ProgramTables → List FunctionTree → Type 0
 AreWhole known [] = Unit {0}
 AreWhole known (f ∷ fs) = IsWhole (code_in known f) × AreWhole known fs
 
-abbrev pub ArePlain : Known → List FunctionTree → Type 0
+abbrev pub ArePlain : ProgramTables → List FunctionTree → Type 0
 ArePlain known [] = Unit {0}
 ArePlain known (f ∷ fs) = IsPlain (code_in known f) × ArePlain known fs
 
 -- each operation of the code of functions has a number
-abbrev pub AreNumbered : Known → List FunctionTree → Type 0
+abbrev pub AreNumbered : ProgramTables → List FunctionTree → Type 0
 AreNumbered known [] = Unit {0}
 AreNumbered known (f ∷ fs) = HaveNumbers (code_in known f) × AreNumbered known fs

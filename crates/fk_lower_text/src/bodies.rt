@@ -20,7 +20,7 @@ use crate::main_entry::binding_of;
 use crate::noting::events_of;
 use fk_lower::{Block, CodeEvent, LowerFault, build};
 use fk_syntax::{Function, Item};
-use fk_layout_walk::Known;
+use fk_layout_walk::ProgramTables;
 use std::alloc::Global;
 
 /// The blocks of functions, each at its binding. Where there is no function there is an empty one.
@@ -112,7 +112,7 @@ impl Bodies {
     }
 
     // The block of a function behind those there are.
-    fn push(&mut self, known: &Known, whole: &Function) -> Result<(), LowerFault>
+    fn push(&mut self, known: &ProgramTables, whole: &Function) -> Result<(), LowerFault>
         requires sound { IsSound known.now }
         requires measured { AreMeasured (map part_of self.now.blocks.items) }
         requires plain { IsPlain (code_in known.now (function_of whole.now)) }
@@ -135,7 +135,7 @@ impl Bodies {
     }
 
     // The block of a function at its binding.
-    fn add(&mut self, known: &Known, whole: &Function) -> Result<(), LowerFault>
+    fn add(&mut self, known: &ProgramTables, whole: &Function) -> Result<(), LowerFault>
         requires sound { IsSound known.now }
         requires measured { AreMeasured (map part_of self.now.blocks.items) }
         requires laid { CanBeLaid known.now (length self.now.blocks.items) self.now.site
@@ -156,7 +156,7 @@ impl Bodies {
     }
 
     // The block of the function of an item, where it has a body.
-    fn item(&mut self, known: &Known, whole: &Item) -> Result<(), LowerFault>
+    fn item(&mut self, known: &ProgramTables, whole: &Item) -> Result<(), LowerFault>
         requires sound { IsSound known.now }
         requires measured { AreMeasured (map part_of self.now.blocks.items) }
         requires laid { CanBeLaid known.now (length self.now.blocks.items) self.now.site
@@ -188,7 +188,7 @@ impl Bodies {
     ///
     /// # Errors
     /// `Memory`.
-    pub(crate) fn of(alloc: Global, known: &Known) -> Result<Bodies, LowerFault>
+    pub(crate) fn of(alloc: Global, known: &ProgramTables) -> Result<Bodies, LowerFault>
         requires sound { IsSound known.now }
         requires laid { CanBeLaid known.now 0 0 (functions_in known.now) }
         ensures codes { IfOk result (λ bodies.

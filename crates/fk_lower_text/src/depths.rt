@@ -14,7 +14,7 @@ use crate::height::Height;
 use fk_layout::count_sites;
 use fk_lower::LowerFault;
 use fk_syntax::Item;
-use fk_layout_walk::{Event, Known, Mark, Visitor};
+use fk_layout_walk::{Event, ProgramTables, Mark, Visitor};
 use fk_layout_walk_statements::function;
 use std::alloc::Global;
 
@@ -41,7 +41,7 @@ impl Depths {
     }
 
     // Is shown what stands in a text side by side. Each function begins without values.
-    fn item(&mut self, known: &Known, whole: &Item)
+    fn item(&mut self, known: &ProgramTables, whole: &Item)
         requires { IsSound known.now }
         ensures { (others : List ItemTree)
             → through_functions known.now self.old (f.functions_of (item_of whole.now ∷ others))
@@ -84,7 +84,7 @@ impl Visitor for Depths {
 ///
 /// # Errors
 /// `Memory`.
-pub(crate) fn depths_of(alloc: Global, known: &Known) -> Result<Vec<u32>, LowerFault>
+pub(crate) fn depths_of(alloc: Global, known: &ProgramTables) -> Result<Vec<u32>, LowerFault>
     requires { IsSound known.now }
     ensures depths { HaveOpenings known.now (functions_in known.now)
         → 2 * length (sites_of_text known.now) < 2 ^ 32

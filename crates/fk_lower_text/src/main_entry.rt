@@ -12,10 +12,10 @@ ghost use Rattle.fk_lower_text.specs.Lowered.{IsTextFault};
 
 use fk_lower::Lowered;
 use fk_syntax::{Function, Item};
-use fk_layout_walk::Known;
+use fk_layout_walk::ProgramTables;
 
 /// The binding of a function.
-pub(crate) fn binding_of(known: &Known, whole: &Function) -> u32
+pub(crate) fn binding_of(known: &ProgramTables, whole: &Function) -> u32
     ensures { result ≡ binding_of (tables_of known.now) (function_of whole.now) }
 {
     known.note(whole.name.at).binding
@@ -28,7 +28,7 @@ fn is_main(whole: &Function) -> bool
 }
 
 // The binding of `main`, where an item is that.
-fn main_here(known: &Known, item: &Item) -> Option<u32>
+fn main_here(known: &ProgramTables, item: &Item) -> Option<u32>
     ensures { (others : List ItemTree)
         → main_in (tables_of known.now) (functions_of (item_of item.now ∷ others))
         ≡ unwrap_or result (main_in (tables_of known.now) (functions_of others)) }
@@ -47,7 +47,7 @@ fn main_here(known: &Known, item: &Item) -> Option<u32>
 }
 
 // The binding of the first function that is `main`, and 0 where there is none.
-fn main_binding(known: &Known) -> u32
+fn main_binding(known: &ProgramTables) -> u32
     ensures { result ≡ main_in (tables_of known.now) (functions_in known.now) }
 {
     for item in known.items {
@@ -70,7 +70,7 @@ fn entry(lowered: &Lowered, binding: u32) -> u32
 }
 
 /// Where `main` begins in the list of a text: at the entry of the first function that is `main`.
-pub fn entry_of_main(known: &Known, lowered: &Lowered) -> u32
+pub fn entry_of_main(known: &ProgramTables, lowered: &Lowered) -> u32
     ensures { result ≡ entry_of lowered.now.entries.of_bindings.items lowered.now.entries.end
         (main_in (tables_of known.now) (functions_in known.now)) }
 {

@@ -12,7 +12,7 @@ ghost use Rattle.fk_lower_text.specs.Whole.{IsPlain};
 use crate::count::Count;
 use fk_lower::{CodeEvent, LowerFault};
 use fk_syntax::Function;
-use fk_layout_walk::{Event, Known, Mark, Visitor};
+use fk_layout_walk::{Event, ProgramTables, Mark, Visitor};
 use fk_layout_walk_statements::function;
 use std::alloc::Global;
 
@@ -85,7 +85,7 @@ impl Visitor for Noting {
 /// `Memory`.
 pub(crate) fn events_of(
     alloc: Global,
-    known: &Known,
+    known: &ProgramTables,
     whole: &Function,
 ) -> Result<Vec<CodeEvent>, LowerFault>
     requires { IsSound known.now }

@@ -13,7 +13,7 @@ ghost use Rattle.fk_lower_text.specs.Lowered.{IsLowerable, HasProgram, HasItsRun
 use crate::bodies::Bodies;
 use crate::depths::depths_of;
 use fk_lower::{Block, LowerFault, Lowered, lower};
-use fk_layout_walk::Known;
+use fk_layout_walk::ProgramTables;
 use std::alloc::Global;
 
 /// The flat list of a text, by what is known of it: each function at its binding, each operation
@@ -23,7 +23,7 @@ use std::alloc::Global;
 ///
 /// # Errors
 /// `OutOfRange` where a constant of an operation is too large for its number; and `Memory`.
-pub fn lower_text(alloc: Global, known: &Known) -> Result<Lowered, LowerFault>
+pub fn lower_text(alloc: Global, known: &ProgramTables) -> Result<Lowered, LowerFault>
     requires sound { IsSound known.now }
     requires laid { CanBeLaid known.now 0 0 (functions_in known.now) }
     ensures program { (program : ProgramTree) → IsLowerable known.now program

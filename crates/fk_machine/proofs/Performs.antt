@@ -5,7 +5,7 @@ use Rattle.fk_isa.specs.declared.instruction.Instruction.TheVariants.{Lui, Addi,
 use Rattle.fk_isa.specs.Atomic.{unless}
 use Rattle.fk_isa.specs.Step.{set_register}
 use Rattle.fk_machine.specs.declared.place.Device.TheVariants.{OutInt, Fault, Halt}
-use Rattle.fk_machine.specs.declared.place.Place.TheVariants.{SharedWord, ControlWord, LocalWord, DeviceWord}
+use Rattle.fk_machine.specs.declared.place.Location.TheVariants.{SharedWord, ControlWord, LocalWord, DeviceWord}
 use Rattle.fk_machine.specs.declared.stand.Stand.TheVariants.{Faulted}
 use Rattle.fk_machine.specs.Place.{place_of}
 use Rattle.fk_machine.specs.Hart.{Hart, Shared, Setting, Goes, Stops}

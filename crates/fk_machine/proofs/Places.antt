@@ -2,7 +2,7 @@
 use Rattle.std.proofs.Common.{◌≡◌, ℕ, ◌+◌, ◌-◌, ◌*◌, ◌/◌, ◌^◌, ◌<◌, ◌≤◌, true, false, refl, ap, ◌∙◌, arith}
 use Rattle.std.proofs.lemmas.Bool.Decides.{nat_tests}
 use Rattle.fk_machine.specs.declared.place.Device.TheVariants.{OutInt, Fault, Halt}
-use Rattle.fk_machine.specs.declared.place.Place.TheVariants.{SharedWord, ControlWord, LocalWord, DeviceWord}
+use Rattle.fk_machine.specs.declared.place.Location.TheVariants.{SharedWord, ControlWord, LocalWord, DeviceWord}
 use Rattle.fk_machine.specs.Place.{is_in, place_of, device_at}
 
 shared_at : (a : ℕ) → is_in a 0x10000000 (2 ^ 20) ≡ true → place_of a ≡ SharedWord ((a - 0x10000000) / 4)

@@ -1,10 +1,10 @@
 -- Places that fit the machine.
 use Rattle.std.specs.Prelude.{◌<◌, ◌^◌, ◌+◌}
-use Rattle.fk_machine.specs.declared.place.Place.{Place}
-use Rattle.fk_machine.specs.declared.place.Place.TheVariants.{SharedWord, ControlWord, LocalWord, DeviceWord, Nowhere}
+use Rattle.fk_machine.specs.declared.place.Location.{Location}
+use Rattle.fk_machine.specs.declared.place.Location.TheVariants.{SharedWord, ControlWord, LocalWord, DeviceWord, Nowhere}
 
 -- a word of a memory lies within it
-abbrev pub IsInMachine : Place → Type 0
+abbrev pub IsInMachine : Location → Type 0
 IsInMachine (SharedWord i) = i < 2 ^ 20
 IsInMachine (ControlWord i) = i < 2 ^ 20 + 64
 IsInMachine (LocalWord i) = i < 32768

@@ -1,15 +1,15 @@
 -- The map of addresses.
 use Rattle.std.specs.Prelude.{ℕ, ◌+◌, ◌-◌, ◌*◌, ◌/◌, ◌^◌, ◌==◌, nat_lt, nat_le, ◌&&◌, if◌then◌else◌, Bool}
 use Rattle.fk_machine.specs.declared.place.Device.TheVariants.{OutInt, OutChar, Fault, Halt, Cycle, HartId, Harts, Inputs}
-use Rattle.fk_machine.specs.declared.place.Place.{Place}
-use Rattle.fk_machine.specs.declared.place.Place.TheVariants.{SharedWord, ControlWord, LocalWord, DeviceWord, Nowhere}
+use Rattle.fk_machine.specs.declared.place.Location.{Location}
+use Rattle.fk_machine.specs.declared.place.Location.TheVariants.{SharedWord, ControlWord, LocalWord, DeviceWord, Nowhere}
 
 -- whether an address lies in a memory of so many words from a start on
 abbrev pub is_in : ℕ → ℕ → ℕ → Bool
 is_in a start words = nat_le start a && nat_lt a (start + 4 * words)
 
 -- the devices, a word each
-unfoldable pub device_at : ℕ → Place
+unfoldable pub device_at : ℕ → Location
 device_at a =
     if a == 0x30000000 then DeviceWord OutInt
     else if a == 0x30000004 then DeviceWord OutChar
@@ -22,7 +22,7 @@ device_at a =
     else Nowhere
 
 -- the word that holds an address: of 2^20 words of shared data, 64 more of shared control, 32,768 of the hart's own
-unfoldable pub place_of : ℕ → Place
+unfoldable pub place_of : ℕ → Location
 place_of a =
     if is_in a 0x10000000 (2 ^ 20) then SharedWord ((a - 0x10000000) / 4)
     else if is_in a 0x18000000 (2 ^ 20 + 64) then ControlWord ((a - 0x18000000) / 4)

@@ -5,8 +5,8 @@ use Rattle.fk_isa.specs.Tells.{Answer, Gives, Traps, Stored, GoesOn, Ends, Fault
 use Rattle.fk_isa.specs.Atomic.{unless, combined}
 use Rattle.fk_machine.specs.declared.place.Device.{Device}
 use Rattle.fk_machine.specs.declared.place.Device.TheVariants.{OutInt, OutChar, Fault, Halt, Cycle, HartId, Harts, Inputs}
-use Rattle.fk_machine.specs.declared.place.Place.{Place}
-use Rattle.fk_machine.specs.declared.place.Place.TheVariants.{SharedWord, ControlWord, LocalWord, DeviceWord, Nowhere}
+use Rattle.fk_machine.specs.declared.place.Location.{Location}
+use Rattle.fk_machine.specs.declared.place.Location.TheVariants.{SharedWord, ControlWord, LocalWord, DeviceWord, Nowhere}
 use Rattle.fk_machine.specs.Hart.{Reservations, Shared, Setting}
 use Rattle.fk_machine.specs.Place.{place_of}
 
@@ -55,7 +55,7 @@ store_device r v Halt = Gives Ends r
 store_device r v device = Traps 4
 
 -- the word of a memory; devices are none
-abbrev pub word_at : Reach → Place → Option ℕ
+abbrev pub word_at : Reach → Location → Option ℕ
 word_at r (SharedWord i) = Some (r.shared.words i)
 word_at r (ControlWord i) = Some (r.shared.control i)
 word_at r (LocalWord i) = Some (r.local i)
@@ -76,7 +76,7 @@ abbrev pub reserves : Reservations → ℕ → Option ℕ → Reservations
 reserves reserved number r = λ hart. if hart == number then r else reserved hart
 
 -- after a hart has stored a word, whose reservations are cleared; a local word can be reserved by its own hart alone
-abbrev pub stored : Reach → ℕ → ℕ → Place → ℕ → Reach
+abbrev pub stored : Reach → ℕ → ℕ → Location → ℕ → Reach
 stored r number word (SharedWord i) v =
     record r { shared = record r.shared { words = put r.shared.words i v; reserved = cleared r.shared.reserved word } }
 stored r number word (ControlWord i) v =
@@ -89,12 +89,12 @@ stored r number word (LocalWord i) v =
 stored r number word place v = r
 
 -- loads of so many bytes
-abbrev pub load : Reach → ℕ → ℕ → ℕ → Place → Answer Reach ℕ
+abbrev pub load : Reach → ℕ → ℕ → ℕ → Location → Answer Reach ℕ
 load r number a size (DeviceWord device) = whole size (load_device r number device)
 load r number a size place = on_word (word_at r place) (λ w. Gives (part w (a % 4) size) r)
 
 -- stores of so many bytes
-abbrev pub store : Reach → ℕ → ℕ → ℕ → ℕ → Place → Answer Reach Stored
+abbrev pub store : Reach → ℕ → ℕ → ℕ → ℕ → Location → Answer Reach Stored
 store r number a size v (DeviceWord device) = whole size (store_device r v device)
 store r number a size v place =
     on_word (word_at r place) (λ w. Gives GoesOn (stored r number (a / 4 * 4) place (with_part w (a % 4) size v)))
@@ -109,12 +109,12 @@ is_of word None = false
 is_of word (Some reserved) = reserved == word
 
 -- sc.w stores where the hart has reserved the word, and gives 0, else 1; the hart has none reserved any more
-abbrev pub conditional : Bool → Reach → ℕ → ℕ → Place → ℕ → Answer Reach ℕ
+abbrev pub conditional : Bool → Reach → ℕ → ℕ → Location → ℕ → Answer Reach ℕ
 conditional true r number word place v = Gives 0 (stored (reserving r number None) number word place v)
 conditional false r number word place v = Gives 1 (reserving r number None)
 
 -- atomic instructions on a word w: lr.w reserves it; all but lr.w and sc.w give it, and store it combined with v
-abbrev pub atomic : Reach → ℕ → ℕ → ℕ → ℕ → Place → ℕ → Answer Reach ℕ
+abbrev pub atomic : Reach → ℕ → ℕ → ℕ → ℕ → Location → ℕ → Answer Reach ℕ
 atomic r number word what v place w =
     if what == 0b00010 then Gives w (reserving r number (Some word))
     else if what == 0b00011 then conditional (is_of word (r.shared.reserved number)) r number word place v

@@ -4,7 +4,7 @@ ghost use Rattle.std.specs.Prelude.{◌≡◌, ◌+◌, ◌*◌, ◌^◌, ◌<�
 ghost use Rattle.fk_isa.specs.Tells.{IsSize};
 ghost use Rattle.fk_machine.specs.Reach.{part, with_part};
 
-use crate::place::{Device, Place, place_at};
+use crate::place::{Device, Location, place_at};
 use crate::setting::Setting;
 use crate::shared::SharedState;
 use crate::stand::{ACCESS, MISALIGNED};
@@ -90,22 +90,22 @@ impl HartBus<'_> {
 
     // The word of a memory.
     #[inline(always)]
-    fn word_at(&self, place: Place) -> Option<u32>
+    fn word_at(&self, place: Location) -> Option<u32>
         requires within { IsInMachine place }
         requires own { length self.now.local.now ≡ 32768 }
         ensures { result ≡ word_at (reach_of self.now) place }
     {
         match place {
-            Place::SharedWord(index) => Some(self.shared.words[index as usize]),
-            Place::ControlWord(index) => Some(self.shared.control[index as usize]),
-            Place::LocalWord(index) => Some(self.local[index as usize]),
+            Location::SharedWord(index) => Some(self.shared.words[index as usize]),
+            Location::ControlWord(index) => Some(self.shared.control[index as usize]),
+            Location::LocalWord(index) => Some(self.local[index as usize]),
             _ => None,
         }
     }
 
     // Stores a word in a memory, and clears its reservations.
     #[inline(always)]
-    fn store_word(&mut self, number: u32, word: u32, place: Place, value: u32)
+    fn store_word(&mut self, number: u32, word: u32, place: Location, value: u32)
         requires number { number < vec_len self.old.shared.now.reserved }
         requires within { IsInMachine place }
         requires own { length self.old.local.now ≡ 32768 }
@@ -114,15 +114,15 @@ impl HartBus<'_> {
     {
         let (local, shared) = (&mut *self.local, &mut *self.shared);
         match place {
-            Place::SharedWord(index) => {
+            Location::SharedWord(index) => {
                 shared.words[index as usize] = value;
                 shared.clear(word);
             }
-            Place::ControlWord(index) => {
+            Location::ControlWord(index) => {
                 shared.control[index as usize] = value;
                 shared.clear(word);
             }
-            Place::LocalWord(index) => {
+            Location::LocalWord(index) => {
                 local[index as usize] = value;
                 shared.clear_own(number, word);
             }
@@ -132,7 +132,7 @@ impl HartBus<'_> {
 
     // The conditional store of a word: 0 where it is done, and 1 where no reservation was held.
     #[inline(always)]
-    fn store_conditional(&mut self, number: u32, word: u32, place: Place, value: u32) -> u32
+    fn store_conditional(&mut self, number: u32, word: u32, place: Location, value: u32) -> u32
         requires number { number < vec_len self.old.shared.now.reserved }
         requires within { IsInMachine place }
         requires own { length self.old.local.now ≡ 32768 }
@@ -178,7 +178,7 @@ impl Bus for HartBus<'_> {
         match self.word_at(place) {
             Some(word) => Ok(part(word, address % 4, size)),
             None => match place {
-                Place::DeviceWord(device) if size == 4 => self.load_device(hart, device),
+                Location::DeviceWord(device) if size == 4 => self.load_device(hart, device),
                 _ => Err(ACCESS),
             },
         }
@@ -197,7 +197,7 @@ impl Bus for HartBus<'_> {
                 Ok(Effect::Next)
             }
             None => match place {
-                Place::DeviceWord(device) if size == 4 => self.store_device(device, value),
+                Location::DeviceWord(device) if size == 4 => self.store_device(device, value),
                 _ => Err(ACCESS),
             },
         }

@@ -45,7 +45,7 @@ impl Machine {
     ///
     /// It takes all the memory that cycles need, 8 MiB for what is shared and 128 KiB for each hart
     /// beside its code. Where that is not there it answers [`AllocError`].
-    pub fn make(
+    pub fn new(
         alloc: Global,
         image: &Image,
         input: &[u32],
@@ -58,8 +58,8 @@ impl Machine {
         requires room { vec_len image.now.globals + length input.now ≤ 524288 }
         ensures { IfOk result (λ m. machine_of m ≡ machine_opening image.now input.now harts) }
     {
-        let setting = Setting::make(alloc, &image.code, harts, input.len() as u32)?;
-        let shared = SharedState::make(alloc, &image.globals, input, harts)?;
+        let setting = Setting::new(alloc, &image.code, harts, input.len() as u32)?;
+        let shared = SharedState::new(alloc, &image.globals, input, harts)?;
         let locals = zeros(alloc, LOCAL_STRIDE as usize * harts as usize)?;
         Ok(Machine {
             setting,

@@ -45,7 +45,7 @@ pub enum Device {
 
 /// What an address lies in. A word of a memory goes by its index.
 #[derive(Clone, Copy)]
-pub enum Place {
+pub enum Location {
     SharedWord(u32),
     ControlWord(u32),
     LocalWord(u32),
@@ -68,35 +68,35 @@ fn index_in(address: u32, start: u32, words: u32) -> Option<u32>
 
 /// What an address names.
 #[tactic(auto, unfolding(crate::specs::Place::place_of))]
-pub(crate) fn place_at(address: u32) -> Place
+pub(crate) fn place_at(address: u32) -> Location
     ensures place { result ≡ place_of address }
     ensures within { IsInMachine result }
 {
     if let Some(index) = index_in(address, LOCAL_START, LOCAL_WORDS) {
-        Place::LocalWord(index)
+        Location::LocalWord(index)
     } else if let Some(index) = index_in(address, SHARED_START, SHARED_WORDS) {
-        Place::SharedWord(index)
+        Location::SharedWord(index)
     } else if let Some(index) = index_in(address, CONTROL_START, CONTROL_WORDS) {
-        Place::ControlWord(index)
+        Location::ControlWord(index)
     } else {
         device_at(address)
     }
 }
 
 #[tactic(auto, unfolding(crate::specs::Place::device_at))]
-fn device_at(address: u32) -> Place
+fn device_at(address: u32) -> Location
     ensures place { result ≡ device_at address }
     ensures within { IsInMachine result }
 {
     match address {
-        0x3000_0000 => Place::DeviceWord(Device::OutInt),
-        0x3000_0004 => Place::DeviceWord(Device::OutChar),
-        0x3000_0008 => Place::DeviceWord(Device::Fault),
-        0x3000_000c => Place::DeviceWord(Device::Halt),
-        0x3000_0010 => Place::DeviceWord(Device::Cycle),
-        0x3000_0014 => Place::DeviceWord(Device::HartId),
-        0x3000_0018 => Place::DeviceWord(Device::Harts),
-        0x3000_001c => Place::DeviceWord(Device::Inputs),
-        _ => Place::Nowhere,
+        0x3000_0000 => Location::DeviceWord(Device::OutInt),
+        0x3000_0004 => Location::DeviceWord(Device::OutChar),
+        0x3000_0008 => Location::DeviceWord(Device::Fault),
+        0x3000_000c => Location::DeviceWord(Device::Halt),
+        0x3000_0010 => Location::DeviceWord(Device::Cycle),
+        0x3000_0014 => Location::DeviceWord(Device::HartId),
+        0x3000_0018 => Location::DeviceWord(Device::Harts),
+        0x3000_001c => Location::DeviceWord(Device::Inputs),
+        _ => Location::Nowhere,
     }
 }

@@ -58,7 +58,7 @@ impl Setting {
     ghost use Rattle.fk_machine.specs.View.{row_of};
 
     /// The setting of the first cycle.
-    pub fn make(alloc: Global, code: &[u32], harts: u32, inputs: u32) -> Result<Setting, AllocError>
+    pub fn new(alloc: Global, code: &[u32], harts: u32, inputs: u32) -> Result<Setting, AllocError>
         requires { length code.now ≤ 262144 }
         ensures code { IfOk result (λ t. map row_of t.code.items ≡ map row code.now) }
         ensures harts { IfOk result (λ t. t.harts ≡ harts) }

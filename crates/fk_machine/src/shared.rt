@@ -37,7 +37,7 @@ impl SharedState {
 
     /// Shared data with the globals and then the input numbers, control of zeros, and room for what
     /// so many harts print in a cycle.
-    pub fn make(
+    pub fn new(
         alloc: Global,
         globals: &[u32],
         input: &[u32],

@@ -24,7 +24,7 @@ fn write_far_branch(assembler: &mut Assembler) -> Result<(), AllocError>
 
 #[test]
 fn a_branch_over_2000_words_is_too_far(rt: HostRuntime) -> Result<(), Fail> {
-    let mut assembler = Assembler::make(rt.alloc());
+    let mut assembler = Assembler::new(rt.alloc());
     write_far_branch(&mut assembler)?;
     assert!(rt; matches!(assembler.finish(), Err(AsmFault::TooFar(0, 8004))));
     Ok(())
@@ -51,7 +51,7 @@ fn write_jumps(assembler: &mut Assembler) -> Result<(), AllocError>
 // The words are those that the GNU assembler gives for these lines.
 #[test]
 fn jumps_have_the_words_of_the_gnu_assembler(rt: HostRuntime) -> Result<(), Fail> {
-    let mut assembler = Assembler::make(rt.alloc());
+    let mut assembler = Assembler::new(rt.alloc());
     write_jumps(&mut assembler)?;
     let code = assembler.finish()?;
     let words = [
@@ -113,7 +113,7 @@ fn write_commits(assembler: &mut Assembler) -> Result<(), AllocError>
 
 #[test]
 fn entries_are_those_of_the_words_that_commit(rt: HostRuntime) -> Result<(), Fail> {
-    let mut assembler = Assembler::make(rt.alloc());
+    let mut assembler = Assembler::new(rt.alloc());
     write_commits(&mut assembler)?;
     let code = assembler.finish()?;
     assert!(rt; code.commits.as_slice() == [(4, 1), (12, 1), (16, 255 + 6 * 256)].as_slice());

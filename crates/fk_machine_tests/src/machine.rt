@@ -344,7 +344,7 @@ fn machine_for(rt: &impl Abort, alloc: Global, case: &Case) -> Result<Machine, A
         sites: Vec::new(alloc),
         commits: Vec::new(alloc),
     };
-    let machine = Machine::make(alloc, &image, case.input, case.harts)?;
+    let machine = Machine::new(alloc, &image, case.input, case.harts)?;
     Ok(machine)
 }
 

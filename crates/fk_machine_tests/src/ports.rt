@@ -52,11 +52,11 @@ fn puts<F: Store>(files: &mut F, name: &str, bytes: &[u8]) -> bool {
 }
 
 fn source_of(alloc: Global, bytes: &[u8], fails: &[u64]) -> Result<MemSource, AllocError> {
-    Ok(MemSource::make(bytes.to_vec(alloc)?, fails.to_vec(alloc)?))
+    Ok(MemSource::new(bytes.to_vec(alloc)?, fails.to_vec(alloc)?))
 }
 
 fn sink_of(alloc: Global, room: usize, fails: &[u64]) -> Result<MemSink, AllocError> {
-    MemSink::make(alloc, room, fails.to_vec(alloc)?)
+    MemSink::new(alloc, room, fails.to_vec(alloc)?)
 }
 
 fn store_of(
@@ -67,7 +67,7 @@ fn store_of(
 ) -> Result<MemStore, AllocError> {
     let mut files = Vec::new(alloc);
     files.push((String::from_str(alloc, name)?, bytes.to_vec(alloc)?))?;
-    Ok(MemStore::make(files, fails.to_vec(alloc)?))
+    Ok(MemStore::new(files, fails.to_vec(alloc)?))
 }
 
 #[test]
@@ -107,12 +107,12 @@ fn keeps_files_in_memory(rt: HostRuntime) -> Result<(), Fail> {
 #[test]
 fn never_fails_where_it_is_sure(rt: HostRuntime) -> Result<(), Fail> {
     let alloc = rt.alloc();
-    let mut source = SureSource::make(b"abc".to_vec(alloc)?);
+    let mut source = SureSource::new(b"abc".to_vec(alloc)?);
     assert!(rt; takes(alloc, &mut source, 9, b"abc"));
-    let mut sink = SureSink::make();
+    let mut sink = SureSink::new();
     assert!(rt; gives(&mut sink, b"abc"));
     assert!(rt; sink.count() == 3);
-    let mut store = SureStore::make(b"same".to_vec(alloc)?);
+    let mut store = SureStore::new(b"same".to_vec(alloc)?);
     assert!(rt; puts(&mut store, "a", b"new"));
     assert!(rt; fetches(alloc, &mut store, "a", 9, b"same"));
     Ok(())
@@ -131,7 +131,7 @@ fn keeps_files_of_the_system(rt: HostRuntime) -> Result<(), Fail> {
     let mut path = env::temp_dir(&rt)?;
     path.push("fk_ports_keeps_files_of_the_system")?;
     let bytes = long_bytes(alloc)?;
-    let mut store = HostStore::make(&rt);
+    let mut store = HostStore::new(&rt);
     let is_kept = keeps(alloc, &mut store, path.as_str(), &bytes);
     fs::remove_file(&rt, path.as_str())?;
     assert!(rt; is_kept);
@@ -165,9 +165,9 @@ fn takes_from_a_reader(rt: HostRuntime) -> Result<(), Fail> {
     let bytes = long_bytes(alloc)?;
     // pieces of 4096 and of 904 bytes by turns
     let reader = BufReader::with_capacity(alloc, 5000, bytes.as_slice())?;
-    let mut source = HostSource::make(reader);
+    let mut source = HostSource::new(reader);
     assert!(rt; takes(alloc, &mut source, usize::MAX, &bytes));
-    let mut broken = HostSource::make(BreaksOff { has_read: false });
+    let mut broken = HostSource::new(BreaksOff { has_read: false });
     assert!(rt; take_faults(alloc, &mut broken, 9));
     Ok(())
 }
@@ -197,10 +197,10 @@ fn gives_to_a_writer(rt: HostRuntime) -> Result<(), Fail> {
     let mut writer = Narrow {
         taken: Vec::new(alloc),
     };
-    assert!(rt; gives(&mut HostSink::make(&mut writer), &bytes));
+    assert!(rt; gives(&mut HostSink::new(&mut writer), &bytes));
     assert!(rt; writer.taken.as_slice() == bytes.as_slice());
     let mut room = [0; 4];
-    let mut sink = HostSink::make(room.as_mut_slice());
+    let mut sink = HostSink::new(room.as_mut_slice());
     assert!(rt; gives(&mut sink, b"abc"));
     assert!(rt; !gives(&mut sink, b"def"), "a write that takes nothing");
     Ok(())

@@ -4,11 +4,11 @@ use Rattle.std.specs.Prelude.{◌^◌, replicate}
 use Rattle.fk_num.specs.Word.{signed_line}
 use Rattle.fk_num.specs.declared.operator.Op.TheVariants.{Mul, DivU, RemU, Ne}
 use Rattle.fk_meaning_operation.specs.declared.operation.Operation.{Operation}
-use Rattle.fk_meaning_operation.specs.declared.operation.Operation.TheVariants.{Push, Get, DropLast, Apply, Join, Index, Check, Read, Write, Combine, PrintNumber, Enter, Begin, Agree, Frame, Divide, End, Resume, Halt}
-use Rattle.fk_meaning_operation.specs.declared.operation.Known.TheVariants.{Rank, GroupNumber, GroupSize, Processors}
+use Rattle.fk_meaning_operation.specs.declared.operation.Operation.TheVariants.{Push, Get, DropLast, Apply, Binary, Index, Check, Read, Write, Combine, PrintNumber, Enter, Begin, Agree, Frame, Split, End, Resume, Halt}
+use Rattle.fk_meaning_operation.specs.declared.operation.OwnValue.TheVariants.{Rank, GroupNumber, GroupSize, Processors}
 use Rattle.fk_meaning_operation.specs.declared.operation.Unary.TheVariants.{Negate}
 use Rattle.fk_meaning_operation.specs.declared.operation.Multiprefix.TheVariants.{MpAdd}
-use Rattle.fk_meaning_operation.specs.declared.operation.Split.TheVariants.{Fork}
+use Rattle.fk_meaning_operation.specs.declared.operation.SplitKind.TheVariants.{Fork}
 use Rattle.fk_meaning_store.specs.Store.{address_of}
 use Rattle.fk_meaning.specs.Processor.{Setting, setting_of}
 use Rattle.fk_meaning.specs.Round.{Step, State, Fault, result, is_allowed, is_possible, cut}
@@ -54,7 +54,7 @@ counts_down = (refl, refl, refl)
 abbrev forking : List Operation
 forking =
     Get Processors ∷ Begin
-    ∷ Push 3 ∷ Agree ∷ Get Rank ∷ Push 3 ∷ Join RemU false ∷ Get Rank ∷ Push 3 ∷ Join DivU false ∷ Divide Fork
+    ∷ Push 3 ∷ Agree ∷ Get Rank ∷ Push 3 ∷ Binary RemU false ∷ Get Rank ∷ Push 3 ∷ Binary DivU false ∷ Split Fork
     ∷ Push (address_of 0) ∷ Get GroupNumber ∷ Index 4 ∷ Check false ∷ Get GroupSize ∷ Write ∷ DropLast
     ∷ End ∷ Resume ∷ End ∷ Resume ∷ Halt ∷ []
 
@@ -83,7 +83,7 @@ abbrev pointing : List Operation
 pointing =
     Get Processors ∷ Begin
     ∷ Get Rank ∷ PrintNumber
-    ∷ Push (address_of 0) ∷ Get Rank ∷ Push 5 ∷ Join Ne false ∷ Join Mul false ∷ Check false ∷ Read ∷ DropLast
+    ∷ Push (address_of 0) ∷ Get Rank ∷ Push 5 ∷ Binary Ne false ∷ Binary Mul false ∷ Check false ∷ Read ∷ DropLast
     ∷ End ∷ Resume ∷ Halt ∷ []
 
 abbrev at_check : State (List Operation)

@@ -7,9 +7,9 @@ use Rattle.fk_syntax.specs.Program.{DeclaredTree}
 use Rattle.fk_meaning_operation.specs.declared.operation.Operation.{Operation}
 use Rattle.fk_meaning_operation.specs.declared.operation.Operation.TheVariants as o
 use Rattle.fk_meaning_operation.specs.declared.operation.Variable.TheVariants as v
-use Rattle.fk_meaning_operation.specs.declared.operation.Known.TheVariants as n
-use Rattle.fk_meaning_operation.specs.declared.operation.Split.{Split}
-use Rattle.fk_meaning_operation.specs.declared.operation.Split.TheVariants.{IfElse}
+use Rattle.fk_meaning_operation.specs.declared.operation.OwnValue.TheVariants as n
+use Rattle.fk_meaning_operation.specs.declared.operation.SplitKind.{SplitKind}
+use Rattle.fk_meaning_operation.specs.declared.operation.SplitKind.TheVariants.{IfElse}
 use Rattle.fk_meaning_forms.specs.declared.tables.Region.{Region}
 use Rattle.fk_meaning_forms.specs.Code.{done, perform, choose}
 use Rattle.fk_meaning_forms.specs.Tables.{Tables, note, slot, frame_at}
@@ -28,7 +28,7 @@ performed (o.Branch onward) e w t rest p = untrue e
 performed (o.Leave gives framed') e w t rest p = untrue e
 performed (o.Enter arguments) e w t rest p = untrue e
 performed o.Begin e w t rest p = untrue e
-performed (o.Divide by) e w t rest p = untrue e
+performed (o.Split by) e w t rest p = untrue e
 performed o.Shrink e w t rest p = untrue e
 performed o.End e w t rest p = untrue e
 performed o.Farm e w t rest p = untrue e
@@ -44,8 +44,8 @@ ended x e = (refl, refl, e)
 pub end : (x : Exits) → x.tests ≡ false → Nests (true, x) (plain o.End done)
 end x e = (refl, refl, (refl, e, refl))
 
-divided_alone : (by : Split) → is_alone by ≡ true → (w : Bool × Exits) (t : Place) (a rest : Coded) → Nests (true, none) a → Nests w rest
-    → Nests w (choose t (o.Divide by) a done (plain o.Resume rest))
+divided_alone : (by : SplitKind) → is_alone by ≡ true → (w : Bool × Exits) (t : Place) (a rest : Coded) → Nests (true, none) a → Nests w rest
+    → Nests w (choose t (o.Split by) a done (plain o.Resume rest))
 divided_alone IfElse e w t a rest p q = untrue e
 divided_alone by e w t a rest p q = (refl, refl, p, ended none refl, (λ is. refl), (λ is. refl), (refl, refl, q))
 

@@ -13,12 +13,12 @@ use Rattle.fk_syntax.specs.Program.{DeclaredTree}
 use Rattle.fk_meaning_operation.specs.declared.operation.Operation.{Operation}
 use Rattle.fk_meaning_operation.specs.declared.operation.Operation.TheVariants as o
 use Rattle.fk_meaning_operation.specs.declared.operation.Variable.TheVariants as v
-use Rattle.fk_meaning_operation.specs.declared.operation.Known.TheVariants as n
+use Rattle.fk_meaning_operation.specs.declared.operation.OwnValue.TheVariants as n
 use Rattle.fk_meaning_operation.specs.declared.operation.Unary.TheVariants as u
 use Rattle.fk_meaning_operation.specs.declared.operation.Multiprefix.{Multiprefix}
 use Rattle.fk_meaning_operation.specs.declared.operation.Multiprefix.TheVariants.{MpAdd, MpMax, MpAnd, MpOr}
-use Rattle.fk_meaning_operation.specs.declared.operation.Split.{Split}
-use Rattle.fk_meaning_operation.specs.declared.operation.Split.TheVariants.{IfElse, AndThen, OrElse}
+use Rattle.fk_meaning_operation.specs.declared.operation.SplitKind.{SplitKind}
+use Rattle.fk_meaning_operation.specs.declared.operation.SplitKind.TheVariants.{IfElse, AndThen, OrElse}
 use Rattle.fk_meaning_forms.specs.declared.tables.Home.{Home}
 use Rattle.fk_meaning_forms.specs.declared.tables.Home.TheVariants as h
 use Rattle.fk_meaning_forms.specs.declared.tables.Region.{Region}
@@ -39,7 +39,7 @@ is_inner (o.Branch onward) = false
 is_inner (o.Leave gives framed) = false
 is_inner (o.Enter arguments) = false
 is_inner o.Begin = false
-is_inner (o.Divide by) = false
+is_inner (o.Split by) = false
 is_inner o.Shrink = false
 is_inner o.End = false
 is_inner o.Farm = false
@@ -49,7 +49,7 @@ is_inner o.Halt = false
 is_inner op = true
 
 -- a split of which the others enter no part
-abbrev pub is_alone : Split → Bool
+abbrev pub is_alone : SplitKind → Bool
 is_alone IfElse = false
 is_alone by = true
 
@@ -72,10 +72,10 @@ pub record IsKept (tables : Tables) (functions : (binding : ℕ) → Signature) 
   pub performs : (x : W) (t : Place) (op : Operation) (rest : Coded) → is_inner op ≡ true → Fine x rest → Fine x (perform t op rest)
   pub part_ends : (x : W) → Fine (in_part x) (plain o.End done)
   pub way_ends : (x : W) → Fine (in_way x) done
-  pub divides_alone : (x : W) (t : Place) (by : Split) (a rest : Coded) → is_alone by ≡ true → Fine (in_part x) a → Fine x rest
-      → Fine x (choose t (o.Divide by) a done (plain o.Resume rest))
+  pub divides_alone : (x : W) (t : Place) (by : SplitKind) (a rest : Coded) → is_alone by ≡ true → Fine (in_part x) a → Fine x rest
+      → Fine x (choose t (o.Split by) a done (plain o.Resume rest))
   pub divides : (x : W) (t : Place) (a b rest : Coded) → Fine (in_part x) a → Fine (in_part x) b → Fine x rest
-      → Fine x (choose t (o.Divide IfElse) a b (plain o.Resume rest))
+      → Fine x (choose t (o.Split IfElse) a b (plain o.Resume rest))
   pub branches : (x : W) (t : Place) (onward : Bool) (a b rest : Coded) → Fine (in_way x) a → Fine (in_way x) b → Fine x rest
       → Fine x (choose t (o.Branch onward) a b rest)
   pub enters : (x : W) (name : Named) (given : Trees) (rest : Coded) → Takes name given → is_predeclared tables name ≡ false → Fine x rest
@@ -87,12 +87,12 @@ module _ {tables : Tables} {functions : (binding : ℕ) → Signature} {Takes : 
   on : {x : W} {t : Place} {op : Operation} {rest : Coded} → is_inner op ≡ true → Fine x rest → Fine x (perform t op rest)
   on {x = x} {t = t} {op = op} {rest = rest} e p = kept.performs x t op rest e p
 
-  alone : {x : W} {t : Place} {by : Split} {a rest : Coded} → is_alone by ≡ true → Fine (kept.in_part x) a → Fine x rest
-      → Fine x (choose t (o.Divide by) a done (plain o.Resume rest))
+  alone : {x : W} {t : Place} {by : SplitKind} {a rest : Coded} → is_alone by ≡ true → Fine (kept.in_part x) a → Fine x rest
+      → Fine x (choose t (o.Split by) a done (plain o.Resume rest))
   alone {x = x} {t = t} {by = by} {a = a} {rest = rest} e p q = kept.divides_alone x t by a rest e p q
 
   both : {x : W} {t : Place} {a b rest : Coded} → Fine (kept.in_part x) a → Fine (kept.in_part x) b → Fine x rest
-      → Fine x (choose t (o.Divide IfElse) a b (plain o.Resume rest))
+      → Fine x (choose t (o.Split IfElse) a b (plain o.Resume rest))
   both {x = x} {t = t} {a = a} {b = b} {rest = rest} p q r = kept.divides x t a b rest p q r
 
   branch : {x : W} {t : Place} {onward : Bool} {a b rest : Coded} → Fine (kept.in_way x) a → Fine (kept.in_way x) b → Fine x rest
@@ -226,13 +226,13 @@ module _ {tables : Tables} {functions : (binding : ℕ) → Signature} {Takes : 
   prefixes spot sign e good at x k p = value_is e good x (k OnList) (p OnList)
 
   truths : (e : Stands) → Good e → Keeps (truth tables functions e)
-  truths e good x rest p = value_is e good x (plain (o.Push 0) (plain (o.Join f.Ne false) rest)) (on refl (on refl p))
+  truths e good x rest p = value_is e good x (plain (o.Push 0) (plain (o.Binary f.Ne false) rest)) (on refl (on refl p))
 
-  logicals : (spot : Spot) (by : Split) (onward : Bool) (other : ℕ) (a : Stands) → Good a → (b : Stands) → Good b → is_alone by ≡ true
+  logicals : (spot : Spot) (by : SplitKind) (onward : Bool) (other : ℕ) (a : Stands) → Good a → (b : Stands) → Good b → is_alone by ≡ true
       → Good (logical tables functions spot by onward other a b)
   logicals spot by onward other a good_a b good_b e x k p =
       let here = note tables spot.at in
-      let parted = choose spot.place (o.Divide by) (truth tables functions b (plain o.End done)) done (plain o.Resume (k OnList)) in
+      let parted = choose spot.place (o.Split by) (truth tables functions b (plain o.End done)) done (plain o.Resume (k OnList)) in
       let branched = choose nowhere (o.Branch onward) (truth tables functions b done) (plain (o.Push other) done) (k OnList) in
       value_is a good_a x (if here.splits then parted else agreed here.sync branched)
       (either x here.splits parted (agreed here.sync branched)
@@ -243,7 +243,7 @@ module _ {tables : Tables} {functions : (binding : ℕ) → Signature} {Takes : 
   chooses : (spot : Spot) (c : Stands) → Good c → (a : Stands) → Good a → (b : Stands) → Good b → Good (chosen tables functions spot c a b)
   chooses spot c good_c a good_a b good_b x k p =
       let here = note tables spot.at in
-      let parted = choose spot.place (o.Divide IfElse) (value_of tables functions a (plain o.End done)) (value_of tables functions b (plain o.End done)) (plain o.Resume (k OnList)) in
+      let parted = choose spot.place (o.Split IfElse) (value_of tables functions a (plain o.End done)) (value_of tables functions b (plain o.End done)) (plain o.Resume (k OnList)) in
       let branched = choose nowhere (o.Branch true) (value_of tables functions a done) (value_of tables functions b done) (k OnList) in
       value_is c good_c x (if here.splits then parted else agreed here.sync branched)
       (either x here.splits parted (agreed here.sync branched)

@@ -8,8 +8,8 @@ use Rattle.fk_syntax.specs.Tree.{Named, TypeTree, Tree}
 use Rattle.fk_syntax.specs.Program as p
 use Rattle.fk_syntax.specs.Program.{DeclaredTree, Statement, Statements, FunctionTree, ProgramTree}
 use Rattle.fk_meaning_operation.specs.declared.operation.Operation.TheVariants as o
-use Rattle.fk_meaning_operation.specs.declared.operation.Known.TheVariants as n
-use Rattle.fk_meaning_operation.specs.declared.operation.Split.TheVariants.{IfAlone, IfElse, Loop, Fork}
+use Rattle.fk_meaning_operation.specs.declared.operation.OwnValue.TheVariants as n
+use Rattle.fk_meaning_operation.specs.declared.operation.SplitKind.TheVariants.{IfAlone, IfElse, Loop, Fork}
 use Rattle.fk_meaning_forms.specs.Code as c
 use Rattle.fk_meaning_forms.specs.Code.{Code, done, perform, choose, while, until, turn, again, quit, break, continue, call, ends, size, numbered}
 use Rattle.fk_meaning_forms.specs.Tables.{Tables, note, frame_at}
@@ -70,7 +70,7 @@ module _ (tables : Tables) (functions : (binding : ℕ) → Signature) where
   loops : (spot : Spot) (x : Exits) (loop : Coded → Coded) (b : Bool)
       → ((part : Bool) (x' : Exits) (rest : Coded) → of_turn b x' ≡ of_turn b x → Either b ((part ≡ true) × (x'.tests ≡ false) × (rest ≡ done)) (Fine part x' rest) → Fine part x' (loop rest))
       → (part : Bool) (rest : Coded) → Fine part x rest
-      → Fine part x (if b then choose spot.place (o.Divide Loop) (part_frame tables functions spot 0 (loop done)) done (plain o.Resume rest) else loop rest)
+      → Fine part x (if b then choose spot.place (o.Split Loop) (part_frame tables functions spot 0 (loop done)) done (plain o.Resume rest) else loop rest)
   loops spot x loop true keeps part rest q =
       (refl, refl, part_frames all spot 0 (true, none) (loop done) (keeps true none done refl (refl, refl, refl)), ended none refl, (λ e. refl), (λ e. refl), (refl, refl, q))
   loops spot x loop false keeps part rest q = keeps part x rest refl q
@@ -103,7 +103,7 @@ module _ (tables : Tables) (functions : (binding : ℕ) → Signature) where
   -- `if`, split or not
   ifs : (spot : Spot) (sync : Bool) (x : Exits) → Plain x → (b : Bool) (body : Coded → Coded) → Leads (if b then none else x) body → (part : Bool) (rest : Coded) → Fine part x rest
       → Fine part x (if b
-      then choose spot.place (o.Divide IfAlone) (part_frame tables functions spot 0 (body (plain o.End done))) done (plain o.Resume rest)
+      then choose spot.place (o.Split IfAlone) (part_frame tables functions spot 0 (body (plain o.End done))) done (plain o.Resume rest)
       else agreed sync (choose nowhere (o.Branch true) (body done) done rest))
   ifs spot sync x plain' true body keeps part rest q =
       (refl, refl, parts spot 0 body keeps, ended none refl, (λ e. refl), (λ e. refl), (refl, refl, q))
@@ -114,7 +114,7 @@ module _ (tables : Tables) (functions : (binding : ℕ) → Signature) where
   if_elses : (spot : Spot) (sync : Bool) (x : Exits) → Plain x → (b : Bool) (first second : Coded → Coded) → Leads (if b then none else x) first → Leads (if b then none else x) second
       → (part : Bool) (rest : Coded) → Fine part x rest
       → Fine part x (if b
-      then choose spot.place (o.Divide IfElse) (part_frame tables functions spot 0 (first (plain o.End done))) (part_frame tables functions spot 1 (second (plain o.End done))) (plain o.Resume rest)
+      then choose spot.place (o.Split IfElse) (part_frame tables functions spot 0 (first (plain o.End done))) (part_frame tables functions spot 1 (second (plain o.End done))) (plain o.Resume rest)
       else agreed sync (choose nowhere (o.Branch true) (first done) (second done) rest))
   if_elses spot sync x plain' true first second one two part rest q =
       (refl, refl, parts spot 0 first one, parts spot 1 second two, (λ e. untrue e), (λ e. refl), (refl, refl, q))
@@ -134,7 +134,7 @@ module _ (tables : Tables) (functions : (binding : ℕ) → Signature) where
         let inner = branch_plain here.splits x plain' in
         values_kept all condition shaped.0 (part, x)
         (if here.splits
-        then choose spot.place (o.Divide IfAlone) (part_frame tables functions spot 0 (body (plain o.End done))) done (plain o.Resume rest)
+        then choose spot.place (o.Split IfAlone) (part_frame tables functions spot 0 (body (plain o.End done))) done (plain o.Resume rest)
         else agreed here.sync (choose nowhere (o.Branch true) (body done) done rest))
         (ifs spot here.sync x plain' here.splits body (statement inside (of_branch tables functions here.splits x) inner first shaped.1) part rest q)
     statement inside x plain' (p.IfElse spot condition first second) shaped part rest q =
@@ -144,7 +144,7 @@ module _ (tables : Tables) (functions : (binding : ℕ) → Signature) where
         let inner = branch_plain here.splits x plain' in
         values_kept all condition shaped.0 (part, x)
         (if here.splits
-        then choose spot.place (o.Divide IfElse) (part_frame tables functions spot 0 (a (plain o.End done))) (part_frame tables functions spot 1 (b (plain o.End done))) (plain o.Resume rest)
+        then choose spot.place (o.Split IfElse) (part_frame tables functions spot 0 (a (plain o.End done))) (part_frame tables functions spot 1 (b (plain o.End done))) (plain o.Resume rest)
         else agreed here.sync (choose nowhere (o.Branch true) (a done) (b done) rest))
         (if_elses spot here.sync x plain' here.splits a b
         (statement inside (of_branch tables functions here.splits x) inner first shaped.1)
@@ -179,7 +179,7 @@ module _ (tables : Tables) (functions : (binding : ℕ) → Signature) where
         (refl, refl, parts spot 0 run (statement inside none none_plain body shaped.1), ended none refl, (λ e. refl), (λ e. refl), (refl, refl, q))
     statement inside x plain' (p.Fork spot k number rank body) shaped part rest q =
         let run = executed tables functions inside body in
-        let split = choose spot.place (o.Divide Fork) (part_frame tables functions spot 0 (run (plain o.End done))) done (plain o.Resume rest) in
+        let split = choose spot.place (o.Split Fork) (part_frame tables functions spot 0 (run (plain o.End done))) done (plain o.Resume rest) in
         let ranked = value_or tables functions (plain (o.Get n.Rank)) rank split in
         let numbered' = value tables functions number ranked in
         let forked : Fine part x split

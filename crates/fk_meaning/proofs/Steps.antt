@@ -3,7 +3,7 @@ use Rattle.std.proofs.Common.{◌≡◌, ℕ, Bool, true, false, true≢false, L
 use Rattle.std.specs.Prelude.{if◌then◌else◌}
 use Rattle.fk_meaning_operation.specs.declared.operation.Operation.{Operation}
 use Rattle.fk_meaning_operation.specs.declared.operation.Operation.TheVariants as o
-use Rattle.fk_meaning_operation.specs.declared.operation.Split.TheVariants.{IfElse}
+use Rattle.fk_meaning_operation.specs.declared.operation.SplitKind.TheVariants.{IfElse}
 use Rattle.fk_meaning.specs.Round.{Step}
 use Rattle.fk_meaning_forms.specs.Code.{Code, done, perform, choose, while, until, turn, again, quit, break, continue, call, ends, append}
 use Rattle.fk_meaning.specs.Left.{broken, settled}
@@ -43,7 +43,7 @@ meets_past (ends t op rest) e = untrue e
 performs : (t : ℕ) (op : Operation) (rest : Code ℕ) (callers : List (Code ℕ)) (here : Work) → is_performed op ≡ true → Nested rest
     → (meets (perform t op rest) ≡ true → here ≡ at (perform t op rest) callers)
     → GoesOn op here (all_behind (past (perform t op rest)) callers) (λ onward. going rest callers)
-performs t (o.Divide by) rest callers here is h e = untrue is
+performs t (o.Split by) rest callers here is h e = untrue is
 performs t o.Begin rest callers here is h e = untrue is
 performs t o.Shrink rest callers here is h e = untrue is
 performs t o.Farm rest callers here is h e = untrue is
@@ -67,12 +67,12 @@ in_way op x part a rest s h allows quiet begin =
 
 splits_confine : (op : Operation) → splits op ≡ true → confines op ≡ true
 splits_confine o.Begin e = refl
-splits_confine (o.Divide by) e = refl
+splits_confine (o.Split by) e = refl
 splits_confine op e = untrue e
 
 two_confine : (op : Operation) → has_two_parts op ≡ true → splits op ≡ true
-two_confine (o.Divide IfElse) e = refl
-two_confine (o.Divide by) e = untrue e
+two_confine (o.Split IfElse) e = refl
+two_confine (o.Split by) e = untrue e
 two_confine op e = untrue e
 
 module _ (t : ℕ) (op' : Operation) (a b rest : Code ℕ) (callers : List (Code ℕ)) (here : Work) where
@@ -121,8 +121,8 @@ chooses : (t : ℕ) (op : Operation) (a b rest : Code ℕ) (callers : List (Code
     → (waits op ≡ true → b ≡ done) → (opens_body op ≡ true → meets rest ≡ true) → Nested (append a rest) → Nested (append b rest) → Nested rest
     → GoesOn op here (all_behind (past (choose t op a b rest)) callers) (ways t op a b rest callers here)
 chooses t (o.Branch onward) a b rest callers here is x s u w m h k g = branches t (o.Branch onward) a b rest callers here (of_way (o.Branch onward) x) (of_way (o.Branch onward) x) s u h k
-chooses t (o.Divide IfElse) a b rest callers here is x s u w m h k g = two_parts t (o.Divide IfElse) a b rest callers here none none s u h k g
-chooses t (o.Divide by) a b rest callers here is x s u w m h k g = parts t (o.Divide by) a b rest callers here none s h g (w refl)
+chooses t (o.Split IfElse) a b rest callers here is x s u w m h k g = two_parts t (o.Split IfElse) a b rest callers here none none s u h k g
+chooses t (o.Split by) a b rest callers here is x s u w m h k g = parts t (o.Split by) a b rest callers here none s h g (w refl)
 chooses t o.Begin a b rest callers here is x s u w m h k g = parts t o.Begin a b rest callers here none s h g (w refl)
 chooses t o.Farm a b rest callers here is x s u w m h k g = opens_one t o.Farm a b rest callers here none s h g (w refl) (m refl)
 chooses t o.Seq a b rest callers here is x s u w m h k g = opens_one t o.Seq a b rest callers here none s h g (w refl) (m refl)

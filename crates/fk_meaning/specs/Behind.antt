@@ -2,7 +2,7 @@
 use Rattle.std.specs.Prelude.{◌≡◌, ℕ, Bool, true, false, List, [], ◌∷◌, ◌++◌, map, if◌then◌else◌}
 use Rattle.fk_meaning_operation.specs.declared.operation.Operation.{Operation}
 use Rattle.fk_meaning_operation.specs.declared.operation.Operation.TheVariants as o
-use Rattle.fk_meaning_operation.specs.declared.operation.Split.TheVariants.{IfElse}
+use Rattle.fk_meaning_operation.specs.declared.operation.SplitKind.TheVariants.{IfElse}
 use Rattle.fk_meaning.specs.Round.{Step}
 use Rattle.fk_meaning_forms.specs.Code.{Code, done, perform, choose, while, until, turn, again, quit, break, continue, call, ends}
 use Rattle.fk_meaning.specs.Left.{settled}
@@ -79,9 +79,9 @@ outs work = works work.callers (past work.left) ++ waiting work.callers
 -- how an operation goes on: into a part, behind which there is what those have left who wait for it; into a body, at the end
 -- of which there is what those have who wait there; behind the part, or from the end of the body on; or as before
 abbrev pub GoesOn : Operation → (here : Work) → (behind : List Work) → (rest : Bool → Work) → Type 0
-GoesOn (o.Divide IfElse) here behind rest =
+GoesOn (o.Split IfElse) here behind rest =
     (parent : Work) × (outs parent ≡ behind) × (outs (rest true) ≡ parent ∷ behind) × (outs (rest false) ≡ parent ∷ behind)
-GoesOn (o.Divide by) here behind rest = (outs (rest false) ≡ behind) × (outs (rest true) ≡ rest false ∷ behind)
+GoesOn (o.Split by) here behind rest = (outs (rest false) ≡ behind) × (outs (rest true) ≡ rest false ∷ behind)
 GoesOn o.Begin here behind rest = (outs (rest false) ≡ behind) × (outs (rest true) ≡ rest false ∷ behind)
 GoesOn o.Shrink here behind rest = (outs (rest true) ≡ behind) × (behind ≡ rest false ∷ outs (rest false))
 GoesOn o.End here behind rest = behind ≡ rest true ∷ outs (rest true)

@@ -3,10 +3,10 @@ use Rattle.std.specs.Prelude.{ℕ, zero, suc, ◌==◌, ◌^◌, nat_lt, min, Bo
 use Rattle.fk_num.specs.Word.{put}
 use Rattle.fk_space.specs.Space.{Space, share, child, frame, block}
 use Rattle.fk_tree.specs.Tree as t
-use Rattle.fk_meaning_operation.specs.declared.operation.Split.{Split}
-use Rattle.fk_meaning_operation.specs.declared.operation.Split.TheVariants.{IfAlone, IfElse, AndThen, OrElse, Loop, Fork}
+use Rattle.fk_meaning_operation.specs.declared.operation.SplitKind.{SplitKind}
+use Rattle.fk_meaning_operation.specs.declared.operation.SplitKind.TheVariants.{IfAlone, IfElse, AndThen, OrElse, Loop, Fork}
 use Rattle.fk_meaning_operation.specs.declared.operation.Operation.{Operation}
-use Rattle.fk_meaning_operation.specs.declared.operation.Operation.TheVariants.{Begin, Agree, Frame, Block, Divide, Shrink, End, Resume, Farm, Seq, Meet}
+use Rattle.fk_meaning_operation.specs.declared.operation.Operation.TheVariants.{Begin, Agree, Frame, Block, Split, Shrink, End, Resume, Farm, Seq, Meet}
 use Rattle.fk_meaning_store.specs.Store.{address_of}
 use Rattle.fk_meaning_store.specs.Serve.{words_of}
 use Rattle.fk_meaning.specs.Processor.{Level, Processor, values, with_values, with_space, last, before, drop_last, in_place, enter_level, leave_level}
@@ -16,7 +16,7 @@ abbrev pub not_negative : ℕ → ℕ
 not_negative v = if nat_lt v (2 ^ 31) then v else 0
 
 -- how many parts a split makes: for a `fork` as many as the value before the two last ones says
-abbrev pub parts : Split → (values : List ℕ) → ℕ
+abbrev pub parts : SplitKind → (values : List ℕ) → ℕ
 parts IfElse vs = 2
 parts Fork vs = not_negative (last (before 2 vs))
 parts by vs = 1
@@ -25,7 +25,7 @@ parts by vs = 1
 abbrev pub if_below : (i k : ℕ) → Option ℕ
 if_below i k = if nat_lt i k then Some i else None
 
-abbrev pub part : Split → (values : List ℕ) → Option ℕ
+abbrev pub part : SplitKind → (values : List ℕ) → Option ℕ
 part IfAlone vs = if last vs == 0 then None else Some 0
 part IfElse vs = if last vs == 0 then Some 1 else Some 0
 part AndThen vs = if last vs == 0 then None else Some 0
@@ -34,26 +34,26 @@ part Loop vs = Some 0
 part Fork vs = if_below (last (before 1 vs)) (parts Fork vs)
 
 -- how many values a split takes, and what those have who wait: `&&` is 0 for them, and `||` is 1
-abbrev pub taken_by : Split → ℕ
+abbrev pub taken_by : SplitKind → ℕ
 taken_by Loop = 0
 taken_by Fork = 3
 taken_by by = 1
 
-abbrev pub waits_with : Split → List ℕ → List ℕ
+abbrev pub waits_with : SplitKind → List ℕ → List ℕ
 waits_with AndThen vs = 0 ∷ vs
 waits_with OrElse vs = 1 ∷ vs
 waits_with by vs = vs
 
 -- inside a part of a `fork` `@` is its number and `$` is the last value. Else both are as they were
-abbrev pub part_number : Split → (old i : ℕ) → ℕ
+abbrev pub part_number : SplitKind → (old i : ℕ) → ℕ
 part_number Fork old i = i
 part_number by old i = old
 
-abbrev pub part_rank : Split → (old v : ℕ) → ℕ
+abbrev pub part_rank : SplitKind → (old v : ℕ) → ℕ
 part_rank Fork old v = v
 part_rank by old v = old
 
-abbrev pub part_level : Split → Processor → (size i : ℕ) → Level
+abbrev pub part_level : SplitKind → Processor → (size i : ℕ) → Level
 part_level by p size i = record {
   number = part_number by p.level.number i;
   rank = part_rank by p.level.rank (last (values p));
@@ -61,7 +61,7 @@ part_level by p size i = record {
   space = child p.level.space (parts by (values p)) i;
 }
 
-abbrev pub divided : Split → (size : ℕ) → Processor → Option ℕ → Processor
+abbrev pub divided : SplitKind → (size : ℕ) → Processor → Option ℕ → Processor
 divided by size p None = with_values p (waits_with by (before (taken_by by) (values p)))
 divided by size p (Some i) = enter_level (part_level by p size i) (drop_last (taken_by by) p)
 
@@ -101,7 +101,7 @@ does Begin highest size p =
 does Agree highest size p = in_place highest p
 does (Frame nesting words) highest size p = framed nesting p (frame p.level.space words)
 does Block highest size p = with_block (words_of (last (values p))) p
-does (Divide by) highest size p = divided by size p (part by (values p))
+does (Split by) highest size p = divided by size p (part by (values p))
 does Shrink highest size p = if stays p then with_size size (drop_last 1 p) else leave_level (drop_last 1 p)
 does End highest size p = leave_level p
 does operation highest size p = p
@@ -112,13 +112,13 @@ abbrev pub is_first : Option ℕ → Bool
 is_first None = false
 is_first (Some i) = i == 0
 
-abbrev pub enters : Split → Option ℕ → Bool
+abbrev pub enters : SplitKind → Option ℕ → Bool
 enters IfElse part = is_first part
 enters by part = is_some part
 
 abbrev pub goes_onward : Operation → (highest lowest : ℕ) → Processor → Bool
 goes_onward Begin highest lowest p = is_taken highest p
-goes_onward (Divide by) highest lowest p = enters by (part by (values p))
+goes_onward (Split by) highest lowest p = enters by (part by (values p))
 goes_onward Shrink highest lowest p = stays p
 goes_onward Seq highest lowest p = p.number == lowest
 goes_onward operation highest lowest p = true
@@ -127,7 +127,7 @@ goes_onward operation highest lowest p = true
 -- and the lowest member are known
 abbrev pub changes : Operation → (n : ℕ) → (ℕ → Processor) → (highest lowest : ℕ) → t.Tree → t.Tree
 changes Begin n who highest lowest tree = t.begin (min (not_negative highest) (length (t.members tree n))) tree
-changes (Divide by) n who highest lowest tree =
+changes (Split by) n who highest lowest tree =
     t.split n (parts by (values (who lowest))) (λ h. part by (values (who h))) tree
 changes Shrink n who highest lowest tree = t.shrink n (λ h. stays (who h)) tree
 changes End n who highest lowest tree = t.finish n tree
@@ -144,5 +144,5 @@ has_parts s (suc k) = is_some (share s (suc k))
 
 abbrev pub has_room : Operation → Processor → Bool
 has_room (Frame nesting words) p = is_some (frame p.level.space words)
-has_room (Divide by) p = has_parts p.level.space (parts by (values p))
+has_room (Split by) p = has_parts p.level.space (parts by (values p))
 has_room operation p = true

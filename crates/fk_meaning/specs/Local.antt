@@ -5,12 +5,12 @@ use Rattle.fk_num.specs.Op.{applied}
 use Rattle.fk_num.specs.declared.operator.Op.TheVariants.{Sub, Xor, Eq}
 use Rattle.fk_meaning_operation.specs.declared.operation.Variable.{Variable}
 use Rattle.fk_meaning_operation.specs.declared.operation.Variable.TheVariants.{Private, OfFile}
-use Rattle.fk_meaning_operation.specs.declared.operation.Known.{Known}
-use Rattle.fk_meaning_operation.specs.declared.operation.Known.TheVariants.{Value, Rank, GroupNumber, ProcessorNumber, Processors, GroupSize, InputLength, FrameAddress, InputAddress}
+use Rattle.fk_meaning_operation.specs.declared.operation.OwnValue.{OwnValue}
+use Rattle.fk_meaning_operation.specs.declared.operation.OwnValue.TheVariants.{Value, Rank, GroupNumber, ProcessorNumber, Processors, GroupSize, InputLength, FrameAddress, InputAddress}
 use Rattle.fk_meaning_operation.specs.declared.operation.Unary.{Unary}
 use Rattle.fk_meaning_operation.specs.declared.operation.Unary.TheVariants.{Negate, Complement, Not}
 use Rattle.fk_meaning_operation.specs.declared.operation.Operation.{Operation}
-use Rattle.fk_meaning_operation.specs.declared.operation.Operation.TheVariants.{Push, Get, Set, DropLast, CopyLast, Apply, Join, Index, Branch, Take, Leave}
+use Rattle.fk_meaning_operation.specs.declared.operation.Operation.TheVariants.{Push, Get, Set, DropLast, CopyLast, Apply, Binary, Index, Branch, Take, Leave}
 use Rattle.fk_meaning_store.specs.Store.{address_of, private_words, private_address}
 use Rattle.fk_meaning_store.specs.Serve.{words_of}
 use Rattle.fk_meaning.specs.Processor.{Call, Processor, Setting, values, last, with_values, with_space, push, drop_last, in_place}
@@ -19,7 +19,7 @@ abbrev pub value_of : Processor → Variable → ℕ
 value_of p (Private i) = p.call.privates i
 value_of p (OfFile i) = p.own i
 
-abbrev pub known : Setting → Processor → Known → ℕ
+abbrev pub known : Setting → Processor → OwnValue → ℕ
 known set p (Value variable) = value_of p variable
 known set p Rank = p.level.rank
 known set p GroupNumber = p.level.number
@@ -75,7 +75,7 @@ local set (Set variable) p = stored (last (values p)) variable p
 local set DropLast p = drop_last 1 p
 local set CopyLast p = push (last (values p)) p
 local set (Apply sign) p = in_place (applied_to sign (last (values p))) p
-local set (Join sign turned) p = with_values p (joined (in_order turned (applied sign)) (values p))
+local set (Binary sign turned) p = with_values p (joined (in_order turned (applied sign)) (values p))
 local set (Index size) p = with_values p (joined (λ address i. word (address + i * size)) (values p))
 local set (Branch onward) p = drop_last 1 p
 local set Take p = taken (words_of (last (values p))) p

@@ -2,7 +2,7 @@
 use Rattle.std.specs.Prelude.{◌≡◌, Bool, true, false, not, ◌||◌, if◌then◌else◌}
 use Rattle.fk_meaning_operation.specs.declared.operation.Operation.{Operation}
 use Rattle.fk_meaning_operation.specs.declared.operation.Operation.TheVariants as o
-use Rattle.fk_meaning_operation.specs.declared.operation.Split.TheVariants.{IfElse}
+use Rattle.fk_meaning_operation.specs.declared.operation.SplitKind.TheVariants.{IfElse}
 use Rattle.fk_meaning_forms.specs.Code.{Code, done, perform, choose, while, until, turn, again, quit, break, continue, call, ends}
 use Rattle.fk_meaning.specs.Behind.{opens_body, is_shrink}
 
@@ -40,11 +40,11 @@ of_arm x = record x { tests = false; shrinking = false }
 -- what makes parts, and how many
 abbrev pub splits : Operation → Bool
 splits o.Begin = true
-splits (o.Divide by) = true
+splits (o.Split by) = true
 splits op = false
 
 abbrev pub has_two_parts : Operation → Bool
-has_two_parts (o.Divide IfElse) = true
+has_two_parts (o.Split IfElse) = true
 has_two_parts op = false
 
 abbrev pub confines : Operation → Bool
@@ -52,8 +52,8 @@ confines op = splits op || opens_body op
 
 -- where nothing is done on the second way
 abbrev pub waits : Operation → Bool
-waits (o.Divide IfElse) = false
-waits (o.Divide by) = true
+waits (o.Split IfElse) = false
+waits (o.Split by) = true
 waits o.Begin = true
 waits o.Farm = true
 waits o.Seq = true
@@ -69,7 +69,7 @@ ends_part op = false
 
 -- where an operation may stand: on its own; before a choice; at the end of a test; at a call, and at the end of a function
 abbrev pub is_performed : Operation → Bool
-is_performed (o.Divide by) = false
+is_performed (o.Split by) = false
 is_performed o.Begin = false
 is_performed o.Shrink = false
 is_performed o.Farm = false
@@ -78,7 +78,7 @@ is_performed op = true
 
 abbrev pub is_chosen : Operation → Bool
 is_chosen (o.Branch onward) = true
-is_chosen (o.Divide by) = true
+is_chosen (o.Split by) = true
 is_chosen o.Begin = true
 is_chosen o.Farm = true
 is_chosen o.Seq = true

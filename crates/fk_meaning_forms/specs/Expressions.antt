@@ -12,12 +12,12 @@ use Rattle.fk_meaning_operation.specs.declared.operation.Operation.{Operation}
 use Rattle.fk_meaning_operation.specs.declared.operation.Operation.TheVariants as o
 use Rattle.fk_meaning_operation.specs.declared.operation.Variable.{Variable}
 use Rattle.fk_meaning_operation.specs.declared.operation.Variable.TheVariants as v
-use Rattle.fk_meaning_operation.specs.declared.operation.Known.TheVariants as n
+use Rattle.fk_meaning_operation.specs.declared.operation.OwnValue.TheVariants as n
 use Rattle.fk_meaning_operation.specs.declared.operation.Unary.TheVariants as u
 use Rattle.fk_meaning_operation.specs.declared.operation.Multiprefix.{Multiprefix}
 use Rattle.fk_meaning_operation.specs.declared.operation.Multiprefix.TheVariants.{MpAdd, MpMax, MpAnd, MpOr}
-use Rattle.fk_meaning_operation.specs.declared.operation.Split.{Split}
-use Rattle.fk_meaning_operation.specs.declared.operation.Split.TheVariants.{IfElse, AndThen, OrElse}
+use Rattle.fk_meaning_operation.specs.declared.operation.SplitKind.{SplitKind}
+use Rattle.fk_meaning_operation.specs.declared.operation.SplitKind.TheVariants.{IfElse, AndThen, OrElse}
 use Rattle.fk_meaning_forms.specs.declared.tables.Home.{Home}
 use Rattle.fk_meaning_forms.specs.declared.tables.Home.TheVariants as h
 use Rattle.fk_meaning_forms.specs.declared.tables.Region.{Region}
@@ -188,20 +188,20 @@ module _ (tables : Tables) (functions : (binding : ℕ) → Signature) where
   -- `&&` and `||` go on with their right side, whose value becomes 0 or 1, or with another value; `?:` goes one of two ways.
   -- In a synchronous region the group agrees before it branches, or splits
   abbrev pub truth : Stands → Coded → Coded
-  truth e rest = value_of e (plain (o.Push 0) (plain (o.Join f.Ne false) rest))
+  truth e rest = value_of e (plain (o.Push 0) (plain (o.Binary f.Ne false) rest))
 
-  abbrev pub logical : Spot → Split → (onward : Bool) → (other : ℕ) → Stands → Stands → Stands
+  abbrev pub logical : Spot → SplitKind → (onward : Bool) → (other : ℕ) → Stands → Stands → Stands
   logical spot split onward other a b k =
       let here = note tables spot.at in
       value_of a (if here.splits
-      then choose spot.place (o.Divide split) (truth b (plain o.End done)) done (plain o.Resume (k OnList))
+      then choose spot.place (o.Split split) (truth b (plain o.End done)) done (plain o.Resume (k OnList))
       else agreed here.sync (choose nowhere (o.Branch onward) (truth b done) (plain (o.Push other) done) (k OnList)))
 
   abbrev pub chosen : Spot → Stands → Stands → Stands → Stands
   chosen spot condition a b k =
       let here = note tables spot.at in
       value_of condition (if here.splits
-      then choose spot.place (o.Divide IfElse) (value_of a (plain o.End done)) (value_of b (plain o.End done)) (plain o.Resume (k OnList))
+      then choose spot.place (o.Split IfElse) (value_of a (plain o.End done)) (value_of b (plain o.End done)) (plain o.Resume (k OnList))
       else agreed here.sync (choose nowhere (o.Branch true) (value_of a done) (value_of b done) (k OnList)))
 
   -- signs between two expressions
@@ -218,7 +218,7 @@ module _ (tables : Tables) (functions : (binding : ℕ) → Signature) where
 
   -- suffixes. A member lies so many words behind the beginning of its struct, as the note of its name says
   abbrev pub member : (at : ℕ) → Coded → Coded
-  member at rest = plain (o.Push (4 * (note tables at).binding)) (plain (o.Join f.Add false) rest)
+  member at rest = plain (o.Push (4 * (note tables at).binding)) (plain (o.Binary f.Add false) rest)
 
   abbrev pub is_deep : Standing → Bool
   is_deep (AtAddress deep spot) = deep

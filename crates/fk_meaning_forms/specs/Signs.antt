@@ -3,7 +3,7 @@ use Rattle.std.specs.Prelude.{Bool, true, false, if◌then◌else◌}
 use Rattle.fk_num.specs.declared.operator.Op.{Op}
 use Rattle.fk_num.specs.declared.operator.Op.TheVariants as f
 use Rattle.fk_meaning_operation.specs.declared.operation.Operation.{Operation}
-use Rattle.fk_meaning_operation.specs.declared.operation.Operation.TheVariants.{Join}
+use Rattle.fk_meaning_operation.specs.declared.operation.Operation.TheVariants.{Binary}
 use Rattle.fk_syntax.specs.declared.sign.Sign.{Sign}
 use Rattle.fk_syntax.specs.declared.sign.Sign.TheVariants as g
 use Rattle.fk_meaning_forms.specs.declared.signs.Move.{Move}
@@ -11,35 +11,35 @@ use Rattle.fk_meaning_forms.specs.declared.signs.Move.TheVariants.{Forth, Back, 
 
 -- the operator of a sign, on the values as they stand or turned round
 abbrev pub either : (unsigned : Bool) → (signed other : Op) → Operation
-either unsigned signed other = Join (if unsigned then other else signed) false
+either unsigned signed other = Binary (if unsigned then other else signed) false
 
 abbrev pub operator_of : Sign → (unsigned : Bool) → Operation
-operator_of g.Minus u = Join f.Sub false
-operator_of g.MinusAssign u = Join f.Sub false
-operator_of g.Decrement u = Join f.Sub false
-operator_of g.Star u = Join f.Mul false
-operator_of g.StarAssign u = Join f.Mul false
+operator_of g.Minus u = Binary f.Sub false
+operator_of g.MinusAssign u = Binary f.Sub false
+operator_of g.Decrement u = Binary f.Sub false
+operator_of g.Star u = Binary f.Mul false
+operator_of g.StarAssign u = Binary f.Mul false
 operator_of g.Slash u = either u f.DivS f.DivU
 operator_of g.SlashAssign u = either u f.DivS f.DivU
 operator_of g.Percent u = either u f.RemS f.RemU
 operator_of g.PercentAssign u = either u f.RemS f.RemU
-operator_of g.Ampersand u = Join f.And false
-operator_of g.AmpersandAssign u = Join f.And false
-operator_of g.Bar u = Join f.Or false
-operator_of g.BarAssign u = Join f.Or false
-operator_of g.Caret u = Join f.Xor false
-operator_of g.CaretAssign u = Join f.Xor false
-operator_of g.ShiftLeft u = Join f.Shl false
-operator_of g.ShiftLeftAssign u = Join f.Shl false
+operator_of g.Ampersand u = Binary f.And false
+operator_of g.AmpersandAssign u = Binary f.And false
+operator_of g.Bar u = Binary f.Or false
+operator_of g.BarAssign u = Binary f.Or false
+operator_of g.Caret u = Binary f.Xor false
+operator_of g.CaretAssign u = Binary f.Xor false
+operator_of g.ShiftLeft u = Binary f.Shl false
+operator_of g.ShiftLeftAssign u = Binary f.Shl false
 operator_of g.ShiftRight u = either u f.ShrS f.ShrU
 operator_of g.ShiftRightAssign u = either u f.ShrS f.ShrU
 operator_of g.LessThan u = either u f.LtS f.LtU
 operator_of g.LessOrEqual u = either u f.LeS f.LeU
-operator_of g.GreaterThan u = Join (if u then f.LtU else f.LtS) true
-operator_of g.GreaterOrEqual u = Join (if u then f.LeU else f.LeS) true
-operator_of g.EqualTo u = Join f.Eq false
-operator_of g.NotEqualTo u = Join f.Ne false
-operator_of sign u = Join f.Add false
+operator_of g.GreaterThan u = Binary (if u then f.LtU else f.LtS) true
+operator_of g.GreaterOrEqual u = Binary (if u then f.LeU else f.LeS) true
+operator_of g.EqualTo u = Binary f.Eq false
+operator_of g.NotEqualTo u = Binary f.Ne false
+operator_of sign u = Binary f.Add false
 
 -- a shift has the sign of what is shifted. Every other operator is unsigned where one side is
 abbrev pub is_shift : Sign → Bool

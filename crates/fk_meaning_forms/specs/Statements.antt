@@ -7,8 +7,8 @@ use Rattle.fk_syntax.specs.Tree.{TypeTree, Tree}
 use Rattle.fk_syntax.specs.Program as p
 use Rattle.fk_syntax.specs.Program.{DeclaredTree, Statement, Statements}
 use Rattle.fk_meaning_operation.specs.declared.operation.Operation.TheVariants as o
-use Rattle.fk_meaning_operation.specs.declared.operation.Known.TheVariants as n
-use Rattle.fk_meaning_operation.specs.declared.operation.Split.TheVariants.{IfAlone, IfElse, Loop, Fork}
+use Rattle.fk_meaning_operation.specs.declared.operation.OwnValue.TheVariants as n
+use Rattle.fk_meaning_operation.specs.declared.operation.SplitKind.TheVariants.{IfAlone, IfElse, Loop, Fork}
 use Rattle.fk_meaning_forms.specs.Code as c
 use Rattle.fk_meaning_forms.specs.Code.{done, choose, quit, ends}
 use Rattle.fk_meaning_forms.specs.Tables.{Tables, note, frame_at}
@@ -76,7 +76,7 @@ module _ (tables : Tables) (functions : (binding : ℕ) → Signature) where
   abbrev pub looping : Spot → (loop : Coded → Coded) → Coded → Coded
   looping spot loop rest =
       if (note tables spot.at).splits
-      then choose spot.place (o.Divide Loop) (part_frame spot 0 (loop done)) done (plain o.Resume rest)
+      then choose spot.place (o.Split Loop) (part_frame spot 0 (loop done)) done (plain o.Resume rest)
       else loop rest
 
   -- the end of a call by `return`, which ends `main` too
@@ -95,7 +95,7 @@ module _ (tables : Tables) (functions : (binding : ℕ) → Signature) where
     executed inside (p.If spot condition first) rest =
         let here = note tables spot.at in
         value tables functions condition (if here.splits
-        then choose spot.place (o.Divide IfAlone)
+        then choose spot.place (o.Split IfAlone)
         (part_frame spot 0 (executed inside first (plain o.End done)))
         done
         (plain o.Resume rest)
@@ -103,7 +103,7 @@ module _ (tables : Tables) (functions : (binding : ℕ) → Signature) where
     executed inside (p.IfElse spot condition first second) rest =
         let here = note tables spot.at in
         value tables functions condition (if here.splits
-        then choose spot.place (o.Divide IfElse)
+        then choose spot.place (o.Split IfElse)
         (part_frame spot 0 (executed inside first (plain o.End done)))
         (part_frame spot 1 (executed inside second (plain o.End done)))
         (plain o.Resume rest)
@@ -120,7 +120,7 @@ module _ (tables : Tables) (functions : (binding : ℕ) → Signature) where
         (choose nowhere o.Begin (part_frame spot 0 (executed inside body (plain o.End done))) done (plain o.Resume rest))
     executed inside (p.Fork spot parts part rank body) rest =
         value tables functions parts (plain o.Agree (value tables functions part (value_or (plain (o.Get n.Rank)) rank
-        (choose spot.place (o.Divide Fork) (part_frame spot 0 (executed inside body (plain o.End done))) done (plain o.Resume rest)))))
+        (choose spot.place (o.Split Fork) (part_frame spot 0 (executed inside body (plain o.End done))) done (plain o.Resume rest)))))
     executed inside (p.Farm spot body) rest = choose nowhere o.Farm (executed inside body done) done (plain (o.Meet true) rest)
     executed inside (p.Seq spot body) rest = choose nowhere o.Seq (executed inside body done) done (plain (o.Meet true) rest)
     executed inside (p.Barrier spot) rest = plain (o.Meet false) rest

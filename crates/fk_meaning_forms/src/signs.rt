@@ -40,7 +40,7 @@ pub fn operator_of(sign: Sign, unsigned: bool) -> Operation
         Sign::NotEqualTo => (Op::Ne, Op::Ne, false),
         _ => (Op::Add, Op::Add, false),
     };
-    Operation::Join(if unsigned { otherwise } else { signed }, turned)
+    Operation::Binary(if unsigned { otherwise } else { signed }, turned)
 }
 
 /// Whether a sign shifts. A shift has the sign of what is shifted; every other operator is

@@ -3,7 +3,7 @@ use Rattle.std.specs.Prelude.{ℕ, ◌==◌, ◌||◌, nat_lt, true, false, Opti
 use Rattle.fk_meaning_operation.specs.declared.operation.Multiprefix.{Multiprefix}
 use Rattle.fk_meaning_operation.specs.declared.operation.Multiprefix.TheVariants.{MpAdd, MpMax, MpAnd, MpOr}
 use Rattle.fk_meaning_operation.specs.declared.operation.Operation.{Operation}
-use Rattle.fk_meaning_operation.specs.declared.operation.Operation.TheVariants.{Push, Get, Set, DropLast, CopyLast, Apply, Join, Index, Branch, Take, Leave, Check, Read, Write, Combine, PrintNumber, PrintByte, Heap, Enter, Begin, Agree, Frame, Block, Divide, Shrink, End, Resume, Farm, Seq, Meet, Halt}
+use Rattle.fk_meaning_operation.specs.declared.operation.Operation.TheVariants.{Push, Get, Set, DropLast, CopyLast, Apply, Binary, Index, Branch, Take, Leave, Check, Read, Write, Combine, PrintNumber, PrintByte, Heap, Enter, Begin, Agree, Frame, Block, Split, Shrink, End, Resume, Farm, Seq, Meet, Halt}
 use Rattle.fk_meaning_operation.specs.declared.kinds.Class.{Class}
 use Rattle.fk_meaning_operation.specs.declared.kinds.Class.TheVariants.{Local, Request, Tree}
 use Rattle.fk_meaning_operation.specs.declared.kinds.Joint.{Joint}
@@ -33,7 +33,7 @@ kind_of (Set w) = 3
 kind_of DropLast = 4
 kind_of CopyLast = 5
 kind_of (Apply s) = 6
-kind_of (Join s t) = 7
+kind_of (Binary s t) = 7
 kind_of (Index n) = 8
 kind_of (Branch b) = 9
 kind_of Take = 10
@@ -50,7 +50,7 @@ kind_of Begin = 23
 kind_of Agree = 24
 kind_of (Frame n w) = 25
 kind_of Block = 26
-kind_of (Divide s) = 27
+kind_of (Split s) = 27
 kind_of Shrink = 28
 kind_of End = 29
 kind_of Resume = 30

@@ -13,7 +13,7 @@ pub enum Variable {
 
 /// What a processor can push of what it knows by itself.
 #[derive(Clone, Copy)]
-pub enum Known {
+pub enum OwnValue {
     Value(Variable),
     /// `$`.
     Rank,
@@ -51,7 +51,7 @@ pub enum Multiprefix {
 
 /// Who of a group enters which part.
 #[derive(Clone, Copy, PartialEq, Eq)]
-pub enum Split {
+pub enum SplitKind {
     /// `if` without `else`: one part, of those whose value isn't 0.
     IfAlone,
     /// `if` with `else`, and `?:`: one part of those, and one of the others.
@@ -70,14 +70,14 @@ pub enum Split {
 pub enum Operation {
     /// Pushes a number, or the address of a global.
     Push(u32),
-    Get(Known),
+    Get(OwnValue),
     /// Stores the last value, and keeps it.
     Set(Variable),
     DropLast,
     CopyLast,
     Apply(Unary),
     /// An operator on the two last values; with `true` on these turned round.
-    Join(Op, bool),
+    Binary(Op, bool),
     /// Takes an index and an address, pushes the address of that element. A size is in bytes.
     Index(u32),
     /// Goes the first way where the value isn't 0; with `false` where it is 0.
@@ -104,7 +104,7 @@ pub enum Operation {
     Frame { nesting: u32, words: u32 },
     /// `shalloc`.
     Block,
-    Divide(Split),
+    Split(SplitKind),
     Shrink,
     End,
     Resume,

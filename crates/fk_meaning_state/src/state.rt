@@ -47,7 +47,7 @@ impl State {
             globals: words.len() as u32,
             inputs: input.len() as u32,
         };
-        let store = Store32::make(alloc, words, input, p)?;
+        let store = Store32::new(alloc, words, input, p)?;
         let tree = Tree::root(alloc, p)?;
         let processors = beginners(alloc, setting, firsts)?;
         Ok(State {

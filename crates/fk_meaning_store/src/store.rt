@@ -36,7 +36,7 @@ impl Store32 {
 
     /// The store at the beginning of a run: shared data has the globals, then the input numbers,
     /// then zeros. Each processor's private heap has zeros.
-    pub fn make(
+    pub fn new(
         alloc: Global,
         globals: &[u32],
         input: &[u32],

@@ -18,19 +18,19 @@ fn signs_have_operators(rt: HostRuntime) {
     assert!(rt;
         matches!(
             operator_of(Sign::GreaterThan, true),
-            Operation::Join(Op::LtU, true)
+            Operation::Binary(Op::LtU, true)
         )
     );
     assert!(rt;
         matches!(
             operator_of(Sign::ShiftRightAssign, false),
-            Operation::Join(Op::ShrS, false)
+            Operation::Binary(Op::ShrS, false)
         )
     );
     assert!(rt;
         matches!(
             operator_of(Sign::Increment, false),
-            Operation::Join(Op::Add, false)
+            Operation::Binary(Op::Add, false)
         )
     );
 }

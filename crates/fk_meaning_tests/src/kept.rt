@@ -2,12 +2,12 @@
 
 use fk_core::CoreOp;
 use fk_core_liveness::live_words;
-use fk_meaning_operation::{Known, Operation, Variable};
+use fk_meaning_operation::{OwnValue, Operation, Variable};
 use std::alloc::{AllocError, Global};
 
 const NESTED: u32 = 70;
 
-const WORD: Known = Known::Value(Variable::Private(3));
+const WORD: OwnValue = OwnValue::Value(Variable::Private(3));
 
 // A variable is read in the test of the outermost loop. Each loop begins with a branch behind its
 // end, where a jump leads back to its beginning.

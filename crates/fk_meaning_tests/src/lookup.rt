@@ -1,11 +1,11 @@
 use fk_layout_lookup::Lookup;
-use fk_layout_walk::Known;
+use fk_layout_walk::ProgramTables;
 use std::test::Fail;
 
 // Where memory is ample, the lookup of a text is made.
 #[test]
 fn a_text_of_nothing_is_looked_up(rt: HostRuntime) -> Result<(), Fail> {
-    let known = Known {
+    let known = ProgramTables {
         notes: &[],
         kinds: &[],
         slots: &[],

@@ -1,11 +1,11 @@
 use fk_core::CoreOp;
 use fk_lower::{CodeEvent, Lowered, build, lower};
-use fk_meaning_operation::{Known, Operation};
+use fk_meaning_operation::{OwnValue, Operation};
 use std::alloc::Global;
 use std::process::Abort;
 use std::test::Fail;
 
-const GET: CodeEvent = CodeEvent::Perform(Operation::Get(Known::Rank));
+const GET: CodeEvent = CodeEvent::Perform(Operation::Get(OwnValue::Rank));
 
 const QUESTION: Operation = Operation::Branch(true);
 

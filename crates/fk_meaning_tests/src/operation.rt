@@ -1,15 +1,15 @@
 use fk_num::Op;
-use fk_meaning_operation::{FaultKind, Multiprefix, Operation, Split};
+use fk_meaning_operation::{FaultKind, Multiprefix, Operation, SplitKind};
 
 // Operations with their kinds, and how they may fault.
 static OPERATIONS: [(Operation, u8, Option<FaultKind>); 7] = [
     (Operation::Push(7), 1, None),
-    (Operation::Join(Op::Add, false), 7, None),
+    (Operation::Binary(Op::Add, false), 7, None),
     (Operation::Check(true), 12, Some(FaultKind::BadAddress)),
     (Operation::Combine(Multiprefix::MpMax), 16, None),
     (Operation::Block, 26, None),
     (
-        Operation::Divide(Split::Loop),
+        Operation::Split(SplitKind::Loop),
         27,
         Some(FaultKind::GroupSpace),
     ),

@@ -32,7 +32,7 @@ pub(crate) fn answers(
 
 #[test]
 fn an_opening_has_the_globals_and_the_input(rt: HostRuntime) -> Result<(), AllocError> {
-    let mut store = Store32::make(rt.alloc(), &[5, 6], &[7], 2)?;
+    let mut store = Store32::new(rt.alloc(), &[5, 6], &[7], 2)?;
     assert!(rt; store.processors() == 2);
     answers(&rt, &mut store, Request::Read(WORD_0 + 4), 0, Ok(6));
     answers(&rt, &mut store, Request::Read(WORD_0 + 8), 0, Ok(7));
@@ -45,7 +45,7 @@ fn an_opening_has_the_globals_and_the_input(rt: HostRuntime) -> Result<(), Alloc
 
 #[test]
 fn a_private_heap_is_ones_own(rt: HostRuntime) -> Result<(), AllocError> {
-    let mut store = Store32::make(rt.alloc(), &[], &[], 2)?;
+    let mut store = Store32::new(rt.alloc(), &[], &[], 2)?;
     assert!(rt; store.processors() == 2);
     answers(&rt, &mut store, Request::Write(LAST_OF_HEAP, 9), 0, Ok(9));
     answers(&rt, &mut store, Request::Write(HEAP_0, 8), 1, Ok(8));
@@ -57,7 +57,7 @@ fn a_private_heap_is_ones_own(rt: HostRuntime) -> Result<(), AllocError> {
 
 #[test]
 fn a_multiprefix_answers_the_former_word(rt: HostRuntime) -> Result<(), AllocError> {
-    let mut store = Store32::make(rt.alloc(), &[5], &[], 1)?;
+    let mut store = Store32::new(rt.alloc(), &[5], &[], 1)?;
     assert!(rt; store.processors() == 1);
     answers(&rt, &mut store, Request::Multi(15, WORD_0, 2), 0, Ok(5));
     // the signed greater one of 7 and -1, then 7 & 12, then 4 | 3
@@ -90,7 +90,7 @@ fn are_checked(
 
 #[test]
 fn addresses_that_may_be_used(rt: HostRuntime) -> Result<(), AllocError> {
-    let mut store = Store32::make(rt.alloc(), &[], &[], 1)?;
+    let mut store = Store32::new(rt.alloc(), &[], &[], 1)?;
     let bad = Err(FaultKind::BadAddress);
     are_checked(&rt, &mut store, &[WORD_0, LAST_WORD], true, Ok(0));
     are_checked(&rt, &mut store, &[HEAP_0, LAST_OF_HEAP], false, Ok(0));
@@ -111,7 +111,7 @@ fn addresses_that_may_be_used(rt: HostRuntime) -> Result<(), AllocError> {
 
 #[test]
 fn calls_have_a_depth(rt: HostRuntime) -> Result<(), AllocError> {
-    let mut store = Store32::make(rt.alloc(), &[], &[], 1)?;
+    let mut store = Store32::new(rt.alloc(), &[], &[], 1)?;
     assert!(rt; store.processors() == 1);
     answers(&rt, &mut store, Request::Depth(255), 0, Ok(0));
     answers(
@@ -126,7 +126,7 @@ fn calls_have_a_depth(rt: HostRuntime) -> Result<(), AllocError> {
 
 #[test]
 fn output_takes_the_room_that_was_reserved(rt: HostRuntime) -> Result<(), AllocError> {
-    let mut store = Store32::make(rt.alloc(), &[], &[], 1)?;
+    let mut store = Store32::new(rt.alloc(), &[], &[], 1)?;
     store.reserve(25)?;
     assert!(rt; store.processors() == 1);
     assert!(rt; store.spare() >= 25);
@@ -159,10 +159,10 @@ fn the_heap_fills(rt: HostRuntime) -> Result<(), AllocError> {
         (1, 0),
         (4, 0),
     ];
-    let mut store = Store32::make(rt.alloc(), &[], &[], 1)?;
+    let mut store = Store32::new(rt.alloc(), &[], &[], 1)?;
     gives_blocks(&rt, &mut store, &blocks);
     // one that doesn't fit makes the heap full
-    let mut store = Store32::make(rt.alloc(), &[], &[], 1)?;
+    let mut store = Store32::new(rt.alloc(), &[], &[], 1)?;
     gives_blocks(&rt, &mut store, &[(0x7FFF_FFFF, 0), (4, 0)]);
     Ok(())
 }

@@ -22,7 +22,7 @@ pub struct HostStore<R> {
 
 impl<R: Files> HostStore<R> {
     /// A store over the files of a runtime.
-    pub fn make(rt: R) -> HostStore<R>
+    pub fn new(rt: R) -> HostStore<R>
         ensures fetch_faults { store_fetch_faults result ≡ 0 }
         ensures put_faults { store_put_faults result ≡ 0 }
     {
@@ -44,7 +44,7 @@ impl<R: Files> Store for HostStore<R> {
     fn fetch(&mut self, name: &str, most: usize, into: &mut Vec<u8>) -> Result<(), StoreFault> {
         let start = into.len();
         let result = match fs::open(&self.rt, name) {
-            Ok(file) => append_all(&mut HostSource::make(file), most, into),
+            Ok(file) => append_all(&mut HostSource::new(file), most, into),
             Err(_) => Err(StoreFault::Fault),
         };
         if let Err(fault) = result {
@@ -76,7 +76,7 @@ pub struct HostSource<R> {
 
 impl<R: Read> HostSource<R> {
     /// A source of what a reader gives.
-    pub fn make(reader: R) -> HostSource<R>
+    pub fn new(reader: R) -> HostSource<R>
         ensures reader { reader_of result ≡ reader }
         ensures faults { source_faults result ≡ 0 }
     {
@@ -116,7 +116,7 @@ pub struct HostSink<W> {
 
 impl<W: Write> HostSink<W> {
     /// A sink that hands on to a writer.
-    pub fn make(writer: W) -> HostSink<W>
+    pub fn new(writer: W) -> HostSink<W>
         ensures writer { writer_of result ≡ writer }
         ensures faults { sink_faults result ≡ 0 }
     {

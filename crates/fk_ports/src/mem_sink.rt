@@ -33,7 +33,7 @@ impl Model for MemSink {
 impl MemSink {
     /// A sink with room for `capacity` bytes, which it takes now. The calls of these numbers fail,
     /// where 1 is the first.
-    pub fn make(alloc: Global, capacity: usize, fails: Vec<u64>) -> Result<MemSink, AllocError>
+    pub fn new(alloc: Global, capacity: usize, fails: Vec<u64>) -> Result<MemSink, AllocError>
         ensures { IfOk result (λ sink. sink ≡ record {
           taken = [];
           capacity = capacity;

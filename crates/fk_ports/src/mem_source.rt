@@ -27,7 +27,7 @@ impl Model for MemSource {
 
 impl MemSource {
     /// A source of these bytes. The calls of these numbers fail, where 1 is the first.
-    pub fn make(bytes: Vec<u8>, fails: Vec<u64>) -> MemSource
+    pub fn new(bytes: Vec<u8>, fails: Vec<u64>) -> MemSource
         ensures { result ≡ record { left = bytes.items; calls = no_calls fails.items; faults = 0 } }
     {
         MemSource {

@@ -38,7 +38,7 @@ impl Model for MemStore {
 impl MemStore {
     /// A store of these files. Of two files of one name the first counts. The calls of these
     /// numbers fail, where 1 is the first and those of both kinds are counted together.
-    pub fn make(files: Vec<(String, Vec<u8>)>, fails: Vec<u64>) -> MemStore
+    pub fn new(files: Vec<(String, Vec<u8>)>, fails: Vec<u64>) -> MemStore
         ensures { result ≡ record {
           files = stored_files files.items;
           calls = no_calls fails.items;

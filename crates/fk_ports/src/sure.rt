@@ -24,7 +24,7 @@ impl Model for SureSource {
 
 impl SureSource {
     /// A source of these bytes.
-    pub fn make(bytes: Vec<u8>) -> SureSource
+    pub fn new(bytes: Vec<u8>) -> SureSource
         ensures { result ≡ bytes.items }
     {
         SureSource {
@@ -65,7 +65,7 @@ impl Model for SureStore {
 
 impl SureStore {
     /// A store with these bytes under every name.
-    pub fn make(bytes: Vec<u8>) -> SureStore
+    pub fn new(bytes: Vec<u8>) -> SureStore
         ensures { result ≡ bytes.items }
     {
         SureStore { bytes }
@@ -116,7 +116,7 @@ impl Model for SureSink {
 
 impl SureSink {
     /// A sink that took nothing yet.
-    pub fn make() -> SureSink
+    pub fn new() -> SureSink
         ensures { result ≡ 0 }
     {
         SureSink { count: 0 }

@@ -52,43 +52,43 @@ impl Tokens {
     }
 
     // A name that is not one of an expression.
-    fn add_member(name: &Name, around: Around, kept: &mut Self) -> Result<(), AllocError>
-        ensures { OnOk result (seen_in kept.new ≡ seen_in kept.old
+    fn add_member(name: &Name, around: Around, into: &mut Self) -> Result<(), AllocError>
+        ensures { OnOk result (seen_in into.new ≡ seen_in into.old
             ++ other around (spot_of (named name.now)) ∷ []) }
     {
-        kept.add_other(around, spot_of(name))
+        into.add_other(around, spot_of(name))
     }
 
     #[cycle(expression)]
-    fn add_expression(expression: &Expr, around: Around, kept: &mut Self) -> Result<(), AllocError>
-        ensures { OnOk result (seen_in kept.new
-            ≡ seen_in kept.old ++ tree_tokens around (tree_of expression.now)) }
+    fn add_expression(expression: &Expr, around: Around, into: &mut Self) -> Result<(), AllocError>
+        ensures { OnOk result (seen_in into.new
+            ≡ seen_in into.old ++ tree_tokens around (tree_of expression.now)) }
     {
         match expression {
             Expr::Number(spot, _, _)
             | Expr::Puts(spot, _)
             | Expr::Sizeof(spot, _)
             | Expr::GroupNumber(spot)
-            | Expr::GroupRank(spot) => kept.add_other(around, *spot),
+            | Expr::GroupRank(spot) => into.add_other(around, *spot),
             Expr::Named(name) => {
-                kept.add(around, spot_of(name), Word::Name(spelling_of(name.bytes)))
+                into.add(around, spot_of(name), Word::Name(spelling_of(name.bytes)))
             }
             Expr::Prefix(spot, _, operand) | Expr::Cast(spot, _, operand) => {
-                Self::add_operand(operand, around, *spot, kept)
+                Self::add_operand(operand, around, *spot, into)
             }
             Expr::Chain(first, links) => {
-                Self::add_expression(first, around, kept)?;
-                Self::add_links(links, around, kept)
+                Self::add_expression(first, around, into)?;
+                Self::add_links(links, around, into)
             }
             Expr::Postfix(whole, suffixes) => {
-                Self::add_expression(whole, around, kept)?;
-                Self::add_suffixes(suffixes, around, kept)
+                Self::add_expression(whole, around, into)?;
+                Self::add_suffixes(suffixes, around, into)
             }
             Expr::Assign(spot, _, target, value) => {
-                Self::add_assigned(target, value, around, *spot, kept)
+                Self::add_assigned(target, value, around, *spot, into)
             }
             Expr::Choose(spot, condition, first, second) => {
-                Self::add_choice(condition, first, second, around, *spot, kept)
+                Self::add_choice(condition, first, second, around, *spot, into)
             }
         }
     }
@@ -99,13 +99,13 @@ impl Tokens {
         operand: &Expr,
         around: Around,
         spot: Spot,
-        kept: &mut Self,
+        into: &mut Self,
     ) -> Result<(), AllocError>
-        ensures { OnOk result (seen_in kept.new ≡ seen_in kept.old
+        ensures { OnOk result (seen_in into.new ≡ seen_in into.old
             ++ (other around spot ∷ tree_tokens around (tree_of operand.now))) }
     {
-        kept.add_other(around, spot)?;
-        Self::add_expression(operand, around, kept)
+        into.add_other(around, spot)?;
+        Self::add_expression(operand, around, into)
     }
 
     // The sign and the two sides of an assignment.
@@ -115,15 +115,15 @@ impl Tokens {
         value: &'e Expr<'a>,
         around: Around,
         spot: Spot,
-        kept: &mut Self,
+        into: &mut Self,
     ) -> Result<(), AllocError>
-        ensures { OnOk result (seen_in kept.new ≡ seen_in kept.old
+        ensures { OnOk result (seen_in into.new ≡ seen_in into.old
             ++ (other around spot ∷ tree_tokens around (tree_of target.now)
             ++ tree_tokens around (tree_of value.now))) }
     {
-        kept.add_other(around, spot)?;
-        Self::add_expression(target, around, kept)?;
-        Self::add_expression(value, around, kept)
+        into.add_other(around, spot)?;
+        Self::add_expression(target, around, into)?;
+        Self::add_expression(value, around, into)
     }
 
     // The sign and the three parts of a choice.
@@ -134,51 +134,51 @@ impl Tokens {
         second: &'e Expr<'a>,
         around: Around,
         spot: Spot,
-        kept: &mut Self,
+        into: &mut Self,
     ) -> Result<(), AllocError>
-        ensures { OnOk result (seen_in kept.new ≡ seen_in kept.old
+        ensures { OnOk result (seen_in into.new ≡ seen_in into.old
             ++ (stands around spot w.Branching ∷ tree_tokens around (tree_of condition.now)
             ++ tree_tokens around (tree_of first.now)
             ++ tree_tokens around (tree_of second.now))) }
     {
-        kept.add(around, spot, Word::Branching)?;
-        Self::add_expression(condition, around, kept)?;
-        Self::add_expression(first, around, kept)?;
-        Self::add_expression(second, around, kept)
+        into.add(around, spot, Word::Branching)?;
+        Self::add_expression(condition, around, into)?;
+        Self::add_expression(first, around, into)?;
+        Self::add_expression(second, around, into)
     }
 
     #[cycle(expression)]
-    fn add_links(links: &[Link], around: Around, kept: &mut Self) -> Result<(), AllocError>
-        ensures { OnOk result (seen_in kept.new ≡ seen_in kept.old
+    fn add_links(links: &[Link], around: Around, into: &mut Self) -> Result<(), AllocError>
+        ensures { OnOk result (seen_in into.new ≡ seen_in into.old
             ++ links_tokens around (links_of (map link_of links.now))) }
     {
         for link in links {
-            kept.add(around, link.spot, word_of_sign(link.sign))?;
-            Self::add_expression(&link.right, around, kept)?;
+            into.add(around, link.spot, word_of_sign(link.sign))?;
+            Self::add_expression(&link.right, around, into)?;
         }
         Ok(())
     }
 
     #[cycle(expression)]
-    fn add_suffixes(suffixes: &[Suffix], around: Around, kept: &mut Self) -> Result<(), AllocError>
-        ensures { OnOk result (seen_in kept.new ≡ seen_in kept.old
+    fn add_suffixes(suffixes: &[Suffix], around: Around, into: &mut Self) -> Result<(), AllocError>
+        ensures { OnOk result (seen_in into.new ≡ seen_in into.old
             ++ suffixes_tokens around (suffixes_of (map suffix_of suffixes.now))) }
     {
         for suffix in suffixes {
             match suffix {
                 Suffix::Index(spot, by) => {
-                    kept.add_other(around, *spot)?;
-                    Self::add_expression(by, around, kept)?;
+                    into.add_other(around, *spot)?;
+                    Self::add_expression(by, around, into)?;
                 }
                 Suffix::Call(spot, arguments) => {
-                    kept.add_other(around, *spot)?;
-                    Self::add_expressions(arguments, around, kept)?;
+                    into.add_other(around, *spot)?;
+                    Self::add_expressions(arguments, around, into)?;
                 }
                 Suffix::Dot(spot, member) | Suffix::Arrow(spot, member) => {
-                    kept.add_other(around, *spot)?;
-                    Self::add_member(member, around, kept)?;
+                    into.add_other(around, *spot)?;
+                    Self::add_member(member, around, into)?;
                 }
-                Suffix::Up(spot) | Suffix::Down(spot) => kept.add_other(around, *spot)?,
+                Suffix::Up(spot) | Suffix::Down(spot) => into.add_other(around, *spot)?,
             }
         }
         Ok(())
@@ -188,45 +188,45 @@ impl Tokens {
     fn add_expressions(
         expressions: &[Expr],
         around: Around,
-        kept: &mut Self,
+        into: &mut Self,
     ) -> Result<(), AllocError>
-        ensures { OnOk result (seen_in kept.new ≡ seen_in kept.old
+        ensures { OnOk result (seen_in into.new ≡ seen_in into.old
             ++ trees_tokens around (trees_of (map tree_of expressions.now))) }
     {
         for expression in expressions {
-            Self::add_expression(expression, around, kept)?;
+            Self::add_expression(expression, around, into)?;
         }
         Ok(())
     }
 
-    fn add_optional(value: &Option<Expr>, around: Around, kept: &mut Self) -> Result<(), AllocError>
-        ensures { OnOk result (seen_in kept.new ≡ seen_in kept.old
+    fn add_optional(value: &Option<Expr>, around: Around, into: &mut Self) -> Result<(), AllocError>
+        ensures { OnOk result (seen_in into.new ≡ seen_in into.old
             ++ optional_tokens around (option_map tree_of value.now)) }
     {
         match value {
-            Some(value) => Self::add_expression(value, around, kept),
+            Some(value) => Self::add_expression(value, around, into),
             None => Ok(()),
         }
     }
 
-    fn add_variable(variable: &Declared, around: Around, kept: &mut Self) -> Result<(), AllocError>
-        ensures { OnOk result (seen_in kept.new ≡ seen_in kept.old
+    fn add_variable(variable: &Declared, around: Around, into: &mut Self) -> Result<(), AllocError>
+        ensures { OnOk result (seen_in into.new ≡ seen_in into.old
             ++ variable_tokens around (declared_of variable.now)) }
     {
-        Self::add_member(&variable.name, around, kept)?;
-        Self::add_optional(&variable.first, around, kept)
+        Self::add_member(&variable.name, around, into)?;
+        Self::add_optional(&variable.first, around, into)
     }
 
     fn add_variables(
         variables: &[Declared],
         around: Around,
-        kept: &mut Self,
+        into: &mut Self,
     ) -> Result<(), AllocError>
-        ensures { OnOk result (seen_in kept.new ≡ seen_in kept.old
+        ensures { OnOk result (seen_in into.new ≡ seen_in into.old
             ++ variables_tokens around (map declared_of variables.now)) }
     {
         for variable in variables {
-            Self::add_variable(variable, around, kept)?;
+            Self::add_variable(variable, around, into)?;
         }
         Ok(())
     }
@@ -238,17 +238,17 @@ impl Tokens {
         after: &'e Option<Expr<'a>>,
         around: Around,
         spot: Spot,
-        kept: &mut Self,
+        into: &mut Self,
     ) -> Result<(), AllocError>
-        ensures { OnOk result (seen_in kept.new ≡ seen_in kept.old
+        ensures { OnOk result (seen_in into.new ≡ seen_in into.old
             ++ (stands around spot w.Loop ∷ optional_tokens around (option_map tree_of before.now)
             ++ optional_tokens around (option_map tree_of condition.now)
             ++ optional_tokens around (option_map tree_of after.now))) }
     {
-        kept.add(around, spot, Word::Loop)?;
-        Self::add_optional(before, around, kept)?;
-        Self::add_optional(condition, around, kept)?;
-        Self::add_optional(after, around, kept)
+        into.add(around, spot, Word::Loop)?;
+        Self::add_optional(before, around, into)?;
+        Self::add_optional(condition, around, into)?;
+        Self::add_optional(after, around, into)
     }
 
     // The keyword and the three expressions of a `fork`.
@@ -258,17 +258,17 @@ impl Tokens {
         rank: &'e Option<Expr<'a>>,
         around: Around,
         spot: Spot,
-        kept: &mut Self,
+        into: &mut Self,
     ) -> Result<(), AllocError>
-        ensures { OnOk result (seen_in kept.new ≡ seen_in kept.old
+        ensures { OnOk result (seen_in into.new ≡ seen_in into.old
             ++ (stands around spot w.Fork ∷ tree_tokens around (tree_of parts.now)
             ++ tree_tokens around (tree_of part.now)
             ++ optional_tokens around (option_map tree_of rank.now))) }
     {
-        kept.add(around, spot, Word::Fork)?;
-        Self::add_expression(parts, around, kept)?;
-        Self::add_expression(part, around, kept)?;
-        Self::add_optional(rank, around, kept)
+        into.add(around, spot, Word::Fork)?;
+        Self::add_expression(parts, around, into)?;
+        Self::add_expression(part, around, into)?;
+        Self::add_optional(rank, around, into)
     }
 
     // A keyword and the expression after it.
@@ -277,13 +277,13 @@ impl Tokens {
         around: Around,
         spot: Spot,
         word: Word,
-        kept: &mut Self,
+        into: &mut Self,
     ) -> Result<(), AllocError>
-        ensures { OnOk result (seen_in kept.new ≡ seen_in kept.old
+        ensures { OnOk result (seen_in into.new ≡ seen_in into.old
             ++ (stands around spot word ∷ optional_tokens around (option_map tree_of value.now))) }
     {
-        kept.add(around, spot, word)?;
-        Self::add_optional(value, around, kept)
+        into.add(around, spot, word)?;
+        Self::add_optional(value, around, into)
     }
 
     // A keyword and the condition after it.
@@ -292,78 +292,78 @@ impl Tokens {
         around: Around,
         spot: Spot,
         word: Word,
-        kept: &mut Self,
+        into: &mut Self,
     ) -> Result<(), AllocError>
-        ensures { OnOk result (seen_in kept.new ≡ seen_in kept.old
+        ensures { OnOk result (seen_in into.new ≡ seen_in into.old
             ++ (stands around spot word ∷ tree_tokens around (tree_of condition.now))) }
     {
-        kept.add(around, spot, word)?;
-        Self::add_expression(condition, around, kept)
+        into.add(around, spot, word)?;
+        Self::add_expression(condition, around, into)
     }
 
     // What stands directly in a statement: its keyword and its expressions.
-    fn add_own(statement: &Stmt, around: Around, kept: &mut Self) -> Result<(), AllocError>
-        ensures { OnOk result (seen_in kept.new
-            ≡ seen_in kept.old ++ own_tokens around (statement_of statement.now)) }
+    fn add_own(statement: &Stmt, around: Around, into: &mut Self) -> Result<(), AllocError>
+        ensures { OnOk result (seen_in into.new
+            ≡ seen_in into.old ++ own_tokens around (statement_of statement.now)) }
     {
         match statement {
             Stmt::Empty | Stmt::Block(_) => Ok(()),
-            Stmt::Expression(value) => Self::add_expression(value, around, kept),
-            Stmt::Declare(variables) => Self::add_variables(variables, around, kept),
+            Stmt::Expression(value) => Self::add_expression(value, around, into),
+            Stmt::Declare(variables) => Self::add_variables(variables, around, into),
             Stmt::If(spot, condition, _, _) => {
-                Self::add_condition(condition, around, *spot, Word::If, kept)
+                Self::add_condition(condition, around, *spot, Word::If, into)
             }
             Stmt::While(spot, condition, _) | Stmt::DoWhile(spot, _, condition) => {
-                Self::add_condition(condition, around, *spot, Word::Loop, kept)
+                Self::add_condition(condition, around, *spot, Word::Loop, into)
             }
             Stmt::For(spot, before, condition, after, _) => {
-                Self::add_head(before, condition, after, around, *spot, kept)
+                Self::add_head(before, condition, after, around, *spot, into)
             }
-            Stmt::Start(spot, count, _) => Self::add_value(count, around, *spot, Word::Start, kept),
-            Stmt::Farm(spot, _) => kept.add(around, *spot, Word::Farm),
-            Stmt::Seq(spot, _) => kept.add(around, *spot, Word::Seq),
+            Stmt::Start(spot, count, _) => Self::add_value(count, around, *spot, Word::Start, into),
+            Stmt::Farm(spot, _) => into.add(around, *spot, Word::Farm),
+            Stmt::Seq(spot, _) => into.add(around, *spot, Word::Seq),
             Stmt::Fork(spot, parts, part, rank, _) => {
-                Self::add_parts(parts, part, rank, around, *spot, kept)
+                Self::add_parts(parts, part, rank, around, *spot, into)
             }
-            Stmt::Barrier(spot) => kept.add(around, *spot, Word::Barrier),
-            Stmt::Break(spot) => kept.add(around, *spot, Word::Break),
-            Stmt::Continue(spot) => kept.add(around, *spot, Word::Continue),
-            Stmt::Return(spot, value) => Self::add_value(value, around, *spot, Word::Return, kept),
+            Stmt::Barrier(spot) => into.add(around, *spot, Word::Barrier),
+            Stmt::Break(spot) => into.add(around, *spot, Word::Break),
+            Stmt::Continue(spot) => into.add(around, *spot, Word::Continue),
+            Stmt::Return(spot, value) => Self::add_value(value, around, *spot, Word::Return, into),
         }
     }
 
     #[cycle(statement)]
-    fn add_statement(statement: &Stmt, around: Around, kept: &mut Self) -> Result<(), AllocError>
-        ensures { OnOk result (seen_in kept.new
-            ≡ seen_in kept.old ++ statement_tokens within around (statement_of statement.now)) }
+    fn add_statement(statement: &Stmt, around: Around, into: &mut Self) -> Result<(), AllocError>
+        ensures { OnOk result (seen_in into.new
+            ≡ seen_in into.old ++ statement_tokens within around (statement_of statement.now)) }
     {
-        Self::add_own(statement, around, kept)?;
+        Self::add_own(statement, around, into)?;
         match statement {
             Stmt::Block(statements) => {
-                Self::add_statements(statements, around.within(Holder::Block), kept)
+                Self::add_statements(statements, around.within(Holder::Block), into)
             }
             Stmt::If(_, _, then, otherwise) => {
                 let inside = around.within(Holder::Branch);
-                Self::add_statement(then, inside, kept)?;
+                Self::add_statement(then, inside, into)?;
                 match otherwise {
-                    Some(otherwise) => Self::add_statement(otherwise, inside, kept),
+                    Some(otherwise) => Self::add_statement(otherwise, inside, into),
                     None => Ok(()),
                 }
             }
             Stmt::While(_, _, body) | Stmt::DoWhile(_, body, _) | Stmt::For(_, _, _, _, body) => {
-                Self::add_statement(body, around.within(Holder::Loop), kept)
+                Self::add_statement(body, around.within(Holder::Loop), into)
             }
             Stmt::Start(_, _, body) => Self::add_statement(
                 body,
                 around.within(Holder::Start),
-                kept,
+                into,
             ),
-            Stmt::Farm(_, body) => Self::add_statement(body, around.within(Holder::Farm), kept),
-            Stmt::Seq(_, body) => Self::add_statement(body, around.within(Holder::Seq), kept),
+            Stmt::Farm(_, body) => Self::add_statement(body, around.within(Holder::Farm), into),
+            Stmt::Seq(_, body) => Self::add_statement(body, around.within(Holder::Seq), into),
             Stmt::Fork(_, _, _, _, body) => Self::add_statement(
                 body,
                 around.within(Holder::Fork),
-                kept,
+                into,
             ),
             Stmt::Empty
             | Stmt::Expression(_)
@@ -379,19 +379,19 @@ impl Tokens {
     fn add_statements(
         statements: &[Stmt],
         around: Around,
-        kept: &mut Self,
+        into: &mut Self,
     ) -> Result<(), AllocError>
-        ensures { OnOk result (seen_in kept.new ≡ seen_in kept.old
+        ensures { OnOk result (seen_in into.new ≡ seen_in into.old
             ++ statements_tokens within around (statements_of (map statement_of statements.now))) }
     {
         for statement in statements {
-            Self::add_statement(statement, around, kept)?;
+            Self::add_statement(statement, around, into)?;
         }
         Ok(())
     }
 
-    fn add_function(function: &Function, kept: &mut Self) -> Result<(), AllocError>
-        ensures { OnOk result (seen_in kept.new ≡ seen_in kept.old
+    fn add_function(function: &Function, into: &mut Self) -> Result<(), AllocError>
+        ensures { OnOk result (seen_in into.new ≡ seen_in into.old
             ++ body_tokens within (within (holder_of (function_of function.now)) outside)
             (function_of function.now).body) }
     {
@@ -399,29 +399,29 @@ impl Tokens {
             Some(body) => Self::add_statements(
                 body,
                 Around::outside().within(holder_of(function)),
-                kept,
+                into,
             ),
             None => Ok(()),
         }
     }
 
-    fn add_item(item: &Item, kept: &mut Self) -> Result<(), AllocError>
-        ensures { OnOk result (seen_in kept.new
-            ≡ seen_in kept.old ++ item_tokens within outside (item_of item.now)) }
+    fn add_item(item: &Item, into: &mut Self) -> Result<(), AllocError>
+        ensures { OnOk result (seen_in into.new
+            ≡ seen_in into.old ++ item_tokens within outside (item_of item.now)) }
     {
         match item {
             Item::Struct(_, _) => Ok(()),
-            Item::Variables(variables) => Self::add_variables(variables, Around::outside(), kept),
-            Item::Function(function) => Self::add_function(function, kept),
+            Item::Variables(variables) => Self::add_variables(variables, Around::outside(), into),
+            Item::Function(function) => Self::add_function(function, into),
         }
     }
 
-    fn add_items(items: &[Item], kept: &mut Self) -> Result<(), AllocError>
-        ensures { OnOk result (seen_in kept.new
-            ≡ seen_in kept.old ++ items_tokens within outside (map item_of items.now)) }
+    fn add_items(items: &[Item], into: &mut Self) -> Result<(), AllocError>
+        ensures { OnOk result (seen_in into.new
+            ≡ seen_in into.old ++ items_tokens within outside (map item_of items.now)) }
     {
         for item in items {
-            Self::add_item(item, kept)?;
+            Self::add_item(item, into)?;
         }
         Ok(())
     }

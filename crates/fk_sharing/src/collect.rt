@@ -91,40 +91,40 @@ impl Tokens {
         expression: &Expr,
         names: &Names,
         around: Around,
-        kept: &mut Self,
+        into: &mut Self,
     ) -> Result<bool, AllocError>
-        ensures tokens { OnOk result (seen_in kept.new ≡ seen_in kept.old
+        ensures tokens { OnOk result (seen_in into.new ≡ seen_in into.old
             ++ tree_tokens (thing_in names.now) around (tree_of expression.now)) }
         ensures class { IfOk result
             (λ is. is ≡ is_shared (thing_in names.now) (tree_of expression.now)) }
     {
         match expression {
             Expr::Number(spot, _, _) | Expr::Sizeof(spot, _) | Expr::GroupNumber(spot) => {
-                kept.add_plain(around, *spot, true)
+                into.add_plain(around, *spot, true)
             }
-            Expr::Puts(spot, _) | Expr::GroupRank(spot) => kept.add_plain(around, *spot, false),
-            Expr::Named(name) => Self::add_named(name, names, around, kept),
+            Expr::Puts(spot, _) | Expr::GroupRank(spot) => into.add_plain(around, *spot, false),
+            Expr::Named(name) => Self::add_named(name, names, around, into),
             Expr::Prefix(spot, sign, operand) => {
-                Self::add_prefix(operand, names, around, *spot, *sign, kept)
+                Self::add_prefix(operand, names, around, *spot, *sign, into)
             }
             Expr::Cast(spot, _, operand) => {
-                let shared = Self::add_expression(operand, names, around, kept)?;
-                kept.add_plain(around, *spot, shared)
+                let shared = Self::add_expression(operand, names, around, into)?;
+                into.add_plain(around, *spot, shared)
             }
             Expr::Chain(first, links) => {
-                let first = Self::add_expression(first, names, around, kept)?;
-                Self::add_links(links, names, around, first, kept)
+                let first = Self::add_expression(first, names, around, into)?;
+                Self::add_links(links, names, around, first, into)
             }
             Expr::Postfix(whole, suffixes) => {
-                let before = Self::add_expression(whole, names, around, kept)?;
+                let before = Self::add_expression(whole, names, around, into)?;
                 let called = is_call_shared(names, whole);
-                Self::add_suffixes(suffixes, names, around, before, called, kept)
+                Self::add_suffixes(suffixes, names, around, before, called, into)
             }
             Expr::Assign(spot, sign, target, value) => {
-                Self::add_assigned(target, value, names, around, *spot, *sign, kept)
+                Self::add_assigned(target, value, names, around, *spot, *sign, into)
             }
             Expr::Choose(spot, condition, first, second) => {
-                Self::add_choice(condition, first, second, names, around, *spot, kept)
+                Self::add_choice(condition, first, second, names, around, *spot, into)
             }
         }
     }
@@ -134,15 +134,15 @@ impl Tokens {
         name: &Name,
         names: &Names,
         around: Around,
-        kept: &mut Self,
+        into: &mut Self,
     ) -> Result<bool, AllocError>
-        ensures tokens { OnOk result (seen_in kept.new ≡ seen_in kept.old
+        ensures tokens { OnOk result (seen_in into.new ≡ seen_in into.old
             ++ tree_tokens (thing_in names.now) around (t.Variable (named name.now))) }
         ensures class { IfOk result
             (λ is. is ≡ is_shared (thing_in names.now) (t.Variable (named name.now))) }
     {
         let shared = is_name_shared(thing_at(names, name.at), name.bytes);
-        kept.add_plain(around, spot_of(name), shared)
+        into.add_plain(around, spot_of(name), shared)
     }
 
     // An operand behind a sign, and whether both are shared.
@@ -153,17 +153,17 @@ impl Tokens {
         around: Around,
         spot: Spot,
         sign: Sign,
-        kept: &mut Self,
+        into: &mut Self,
     ) -> Result<bool, AllocError>
-        ensures tokens { OnOk result (seen_in kept.new ≡ seen_in kept.old
+        ensures tokens { OnOk result (seen_in into.new ≡ seen_in into.old
             ++ tree_tokens (thing_in names.now) around
             (t.Prefix spot sign (tree_of operand.now))) }
         ensures class { IfOk result (λ is. is
             ≡ is_shared (thing_in names.now) (t.Prefix spot sign (tree_of operand.now))) }
     {
-        let shared = Self::add_expression(operand, names, around, kept)?;
+        let shared = Self::add_expression(operand, names, around, into)?;
         let word = Word::Prefix(sign, named_thing(operand, names));
-        kept.add(around, spot, shared, word)?;
+        into.add(around, spot, shared, word)?;
         Ok(shared)
     }
 
@@ -176,17 +176,17 @@ impl Tokens {
         around: Around,
         spot: Spot,
         sign: Sign,
-        kept: &mut Self,
+        into: &mut Self,
     ) -> Result<bool, AllocError>
-        ensures tokens { OnOk result (seen_in kept.new ≡ seen_in kept.old
+        ensures tokens { OnOk result (seen_in into.new ≡ seen_in into.old
             ++ tree_tokens (thing_in names.now) around
             (t.Assign spot sign (tree_of target.now) (tree_of value.now))) }
         ensures class { IfOk result (λ is. is ≡ is_shared (thing_in names.now)
             (t.Assign spot sign (tree_of target.now) (tree_of value.now))) }
     {
-        let target = Self::add_expression(target, names, around, kept)?;
-        let value = Self::add_expression(value, names, around, kept)?;
-        kept.add_plain(around, spot, is_assigned_shared(sign, target, value))
+        let target = Self::add_expression(target, names, around, into)?;
+        let value = Self::add_expression(value, names, around, into)?;
+        into.add_plain(around, spot, is_assigned_shared(sign, target, value))
     }
 
     // A choice, and whether it is shared.
@@ -198,18 +198,18 @@ impl Tokens {
         names: &Names,
         around: Around,
         spot: Spot,
-        kept: &mut Self,
+        into: &mut Self,
     ) -> Result<bool, AllocError>
-        ensures tokens { OnOk result (seen_in kept.new ≡ seen_in kept.old
+        ensures tokens { OnOk result (seen_in into.new ≡ seen_in into.old
             ++ tree_tokens (thing_in names.now) around (t.Choose spot
             (tree_of condition.now) (tree_of first.now) (tree_of second.now))) }
         ensures class { IfOk result (λ is. is ≡ is_shared (thing_in names.now) (t.Choose spot
             (tree_of condition.now) (tree_of first.now) (tree_of second.now))) }
     {
-        let condition = Self::add_expression(condition, names, around, kept)?;
-        let first = Self::add_expression(first, names, around, kept)?;
-        let second = Self::add_expression(second, names, around, kept)?;
-        kept.add_question(around, spot, condition, condition && first && second)
+        let condition = Self::add_expression(condition, names, around, into)?;
+        let first = Self::add_expression(first, names, around, into)?;
+        let second = Self::add_expression(second, names, around, into)?;
+        into.add_question(around, spot, condition, condition && first && second)
     }
 
     // The sign of a choice, by whether its condition is shared, and whether it is itself.
@@ -255,17 +255,17 @@ impl Tokens {
         names: &Names,
         around: Around,
         first: bool,
-        kept: &mut Self,
+        into: &mut Self,
     ) -> Result<bool, AllocError>
-        ensures tokens { OnOk result (seen_in kept.new ≡ seen_in kept.old
+        ensures tokens { OnOk result (seen_in into.new ≡ seen_in into.old
             ++ links_tokens (thing_in names.now) around first (links_of (map link_of links.now))) }
         ensures class { IfOk result (λ is. is
             ≡ is_chain_shared (thing_in names.now) first (links_of (map link_of links.now))) }
     {
         let mut shared = first;
         for link in links {
-            let right = Self::add_expression(&link.right, names, around, kept)?;
-            shared = kept.add_sign(around, link.spot, link.sign, shared, right)?;
+            let right = Self::add_expression(&link.right, names, around, into)?;
+            shared = into.add_sign(around, link.spot, link.sign, shared, right)?;
         }
         Ok(shared)
     }
@@ -279,9 +279,9 @@ impl Tokens {
         around: Around,
         whole: bool,
         call: bool,
-        kept: &mut Self,
+        into: &mut Self,
     ) -> Result<bool, AllocError>
-        ensures tokens { OnOk result (seen_in kept.new ≡ seen_in kept.old
+        ensures tokens { OnOk result (seen_in into.new ≡ seen_in into.old
             ++ suffixes_tokens (thing_in names.now) around whole call
             (suffixes_of (map suffix_of suffixes.now))) }
         ensures class { IfOk result (λ is. is ≡ is_postfix_shared (thing_in names.now) whole call
@@ -292,17 +292,17 @@ impl Tokens {
         for suffix in suffixes {
             match suffix {
                 Suffix::Index(spot, by) => {
-                    let by = Self::add_expression(by, names, around, kept)?;
-                    shared = kept.add_plain(around, *spot, shared && by)?;
+                    let by = Self::add_expression(by, names, around, into)?;
+                    shared = into.add_plain(around, *spot, shared && by)?;
                 }
                 Suffix::Call(spot, arguments) => {
-                    Self::add_expressions(arguments, names, around, kept)?;
-                    shared = kept.add_plain(around, *spot, called)?;
+                    Self::add_expressions(arguments, names, around, into)?;
+                    shared = into.add_plain(around, *spot, called)?;
                 }
                 Suffix::Dot(spot, _)
                 | Suffix::Arrow(spot, _)
                 | Suffix::Up(spot)
-                | Suffix::Down(spot) => shared = kept.add_plain(around, *spot, shared)?,
+                | Suffix::Down(spot) => shared = into.add_plain(around, *spot, shared)?,
             }
             called = false;
         }
@@ -314,14 +314,14 @@ impl Tokens {
         expressions: &[Expr],
         names: &Names,
         around: Around,
-        kept: &mut Self,
+        into: &mut Self,
     ) -> Result<(), AllocError>
-        ensures { OnOk result (seen_in kept.new ≡ seen_in kept.old
+        ensures { OnOk result (seen_in into.new ≡ seen_in into.old
             ++ trees_tokens (thing_in names.now) around
             (trees_of (map tree_of expressions.now))) }
     {
         for expression in expressions {
-            let _shared = Self::add_expression(expression, names, around, kept)?;
+            let _shared = Self::add_expression(expression, names, around, into)?;
         }
         Ok(())
     }
@@ -331,15 +331,15 @@ impl Tokens {
         value: &Option<Expr>,
         names: &Names,
         around: Around,
-        kept: &mut Self,
+        into: &mut Self,
     ) -> Result<bool, AllocError>
-        ensures tokens { OnOk result (seen_in kept.new ≡ seen_in kept.old
+        ensures tokens { OnOk result (seen_in into.new ≡ seen_in into.old
             ++ optional_tokens (thing_in names.now) around (option_map tree_of value.now)) }
         ensures class { IfOk result (λ is. is
             ≡ is_condition_shared (thing_in names.now) (option_map tree_of value.now)) }
     {
         match value {
-            Some(value) => Self::add_expression(value, names, around, kept),
+            Some(value) => Self::add_expression(value, names, around, into),
             None => Ok(true),
         }
     }
@@ -348,27 +348,27 @@ impl Tokens {
         variable: &Declared,
         names: &Names,
         around: Around,
-        kept: &mut Self,
+        into: &mut Self,
     ) -> Result<(), AllocError>
-        ensures { OnOk result (seen_in kept.new ≡ seen_in kept.old
+        ensures { OnOk result (seen_in into.new ≡ seen_in into.old
             ++ variable_tokens (thing_in names.now) around (declared_of variable.now)) }
     {
-        let _shared = Self::add_optional(&variable.first, names, around, kept)?;
+        let _shared = Self::add_optional(&variable.first, names, around, into)?;
         let word = Word::Variable(variable.shared, form_of(variable));
-        kept.add_bare(around, spot_of(&variable.name), word)
+        into.add_bare(around, spot_of(&variable.name), word)
     }
 
     fn add_variables(
         variables: &[Declared],
         names: &Names,
         around: Around,
-        kept: &mut Self,
+        into: &mut Self,
     ) -> Result<(), AllocError>
-        ensures { OnOk result (seen_in kept.new ≡ seen_in kept.old
+        ensures { OnOk result (seen_in into.new ≡ seen_in into.old
             ++ variables_tokens (thing_in names.now) around (map declared_of variables.now)) }
     {
         for variable in variables {
-            Self::add_variable(variable, names, around, kept)?;
+            Self::add_variable(variable, names, around, into)?;
         }
         Ok(())
     }
@@ -379,15 +379,15 @@ impl Tokens {
         names: &Names,
         around: Around,
         spot: Spot,
-        kept: &mut Self,
+        into: &mut Self,
     ) -> Result<bool, AllocError>
-        ensures tokens { OnOk result (seen_in kept.new ≡ seen_in kept.old
+        ensures tokens { OnOk result (seen_in into.new ≡ seen_in into.old
             ++ condition_tokens (thing_in names.now) around spot (tree_of condition.now)) }
         ensures class { IfOk result
             (λ is. is ≡ is_shared (thing_in names.now) (tree_of condition.now)) }
     {
-        let shared = Self::add_expression(condition, names, around, kept)?;
-        kept.add_bare(around, spot, Word::Decides(shared))?;
+        let shared = Self::add_expression(condition, names, around, into)?;
+        into.add_bare(around, spot, Word::Decides(shared))?;
         Ok(shared)
     }
 
@@ -399,18 +399,18 @@ impl Tokens {
         names: &Names,
         around: Around,
         spot: Spot,
-        kept: &mut Self,
+        into: &mut Self,
     ) -> Result<bool, AllocError>
-        ensures tokens { OnOk result (seen_in kept.new ≡ seen_in kept.old
+        ensures tokens { OnOk result (seen_in into.new ≡ seen_in into.old
             ++ head_tokens (thing_in names.now) around spot (option_map tree_of before.now)
             (option_map tree_of condition.now) (option_map tree_of after.now)) }
         ensures class { IfOk result (λ is. is
             ≡ is_condition_shared (thing_in names.now) (option_map tree_of condition.now)) }
     {
-        let _before = Self::add_optional(before, names, around, kept)?;
-        let shared = Self::add_optional(condition, names, around, kept)?;
-        let _after = Self::add_optional(after, names, around, kept)?;
-        kept.add_bare(around, spot, Word::Decides(shared))?;
+        let _before = Self::add_optional(before, names, around, into)?;
+        let shared = Self::add_optional(condition, names, around, into)?;
+        let _after = Self::add_optional(after, names, around, into)?;
+        into.add_bare(around, spot, Word::Decides(shared))?;
         Ok(shared)
     }
 
@@ -421,15 +421,15 @@ impl Tokens {
         rank: &'t Option<Expr<'a>>,
         names: &Names,
         around: Around,
-        kept: &mut Self,
+        into: &mut Self,
     ) -> Result<(), AllocError>
-        ensures { OnOk result (seen_in kept.new ≡ seen_in kept.old
+        ensures { OnOk result (seen_in into.new ≡ seen_in into.old
             ++ parts_tokens (thing_in names.now) around (tree_of parts.now) (tree_of part.now)
             (option_map tree_of rank.now)) }
     {
-        let _parts = Self::add_expression(parts, names, around, kept)?;
-        let _part = Self::add_expression(part, names, around, kept)?;
-        let _rank = Self::add_optional(rank, names, around, kept)?;
+        let _parts = Self::add_expression(parts, names, around, into)?;
+        let _part = Self::add_expression(part, names, around, into)?;
+        let _rank = Self::add_optional(rank, names, around, into)?;
         Ok(())
     }
 
@@ -439,22 +439,22 @@ impl Tokens {
         statement: &Stmt,
         names: &Names,
         around: Around,
-        kept: &mut Self,
+        into: &mut Self,
     ) -> Result<bool, AllocError>
-        ensures tokens { OnOk result (seen_in kept.new ≡ seen_in kept.old
+        ensures tokens { OnOk result (seen_in into.new ≡ seen_in into.old
             ++ decision_tokens (thing_in names.now) around (statement_of statement.now)) }
         ensures class { IfOk result (λ is. is
             ≡ is_decision_shared (thing_in names.now) (statement_of statement.now)) }
     {
         match statement {
             Stmt::If(spot, condition, _, _) => {
-                Self::add_condition(condition, names, around, *spot, kept)
+                Self::add_condition(condition, names, around, *spot, into)
             }
             Stmt::While(spot, condition, _) | Stmt::DoWhile(spot, _, condition) => {
-                Self::add_condition(condition, names, around, *spot, kept)
+                Self::add_condition(condition, names, around, *spot, into)
             }
             Stmt::For(spot, before, condition, after, _) => {
-                Self::add_head(before, condition, after, names, around, *spot, kept)
+                Self::add_head(before, condition, after, names, around, *spot, into)
             }
             Stmt::Empty
             | Stmt::Expression(_)
@@ -476,29 +476,29 @@ impl Tokens {
         statement: &Stmt,
         names: &Names,
         around: Around,
-        kept: &mut Self,
+        into: &mut Self,
     ) -> Result<(), AllocError>
-        ensures { OnOk result (seen_in kept.new ≡ seen_in kept.old
+        ensures { OnOk result (seen_in into.new ≡ seen_in into.old
             ++ own_tokens (thing_in names.now) around (statement_of statement.now)) }
     {
         match statement {
             Stmt::Expression(value) => {
-                let _shared = Self::add_expression(value, names, around, kept)?;
+                let _shared = Self::add_expression(value, names, around, into)?;
                 Ok(())
             }
-            Stmt::Declare(variables) => Self::add_variables(variables, names, around, kept),
+            Stmt::Declare(variables) => Self::add_variables(variables, names, around, into),
             Stmt::Start(_, count, _) => {
-                let _shared = Self::add_optional(count, names, around, kept)?;
+                let _shared = Self::add_optional(count, names, around, into)?;
                 Ok(())
             }
             Stmt::Fork(_, parts, part, rank, _) => {
-                Self::add_parts(parts, part, rank, names, around, kept)
+                Self::add_parts(parts, part, rank, names, around, into)
             }
-            Stmt::Break(spot) => kept.add_bare(around, *spot, Word::Break),
-            Stmt::Continue(spot) => kept.add_bare(around, *spot, Word::Continue),
+            Stmt::Break(spot) => into.add_bare(around, *spot, Word::Break),
+            Stmt::Continue(spot) => into.add_bare(around, *spot, Word::Continue),
             Stmt::Return(spot, value) => {
-                let _shared = Self::add_optional(value, names, around, kept)?;
-                kept.add_bare(around, *spot, Word::Return)
+                let _shared = Self::add_optional(value, names, around, into)?;
+                into.add_bare(around, *spot, Word::Return)
             }
             Stmt::Empty
             | Stmt::Barrier(_)
@@ -517,32 +517,32 @@ impl Tokens {
         statement: &Stmt,
         names: &Names,
         around: Around,
-        kept: &mut Self,
+        into: &mut Self,
     ) -> Result<(), AllocError>
-        ensures { OnOk result (seen_in kept.new ≡ seen_in kept.old
+        ensures { OnOk result (seen_in into.new ≡ seen_in into.old
             ++ statement_tokens (thing_in names.now) within around (statement_of statement.now)) }
     {
         match statement {
-            Stmt::Block(statements) => Self::add_statements(statements, names, around, kept),
+            Stmt::Block(statements) => Self::add_statements(statements, names, around, into),
             Stmt::If(_, _, then, otherwise) => {
-                let shared = Self::add_decision(statement, names, around, kept)?;
+                let shared = Self::add_decision(statement, names, around, into)?;
                 let inside = around.within(Holder::Branch(shared));
-                Self::add_statement(then, names, inside, kept)?;
+                Self::add_statement(then, names, inside, into)?;
                 match otherwise {
-                    Some(otherwise) => Self::add_statement(otherwise, names, inside, kept),
+                    Some(otherwise) => Self::add_statement(otherwise, names, inside, into),
                     None => Ok(()),
                 }
             }
             Stmt::While(_, _, body) | Stmt::DoWhile(_, body, _) | Stmt::For(_, _, _, _, body) => {
-                let shared = Self::add_decision(statement, names, around, kept)?;
-                Self::add_statement(body, names, around.within(Holder::Loop(shared)), kept)
+                let shared = Self::add_decision(statement, names, around, into)?;
+                Self::add_statement(body, names, around.within(Holder::Loop(shared)), into)
             }
             Stmt::Start(_, _, body) | Stmt::Fork(_, _, _, _, body) => {
-                Self::add_own(statement, names, around, kept)?;
-                Self::add_statement(body, names, around.within(SYNCHRONOUS), kept)
+                Self::add_own(statement, names, around, into)?;
+                Self::add_statement(body, names, around.within(SYNCHRONOUS), into)
             }
             Stmt::Farm(_, body) | Stmt::Seq(_, body) => {
-                Self::add_statement(body, names, around.within(ASYNCHRONOUS), kept)
+                Self::add_statement(body, names, around.within(ASYNCHRONOUS), into)
             }
             Stmt::Empty
             | Stmt::Expression(_)
@@ -550,7 +550,7 @@ impl Tokens {
             | Stmt::Barrier(_)
             | Stmt::Break(_)
             | Stmt::Continue(_)
-            | Stmt::Return(_, _) => Self::add_own(statement, names, around, kept),
+            | Stmt::Return(_, _) => Self::add_own(statement, names, around, into),
         }
     }
 
@@ -559,14 +559,14 @@ impl Tokens {
         statements: &[Stmt],
         names: &Names,
         around: Around,
-        kept: &mut Self,
+        into: &mut Self,
     ) -> Result<(), AllocError>
-        ensures { OnOk result (seen_in kept.new ≡ seen_in kept.old
+        ensures { OnOk result (seen_in into.new ≡ seen_in into.old
             ++ statements_tokens (thing_in names.now) within around
             (statements_of (map statement_of statements.now))) }
     {
         for statement in statements {
-            Self::add_statement(statement, names, around, kept)?;
+            Self::add_statement(statement, names, around, into)?;
         }
         Ok(())
     }
@@ -575,35 +575,35 @@ impl Tokens {
         parameters: &[Declared],
         around: Around,
         mode: Mode,
-        kept: &mut Self,
+        into: &mut Self,
     ) -> Result<(), AllocError>
-        ensures { OnOk result (seen_in kept.new ≡ seen_in kept.old
+        ensures { OnOk result (seen_in into.new ≡ seen_in into.old
             ++ parameters_tokens around mode (map declared_of parameters.now)) }
     {
         for parameter in parameters {
             let word = Word::Parameter(parameter.shared, mode);
-            kept.add_bare(around, spot_of(&parameter.name), word)?;
+            into.add_bare(around, spot_of(&parameter.name), word)?;
         }
         Ok(())
     }
 
-    fn add_function(function: &Function, names: &Names, kept: &mut Self) -> Result<(), AllocError>
-        ensures { OnOk result (seen_in kept.new ≡ seen_in kept.old
+    fn add_function(function: &Function, names: &Names, into: &mut Self) -> Result<(), AllocError>
+        ensures { OnOk result (seen_in into.new ≡ seen_in into.old
             ++ function_tokens (thing_in names.now) within outside (function_of function.now)) }
     {
         let outside = Around::outside();
-        Self::add_parameters(&function.params, outside, function.mode, kept)?;
+        Self::add_parameters(&function.params, outside, function.mode, into)?;
         match &function.body {
             Some(body) => {
                 let inside = outside.within(Holder::Body(region_of(function.mode)));
-                Self::add_statements(body, names, inside, kept)
+                Self::add_statements(body, names, inside, into)
             }
             None => Ok(()),
         }
     }
 
-    fn add_item(item: &Item, names: &Names, kept: &mut Self) -> Result<(), AllocError>
-        ensures { OnOk result (seen_in kept.new ≡ seen_in kept.old
+    fn add_item(item: &Item, names: &Names, into: &mut Self) -> Result<(), AllocError>
+        ensures { OnOk result (seen_in into.new ≡ seen_in into.old
             ++ item_tokens (thing_in names.now) within outside (item_of item.now)) }
     {
         match item {
@@ -612,18 +612,18 @@ impl Tokens {
                 variables,
                 names,
                 Around::outside(),
-                kept,
+                into,
             ),
-            Item::Function(function) => Self::add_function(function, names, kept),
+            Item::Function(function) => Self::add_function(function, names, into),
         }
     }
 
-    fn add_items(items: &[Item], names: &Names, kept: &mut Self) -> Result<(), AllocError>
-        ensures { OnOk result (seen_in kept.new ≡ seen_in kept.old
+    fn add_items(items: &[Item], names: &Names, into: &mut Self) -> Result<(), AllocError>
+        ensures { OnOk result (seen_in into.new ≡ seen_in into.old
             ++ items_tokens (thing_in names.now) within outside (map item_of items.now)) }
     {
         for item in items {
-            Self::add_item(item, names, kept)?;
+            Self::add_item(item, names, into)?;
         }
         Ok(())
     }

@@ -13,7 +13,7 @@ use Rattle.fk_image.specs.declared.Image.{Image}
 use Rattle.fk_isa.specs.declared.instruction.Instruction.{Instruction}
 use Rattle.fk_isa.specs.declared.instruction.Instruction.TheVariants.{Lui, Addi, Lw, Sw}
 use Rattle.fk_machine.specs.declared.place.Device.TheVariants.{HartId, Harts}
-use Rattle.fk_machine.specs.declared.place.Place.TheVariants.{DeviceWord}
+use Rattle.fk_machine.specs.declared.place.Location.TheVariants.{DeviceWord}
 use Rattle.fk_machine.specs.Place.{place_of, device_at}
 use Rattle.fk_machine.specs.Hart.{Hart, Shared, Goes, Setting as MachineSetting}
 use Rattle.fk_machine.specs.Step.{perform}

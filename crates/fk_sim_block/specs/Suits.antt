@@ -1,9 +1,9 @@
 -- Lists that suit frames: words that are read were kept or written, and values have room beside the words that are kept.
 use Rattle.std.specs.Prelude.{◌≡◌, ℕ, suc, ◌+◌, ◌-◌, ◌==◌, ◌<◌, ◌≤◌, List, [], slice_get, Bool, true, false, Some}
-use Rattle.fk_meaning_operation.specs.declared.operation.Known.{Known}
-use Rattle.fk_meaning_operation.specs.declared.operation.Known.TheVariants.{Value}
+use Rattle.fk_meaning_operation.specs.declared.operation.OwnValue.{OwnValue}
+use Rattle.fk_meaning_operation.specs.declared.operation.OwnValue.TheVariants.{Value}
 use Rattle.fk_meaning_operation.specs.declared.operation.Operation.{Operation}
-use Rattle.fk_meaning_operation.specs.declared.operation.Operation.TheVariants.{Push, Get, Set, DropLast, CopyLast, Apply, Join, Index, Branch, Take, Leave, Check, Read, Write, Combine, PrintNumber, PrintByte, Enter, Halt}
+use Rattle.fk_meaning_operation.specs.declared.operation.Operation.TheVariants.{Push, Get, Set, DropLast, CopyLast, Apply, Binary, Index, Branch, Take, Leave, Check, Read, Write, Combine, PrintNumber, PrintByte, Enter, Halt}
 use Rattle.fk_meaning_operation.specs.declared.operation.Variable.TheVariants.{Private, OfFile}
 use Rattle.fk_core.specs.declared.op.CoreOp.{CoreOp}
 use Rattle.fk_core.specs.Next.{is_jump, follows}
@@ -16,7 +16,7 @@ looks_at (Set variable) = 1
 looks_at DropLast = 1
 looks_at CopyLast = 1
 looks_at (Apply sign) = 1
-looks_at (Join sign turned) = 2
+looks_at (Binary sign turned) = 2
 looks_at (Index size) = 2
 looks_at (Branch onward) = 1
 looks_at Take = 1
@@ -64,7 +64,7 @@ module _ (core : List CoreOp) (frames : Frames) where
   GoesOn operation i target depth = (onward : Bool) → Flows (writes operation) i (follows core operation i target [] onward).at
 
   -- a word that is read is there, and one that is written lies below the values. There is room for a value that is pushed
-  abbrev pub IsThere : Known → (i : ℕ) → Type 0
+  abbrev pub IsThere : OwnValue → (i : ℕ) → Type 0
   IsThere (Value (Private word)) i = frames.keeps i word ≡ true
   IsThere (Value (OfFile word)) i = word < frames.of_file
   IsThere known i = Unit {0}

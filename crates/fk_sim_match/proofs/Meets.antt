@@ -6,7 +6,7 @@ use Rattle.std.specs.Prelude.{◌==◌, if◌then◌else◌}
 use Rattle.fk_num.specs.Word.{Memory, put, word_sum}
 use Rattle.fk_image.specs.declared.Image.{Image}
 use Rattle.fk_isa.specs.declared.instruction.Instruction.TheVariants.{AmoAddW, Lw, Bne, Sw, Jal}
-use Rattle.fk_machine.specs.declared.place.Place.TheVariants.{ControlWord}
+use Rattle.fk_machine.specs.declared.place.Location.TheVariants.{ControlWord}
 use Rattle.fk_machine.specs.Place.{place_of}
 use Rattle.fk_machine.specs.Hart.{Hart, Shared, Setting, Reservations, Goes}
 use Rattle.fk_machine.specs.Reach.{cleared}

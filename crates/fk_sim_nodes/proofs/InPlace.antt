@@ -6,7 +6,7 @@ use Rattle.fk_image.specs.declared.Image.{Image}
 use Rattle.fk_isa.specs.declared.instruction.Instruction.{Instruction}
 use Rattle.fk_isa.specs.declared.instruction.Instruction.TheVariants.{AmoAddW}
 use Rattle.fk_isa.specs.Atomic.{combined}
-use Rattle.fk_machine.specs.declared.place.Place.TheVariants.{ControlWord}
+use Rattle.fk_machine.specs.declared.place.Location.TheVariants.{ControlWord}
 use Rattle.fk_machine.specs.Place.{place_of}
 use Rattle.fk_machine.specs.Hart.{Hart, Shared, Setting, Goes}
 use Rattle.fk_machine.specs.Reach.{cleared}

@@ -5,7 +5,7 @@ use Rattle.fk_image.specs.declared.Image.{Image}
 use Rattle.fk_isa.specs.declared.instruction.Instruction.{Instruction}
 use Rattle.fk_isa.specs.declared.instruction.Instruction.TheVariants.{Lw, Sw, AmoAddW}
 use Rattle.fk_isa.specs.Step.{set_register}
-use Rattle.fk_machine.specs.declared.place.Place.TheVariants.{ControlWord}
+use Rattle.fk_machine.specs.declared.place.Location.TheVariants.{ControlWord}
 use Rattle.fk_machine.specs.Place.{place_of}
 use Rattle.fk_machine.specs.Hart.{Hart, Shared, Setting}
 use Rattle.fk_machine.specs.Step.{perform}

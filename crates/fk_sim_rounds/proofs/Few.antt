@@ -61,7 +61,7 @@ module _ (most : ℕ) where
   changes_few : (operation : Operation) (n : ℕ) (of : ℕ → Processor) (highest lowest' : ℕ) (tree : Tree) → IsFew most tree
       → IsFew most (changes operation n of highest lowest' tree)
   changes_few o.Begin n of highest lowest' tree few = split_few 0 1 (t.first_part (min (not_negative highest) (length (t.members tree n)))) tree few
-  changes_few (o.Divide by) n of highest lowest' tree few = split_few n (parts by (values (of lowest'))) (λ h. part by (values (of h))) tree few
+  changes_few (o.Split by) n of highest lowest' tree few = split_few n (parts by (values (of lowest'))) (λ h. part by (values (of h))) tree few
   changes_few o.Shrink n of highest lowest' tree few = shrink_few n (λ h. stays (of h)) tree few
   changes_few o.End n of highest lowest' tree few = shrink_few n (λ h. false) tree few
   changes_few o.Farm n of highest lowest' tree few = with_kind_few n _ tree few

@@ -92,7 +92,7 @@ block_levels words p false = (refl, refl, refl, refl)
 
 does_levels : (operation : Operation) (highest size : ℕ) (p : Processor) → stays_put operation ≡ true → SameLevels p (does operation highest size p)
 does_levels o.Begin highest size p put = absurd (cc)
-does_levels (o.Divide by) highest size p put = absurd (cc)
+does_levels (o.Split by) highest size p put = absurd (cc)
 does_levels o.Shrink highest size p put = absurd (cc)
 does_levels o.End highest size p put = absurd (cc)
 does_levels (o.Frame nesting words) highest size p put = frame_levels nesting words p (nat_lt (free p.level.space) words)
@@ -203,7 +203,7 @@ level_past p old tree spaces sound g kind others n l (k ∷ outer) some ne is =
 
 step_nodes : (operation : Operation) (n : ℕ) (whose : ℕ → Processor) (highest low : ℕ) (tree : Tree) → stays_put operation ≡ true → SameNodes tree (changes operation n whose highest low tree)
 step_nodes o.Begin n whose highest low tree put = absurd (cc)
-step_nodes (o.Divide by) n whose highest low tree put = absurd (cc)
+step_nodes (o.Split by) n whose highest low tree put = absurd (cc)
 step_nodes o.Shrink n whose highest low tree put = absurd (cc)
 step_nodes o.End n whose highest low tree put = absurd (cc)
 step_nodes o.Farm n whose highest low tree put = record { members = λ k. kind_members n _ tree k; parents = λ k. kind_parent n _ tree k }

@@ -134,7 +134,7 @@ AllFindRoom (a ∷ as') = FindsRoom a.due a.runner.has × AllFindRoom as'
 
 local_room : (operation : Operation) (p : Processor) → class_of operation ≡ Local → has_room operation p ≡ true
 local_room (o.Frame nesting words) p e = absurd (cc)
-local_room (o.Divide by) p e = absurd (cc)
+local_room (o.Split by) p e = absurd (cc)
 local_room operation p e = refl
 
 abbrev pub AllSound : List (Runner Position) → Type 0

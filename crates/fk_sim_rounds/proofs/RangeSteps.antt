@@ -6,8 +6,8 @@ use Rattle.fk_space.specs.Space.{Space, free, equal_part, share, child, frame}
 use Rattle.fk_space.proofs.Parts.{roomy_of, part_ends}
 use Rattle.fk_meaning_operation.specs.declared.operation.Operation.{Operation}
 use Rattle.fk_meaning_operation.specs.declared.operation.Operation.TheVariants as o
-use Rattle.fk_meaning_operation.specs.declared.operation.Split.{Split}
-use Rattle.fk_meaning_operation.specs.declared.operation.Split.TheVariants as sp
+use Rattle.fk_meaning_operation.specs.declared.operation.SplitKind.{SplitKind}
+use Rattle.fk_meaning_operation.specs.declared.operation.SplitKind.TheVariants as sp
 use Rattle.fk_meaning_store.specs.Store.{address_of, shared_words}
 use Rattle.fk_meaning_store.specs.Serve.{words_of}
 use Rattle.fk_meaning.specs.Processor.{Level, Processor, values, last, before, drop_last, enter_level, to_outer}
@@ -90,7 +90,7 @@ on_both : (b : Bool) (i : ℕ) → (if b then Some 1 else Some 0) ≡ Some i →
 on_both true i e = let z : 1 ≡ i = cc in omega (arith, z)
 on_both false i e = let z : 0 ≡ i = cc in omega (arith, z)
 
-part-below : (by : Split) (vs : List ℕ) (i : ℕ) → part by vs ≡ Some i → i < parts by vs
+part-below : (by : SplitKind) (vs : List ℕ) (i : ℕ) → part by vs ≡ Some i → i < parts by vs
 part-below sp.IfAlone vs i e = let z = on_false (last vs == 0) 0 i e in omega (arith, z)
 part-below sp.IfElse vs i e = on_both (last vs == 0) i e
 part-below sp.AndThen vs i e = let z = on_false (last vs == 0) 0 i e in omega (arith, z)
@@ -101,16 +101,16 @@ part-below sp.Fork vs i e =
     subst (λ j. j < parts sp.Fork vs) z.0 (ltb-true (last (before 1 vs)) (parts sp.Fork vs) z.1)
 
 -- the number of a part of a `fork` is a value
-number-is : (by : Split) (old i : ℕ) (vs : List ℕ) → IsWord old → AreWords vs → part by vs ≡ Some i → IsWord (part_number by old i)
+number-is : (by : SplitKind) (old i : ℕ) (vs : List ℕ) → IsWord old → AreWords vs → part by vs ≡ Some i → IsWord (part_number by old i)
 number-is sp.Fork old i vs w all e =
     subst IsWord (on_true (nat_lt (last (before 1 vs)) (parts sp.Fork vs)) (last (before 1 vs)) i e).0 (last-is (before 1 vs) (before-are 1 vs all))
 number-is by old i vs w all e = w
 
-rank-is : (by : Split) (old v : ℕ) → IsWord old → IsWord v → IsWord (part_rank by old v)
+rank-is : (by : SplitKind) (old v : ℕ) → IsWord old → IsWord v → IsWord (part_rank by old v)
 rank-is sp.Fork old v w is = is
 rank-is by old v w is = w
 
-waits-are : (by : Split) (vs : List ℕ) → AreWords vs → AreWords (waits_with by vs)
+waits-are : (by : SplitKind) (vs : List ℕ) → AreWords vs → AreWords (waits_with by vs)
 waits-are sp.AndThen vs all = (omega arith, all)
 waits-are sp.OrElse vs all = (omega arith, all)
 waits-are by vs all = all
@@ -128,7 +128,7 @@ child-is s k i le lt room =
     let some = share_is s k i lt room in
     fits s.frames s.blocks k i (i * equal_part s k) (equal_part s k) shared_words (part_ends s k i some lt) (roomy_of s k some).kept lt le
 
-divided-sound : (by : Split) (size : ℕ) (p : Processor) (part' : Option ℕ) → part by (values p) ≡ part' → has_parts p.level.space (parts by (values p)) ≡ true → IsSound p → IsWord size
+divided-sound : (by : SplitKind) (size : ℕ) (p : Processor) (part' : Option ℕ) → part by (values p) ≡ part' → has_parts p.level.space (parts by (values p)) ≡ true → IsSound p → IsWord size
     → IsSound (divided by size p part')
 divided-sound by size p None e room s w =
     let left = before (taken_by by) (values p) in
@@ -150,7 +150,7 @@ does-sound o.Begin highest size p room s h w =
 does-sound o.Agree highest size p room s h w = in_place-sound highest p s h
 does-sound (o.Frame nesting words) highest size p room s h w = framed-sound nesting words p s
 does-sound o.Block highest size p room s h w = allotted-sound (words_of (last (values p))) p s
-does-sound (o.Divide by) highest size p room s h w = divided-sound by size p (part by (values p)) refl room s w
+does-sound (o.Split by) highest size p room s h w = divided-sound by size p (part by (values p)) refl room s w
 does-sound o.Shrink highest size p room s h w =
     if_either {A = Processor} IsSound (stays p) _ _ (sized size (drop_last 1 p) (drop-sound 1 p s) w) (outside (drop_last 1 p) p.outer (drop-sound 1 p s) s.outer)
 does-sound o.End highest size p room s h w = outside p p.outer s s.outer

@@ -5,8 +5,8 @@ use Rattle.std.proofs.lemmas.Bool.{cases_lt, lt-ltb, le-ltb}
 use Rattle.fk_num.specs.Word.{Memory, put, word}
 use Rattle.fk_num.specs.Op.{applied}
 use Rattle.fk_num.specs.declared.operator.Op.TheVariants.{Sub, Xor, Eq}
-use Rattle.fk_meaning_operation.specs.declared.operation.Known.{Known}
-use Rattle.fk_meaning_operation.specs.declared.operation.Known.TheVariants as k
+use Rattle.fk_meaning_operation.specs.declared.operation.OwnValue.{OwnValue}
+use Rattle.fk_meaning_operation.specs.declared.operation.OwnValue.TheVariants as k
 use Rattle.fk_meaning_operation.specs.declared.operation.Unary.{Unary}
 use Rattle.fk_meaning_operation.specs.declared.operation.Unary.TheVariants.{Negate, Complement, Not}
 use Rattle.fk_meaning_operation.specs.declared.operation.Operation.{Operation}
@@ -96,7 +96,7 @@ value-is : (p : Processor) (variable : Variable) → IsSound p → IsWord (value
 value-is p (Private i) s = s.call.privates i
 value-is p (OfFile i) s = s.own i
 
-known-is : (set : Setting) (p : Processor) (known' : Known) → IsSmall set → IsSound p → IsWord (known set p known')
+known-is : (set : Setting) (p : Processor) (known' : OwnValue) → IsSmall set → IsSound p → IsWord (known set p known')
 known-is set p (k.Value variable) small s = value-is p variable s
 known-is set p k.Rank small s = s.level.rank
 known-is set p k.GroupNumber small s = s.level.number
@@ -203,7 +203,7 @@ local-sound set (o.Set variable) p small s = stored-sound (last (values p)) vari
 local-sound set o.DropLast p small s = drop-sound 1 p s
 local-sound set o.CopyLast p small s = push-sound (last (values p)) p s (last-is (values p) s.call.values)
 local-sound set (o.Apply sign) p small s = in_place-sound (applied_to sign (last (values p))) p s (sign-is sign (last (values p)) (last-is (values p) s.call.values))
-local-sound set (o.Join op turned) p small s =
+local-sound set (o.Binary op turned) p small s =
     with_values-sound p (joined (in_order turned (applied op)) (values p)) s (joined-are (in_order turned (applied op)) (values p) (order-is turned (applied op) (λ a b u v. applied-is op a b u v)) s.call.values)
 local-sound set (o.Index size) p small s =
     with_values-sound p (joined (λ address i. word (address + i * size)) (values p)) s (joined-are (λ address i. word (address + i * size)) (values p) (λ a b u v. word_is (a + b * size)) s.call.values)

@@ -41,7 +41,7 @@ turned_there n k tree i e =
 step_there : (operation : Operation) (n : ℕ) (whose : ℕ → Processor) (highest low : ℕ) (tree : Tree) (i : ℕ) → stays_put operation ≡ true
     → (changes operation n whose highest low tree).nodes i ≡ None → tree.nodes i ≡ None
 step_there o.Begin n whose highest low tree i put e = absurd (cc)
-step_there (o.Divide by) n whose highest low tree i put e = absurd (cc)
+step_there (o.Split by) n whose highest low tree i put e = absurd (cc)
 step_there o.Shrink n whose highest low tree i put e = absurd (cc)
 step_there o.End n whose highest low tree i put e = absurd (cc)
 step_there o.Farm n whose highest low tree i put e = turned_there n (Asynchronous false) tree i e

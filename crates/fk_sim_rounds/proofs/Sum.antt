@@ -29,14 +29,14 @@ use Rattle.fk_sim_rounds.proofs.Ends.{rounds_end}
 
 abbrev pub stays_put : Operation → Bool
 stays_put o.Begin = false
-stays_put (o.Divide by) = false
+stays_put (o.Split by) = false
 stays_put o.Shrink = false
 stays_put o.End = false
 stays_put operation = true
 
 step_places : (operation : Operation) (n : ℕ) (whose : ℕ → Processor) (highest low : ℕ) (tree : Tree) → stays_put operation ≡ true → (changes operation n whose highest low tree).places ≡ tree.places
 step_places o.Begin n whose highest low tree e = absurd (cc)
-step_places (o.Divide by) n whose highest low tree e = absurd (cc)
+step_places (o.Split by) n whose highest low tree e = absurd (cc)
 step_places o.Shrink n whose highest low tree e = absurd (cc)
 step_places o.End n whose highest low tree e = absurd (cc)
 step_places o.Farm n whose highest low tree e = refl
@@ -47,7 +47,7 @@ step_places operation n whose highest low tree e = refl
 
 keeps_put : (operation : Operation) → changes_tree operation ≡ false → stays_put operation ≡ true
 keeps_put o.Begin e = absurd (cc)
-keeps_put (o.Divide by) e = absurd (cc)
+keeps_put (o.Split by) e = absurd (cc)
 keeps_put o.Shrink e = absurd (cc)
 keeps_put o.End e = absurd (cc)
 keeps_put operation e = refl

@@ -46,7 +46,7 @@ use Rattle.fk_sim_rounds.proofs.Moved.{many_nodes}
 
 step_keeps : (operation : Operation) (n : ℕ) (whose : ℕ → Processor) (highest low : ℕ) (tree : Tree) → changes_tree operation ≡ false → changes operation n whose highest low tree ≡ tree
 step_keeps o.Begin n whose highest low tree e = absurd (cc)
-step_keeps (o.Divide by) n whose highest low tree e = absurd (cc)
+step_keeps (o.Split by) n whose highest low tree e = absurd (cc)
 step_keeps o.Shrink n whose highest low tree e = absurd (cc)
 step_keeps o.End n whose highest low tree e = absurd (cc)
 step_keeps o.Farm n whose highest low tree e = absurd (cc)

@@ -98,7 +98,7 @@ fn run_image<'a>(
     ensures stand { IfOk result (λ ran. ran.stand ≡ (machine image.now input.now harts bound).stand) }
     ensures cycles { IfOk result (λ ran. ran.cycles ≡ (machine image.now input.now harts bound).begun) }
 {
-    let mut machine = Machine::make(alloc, image, input, harts)?;
+    let mut machine = Machine::new(alloc, image, input, harts)?;
     let mut output = Vec::new(alloc);
     machine.run(bound, &mut output)?;
     Ok(Ran {

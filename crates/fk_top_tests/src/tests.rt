@@ -37,9 +37,9 @@ fn call_surely(
 fn a_call_that_meets_no_fault_is_done(rt: HostRuntime) -> Result<(), Fail> {
     let alloc = rt.alloc();
     let words = owned(alloc, &RUN)?;
-    let mut files = SureStore::make(b"void main(void) { }".to_vec(alloc)?);
-    let mut input = SureSource::make(Vec::new(alloc));
-    let (mut out, mut err) = (SureSink::make(), SureSink::make());
+    let mut files = SureStore::new(b"void main(void) { }".to_vec(alloc)?);
+    let mut input = SureSource::new(Vec::new(alloc));
+    let (mut out, mut err) = (SureSink::new(), SureSink::new());
     let status = call_surely(alloc, &words, &mut files, &mut input, &mut out, &mut err);
     assert_eq!(rt; status, Status::Done);
     Ok(())

@@ -12,10 +12,10 @@ use Rattle.fk_types_judgments.specs.Names.{Env}
 use Rattle.fk_types_references.specs.References.{ReferenceTree}
 use Rattle.fk_types_rules.specs.Noted.{AreTypes}
 use Rattle.fk_types_rules.specs.Bound.{Refers}
-use Rattle.fk_types_bindings.specs.declared.known.Known.{Known}
+use Rattle.fk_types_bindings.specs.declared.known.TypedProgram.{TypedProgram}
 
 -- what is known is right about a program
-pub record IsKnown (env : Env) (program : ProgramTree) (known : Known) : Type 0 where
+pub record IsKnown (env : Env) (program : ProgramTree) (known : TypedProgram) : Type 0 where
   pub structs : env.structs ≡ structs_in known.structs.now
   pub names : AreNames program known.names.now
   pub types : AreTypes env program known.types.now

@@ -20,7 +20,7 @@ ghost use Rattle.fk_types_bindings.specs.Bound.{with_told, name_token, AreDeclar
 
 use crate::bodies::{bodies, meant};
 use crate::found::references_in;
-use crate::known::Known;
+use crate::known::TypedProgram;
 use fk_types_names::{Declaration, Names, Table};
 use fk_types_obligations::Piece;
 use fk_types_references::Reference;
@@ -78,7 +78,7 @@ fn set_declared(numbers: &mut [u32], bodies: &Table, declared: &[Declaration])
 }
 
 // Sets what references refer to, at their tokens.
-fn set_referred(numbers: &mut [u32], known: &Known, references: &[Reference])
+fn set_referred(numbers: &mut [u32], known: &TypedProgram, references: &[Reference])
     requires { IsSound known.now.structs.now }
     ensures { (env : Env) (program : ProgramTree) → IsKnown env program known.now
         → AreReferred env program (map reference_of references.now) numbers.old numbers.new }
@@ -89,7 +89,7 @@ fn set_referred(numbers: &mut [u32], known: &Known, references: &[Reference])
 }
 
 // Sets what the tokens of a program name, where nothing is set yet.
-fn set_all(numbers: &mut [u32], known: &Known, bodies: &Table, references: &[Reference])
+fn set_all(numbers: &mut [u32], known: &TypedProgram, bodies: &Table, references: &[Reference])
     requires sound { IsSound known.now.structs.now }
     requires bodies { AreBodies
         (map declaration_of known.now.names.now.declarations.items) (shown bodies.now) }
@@ -143,7 +143,7 @@ pub fn bindings<'k, 'p, 'a>(
     let bodies = bodies(alloc, &names.declarations)?;
     let references = references_in(alloc, pieces)?;
     let mut numbers = vec![in alloc; 0u32; types.len()]?;
-    let known = Known {
+    let known = TypedProgram {
         structs,
         names,
         types,

@@ -28,7 +28,7 @@ const PREDECLARED: u32 = 4_294_967_295;
 
 /// What is known of a program.
 #[derive(Drop)]
-pub(crate) struct Known<'k, 'p, 'a> {
+pub(crate) struct TypedProgram<'k, 'p, 'a> {
     pub(crate) structs: &'k Structs<'p, 'a>,
     pub(crate) names: &'k Names<'p, 'a>,
     /// The types of its tokens.
@@ -57,7 +57,7 @@ fn struct_before(is_arrow: bool, kind: ExpressionType) -> Option<usize>
     }
 }
 
-impl Known<'_, '_, '_> {
+impl TypedProgram<'_, '_, '_> {
     // What the token of an index means.
     fn meaning(&self, at: u32) -> Option<Meaning>
         ensures { result ≡ meaning_in self.now.names.now at }

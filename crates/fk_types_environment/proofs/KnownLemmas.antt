@@ -12,7 +12,7 @@ use Rattle.fk_types_operators.specs.Values.{result_of}
 use Rattle.fk_types_judgments.specs.Names as n
 use Rattle.fk_types_judgments.specs.Names.{Meant, IsSignature, is_text}
 use Rattle.fk_types_forms.specs.declared.names.Signature.{Signature}
-use Rattle.fk_types_forms.specs.declared.names.Known.TheVariants as k
+use Rattle.fk_types_forms.specs.declared.names.Entity.TheVariants as k
 use Rattle.fk_types_environment.specs.Types.{HasParameterType, HasResultType}
 use Rattle.fk_types_environment.specs.Known.{HasSignature, IsKnown}
 use Rattle.fk_types_environment.proofs.ListLemmas.{zip-both}

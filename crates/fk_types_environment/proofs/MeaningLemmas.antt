@@ -16,7 +16,7 @@ use Rattle.fk_types_names.specs.View.{declaration_of}
 use Rattle.fk_types_names.specs.Means.{Means, MeansAt, StandsFor, HasBodyAt, binding}
 use Rattle.fk_types_names.specs.Names.{AreNames, meaning_in}
 use Rattle.fk_types_judgments.specs.Names.{Env, IsEnv, IsMeant, IsDeclared}
-use Rattle.fk_types_forms.specs.declared.names.Known.{Known}
+use Rattle.fk_types_forms.specs.declared.names.Entity.{Entity}
 use Rattle.fk_types_forms.specs.Scope.{meant_by, known_meant, member_in}
 use Rattle.fk_types_environment.specs.Types.{HasVariableType, AreMemberTypes}
 use Rattle.fk_types_environment.specs.Known.{IsKnown}
@@ -60,14 +60,14 @@ numbered marks bytes from number h =
 -- ---- what is known, by lists
 
 -- it is known with these structs and names
-abbrev pub env_with : Structs → Names → List Known → List (Vec (Option DataType) Global) → Env
+abbrev pub env_with : Structs → Names → List Entity → List (Vec (Option DataType) Global) → Env
 env_with structs names known members = record {
   structs = structs_in structs;
   meant = λ name. meant_by known name.bytes (meaning_in names name.at);
   member_type = member_in members;
 }
 
-pub env_with-same : (structs : Structs) (names : Names) (known same : List Known) (members others : List (Vec (Option DataType) Global)) → known ≡ same → members ≡ others → env_with structs names known members ≡ env_with structs names same others
+pub env_with-same : (structs : Structs) (names : Names) (known same : List Entity) (members others : List (Vec (Option DataType) Global)) → known ≡ same → members ≡ others → env_with structs names known members ≡ env_with structs names same others
 env_with-same structs names known same members others p q = ap (λ k. env_with structs names k members) p ∙ ap (λ ms. env_with structs names same ms) q
 
 member-at : (members : List (Vec (Option DataType) Global)) (index place : ℕ) (v : Vec (Option DataType) Global) (type : Option DataType) → slice_get members index ≡ Some v → slice_get v.items place ≡ Some type → member_in members index place ≡ type
@@ -75,7 +75,7 @@ member-at members index place v type here there =
     ap (option_and_then (λ (w : Vec (Option DataType) Global). option_and_then (λ (t : Option DataType). t) (slice_get w.items place))) here
     ∙ ap (option_and_then (λ (t : Option DataType). t)) there
 
-module _ (program : ProgramTree) (structs : Structs) (names : Names) (known : List Known) (members : List (Vec (Option DataType) Global)) where
+module _ (program : ProgramTree) (structs : Structs) (names : Names) (known : List Entity) (members : List (Vec (Option DataType) Global)) where
   is_meant : structs_in structs ≡ structs_of program.items → AreNames program names → AllZip (IsKnown (structs_in structs)) (map declaration_of names.declarations.items) known
       → (name : Named) (meaning : Meaning) → Means program name.at meaning → IsMeant program name.bytes meaning (meant_by known name.bytes (Some meaning))
   is_meant same are all name (m.Declared number) h =

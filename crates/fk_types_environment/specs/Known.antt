@@ -8,7 +8,7 @@ use Rattle.fk_types_names.specs.Outline.{DeclarationTree}
 use Rattle.fk_types_operators.specs.Values.{result_of}
 use Rattle.fk_types_judgments.specs.Names.{IsSignature, IsDeclared}
 use Rattle.fk_types_forms.specs.declared.names.Signature.{Signature}
-use Rattle.fk_types_forms.specs.declared.names.Known.{Known}
+use Rattle.fk_types_forms.specs.declared.names.Entity.{Entity}
 use Rattle.fk_types_forms.specs.Scope.{known_meant}
 
 -- what is kept of the parameters and the result of a function is right
@@ -18,5 +18,5 @@ pub record HasSignature (structs : List StructTree) (function : FunctionTree) (s
   pub gives : signature.result ≡ option_map result_of type
 
 -- what is kept of a declaration is what it declares
-abbrev pub IsKnown : List StructTree → DeclarationTree → Known → Type 0
+abbrev pub IsKnown : List StructTree → DeclarationTree → Entity → Type 0
 IsKnown structs declaration known = IsDeclared structs declaration (known_meant (Some known))

@@ -13,7 +13,7 @@ ghost use Rattle.fk_types_environment.specs.Known.{HasSignature, IsKnown};
 
 use crate::types::{parameter_types, result_type, variable_type};
 use fk_types_names::Declaration;
-use fk_types_forms::{Known, Signature};
+use fk_types_forms::{Entity, Signature};
 use fk_types_operators::ExpressionType;
 use fk_types_structs::{DataType, Structs};
 use fk_syntax::Function;
@@ -54,16 +54,16 @@ fn known_function(
     alloc: Global,
     structs: &Structs,
     function: &Function,
-) -> Result<Known, AllocError>
+) -> Result<Entity, AllocError>
     requires { IsSound structs.now }
     ensures { IfOk result
         (IsKnown (structs_in structs.now) (Header (function_of function.now))) }
 {
     let signature = signature(alloc, structs, function)?;
     if is_main(function) {
-        return Ok(Known::Main);
+        return Ok(Entity::Main);
     }
-    Ok(Known::Function(signature))
+    Ok(Entity::Function(signature))
 }
 
 // What a declaration declares.
@@ -71,13 +71,13 @@ fn known_of(
     alloc: Global,
     structs: &Structs,
     declaration: &Declaration,
-) -> Result<Known, AllocError>
+) -> Result<Entity, AllocError>
     requires { IsSound structs.now }
     ensures { IfOk result
         (IsKnown (structs_in structs.now) (declaration_of declaration.now)) }
 {
     match declaration {
-        Declaration::Variable(variable) => Ok(Known::Variable(variable_type(structs, variable))),
+        Declaration::Variable(variable) => Ok(Entity::Variable(variable_type(structs, variable))),
         Declaration::Function(function) => known_function(alloc, structs, function),
     }
 }
@@ -87,7 +87,7 @@ pub(crate) fn all_known(
     alloc: Global,
     structs: &Structs,
     declarations: &[Declaration],
-) -> Result<Vec<Known>, AllocError>
+) -> Result<Vec<Entity>, AllocError>
     requires { IsSound structs.now }
     ensures { IfOk result (λ known. AllZip (IsKnown (structs_in structs.now))
         (map declaration_of declarations.now) known.items) }

@@ -8,7 +8,7 @@ ghost use Rattle.fk_types_environment.specs.Environment.{env_of, IsRight};
 use crate::declarations::all_known;
 use crate::types::all_member_types;
 use fk_types_names::Names;
-use fk_types_forms::{Known, Scope};
+use fk_types_forms::{Entity, Scope};
 use fk_types_structs::{DataType, Structs};
 use std::alloc::{AllocError, Global};
 
@@ -18,7 +18,7 @@ use std::alloc::{AllocError, Global};
 #[derive(Drop)]
 pub struct Environment {
     // By the numbers of declarations.
-    known: Vec<Known>,
+    known: Vec<Entity>,
     // By the indices of structs and the places of their members.
     members: Vec<Vec<Option<DataType>>>,
 }

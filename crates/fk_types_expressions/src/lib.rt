@@ -3,5 +3,5 @@
 
 mod walk;
 
-pub use fk_types_forms::{Known, Part, Scope, Signature};
+pub use fk_types_forms::{Entity, Part, Scope, Signature};
 pub use walk::expression;

@@ -18,8 +18,8 @@ use Rattle.fk_types_judgments.specs.Typing.{result_in}
 use Rattle.fk_types_forms.specs.declared.calls.Parameter.{Parameter}
 use Rattle.fk_types_forms.specs.declared.calls.Parameter.TheVariants as p
 use Rattle.fk_types_forms.specs.declared.names.Signature.{Signature}
-use Rattle.fk_types_forms.specs.declared.names.Known.{Known}
-use Rattle.fk_types_forms.specs.declared.names.Known.TheVariants as k
+use Rattle.fk_types_forms.specs.declared.names.Entity.{Entity}
+use Rattle.fk_types_forms.specs.declared.names.Entity.TheVariants as k
 use Rattle.fk_types_forms.specs.declared.names.Scope.{Scope}
 use Rattle.fk_types_forms.specs.declared.names.Thing.{Thing}
 use Rattle.fk_types_forms.specs.declared.names.Thing.TheVariants as t
@@ -60,13 +60,13 @@ given_by n.Main first = None
 given_by n.Undeclared first = None
 
 -- what is declared
-abbrev pub known_meant : Option Known → Meant
+abbrev pub known_meant : Option Entity → Meant
 known_meant None = n.Kept None
 known_meant (Some (k.Variable type)) = n.Kept type
 known_meant (Some (k.Function signature)) = signature_meant signature
 known_meant (Some k.Main) = n.Main
 
-abbrev pub meant_by : List Known → List ℕ → Option Meaning → Meant
+abbrev pub meant_by : List Entity → List ℕ → Option Meaning → Meant
 meant_by known name None = n.Kept None
 meant_by known name (Some (m.Declared number)) = known_meant (slice_get known number)
 meant_by known name (Some m.Predeclared) = predeclared_meant name

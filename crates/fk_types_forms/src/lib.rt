@@ -9,6 +9,6 @@ mod operands;
 mod parts;
 
 pub use calls::Parameter;
-pub use names::{Known, Scope, Signature, Thing};
+pub use names::{Entity, Scope, Signature, Thing};
 pub use operands::{struct_at, struct_in};
 pub use parts::{Arguments, Part};

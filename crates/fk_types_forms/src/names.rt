@@ -20,7 +20,7 @@ pub struct Signature {
 
 /// What a declaration declares.
 #[derive(Drop)]
-pub enum Known {
+pub enum Entity {
     /// A variable or parameter, with its type where its declaration isn't broken.
     Variable(Option<DataType>),
     /// A function other than `main`.
@@ -35,7 +35,7 @@ pub struct Scope<'c, 'p, 'a> {
     pub structs: &'c Structs<'p, 'a>,
     pub names: &'c Names<'p, 'a>,
     /// What is declared, by the numbers of declarations.
-    pub known: &'c [Known],
+    pub known: &'c [Entity],
     /// The types of the members of structs, by the places of the members, where the declaration
     /// isn't broken.
     pub members: &'c [Vec<Option<DataType>>],
@@ -119,9 +119,9 @@ impl<'c, 'p, 'a> Scope<'c, 'p, 'a> {
         ensures { meant_of result ≡ known_meant (slice_get self.now.known.now number) }
     {
         match self.known.get(number as usize) {
-            Some(Known::Variable(kind)) => Thing::Kept(*kind),
-            Some(Known::Function(signature)) => Thing::Function(signature),
-            Some(Known::Main) => Thing::Main,
+            Some(Entity::Variable(kind)) => Thing::Kept(*kind),
+            Some(Entity::Function(signature)) => Thing::Function(signature),
+            Some(Entity::Main) => Thing::Main,
             None => Thing::Kept(None),
         }
     }

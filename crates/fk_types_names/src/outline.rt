@@ -105,16 +105,16 @@ impl<'p, 'a> Outline<'p, 'a> {
     }
 
     // What is read stands before what it is added to: such calls have shorter proofs than methods.
-    fn add(mark: Mark<'p, 'a>, kept: &mut Self) -> Result<(), AllocError>
-        ensures { OnOk result (marks_in kept.new ≡ marks_in kept.old ++ mark_of mark.entry ∷ []) }
+    fn add(mark: Mark<'p, 'a>, into: &mut Self) -> Result<(), AllocError>
+        ensures { OnOk result (marks_in into.new ≡ marks_in into.old ++ mark_of mark.entry ∷ []) }
     {
-        kept.marks.push(mark)?;
+        into.marks.push(mark)?;
         Ok(())
     }
 
     #[cycle(expression)]
-    fn add_expression(expression: &'p Expr<'a>, kept: &mut Self) -> Result<(), AllocError>
-        ensures { OnOk result (marks_in kept.new ≡ marks_in kept.old ++ tree_marks (tree_of expression.now)) }
+    fn add_expression(expression: &'p Expr<'a>, into: &mut Self) -> Result<(), AllocError>
+        ensures { OnOk result (marks_in into.new ≡ marks_in into.old ++ tree_marks (tree_of expression.now)) }
     {
         match expression {
             Expr::Number(_, _, _)
@@ -122,50 +122,50 @@ impl<'p, 'a> Outline<'p, 'a> {
             | Expr::Sizeof(_, _)
             | Expr::GroupNumber(_)
             | Expr::GroupRank(_) => Ok(()),
-            Expr::Named(name) => Self::add(Mark::Uses(*name), kept),
+            Expr::Named(name) => Self::add(Mark::Uses(*name), into),
             Expr::Prefix(_, _, operand) | Expr::Cast(_, _, operand) => {
-                Self::add_expression(operand, kept)
+                Self::add_expression(operand, into)
             }
             Expr::Chain(first, links) => {
-                Self::add_expression(first, kept)?;
-                Self::add_links(links, kept)
+                Self::add_expression(first, into)?;
+                Self::add_links(links, into)
             }
             Expr::Postfix(whole, suffixes) => {
-                Self::add_expression(whole, kept)?;
-                Self::add_suffixes(suffixes, kept)
+                Self::add_expression(whole, into)?;
+                Self::add_suffixes(suffixes, into)
             }
             Expr::Assign(_, _, target, value) => {
-                Self::add_expression(target, kept)?;
-                Self::add_expression(value, kept)
+                Self::add_expression(target, into)?;
+                Self::add_expression(value, into)
             }
             Expr::Choose(_, condition, first, second) => {
-                Self::add_expression(condition, kept)?;
-                Self::add_expression(first, kept)?;
-                Self::add_expression(second, kept)
+                Self::add_expression(condition, into)?;
+                Self::add_expression(first, into)?;
+                Self::add_expression(second, into)
             }
         }
     }
 
     #[cycle(expression)]
-    fn add_links(links: &'p [Link<'a>], kept: &mut Self) -> Result<(), AllocError>
-        ensures { OnOk result (marks_in kept.new
-            ≡ marks_in kept.old ++ links_marks (links_of (map link_of links.now))) }
+    fn add_links(links: &'p [Link<'a>], into: &mut Self) -> Result<(), AllocError>
+        ensures { OnOk result (marks_in into.new
+            ≡ marks_in into.old ++ links_marks (links_of (map link_of links.now))) }
     {
         for link in links {
-            Self::add_expression(&link.right, kept)?;
+            Self::add_expression(&link.right, into)?;
         }
         Ok(())
     }
 
     #[cycle(expression)]
-    fn add_suffixes(suffixes: &'p [Suffix<'a>], kept: &mut Self) -> Result<(), AllocError>
-        ensures { OnOk result (marks_in kept.new
-            ≡ marks_in kept.old ++ suffixes_marks (suffixes_of (map suffix_of suffixes.now))) }
+    fn add_suffixes(suffixes: &'p [Suffix<'a>], into: &mut Self) -> Result<(), AllocError>
+        ensures { OnOk result (marks_in into.new
+            ≡ marks_in into.old ++ suffixes_marks (suffixes_of (map suffix_of suffixes.now))) }
     {
         for suffix in suffixes {
             match suffix {
-                Suffix::Index(_, by) => Self::add_expression(by, kept)?,
-                Suffix::Call(_, arguments) => Self::add_expressions(arguments, kept)?,
+                Suffix::Index(_, by) => Self::add_expression(by, into)?,
+                Suffix::Call(_, arguments) => Self::add_expressions(arguments, into)?,
                 Suffix::Dot(_, _) | Suffix::Arrow(_, _) | Suffix::Up(_) | Suffix::Down(_) => {}
             }
         }
@@ -173,40 +173,40 @@ impl<'p, 'a> Outline<'p, 'a> {
     }
 
     #[cycle(expression)]
-    fn add_expressions(expressions: &'p [Expr<'a>], kept: &mut Self) -> Result<(), AllocError>
-        ensures { OnOk result (marks_in kept.new
-            ≡ marks_in kept.old ++ trees_marks (trees_of (map tree_of expressions.now))) }
+    fn add_expressions(expressions: &'p [Expr<'a>], into: &mut Self) -> Result<(), AllocError>
+        ensures { OnOk result (marks_in into.new
+            ≡ marks_in into.old ++ trees_marks (trees_of (map tree_of expressions.now))) }
     {
         for expression in expressions {
-            Self::add_expression(expression, kept)?;
+            Self::add_expression(expression, into)?;
         }
         Ok(())
     }
 
-    fn add_optional(expression: &'p Option<Expr<'a>>, kept: &mut Self) -> Result<(), AllocError>
-        ensures { OnOk result (marks_in kept.new
-            ≡ marks_in kept.old ++ optional_marks (option_map tree_of expression.now)) }
+    fn add_optional(expression: &'p Option<Expr<'a>>, into: &mut Self) -> Result<(), AllocError>
+        ensures { OnOk result (marks_in into.new
+            ≡ marks_in into.old ++ optional_marks (option_map tree_of expression.now)) }
     {
         match expression {
-            Some(expression) => Self::add_expression(expression, kept),
+            Some(expression) => Self::add_expression(expression, into),
             None => Ok(()),
         }
     }
 
-    fn add_variable(variable: &'p Declared<'a>, kept: &mut Self) -> Result<(), AllocError>
-        ensures { OnOk result (marks_in kept.new
-            ≡ marks_in kept.old ++ variable_marks (declared_of variable.now)) }
+    fn add_variable(variable: &'p Declared<'a>, into: &mut Self) -> Result<(), AllocError>
+        ensures { OnOk result (marks_in into.new
+            ≡ marks_in into.old ++ variable_marks (declared_of variable.now)) }
     {
-        Self::add(Mark::Declares(Declaration::Variable(variable)), kept)?;
-        Self::add_optional(&variable.first, kept)
+        Self::add(Mark::Declares(Declaration::Variable(variable)), into)?;
+        Self::add_optional(&variable.first, into)
     }
 
-    fn add_variables(variables: &'p [Declared<'a>], kept: &mut Self) -> Result<(), AllocError>
-        ensures { OnOk result (marks_in kept.new
-            ≡ marks_in kept.old ++ variables_marks (map declared_of variables.now)) }
+    fn add_variables(variables: &'p [Declared<'a>], into: &mut Self) -> Result<(), AllocError>
+        ensures { OnOk result (marks_in into.new
+            ≡ marks_in into.old ++ variables_marks (map declared_of variables.now)) }
     {
         for variable in variables {
-            Self::add_variable(variable, kept)?;
+            Self::add_variable(variable, into)?;
         }
         Ok(())
     }
@@ -216,16 +216,16 @@ impl<'p, 'a> Outline<'p, 'a> {
         before: &'p Option<Expr<'a>>,
         condition: &'p Option<Expr<'a>>,
         after: &'p Option<Expr<'a>>,
-        kept: &mut Self,
+        into: &mut Self,
     ) -> Result<(), AllocError>
-        ensures { OnOk result (marks_in kept.new ≡ marks_in kept.old
+        ensures { OnOk result (marks_in into.new ≡ marks_in into.old
             ++ (optional_marks (option_map tree_of before.now)
             ++ optional_marks (option_map tree_of condition.now)
             ++ optional_marks (option_map tree_of after.now))) }
     {
-        Self::add_optional(before, kept)?;
-        Self::add_optional(condition, kept)?;
-        Self::add_optional(after, kept)
+        Self::add_optional(before, into)?;
+        Self::add_optional(condition, into)?;
+        Self::add_optional(after, into)
     }
 
     // The three expressions of a `fork`.
@@ -233,45 +233,45 @@ impl<'p, 'a> Outline<'p, 'a> {
         parts: &'p Expr<'a>,
         part: &'p Expr<'a>,
         rank: &'p Option<Expr<'a>>,
-        kept: &mut Self,
+        into: &mut Self,
     ) -> Result<(), AllocError>
-        ensures { OnOk result (marks_in kept.new ≡ marks_in kept.old
+        ensures { OnOk result (marks_in into.new ≡ marks_in into.old
             ++ (tree_marks (tree_of parts.now)
             ++ tree_marks (tree_of part.now)
             ++ optional_marks (option_map tree_of rank.now))) }
     {
-        Self::add_expression(parts, kept)?;
-        Self::add_expression(part, kept)?;
-        Self::add_optional(rank, kept)
+        Self::add_expression(parts, into)?;
+        Self::add_expression(part, into)?;
+        Self::add_optional(rank, into)
     }
 
     #[cycle(statement)]
-    fn add_statement(statement: &'p Stmt<'a>, kept: &mut Self) -> Result<(), AllocError>
-        ensures { OnOk result (marks_in kept.new
-            ≡ marks_in kept.old ++ statement_marks (statement_of statement.now)) }
+    fn add_statement(statement: &'p Stmt<'a>, into: &mut Self) -> Result<(), AllocError>
+        ensures { OnOk result (marks_in into.new
+            ≡ marks_in into.old ++ statement_marks (statement_of statement.now)) }
     {
         match statement {
             Stmt::Empty | Stmt::Barrier(_) | Stmt::Break(_) | Stmt::Continue(_) => Ok(()),
-            Stmt::Expression(value) => Self::add_expression(value, kept),
-            Stmt::Block(statements) => Self::add_block(statements, kept),
-            Stmt::Declare(variables) => Self::add_variables(variables, kept),
+            Stmt::Expression(value) => Self::add_expression(value, into),
+            Stmt::Block(statements) => Self::add_block(statements, into),
+            Stmt::Declare(variables) => Self::add_variables(variables, into),
             Stmt::If(_, condition, then, otherwise) => {
-                Self::add_expression(condition, kept)?;
-                Self::add_body(then, kept)?;
+                Self::add_expression(condition, into)?;
+                Self::add_body(then, into)?;
                 match otherwise {
-                    Some(otherwise) => Self::add_body(otherwise, kept),
+                    Some(otherwise) => Self::add_body(otherwise, into),
                     None => Ok(()),
                 }
             }
-            Stmt::While(_, condition, body) => Self::add_while(body, condition, kept),
-            Stmt::DoWhile(_, body, condition) => Self::add_do_while(body, condition, kept),
+            Stmt::While(_, condition, body) => Self::add_while(body, condition, into),
+            Stmt::DoWhile(_, body, condition) => Self::add_do_while(body, condition, into),
             Stmt::For(_, before, condition, after, body) => {
-                Self::add_for(body, before, condition, after, kept)
+                Self::add_for(body, before, condition, after, into)
             }
-            Stmt::Start(_, count, body) => Self::add_start(body, count, kept),
-            Stmt::Farm(_, body) | Stmt::Seq(_, body) => Self::add_body(body, kept),
-            Stmt::Fork(_, parts, part, rank, body) => Self::add_fork(body, parts, part, rank, kept),
-            Stmt::Return(_, value) => Self::add_optional(value, kept),
+            Stmt::Start(_, count, body) => Self::add_start(body, count, into),
+            Stmt::Farm(_, body) | Stmt::Seq(_, body) => Self::add_body(body, into),
+            Stmt::Fork(_, parts, part, rank, body) => Self::add_fork(body, parts, part, rank, into),
+            Stmt::Return(_, value) => Self::add_optional(value, into),
         }
     }
 
@@ -280,14 +280,14 @@ impl<'p, 'a> Outline<'p, 'a> {
     fn add_while(
         body: &'p Stmt<'a>,
         condition: &'p Expr<'a>,
-        kept: &mut Self,
+        into: &mut Self,
     ) -> Result<(), AllocError>
-        ensures { OnOk result (marks_in kept.new ≡ marks_in kept.old
+        ensures { OnOk result (marks_in into.new ≡ marks_in into.old
             ++ (tree_marks (tree_of condition.now)
             ++ scope (statement_marks (statement_of body.now)))) }
     {
-        Self::add_expression(condition, kept)?;
-        Self::add_body(body, kept)
+        Self::add_expression(condition, into)?;
+        Self::add_body(body, into)
     }
 
     // A body before its condition.
@@ -295,14 +295,14 @@ impl<'p, 'a> Outline<'p, 'a> {
     fn add_do_while(
         body: &'p Stmt<'a>,
         condition: &'p Expr<'a>,
-        kept: &mut Self,
+        into: &mut Self,
     ) -> Result<(), AllocError>
-        ensures { OnOk result (marks_in kept.new ≡ marks_in kept.old
+        ensures { OnOk result (marks_in into.new ≡ marks_in into.old
             ++ (scope (statement_marks (statement_of body.now))
             ++ tree_marks (tree_of condition.now))) }
     {
-        Self::add_body(body, kept)?;
-        Self::add_expression(condition, kept)
+        Self::add_body(body, into)?;
+        Self::add_expression(condition, into)
     }
 
     // The body of a `for` behind its three expressions.
@@ -312,16 +312,16 @@ impl<'p, 'a> Outline<'p, 'a> {
         before: &'p Option<Expr<'a>>,
         condition: &'p Option<Expr<'a>>,
         after: &'p Option<Expr<'a>>,
-        kept: &mut Self,
+        into: &mut Self,
     ) -> Result<(), AllocError>
-        ensures { OnOk result (marks_in kept.new ≡ marks_in kept.old
+        ensures { OnOk result (marks_in into.new ≡ marks_in into.old
             ++ (optional_marks (option_map tree_of before.now)
             ++ optional_marks (option_map tree_of condition.now)
             ++ optional_marks (option_map tree_of after.now)
             ++ scope (statement_marks (statement_of body.now)))) }
     {
-        Self::add_head(before, condition, after, kept)?;
-        Self::add_body(body, kept)
+        Self::add_head(before, condition, after, into)?;
+        Self::add_body(body, into)
     }
 
     // The body of a `start` behind its count.
@@ -329,14 +329,14 @@ impl<'p, 'a> Outline<'p, 'a> {
     fn add_start(
         body: &'p Stmt<'a>,
         count: &'p Option<Expr<'a>>,
-        kept: &mut Self,
+        into: &mut Self,
     ) -> Result<(), AllocError>
-        ensures { OnOk result (marks_in kept.new ≡ marks_in kept.old
+        ensures { OnOk result (marks_in into.new ≡ marks_in into.old
             ++ (optional_marks (option_map tree_of count.now)
             ++ scope (statement_marks (statement_of body.now)))) }
     {
-        Self::add_optional(count, kept)?;
-        Self::add_body(body, kept)
+        Self::add_optional(count, into)?;
+        Self::add_body(body, into)
     }
 
     // The body of a `fork` behind its three expressions.
@@ -346,97 +346,97 @@ impl<'p, 'a> Outline<'p, 'a> {
         parts: &'p Expr<'a>,
         part: &'p Expr<'a>,
         rank: &'p Option<Expr<'a>>,
-        kept: &mut Self,
+        into: &mut Self,
     ) -> Result<(), AllocError>
-        ensures { OnOk result (marks_in kept.new ≡ marks_in kept.old
+        ensures { OnOk result (marks_in into.new ≡ marks_in into.old
             ++ (tree_marks (tree_of parts.now)
             ++ tree_marks (tree_of part.now)
             ++ optional_marks (option_map tree_of rank.now)
             ++ scope (statement_marks (statement_of body.now)))) }
     {
-        Self::add_parts(parts, part, rank, kept)?;
-        Self::add_body(body, kept)
+        Self::add_parts(parts, part, rank, into)?;
+        Self::add_body(body, into)
     }
 
     // A statement that is the body of another.
     #[cycle(statement)]
-    fn add_body(body: &'p Stmt<'a>, kept: &mut Self) -> Result<(), AllocError>
-        ensures { OnOk result (marks_in kept.new
-            ≡ marks_in kept.old ++ scope (statement_marks (statement_of body.now))) }
+    fn add_body(body: &'p Stmt<'a>, into: &mut Self) -> Result<(), AllocError>
+        ensures { OnOk result (marks_in into.new
+            ≡ marks_in into.old ++ scope (statement_marks (statement_of body.now))) }
     {
-        Self::add(Mark::Opens, kept)?;
-        Self::add_statement(body, kept)?;
-        Self::add(Mark::Closes, kept)
+        Self::add(Mark::Opens, into)?;
+        Self::add_statement(body, into)?;
+        Self::add(Mark::Closes, into)
     }
 
     #[cycle(statement)]
-    fn add_block(statements: &'p [Stmt<'a>], kept: &mut Self) -> Result<(), AllocError>
-        ensures { OnOk result (marks_in kept.new ≡ marks_in kept.old
+    fn add_block(statements: &'p [Stmt<'a>], into: &mut Self) -> Result<(), AllocError>
+        ensures { OnOk result (marks_in into.new ≡ marks_in into.old
             ++ scope (statements_marks (statements_of (map statement_of statements.now)))) }
     {
-        Self::add(Mark::Opens, kept)?;
-        Self::add_statements(statements, kept)?;
-        Self::add(Mark::Closes, kept)
+        Self::add(Mark::Opens, into)?;
+        Self::add_statements(statements, into)?;
+        Self::add(Mark::Closes, into)
     }
 
     #[cycle(statement)]
-    fn add_statements(statements: &'p [Stmt<'a>], kept: &mut Self) -> Result<(), AllocError>
-        ensures { OnOk result (marks_in kept.new ≡ marks_in kept.old
+    fn add_statements(statements: &'p [Stmt<'a>], into: &mut Self) -> Result<(), AllocError>
+        ensures { OnOk result (marks_in into.new ≡ marks_in into.old
             ++ statements_marks (statements_of (map statement_of statements.now))) }
     {
         for statement in statements {
-            Self::add_statement(statement, kept)?;
+            Self::add_statement(statement, into)?;
         }
         Ok(())
     }
 
-    fn add_function(function: &'p Function<'a>, kept: &mut Self) -> Result<(), AllocError>
-        ensures { OnOk result (marks_in kept.new
-            ≡ marks_in kept.old ++ function_marks (function_of function.now)) }
+    fn add_function(function: &'p Function<'a>, into: &mut Self) -> Result<(), AllocError>
+        ensures { OnOk result (marks_in into.new
+            ≡ marks_in into.old ++ function_marks (function_of function.now)) }
     {
-        Self::add(Mark::Declares(Declaration::Function(function)), kept)?;
-        Self::add_scope(function, kept)
+        Self::add(Mark::Declares(Declaration::Function(function)), into)?;
+        Self::add_scope(function, into)
     }
 
     // The scope of a function.
-    fn add_scope(function: &'p Function<'a>, kept: &mut Self) -> Result<(), AllocError>
-        ensures { OnOk result (marks_in kept.new ≡ marks_in kept.old
+    fn add_scope(function: &'p Function<'a>, into: &mut Self) -> Result<(), AllocError>
+        ensures { OnOk result (marks_in into.new ≡ marks_in into.old
             ++ scope (variables_marks (function_of function.now).parameters
             ++ body_marks (function_of function.now).body)) }
     {
-        Self::add(Mark::Opens, kept)?;
-        Self::add_inside(function, kept)?;
-        Self::add(Mark::Closes, kept)
+        Self::add(Mark::Opens, into)?;
+        Self::add_inside(function, into)?;
+        Self::add(Mark::Closes, into)
     }
 
     // The parameters of a function, and its body where it has one.
-    fn add_inside(function: &'p Function<'a>, kept: &mut Self) -> Result<(), AllocError>
-        ensures { OnOk result (marks_in kept.new ≡ marks_in kept.old
+    fn add_inside(function: &'p Function<'a>, into: &mut Self) -> Result<(), AllocError>
+        ensures { OnOk result (marks_in into.new ≡ marks_in into.old
             ++ (variables_marks (function_of function.now).parameters
             ++ body_marks (function_of function.now).body)) }
     {
-        Self::add_variables(&function.params, kept)?;
+        Self::add_variables(&function.params, into)?;
         match &function.body {
-            Some(body) => Self::add_statements(body, kept),
+            Some(body) => Self::add_statements(body, into),
             None => Ok(()),
         }
     }
 
-    fn add_item(item: &'p Item<'a>, kept: &mut Self) -> Result<(), AllocError>
-        ensures { OnOk result (marks_in kept.new ≡ marks_in kept.old ++ item_marks (item_of item.now)) }
+    fn add_item(item: &'p Item<'a>, into: &mut Self) -> Result<(), AllocError>
+        ensures { OnOk result (marks_in into.new ≡ marks_in into.old ++ item_marks (item_of item.now)) }
     {
         match item {
             Item::Struct(_, _) => Ok(()),
-            Item::Variables(variables) => Self::add_variables(variables, kept),
-            Item::Function(function) => Self::add_function(function, kept),
+            Item::Variables(variables) => Self::add_variables(variables, into),
+            Item::Function(function) => Self::add_function(function, into),
         }
     }
 
-    fn add_items(items: &'p [Item<'a>], kept: &mut Self) -> Result<(), AllocError>
-        ensures { OnOk result (marks_in kept.new ≡ marks_in kept.old ++ items_marks (map item_of items.now)) }
+    fn add_items(items: &'p [Item<'a>], into: &mut Self) -> Result<(), AllocError>
+        ensures { OnOk result (marks_in into.new ≡ marks_in into.old ++ items_marks (map item_of items.now)) }
     {
         for item in items {
-            Self::add_item(item, kept)?;
+            Self::add_item(item, into)?;
         }
         Ok(())
     }

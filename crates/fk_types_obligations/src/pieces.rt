@@ -25,13 +25,13 @@ pub struct Pieces<'p, 'a> {
 impl<'p, 'a> Pieces<'p, 'a> {
     /// The pieces of some items. Fails only for want of memory.
     pub fn of(alloc: Global, items: &'p [Item<'a>]) -> Result<Self, AllocError>
-        ensures { IfOk result (λ kept. pieces_in kept ≡ items_pieces (map item_of items.now)) }
+        ensures { IfOk result (λ into. pieces_in into ≡ items_pieces (map item_of items.now)) }
     {
-        let mut kept = Pieces {
+        let mut into = Pieces {
             list: Vec::new(alloc),
         };
-        Self::add_items(items, &mut kept)?;
-        Ok(kept)
+        Self::add_items(items, &mut into)?;
+        Ok(into)
     }
 
     /// The pieces, in order.
@@ -42,61 +42,61 @@ impl<'p, 'a> Pieces<'p, 'a> {
     }
 
     // What is read stands before what it is added to: such calls have shorter proofs than methods.
-    fn add(piece: Piece<'p, 'a>, kept: &mut Self) -> Result<(), AllocError>
-        ensures { OnOk result (pieces_in kept.new
-            ≡ pieces_in kept.old ++ piece_of piece.entry ∷ []) }
+    fn add(piece: Piece<'p, 'a>, into: &mut Self) -> Result<(), AllocError>
+        ensures { OnOk result (pieces_in into.new
+            ≡ pieces_in into.old ++ piece_of piece.entry ∷ []) }
     {
-        kept.list.push(piece)?;
+        into.list.push(piece)?;
         Ok(())
     }
 
-    fn add_used(value: &'p Expr<'a>, role: Role, kept: &mut Self) -> Result<(), AllocError>
-        ensures { OnOk result (pieces_in kept.new
-            ≡ pieces_in kept.old ++ t.Used role (tree_of value.now) ∷ []) }
+    fn add_used(value: &'p Expr<'a>, role: Role, into: &mut Self) -> Result<(), AllocError>
+        ensures { OnOk result (pieces_in into.new
+            ≡ pieces_in into.old ++ t.Used role (tree_of value.now) ∷ []) }
     {
-        Self::add(Piece::Used(role, value), kept)
+        Self::add(Piece::Used(role, value), into)
     }
 
     fn add_optional(
         value: &'p Option<Expr<'a>>,
         role: Role,
-        kept: &mut Self,
+        into: &mut Self,
     ) -> Result<(), AllocError>
-        ensures { OnOk result (pieces_in kept.new
-            ≡ pieces_in kept.old ++ optional_pieces role (option_map tree_of value.now)) }
+        ensures { OnOk result (pieces_in into.new
+            ≡ pieces_in into.old ++ optional_pieces role (option_map tree_of value.now)) }
     {
         match value {
-            Some(value) => Self::add_used(value, role, kept),
+            Some(value) => Self::add_used(value, role, into),
             None => Ok(()),
         }
     }
 
-    fn add_variables(variables: &'p [Declared<'a>], kept: &mut Self) -> Result<(), AllocError>
-        ensures { OnOk result (pieces_in kept.new
-            ≡ pieces_in kept.old ++ variables_pieces (map declared_of variables.now)) }
+    fn add_variables(variables: &'p [Declared<'a>], into: &mut Self) -> Result<(), AllocError>
+        ensures { OnOk result (pieces_in into.new
+            ≡ pieces_in into.old ++ variables_pieces (map declared_of variables.now)) }
     {
         for variable in variables {
-            Self::add(Piece::Variable(variable), kept)?;
+            Self::add(Piece::Variable(variable), into)?;
         }
         Ok(())
     }
 
-    fn add_of_file(variables: &'p [Declared<'a>], kept: &mut Self) -> Result<(), AllocError>
-        ensures { OnOk result (pieces_in kept.new
-            ≡ pieces_in kept.old ++ file_pieces (map declared_of variables.now)) }
+    fn add_of_file(variables: &'p [Declared<'a>], into: &mut Self) -> Result<(), AllocError>
+        ensures { OnOk result (pieces_in into.new
+            ≡ pieces_in into.old ++ file_pieces (map declared_of variables.now)) }
     {
         for variable in variables {
-            Self::add(Piece::FileVariable(variable), kept)?;
+            Self::add(Piece::FileVariable(variable), into)?;
         }
         Ok(())
     }
 
-    fn add_parameters(parameters: &'p [Declared<'a>], kept: &mut Self) -> Result<(), AllocError>
-        ensures { OnOk result (pieces_in kept.new
-            ≡ pieces_in kept.old ++ parameters_pieces (map declared_of parameters.now)) }
+    fn add_parameters(parameters: &'p [Declared<'a>], into: &mut Self) -> Result<(), AllocError>
+        ensures { OnOk result (pieces_in into.new
+            ≡ pieces_in into.old ++ parameters_pieces (map declared_of parameters.now)) }
     {
         for parameter in parameters {
-            Self::add(Piece::Parameter(parameter), kept)?;
+            Self::add(Piece::Parameter(parameter), into)?;
         }
         Ok(())
     }
@@ -106,16 +106,16 @@ impl<'p, 'a> Pieces<'p, 'a> {
         before: &'p Option<Expr<'a>>,
         condition: &'p Option<Expr<'a>>,
         after: &'p Option<Expr<'a>>,
-        kept: &mut Self,
+        into: &mut Self,
     ) -> Result<(), AllocError>
-        ensures { OnOk result (pieces_in kept.new ≡ pieces_in kept.old
+        ensures { OnOk result (pieces_in into.new ≡ pieces_in into.old
             ++ (optional_pieces r.Alone (option_map tree_of before.now)
             ++ optional_pieces r.Condition (option_map tree_of condition.now)
             ++ optional_pieces r.Alone (option_map tree_of after.now))) }
     {
-        Self::add_optional(before, Role::Alone, kept)?;
-        Self::add_optional(condition, Role::Condition, kept)?;
-        Self::add_optional(after, Role::Alone, kept)
+        Self::add_optional(before, Role::Alone, into)?;
+        Self::add_optional(condition, Role::Condition, into)?;
+        Self::add_optional(after, Role::Alone, into)
     }
 
     // The three expressions of a `fork`.
@@ -123,15 +123,15 @@ impl<'p, 'a> Pieces<'p, 'a> {
         parts: &'p Expr<'a>,
         part: &'p Expr<'a>,
         rank: &'p Option<Expr<'a>>,
-        kept: &mut Self,
+        into: &mut Self,
     ) -> Result<(), AllocError>
-        ensures { OnOk result (pieces_in kept.new ≡ pieces_in kept.old
+        ensures { OnOk result (pieces_in into.new ≡ pieces_in into.old
             ++ (t.Used r.Word (tree_of parts.now) ∷ t.Used r.Word (tree_of part.now)
             ∷ optional_pieces r.Word (option_map tree_of rank.now))) }
     {
-        Self::add_used(parts, Role::Word, kept)?;
-        Self::add_used(part, Role::Word, kept)?;
-        Self::add_optional(rank, Role::Word, kept)
+        Self::add_used(parts, Role::Word, into)?;
+        Self::add_used(part, Role::Word, into)?;
+        Self::add_optional(rank, Role::Word, into)
     }
 
     // A `return` in a function of a result.
@@ -142,58 +142,58 @@ impl<'p, 'a> Pieces<'p, 'a> {
         value: &'p Option<Expr<'a>>,
         gives: &'p TypeName<'a>,
         spot: Spot,
-        kept: &mut Self,
+        into: &mut Self,
     ) -> Result<(), AllocError>
-        ensures { OnOk result (pieces_in kept.new ≡ pieces_in kept.old
+        ensures { OnOk result (pieces_in into.new ≡ pieces_in into.old
             ++ t.Return (type_of gives.now) spot (option_map tree_of value.now) ∷ []) }
     {
-        Self::add(Piece::Return(gives, spot, value), kept)
+        Self::add(Piece::Return(gives, spot, value), into)
     }
 
     #[cycle(statement)]
     fn add_statement(
         statement: &'p Stmt<'a>,
         gives: &'p TypeName<'a>,
-        kept: &mut Self,
+        into: &mut Self,
     ) -> Result<(), AllocError>
-        ensures { OnOk result (pieces_in kept.new ≡ pieces_in kept.old
+        ensures { OnOk result (pieces_in into.new ≡ pieces_in into.old
             ++ statement_pieces (type_of gives.now) (statement_of statement.now)) }
     {
         match statement {
             Stmt::Empty | Stmt::Barrier(_) | Stmt::Break(_) | Stmt::Continue(_) => Ok(()),
-            Stmt::Expression(value) => Self::add_used(value, Role::Alone, kept),
-            Stmt::Block(statements) => Self::add_statements(statements, gives, kept),
-            Stmt::Declare(variables) => Self::add_variables(variables, kept),
+            Stmt::Expression(value) => Self::add_used(value, Role::Alone, into),
+            Stmt::Block(statements) => Self::add_statements(statements, gives, into),
+            Stmt::Declare(variables) => Self::add_variables(variables, into),
             Stmt::If(_, condition, then, otherwise) => {
-                Self::add_used(condition, Role::Condition, kept)?;
-                Self::add_statement(then, gives, kept)?;
+                Self::add_used(condition, Role::Condition, into)?;
+                Self::add_statement(then, gives, into)?;
                 match otherwise {
-                    Some(otherwise) => Self::add_statement(otherwise, gives, kept),
+                    Some(otherwise) => Self::add_statement(otherwise, gives, into),
                     None => Ok(()),
                 }
             }
             Stmt::While(_, condition, body) => {
-                Self::add_used(condition, Role::Condition, kept)?;
-                Self::add_statement(body, gives, kept)
+                Self::add_used(condition, Role::Condition, into)?;
+                Self::add_statement(body, gives, into)
             }
             Stmt::DoWhile(_, body, condition) => {
-                Self::add_statement(body, gives, kept)?;
-                Self::add_used(condition, Role::Condition, kept)
+                Self::add_statement(body, gives, into)?;
+                Self::add_used(condition, Role::Condition, into)
             }
             Stmt::For(_, before, condition, after, body) => {
-                Self::add_head(before, condition, after, kept)?;
-                Self::add_statement(body, gives, kept)
+                Self::add_head(before, condition, after, into)?;
+                Self::add_statement(body, gives, into)
             }
             Stmt::Start(_, count, body) => {
-                Self::add_optional(count, Role::Word, kept)?;
-                Self::add_statement(body, gives, kept)
+                Self::add_optional(count, Role::Word, into)?;
+                Self::add_statement(body, gives, into)
             }
-            Stmt::Farm(_, body) | Stmt::Seq(_, body) => Self::add_statement(body, gives, kept),
+            Stmt::Farm(_, body) | Stmt::Seq(_, body) => Self::add_statement(body, gives, into),
             Stmt::Fork(_, parts, part, rank, body) => {
-                Self::add_parts(parts, part, rank, kept)?;
-                Self::add_statement(body, gives, kept)
+                Self::add_parts(parts, part, rank, into)?;
+                Self::add_statement(body, gives, into)
             }
-            Stmt::Return(spot, value) => Self::add_return(value, gives, *spot, kept),
+            Stmt::Return(spot, value) => Self::add_return(value, gives, *spot, into),
         }
     }
 
@@ -201,54 +201,54 @@ impl<'p, 'a> Pieces<'p, 'a> {
     fn add_statements(
         statements: &'p [Stmt<'a>],
         gives: &'p TypeName<'a>,
-        kept: &mut Self,
+        into: &mut Self,
     ) -> Result<(), AllocError>
-        ensures { OnOk result (pieces_in kept.new ≡ pieces_in kept.old ++ statements_pieces
+        ensures { OnOk result (pieces_in into.new ≡ pieces_in into.old ++ statements_pieces
             (type_of gives.now) (statements_of (map statement_of statements.now))) }
     {
         for statement in statements {
-            Self::add_statement(statement, gives, kept)?;
+            Self::add_statement(statement, gives, into)?;
         }
         Ok(())
     }
 
     // The header of a function.
-    fn add_header(function: &'p Function<'a>, kept: &mut Self) -> Result<(), AllocError>
-        ensures { OnOk result (pieces_in kept.new
-            ≡ pieces_in kept.old ++ t.Header (function_of function.now) ∷ []) }
+    fn add_header(function: &'p Function<'a>, into: &mut Self) -> Result<(), AllocError>
+        ensures { OnOk result (pieces_in into.new
+            ≡ pieces_in into.old ++ t.Header (function_of function.now) ∷ []) }
     {
-        Self::add(Piece::Header(function), kept)
+        Self::add(Piece::Header(function), into)
     }
 
-    fn add_function(function: &'p Function<'a>, kept: &mut Self) -> Result<(), AllocError>
-        ensures { OnOk result (pieces_in kept.new
-            ≡ pieces_in kept.old ++ function_pieces (function_of function.now)) }
+    fn add_function(function: &'p Function<'a>, into: &mut Self) -> Result<(), AllocError>
+        ensures { OnOk result (pieces_in into.new
+            ≡ pieces_in into.old ++ function_pieces (function_of function.now)) }
     {
-        Self::add_header(function, kept)?;
-        Self::add_parameters(&function.params, kept)?;
+        Self::add_header(function, into)?;
+        Self::add_parameters(&function.params, into)?;
         match &function.body {
-            Some(body) => Self::add_statements(body, &function.result, kept),
+            Some(body) => Self::add_statements(body, &function.result, into),
             None => Ok(()),
         }
     }
 
-    fn add_item(item: &'p Item<'a>, kept: &mut Self) -> Result<(), AllocError>
-        ensures { OnOk result (pieces_in kept.new
-            ≡ pieces_in kept.old ++ item_pieces (item_of item.now)) }
+    fn add_item(item: &'p Item<'a>, into: &mut Self) -> Result<(), AllocError>
+        ensures { OnOk result (pieces_in into.new
+            ≡ pieces_in into.old ++ item_pieces (item_of item.now)) }
     {
         match item {
             Item::Struct(_, _) => Ok(()),
-            Item::Variables(variables) => Self::add_of_file(variables, kept),
-            Item::Function(function) => Self::add_function(function, kept),
+            Item::Variables(variables) => Self::add_of_file(variables, into),
+            Item::Function(function) => Self::add_function(function, into),
         }
     }
 
-    fn add_items(items: &'p [Item<'a>], kept: &mut Self) -> Result<(), AllocError>
-        ensures { OnOk result (pieces_in kept.new
-            ≡ pieces_in kept.old ++ items_pieces (map item_of items.now)) }
+    fn add_items(items: &'p [Item<'a>], into: &mut Self) -> Result<(), AllocError>
+        ensures { OnOk result (pieces_in into.new
+            ≡ pieces_in into.old ++ items_pieces (map item_of items.now)) }
     {
         for item in items {
-            Self::add_item(item, kept)?;
+            Self::add_item(item, into)?;
         }
         Ok(())
     }

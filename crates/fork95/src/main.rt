@@ -12,10 +12,10 @@ fn main(rt: HostRuntime) -> ExitCode {
     let Ok(words) = command_words(&rt) else {
         return ExitCode::from(Status::Memory.code());
     };
-    let mut files = HostStore::make(rt);
-    let mut input = HostSource::make(rt.stdin());
-    let mut out = HostSink::make(rt.stdout());
-    let mut err = HostSink::make(rt.stderr());
+    let mut files = HostStore::new(rt);
+    let mut input = HostSource::new(rt.stdin());
+    let mut out = HostSink::new(rt.stdout());
+    let mut err = HostSink::new(rt.stderr());
     let status = fork95(
         rt.alloc(),
         words.as_slice(),

@@ -7,7 +7,7 @@ use Rattle.fk_syntax.specs.Program.{Statement}
 use Rattle.fk_syntax.specs.ProgramView.{statement_of}
 use Rattle.fk_syntax.specs.View.{tree_of}
 use Rattle.fk_meaning_operation.specs.declared.operation.Operation.TheVariants as o
-use Rattle.fk_meaning_operation.specs.declared.operation.Split.TheVariants.{Fork}
+use Rattle.fk_meaning_operation.specs.declared.operation.SplitKind.TheVariants.{Fork}
 use Rattle.fk_meaning_forms.specs.Code.{done, choose}
 use Rattle.fk_meaning_forms.specs.Expressions.{plain}
 use Rattle.fk_meaning_forms.specs.Statements.{executed}
@@ -34,14 +34,14 @@ pub statement-returns-in_err-numbers-in-Fork : goal.statement-returns-in_err-num
 statement-returns-in_err-numbers-in-Fork g t c = λ rest.
     let whole : statement_of c.args.whole.now ≡ p.Fork c.in-Fork.spot (tree_of c.in-Fork.parts) (tree_of c.in-Fork.part) (option_map tree_of c.in-Fork.rank) (statement_of c.in-Fork.body.value) = first_of (grind (arith, common_steps, the_lemmas), search (rules, the_lemmas)) in
     ap (λ (x : Statement). through g.V.Visitor.after g.V.Visitor.counts (functions_of c.args.known.now) c.args.visitor.now (executed (tables_of c.args.known.now) (functions_of c.args.known.now) (inside_of c.args.inside) x rest)) whole
-    ∙ c.in_err-numbers-in-Fork.ensures (choose c.in-Fork.spot.place (o.Divide Fork) (part_of_group (tables_of c.args.known.now) (functions_of c.args.known.now) (inside_of c.args.inside) c.in-Fork.spot 0 (statement_of c.in-Fork.body.value)) done (plain o.Resume rest))
+    ∙ c.in_err-numbers-in-Fork.ensures (choose c.in-Fork.spot.place (o.Split Fork) (part_of_group (tables_of c.args.known.now) (functions_of c.args.known.now) (inside_of c.args.inside) c.in-Fork.spot 0 (statement_of c.in-Fork.body.value)) done (plain o.Resume rest))
     ∙ ap (λ (r : Option Unit). through g.V.Visitor.after g.V.Visitor.counts (functions_of c.args.known.now) c.numbers.new.visitor (behind_value r rest)) (sym c.from_residual-in_err-numbers-in-Fork.ensures)
 
 pub statement-returns-in_ok-numbers-in-Fork : goal.statement-returns-in_ok-numbers-in-Fork
 statement-returns-in_ok-numbers-in-Fork g t c = λ rest.
     let whole : statement_of c.args.whole.now ≡ p.Fork c.in-Fork.spot (tree_of c.in-Fork.parts) (tree_of c.in-Fork.part) (option_map tree_of c.in-Fork.rank) (statement_of c.deref-in-Fork.result.now) = first_of (grind (arith, common_steps, the_lemmas), search (rules, the_lemmas)) in
     ap (λ (x : Statement). through g.V.Visitor.after g.V.Visitor.counts (functions_of c.args.known.now) c.args.visitor.now (executed (tables_of c.args.known.now) (functions_of c.args.known.now) (inside_of c.args.inside) x rest)) whole
-    ∙ c.in_ok-numbers-in-Fork.ensures (choose c.in-Fork.spot.place (o.Divide Fork) (part_of_group (tables_of c.args.known.now) (functions_of c.args.known.now) (inside_of c.args.inside) c.in-Fork.spot 0 (statement_of c.deref-in-Fork.result.now)) done (plain o.Resume rest))
+    ∙ c.in_ok-numbers-in-Fork.ensures (choose c.in-Fork.spot.place (o.Split Fork) (part_of_group (tables_of c.args.known.now) (functions_of c.args.known.now) (inside_of c.args.inside) c.in-Fork.spot 0 (statement_of c.deref-in-Fork.result.now)) done (plain o.Resume rest))
     ∙ c.group.ensures rest
 
 pub statement-returns-in-While : goal.statement-returns-in-While

@@ -8,7 +8,7 @@ use Rattle.fk_layout_slots.specs.Frames.{all_frames_in}
 use Rattle.fk_layout_slots.proofs.frames.Frames.+statement.Given as goal
 
 abbrev pub invariant-add_statements-loop-statement : goal.invariant-add_statements-loop-statement
-invariant-add_statements-loop-statement l = l.kept.list.items ++ all_frames_in (told_by l.known) l.level (statements_of (map statement_of (drop l.statement-index l.statements))) ≡ l.fn.kept.list.items ++ all_frames_in (told_by l.known) l.level (statements_of (map statement_of l.statements))
+invariant-add_statements-loop-statement l = l.into.list.items ++ all_frames_in (told_by l.known) l.level (statements_of (map statement_of (drop l.statement-index l.statements))) ≡ l.fn.into.list.items ++ all_frames_in (told_by l.known) l.level (statements_of (map statement_of l.statements))
 
 -- how deep the deepest statement is; a function that is given a body passes it on
 abbrev pub decreases-add_statement : goal.decreases-add_statement

@@ -6,4 +6,4 @@ use Rattle.fk_layout_slots.specs.Frames.{regions_of}
 use Rattle.fk_layout_slots.proofs.frames.Frames.add_items.Given as goal
 
 abbrev pub invariant-loop-item : goal.invariant-loop-item
-invariant-loop-item l = l.kept.list.items ++ regions_of (told_by l.known) (map item_of (drop l.item-index l.items)) ≡ l.fn.kept.list.items ++ regions_of (told_by l.known) (map item_of l.items)
+invariant-loop-item l = l.into.list.items ++ regions_of (told_by l.known) (map item_of (drop l.item-index l.items)) ≡ l.fn.into.list.items ++ regions_of (told_by l.known) (map item_of l.items)

@@ -10,7 +10,7 @@ use Rattle.fk_layout_slots.proofs.places.Places.+statement.Given as goal
 
 abbrev pub invariant-add_statements-loop-statement : goal.invariant-add_statements-loop-statement
 invariant-add_statements-loop-statement l = record {
-  slots : l.kept.list.items ++ all_slots_in (told_by l.known) l.frame l.behind (statements_of (map statement_of (drop l.statement-index l.statements))) ≡ l.fn.kept.list.items ++ all_slots_in (told_by l.known) l.frame l.fn.taken (statements_of (map statement_of l.statements));
+  slots : l.into.list.items ++ all_slots_in (told_by l.known) l.frame l.behind (statements_of (map statement_of (drop l.statement-index l.statements))) ≡ l.fn.into.list.items ++ all_slots_in (told_by l.known) l.frame l.fn.taken (statements_of (map statement_of l.statements));
   taken : behind_all (told_by l.known) l.behind (statements_of (map statement_of (drop l.statement-index l.statements))) ≡ behind_all (told_by l.known) l.fn.taken (statements_of (map statement_of l.statements));
 }
 

@@ -14,7 +14,7 @@ loop-variable-preserved c =
     let rest = map declared_of (drop (i + 1) all) in
     let more = one_left declared_of all i c.variable-item.result c.loop-variable-test.true c.variable-item.is in
     record {
-      slots = passed c.loop-variable.kept.list.items c.push.new.self.items (c.file_slot.result ∷ []) (file_slots told c.behind_variable-behind.result rest) (file_slots told behind (map declared_of (drop i all)))
+      slots = passed c.loop-variable.into.list.items c.push.new.self.items (c.file_slot.result ∷ []) (file_slots told c.behind_variable-behind.result rest) (file_slots told behind (map declared_of (drop i all)))
           c.in_ok-push.ensures.items
           (ap (file_slots told behind) more ∙ ap₂ (λ slot next. slot ∷ file_slots told next rest) (sym c.file_slot.ensures) (sym c.behind_variable-behind.ensures))
           ∙ c.loop-variable.invariant.slots;

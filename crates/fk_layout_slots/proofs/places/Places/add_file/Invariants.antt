@@ -8,6 +8,6 @@ use Rattle.fk_layout_slots.proofs.places.Places.add_file.Given as goal
 
 abbrev pub invariant-loop-variable : goal.invariant-loop-variable
 invariant-loop-variable l = record {
-  slots : l.kept.list.items ++ file_slots (told_by l.known) l.behind (map declared_of (drop l.variable-index l.variables)) ≡ l.fn.kept.list.items ++ file_slots (told_by l.known) l.fn.taken (map declared_of l.variables);
+  slots : l.into.list.items ++ file_slots (told_by l.known) l.behind (map declared_of (drop l.variable-index l.variables)) ≡ l.fn.into.list.items ++ file_slots (told_by l.known) l.fn.taken (map declared_of l.variables);
   taken : behind_variables (told_by l.known) l.behind (map declared_of (drop l.variable-index l.variables)) ≡ behind_variables (told_by l.known) l.fn.taken (map declared_of l.variables);
 }

@@ -17,7 +17,7 @@ loop-item-preserved c =
     let more = one_left item_of all i c.item-item.result c.loop-item-test.true c.item-item.is in
     let added = c.in_ok-behind.ensures in
     record {
-      slots = passed c.loop-item.kept.list.items c.add_item.new.kept.list.items (item_slots told behind x) (items_slots told c.in_ok-behind.behind rest) (items_slots told behind (map item_of (drop i all)))
+      slots = passed c.loop-item.into.list.items c.add_item.new.into.list.items (item_slots told behind x) (items_slots told c.in_ok-behind.behind rest) (items_slots told behind (map item_of (drop i all)))
           added.slots
           (ap (items_slots told behind) more ∙ ap (λ next. item_slots told behind x ++ items_slots told next rest) (sym added.taken))
           ∙ c.loop-item.invariant.slots;

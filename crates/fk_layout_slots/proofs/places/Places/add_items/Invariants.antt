@@ -7,6 +7,6 @@ use Rattle.fk_layout_slots.proofs.places.Places.add_items.Given as goal
 
 abbrev pub invariant-loop-item : goal.invariant-loop-item
 invariant-loop-item l = record {
-  slots : l.kept.list.items ++ items_slots (told_by l.known) l.behind (map item_of (drop l.item-index l.items)) ≡ l.fn.kept.list.items ++ slots_of (told_by l.known) (map item_of l.items);
+  slots : l.into.list.items ++ items_slots (told_by l.known) l.behind (map item_of (drop l.item-index l.items)) ≡ l.fn.into.list.items ++ slots_of (told_by l.known) (map item_of l.items);
   owns : l.owns.items ++ owns_of (told_by l.known) (map item_of (drop l.item-index l.items)) ≡ l.fn.owns.items ++ owns_of (told_by l.known) (map item_of l.items);
 }

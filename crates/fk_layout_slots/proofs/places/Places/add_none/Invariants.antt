@@ -5,4 +5,4 @@ use Rattle.fk_layout_slots.specs.Places.{no_slots}
 use Rattle.fk_layout_slots.proofs.places.Places.add_none.Given as goal
 
 abbrev pub invariant-loop-parameter : goal.invariant-loop-parameter
-invariant-loop-parameter l = l.kept.list.items ++ no_slots (map declared_of (drop l._parameter-index l.parameters)) ≡ l.fn.kept.list.items ++ no_slots (map declared_of l.parameters)
+invariant-loop-parameter l = l.into.list.items ++ no_slots (map declared_of (drop l._parameter-index l.parameters)) ≡ l.fn.into.list.items ++ no_slots (map declared_of l.parameters)

@@ -14,7 +14,7 @@ loop-parameter-preserved c =
     let rest = map declared_of (drop (i + 1) all) in
     let more = one_left declared_of all i c.parameter-item.result c.loop-parameter-test.true c.parameter-item.is in
     record {
-      slots = passed c.loop-parameter.kept.list.items c.push.new.self.items (c.slot_in.result ∷ []) (parameters_slots told c.args.frame c.behind_parameter-behind.result rest) (parameters_slots told c.args.frame behind (map declared_of (drop i all)))
+      slots = passed c.loop-parameter.into.list.items c.push.new.self.items (c.slot_in.result ∷ []) (parameters_slots told c.args.frame c.behind_parameter-behind.result rest) (parameters_slots told c.args.frame behind (map declared_of (drop i all)))
           c.in_ok-push.ensures.items
           (ap (parameters_slots told c.args.frame behind) more ∙ ap₂ (λ slot next. slot ∷ parameters_slots told c.args.frame next rest) (sym c.slot_in.ensures) (sym c.behind_parameter-behind.ensures))
           ∙ c.loop-parameter.invariant.slots;

@@ -8,6 +8,6 @@ use Rattle.fk_layout_slots.proofs.places.Places.add_parameters.Given as goal
 
 abbrev pub invariant-loop-parameter : goal.invariant-loop-parameter
 invariant-loop-parameter l = record {
-  slots : l.kept.list.items ++ parameters_slots (told_by l.known) l.frame l.behind (map declared_of (drop l.parameter-index l.parameters)) ≡ l.fn.kept.list.items ++ parameters_slots (told_by l.known) l.frame l.fn.taken (map declared_of l.parameters);
+  slots : l.into.list.items ++ parameters_slots (told_by l.known) l.frame l.behind (map declared_of (drop l.parameter-index l.parameters)) ≡ l.fn.into.list.items ++ parameters_slots (told_by l.known) l.frame l.fn.taken (map declared_of l.parameters);
   taken : behind_parameters (told_by l.known) l.behind (map declared_of (drop l.parameter-index l.parameters)) ≡ behind_parameters (told_by l.known) l.fn.taken (map declared_of l.parameters);
 }

@@ -14,7 +14,7 @@ loop-variable-preserved c =
     let rest = map declared_of (drop (i + 1) all) in
     let more = one_left declared_of all i c.variable-item.result c.loop-variable-test.true c.variable-item.is in
     record {
-      slots = passed c.loop-variable.kept.list.items c.push.new.self.items (c.slot_in.result ∷ []) (variables_slots told c.args.frame c.behind_variable-behind.result rest) (variables_slots told c.args.frame behind (map declared_of (drop i all)))
+      slots = passed c.loop-variable.into.list.items c.push.new.self.items (c.slot_in.result ∷ []) (variables_slots told c.args.frame c.behind_variable-behind.result rest) (variables_slots told c.args.frame behind (map declared_of (drop i all)))
           c.in_ok-push.ensures.items
           (ap (variables_slots told c.args.frame behind) more ∙ ap₂ (λ slot next. slot ∷ variables_slots told c.args.frame next rest) (sym c.slot_in.ensures) (sym c.behind_variable-behind.ensures))
           ∙ c.loop-variable.invariant.slots;

@@ -8,13 +8,13 @@ use Rattle.fk_regions.specs.TokensView.{seen_in}
 use Rattle.fk_regions.proofs.collect.Tokens.+expression.Given as goal
 
 abbrev pub invariant-add_expressions-loop-expression : goal.invariant-add_expressions-loop-expression
-invariant-add_expressions-loop-expression l = seen_in l.kept ++ (trees_tokens l.around (trees_of (map tree_of (drop l.expression-index l.expressions)))) ≡ seen_in l.fn.kept ++ (trees_tokens l.around (trees_of (map tree_of l.expressions)))
+invariant-add_expressions-loop-expression l = seen_in l.into ++ (trees_tokens l.around (trees_of (map tree_of (drop l.expression-index l.expressions)))) ≡ seen_in l.fn.into ++ (trees_tokens l.around (trees_of (map tree_of l.expressions)))
 
 abbrev pub invariant-add_links-loop-link : goal.invariant-add_links-loop-link
-invariant-add_links-loop-link l = seen_in l.kept ++ (links_tokens l.around (links_of (map link_of (drop l.link-index l.links)))) ≡ seen_in l.fn.kept ++ (links_tokens l.around (links_of (map link_of l.links)))
+invariant-add_links-loop-link l = seen_in l.into ++ (links_tokens l.around (links_of (map link_of (drop l.link-index l.links)))) ≡ seen_in l.fn.into ++ (links_tokens l.around (links_of (map link_of l.links)))
 
 abbrev pub invariant-add_suffixes-loop-suffix : goal.invariant-add_suffixes-loop-suffix
-invariant-add_suffixes-loop-suffix l = seen_in l.kept ++ (suffixes_tokens l.around (suffixes_of (map suffix_of (drop l.suffix-index l.suffixes)))) ≡ seen_in l.fn.kept ++ (suffixes_tokens l.around (suffixes_of (map suffix_of l.suffixes)))
+invariant-add_suffixes-loop-suffix l = seen_in l.into ++ (suffixes_tokens l.around (suffixes_of (map suffix_of (drop l.suffix-index l.suffixes)))) ≡ seen_in l.fn.into ++ (suffixes_tokens l.around (suffixes_of (map suffix_of l.suffixes)))
 
 -- how deep the deepest expression is; a function that is given several passes each of them on
 abbrev pub decreases-add_expression : goal.decreases-add_expression

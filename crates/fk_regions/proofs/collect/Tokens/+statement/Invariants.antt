@@ -8,4 +8,4 @@ use Rattle.fk_regions.specs.TokensView.{seen_in}
 use Rattle.fk_regions.proofs.collect.Tokens.+statement.Given as goal
 
 abbrev pub invariant-add_statements-loop-statement : goal.invariant-add_statements-loop-statement
-invariant-add_statements-loop-statement l = seen_in l.kept ++ (statements_tokens within l.around (statements_of (map statement_of (drop l.statement-index l.statements)))) ≡ seen_in l.fn.kept ++ (statements_tokens within l.around (statements_of (map statement_of l.statements)))
+invariant-add_statements-loop-statement l = seen_in l.into ++ (statements_tokens within l.around (statements_of (map statement_of (drop l.statement-index l.statements)))) ≡ seen_in l.fn.into ++ (statements_tokens within l.around (statements_of (map statement_of l.statements)))

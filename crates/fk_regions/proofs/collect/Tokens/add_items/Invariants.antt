@@ -7,4 +7,4 @@ use Rattle.fk_regions.specs.TokensView.{seen_in}
 use Rattle.fk_regions.proofs.collect.Tokens.add_items.Given as goal
 
 abbrev pub invariant-loop-item : goal.invariant-loop-item
-invariant-loop-item l = seen_in l.kept ++ (items_tokens within outside (map item_of (drop l.item-index l.items))) ≡ seen_in l.fn.kept ++ (items_tokens within outside (map item_of l.items))
+invariant-loop-item l = seen_in l.into ++ (items_tokens within outside (map item_of (drop l.item-index l.items))) ≡ seen_in l.fn.into ++ (items_tokens within outside (map item_of l.items))

@@ -6,4 +6,4 @@ use Rattle.fk_regions.specs.TokensView.{seen_in}
 use Rattle.fk_regions.proofs.collect.Tokens.add_variables.Given as goal
 
 abbrev pub invariant-loop-variable : goal.invariant-loop-variable
-invariant-loop-variable l = seen_in l.kept ++ (variables_tokens l.around (map declared_of (drop l.variable-index l.variables))) ≡ seen_in l.fn.kept ++ (variables_tokens l.around (map declared_of l.variables))
+invariant-loop-variable l = seen_in l.into ++ (variables_tokens l.around (map declared_of (drop l.variable-index l.variables))) ≡ seen_in l.fn.into ++ (variables_tokens l.around (map declared_of l.variables))

@@ -11,17 +11,17 @@ use Rattle.fk_sharing.specs.TokensView.{seen_in}
 use Rattle.fk_sharing.proofs.collect.Tokens.+expression.Given as goal
 
 abbrev pub invariant-add_expressions-loop-expression : goal.invariant-add_expressions-loop-expression
-invariant-add_expressions-loop-expression l = seen_in l.kept ++ (trees_tokens (thing_in l.names) l.around (trees_of (map tree_of (drop l.expression-index l.expressions)))) ≡ seen_in l.fn.kept ++ (trees_tokens (thing_in l.names) l.around (trees_of (map tree_of l.expressions)))
+invariant-add_expressions-loop-expression l = seen_in l.into ++ (trees_tokens (thing_in l.names) l.around (trees_of (map tree_of (drop l.expression-index l.expressions)))) ≡ seen_in l.fn.into ++ (trees_tokens (thing_in l.names) l.around (trees_of (map tree_of l.expressions)))
 
 abbrev pub invariant-add_links-loop-link : goal.invariant-add_links-loop-link
 invariant-add_links-loop-link l = record {
-  tokens : seen_in l.kept ++ (links_tokens (thing_in l.names) l.around l.shared (links_of (map link_of (drop l.link-index l.links)))) ≡ seen_in l.fn.kept ++ (links_tokens (thing_in l.names) l.around l.first (links_of (map link_of l.links)));
+  tokens : seen_in l.into ++ (links_tokens (thing_in l.names) l.around l.shared (links_of (map link_of (drop l.link-index l.links)))) ≡ seen_in l.fn.into ++ (links_tokens (thing_in l.names) l.around l.first (links_of (map link_of l.links)));
   class : is_chain_shared (thing_in l.names) l.shared (links_of (map link_of (drop l.link-index l.links))) ≡ is_chain_shared (thing_in l.names) l.first (links_of (map link_of l.links));
 }
 
 abbrev pub invariant-add_suffixes-loop-suffix : goal.invariant-add_suffixes-loop-suffix
 invariant-add_suffixes-loop-suffix l = record {
-  tokens : seen_in l.kept ++ (suffixes_tokens (thing_in l.names) l.around l.shared l.called (suffixes_of (map suffix_of (drop l.suffix-index l.suffixes)))) ≡ seen_in l.fn.kept ++ (suffixes_tokens (thing_in l.names) l.around l.whole l.call (suffixes_of (map suffix_of l.suffixes)));
+  tokens : seen_in l.into ++ (suffixes_tokens (thing_in l.names) l.around l.shared l.called (suffixes_of (map suffix_of (drop l.suffix-index l.suffixes)))) ≡ seen_in l.fn.into ++ (suffixes_tokens (thing_in l.names) l.around l.whole l.call (suffixes_of (map suffix_of l.suffixes)));
   class : is_postfix_shared (thing_in l.names) l.shared l.called (suffixes_of (map suffix_of (drop l.suffix-index l.suffixes))) ≡ is_postfix_shared (thing_in l.names) l.whole l.call (suffixes_of (map suffix_of l.suffixes));
 }
 

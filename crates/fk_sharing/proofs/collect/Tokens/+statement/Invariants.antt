@@ -9,4 +9,4 @@ use Rattle.fk_sharing.specs.TokensView.{seen_in}
 use Rattle.fk_sharing.proofs.collect.Tokens.+statement.Given as goal
 
 abbrev pub invariant-add_statements-loop-statement : goal.invariant-add_statements-loop-statement
-invariant-add_statements-loop-statement l = seen_in l.kept ++ (statements_tokens (thing_in l.names) within l.around (statements_of (map statement_of (drop l.statement-index l.statements)))) ≡ seen_in l.fn.kept ++ (statements_tokens (thing_in l.names) within l.around (statements_of (map statement_of l.statements)))
+invariant-add_statements-loop-statement l = seen_in l.into ++ (statements_tokens (thing_in l.names) within l.around (statements_of (map statement_of (drop l.statement-index l.statements)))) ≡ seen_in l.fn.into ++ (statements_tokens (thing_in l.names) within l.around (statements_of (map statement_of l.statements)))

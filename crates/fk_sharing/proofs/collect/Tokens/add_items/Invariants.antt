@@ -8,4 +8,4 @@ use Rattle.fk_sharing.specs.TokensView.{seen_in}
 use Rattle.fk_sharing.proofs.collect.Tokens.add_items.Given as goal
 
 abbrev pub invariant-loop-item : goal.invariant-loop-item
-invariant-loop-item l = seen_in l.kept ++ (items_tokens (thing_in l.names) within outside (map item_of (drop l.item-index l.items))) ≡ seen_in l.fn.kept ++ (items_tokens (thing_in l.names) within outside (map item_of l.items))
+invariant-loop-item l = seen_in l.into ++ (items_tokens (thing_in l.names) within outside (map item_of (drop l.item-index l.items))) ≡ seen_in l.fn.into ++ (items_tokens (thing_in l.names) within outside (map item_of l.items))

@@ -7,4 +7,4 @@ use Rattle.fk_sharing.specs.TokensView.{seen_in}
 use Rattle.fk_sharing.proofs.collect.Tokens.add_variables.Given as goal
 
 abbrev pub invariant-loop-variable : goal.invariant-loop-variable
-invariant-loop-variable l = seen_in l.kept ++ (variables_tokens (thing_in l.names) l.around (map declared_of (drop l.variable-index l.variables))) ≡ seen_in l.fn.kept ++ (variables_tokens (thing_in l.names) l.around (map declared_of l.variables))
+invariant-loop-variable l = seen_in l.into ++ (variables_tokens (thing_in l.names) l.around (map declared_of (drop l.variable-index l.variables))) ≡ seen_in l.fn.into ++ (variables_tokens (thing_in l.names) l.around (map declared_of l.variables))

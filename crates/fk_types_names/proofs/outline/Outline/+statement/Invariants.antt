@@ -7,4 +7,4 @@ use Rattle.fk_types_names.specs.OutlineView.{marks_in}
 use Rattle.fk_types_names.proofs.outline.Outline.+statement.Given as goal
 
 abbrev pub invariant-add_statements-loop-statement : goal.invariant-add_statements-loop-statement
-invariant-add_statements-loop-statement l = marks_in l.kept ++ statements_marks (statements_of (map statement_of (drop l.statement-index l.statements))) ≡ marks_in l.fn.kept ++ statements_marks (statements_of (map statement_of l.statements))
+invariant-add_statements-loop-statement l = marks_in l.into ++ statements_marks (statements_of (map statement_of (drop l.statement-index l.statements))) ≡ marks_in l.fn.into ++ statements_marks (statements_of (map statement_of l.statements))

@@ -6,4 +6,4 @@ use Rattle.fk_types_names.specs.OutlineView.{marks_in}
 use Rattle.fk_types_names.proofs.outline.Outline.add_items.Given as goal
 
 abbrev pub invariant-loop-item : goal.invariant-loop-item
-invariant-loop-item l = marks_in l.kept ++ items_marks (map item_of (drop l.item-index l.items)) ≡ marks_in l.fn.kept ++ items_marks (map item_of l.items)
+invariant-loop-item l = marks_in l.into ++ items_marks (map item_of (drop l.item-index l.items)) ≡ marks_in l.fn.into ++ items_marks (map item_of l.items)

@@ -6,4 +6,4 @@ use Rattle.fk_types_names.specs.OutlineView.{marks_in}
 use Rattle.fk_types_names.proofs.outline.Outline.add_variables.Given as goal
 
 abbrev pub invariant-loop-variable : goal.invariant-loop-variable
-invariant-loop-variable l = marks_in l.kept ++ variables_marks (map declared_of (drop l.variable-index l.variables)) ≡ marks_in l.fn.kept ++ variables_marks (map declared_of l.variables)
+invariant-loop-variable l = marks_in l.into ++ variables_marks (map declared_of (drop l.variable-index l.variables)) ≡ marks_in l.fn.into ++ variables_marks (map declared_of l.variables)

@@ -8,4 +8,4 @@ use Rattle.fk_types_obligations.specs.PiecesView.{pieces_in}
 use Rattle.fk_types_obligations.proofs.pieces.Pieces.+statement.Given as goal
 
 abbrev pub invariant-add_statements-loop-statement : goal.invariant-add_statements-loop-statement
-invariant-add_statements-loop-statement l = pieces_in l.kept ++ statements_pieces (type_of l.gives) (statements_of (map statement_of (drop l.statement-index l.statements))) ≡ pieces_in l.fn.kept ++ statements_pieces (type_of l.gives) (statements_of (map statement_of l.statements))
+invariant-add_statements-loop-statement l = pieces_in l.into ++ statements_pieces (type_of l.gives) (statements_of (map statement_of (drop l.statement-index l.statements))) ≡ pieces_in l.fn.into ++ statements_pieces (type_of l.gives) (statements_of (map statement_of l.statements))

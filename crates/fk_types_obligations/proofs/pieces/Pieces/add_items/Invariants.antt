@@ -6,4 +6,4 @@ use Rattle.fk_types_obligations.specs.PiecesView.{pieces_in}
 use Rattle.fk_types_obligations.proofs.pieces.Pieces.add_items.Given as goal
 
 abbrev pub invariant-loop-item : goal.invariant-loop-item
-invariant-loop-item l = pieces_in l.kept ++ items_pieces (map item_of (drop l.item-index l.items)) ≡ pieces_in l.fn.kept ++ items_pieces (map item_of l.items)
+invariant-loop-item l = pieces_in l.into ++ items_pieces (map item_of (drop l.item-index l.items)) ≡ pieces_in l.fn.into ++ items_pieces (map item_of l.items)

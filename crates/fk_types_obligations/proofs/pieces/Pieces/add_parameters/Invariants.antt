@@ -6,4 +6,4 @@ use Rattle.fk_types_obligations.specs.PiecesView.{pieces_in}
 use Rattle.fk_types_obligations.proofs.pieces.Pieces.add_parameters.Given as goal
 
 abbrev pub invariant-loop-parameter : goal.invariant-loop-parameter
-invariant-loop-parameter l = pieces_in l.kept ++ parameters_pieces (map declared_of (drop l.parameter-index l.parameters)) ≡ pieces_in l.fn.kept ++ parameters_pieces (map declared_of l.parameters)
+invariant-loop-parameter l = pieces_in l.into ++ parameters_pieces (map declared_of (drop l.parameter-index l.parameters)) ≡ pieces_in l.fn.into ++ parameters_pieces (map declared_of l.parameters)

@@ -6,4 +6,4 @@ use Rattle.fk_types_obligations.specs.PiecesView.{pieces_in}
 use Rattle.fk_types_obligations.proofs.pieces.Pieces.add_variables.Given as goal
 
 abbrev pub invariant-loop-variable : goal.invariant-loop-variable
-invariant-loop-variable l = pieces_in l.kept ++ variables_pieces (map declared_of (drop l.variable-index l.variables)) ≡ pieces_in l.fn.kept ++ variables_pieces (map declared_of l.variables)
+invariant-loop-variable l = pieces_in l.into ++ variables_pieces (map declared_of (drop l.variable-index l.variables)) ≡ pieces_in l.fn.into ++ variables_pieces (map declared_of l.variables)

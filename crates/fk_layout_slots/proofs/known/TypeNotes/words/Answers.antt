@@ -3,7 +3,7 @@ use Rattle.fk_syntax.specs.declared.facts.Note.{Note}
 use Rattle.fk_syntax.specs.declared.facts.Kind.{Kind}
 use Rattle.fk_meaning_forms.specs.Tables.{no_kind, nth}
 use Rattle.fk_layout_slots.proofs.Lookups.{nth-get_or}
-use Rattle.fk_layout_slots.proofs.known.Known.words.Goals as goal
+use Rattle.fk_layout_slots.proofs.known.TypeNotes.words.Goals as goal
 
 pub returns-in-Some : goal.returns-in-Some
 returns-in-Some c = ap (λ (k : Kind). k.words) (c.in-Some.ensures.lookup.3.1 no_kind ∙ sym (nth-get_or no_kind c.args.self.now.kinds.now c.note.result.kind) ∙ ap (λ (n : Note). nth no_kind c.args.self.now.kinds.now n.kind) c.note.ensures)

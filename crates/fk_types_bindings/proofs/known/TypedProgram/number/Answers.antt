@@ -1,7 +1,7 @@
 use Rattle.std.proofs.Common.{sym, subst}
 use Rattle.fk_types_references.specs.View.{reference_of}
 use Rattle.fk_types_bindings.specs.Known.{IsTold}
-use Rattle.fk_types_bindings.proofs.known.Known.number.Goals as goal
+use Rattle.fk_types_bindings.proofs.known.TypedProgram.number.Goals as goal
 
 pub returns-in-Name : goal.returns-in-Name
 returns-in-Name c = λ env program known. subst (λ r. IsTold env program (reference_of r) c.meant.result) (sym c.in-Name.is) (c.meant.ensures env program known)

@@ -4,7 +4,7 @@ use Rattle.fk_syntax.specs.View.{type_of}
 use Rattle.fk_types_structs.specs.Whole.{structs_in}
 use Rattle.fk_types_bindings.proofs.KnownLemmas.{IsTold-unspelled, IsTold-size}
 use Rattle.fk_types_bindings.proofs.SizeLemmas.{capped-words}
-use Rattle.fk_types_bindings.proofs.known.Known.size.Goals as goal
+use Rattle.fk_types_bindings.proofs.known.TypedProgram.size.Goals as goal
 
 pub returns-in_err-kind : goal.returns-in_err-kind
 returns-in_err-kind c = λ env program spot known. IsTold-unspelled env program (structs_in c.args.self.now.structs.now) known.structs spot (type_of c.args.kind.now) c.from_residual.result c.from_residual.ensures c.in_err-kind.ensures

@@ -1,7 +1,7 @@
 use Rattle.std.proofs.Common.{sym, ◌∙◌, arith}
 use Rattle.fk_meaning_forms.specs.Tables.{no_note}
-use Rattle.fk_layout_slots.proofs.Lookups.{nth-get_or}
-use Rattle.fk_layout_slots.proofs.known.Known.note.Goals as goal
+use Rattle.fk_layout_walk.proofs.Lookups.{nth-get_or}
+use Rattle.fk_layout_walk.proofs.known.ProgramTables.note.Goals as goal
 
 pub returns-in-Some : goal.returns-in-Some
 returns-in-Some c = c.in-Some.ensures.lookup.3.1 no_note ∙ sym (nth-get_or no_note c.args.self.now.notes.now c.args.at)

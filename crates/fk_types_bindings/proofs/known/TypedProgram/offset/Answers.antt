@@ -3,7 +3,7 @@ use Rattle.std.proofs.lemmas.Option.{none-some, same_Some}
 use Rattle.fk_types_structs.specs.Sizes.{HasOffset}
 use Rattle.fk_types_structs.specs.Whole.{structs_in}
 use Rattle.fk_types_bindings.proofs.SizeLemmas.{capped-offset, offset_right}
-use Rattle.fk_types_bindings.proofs.known.Known.offset.Goals as goal
+use Rattle.fk_types_bindings.proofs.known.TypedProgram.offset.Goals as goal
 
 pub returns-in_err-place-clause-found : goal.returns-in_err-place-clause-found
 returns-in_err-place-clause-found c = λ place words named offset. absurd (none-some place (c.in_err-place.ensures ∙ named))

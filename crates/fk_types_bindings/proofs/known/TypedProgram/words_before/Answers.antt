@@ -1,7 +1,7 @@
 use Rattle.fk_syntax.specs.View.{named}
 use Rattle.fk_types_structs.specs.Whole.{structs_in}
 use Rattle.fk_types_bindings.proofs.KnownLemmas.{IsTold-untyped, IsTold-no_struct, IsTold-member}
-use Rattle.fk_types_bindings.proofs.known.Known.words_before.Goals as goal
+use Rattle.fk_types_bindings.proofs.known.TypedProgram.words_before.Goals as goal
 
 pub returns-in_err-kind : goal.returns-in_err-kind
 returns-in_err-kind c = λ env program known. IsTold-untyped env program c.args.self.now.types.now known.types c.args.whole c.args.is_arrow (named c.args.member.now) c.from_residual.result c.from_residual.ensures c.in_err-kind.ensures

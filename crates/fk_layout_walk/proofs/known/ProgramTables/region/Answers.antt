@@ -1,7 +1,7 @@
 use Rattle.std.proofs.Common.{sym, ◌∙◌, arith}
 use Rattle.fk_meaning_forms.specs.Tables.{no_region}
 use Rattle.fk_layout_walk.proofs.Lookups.{nth-get_or}
-use Rattle.fk_layout_walk.proofs.known.Known.region.Goals as goal
+use Rattle.fk_layout_walk.proofs.known.ProgramTables.region.Goals as goal
 
 pub returns-in-Some : goal.returns-in-Some
 returns-in-Some c = c.in-Some.ensures.lookup.3.1 no_region ∙ sym (nth-get_or no_region c.args.self.now.regions.now c.args.number)

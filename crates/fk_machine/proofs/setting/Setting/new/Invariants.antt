@@ -1,7 +1,7 @@
 use Rattle.std.proofs.Common.{◌≡◌, map, take}
 use Rattle.fk_isa.specs.Find.{row}
 use Rattle.fk_machine.specs.View.{row_of}
-use Rattle.fk_machine.proofs.setting.Setting.make.Given as goal
+use Rattle.fk_machine.proofs.setting.Setting.new.Given as goal
 
 abbrev pub invariant-loop-word : goal.invariant-loop-word
 invariant-loop-word l = record {

@@ -4,7 +4,7 @@ use Rattle.fk_isa.specs.Find.{row}
 use Rattle.fk_machine.specs.View.{local_of, machine_of}
 use Rattle.fk_machine.proofs.Locals.{local_of-zeros}
 use Rattle.fk_machine.proofs.Opened.{opened}
-use Rattle.fk_machine.proofs.machine.Machine.make.Goals as goal
+use Rattle.fk_machine.proofs.machine.Machine.new.Goals as goal
 
 pub returns : goal.returns
 unfolding machine_of
