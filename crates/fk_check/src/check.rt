@@ -6,11 +6,11 @@ ghost use Rattle.fk_syntax.specs.WellFormed.{IsWellFormed};
 ghost use Rattle.fk_check.specs.Rules.{IsRefusal, Keeps};
 ghost use Rattle.fk_check.specs.Known.{AreAllFacts};
 
-use fk_types_names::resolve;
 use fk_regions::regions_by;
 use fk_sharing::sharing_by;
 use fk_syntax::{CheckFault, Facts, Program};
 use fk_types::types_by;
+use fk_types_names::resolve;
 use std::alloc::Global;
 
 /// What is known of a program that keeps all rules, in linear time: for each token what `types_by` of

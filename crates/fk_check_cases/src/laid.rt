@@ -1,9 +1,9 @@
 //! What is written of a layout.
 
 use crate::told::word_if;
-use fk_meaning_forms::{FrameSize, Home, Region, Slot};
-use fk_layout_globals::GlobalRow;
 use fk_layout::{Layout, Site};
+use fk_layout_globals::GlobalRow;
+use fk_meaning_forms::{FrameSize, Home, Region, Slot};
 use fk_syntax::Place;
 use std::fmt;
 

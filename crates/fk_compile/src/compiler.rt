@@ -10,11 +10,11 @@ ghost use Rattle.fk_compile.specs.Faithful.{IsFaithful};
 use crate::image::{are_words, site_table};
 use crate::laws::steps_find_values;
 use crate::list::{kept_words, list_of};
+use fk_compile_text::{Refusal, built_text};
 use fk_gen_list::generate;
-use fk_sim_runs::laws::machines_follow_groups;
 use fk_image::Image;
 use fk_sim_rounds::laws::programs_are_followed;
-use fk_compile_text::{Refusal, built_text};
+use fk_sim_runs::laws::machines_follow_groups;
 use std::alloc::Global;
 
 /// The image of a text. Every run of it, of up to 2^32 - 1 cycles, with 1 to 1,024 harts and an input of

@@ -8,8 +8,7 @@ ghost use Rattle.fk_compile.specs.OneGroup.{PlainListsAreOfOneGroup};
 ghost use Rattle.fk_compile.specs.Laws.{NeverTraps};
 
 use fk_lower_laws::laws::texts_are_proper;
-use fk_parse_laws::laws::frames_stand_behind_first;
-use fk_parse_laws::laws::texts_are_trim;
+use fk_parse_laws::laws::{frames_stand_behind_first, texts_are_trim};
 
 /// Where a program is in place, and none of its operations splits a group or takes a frame or a block of one, its code leads each
 /// processor from place to place.

@@ -27,21 +27,20 @@ use crate::laws::{
     grouped_lists_are_generable, lists_are_small, plain_lists_are_of_one_group,
     plain_lists_have_blocks,
 };
+use fk_check_laws::laws::correct_programs_fit;
+use fk_compile_text::{Built, Refusal, known_of};
+use fk_core::CoreOp;
+use fk_core_flat::laws::forms_are_shaped;
+use fk_core_liveness::{Set, live_words};
+use fk_layout_lookup::Lookup;
+use fk_layout_walk::ProgramTables;
+use fk_lower::LowerFault;
 use fk_lower_laws::laws::{
     lowered_lists_can_have_groups, numbers_have_room, operations_have_numbers, texts_are_proper,
     texts_can_be_laid,
 };
-use fk_core::CoreOp;
-use fk_check_laws::laws::correct_programs_fit;
-use fk_core_liveness::{Set, live_words};
-use fk_layout_lookup::Lookup;
-use fk_lower::LowerFault;
 use fk_lower_text::{entry_of_main, lower_text};
-use fk_parse_laws::laws::texts_have_words;
-use fk_parse_laws::laws::texts_are_trim;
-use fk_core_flat::laws::forms_are_shaped;
-use fk_compile_text::{Built, Refusal, known_of};
-use fk_layout_walk::ProgramTables;
+use fk_parse_laws::laws::{texts_are_trim, texts_have_words};
 use std::alloc::{AllocError, Global};
 
 /// The flat list of a text, and the index where its `main` begins.

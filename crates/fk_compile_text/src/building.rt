@@ -7,9 +7,9 @@ ghost use Rattle.fk_layout_walk_statements.specs.Texts.{functions_in};
 ghost use Rattle.fk_compile_text.specs.Built.{operations_in};
 ghost use Rattle.fk_compile_text.specs.Plain.{is_plain};
 
-use fk_meaning_operation::{OwnValue as Pushed, Operation};
-use fk_layout_walk::{Event, ProgramTables, Mark, Visitor};
+use fk_layout_walk::{Event, Mark, ProgramTables, Visitor};
 use fk_layout_walk_statements::text;
+use fk_meaning_operation::{Operation, OwnValue as Pushed};
 
 /// Whether an operation is built: none that splits a group or tests a split loop, uses a group frame, takes a block of the
 /// group's space, or is `shmalloc`.

@@ -16,8 +16,8 @@ use crate::refusal::Refusal;
 use crate::text::{Checked, checked_text};
 use fk_layout::Layout;
 use fk_layout_lookup::Lookup;
-use fk_syntax::{Facts, Program};
 use fk_layout_walk::ProgramTables;
+use fk_syntax::{Facts, Program};
 use std::alloc::Global;
 
 /// A text that keeps all rules, what is known of it, and where all that it has lies.

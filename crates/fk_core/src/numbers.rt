@@ -4,8 +4,8 @@ ghost use Rattle.std.specs.Prelude.{◌≡◌, ◌+◌, ◌*◌, ◌/◌, ◌%�
 ghost use Rattle.fk_meaning_operation.specs.Kinds.{kind_of};
 ghost use Rattle.fk_core.specs.Numbers.{is_odd, nestings, variable_of, known_of, unary_of, split_of, operator_of, operation_of, local_of as local_by, request_of as request_by, tree_step_of as tree_step_by, IsNear, IsKnownNear, HasNumber};
 
+use fk_meaning_operation::{Multiprefix, Operation, OwnValue, SplitKind, Unary, Variable};
 use fk_num::Op;
-use fk_meaning_operation::{OwnValue, Multiprefix, Operation, SplitKind, Unary, Variable};
 
 const NESTINGS: u32 = 129;
 

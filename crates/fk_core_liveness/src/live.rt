@@ -8,7 +8,7 @@ ghost use Rattle.fk_core_liveness.specs.Sets.{is_in};
 use crate::list::{follows, op_at};
 use crate::set::Set;
 use fk_core::CoreOp;
-use fk_meaning_operation::{OwnValue, Operation, Variable};
+use fk_meaning_operation::{Operation, OwnValue, Variable};
 use std::alloc::{AllocError, Global};
 
 fn set_at(sets: &[Set], index: usize) -> Set

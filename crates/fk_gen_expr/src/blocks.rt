@@ -12,8 +12,8 @@ use fk_gen::numbers::{at_private, at_value, high_part, low_part};
 use fk_gen::registers::{DEVICES, END, FRAME, LOCAL, NUMBER, RANK, SIZE, T0, T1, T2, ZERO};
 use fk_gen::{BlockLine, Placed, emit_lines};
 use fk_isa::Instruction;
+use fk_meaning_operation::{Operation, OwnValue, Unary, Variable};
 use fk_num::Op;
-use fk_meaning_operation::{OwnValue, Operation, Unary, Variable};
 use std::alloc::AllocError;
 
 /// How many bytes a word has.

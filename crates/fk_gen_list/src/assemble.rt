@@ -11,8 +11,8 @@ ghost use Rattle.fk_gen_list.specs.Layout.{AddsBlocks, all_placed};
 use crate::placing::placed;
 use fk_asm::{AsmFault, Assembler, Blocks, Code};
 use fk_core::CoreOp;
-use fk_gen::Placed;
 use fk_core_liveness::Set;
+use fk_gen::Placed;
 use std::alloc::AllocError;
 
 /// The label of the block of the first operation.

@@ -14,8 +14,8 @@ use crate::copying::{emit_clearing, emit_copying};
 use crate::starting::emit_starting;
 use fk_asm::{Assembler, Code};
 use fk_core::CoreOp;
-use fk_gen_flow::emit_opening;
 use fk_core_liveness::Set;
+use fk_gen_flow::emit_opening;
 use std::alloc::{AllocError, Global};
 
 /// The code of a list of operations that processors do in one group or in none, with the private words that calls keep at each

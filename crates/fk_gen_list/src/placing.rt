@@ -5,8 +5,8 @@ ghost use Rattle.fk_core.specs.Numbers.{operation_of};
 ghost use Rattle.fk_gen_list.specs.Layout as layout;
 
 use fk_core::CoreOp;
-use fk_gen::Placed;
 use fk_core_liveness::Set;
+use fk_gen::Placed;
 use fk_meaning_operation::Operation;
 
 // Whether a call has private words that are kept as it begins and are no arguments.

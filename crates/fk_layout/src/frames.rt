@@ -14,11 +14,11 @@ ghost use Rattle.fk_layout.specs.Frames.{told_in, file_privates, functions_behin
 ghost use Rattle.fk_layout.specs.Refusal.{TellsLarge};
 
 use crate::sites::LayoutFault;
-use fk_meaning_forms::FrameSize;
 use fk_layout_sizes::extent_of;
 use fk_layout_slots::Own;
-use fk_syntax::{Declared, Function, Item};
 use fk_layout_walk::ProgramTables;
+use fk_meaning_forms::FrameSize;
+use fk_syntax::{Declared, Function, Item};
 use std::alloc::{AllocError, Global};
 
 /// How many words a private frame may have.

@@ -11,12 +11,12 @@ ghost use Rattle.fk_layout.specs.Layout.{IsLayout, ArePlaces, AreGlobals, AreSiz
 use crate::frames::fitting_frames;
 use crate::listed::{Site, all_sites};
 use crate::sites::{LayoutFault, out_of_memory};
-use fk_meaning_forms::{FrameSize, Region, Slot};
 use fk_layout_globals::{GlobalRow, Globals, GlobalsFault, lay_globals};
 use fk_layout_lookup::Lookup;
 use fk_layout_slots::{Own, Slots, slots};
-use fk_syntax::{Facts, Program};
 use fk_layout_walk::ProgramTables;
+use fk_meaning_forms::{FrameSize, Region, Slot};
+use fk_syntax::{Facts, Program};
 use std::alloc::Global;
 
 /// Where all that a program has lies.
@@ -75,7 +75,11 @@ fn globals_of<'a>(
 }
 
 // What is known of a program of which nothing is looked up yet.
-fn known_of<'p, 'a>(program: &'p Program<'a>, facts: &'p Facts, places: &'p Slots) -> ProgramTables<'p, 'a>
+fn known_of<'p, 'a>(
+    program: &'p Program<'a>,
+    facts: &'p Facts,
+    places: &'p Slots,
+) -> ProgramTables<'p, 'a>
     requires { ArePlaces (program_of program.now) facts.now places.now }
     ensures tables { tables_of result ≡ tables_by (program_of program.now) facts.now }
     ensures items { items_in result ≡ (program_of program.now).items }

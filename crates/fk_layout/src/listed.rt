@@ -7,9 +7,9 @@ ghost use Rattle.fk_layout.specs.Listing.{site};
 ghost use Rattle.fk_layout.specs.Refusal.{HasTooMany};
 
 use crate::sites::{LayoutFault, fitting_sites};
-use fk_syntax::Place;
-use fk_layout_walk::{Event, ProgramTables, Mark, NOWHERE, Visitor};
+use fk_layout_walk::{Event, Mark, NOWHERE, ProgramTables, Visitor};
 use fk_layout_walk_statements::text;
+use fk_syntax::Place;
 use std::alloc::Global;
 
 /// An operation of a text, by which a fault or a commit names it.

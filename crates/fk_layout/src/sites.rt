@@ -4,9 +4,9 @@ ghost use Rattle.std.specs.Prelude.{◌≡◌, ◌-◌, ◌^◌, ◌<◌, ◌≤
 ghost use Rattle.fk_layout_walk.specs.Known.{IsSound};
 ghost use Rattle.fk_layout_walk_statements.specs.Texts.{sites_of_text};
 
-use fk_syntax::Place;
 use fk_layout_walk::{ProgramTables, Tally};
 use fk_layout_walk_statements::text;
+use fk_syntax::Place;
 use std::alloc::AllocError;
 
 /// Why a text has no layout.

@@ -8,11 +8,11 @@ ghost use Rattle.fk_layout_globals.specs.Constants as c;
 ghost use Rattle.fk_layout_globals.specs.View.{tables_of};
 
 use crate::types::Types;
-use fk_meaning_forms::{Move, is_shift, move_of, operator_of};
-use fk_num::{Op, apply};
-use fk_meaning_operation::Operation;
-use fk_syntax::{Expr, Link, Sign};
 use fk_layout_walk::token_of;
+use fk_meaning_forms::{Move, is_shift, move_of, operator_of};
+use fk_meaning_operation::Operation;
+use fk_num::{Op, apply};
+use fk_syntax::{Expr, Link, Sign};
 
 /// What a constant expression is worth: what its operations leave behind it. What stands in no
 /// constant is taken as 0. It takes no memory, and time linear in the expression.

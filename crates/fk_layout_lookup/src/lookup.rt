@@ -6,9 +6,9 @@ ghost use Rattle.fk_layout_walk.specs.Known.{tables_of, items_in, called, framed
 ghost use Rattle.fk_syntax.specs.ProgramView.{item_of};
 ghost use Rattle.fk_layout_lookup.specs.Lookup.{Tells, TellsCallees, TellsFrames, defined_by, with_frame};
 
+use fk_layout_walk::{Framed, ProgramTables};
 use fk_meaning_forms::Region;
 use fk_syntax::Item;
-use fk_layout_walk::{Framed, ProgramTables};
 use std::alloc::{AllocError, Global};
 
 const UNFRAMED: Framed = Framed {
@@ -142,7 +142,11 @@ fn note_part(framed: &mut Vec<Framed>, region: Region, second: bool) -> Result<(
 }
 
 // Notes the group frame of a region. The parts of a token have the numbers 0 and 1.
-fn note_frame(known: &ProgramTables, framed: &mut Vec<Framed>, index: usize) -> Result<(), AllocError>
+fn note_frame(
+    known: &ProgramTables,
+    framed: &mut Vec<Framed>,
+    index: usize,
+) -> Result<(), AllocError>
     requires here { index < length known.now.regions.now }
     requires told { TellsFrames (tables_of known.now) (drop (index + 1) known.now.regions.now)
         framed.old.items }

@@ -8,9 +8,9 @@ ghost use Rattle.fk_layout_walk_statements.specs.Texts.{code_in};
 ghost use Rattle.fk_layout_sizes.specs.Places as p;
 
 use crate::measure::Measure;
-use fk_syntax::{Declared, Function};
-use fk_layout_walk::{ProgramTables, Mark};
+use fk_layout_walk::{Mark, ProgramTables};
 use fk_layout_walk_statements::function;
+use fk_syntax::{Declared, Function};
 
 /// How much room a call of a function has for values and nested parts.
 #[derive(Clone, Copy, PartialEq, Eq, Debug)]

@@ -4,8 +4,8 @@ ghost use Rattle.std.specs.Prelude.{◌≡◌};
 ghost use Rattle.fk_layout_sizes.specs.Measure as m;
 
 use crate::operations::{nests, pushes, takes};
-use fk_meaning_operation::Operation;
 use fk_layout_walk::{Event, Mark, Visitor};
+use fk_meaning_operation::Operation;
 
 /// How many values the running call has and how deep its parts nest, and how many and how deep at
 /// most so far.

@@ -21,7 +21,8 @@ pub fn takes(operation: Operation) -> u32
     ensures { result ≡ o.takes operation }
 {
     match operation {
-        Operation::Binary(_, _) | Operation::Index(_) | Operation::Write | Operation::Combine(_) => 2,
+        Operation::Binary(_, _) | Operation::Index(_) | Operation::Write | Operation::Combine(_) =>
+            2,
         Operation::DropLast
         | Operation::Apply(_)
         | Operation::Branch(_)

@@ -212,7 +212,11 @@ impl Frames {
         Ok(())
     }
 
-    fn add_function(function: &Function, known: &TypeNotes, into: &mut Self) -> Result<(), AllocError>
+    fn add_function(
+        function: &Function,
+        known: &TypeNotes,
+        into: &mut Self,
+    ) -> Result<(), AllocError>
         ensures { OnOk result (into.new.list.items ≡ into.old.list.items
             ++ body_frames (told_by known.now) (function_of function.now).name.at
             (function_of function.now).parameters (function_of function.now).body) }

@@ -14,11 +14,17 @@ ghost use Rattle.fk_layout_walk.specs.Through.{through, Passes};
 
 use crate::known::ProgramTables;
 use crate::visitor::{Event, NOWHERE, Visitor, perform, plain};
-use fk_meaning_operation::{OwnValue as Value, Operation, Variable};
+use fk_meaning_operation::{Operation, OwnValue as Value, Variable};
 use fk_syntax::{Declared, Place};
 
 /// The group frame of a part of a token, where it has words.
-pub fn frame<V: Visitor>(known: &ProgramTables, visitor: &mut V, at: u32, second: bool, place: Place)
+pub fn frame<V: Visitor>(
+    known: &ProgramTables,
+    visitor: &mut V,
+    at: u32,
+    second: bool,
+    place: Place,
+)
     requires { IsSound known.now }
     ensures { Passes V.after V.counts (functions_of known.now) visitor.old visitor.new
         (e.framed (tables_of known.now) (functions_of known.now)

@@ -18,7 +18,7 @@ ghost use Rattle.fk_meaning_operation.specs.declared.operation.Operation.TheVari
 
 use crate::builtin::{Builtin, builtin_of};
 use crate::calls::enter;
-use crate::known::{ProgramTables, PREDECLARED};
+use crate::known::{PREDECLARED, ProgramTables};
 use crate::standing::Standing;
 use crate::standings::{
     agree, discard, end, enter_member, fetch, give_address, give_value, is_deep, name, operate,
@@ -28,8 +28,8 @@ use crate::texts::put_bytes;
 use crate::tokens::{suffix_token, token_of};
 use crate::types::is_nothing;
 use crate::visitor::{Event, NOWHERE, Visitor, Ways, choose, plain};
+use fk_meaning_operation::{Multiprefix, Operation, OwnValue as Value, SplitKind, Unary};
 use fk_num::Op;
-use fk_meaning_operation::{OwnValue as Value, Multiprefix, Operation, SplitKind, Unary};
 use fk_syntax::{Declared, Expr, Link, Name, Sign, Spot, Suffix};
 
 /// Shows a visitor the operations of an expression, and tells how it stands behind them. It is
@@ -433,7 +433,13 @@ fn first_arm<V: Visitor>(known: &ProgramTables, visitor: &mut V, first: &Expr, s
 
 // The second value of `?:`, and where both ways meet.
 #[cycle(expression)]
-fn second_arm<V: Visitor>(known: &ProgramTables, visitor: &mut V, second: &Expr, spot: Spot, ways: Ways)
+fn second_arm<V: Visitor>(
+    known: &ProgramTables,
+    visitor: &mut V,
+    second: &Expr,
+    spot: Spot,
+    ways: Ways,
+)
     requires { IsSound known.now }
     ensures { (rest : Coded) → behind_first V.after V.counts (functions_of known.now) visitor.old
         ways (other_arm (tables_of known.now) (functions_of known.now) spot

@@ -11,12 +11,12 @@ ghost use Rattle.fk_layout_walk.specs.Standing.{standing_of, ending};
 ghost use Rattle.fk_meaning_forms.specs.Tables.{Tables};
 ghost use Rattle.fk_layout_walk.specs.Through.{through, Leads, Passes};
 
-use crate::known::{ProgramTables, PREDECLARED};
+use crate::known::{PREDECLARED, ProgramTables};
 use crate::standing::Standing;
 use crate::visitor::{Event, NOWHERE, Visitor, plain};
 use fk_meaning_forms::{Home, Move, is_shift, move_of, operator_of};
+use fk_meaning_operation::{Operation, OwnValue as Value, Unary, Variable};
 use fk_num::Op;
-use fk_meaning_operation::{OwnValue as Value, Operation, Unary, Variable};
 use fk_syntax::{Name, Sign, Spot};
 
 // The check of an address that lies behind a dereference or an index.
@@ -124,7 +124,13 @@ fn advance<V: Visitor>(visitor: &mut V, by: Move, step: u32, otherwise: Operatio
 }
 
 /// The operator of a sign between the values of two tokens.
-pub(crate) fn operate<V: Visitor>(known: &ProgramTables, visitor: &mut V, sign: Sign, left: u32, right: u32)
+pub(crate) fn operate<V: Visitor>(
+    known: &ProgramTables,
+    visitor: &mut V,
+    sign: Sign,
+    left: u32,
+    right: u32,
+)
     ensures { Passes V.after V.counts (functions_of known.now) visitor.old visitor.new
         (e.operate (tables_of known.now) (functions_of known.now) sign left right) }
 {
@@ -145,7 +151,11 @@ fn global_address(index: u32) -> u32
 }
 
 /// Shows the operations of a variable or another name, and tells how it stands.
-pub fn name<'t, V: Visitor>(known: &ProgramTables, visitor: &mut V, name: Name<'t>) -> Option<Standing<'t>>
+pub fn name<'t, V: Visitor>(
+    known: &ProgramTables,
+    visitor: &mut V,
+    name: Name<'t>,
+) -> Option<Standing<'t>>
     ensures { Leads V.after V.counts (functions_of known.now) visitor.old visitor.new result
         (e.variable (tables_of known.now) (functions_of known.now) (named name.entry)) }
 {

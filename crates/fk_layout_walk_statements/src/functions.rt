@@ -16,8 +16,8 @@ ghost use Rattle.fk_layout_walk_statements.specs.Texts.{functions_in, code_in, t
 use crate::inside::Inside;
 use crate::nested::statements;
 use crate::simple::finish;
-use fk_syntax::{Function, Item, Name, Stmt};
 use fk_layout_walk::{ProgramTables, Visitor, is_nothing};
+use fk_syntax::{Function, Item, Name, Stmt};
 
 // What the statements of a function need to know of it.
 fn inside_function(known: &ProgramTables, name: Name) -> Inside
@@ -33,7 +33,13 @@ fn inside_function(known: &ProgramTables, name: Name) -> Inside
 }
 
 // The statements of a function, and its end.
-fn body<V: Visitor>(known: &ProgramTables, visitor: &mut V, list: &[Stmt], inside: Inside, void: bool)
+fn body<V: Visitor>(
+    known: &ProgramTables,
+    visitor: &mut V,
+    list: &[Stmt],
+    inside: Inside,
+    void: bool,
+)
     requires { IsSound known.now }
     ensures { visitor.new ≡ through V.after V.counts (functions_of known.now) visitor.old
         (s.body_of (tables_of known.now) (functions_of known.now) (inside_of inside) void

@@ -24,9 +24,11 @@ use crate::simple::{
     used, used_or,
 };
 use crate::turns::Turns;
+use fk_layout_walk::{
+    Event, NOWHERE, ProgramTables, Visitor, Ways, agree, choose, end, frame, plain, value,
+};
 use fk_meaning_operation::{Operation, SplitKind};
 use fk_syntax::{Expr, Place, Spot, Stmt};
-use fk_layout_walk::{Event, ProgramTables, NOWHERE, Visitor, Ways, agree, choose, end, frame, plain, value};
 
 /// Shows a visitor the operations of a statement in a function, and tells whether something follows
 /// them: nothing does behind a call of what is no function.
@@ -181,7 +183,13 @@ fn group<V: Visitor>(
 
 // A statement that an operation leads to, or past it.
 #[cycle(statement)]
-fn apart<V: Visitor>(known: &ProgramTables, visitor: &mut V, inside: Inside, begin: Operation, body: &Stmt)
+fn apart<V: Visitor>(
+    known: &ProgramTables,
+    visitor: &mut V,
+    inside: Inside,
+    begin: Operation,
+    body: &Stmt,
+)
     requires { IsSound known.now }
     ensures { Passes V.after V.counts (functions_of known.now) visitor.old visitor.new
         (λ rest. c.choose e.nowhere begin

@@ -16,12 +16,12 @@ ghost use Rattle.fk_layout_walk_statements.specs.Inside.{inside_of};
 
 use crate::inside::Inside;
 use crate::types::is_scalar;
-use fk_meaning_operation::{OwnValue as Value, Operation};
-use fk_syntax::{Declared, Expr, Spot};
 use fk_layout_walk::{
-    Event, ProgramTables, NOWHERE, Visitor, agree, discard, ends, give_address, name, plain, put, token_of,
-    value,
+    Event, NOWHERE, ProgramTables, Visitor, agree, discard, ends, give_address, name, plain, put,
+    token_of, value,
 };
+use fk_meaning_operation::{Operation, OwnValue as Value};
+use fk_syntax::{Declared, Expr, Spot};
 
 /// An expression that stands as a statement.
 pub(crate) fn used<V: Visitor>(known: &ProgramTables, visitor: &mut V, whole: &Expr) -> Option<()>

@@ -21,4 +21,4 @@ pub use event::CodeEvent;
 pub use fault::LowerFault;
 pub use functions::{Lowered, lower};
 pub use span::{Span, Spans, Start};
-pub use write::{Entries, Loop, InsertPoint, Writer};
+pub use write::{Entries, InsertPoint, Loop, Writer};

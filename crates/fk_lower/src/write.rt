@@ -17,7 +17,7 @@ use crate::fault::LowerFault;
 use crate::measure::{goes_away, is_beside};
 use crate::span::{Span, Start, gap};
 use fk_core::CoreOp;
-use fk_meaning_operation::{OwnValue, Operation, Variable};
+use fk_meaning_operation::{Operation, OwnValue, Variable};
 use std::alloc::Global;
 
 /// A loop: the indices behind it, and of its next turn.

@@ -18,9 +18,9 @@ ghost use Rattle.fk_lower_text.specs.Laid.{codes_of, laid, CanBeLaid};
 
 use crate::main_entry::binding_of;
 use crate::noting::events_of;
+use fk_layout_walk::ProgramTables;
 use fk_lower::{Block, CodeEvent, LowerFault, build};
 use fk_syntax::{Function, Item};
-use fk_layout_walk::ProgramTables;
 use std::alloc::Global;
 
 /// The blocks of functions, each at its binding. Where there is no function there is an empty one.

@@ -12,10 +12,10 @@ ghost use Rattle.fk_lower_text.specs.Telling.{told_depth, through_functions};
 
 use crate::height::Height;
 use fk_layout::count_sites;
+use fk_layout_walk::{Event, Mark, ProgramTables, Visitor};
+use fk_layout_walk_statements::function;
 use fk_lower::LowerFault;
 use fk_syntax::Item;
-use fk_layout_walk::{Event, ProgramTables, Mark, Visitor};
-use fk_layout_walk_statements::function;
 use std::alloc::Global;
 
 /// A visitor that tells how many values the running call has before each operation that it is

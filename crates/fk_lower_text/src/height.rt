@@ -3,9 +3,9 @@
 ghost use Rattle.std.specs.Prelude.{◌≡◌};
 ghost use Rattle.fk_lower_text.specs.Height as h;
 
-use fk_meaning_operation::Operation;
 use fk_layout_sizes::{pushes, takes};
 use fk_layout_walk::{Event, Mark};
+use fk_meaning_operation::Operation;
 
 /// How many values there are behind what was shown so far. A number above 2^64 - 1 stays at it.
 #[derive(Clone, Copy, PartialEq, Eq, Debug)]

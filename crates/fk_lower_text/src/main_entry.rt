@@ -10,9 +10,9 @@ ghost use Rattle.fk_layout_walk_statements.specs.Texts.{functions_in};
 ghost use Rattle.fk_lower.specs.Written.{entry_of};
 ghost use Rattle.fk_lower_text.specs.Lowered.{IsTextFault};
 
+use fk_layout_walk::ProgramTables;
 use fk_lower::Lowered;
 use fk_syntax::{Function, Item};
-use fk_layout_walk::ProgramTables;
 
 /// The binding of a function.
 pub(crate) fn binding_of(known: &ProgramTables, whole: &Function) -> u32

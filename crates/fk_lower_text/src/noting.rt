@@ -10,10 +10,10 @@ ghost use Rattle.fk_lower_text.specs.Noting.{told, noted};
 ghost use Rattle.fk_lower_text.specs.Whole.{IsPlain};
 
 use crate::count::Count;
+use fk_layout_walk::{Event, Mark, ProgramTables, Visitor};
+use fk_layout_walk_statements::function;
 use fk_lower::{CodeEvent, LowerFault};
 use fk_syntax::Function;
-use fk_layout_walk::{Event, ProgramTables, Mark, Visitor};
-use fk_layout_walk_statements::function;
 use std::alloc::Global;
 
 /// A visitor that writes down what it is shown, as long as there is room.

@@ -12,8 +12,8 @@ ghost use Rattle.fk_lower_text.specs.Lowered.{IsLowerable, HasProgram, HasItsRun
 
 use crate::bodies::Bodies;
 use crate::depths::depths_of;
-use fk_lower::{Block, LowerFault, Lowered, lower};
 use fk_layout_walk::ProgramTables;
+use fk_lower::{Block, LowerFault, Lowered, lower};
 use std::alloc::Global;
 
 /// The flat list of a text, by what is known of it: each function at its binding, each operation

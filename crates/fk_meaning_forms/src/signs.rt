@@ -3,8 +3,8 @@
 ghost use Rattle.std.specs.Prelude.{◌≡◌};
 ghost use Rattle.fk_meaning_forms.specs.Signs.{operator_of as operator_by, is_shift as is_a_shift, move_of as move_by};
 
-use fk_num::Op;
 use fk_meaning_operation::Operation;
+use fk_num::Op;
 use fk_syntax::Sign;
 
 /// What a sign does to a pointer on its left.

@@ -8,4 +8,4 @@ mod operation;
 mod told;
 
 pub use kinds::{Class, FaultKind, Joint};
-pub use operation::{OwnValue, Multiprefix, Operation, SplitKind, Unary, Variable};
+pub use operation::{Multiprefix, Operation, OwnValue, SplitKind, Unary, Variable};

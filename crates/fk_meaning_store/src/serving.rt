@@ -8,8 +8,8 @@ ghost use Rattle.fk_meaning_operation.specs.Kinds.{multiprefix_of};
 use crate::addresses::may_use;
 use crate::request::Request;
 use crate::store::Store32;
-use fk_num::{Op, apply};
 use fk_meaning_operation::{FaultKind, Multiprefix};
+use fk_num::{Op, apply};
 
 /// The depth from which no call begins.
 const DEEPEST: u32 = 256;

@@ -1,5 +1,5 @@
 use fk_core::{CoreOp, CoreProgram};
-use fk_meaning_operation::{OwnValue, Operation};
+use fk_meaning_operation::{Operation, OwnValue};
 use std::test::Fail;
 
 #[test]

@@ -1,6 +1,6 @@
 use fk_meaning_forms::{operator_of, text_bytes};
-use fk_num::Op;
 use fk_meaning_operation::Operation;
+use fk_num::Op;
 use fk_syntax::Sign;
 use std::test::Fail;
 

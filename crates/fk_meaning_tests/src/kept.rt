@@ -2,7 +2,7 @@
 
 use fk_core::CoreOp;
 use fk_core_liveness::live_words;
-use fk_meaning_operation::{OwnValue, Operation, Variable};
+use fk_meaning_operation::{Operation, OwnValue, Variable};
 use std::alloc::{AllocError, Global};
 
 const NESTED: u32 = 70;

@@ -1,6 +1,6 @@
 use fk_core::CoreOp;
 use fk_lower::{CodeEvent, Lowered, build, lower};
-use fk_meaning_operation::{OwnValue, Operation};
+use fk_meaning_operation::{Operation, OwnValue};
 use std::alloc::Global;
 use std::process::Abort;
 use std::test::Fail;

@@ -1,5 +1,5 @@
-use fk_num::Op;
 use fk_meaning_operation::{FaultKind, Multiprefix, Operation, SplitKind};
+use fk_num::Op;
 
 // Operations with their kinds, and how they may fault.
 static OPERATIONS: [(Operation, u8, Option<FaultKind>); 7] = [

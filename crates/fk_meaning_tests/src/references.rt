@@ -1,5 +1,5 @@
-use fk_types_references::{Reference, References};
 use fk_syntax::{Expr, Name, Place, Spot, Suffix};
+use fk_types_references::{Reference, References};
 use std::alloc::{AllocError, Global};
 use std::process::Abort;
 

@@ -1,11 +1,11 @@
 //! Tables of signs.
 
+use fk_syntax::Sign;
 use fk_types_operators::{
     ExpressionType, Operand, Target, Value, binary, chosen, converts, counted, prefixed,
     sign_within,
 };
 use fk_types_structs::{DataType, Root};
-use fk_syntax::Sign;
 
 const INT_POINTER: Value = Value::Pointer(Target {
     root: Root::Int,

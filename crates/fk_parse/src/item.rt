@@ -28,15 +28,15 @@ ghost use Rattle.fk_parse.specs.Parts.{
 };
 
 use crate::told::{expect_mode, item_is_next, mode_is_next};
-use fk_parse_declarations::declaration::{
-    Declarator, add_member, add_members, array_length, first_value, parameters, rows, variables,
-};
-use fk_parse_declarations::told::sharing_is_next;
 use fk_expr::at_cursor::base;
 use fk_expr::types::stars;
 use fk_lex::token::TokenKind;
 use fk_parse_combinators::cursor::Cursor;
 use fk_parse_combinators::fault::SyntaxFault;
+use fk_parse_declarations::declaration::{
+    Declarator, add_member, add_members, array_length, first_value, parameters, rows, variables,
+};
+use fk_parse_declarations::told::sharing_is_next;
 use fk_parse_statements::statement::block;
 use fk_syntax::expression::{Base, TypeName};
 use fk_syntax::place::Name;

@@ -4,8 +4,8 @@ ghost use Rattle.std.specs.Prelude.{◌≡◌};
 ghost use Rattle.fk_parse.specs.Kinds.{mode_told};
 ghost use Rattle.fk_parse.specs.Reading.{begins_item};
 
-use fk_parse_declarations::kinds::begins_parameter;
 use fk_lex::token::TokenKind;
+use fk_parse_declarations::kinds::begins_parameter;
 use fk_syntax::program::Mode;
 
 /// The mode that a word names.

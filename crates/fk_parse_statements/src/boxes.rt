@@ -10,8 +10,8 @@ ghost use Rattle.fk_parse_combinators.specs.Gives.{Gives};
 ghost use Rattle.fk_parse_declarations.specs.Headers as h;
 ghost use Rattle.fk_parse_declarations.specs.View.{header_of};
 
-use fk_parse_declarations::header::Header;
 use fk_parse_combinators::fault::SyntaxFault;
+use fk_parse_declarations::header::Header;
 use fk_syntax::program::Stmt;
 use std::alloc::Global;
 

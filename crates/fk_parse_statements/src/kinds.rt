@@ -3,9 +3,9 @@
 ghost use Rattle.std.specs.Prelude.{◌≡◌};
 ghost use Rattle.fk_parse_statements.specs.Reading.{begins_bare, begins_word, begins_statement};
 
-use fk_parse_declarations::kinds::begins_parameter;
 use fk_expr::kinds::begins_expression;
 use fk_lex::token::TokenKind;
+use fk_parse_declarations::kinds::begins_parameter;
 
 /// Whether it is a word that begins a statement.
 #[tactic(auto, unfolding(fk_parse_combinators::specs::Kinds::just))]

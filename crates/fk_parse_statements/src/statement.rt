@@ -18,14 +18,14 @@ ghost use Rattle.fk_parse_statements.specs.Parts.{read_nested, read_otherwise, r
 
 use crate::boxes::{completed, in_box};
 use crate::told::{open_statement, statement_is_next};
+use fk_lex::token::TokenKind;
+use fk_parse_combinators::cursor::Cursor;
+use fk_parse_combinators::fault::SyntaxFault;
 use fk_parse_declarations::expressions::{condition, do_condition};
 use fk_parse_declarations::header::any_header;
 use fk_parse_declarations::lists::put;
 use fk_parse_declarations::simple::simple;
 use fk_parse_declarations::told::header_is_next;
-use fk_lex::token::TokenKind;
-use fk_parse_combinators::cursor::Cursor;
-use fk_parse_combinators::fault::SyntaxFault;
 use fk_syntax::program::Stmt;
 use std::alloc::Global;
 

@@ -4,8 +4,8 @@ ghost use Rattle.std.specs.Prelude.{◌≡◌, map, option_and_then, slice_get};
 ghost use Rattle.fk_types_names.specs.View.{declaration_of};
 ghost use Rattle.fk_regions.specs.Called.{callee_of, callee_in};
 
-use fk_types_names::{Declaration, Meaning, Names};
 use fk_syntax::Mode;
+use fk_types_names::{Declaration, Meaning, Names};
 
 /// What a name calls.
 #[derive(Clone, Copy)]

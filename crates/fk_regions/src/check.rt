@@ -13,9 +13,9 @@ use crate::collect::Tokens;
 use crate::judge::token_fault;
 use crate::marks::mark;
 use crate::token::Token;
-use fk_types_names::{Names, resolve};
 use fk_check_rules::{Fault, first_of};
 use fk_syntax::{CheckFault, Facts, Program};
+use fk_types_names::{Names, resolve};
 use std::alloc::Global;
 
 // The first rule that one of the tokens breaks.

@@ -18,10 +18,12 @@ ghost use Rattle.fk_sharing.specs.Collected.{within, outside, seen};
 
 use crate::around::{Around, Holder};
 use crate::token::{Token, Word, form_of, named_thing, word_of_sign};
-use fk_sharing_class::{is_assigned_shared, is_call_shared, is_joined_shared, is_name_shared, thing_at};
-use fk_types_names::Names;
 use fk_regions::{Region, region_of};
+use fk_sharing_class::{
+    is_assigned_shared, is_call_shared, is_joined_shared, is_name_shared, thing_at,
+};
 use fk_syntax::{Declared, Expr, Function, Item, Link, Mode, Name, Sign, Spot, Stmt, Suffix};
+use fk_types_names::Names;
 use std::alloc::{AllocError, Global};
 
 const SYNCHRONOUS: Holder = Holder::Body(Region::Synchronous);

@@ -8,9 +8,9 @@ ghost use Rattle.fk_sharing.specs.Judged.{private_rule, shared_rule, variable_ru
 
 use crate::around::{Around, splits};
 use crate::token::{Form, Token, Word};
-use fk_sharing_class::Thing;
-use fk_regions::Region;
 use fk_check_rules::{Fault, Rule};
+use fk_regions::Region;
+use fk_sharing_class::Thing;
 use fk_syntax::{Mode, Sign};
 
 /// Whether a group splits at a token.

@@ -8,8 +8,8 @@ ghost use Rattle.fk_sharing.specs.Tokens.{word_of_sign, is_struct, form_of, name
 
 use crate::around::Around;
 use fk_sharing_class::{Thing, thing_at};
-use fk_types_names::Names;
 use fk_syntax::{Base, Declared, Expr, Mode, Sign, Spot, TypeName};
+use fk_types_names::Names;
 
 /// What a variable is made of.
 #[derive(Clone, Copy)]

@@ -11,8 +11,8 @@ ghost use Rattle.fk_sharing_class.specs.Class.{is_call_shared, is_joined_shared,
 ghost use Rattle.fk_sharing_class.specs.Shared.{IsShared};
 
 use crate::thing::{is_name_shared, is_named_call_shared, thing_at};
-use fk_types_names::Names;
 use fk_syntax::{Expr, Link, Sign, Suffix};
+use fk_types_names::Names;
 
 /// Whether a sign between two expressions is shared, by whether each of them is.
 pub fn is_joined_shared(sign: Sign, left: bool, right: bool) -> bool

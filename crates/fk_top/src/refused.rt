@@ -7,9 +7,9 @@ ghost use Rattle.fk_top.specs.Refused.{image_report_of, input_report_of, refusal
 
 use crate::ending::LastLine;
 use crate::report::Report;
+use fk_compile_text::Refusal;
 use fk_image::ImageFault;
 use fk_top_input::InputFault;
-use fk_compile_text::Refusal;
 
 /// The last line where a source is refused. Want of memory refuses none, and has no line.
 pub fn last_line_of<'a>(refusal: Refusal) -> Option<LastLine<'a>>

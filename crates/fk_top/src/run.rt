@@ -13,8 +13,8 @@ use crate::stand::{stand_report, status_of};
 use crate::status::Status;
 use crate::variable::Variable;
 use fk_image::Image;
-use fk_top_input::read_input;
 use fk_machine::{Machine, Stand};
+use fk_top_input::read_input;
 use fk_top_words::RunWords;
 use std::alloc::{AllocError, Global};
 

@@ -11,8 +11,8 @@ use crate::run::run_ending;
 use crate::status::Status;
 use crate::variable::Variable;
 use fk_compile::compile;
-use fk_image::{Image, write_image};
 use fk_compile_text::find_global;
+use fk_image::{Image, write_image};
 use fk_top_words::RunWords;
 use std::alloc::{AllocError, Global};
 

@@ -10,11 +10,11 @@ ghost use Rattle.fk_types_rules.specs.Broken.{IsRefusal};
 ghost use Rattle.fk_types_rules.specs.Facts.{AreFacts};
 
 use crate::facts::facts;
+use fk_syntax::{CheckFault, Facts, Program};
+use fk_types_checker::program_fault;
 use fk_types_environment::Environment;
 use fk_types_names::{Names, resolve};
 use fk_types_structs::Structs;
-use fk_syntax::{CheckFault, Facts, Program};
-use fk_types_checker::program_fault;
 use std::alloc::{AllocError, Global};
 
 // What is known of a program by its structs and names, or the first rule that it breaks.

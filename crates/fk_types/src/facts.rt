@@ -10,13 +10,13 @@ ghost use Rattle.fk_types_rules.specs.Noted.{AreTypes};
 ghost use Rattle.fk_types_rules.specs.Facts.{AreFactsIn};
 ghost use Rattle.fk_types.specs.Notes.{note_of, notes_of};
 
+use fk_syntax::{Facts, Note, Program};
 use fk_types_bindings::bindings;
 use fk_types_kinds::Kinds;
 use fk_types_names::Names;
 use fk_types_obligations::Pieces;
 use fk_types_operators::ExpressionType;
 use fk_types_structs::Structs;
-use fk_syntax::{Facts, Note, Program};
 use std::alloc::{AllocError, Global};
 
 // The note of a token whose kind has this number, and which names this. Nothing is known yet of

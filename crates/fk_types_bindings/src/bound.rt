@@ -23,8 +23,8 @@ use crate::found::references_in;
 use crate::known::TypedProgram;
 use fk_types_names::{Declaration, Names, Table};
 use fk_types_obligations::Piece;
-use fk_types_references::Reference;
 use fk_types_operators::ExpressionType;
+use fk_types_references::Reference;
 use fk_types_structs::Structs;
 use std::alloc::{AllocError, Global};
 

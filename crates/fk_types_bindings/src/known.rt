@@ -16,12 +16,12 @@ ghost use Rattle.fk_types_rules.specs.Noted as noted;
 ghost use Rattle.fk_types_rules.specs.Bound as b;
 ghost use Rattle.fk_types_bindings.specs.Known.{IsKnown, IsOffsetOf, IsTold, number_meant};
 
-use fk_types_names::{Meaning, Names};
-use fk_types_forms::{struct_at, struct_in};
-use fk_types_references::Reference;
-use fk_types_operators::ExpressionType;
-use fk_types_structs::Structs;
 use fk_syntax::{Name, TypeName};
+use fk_types_forms::{struct_at, struct_in};
+use fk_types_names::{Meaning, Names};
+use fk_types_operators::ExpressionType;
+use fk_types_references::Reference;
+use fk_types_structs::Structs;
 
 // The number of a name that is declared before each text.
 const PREDECLARED: u32 = 4_294_967_295;

@@ -13,14 +13,14 @@ ghost use Rattle.fk_types_rules.specs.Noted.{pieces_noted};
 ghost use Rattle.fk_types_rules.specs.Broken.{Broken};
 
 use crate::judge::pieces_fault;
-use fk_types_name_rules::name_fault;
-use fk_types_forms::Scope;
-use fk_types_obligations::Pieces;
 use fk_check_rules::{Fault, first_of};
+use fk_syntax::Program;
+use fk_types_forms::Scope;
+use fk_types_name_rules::name_fault;
+use fk_types_obligations::Pieces;
 use fk_types_operators::ExpressionType;
 use fk_types_struct_rules::structs_fault;
 use fk_types_structs::Structs;
-use fk_syntax::Program;
 use std::alloc::{AllocError, Global};
 
 // The first that a program breaks by its structs and its names.

@@ -9,9 +9,9 @@ ghost use Rattle.fk_types_judgments.specs.Names.{Env};
 ghost use Rattle.fk_types_forms.specs.Scope.{env_in};
 ghost use Rattle.fk_types_rules.specs.Constant.{is_more};
 
+use fk_syntax::{Expr, Link, Name, Sign};
 use fk_types_forms::Scope;
 use fk_types_forms::forms::name as name_part;
-use fk_syntax::{Expr, Link, Name, Sign};
 
 // Whether a sign makes more of what it stands before: one that reaches into memory.
 fn is_of_memory(sign: Sign) -> bool

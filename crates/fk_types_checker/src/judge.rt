@@ -16,13 +16,13 @@ ghost use Rattle.fk_types_checker.specs.Read.{IsPieceRead};
 
 use crate::notes::{note_declared, note_header};
 use crate::values::{file_initial_fault, given_fault, initial_fault, lacking_fault, role_fault};
-use fk_types_forms::Scope;
-use fk_types_obligations::{Piece, Role};
 use fk_check_rules::{Fault, first_of};
-use fk_types_operators::ExpressionType;
-use fk_types_struct_rules::{declaration_fault, parameter_fault, result_fault};
 use fk_syntax::{Declared, Expr, Function, Spot, TypeName};
 use fk_types_expressions::expression;
+use fk_types_forms::Scope;
+use fk_types_obligations::{Piece, Role};
+use fk_types_operators::ExpressionType;
+use fk_types_struct_rules::{declaration_fault, parameter_fault, result_fault};
 
 fn variable_fault(
     scope: &Scope,

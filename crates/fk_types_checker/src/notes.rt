@@ -11,10 +11,10 @@ ghost use Rattle.fk_types_expressions.specs.Read.{with_note};
 ghost use Rattle.fk_types_obligations.specs.Pieces as p;
 ghost use Rattle.fk_types_rules.specs.Noted.{declared_noted, piece_noted};
 
+use fk_syntax::{Declared, Function};
 use fk_types_forms::Scope;
 use fk_types_operators::ExpressionType;
 use fk_types_structs::DataType;
-use fk_syntax::{Declared, Function};
 
 // Notes a type at a token.
 fn note(types: &mut [Option<ExpressionType>], at: u32, kind: Option<ExpressionType>)

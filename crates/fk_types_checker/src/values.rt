@@ -16,13 +16,13 @@ ghost use Rattle.fk_types_rules.specs.Pieces.{ConversionBreaks, InitialBreaks, F
 ghost use Rattle.fk_types_rules.specs.Constant.{ConstantBreaks};
 
 use crate::constant::is_more;
+use fk_check_rules::{Fault, Rule, fault_if, first_of};
+use fk_syntax::{Declared, Expr, Place, Spot, TypeName};
 use fk_types_forms::{Part, Scope};
 use fk_types_obligations::Role;
-use fk_check_rules::{Fault, Rule, fault_if, first_of};
 use fk_types_operators::{ExpressionType, Operand, Value, converts};
 use fk_types_struct_rules::{is_struct, is_void};
 use fk_types_structs::DataType;
-use fk_syntax::{Declared, Expr, Place, Spot, TypeName};
 
 // What is stored, as a value, where it is neither an array nor a struct.
 fn scalar(kind: Option<DataType>) -> Option<Value>

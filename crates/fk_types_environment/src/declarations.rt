@@ -12,11 +12,11 @@ ghost use Rattle.fk_types_judgments.specs.Names.{is_text};
 ghost use Rattle.fk_types_environment.specs.Known.{HasSignature, IsKnown};
 
 use crate::types::{parameter_types, result_type, variable_type};
-use fk_types_names::Declaration;
+use fk_syntax::Function;
 use fk_types_forms::{Entity, Signature};
+use fk_types_names::Declaration;
 use fk_types_operators::ExpressionType;
 use fk_types_structs::{DataType, Structs};
-use fk_syntax::Function;
 use std::alloc::{AllocError, Global};
 
 // What the calls of a function give whose result has this type.

@@ -7,8 +7,8 @@ ghost use Rattle.fk_types_environment.specs.Environment.{env_of, IsRight};
 
 use crate::declarations::all_known;
 use crate::types::all_member_types;
-use fk_types_names::Names;
 use fk_types_forms::{Entity, Scope};
+use fk_types_names::Names;
 use fk_types_structs::{DataType, Structs};
 use std::alloc::{AllocError, Global};
 

@@ -6,9 +6,9 @@ ghost use Rattle.fk_syntax.specs.ProgramView.{declared_of, function_of};
 ghost use Rattle.fk_types_structs.specs.Whole.{structs_in, IsSound};
 ghost use Rattle.fk_types_environment.specs.Types.{HasVariableType, HasParameterType, HasResultType, AreMemberTypes};
 
+use fk_syntax::{Declared, Function};
 use fk_types_struct_rules::{declaration_fault, parameter_fault, result_fault};
 use fk_types_structs::{DataType, Structs};
-use fk_syntax::{Declared, Function};
 use std::alloc::{AllocError, Global};
 
 /// The type of a variable or of a member.

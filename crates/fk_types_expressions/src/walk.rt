@@ -13,13 +13,13 @@ ghost use Rattle.fk_types_judgments.specs.Typing.{parameters_of};
 ghost use Rattle.fk_types_forms.specs.Scope.{meant_of, parameter_of, env_in};
 ghost use Rattle.fk_types_expressions.specs.Read.{IsRead, AreRead};
 
+use fk_syntax::{Expr, Link, Suffix};
 use fk_types_forms::forms::{
     also, assign, call, called, cast, choose, counted_after, group_number, index, member, name,
     no_arguments, number, prefix, puts, size, through, with_sign,
 };
 use fk_types_forms::{Arguments, Parameter, Part, Scope, Thing};
 use fk_types_operators::ExpressionType;
-use fk_syntax::{Expr, Link, Suffix};
 
 // Notes the type of a part at its main token.
 fn keep<'a>(types: &mut [Option<ExpressionType>], at: u32, part: Part<'a>) -> Part<'a>

@@ -26,9 +26,9 @@ use crate::operands::{
 };
 use crate::parts::{Arguments, Part, made, stored};
 use fk_check_rules::{Fault, Rule, fault_if, first_of};
+use fk_syntax::{Name, Place, Sign, Spot, TypeName};
 use fk_types_operators::{ExpressionType, Value};
 use fk_types_struct_rules::{no_struct, sizeof_fault};
-use fk_syntax::{Name, Place, Sign, Spot, TypeName};
 
 pub fn number<'a>(spot: Spot, value: u32, unsigned: bool) -> Part<'a>
     ensures { (env : Env) → IsPart env (m.Number spot value unsigned) result }

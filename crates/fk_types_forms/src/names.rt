@@ -6,10 +6,10 @@ ghost use Rattle.fk_types_judgments.specs.Names as n;
 ghost use Rattle.fk_types_judgments.specs.Names.{predeclared_meant};
 ghost use Rattle.fk_types_forms.specs.Scope.{meant_of, known_meant, env_in};
 
+use fk_syntax::Name;
 use fk_types_names::{Meaning, Names};
 use fk_types_operators::{ExpressionType, Value};
 use fk_types_structs::{DataType, Root, Structs};
-use fk_syntax::Name;
 
 /// The parameters and the result of a function, each where its declaration isn't broken.
 #[derive(Drop)]

@@ -10,12 +10,12 @@ ghost use Rattle.fk_types_operators.specs.Signs.{binary, prefixed, counted, chos
 ghost use Rattle.fk_types_judgments.specs.Typing as y;
 ghost use Rattle.fk_types_judgments.specs.Broken as b;
 
+use fk_syntax::{Base, Sign, TypeName};
 use fk_types_operators::{
     ExpressionType, Operand, Target, Value, binary, chosen, converts, counted, prefixed,
     sign_within,
 };
 use fk_types_structs::{DataType, Root};
-use fk_syntax::{Base, Sign, TypeName};
 
 /// An expression of a type, as a value.
 pub(crate) fn value_in(kind: Option<ExpressionType>) -> Option<Value>

@@ -10,8 +10,8 @@ ghost use Rattle.fk_types_forms.specs.Parts.{IsPart};
 
 use crate::operands::{is_no_value, is_struct, operand_in, value_in};
 use fk_check_rules::{Fault, Rule, fault_if, first_of};
-use fk_types_operators::{ExpressionType, Operand, Value};
 use fk_syntax::{Name, Place};
+use fk_types_operators::{ExpressionType, Operand, Value};
 
 /// What is known of an expression.
 #[derive(Clone, Copy)]

@@ -4,9 +4,9 @@ ghost use Rattle.std.specs.Prelude.{◌≡◌, ◌≤◌, false};
 ghost use Rattle.fk_types_structs.specs.Whole.{structs_in, IsSound};
 ghost use Rattle.fk_types_rules.specs.Kinds.{IsWords, IsStep, IsValueKind, IsArrayKind, IsPlainKind, IsStoredKind, IsKind};
 
+use fk_syntax::Kind;
 use fk_types_operators::{ExpressionType, Target, Value};
 use fk_types_structs::{DataType, Structs};
-use fk_syntax::Kind;
 
 // The words of a type: none of `void`.
 fn words(structs: &Structs, kind: &DataType) -> u32

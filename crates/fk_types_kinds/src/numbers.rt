@@ -6,9 +6,9 @@ ghost use Rattle.fk_types_kinds.specs.Rows.{kind_in, kinds_in};
 ghost use Rattle.fk_types_kinds.specs.Met.{IsNumbered, IsNext, AreMet};
 
 use crate::kind::kind_of;
+use fk_syntax::Kind;
 use fk_types_operators::ExpressionType;
 use fk_types_structs::Structs;
-use fk_syntax::Kind;
 use indexmap::IndexSet;
 use std::alloc::{AllocError, Global};
 

@@ -16,9 +16,9 @@ ghost use Rattle.fk_types_name_rules.specs.Broken.{NamesBreak};
 
 use crate::headers::Headers;
 use crate::named::mark_fault;
-use fk_types_names::{Mark, Outline, Reader};
 use fk_check_rules::{Fault, Rule, fault_if, first_of};
 use fk_syntax::{Item, Place, Program};
+use fk_types_names::{Mark, Outline, Reader};
 use std::alloc::{AllocError, Global};
 
 // The first that names break where they are used and where they are declared, by a reader before the

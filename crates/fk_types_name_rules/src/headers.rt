@@ -12,9 +12,9 @@ ghost use Rattle.fk_types_name_rules.specs.Found.{ItemBreaks};
 ghost use Rattle.fk_types_name_rules.specs.Known.{AreHeaders};
 
 use crate::agree::agree;
-use fk_types_names::Table;
 use fk_check_rules::{Fault, Rule, fault_if, first_of};
 use fk_syntax::{Function, Item, Mode};
+use fk_types_names::Table;
 use std::alloc::{AllocError, Global};
 
 // The name of the function whose header an item is.

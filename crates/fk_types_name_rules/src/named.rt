@@ -10,9 +10,9 @@ ghost use Rattle.fk_types_names.specs.Reading.{IsAt, marks_of};
 ghost use Rattle.fk_types_name_rules.specs.Named.{are_headers, IsAgain, IsTaken};
 ghost use Rattle.fk_types_name_rules.specs.Found.{MarkBreaks};
 
-use fk_types_names::{Declaration, Mark, Reader, is_predeclared};
 use fk_check_rules::{Fault, Rule, fault_if};
 use fk_syntax::Place;
+use fk_types_names::{Declaration, Mark, Reader, is_predeclared};
 
 // The place of a declaration's name.
 fn name_place(declaration: &Declaration) -> Place

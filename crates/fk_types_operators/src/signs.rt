@@ -5,8 +5,8 @@ ghost use Rattle.fk_types_operators.specs.Signs as t;
 ghost use Rattle.fk_types_operators.specs.Signs.{is_void, is_same_target, do_convert, is_integer, joined, moved, summed, shifted, int_if, are_ordered, are_comparable, met};
 
 use crate::values::{Operand, Target, Value};
-use fk_types_structs::Root;
 use fk_syntax::Sign;
+use fk_types_structs::Root;
 
 fn is_same_root(left: Root, right: Root) -> bool
     ensures { result ≡ t.is_same_root left right }

@@ -10,8 +10,8 @@ ghost use Rattle.fk_types_structs.specs.Whole.{structs_in, IsSound};
 ghost use Rattle.fk_types_struct_rules.specs.Declarations.{NamesNoStruct, IsVoid, HasWrongLength, IsTooLarge, HasLargeType, IsStruct, At, DeclarationBreaks, ParameterBreaks, ResultBreaks, SizeofBreaks};
 
 use fk_check_rules::{Fault, Rule, first_of};
-use fk_types_structs::{DataType, Structs};
 use fk_syntax::{Base, Declared, Place, TypeName};
+use fk_types_structs::{DataType, Structs};
 
 /// The most elements and the most words.
 const LIMIT: u32 = 524_288;

@@ -13,10 +13,10 @@ ghost use Rattle.fk_types_struct_rules.specs.Declarations.{At};
 ghost use Rattle.fk_types_struct_rules.specs.Structs.{held_at, HoldingBreaks};
 ghost use Rattle.fk_types_struct_rules.specs.Holding.{AreHeld, AreEdges, told};
 
-use fk_types_graph::{is_on_cycle, suspects};
 use fk_check_rules::{Fault, Rule, first_of};
-use fk_types_structs::{DataType, Root, Structs};
 use fk_syntax::Place;
+use fk_types_graph::{is_on_cycle, suspects};
+use fk_types_structs::{DataType, Root, Structs};
 use std::alloc::{AllocError, Global};
 
 // The struct that a member holds, where it holds one.

@@ -9,8 +9,8 @@ ghost use Rattle.fk_types_struct_rules.specs.Structs.{IsSecondStruct, IsSecondMe
 
 use crate::declarations::{declaration_fault, is_too_large};
 use fk_check_rules::{Fault, Rule, fault_if, first_of};
-use fk_types_structs::{DataType, Outline, Root, Structs};
 use fk_syntax::Declared;
+use fk_types_structs::{DataType, Outline, Root, Structs};
 
 // Whether a struct is declared again.
 fn is_second_struct(structs: &Structs, index: usize, outline: &Outline) -> bool
